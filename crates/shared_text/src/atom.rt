@@ -1,0 +1,144 @@
+//! A shared text, seen as its bytes.
+ghost use Rattle.std.specs.Prelude.{◌≡◌, ℕ, List, IfOk, nat_eq, Some, refl};
+ghost use Rattle.std.specs.Ordering.{nat_cmp};
+ghost use Rattle.std.specs.Hash as fed;
+ghost use Rattle.std.specs.Str.{IsUtf8};
+ghost use Rattle.std.specs.Cmp.Lexicographic.{pointwise, slice_cmp};
+ghost use Rattle.std.specs.Cmp;
+ghost use Rattle.std.specs.Cmp.Lexicographic.{nat_list_eq_equiv, nat_list_cmp_total, texts_ties, texts_po};
+
+use std::alloc::{AllocError, AllocFailed, Global};
+use std::cmp::Ordering;
+use std::fmt;
+use std::hash::{Hash, Hasher};
+use std::marker::Model;
+use std::rc::RcStr;
+
+/// There was no memory for what was asked.
+#[derive(Clone, Copy, Debug, PartialEq, Eq)]
+pub struct NoMemory;
+
+impl From<AllocError> for NoMemory {
+    fn from(_: AllocError) -> NoMemory {
+        NoMemory
+    }
+}
+
+impl<T: Drop> From<AllocFailed<T>> for NoMemory {
+    fn from(_: AllocFailed<T>) -> NoMemory {
+        NoMemory
+    }
+}
+
+/// A text on the heap with several owners, seen as its bytes. It stays as it is.
+///
+/// Equality, order and hash are those of the bytes.
+#[derive(Drop)]
+pub struct Atom {
+    text: RcStr,
+}
+
+impl Model for Atom {
+    ghost use Rattle.std.specs.Prelude.{ℕ, List};
+    ghost use Rattle.std.specs.Coded.{coded_ℕ, coded_list};
+    ghost use Rattle.std.specs.Rc.{rc_str_bytes};
+
+    ghost Value = { List ℕ };
+
+    ghost coded = { coded_list coded_ℕ };
+
+    ghost view = { λ a. rc_str_bytes a.text };
+}
+
+impl Atom {
+    /// The text, copied once. The only error is want of memory.
+    pub fn new(alloc: Global, text: &str) -> Result<Atom, NoMemory>
+        ensures { IfOk result (λ a. a ≡ text.now) }
+    {
+        let text = RcStr::from_str(alloc, text)?;
+        Ok(Atom { text })
+    }
+
+    /// The text.
+    pub fn as_str(&self) -> &str
+        ensures text { result.now ≡ self.now }
+        ensures utf8 { IsUtf8 self.now }
+    {
+        self.text.as_str()
+    }
+}
+
+impl Clone for Atom {
+    ghost is_clone = { λ a b. b ≡ a };
+
+    fn clone(&self) -> Result<Atom, AllocError> {
+        let text = self.text.clone()?;
+        Ok(Atom { text })
+    }
+}
+
+impl PartialEq for Atom {
+    ghost eq = { pointwise nat_eq };
+
+    ghost laws = { Cmp.partial_equiv_from_equiv nat_list_eq_equiv };
+
+    fn eq(&self, other: &Atom) -> bool {
+        self.text == other.text
+    }
+}
+
+impl Eq for Atom {
+    ghost laws = { nat_list_eq_equiv };
+}
+
+impl PartialOrd for Atom {
+    ghost partial_cmp = { λ a b. Some (slice_cmp nat_cmp a b) };
+
+    ghost laws = { texts_po };
+
+    fn partial_cmp(&self, other: &Atom) -> Option<Ordering> {
+        Some(self.cmp(other))
+    }
+}
+
+impl Ord for Atom {
+    ghost cmp = { slice_cmp nat_cmp };
+
+    ghost total = { nat_list_cmp_total };
+
+    ghost matches_partial_cmp = { λ x y. refl };
+
+    ghost matches_eq = { λ x y. texts_ties x y };
+
+    fn cmp(&self, other: &Atom) -> Ordering {
+        self.text.cmp(&other.text)
+    }
+}
+
+impl Hash for Atom {
+    ghost use Rattle.std.proofs.Common.{rules};
+    ghost use Rattle.std.specs.Cmp.Rules.{hashing};
+    ghost use Rattle.std.specs.Hash as fed;
+
+    ghost hash_input = { λ a. fed.str a };
+
+    ghost respects_eq = { Prim.search (hashing, rules) };
+
+    fn hash<H: Hasher>(&self, state: &mut H) {
+        self.text.hash(state);
+    }
+}
+
+impl fmt::Display for Atom {
+    ghost output = { λ a. Some a };
+
+    fn fmt<W: fmt::Write>(&self, f: &mut fmt::Formatter<W>) -> fmt::Result {
+        fmt::Display::fmt(&self.text, f)
+    }
+}
+
+impl fmt::Debug for Atom {
+    fn fmt<W: fmt::Write>(&self, f: &mut fmt::Formatter<W>) -> fmt::Result {
+        fmt::Debug::fmt(&self.text, f)
+    }
+}
