@@ -1,0 +1,10 @@
+pub mod Paths
+pub mod Attributes
+pub mod Symbols
+pub mod Types
+pub mod Reprs
+pub mod Bounds
+pub mod Patterns
+pub mod Items
+pub mod Texts
+pub mod TypeTexts

@@ -1,0 +1,32 @@
+//! The parts of a grammar, by the modules that users know.
+
+/// What a parser of grammars makes: items, rules, symbols, types.
+pub mod parse_tree {
+    pub use crate::attribute::{Attribute, AttributeArg};
+    pub use crate::bound::{TypeBound, TypeBoundParameter, WhereClause};
+    pub use crate::items::{
+        ActionKind, Alternative, AssociatedType, Condition, ConditionOp, Conversion, Dfa,
+        EnumToken, ExternToken, Grammar, GrammarItem, InternToken, MatchContents, MatchEntry,
+        MatchItem, MatchMapping, MatchSymbol, MatchToken, NonterminalData, Visibility,
+    };
+    pub use crate::names::{
+        Lifetime, NonterminalString, Span, TerminalLiteral, TerminalString, TypeParameter,
+    };
+    pub use crate::path::Path;
+    pub use crate::symbol::{
+        ArgPattern, ExprSymbol, MacroSymbol, Name, RepeatOp, RepeatSymbol, Symbol, SymbolKind,
+        Tuple,
+    };
+    pub use crate::types::{Parameter, TypeRef};
+    pub use shared_text::{Atom, NoMemory};
+}
+
+/// Patterns of conversions.
+pub mod pattern {
+    pub use crate::pattern::{FieldPattern, Pattern, PatternKind};
+}
+
+/// The types of lowered grammars that stand on no table.
+pub mod repr {
+    pub use crate::lowered::{Algorithm, LrCodeGeneration, NominalTypeRepr, TypeRepr, WhereClause};
+}

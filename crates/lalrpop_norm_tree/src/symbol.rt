@@ -1,0 +1,93 @@
+//! Symbols of alternatives.
+use crate::names::{NonterminalString, Span, TerminalString};
+use shared_text::Atom;
+
+/// A name that code gives a value, as `x` or `mut x`.
+#[derive(Clone, Debug, PartialEq, Eq, Drop)]
+pub struct Name {
+    pub mutable: bool,
+    pub name: Atom,
+}
+
+/// Names for the parts of a tuple, as `(a, (b, mut c))`.
+#[cycle(tuple)]
+#[derive(Debug, PartialEq, Eq, Drop)]
+pub struct Tuple {
+    pub tuples: Vec<ArgPattern>,
+}
+
+/// The pattern of an argument of an action.
+#[cycle(tuple)]
+#[derive(Debug, PartialEq, Eq, Drop)]
+pub enum ArgPattern {
+    Name(Name),
+    Tuple(Tuple),
+}
+
+/// How often a symbol may stand: `*` any number, `+` at least once, `?` at most once.
+#[derive(Clone, Copy, Debug, PartialEq, Eq)]
+pub enum RepeatOp {
+    Star,
+    Plus,
+    Question,
+}
+
+/// A symbol where it stands.
+#[cycle(symbol)]
+#[derive(Debug, PartialEq, Eq, Drop)]
+pub struct Symbol {
+    pub span: Span,
+    pub kind: SymbolKind,
+}
+
+/// What a symbol is.
+#[cycle(symbol)]
+#[derive(Debug, PartialEq, Eq, Drop)]
+pub enum SymbolKind {
+    /// A group: `(X Y)`.
+    Expr(ExprSymbol),
+    /// A name that is not resolved yet.
+    AmbiguousId(Atom),
+    Terminal(TerminalString),
+    /// A rule, or an argument of the macro around it.
+    Nonterminal(NonterminalString),
+    /// A macro call: `M<X, Y>`.
+    Macro(MacroSymbol),
+    /// `X*`, `X+`, `X?`.
+    Repeat(Box<RepeatSymbol>),
+    /// A chosen symbol: `<X>`.
+    Choose(Box<Symbol>),
+    /// A named symbol: `<x:X>`.
+    Name(Name, Box<Symbol>),
+    /// A tuple symbol: `<(x, y):X>`.
+    Tuple(Tuple, Box<Symbol>),
+    /// `@L`: where the next token begins.
+    Lookahead,
+    /// `@R`: where the token before ends.
+    Lookbehind,
+    /// `!`: the place of an error that a parser recovers from.
+    Error,
+}
+
+/// Symbols in a row: an alternative's, or a group's.
+#[cycle(symbol)]
+#[derive(Debug, PartialEq, Eq, Drop)]
+pub struct ExprSymbol {
+    pub symbols: Vec<Symbol>,
+}
+
+/// A macro call.
+#[cycle(symbol)]
+#[derive(Debug, PartialEq, Eq, Drop)]
+pub struct MacroSymbol {
+    pub name: NonterminalString,
+    pub args: Vec<Symbol>,
+}
+
+/// A repeat.
+#[cycle(symbol)]
+#[derive(Debug, PartialEq, Eq, Drop)]
+pub struct RepeatSymbol {
+    pub op: RepeatOp,
+    pub symbol: Symbol,
+}

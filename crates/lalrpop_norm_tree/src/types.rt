@@ -1,0 +1,47 @@
+//! Written types.
+use crate::names::{Lifetime, TypeParameter};
+use crate::path::Path;
+use crate::symbol::SymbolKind;
+use shared_text::Atom;
+
+/// A Rust type as a grammar writes it.
+#[derive(Debug, PartialEq, Eq, Drop)]
+pub enum TypeRef {
+    Tuple(Vec<TypeRef>),
+    Slice(Box<TypeRef>),
+    /// `a::B<'a, T>`.
+    Nominal {
+        path: Path,
+        types: Vec<TypeRef>,
+    },
+    /// `&'a mut T`.
+    Ref {
+        lifetime: Option<Lifetime>,
+        mutable: bool,
+        referent: Box<TypeRef>,
+    },
+    /// `dyn B<T>`.
+    TraitObject {
+        path: Path,
+        types: Vec<TypeRef>,
+    },
+    Lifetime(Lifetime),
+    /// A single name; in a macro it may name an argument.
+    Id(Atom),
+    /// The type of a symbol. Only macro expansion makes one.
+    OfSymbol(SymbolKind),
+    /// `dyn for<'a> P(A, B) -> R`.
+    Fn {
+        forall: Vec<TypeParameter>,
+        path: Path,
+        parameters: Vec<TypeRef>,
+        ret: Option<Box<TypeRef>>,
+    },
+}
+
+/// A parameter of a grammar, as `input: &'input str`.
+#[derive(Debug, PartialEq, Eq, Drop)]
+pub struct Parameter {
+    pub name: Atom,
+    pub ty: TypeRef,
+}
