@@ -1,0 +1,100 @@
+-- Lists of faults, and answers that name the first of one.
+use Rattle.std.specs.Prelude.{◌≡◌, ℕ, List, [], ◌∷◌, Option, Some, None, Result, Ok, Err, codes}
+use Rattle.lalrpop_norm_tree.specs.declared.names.Span.{Span}
+use Rattle.lalrpop_norm_front.specs.declared.faults.FaultKind.{FaultKind}
+use Rattle.lalrpop_norm_front.specs.declared.faults.FaultKind.TheVariants.{NotYet, GrammarAttribute, SecondMatch, MatchWithExtern, SecondExtern, UnknownAssociatedType, RepeatedAssociatedType, PublicMacro, UnknownRuleAttribute, RepeatedRuleAttribute, InlineOnPublic, MalformedCfg, MissingLevel, LevelArgument, LevelNumber, SideArgument, Side, SideOnLowest, AlternativeAttribute, NamedWithoutAction, AnonymousInBraces, ChosenWithNamed, NameTwice, ErrorWithAscent, MacroWithoutArguments, NoLocation, WrittenIntern, WrittenErrorTerminal, WrittenOfSymbol, WrittenLookaround, NameDeclaredTwice, ArgumentTwice, NoDefinition, ConditionOnOther, NotNonterminal, NotMacro, Arity, MacroNamed, ConditionArgument, ConditionPattern, NamedInGroup, RecursionCap, SharedName, LiteralTwice, TerminalTwice, NoMapping, NoPattern, BadRegex, RegexFeature, Ambiguity, InputLifetime, InputParameter, NoAlternatives, OnlyCoded, NotGrounded, Disagreement, TupleOverSymbol, TupleOverType, TupleLength, Placeholders, StartTaken, TooManyActions}
+use Rattle.lalrpop_norm_front.specs.declared.faults.NormFailure.{NormFailure}
+use Rattle.lalrpop_norm_front.specs.declared.faults.NormFailure.TheVariants.{Refused, Memory}
+
+-- a fault where it stands
+abbrev pub Fault : Type 0
+Fault = FaultKind × Span
+
+-- the first entry
+abbrev pub first : List Fault → Option Fault
+first [] = None
+first (f ∷ fs) = Some f
+
+-- the failure names that fault; a want of memory says nothing
+abbrev pub IsFault : Option Fault → NormFailure → Type 0
+IsFault f (Refused e) = f ≡ Some (e.fault, e.span)
+IsFault f Memory = Unit
+
+-- the failure names the first of the faults
+abbrev pub IsFirst : List Fault → NormFailure → Type 0
+IsFirst fs e = IsFault (first fs) e
+
+-- Ok where there is no fault, else a refusal by the first one, memory aside
+abbrev pub Refuses : {T : Type 0} → Result T NormFailure → List Fault → Type 0
+Refuses (Ok _) fs = fs ≡ []
+Refuses (Err e) fs = IsFirst fs e
+
+-- likewise, with a fact of the value where there is no fault
+abbrev pub RefusesOr : {T : Type 0} → Result T NormFailure → List Fault → (T → Type 0) → Type 0
+RefusesOr (Ok x) fs P = (fs ≡ []) × P x
+RefusesOr (Err e) fs P = IsFirst fs e
+
+-- the number of a fault
+abbrev pub code_of : FaultKind → List ℕ
+code_of NotYet = codes "F0"
+code_of GrammarAttribute = codes "F1"
+code_of SecondMatch = codes "F2"
+code_of MatchWithExtern = codes "F3"
+code_of SecondExtern = codes "F4"
+code_of UnknownAssociatedType = codes "F5"
+code_of RepeatedAssociatedType = codes "F6"
+code_of PublicMacro = codes "F7"
+code_of UnknownRuleAttribute = codes "F8"
+code_of RepeatedRuleAttribute = codes "F9"
+code_of InlineOnPublic = codes "F10"
+code_of MalformedCfg = codes "F11"
+code_of MissingLevel = codes "F12a"
+code_of LevelArgument = codes "F12b"
+code_of LevelNumber = codes "F12c"
+code_of SideArgument = codes "F12d"
+code_of Side = codes "F12e"
+code_of SideOnLowest = codes "F12f"
+code_of AlternativeAttribute = codes "F13"
+code_of NamedWithoutAction = codes "F14"
+code_of AnonymousInBraces = codes "F15"
+code_of ChosenWithNamed = codes "F16"
+code_of NameTwice = codes "F17"
+code_of ErrorWithAscent = codes "F18"
+code_of MacroWithoutArguments = codes "F19"
+code_of NoLocation = codes "F20"
+code_of WrittenIntern = codes "F21"
+code_of WrittenErrorTerminal = codes "F22"
+code_of WrittenOfSymbol = codes "F23"
+code_of WrittenLookaround = codes "F24"
+code_of NameDeclaredTwice = codes "F25"
+code_of ArgumentTwice = codes "F26"
+code_of NoDefinition = codes "F27"
+code_of ConditionOnOther = codes "F28"
+code_of NotNonterminal = codes "F29"
+code_of NotMacro = codes "F30"
+code_of Arity = codes "F31"
+code_of MacroNamed = codes "F32"
+code_of ConditionArgument = codes "F33"
+code_of ConditionPattern = codes "F34"
+code_of NamedInGroup = codes "F35"
+code_of RecursionCap = codes "F36"
+code_of SharedName = codes "F37"
+code_of LiteralTwice = codes "F38"
+code_of TerminalTwice = codes "F39"
+code_of NoMapping = codes "F40"
+code_of NoPattern = codes "F41"
+code_of BadRegex = codes "F42"
+code_of RegexFeature = codes "F43"
+code_of Ambiguity = codes "F44"
+code_of InputLifetime = codes "F45"
+code_of InputParameter = codes "F46"
+code_of NoAlternatives = codes "F47"
+code_of OnlyCoded = codes "F48"
+code_of NotGrounded = codes "F49"
+code_of Disagreement = codes "F50"
+code_of TupleOverSymbol = codes "F51"
+code_of TupleOverType = codes "F52"
+code_of TupleLength = codes "F53"
+code_of Placeholders = codes "F54"
+code_of StartTaken = codes "F55"
+code_of TooManyActions = codes "F56"

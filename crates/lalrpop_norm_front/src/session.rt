@@ -1,0 +1,13 @@
+//! What a run of the passes is told beside the grammar.
+use std::collections::BTreeSet;
+
+/// What a run of the passes is told beside the grammar.
+#[derive(Drop)]
+pub struct Session<L> {
+    /// The features that are on. Without a set no feature holds, as with an empty one.
+    pub features: Option<BTreeSet<String>>,
+    /// How many rounds of macro expansion may make new rules: 0 to 65535.
+    pub macro_recursion_limit: u16,
+    /// What makes the tokenizer.
+    pub lexer: L,
+}
