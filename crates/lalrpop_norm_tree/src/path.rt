@@ -1,4 +1,6 @@
 //! Paths of Rust items.
+mod show;
+
 use shared_text::Atom;
 
 /// A path such as `a::b`, or `::a::b` where it is absolute.

@@ -1,4 +1,6 @@
 //! Symbols of alternatives.
+mod show;
+
 use crate::names::{NonterminalString, Span, TerminalString};
 use shared_text::Atom;
 
