@@ -1,4 +1,6 @@
 //! Symbols of alternatives.
+mod copy;
+
 use crate::names::{NonterminalString, Span, TerminalString};
 use shared_text::Atom;
 
