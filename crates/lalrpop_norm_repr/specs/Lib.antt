@@ -1,4 +1,0 @@
-pub mod Productions
-pub mod Actions
-pub mod Table
-pub mod Lowered
