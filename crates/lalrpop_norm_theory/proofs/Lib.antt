@@ -1,0 +1,4 @@
+pub mod Numbered
+pub mod PairSides
+pub mod PairTranslations
+pub mod PairTotal

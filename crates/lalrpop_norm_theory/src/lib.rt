@@ -1,0 +1,2 @@
+//! The theory of the normalization.
+#![tactic(auto)]
