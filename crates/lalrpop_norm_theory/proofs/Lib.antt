@@ -2,3 +2,9 @@ pub mod Numbered
 pub mod PairSides
 pub mod PairTranslations
 pub mod PairTotal
+pub mod RoundsLemmas
+pub mod SameLemmas
+pub mod OrderLemmas
+pub mod TableLemmas
+pub mod Trees
+pub mod Expansion

@@ -11,3 +11,4 @@ pub mod Met
 pub mod Tables
 pub mod Leveled
 pub mod Steps
+pub mod Laws
