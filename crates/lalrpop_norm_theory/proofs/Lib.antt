@@ -8,3 +8,4 @@ pub mod OrderLemmas
 pub mod TableLemmas
 pub mod Trees
 pub mod Expansion
+pub mod StepLemmas
