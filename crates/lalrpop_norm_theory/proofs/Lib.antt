@@ -9,3 +9,5 @@ pub mod TableLemmas
 pub mod Trees
 pub mod Expansion
 pub mod StepLemmas
+pub mod LeveledLemmas
+pub mod Composed

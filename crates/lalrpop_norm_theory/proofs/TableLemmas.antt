@@ -63,7 +63,7 @@ clause_meets (x ∷ cs) zero c e h i =
 clause_meets (x ∷ cs) (suc p) c e h i = in_right h (meets_all x.parts) _ (clause_meets cs p c e h i)
 
 -- only nonterminals have clauses
-nonterminal_of : (M : Meaning) (g : ClosedSymbol) (p : ℕ) (c : Clause) → slice_get (clauses M g) p ≡ Some c → IsNonterminal g
+pub nonterminal_of : (M : Meaning) (g : ClosedSymbol) (p : ℕ) (c : Clause) → slice_get (clauses M g) p ≡ Some c → IsNonterminal g
 nonterminal_of M (terminal a) p c e = absurd (grind arith)
 nonterminal_of M error p c e = absurd (grind arith)
 nonterminal_of M (wrapped w g) p c e = absurd (grind arith)

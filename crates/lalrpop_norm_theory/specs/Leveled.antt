@@ -48,6 +48,9 @@ abbrev pub composed : (Name → ℕ → Origin) → Origin → Origin
 composed origin (written n p) = origin n p
 composed origin o = o
 
+abbrev pub recomposed_production : (Name → ℕ → Origin) → Production → Production
+recomposed_production origin q = record { origin = composed origin q.origin; symbols = q.symbols }
+
 -- the same productions, each with its origin in the written grammar
 abbrev pub recomposed : (Name → ℕ → Origin) → LoweredGrammar → LoweredGrammar
-recomposed origin P n = map (λ (q : Production). record q { origin = composed origin q.origin }) (P n)
+recomposed origin P n = map (recomposed_production origin) (P n)
