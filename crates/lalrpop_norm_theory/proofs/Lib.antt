@@ -11,3 +11,6 @@ pub mod Expansion
 pub mod StepLemmas
 pub mod LeveledLemmas
 pub mod Composed
+pub mod MadeLemmas
+pub mod TreeExamples
+pub mod RoundExamples

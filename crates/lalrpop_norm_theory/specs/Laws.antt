@@ -1,5 +1,5 @@
 -- What is proved of trees, levels and rounds, each statement in one piece. The functions of the crate carry them.
-use Rattle.std.specs.Prelude.{◌≡◌, ◌↔◌, ℕ, suc, List, [], ◌++◌, map, reverse, flat_map}
+use Rattle.std.specs.Prelude.{◌≡◌, ◌↔◌, ◌<◌, ℕ, suc, List, [], ◌++◌, map, reverse, flat_map}
 use Rattle.lalrpop_norm_theory.specs.Symbols.{Name, Terminal, ClosedSymbol}
 use Rattle.lalrpop_norm_theory.specs.Meaning.{Meaning, HasCounts, HasLevels}
 use Rattle.lalrpop_norm_theory.specs.WrittenTrees.{WrittenTree, IsTreeOf, yield, alternatives}
@@ -7,9 +7,9 @@ use Rattle.lalrpop_norm_theory.specs.LoweredTrees.{LoweredTree, LoweredGrammar, 
 use Rattle.lalrpop_norm_theory.specs.Clauses.{symbol_of}
 use Rattle.lalrpop_norm_theory.specs.Pairs.{Pairs}
 use Rattle.lalrpop_norm_theory.specs.Translations.{lowered_tree, written_tree}
-use Rattle.lalrpop_norm_theory.specs.Rounds.{In, Round, Chain, NewIn, IsInOrderOf, IsTest, rules_made, all_rules_made}
+use Rattle.lalrpop_norm_theory.specs.Rounds.{In, Chain, NewIn, IsInOrderOf, IsDistinct, IsTest}
 use Rattle.lalrpop_norm_theory.specs.Same.{same_symbol}
-use Rattle.lalrpop_norm_theory.specs.Met.{rule_meets, expansion, IsExpanded, IsKnown}
+use Rattle.lalrpop_norm_theory.specs.Met.{meets, rule_meets, expansion, expanded_symbols, IsExpanded, IsKnown}
 use Rattle.lalrpop_norm_theory.specs.Tables.{Realizes, Stands, table, rule_of}
 use Rattle.lalrpop_norm_theory.specs.Leveled.{leveled_symbol, IsLeveled, recomposed}
 use Rattle.lalrpop_norm_theory.specs.Steps.{Steps, written_alternatives}
@@ -98,6 +98,20 @@ abbrev pub RoundsAreInOrder : Type 0
 RoundsAreInOrder = (M : Meaning) (declared : List ClosedSymbol) →
   IsInOrderOf (expansion M declared 0).fresh (flat_map (rule_meets M) declared)
   × ((k : ℕ) → IsInOrderOf (expansion M declared (suc k)).fresh (flat_map (rule_meets M) (reverse (expansion M declared k).fresh)))
+
+-- Exactly one rule is made of each symbol that is new in some round, and none of any other.
+abbrev pub RulesAreMadeOnce : Type 0
+RulesAreMadeOnce = (M : Meaning) (declared : List ClosedSymbol) (count : ℕ) →
+  IsDistinct (expanded_symbols M declared count)
+  × ((x : ClosedSymbol) → In x (expanded_symbols M declared count)
+    ↔ ((k : ℕ) × (k < count) × NewIn (rule_meets M) (flat_map (rule_meets M) declared) k x))
+
+-- What a symbol meets has a chain wherever the symbol itself has one: so an argument put into the body of a macro meets
+-- nothing there that the call did not meet.
+abbrev pub PartsAreMetNoLater : Type 0
+PartsAreMetNoLater = (M : Meaning) (declared : List ClosedSymbol) (k : ℕ) (g h : ClosedSymbol) →
+  Chain (rule_meets M) (flat_map (rule_meets M) declared) k g → In h (meets g) →
+  Chain (rule_meets M) (flat_map (rule_meets M) declared) k h
 
 -- an expansion in which round k + 1 adds nothing
 pub record IsWhole (M : Meaning) (declared met : List ClosedSymbol) : Type 0 where

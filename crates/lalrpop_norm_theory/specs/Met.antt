@@ -3,7 +3,7 @@ use Rattle.std.specs.Prelude.{ℕ, List, [], ◌∷◌, ◌++◌, flat_map}
 use Rattle.lalrpop_norm_theory.specs.Symbols.{ClosedSymbol, ClosedSymbols, terminal, error, reference, call, group, star, plus, question, wrapped, lookahead, lookbehind, no_symbols, symbol_and}
 use Rattle.lalrpop_norm_theory.specs.Meaning.{Meaning}
 use Rattle.lalrpop_norm_theory.specs.Clauses.{Clause, clauses}
-use Rattle.lalrpop_norm_theory.specs.Rounds.{In, Round, rounds}
+use Rattle.lalrpop_norm_theory.specs.Rounds.{In, Round, rounds, all_rules_made}
 use Rattle.lalrpop_norm_theory.specs.Same.{same_symbol}
 
 -- A call, group or repeat meets what its parts meet, then itself; a wrapped symbol what its inner symbol meets; a
@@ -36,6 +36,10 @@ rule_meets M g = clauses_meet (clauses M g)
 -- the state of an expansion after round k + 1, where round 1 reads the rules of the declared symbols in order
 abbrev pub expansion : Meaning → List ClosedSymbol → ℕ → Round ClosedSymbol
 expansion M declared k = rounds same_symbol (rule_meets M) (flat_map (rule_meets M) declared) k
+
+-- the symbols of the rules made in the first `count` rounds, in the order in which the rules stand
+abbrev pub expanded_symbols : Meaning → List ClosedSymbol → ℕ → List ClosedSymbol
+expanded_symbols M declared count = all_rules_made same_symbol (rule_meets M) (flat_map (rule_meets M) declared) count
 
 -- a symbol that an expansion makes a rule of
 abbrev pub IsExpanded : ClosedSymbol → Type 0

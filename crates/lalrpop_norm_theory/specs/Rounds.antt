@@ -41,6 +41,11 @@ abbrev pub all_rules_made : {A : Type 0} → (A → A → Bool) → (A → List 
 all_rules_made same meets start zero = []
 all_rules_made same meets start (suc k) = all_rules_made same meets start k ++ rules_made (rounds same meets start k)
 
+-- each thing stands once
+abbrev pub IsDistinct : {A : Type 0} → List A → Type 0
+IsDistinct [] = Unit {0}
+IsDistinct (x ∷ xs) = (In x xs → ⊥) × IsDistinct xs
+
 -- a chain of k + 1 rules leads to x: the first meets the first link, the rule of each link the next one, the last one x
 abbrev pub Chain : {A : Type 0} → (A → List A) → List A → ℕ → A → Type 0
 Chain meets start zero x = In x start

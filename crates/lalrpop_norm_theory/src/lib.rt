@@ -9,7 +9,7 @@
 ghost use Rattle.lalrpop_norm_theory.specs.Laws.{TreesAreOneToOne, WordsAreTheSame, TranslationsAreInverse};
 ghost use Rattle.lalrpop_norm_theory.specs.Laws.{RulesRealize, LevelsAreTwoSteps};
 ghost use Rattle.lalrpop_norm_theory.specs.Laws.{RoundsAreShortestChains, RoundsAreInOrder, NothingNewIsWhole};
-ghost use Rattle.lalrpop_norm_theory.specs.Laws.{SameIsEqual};
+ghost use Rattle.lalrpop_norm_theory.specs.Laws.{RulesAreMadeOnce, PartsAreMetNoLater, SameIsEqual};
 
 /// In a lowered grammar that has, under the names of the known symbols, the productions of their rules, each written tree of
 /// a known symbol pairs with exactly one derivation tree of its nonterminal and each derivation tree with exactly one written
@@ -57,6 +57,19 @@ pub fn rounds_are_shortest_chains()
 /// reverse of that order.
 pub fn rounds_are_in_order()
     ensures { RoundsAreInOrder }
+{
+}
+
+/// The rules that an expansion makes are one for each symbol that is new in some round, and no others.
+pub fn rules_are_made_once()
+    ensures { RulesAreMadeOnce }
+{
+}
+
+/// What a symbol meets has a chain of rules no longer than the symbol's own: an argument put into a macro's body meets
+/// nothing there that the call did not meet.
+pub fn parts_are_met_no_later()
+    ensures { PartsAreMetNoLater }
 {
 }
 
