@@ -1,9 +1,8 @@
 -- Rounds of small expansions, computed.
 use Rattle.std.proofs.Common.{◌≡◌, ℕ, zero, List, [], ◌∷◌, refl}
 use Rattle.std.specs.Prelude.{bytes_eq, if◌then◌else◌, length, Option, Some, None}
-use Rattle.lalrpop_norm_theory.specs.Symbols.{Name, quoted, chosen, ClosedSymbol, ClosedSymbols, terminal, reference, call, group, question, wrapped, no_symbols, symbol_and, only}
+use Rattle.lalrpop_norm_theory.specs.Symbols.{Name, quoted, chosen, ClosedSymbol, ClosedSymbols, terminal, reference, call, group, star, plus, question, wrapped, lookahead, no_symbols, symbol_and, only}
 use Rattle.lalrpop_norm_theory.specs.Meaning.{Meaning}
-use Rattle.lalrpop_norm_theory.specs.Rounds.{rules_made}
 use Rattle.lalrpop_norm_theory.specs.Met.{expansion, expanded_symbols}
 
 -- a text of one letter, and the quoted literal of it
@@ -76,6 +75,17 @@ nine_rules = refl
 
 third_round_is_not_empty : (expansion nested rule_d 2).fresh ≡ [] → ⊥
 third_round_is_not_empty h = cc h
+
+-- pub D = "a"* @L;
+abbrev repeated : Meaning
+repeated = grammar_of (symbol_and (star (literal 97)) (only lookahead))
+
+-- `X*` holds `X+`, which is met a round later; a lookaround is met
+repeats_and_lookaround : expanded_symbols repeated rule_d 3 ≡ lookahead ∷ star (literal 97) ∷ plus (literal 97) ∷ []
+repeats_and_lookaround = refl
+
+repeat_is_in_second_round : (expansion repeated rule_d 1).fresh ≡ plus (literal 97) ∷ []
+repeat_is_in_second_round = refl
 
 -- pub D = ("a" <"b">)?;
 abbrev optional : Meaning
