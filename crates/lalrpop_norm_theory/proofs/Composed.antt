@@ -9,6 +9,7 @@ use Rattle.lalrpop_norm_theory.specs.LoweredTrees.{LoweredTree, LoweredTrees, lo
 use Rattle.lalrpop_norm_theory.specs.Clauses.{Clause, clauses, symbol_of, IsNonterminal}
 use Rattle.lalrpop_norm_theory.specs.Pairs.{Pairs, AllPairs, terminal_pair, error_pair, wrapped_pair, lookahead_pair, lookbehind_pair, group_pair, rule_pair, step_pair, call_pair, star_empty_pair, star_some_pair, plus_one_pair, plus_more_pair, question_some_pair, question_empty_pair, no_pairs, pair_and}
 use Rattle.lalrpop_norm_theory.specs.Translations.{made_by, written_tree, written_each, lowered_tree}
+use Rattle.lalrpop_norm_theory.specs.Met.{IsResolvedIn, IsResolved}
 use Rattle.lalrpop_norm_theory.specs.Tables.{AllKnown, Realizes}
 use Rattle.lalrpop_norm_theory.specs.Leveled.{leveled_symbol, IsLeveled, composed, recomposed_production, recomposed}
 use Rattle.lalrpop_norm_theory.specs.Steps.{Steps, unleveled_tree, unleveled_each, leveled_tree}
@@ -16,8 +17,9 @@ use Rattle.lalrpop_norm_theory.specs.Laws.{level_named, PairsInTwoSteps, LevelsA
 use Rattle.lalrpop_norm_theory.proofs.PairSides.{production_at, tree_of, derivation_of}
 use Rattle.lalrpop_norm_theory.proofs.PairTranslations.{lowered_to}
 use Rattle.lalrpop_norm_theory.proofs.PairTotal.{pairs_lowered, pairs_written}
-use Rattle.lalrpop_norm_theory.proofs.StepLemmas.{unleveled_to, steps_leveled, level_tree, steps_one_to_one}
-use Rattle.lalrpop_norm_theory.proofs.LeveledLemmas.{leveled_realizes, symbol_named, derivation_recomposed}
+use Rattle.lalrpop_norm_theory.proofs.LeveledTrees.{steps_leveled}
+use Rattle.lalrpop_norm_theory.proofs.StepLemmas.{unleveled_to, level_tree, steps_one_to_one}
+use Rattle.lalrpop_norm_theory.proofs.LeveledLemmas.{KnownLeveled, leveled_realizes, symbol_named, derivation_recomposed}
 use Rattle.lalrpop_norm_theory.proofs.Trees.{one_to_one}
 
 unleveled_append : (origin : Name → ℕ → Origin) (ts ss : WrittenTrees) →
@@ -75,41 +77,46 @@ module _ (L : Meaning) (name : ClosedSymbol → Name) (P : LoweredGrammar) (orig
     written_composed_all no_pairs k = refl
     written_composed_all (pair_and g gs t ts u us h hs) k = ap₂ tree_and (written_composed h k.0) (written_composed_all hs k.1)
 
-module _ (M L : Meaning) (l : Name → ℕ → Name) (origin : Name → ℕ → Origin) (I : IsLeveled M L l origin)
-    (C : HasCounts M) (V : HasLevels M) (D : HasCounts L) (W : HasLevels L) (name : ClosedSymbol → Name) (P : LoweredGrammar)
-    (Known : ClosedSymbol → Type 0) (R : Realizes L name P Known) (g : ClosedSymbol) (k : Known (leveled_symbol l g)) where
+module _ (M L : Meaning) (l : Name → ℕ → Name) (origin : Name → ℕ → Origin) (references : List ClosedSymbol)
+    (D : IsResolved M references) (I : IsLeveled M L l origin references)
+    (C : HasCounts M) (V : HasLevels M) (B : HasCounts L) (W : HasLevels L) (name : ClosedSymbol → Name) (P : LoweredGrammar)
+    (Known : ClosedSymbol → Type 0) (R : Realizes L name P Known) (g : ClosedSymbol) (r : IsResolvedIn references g)
+    (k : Known (leveled_symbol l g)) where
+  abbrev Whole : ClosedSymbol → Type 0
+  Whole = KnownLeveled M L l origin references I D V B W name P Known R
+
   -- the grammar realizes the written one, too
-  whole_realizes : Realizes M (level_named l name) (recomposed origin P) (λ x. Known (leveled_symbol l x))
-  whole_realizes = leveled_realizes M L l origin I D W name P Known R
+  whole_realizes : Realizes M (level_named l name) (recomposed origin P) Whole
+  whole_realizes = leveled_realizes M L l origin references I D V B W name P Known R
 
   joined : (t m : WrittenTree) (u : LoweredTree) → Steps M l g t m → Pairs L name (leveled_symbol l g) m u → Pairs M (level_named l name) g t u
   joined t m u steps pair =
     let same : written_tree (recomposed origin P) u ≡ t =
-      written_composed L name P origin Known R pair k ∙ unleveled_to M L l origin I steps in
+      written_composed L name P origin Known R pair k ∙ unleveled_to M L l origin references I D V steps r in
     let d : IsDerivation (recomposed origin P) u (symbol_of (level_named l name) g) =
       subst (λ s. IsDerivation (recomposed origin P) u s) (sym (symbol_named l name g))
         (derivation_recomposed origin P u _ (derivation_of L name P Known R pair k)) in
     let whole : Pairs M (level_named l name) g (written_tree (recomposed origin P) u) u =
-      pairs_written M (level_named l name) (recomposed origin P) (λ x. Known (leveled_symbol l x)) whole_realizes V u g d k in
+      pairs_written M (level_named l name) (recomposed origin P) Whole whole_realizes V u g d (r, k) in
     rw same at whole
 
   parted : (t : WrittenTree) (u : LoweredTree) → Pairs M (level_named l name) g t u →
     (m : WrittenTree) × Steps M l g t m × Pairs L name (leveled_symbol l g) m u
   parted t u h =
-    let m = leveled_tree M l t g in
     let steps : Steps M l g t (leveled_tree M l t g) = steps_leveled M l C V t g (tree_of M (level_named l name) V h) in
-    let pair = pairs_lowered L name D W (leveled_tree M l t g) (leveled_symbol l g) (level_tree M L l origin I steps) in
+    let pair = pairs_lowered L name B W (leveled_tree M l t g) (leveled_symbol l g) (level_tree M L l origin references I D V steps r) in
     let same : lowered_tree L name (leveled_tree M l t g) (leveled_symbol l g) ≡ u =
       sym (lowered_to M (level_named l name) V (joined t _ _ steps pair)) ∙ lowered_to M (level_named l name) V h in
     (leveled_tree M l t g, steps, subst (λ v. Pairs L name (leveled_symbol l g) (leveled_tree M l t g) v) same pair)
 
   pub in_two_steps : PairsInTwoSteps M L l origin name P g
   in_two_steps = record {
-    first = steps_one_to_one M L l origin I C V g;
-    second = one_to_one L D W name P Known R (leveled_symbol l g) k;
-    whole = one_to_one M C V (level_named l name) (recomposed origin P) (λ x. Known (leveled_symbol l x)) whole_realizes g k;
+    first = steps_one_to_one M L l origin references I D V C g r;
+    second = one_to_one L B W name P Known R (leveled_symbol l g) k;
+    whole = one_to_one M C V (level_named l name) (recomposed origin P) Whole whole_realizes g (r, k);
     joined = joined;
     parted = parted }
 
 pub levels_two_steps : LevelsAreTwoSteps
-levels_two_steps M L l origin I C V D W name P declared met R g k = in_two_steps M L l origin I C V D W name P _ R g k
+levels_two_steps M L l origin references D I C V B W name P declared met R g r k =
+  in_two_steps M L l origin references D I C V B W name P _ R g r k

@@ -1,16 +1,17 @@
 -- The rounds of an expansion: new are the shortest chains, in the order of first meeting; where nothing is new it is whole.
 use Rattle.std.proofs.Common.{◌≡◌, ◌⊎◌, ◌<◌, ◌+◌, inl, inr, ℕ, zero, suc, List, [], ◌∷◌, ◌++◌, refl, subst, arith, append-nil}
-use Rattle.std.specs.Prelude.{flat_map}
+use Rattle.std.specs.Prelude.{flat_map, slice_get, Some}
 use Rattle.lalrpop_norm_theory.specs.Symbols.{ClosedSymbol, ClosedSymbols, terminal, error, reference, call, group, star, plus, question, wrapped, lookahead, lookbehind, no_symbols, symbol_and}
 use Rattle.lalrpop_norm_theory.specs.Meaning.{Meaning}
 use Rattle.lalrpop_norm_theory.specs.Clauses.{Clause, clauses}
 use Rattle.lalrpop_norm_theory.specs.Rounds.{In, Round, Chain, rounds}
 use Rattle.lalrpop_norm_theory.specs.Same.{same_symbol}
-use Rattle.lalrpop_norm_theory.specs.Met.{meets, meets_all, clauses_meet, rule_meets, expansion, IsExpanded}
-use Rattle.lalrpop_norm_theory.specs.Laws.{RoundsAreShortestChains, RoundsAreInOrder, NothingNewIsWhole}
-use Rattle.lalrpop_norm_theory.proofs.RoundsLemmas.{After, after_rounds, fresh_is_new, closed, in_cases, in_flat, of_flat}
+use Rattle.lalrpop_norm_theory.specs.Met.{meets, meets_all, clauses_meet, rule_meets, expansion, IsExpanded, IsDeclaredIn, AreDeclaredIn, IsResolvedIn}
+use Rattle.lalrpop_norm_theory.specs.Laws.{RoundsAreShortestChains, RoundsAreInOrder, NothingNewIsWhole, IsWhole, ExpansionsStand}
+use Rattle.lalrpop_norm_theory.proofs.RoundsLemmas.{After, after_rounds, fresh_is_new, closed, in_left, in_right, in_cases, in_flat, of_flat}
 use Rattle.lalrpop_norm_theory.proofs.OrderLemmas.{fresh_in_order}
 use Rattle.lalrpop_norm_theory.proofs.SameLemmas.{symbol_test}
+use Rattle.lalrpop_norm_theory.proofs.ResolvedLemmas.{all_declared_from, clause_resolved, chain_resolved}
 
 pub rounds_shortest : RoundsAreShortestChains
 rounds_shortest M declared k x = fresh_is_new same_symbol symbol_test (rule_meets M) (flat_map (rule_meets M) declared) k x
@@ -77,3 +78,42 @@ nothing_new_whole M declared k none = record {
     found h i = elim (in_cases h _ _ i) [
         inl s ↦ s
       | inr f ↦ absurd (subst (λ (ys : List ClosedSymbol). In h ys) none f) ]
+
+-- what is declared stays declared among more
+declared_more : (roots declared : List ClosedSymbol) (g : ClosedSymbol) → IsDeclaredIn declared g → IsDeclaredIn (roots ++ declared) g
+declared_more roots declared (terminal a) d = tt
+declared_more roots declared error d = tt
+declared_more roots declared (reference n b) d = in_right (reference n b) roots declared d
+declared_more roots declared (wrapped w g) d = declared_more roots declared g d
+declared_more roots declared (call n args) d = tt
+declared_more roots declared (group gs) d = tt
+declared_more roots declared (star x) d = tt
+declared_more roots declared (plus x) d = tt
+declared_more roots declared (question x) d = tt
+declared_more roots declared lookahead d = tt
+declared_more roots declared lookbehind d = tt
+
+all_declared_more : (roots declared : List ClosedSymbol) (gs : ClosedSymbols) → AreDeclaredIn declared gs → AreDeclaredIn (roots ++ declared) gs
+all_declared_more roots declared no_symbols d = tt
+all_declared_more roots declared (symbol_and g gs) d = (declared_more roots declared g d.0, all_declared_more roots declared gs d.1)
+
+pub expansion_stands : ExpansionsStand
+expansion_stands M V roots declared D own shared k none name one = record {
+    distinct = one;
+    resolved = λ g i p c e. elim (in_cases g (roots ++ declared) _ i) [
+        inl j ↦ elim (in_cases g roots declared j) [
+            inl r ↦ (let (h, there, same) = shared g r in of_resolved h (own h there) p c (rw (← same) e))
+          | inr d ↦ of_resolved g (own g d) p c e ]
+      | inr s ↦ (let (j, chain) = whole.reached g s in of_resolved g (chain_resolved M declared D V declared own j g chain) p c e) ];
+    done = λ g h i m. elim (in_cases g (roots ++ declared) _ i) [
+        inl j ↦ elim (in_cases g roots declared j) [
+            inl r ↦ (let (x, there, same) = shared g r in whole.done x h (in_left x declared _ there) (rw (← same) m))
+          | inr d ↦ whole.done g h (in_left g declared _ d) m ]
+      | inr s ↦ whole.done g h (in_right g declared _ s) m ] }
+  where
+    whole : IsWhole M declared (expansion M declared k).seen
+    whole = nothing_new_whole M declared k none
+    of_resolved : (g : ClosedSymbol) → IsResolvedIn declared g → (p : ℕ) (c : Clause) → slice_get (clauses M g) p ≡ Some c →
+      AreDeclaredIn (roots ++ declared) c.parts
+    of_resolved g r p c e =
+      all_declared_more roots declared c.parts (all_declared_from declared c.parts (clause_resolved M declared D V g p c r e))

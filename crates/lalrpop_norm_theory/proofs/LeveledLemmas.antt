@@ -6,10 +6,13 @@ use Rattle.lalrpop_norm_theory.specs.Symbols.{Name, ClosedSymbol, ClosedSymbols,
 use Rattle.lalrpop_norm_theory.specs.Meaning.{Meaning, HasCounts, HasLevels}
 use Rattle.lalrpop_norm_theory.specs.LoweredTrees.{Origin, LoweredGrammar, Production, LoweredTree, LoweredTrees, lowered_leaf, lowered_node, no_lowered, lowered_and, LoweredSymbol, IsDerivation, AreDerivations, written}
 use Rattle.lalrpop_norm_theory.specs.Clauses.{Clause, clause, clause_and, clauses, numbered, own_clauses, step_clauses, symbol_of, symbols_of, production_of, IsNonterminal}
+use Rattle.lalrpop_norm_theory.specs.Rounds.{In}
+use Rattle.lalrpop_norm_theory.specs.Met.{IsResolvedIn, AreResolvedIn, IsResolved}
 use Rattle.lalrpop_norm_theory.specs.Tables.{AllKnown, Realizes}
 use Rattle.lalrpop_norm_theory.specs.Leveled.{level_reference, leveled_symbol, leveled_symbols, IsLeveled, composed, recomposed_production, recomposed}
 use Rattle.lalrpop_norm_theory.specs.Laws.{level_named}
 use Rattle.lalrpop_norm_theory.proofs.TableLemmas.{nonterminal_of}
+use Rattle.lalrpop_norm_theory.proofs.ResolvedLemmas.{clause_resolved}
 
 -- a clause with its origin in the written grammar, and a clause with its parts in the grammar with levels
 abbrev composed_clause : (Name → ℕ → Origin) → Clause → Clause
@@ -57,8 +60,8 @@ numbered_calls n l origin f h k (suc left) e o = rw (e k) (at (h k) refl (number
     at None q ih = ih
     at (Some parts) q ih = ap₂ (λ a b. clause a (leveled_symbols l parts) ∷ b) (o k parts q) ih
 
-module _ (M L : Meaning) (l : Name → ℕ → Name) (origin : Name → ℕ → Origin) (I : IsLeveled M L l origin)
-    (C : HasCounts L) (V : HasLevels L) where
+module _ (M L : Meaning) (l : Name → ℕ → Name) (origin : Name → ℕ → Origin) (declared : List ClosedSymbol)
+    (I : IsLeveled M L l origin declared) (C : HasCounts L) (V : HasLevels L) where
   -- a rule without levels has all its alternatives on its one level
   own_is_all : (n : Name) (k : ℕ) (o : Option ClosedSymbols) → L.reference_parts n None k ≡ o → L.own_parts n None k ≡ o
   own_is_all n k (Some parts) e = elim (V.split n None k parts e) [
@@ -82,32 +85,32 @@ module _ (M L : Meaning) (l : Name → ℕ → Name) (origin : Name → ℕ → 
         absurd (let less : L.reference_count n < L.reference_count n = C.of_rules n None (L.reference_count n) (leveled_parts l c) parts in omega arith)
     | inr r ↦ r.0 ]
 
-  rule_clauses : (n : Name) (b : Option ℕ) →
+  rule_clauses : (n : Name) (b : Option ℕ) → In (reference n b) declared →
     map (composed_clause origin) (clauses L (reference (level_reference l n b) None)) ≡ map (leveled_clause l) (clauses M (reference n b))
-  rule_clauses n b =
-    let own = (λ (j : ℕ). own_is_all (level_reference l n b) j _ (I.rules n b j)) in
+  rule_clauses n b r =
+    let own = (λ (j : ℕ). own_is_all (level_reference l n b) j _ (I.rules n b j r)) in
     rw (I.flat (level_reference l n b), append-nil (own_clauses L (level_reference l n b) None))
       (numbered_clauses (level_reference l n b) l origin (L.own_parts (level_reference l n b) None) 0 (L.reference_count (level_reference l n b))
         (clauses M (reference n b)) (enough_numbers (level_reference l n b) (clauses M (reference n b)) own)
         (λ j. let z : 0 + j ≡ j = omega arith in rw z (own j))
-        (λ j c e. let z : 0 + j ≡ j = omega arith in rw z (I.rule_origins n b j c e)))
+        (λ j c e. let z : 0 + j ≡ j = omega arith in rw z (I.rule_origins n b j c r e)))
 
   -- the rule of a symbol in the grammar with levels is its rule in the written one
-  leveled_clauses : (g : ClosedSymbol) → IsNonterminal g →
+  leveled_clauses : (g : ClosedSymbol) → IsNonterminal g → IsResolvedIn declared g →
     map (composed_clause origin) (clauses L (leveled_symbol l g)) ≡ map (leveled_clause l) (clauses M g)
-  leveled_clauses (terminal a) n = absurd n
-  leveled_clauses error n = absurd n
-  leveled_clauses (wrapped w g) n = absurd n
-  leveled_clauses (reference m b) n = rule_clauses m b
-  leveled_clauses (call m args) n =
+  leveled_clauses (terminal a) n r = absurd n
+  leveled_clauses error n r = absurd n
+  leveled_clauses (wrapped w g) n r = absurd n
+  leveled_clauses (reference m b) n r = rule_clauses m b r
+  leveled_clauses (call m args) n r =
     rw (I.macro_counts m) (numbered_calls m l origin (L.call_parts m (leveled_symbols l args)) (M.call_parts m args) 0 (M.call_count m)
       (λ j. I.macros m args j) (λ j parts e. I.macro_origins m args j parts e))
-  leveled_clauses (group gs) n = refl
-  leveled_clauses (star x) n = refl
-  leveled_clauses (plus x) n = refl
-  leveled_clauses (question x) n = refl
-  leveled_clauses lookahead n = refl
-  leveled_clauses lookbehind n = refl
+  leveled_clauses (group gs) n r = refl
+  leveled_clauses (star x) n r = refl
+  leveled_clauses (plus x) n r = refl
+  leveled_clauses (question x) n r = refl
+  leveled_clauses lookahead n r = refl
+  leveled_clauses lookbehind n r = refl
 
 leveled_nonterminal : (l : Name → ℕ → Name) (g : ClosedSymbol) → IsNonterminal g → IsNonterminal (leveled_symbol l g)
 leveled_nonterminal l (terminal a) n = n
@@ -153,33 +156,38 @@ leveled_productions l name [] = refl
 leveled_productions l name (c ∷ cs) =
   ap₂ (λ ss r. record { origin = c.origin; symbols = ss } ∷ r) (sym (symbols_named l name c.parts)) (leveled_productions l name cs)
 
-all_leveled : (l : Name → ℕ → Name) (Known : ClosedSymbol → Type 0) (gs : ClosedSymbols) → AllKnown Known (leveled_symbols l gs) →
-  AllKnown (λ g. Known (leveled_symbol l g)) gs
-all_leveled l Known no_symbols k = tt
-all_leveled l Known (symbol_and g gs) k = (k.0, all_leveled l Known gs k.1)
-
 mapped_at : {A B : Type 0} (f : A → B) (o : Option A) (y : B) → option_map f o ≡ Some y → (x : A) × (o ≡ Some x) × (f x ≡ y)
 mapped_at f None y e = absurd (grind arith)
 mapped_at f (Some x) y e = (x, refl, cc e)
 
-pub leveled_realizes : (M L : Meaning) (l : Name → ℕ → Name) (origin : Name → ℕ → Origin) → IsLeveled M L l origin →
-  HasCounts L → HasLevels L → (name : ClosedSymbol → Name) (P : LoweredGrammar) (Known : ClosedSymbol → Type 0) → Realizes L name P Known →
-  Realizes M (level_named l name) (recomposed origin P) (λ g. Known (leveled_symbol l g))
-leveled_realizes M L l origin I C V name P Known R = record {
+module _ (M L : Meaning) (l : Name → ℕ → Name) (origin : Name → ℕ → Origin) (declared : List ClosedSymbol)
+    (I : IsLeveled M L l origin declared) (D : IsResolved M declared) (W : HasLevels M) (C : HasCounts L) (V : HasLevels L)
+    (name : ClosedSymbol → Name) (P : LoweredGrammar) (Known : ClosedSymbol → Type 0) (R : Realizes L name P Known) where
+  -- the known symbols of the written grammar
+  abbrev pub KnownLeveled : ClosedSymbol → Type 0
+  KnownLeveled g = IsResolvedIn declared g × Known (leveled_symbol l g)
+
+  all_leveled : (gs : ClosedSymbols) → AreResolvedIn declared gs → AllKnown Known (leveled_symbols l gs) → AllKnown KnownLeveled gs
+  all_leveled no_symbols r k = tt
+  all_leveled (symbol_and g gs) r k = ((r.0, k.0), all_leveled gs r.1 k.1)
+
+  pub leveled_realizes : Realizes M (level_named l name) (recomposed origin P) KnownLeveled
+  leveled_realizes = record {
     productions = λ g n k.
-      ap (map (recomposed_production origin)) (R.productions (leveled_symbol l g) (leveled_nonterminal l g n) k)
+      ap (map (recomposed_production origin)) (R.productions (leveled_symbol l g) (leveled_nonterminal l g n) k.1)
       ∙ recomposed_productions origin name (clauses L (leveled_symbol l g))
-      ∙ ap (map (production_of name)) (leveled_clauses M L l origin I C V g n)
+      ∙ ap (map (production_of name)) (leveled_clauses M L l origin declared I C V g n k.0)
       ∙ leveled_productions l name (clauses M g);
-    inner = λ w g k. R.inner w (leveled_symbol l g) k;
+    inner = λ w g k. (k.0, R.inner w (leveled_symbol l g) k.1);
     parts_known = λ g p c k e.
       let n = nonterminal_of M g p c e in
       let there : option_map (composed_clause origin) (slice_get (clauses L (leveled_symbol l g)) p) ≡ Some (leveled_clause l c) =
         sym (slice_get-map (composed_clause origin) (clauses L (leveled_symbol l g)) p)
-        ∙ ap (λ cs. slice_get cs p) (leveled_clauses M L l origin I C V g n)
+        ∙ ap (λ cs. slice_get cs p) (leveled_clauses M L l origin declared I C V g n k.0)
         ∙ slice_get-map (leveled_clause l) (clauses M g) p ∙ ap (option_map (leveled_clause l)) e in
       let (d, at, same) = mapped_at (composed_clause origin) _ _ there in
-      all_leveled l Known c.parts (subst (AllKnown Known) (ap (λ x. x.parts) same) (R.parts_known (leveled_symbol l g) p d k at)) }
+      all_leveled c.parts (clause_resolved M declared D W g p c k.0 e)
+        (subst (AllKnown Known) (ap (λ x. x.parts) same) (R.parts_known (leveled_symbol l g) p d k.1 at)) }
 
 mutual
   -- origins are no matter for derivation trees

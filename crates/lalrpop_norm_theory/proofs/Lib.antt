@@ -8,9 +8,11 @@ pub mod OrderLemmas
 pub mod TableLemmas
 pub mod Trees
 pub mod Expansion
-pub mod StepLemmas
-pub mod LeveledLemmas
-pub mod Composed
+pub mod LeveledTrees
 pub mod MadeLemmas
 pub mod TreeExamples
 pub mod RoundExamples
+pub mod ResolvedLemmas
+pub mod StepLemmas
+pub mod LeveledLemmas
+pub mod Composed

@@ -173,7 +173,7 @@ list_elements M x (node n k ts) h = absurd h
 abbrev Children : (M : Meaning) (name : ClosedSymbol → Name) → LoweredGrammar → (ClosedSymbol → Type 0) → LoweredTrees → Type 0
 Children M name P Known us = (gs : ClosedSymbols) → AreDerivations P us (symbols_of name gs) → AllKnown Known gs → AllPairs M name gs (written_each P us) us
 
-numbered_clause_at : (n : Name) (f : ℕ → Option ClosedSymbols) (count p : ℕ) (c : Clause) → slice_get (numbered n f 0 count) p ≡ Some c →
+pub numbered_clause_at : (n : Name) (f : ℕ → Option ClosedSymbols) (count p : ℕ) (c : Clause) → slice_get (numbered n f 0 count) p ≡ Some c →
   (k : ℕ) × (parts : ClosedSymbols) × (f k ≡ Some parts) × (c ≡ alternative_clause n k parts)
 numbered_clause_at n f count p c h = children (numbered_sound n f 0 count p c h)
   where

@@ -1,5 +1,5 @@
--- Bounded written trees and the trees of the grammar with levels stand one to one.
-use Rattle.std.proofs.Common.{◌≡◌, ◌≤◌, le_refl, inl, inr, ℕ, zero, suc, ◌+◌, ◌<◌, ◌∷◌, ◌++◌, append-nil, refl, sym, ap, ap₂, ◌∙◌, subst, arith}
+-- Written trees and the trees of the grammar with levels stand one to one.
+use Rattle.std.proofs.Common.{◌≡◌, ◌≤◌, le_refl, inl, inr, List, ℕ, ◌∷◌, ◌++◌, append-nil, refl, sym, ap, ap₂, ◌∙◌, subst, arith}
 use Rattle.std.specs.Prelude.{slice_get, Option, Some, None, option_map, length}
 use Rattle.lalrpop_norm_theory.specs.Symbols.{Name, error_terminal, ClosedSymbol, ClosedSymbols, terminal, error, lookahead, lookbehind, reference, call, group, star, plus, question, wrapped, no_symbols, symbol_and, only}
 use Rattle.lalrpop_norm_theory.specs.Meaning.{Meaning, HasLevels, HasCounts}
@@ -7,37 +7,16 @@ use Rattle.lalrpop_norm_theory.specs.WrittenTrees.{WrittenTree, WrittenTrees, le
 use Rattle.lalrpop_norm_theory.specs.LoweredTrees.{Origin, written, level_step}
 use Rattle.lalrpop_norm_theory.specs.Clauses.{Clause, clause, clauses, own_clauses, step_clauses}
 use Rattle.lalrpop_norm_theory.specs.Translations.{first, second, made_by, place}
+use Rattle.lalrpop_norm_theory.specs.Rounds.{In}
+use Rattle.lalrpop_norm_theory.specs.Met.{IsResolvedIn, AreResolvedIn, IsResolved}
 use Rattle.lalrpop_norm_theory.specs.Leveled.{level_reference, leveled_symbol, leveled_symbols, IsLeveled}
 use Rattle.lalrpop_norm_theory.specs.Steps.{Steps, AllSteps, EachSteps, terminal_kept, error_kept, wrapped_kept, lookahead_kept, lookbehind_kept, group_kept, star_kept, plus_kept, question_kept, call_kept, at_level, below_level, all_done, all_and, each_done, each_and, unleveled_tree, unleveled_each, own_level, step_level, leveled_rule, leveled_tree, leveled_all, leveled_each, written_alternatives, written_alternatives_of}
 use Rattle.lalrpop_norm_theory.specs.Laws.{StepsAreOneToOne}
 use Rattle.lalrpop_norm_theory.proofs.Numbered.{Numbered, numbered_sound, numbered_complete, own_clause_at, step_clause_last, left_at, split_at}
 use Rattle.lalrpop_norm_theory.proofs.PairSides.{raised}
 use Rattle.lalrpop_norm_theory.proofs.PairTranslations.{place_is}
-use Rattle.lalrpop_norm_theory.proofs.PairTotal.{step_place, step_clause_at}
-
-mutual
-  -- the first tree is a bounded one of the symbol
-  pub bounded_tree : (M : Meaning) (l : Name → ℕ → Name) → HasLevels M → {g : ClosedSymbol} {t m : WrittenTree} → Steps M l g t m → IsTreeOf M t g
-  bounded_tree M l V (terminal_kept a) = refl
-  bounded_tree M l V error_kept = refl
-  bounded_tree M l V (wrapped_kept w g t m h) = bounded_tree M l V h
-  bounded_tree M l V lookahead_kept = tt
-  bounded_tree M l V lookbehind_kept = tt
-  bounded_tree M l V (group_kept gs ts ms h) = bounded_trees M l V h
-  bounded_tree M l V (star_kept x ts ms h) = bounded_each M l V h
-  bounded_tree M l V (plus_kept x ts ms n h) = (n, bounded_each M l V h)
-  bounded_tree M l V (question_kept x ts ms n h) = (n, bounded_each M l V h)
-  bounded_tree M l V (call_kept n k args parts ts ms e h) = (refl, parts, e, bounded_trees M l V h)
-  bounded_tree M l V (at_level n k p b parts ts ms e i h) = (refl, parts, V.own n b k parts e, bounded_trees M l V h)
-  bounded_tree M l V (below_level n p b c t m e i h) = raised M V n b c e t (bounded_tree M l V h)
-
-  pub bounded_trees : (M : Meaning) (l : Name → ℕ → Name) → HasLevels M → {gs : ClosedSymbols} {ts ms : WrittenTrees} → AllSteps M l gs ts ms → AreTreesOf M ts gs
-  bounded_trees M l V all_done = tt
-  bounded_trees M l V (all_and g gs t ts m ms h hs) = (bounded_tree M l V h, bounded_trees M l V hs)
-
-  pub bounded_each : (M : Meaning) (l : Name → ℕ → Name) → HasLevels M → {x : ClosedSymbol} {ts ms : WrittenTrees} → EachSteps M l x ts ms → EachTreeOf M ts x
-  bounded_each M l V (each_done x) = tt
-  bounded_each M l V (each_and x t ts m ms h hs) = (bounded_tree M l V h, bounded_each M l V hs)
+use Rattle.lalrpop_norm_theory.proofs.PairTotal.{numbered_clause_at, step_clause_at}
+use Rattle.lalrpop_norm_theory.proofs.LeveledTrees.{bounded_tree, steps_leveled, leveled_to, steps_yield}
 
 same_nonempty : (M : Meaning) (l : Name → ℕ → Name) {x : ClosedSymbol} {ts ms : WrittenTrees} → EachSteps M l x ts ms → IsNonempty ts → IsNonempty ms
 same_nonempty M l (each_done x) n = n
@@ -50,73 +29,6 @@ same_most M l (tree_and t (tree_and s ts)) ms h n = absurd n
 same_most M l (tree_and t no_trees) (tree_and m (tree_and o ms)) (each_and _ _ _ _ _ h i) n = elim i [ ]
 same_most M l no_trees (tree_and m ms) h n = elim h [ ]
 same_most M l (tree_and t no_trees) no_trees h n = elim h [ ]
-
-mutual
-  -- the second is one of the symbol, renamed, in the grammar with levels
-  pub level_tree : (M L : Meaning) (l : Name → ℕ → Name) (origin : Name → ℕ → Origin) → IsLeveled M L l origin →
-    {g : ClosedSymbol} {t m : WrittenTree} → Steps M l g t m → IsTreeOf L m (leveled_symbol l g)
-  level_tree M L l origin I (terminal_kept a) = refl
-  level_tree M L l origin I error_kept = refl
-  level_tree M L l origin I (wrapped_kept w g t m h) = level_tree M L l origin I h
-  level_tree M L l origin I lookahead_kept = tt
-  level_tree M L l origin I lookbehind_kept = tt
-  level_tree M L l origin I (group_kept gs ts ms h) = level_trees M L l origin I h
-  level_tree M L l origin I (star_kept x ts ms h) = level_each M L l origin I h
-  level_tree M L l origin I (plus_kept x ts ms n h) = (same_nonempty M l h n, level_each M L l origin I h)
-  level_tree M L l origin I (question_kept x ts ms n h) = (same_most M l ts ms h n, level_each M L l origin I h)
-  level_tree M L l origin I (call_kept n k args parts ts ms e h) =
-    (refl, leveled_symbols l parts, rw (I.macros n args k, e) refl, level_trees M L l origin I h)
-  level_tree M L l origin I (at_level n k p b parts ts ms e i h) =
-    (refl, leveled_symbols l parts, rw (I.rules n b p, i) refl, level_trees M L l origin I h)
-  level_tree M L l origin I (below_level n p b c t m e i h) =
-    (refl, only (reference (level_reference l n c) None), rw (I.rules n b p, i) refl, (level_tree M L l origin I h, tt))
-
-  pub level_trees : (M L : Meaning) (l : Name → ℕ → Name) (origin : Name → ℕ → Origin) → IsLeveled M L l origin →
-    {gs : ClosedSymbols} {ts ms : WrittenTrees} → AllSteps M l gs ts ms → AreTreesOf L ms (leveled_symbols l gs)
-  level_trees M L l origin I all_done = tt
-  level_trees M L l origin I (all_and g gs t ts m ms h hs) = (level_tree M L l origin I h, level_trees M L l origin I hs)
-
-  pub level_each : (M L : Meaning) (l : Name → ℕ → Name) (origin : Name → ℕ → Origin) → IsLeveled M L l origin →
-    {x : ClosedSymbol} {ts ms : WrittenTrees} → EachSteps M l x ts ms → EachTreeOf L ms (leveled_symbol l x)
-  level_each M L l origin I (each_done x) = tt
-  level_each M L l origin I (each_and x t ts m ms h hs) = (level_tree M L l origin I h, level_each M L l origin I hs)
-
-mutual
-  -- the origins give back the first
-  pub unleveled_to : (M L : Meaning) (l : Name → ℕ → Name) (origin : Name → ℕ → Origin) → IsLeveled M L l origin →
-    {g : ClosedSymbol} {t m : WrittenTree} → Steps M l g t m → unleveled_tree origin m ≡ t
-  unleveled_to M L l origin I (terminal_kept a) = refl
-  unleveled_to M L l origin I error_kept = refl
-  unleveled_to M L l origin I (wrapped_kept w g t m h) = unleveled_to M L l origin I h
-  unleveled_to M L l origin I lookahead_kept = refl
-  unleveled_to M L l origin I lookbehind_kept = refl
-  unleveled_to M L l origin I (group_kept gs ts ms h) = ap list (unleveled_to_all M L l origin I h)
-  unleveled_to M L l origin I (star_kept x ts ms h) = ap list (unleveled_to_each M L l origin I h)
-  unleveled_to M L l origin I (plus_kept x ts ms n h) = ap list (unleveled_to_each M L l origin I h)
-  unleveled_to M L l origin I (question_kept x ts ms n h) = ap list (unleveled_to_each M L l origin I h)
-  unleveled_to M L l origin I (call_kept n k args parts ts ms e h) =
-    rw (I.macro_origins n args k parts e) (ap (node n k) (unleveled_to_all M L l origin I h))
-  unleveled_to M L l origin I (at_level n k p b parts ts ms e i h) =
-    rw (I.rule_origins n b p _ i) (ap (node n k) (unleveled_to_all M L l origin I h))
-  unleveled_to M L l origin I (below_level n p b c t m e i h) =
-    rw (I.rule_origins n b p _ i) (unleveled_to M L l origin I h)
-
-  pub unleveled_to_all : (M L : Meaning) (l : Name → ℕ → Name) (origin : Name → ℕ → Origin) → IsLeveled M L l origin →
-    {gs : ClosedSymbols} {ts ms : WrittenTrees} → AllSteps M l gs ts ms → unleveled_each origin ms ≡ ts
-  unleveled_to_all M L l origin I all_done = refl
-  unleveled_to_all M L l origin I (all_and g gs t ts m ms h hs) = ap₂ tree_and (unleveled_to M L l origin I h) (unleveled_to_all M L l origin I hs)
-
-  pub unleveled_to_each : (M L : Meaning) (l : Name → ℕ → Name) (origin : Name → ℕ → Origin) → IsLeveled M L l origin →
-    {x : ClosedSymbol} {ts ms : WrittenTrees} → EachSteps M l x ts ms → unleveled_each origin ms ≡ ts
-  unleveled_to_each M L l origin I (each_done x) = refl
-  unleveled_to_each M L l origin I (each_and x t ts m ms h hs) = ap₂ tree_and (unleveled_to M L l origin I h) (unleveled_to_each M L l origin I hs)
-
--- the children of a node in the grammar with levels
-abbrev Below : (M L : Meaning) (l : Name → ℕ → Name) (origin : Name → ℕ → Origin) → WrittenTrees → Type 0
-Below M L l origin ms = (gs : ClosedSymbols) → AreTreesOf L ms (leveled_symbols l gs) → AllSteps M l gs (unleveled_each origin ms) ms
-
-abbrev BelowEach : (M L : Meaning) (l : Name → ℕ → Name) (origin : Name → ℕ → Origin) → WrittenTrees → Type 0
-BelowEach M L l origin ms = (x : ClosedSymbol) → EachTreeOf L ms (leveled_symbol l x) → EachSteps M l x (unleveled_each origin ms) ms
 
 un_nonempty : (origin : Name → ℕ → Origin) (ms : WrittenTrees) → IsNonempty ms → IsNonempty (unleveled_each origin ms)
 un_nonempty origin no_trees n = n
@@ -141,297 +53,172 @@ first_step : (M : Meaning) (l : Name → ℕ → Name) (g : ClosedSymbol) (gs : 
   AllSteps M l (symbol_and g gs) (tree_and t ts) (tree_and m ms) → Steps M l g t m
 first_step M l g gs t m ts ms (all_and _ _ _ _ _ _ h hs) = h
 
-un_step : (M L : Meaning) (l : Name → ℕ → Name) (origin : Name → ℕ → Origin) → (ms : WrittenTrees) → Below M L l origin ms →
-  (n : Name) (p : ℕ) (b c : Option ℕ) → M.previous n b ≡ Some c →
-  slice_get (clauses M (reference n b)) p ≡ Some (clause level_step (only (reference n c))) →
-  AreTreesOf L ms (leveled_symbols l (only (reference n c))) →
-  Steps M l (reference n b) (first (unleveled_each origin ms)) (node (level_reference l n b) p ms)
-un_step M L l origin no_trees a n p b c e at h = absurd h
-un_step M L l origin (tree_and m no_trees) a n p b c e at h =
-  below_level n p b c (unleveled_tree origin m) m e at (first_step M l _ _ _ _ _ _ (a (only (reference n c)) h))
-un_step M L l origin (tree_and m (tree_and o ms)) a n p b c e at h = absurd h.1
+module _ (M L : Meaning) (l : Name → ℕ → Name) (origin : Name → ℕ → Origin) (declared : List ClosedSymbol)
+    (I : IsLeveled M L l origin declared) (D : IsResolved M declared) (V : HasLevels M) where
+  mutual
+    -- the second tree is one of the symbol in the grammar with levels
+    pub level_tree : {g : ClosedSymbol} {t m : WrittenTree} → Steps M l g t m → IsResolvedIn declared g → IsTreeOf L m (leveled_symbol l g)
+    level_tree (terminal_kept a) r = refl
+    level_tree error_kept r = refl
+    level_tree (wrapped_kept w g t m h) r = level_tree h r
+    level_tree lookahead_kept r = tt
+    level_tree lookbehind_kept r = tt
+    level_tree (group_kept gs ts ms h) r = level_trees h r
+    level_tree (star_kept x ts ms h) r = level_each h r
+    level_tree (plus_kept x ts ms n h) r = (same_nonempty M l h n, level_each h r)
+    level_tree (question_kept x ts ms n h) r = (same_most M l ts ms h n, level_each h r)
+    level_tree (call_kept n k args parts ts ms e h) r =
+      (refl, leveled_symbols l parts, rw (I.macros n args k, e) refl, level_trees h (D.macros n args k parts r e))
+    level_tree (at_level n k p b parts ts ms e i h) r =
+      (refl, leveled_symbols l parts, rw (I.rules n b p r, i) refl, level_trees h (D.rules n b k parts r (V.own n b k parts e)))
+    level_tree (below_level n p b c t m e i h) r =
+      (refl, only (reference (level_reference l n c) None), rw (I.rules n b p r, i) refl, (level_tree h (D.levels n b c r e), tt))
 
-un_clause : (M L : Meaning) (l : Name → ℕ → Name) (origin : Name → ℕ → Origin) → IsLeveled M L l origin → (ms : WrittenTrees) → Below M L l origin ms →
-  (n : Name) (p : ℕ) (b : Option ℕ) (c : Clause) → slice_get (clauses M (reference n b)) p ≡ Some c → AreTreesOf L ms (leveled_symbols l c.parts) →
-  Steps M l (reference n b) (made_by c.origin (unleveled_each origin ms)) (node (level_reference l n b) p ms)
-un_clause M L l origin I ms a n p b c e h = elim (split_at (own_clauses M n b) (step_clauses n (M.previous n b)) p c e) [
-    inl i ↦ own (numbered_sound n (M.own_parts n b) 0 (M.reference_count n) p c i)
-  | inr r ↦
-      let (q, before, here) = r in
-      let (d, prev, same) = step_clause_at n (M.previous n b) q c here in
-      let e' = rw same at e in
-      let h' = rw same at h in
-      rw same (un_step M L l origin ms a n p b d prev e' h') ]
-  where
-    own : Numbered n (M.own_parts n b) 0 (M.reference_count n) p c →
-      Steps M l (reference n b) (made_by c.origin (unleveled_each origin ms)) (node (level_reference l n b) p ms)
-    own r =
-      let z : 0 + r.number ≡ r.number = omega arith in
-      let is = rw z at r.is in
-      let e' = rw is at e in
+    level_trees : {gs : ClosedSymbols} {ts ms : WrittenTrees} → AllSteps M l gs ts ms → AreResolvedIn declared gs →
+      AreTreesOf L ms (leveled_symbols l gs)
+    level_trees all_done r = tt
+    level_trees (all_and g gs t ts m ms h hs) r = (level_tree h r.0, level_trees hs r.1)
+
+    level_each : {x : ClosedSymbol} {ts ms : WrittenTrees} → EachSteps M l x ts ms → IsResolvedIn declared x →
+      EachTreeOf L ms (leveled_symbol l x)
+    level_each (each_done x) r = tt
+    level_each (each_and x t ts m ms h hs) r = (level_tree h r, level_each hs r)
+
+  mutual
+    -- the origins give back the first tree
+    pub unleveled_to : {g : ClosedSymbol} {t m : WrittenTree} → Steps M l g t m → IsResolvedIn declared g → unleveled_tree origin m ≡ t
+    unleveled_to (terminal_kept a) r = refl
+    unleveled_to error_kept r = refl
+    unleveled_to (wrapped_kept w g t m h) r = unleveled_to h r
+    unleveled_to lookahead_kept r = refl
+    unleveled_to lookbehind_kept r = refl
+    unleveled_to (group_kept gs ts ms h) r = ap list (unleveled_to_all h r)
+    unleveled_to (star_kept x ts ms h) r = ap list (unleveled_to_each h r)
+    unleveled_to (plus_kept x ts ms n h) r = ap list (unleveled_to_each h r)
+    unleveled_to (question_kept x ts ms n h) r = ap list (unleveled_to_each h r)
+    unleveled_to (call_kept n k args parts ts ms e h) r =
+      rw (I.macro_origins n args k parts e) (ap (node n k) (unleveled_to_all h (D.macros n args k parts r e)))
+    unleveled_to (at_level n k p b parts ts ms e i h) r =
+      rw (I.rule_origins n b p _ r i) (ap (node n k) (unleveled_to_all h (D.rules n b k parts r (V.own n b k parts e))))
+    unleveled_to (below_level n p b c t m e i h) r = rw (I.rule_origins n b p _ r i) (unleveled_to h (D.levels n b c r e))
+
+    unleveled_to_all : {gs : ClosedSymbols} {ts ms : WrittenTrees} → AllSteps M l gs ts ms → AreResolvedIn declared gs →
+      unleveled_each origin ms ≡ ts
+    unleveled_to_all all_done r = refl
+    unleveled_to_all (all_and g gs t ts m ms h hs) r = ap₂ tree_and (unleveled_to h r.0) (unleveled_to_all hs r.1)
+
+    unleveled_to_each : {x : ClosedSymbol} {ts ms : WrittenTrees} → EachSteps M l x ts ms → IsResolvedIn declared x →
+      unleveled_each origin ms ≡ ts
+    unleveled_to_each (each_done x) r = refl
+    unleveled_to_each (each_and x t ts m ms h hs) r = ap₂ tree_and (unleveled_to h r) (unleveled_to_each hs r)
+
+  mutual
+    -- both have the same written alternatives
+    pub steps_alternatives : {g : ClosedSymbol} {t m : WrittenTree} → Steps M l g t m → IsResolvedIn declared g →
+      alternatives t ≡ written_alternatives origin m
+    steps_alternatives (terminal_kept a) r = refl
+    steps_alternatives error_kept r = refl
+    steps_alternatives (wrapped_kept w g t m h) r = steps_alternatives h r
+    steps_alternatives lookahead_kept r = refl
+    steps_alternatives lookbehind_kept r = refl
+    steps_alternatives (group_kept gs ts ms h) r = steps_alternatives_all h r
+    steps_alternatives (star_kept x ts ms h) r = steps_alternatives_each h r
+    steps_alternatives (plus_kept x ts ms n h) r = steps_alternatives_each h r
+    steps_alternatives (question_kept x ts ms n h) r = steps_alternatives_each h r
+    steps_alternatives (call_kept n k args parts ts ms e h) r =
+      rw (I.macro_origins n args k parts e) (ap (λ z. (n, k) ∷ z) (steps_alternatives_all h (D.macros n args k parts r e)))
+    steps_alternatives (at_level n k p b parts ts ms e i h) r =
+      rw (I.rule_origins n b p _ r i)
+        (ap (λ z. (n, k) ∷ z) (steps_alternatives_all h (D.rules n b k parts r (V.own n b k parts e))))
+    steps_alternatives (below_level n p b c t m e i h) r =
+      rw (I.rule_origins n b p _ r i)
+        (steps_alternatives h (D.levels n b c r e) ∙ sym (append-nil (written_alternatives origin m)))
+
+    steps_alternatives_all : {gs : ClosedSymbols} {ts ms : WrittenTrees} → AllSteps M l gs ts ms → AreResolvedIn declared gs →
+      alternatives_of ts ≡ written_alternatives_of origin ms
+    steps_alternatives_all all_done r = refl
+    steps_alternatives_all (all_and g gs t ts m ms h hs) r = ap₂ ◌++◌ (steps_alternatives h r.0) (steps_alternatives_all hs r.1)
+
+    steps_alternatives_each : {x : ClosedSymbol} {ts ms : WrittenTrees} → EachSteps M l x ts ms → IsResolvedIn declared x →
+      alternatives_of ts ≡ written_alternatives_of origin ms
+    steps_alternatives_each (each_done x) r = refl
+    steps_alternatives_each (each_and x t ts m ms h hs) r = ap₂ ◌++◌ (steps_alternatives h r) (steps_alternatives_each hs r)
+
+  -- the children of a node of the grammar with levels
+  abbrev Below : WrittenTrees → Type 0
+  Below ms = (gs : ClosedSymbols) → AreTreesOf L ms (leveled_symbols l gs) → AreResolvedIn declared gs →
+    AllSteps M l gs (unleveled_each origin ms) ms
+
+  step_unleveled : (ms : WrittenTrees) → Below ms → (n : Name) (p : ℕ) (b c : Option ℕ) → In (reference n b) declared →
+    M.previous n b ≡ Some c → slice_get (clauses M (reference n b)) p ≡ Some (clause level_step (only (reference n c))) →
+    AreTreesOf L ms (leveled_symbols l (only (reference n c))) →
+    Steps M l (reference n b) (first (unleveled_each origin ms)) (node (level_reference l n b) p ms)
+  step_unleveled no_trees a n p b c r e at h = absurd h
+  step_unleveled (tree_and m no_trees) a n p b c r e at h =
+    below_level n p b c (unleveled_tree origin m) m e at
+      (first_step M l _ _ _ _ _ _ (a (only (reference n c)) h (D.levels n b c r e, tt)))
+  step_unleveled (tree_and m (tree_and o ms)) a n p b c r e at h = absurd h.1
+
+  clause_unleveled : (ms : WrittenTrees) → Below ms → (n : Name) (p : ℕ) (b : Option ℕ) (c : Clause) → In (reference n b) declared →
+    slice_get (clauses M (reference n b)) p ≡ Some c → AreTreesOf L ms (leveled_symbols l c.parts) →
+    Steps M l (reference n b) (made_by c.origin (unleveled_each origin ms)) (node (level_reference l n b) p ms)
+  clause_unleveled ms a n p b c r e h = elim (split_at (own_clauses M n b) (step_clauses n (M.previous n b)) p c e) [
+      inl i ↦
+        (let (k, parts, has, same) = numbered_clause_at n (M.own_parts n b) (M.reference_count n) p c i in
+         let e' = rw same at e in
+         let h' = rw same at h in
+         rw same (at_level n k p b parts _ ms has e' (a parts h' (D.rules n b k parts r (V.own n b k parts has)))))
+    | inr s ↦
+        (let (q, before, here) = s in
+         let (d, prev, same) = step_clause_at n (M.previous n b) q c here in
+         let e' = rw same at e in
+         let h' = rw same at h in
+         rw same (step_unleveled ms a n p b d r prev e' h')) ]
+
+  mutual
+    -- a tree of the grammar with levels is that of the written tree that its origins give
+    pub steps_unleveled : (m : WrittenTree) (g : ClosedSymbol) → IsTreeOf L m (leveled_symbol l g) → IsResolvedIn declared g →
+      Steps M l g (unleveled_tree origin m) m
+    steps_unleveled m (wrapped w g) h r = wrapped_kept w g _ m (steps_unleveled m g h r)
+    steps_unleveled (leaf a) (terminal b) h r = subst (λ c. Steps M l (terminal c) (leaf a) (leaf a)) h (terminal_kept a)
+    steps_unleveled (leaf a) error h r = subst (λ c. Steps M l error (leaf c) (leaf c)) (sym h) error_kept
+    steps_unleveled nothing lookahead h r = lookahead_kept
+    steps_unleveled nothing lookbehind h r = lookbehind_kept
+    steps_unleveled (list ms) (group gs) h r = group_kept gs _ ms (steps_unleveled_all ms gs h r)
+    steps_unleveled (list ms) (star x) h r = star_kept x _ ms (steps_unleveled_each ms x h r)
+    steps_unleveled (list ms) (plus x) h r = plus_kept x _ ms (un_nonempty origin ms h.0) (steps_unleveled_each ms x h.1 r)
+    steps_unleveled (list ms) (question x) h r = question_kept x _ ms (un_most origin ms h.0) (steps_unleveled_each ms x h.1 r)
+    steps_unleveled (node n p ms) (reference m b) (same, parts, e, h) r =
+      let (c, at, is) = some_clause l (slice_get (clauses M (reference m b)) p) parts (rw (I.rules m b p r) at e) in
       let h' = rw is at h in
-      rw is (at_level n r.number p b r.parts _ ms (rw z at r.has) e' (a r.parts h'))
+      rw (same, I.rule_origins m b p c r at) (clause_unleveled ms (λ gs i s. steps_unleveled_all ms gs i s) m p b c r at h')
+    steps_unleveled (node n p ms) (call m args) (same, parts, e, h) r =
+      let (q, at, is) = some_parts l (M.call_parts m args p) parts (rw (I.macros m args p) at e) in
+      let h' = rw is at h in
+      rw (same, I.macro_origins m args p q at) (call_kept m p args q _ ms at (steps_unleveled_all ms q h' (D.macros m args p q r at)))
+    steps_unleveled _ _ h r = absurd h
 
-mutual
-  -- a tree of the grammar with levels is that of the written tree that its origins give
-  pub steps_unleveled : (M L : Meaning) (l : Name → ℕ → Name) (origin : Name → ℕ → Origin) → IsLeveled M L l origin →
-    (m : WrittenTree) (g : ClosedSymbol) → IsTreeOf L m (leveled_symbol l g) → Steps M l g (unleveled_tree origin m) m
-  steps_unleveled M L l origin I m (wrapped w g) h = wrapped_kept w g _ m (steps_unleveled M L l origin I m g h)
-  steps_unleveled M L l origin I (leaf a) (terminal b) h = subst (λ c. Steps M l (terminal c) (leaf a) (leaf a)) h (terminal_kept a)
-  steps_unleveled M L l origin I (leaf a) error h = subst (λ c. Steps M l error (leaf c) (leaf c)) (sym h) error_kept
-  steps_unleveled M L l origin I nothing lookahead h = lookahead_kept
-  steps_unleveled M L l origin I nothing lookbehind h = lookbehind_kept
-  steps_unleveled M L l origin I (list ms) (group gs) h = group_kept gs _ ms (steps_unleveled_all M L l origin I ms gs h)
-  steps_unleveled M L l origin I (list ms) (star x) h = star_kept x _ ms (steps_unleveled_each M L l origin I ms x h)
-  steps_unleveled M L l origin I (list ms) (plus x) h = plus_kept x _ ms (un_nonempty origin ms h.0) (steps_unleveled_each M L l origin I ms x h.1)
-  steps_unleveled M L l origin I (list ms) (question x) h = question_kept x _ ms (un_most origin ms h.0) (steps_unleveled_each M L l origin I ms x h.1)
-  steps_unleveled M L l origin I (node n p ms) (reference m b) (same, parts, e, h) =
-    let (c, at, is) = some_clause l (slice_get (clauses M (reference m b)) p) parts (rw (I.rules m b p) at e) in
-    let h' = rw is at h in
-    rw (same, I.rule_origins m b p c at) (un_clause M L l origin I ms (λ gs i. steps_unleveled_all M L l origin I ms gs i) m p b c at h')
-  steps_unleveled M L l origin I (node n p ms) (call m args) (same, parts, e, h) =
-    let (q, at, is) = some_parts l (M.call_parts m args p) parts (rw (I.macros m args p) at e) in
-    let h' = rw is at h in
-    rw (same, I.macro_origins m args p q at) (call_kept m p args q _ ms at (steps_unleveled_all M L l origin I ms q h'))
-  steps_unleveled M L l origin I _ _ h = absurd h
+    steps_unleveled_all : (ms : WrittenTrees) (gs : ClosedSymbols) → AreTreesOf L ms (leveled_symbols l gs) → AreResolvedIn declared gs →
+      AllSteps M l gs (unleveled_each origin ms) ms
+    steps_unleveled_all no_trees no_symbols h r = all_done
+    steps_unleveled_all no_trees (symbol_and g gs) h r = absurd h
+    steps_unleveled_all (tree_and m ms) no_symbols h r = absurd h
+    steps_unleveled_all (tree_and m ms) (symbol_and g gs) h r =
+      all_and g gs _ _ m ms (steps_unleveled m g h.0 r.0) (steps_unleveled_all ms gs h.1 r.1)
 
-  pub steps_unleveled_all : (M L : Meaning) (l : Name → ℕ → Name) (origin : Name → ℕ → Origin) → IsLeveled M L l origin →
-    (ms : WrittenTrees) (gs : ClosedSymbols) → AreTreesOf L ms (leveled_symbols l gs) → AllSteps M l gs (unleveled_each origin ms) ms
-  steps_unleveled_all M L l origin I no_trees no_symbols h = all_done
-  steps_unleveled_all M L l origin I no_trees (symbol_and g gs) h = absurd h
-  steps_unleveled_all M L l origin I (tree_and m ms) no_symbols h = absurd h
-  steps_unleveled_all M L l origin I (tree_and m ms) (symbol_and g gs) h =
-    all_and g gs _ _ m ms (steps_unleveled M L l origin I m g h.0) (steps_unleveled_all M L l origin I ms gs h.1)
+    steps_unleveled_each : (ms : WrittenTrees) (x : ClosedSymbol) → EachTreeOf L ms (leveled_symbol l x) → IsResolvedIn declared x →
+      EachSteps M l x (unleveled_each origin ms) ms
+    steps_unleveled_each no_trees x h r = each_done x
+    steps_unleveled_each (tree_and m ms) x h r = each_and x _ _ m ms (steps_unleveled m x h.0 r) (steps_unleveled_each ms x h.1 r)
 
-  pub steps_unleveled_each : (M L : Meaning) (l : Name → ℕ → Name) (origin : Name → ℕ → Origin) → IsLeveled M L l origin →
-    (ms : WrittenTrees) (x : ClosedSymbol) → EachTreeOf L ms (leveled_symbol l x) → EachSteps M l x (unleveled_each origin ms) ms
-  steps_unleveled_each M L l origin I no_trees x h = each_done x
-  steps_unleveled_each M L l origin I (tree_and m ms) x h =
-    each_and x _ _ m ms (steps_unleveled M L l origin I m x h.0) (steps_unleveled_each M L l origin I ms x h.1)
-
-level_own_stepped : (M : Meaning) (l : Name → ℕ → Name) → HasCounts M → (m : Name) (k : ℕ) (b : Option ℕ) (parts : ClosedSymbols) (ts ms : WrittenTrees) →
-  M.own_parts m b k ≡ Some parts → AllSteps M l parts ts ms →
-  Steps M l (reference m b) (node m k ts) (node (level_reference l m b) (place (M.own_parts m b) 0 k) ms)
-level_own_stepped M l C m k b parts ts ms e h =
-  let z : 0 + k ≡ k = omega arith in
-  let at = numbered_complete m (M.own_parts m b) 0 (M.reference_count m) k parts (rw z e) (C.of_rules m b k parts e) in
-  let at' = left_at (own_clauses M m b) (step_clauses m (M.previous m b)) (place (M.own_parts m b) 0 k) _ (rw z at at) in
-  at_level m k (place (M.own_parts m b) 0 k) b parts ts ms e at' h
-
-level_rule_stepped : (M : Meaning) (l : Name → ℕ → Name) → HasCounts M → HasLevels M → (m : Name) (k : ℕ) (children : ClosedSymbols → WrittenTrees) (ts : WrittenTrees) (parts : ClosedSymbols) →
-  AllSteps M l parts ts (children parts) → (depth : ℕ) (b : Option ℕ) → M.depth m b ≤ depth →
-  M.reference_parts m b k ≡ Some parts → Steps M l (reference m b) (node m k ts) (leveled_rule M l m k children depth b)
-level_rule_stepped M l C V m k children ts parts h zero b d e = elim (V.split m b k parts e) [
-    inl own ↦ rw own (level_own_stepped M l C m k b parts ts (children parts) own h)
-  | inr r ↦ absurd (let deep : M.depth m r.0 < M.depth m b = V.deeper m b r.0 r.2 in omega arith) ]
-level_rule_stepped M l C V m k children ts parts h (suc depth) b d e = elim (V.split m b k parts e) [
-    inl own ↦ rw own (level_own_stepped M l C m k b parts ts (children parts) own h)
-  | inr r ↦
-      let deep : M.depth m r.0 < M.depth m b = V.deeper m b r.0 r.2 in
-      let less : M.depth m r.0 ≤ depth = omega arith in
-      rw (r.1, r.2)
-        (below_level m (length (own_clauses M m b)) b r.0 (node m k ts) (leveled_rule M l m k children depth r.0) r.2 (step_place M m b r.0 r.2)
-          (level_rule_stepped M l C V m k children ts parts h depth r.0 less r.3)) ]
-
-mutual
-  -- a bounded tree has its tree in the grammar with levels
-  pub steps_leveled : (M : Meaning) (l : Name → ℕ → Name) → HasCounts M → HasLevels M → (t : WrittenTree) (g : ClosedSymbol) → IsTreeOf M t g → Steps M l g t (leveled_tree M l t g)
-  steps_leveled M l C V t (wrapped w g) h = wrapped_kept w g t _ (steps_leveled M l C V t g h)
-  steps_leveled M l C V (leaf a) (terminal b) h = subst (λ c. Steps M l (terminal c) (leaf a) (leaf a)) h (terminal_kept a)
-  steps_leveled M l C V (leaf a) error h = subst (λ c. Steps M l error (leaf c) (leaf c)) (sym h) error_kept
-  steps_leveled M l C V nothing lookahead h = lookahead_kept
-  steps_leveled M l C V nothing lookbehind h = lookbehind_kept
-  steps_leveled M l C V (list ts) (group gs) h = group_kept gs ts _ (steps_leveled_all M l C V ts gs h)
-  steps_leveled M l C V (list ts) (star x) h = star_kept x ts _ (steps_leveled_each M l C V ts x h)
-  steps_leveled M l C V (list ts) (plus x) h = plus_kept x ts _ h.0 (steps_leveled_each M l C V ts x h.1)
-  steps_leveled M l C V (list ts) (question x) h = question_kept x ts _ h.0 (steps_leveled_each M l C V ts x h.1)
-  steps_leveled M l C V (node n k ts) (reference m b) (same, parts, e, hs) =
-    rw same (level_rule_stepped M l C V m k (λ gs. leveled_all M l ts gs) ts parts (steps_leveled_all M l C V ts parts hs) (M.depth m b) b (le_refl (M.depth m b)) e)
-  steps_leveled M l C V (node n k ts) (call m args) (same, parts, e, hs) =
-    rw (same, e) (call_kept m k args parts ts (leveled_all M l ts parts) e (steps_leveled_all M l C V ts parts hs))
-  steps_leveled M l C V _ _ h = absurd h
-
-  pub steps_leveled_all : (M : Meaning) (l : Name → ℕ → Name) → HasCounts M → HasLevels M → (ts : WrittenTrees) (gs : ClosedSymbols) → AreTreesOf M ts gs → AllSteps M l gs ts (leveled_all M l ts gs)
-  steps_leveled_all M l C V no_trees no_symbols h = all_done
-  steps_leveled_all M l C V no_trees (symbol_and g gs) h = absurd h
-  steps_leveled_all M l C V (tree_and t ts) no_symbols h = absurd h
-  steps_leveled_all M l C V (tree_and t ts) (symbol_and g gs) h = all_and g gs t ts _ _ (steps_leveled M l C V t g h.0) (steps_leveled_all M l C V ts gs h.1)
-
-  pub steps_leveled_each : (M : Meaning) (l : Name → ℕ → Name) → HasCounts M → HasLevels M → (ts : WrittenTrees) (x : ClosedSymbol) → EachTreeOf M ts x → EachSteps M l x ts (leveled_each M l ts x)
-  steps_leveled_each M l C V no_trees x h = each_done x
-  steps_leveled_each M l C V (tree_and t ts) x h = each_and x t ts _ _ (steps_leveled M l C V t x h.0) (steps_leveled_each M l C V ts x h.1)
-
-leveled_own : (M : Meaning) (l : Name → ℕ → Name) (n : Name) (k : ℕ) (children : ClosedSymbols → WrittenTrees) (b : Option ℕ) (parts : ClosedSymbols) →
-  M.own_parts n b k ≡ Some parts → (depth : ℕ) →
-  leveled_rule M l n k children depth b ≡ node (level_reference l n b) (place (M.own_parts n b) 0 k) (children parts)
-leveled_own M l n k children b parts e zero = rw e refl
-leveled_own M l n k children b parts e (suc depth) = rw e refl
-
--- what stands below the own alternatives, with so many steps at most
-abbrev below_own : (M : Meaning) (l : Name → ℕ → Name) (n : Name) (k : ℕ) (children : ClosedSymbols → WrittenTrees) → ℕ → Option ℕ → WrittenTree
-below_own M l n k children zero b = nothing
-below_own M l n k children (suc d) b = step_level M l n b (M.previous n b) (λ c. leveled_rule M l n k children d c)
-
-unrolled : (M : Meaning) (l : Name → ℕ → Name) (n : Name) (k : ℕ) (children : ClosedSymbols → WrittenTrees) (d : ℕ) (b : Option ℕ) →
-  leveled_rule M l n k children d b ≡ own_level M l n k children b (M.own_parts n b k) (below_own M l n k children d b)
-unrolled M l n k children zero b = refl
-unrolled M l n k children (suc d) b = refl
-
-step_same : (M : Meaning) (l : Name → ℕ → Name) → HasLevels M → (n : Name) (b : Option ℕ) (d e : ℕ) (f g : Option ℕ → WrittenTree) →
-  M.depth n b ≤ suc d → M.depth n b ≤ suc e →
-  ((c : Option ℕ) → M.depth n c ≤ d → M.depth n c ≤ e → f c ≡ g c) →
-  step_level M l n b (M.previous n b) f ≡ step_level M l n b (M.previous n b) g
-step_same M l V n b d e f g i m h = at (M.previous n b) refl
-  where
-    at : (o : Option (Option ℕ)) → M.previous n b ≡ o → step_level M l n b o f ≡ step_level M l n b o g
-    at None p = refl
-    at (Some c) p =
-      let less : M.depth n c < M.depth n b = V.deeper n b c p in
-      ap (λ r. node (level_reference l n b) (length (own_clauses M n b)) (tree_and r no_trees)) (h c (omega arith) (omega arith))
-
-no_step : (M : Meaning) (l : Name → ℕ → Name) → HasLevels M → (n : Name) (b : Option ℕ) (f : Option ℕ → WrittenTree) →
-  M.depth n b ≤ 0 → step_level M l n b (M.previous n b) f ≡ nothing
-no_step M l V n b f i = at (M.previous n b) refl
-  where
-    at : (o : Option (Option ℕ)) → M.previous n b ≡ o → step_level M l n b o f ≡ nothing
-    at None p = refl
-    at (Some c) p = let less : M.depth n c < M.depth n b = V.deeper n b c p in absurd (omega arith)
-
-tail_same : (M : Meaning) (l : Name → ℕ → Name) → HasLevels M → (n : Name) (k : ℕ) (children : ClosedSymbols → WrittenTrees) (d e : ℕ) (b : Option ℕ) →
-  M.depth n b ≤ d → M.depth n b ≤ e → below_own M l n k children d b ≡ below_own M l n k children e b
-tail_same M l V n k children zero zero b i m = refl
-tail_same M l V n k children zero (suc e) b i m = sym (no_step M l V n b _ i)
-tail_same M l V n k children (suc d) zero b i m = no_step M l V n b _ m
-tail_same M l V n k children (suc d) (suc e) b i m = step_same M l V n b d e _ _ i m (λ c x y.
-  unrolled M l n k children d c ∙
-  ap (λ r. own_level M l n k children c (M.own_parts n c k) r) (tail_same M l V n k children d e c x y) ∙
-  sym (unrolled M l n k children e c))
-
--- any bound on the steps serves
-enough : (M : Meaning) (l : Name → ℕ → Name) → HasLevels M → (n : Name) (k : ℕ) (children : ClosedSymbols → WrittenTrees) (d e : ℕ) (b : Option ℕ) →
-  M.depth n b ≤ d → M.depth n b ≤ e → leveled_rule M l n k children d b ≡ leveled_rule M l n k children e b
-enough M l V n k children d e b i m =
-  unrolled M l n k children d b ∙
-  ap (λ r. own_level M l n k children b (M.own_parts n b k) r) (tail_same M l V n k children d e b i m) ∙
-  sym (unrolled M l n k children e b)
-
-leveled_step : (M : Meaning) (l : Name → ℕ → Name) → HasLevels M → (n : Name) (b c : Option ℕ) → M.previous n b ≡ Some c →
-  (t : WrittenTree) → IsTreeOf M t (reference n c) →
-  leveled_tree M l t (reference n b) ≡ node (level_reference l n b) (length (own_clauses M n b)) (tree_and (leveled_tree M l t (reference n c)) no_trees)
-leveled_step M l V n b c e (leaf a) h = absurd h
-leveled_step M l V n b c e nothing h = absurd h
-leveled_step M l V n b c e (list ts) h = absurd h
-leveled_step M l V n b c e (node m k ts) (same, parts, at, hs) =
-  deep (M.depth n b) (V.deeper n b c e)
-  where
-    deep : (depth : ℕ) → M.depth n c < depth →
-      leveled_rule M l n k (λ gs. leveled_all M l ts gs) depth b ≡
-        node (level_reference l n b) (length (own_clauses M n b)) (tree_and (leveled_rule M l n k (λ gs. leveled_all M l ts gs) (M.depth n c) c) no_trees)
-    deep zero i = absurd (omega arith)
-    deep (suc d) i =
-      rw (V.apart n b c k parts e at, e)
-        (ap (λ r. node (level_reference l n b) (length (own_clauses M n b)) (tree_and r no_trees))
-          (enough M l V n k (λ gs. leveled_all M l ts gs) d (M.depth n c) c (omega arith) (omega arith)))
-
-
-mutual
-  -- the tree in the grammar with levels is the only one
-  pub leveled_to : (M : Meaning) (l : Name → ℕ → Name) → HasLevels M → {g : ClosedSymbol} {t m : WrittenTree} → Steps M l g t m → leveled_tree M l t g ≡ m
-  leveled_to M l V (terminal_kept a) = refl
-  leveled_to M l V error_kept = refl
-  leveled_to M l V (wrapped_kept w g t m h) = leveled_to M l V h
-  leveled_to M l V lookahead_kept = refl
-  leveled_to M l V lookbehind_kept = refl
-  leveled_to M l V (group_kept gs ts ms h) = ap list (leveled_to_all M l V h)
-  leveled_to M l V (star_kept x ts ms h) = ap list (leveled_to_each M l V h)
-  leveled_to M l V (plus_kept x ts ms n h) = ap list (leveled_to_each M l V h)
-  leveled_to M l V (question_kept x ts ms n h) = ap list (leveled_to_each M l V h)
-  leveled_to M l V (call_kept n k args parts ts ms e h) = rw e (ap (node n k) (leveled_to_all M l V h))
-  leveled_to M l V (at_level n k p b parts ts ms e i h) =
-    leveled_own M l n k (λ gs. leveled_all M l ts gs) b parts e (M.depth n b) ∙
-    ap₂ (λ q r. node (level_reference l n b) q r)
-      (place_is n k p (M.own_parts n b) (M.reference_count n) parts
-        (own_clause_at n (M.own_parts n b) (M.reference_count n) (M.previous n b) p k parts i))
-      (leveled_to_all M l V h)
-  leveled_to M l V (below_level n p b c t m e i h) =
-    leveled_step M l V n b c e t (bounded_tree M l V h) ∙
-    ap₂ (λ q r. node (level_reference l n b) q (tree_and r no_trees))
-      (sym (step_clause_last n (M.own_parts n b) (M.reference_count n) (M.previous n b) p (only (reference n c)) i))
-      (leveled_to M l V h)
-
-  pub leveled_to_all : (M : Meaning) (l : Name → ℕ → Name) → HasLevels M → {gs : ClosedSymbols} {ts ms : WrittenTrees} → AllSteps M l gs ts ms → leveled_all M l ts gs ≡ ms
-  leveled_to_all M l V all_done = refl
-  leveled_to_all M l V (all_and g gs t ts m ms h hs) = ap₂ tree_and (leveled_to M l V h) (leveled_to_all M l V hs)
-
-  pub leveled_to_each : (M : Meaning) (l : Name → ℕ → Name) → HasLevels M → {x : ClosedSymbol} {ts ms : WrittenTrees} → EachSteps M l x ts ms → leveled_each M l ts x ≡ ms
-  leveled_to_each M l V (each_done x) = refl
-  leveled_to_each M l V (each_and x t ts m ms h hs) = ap₂ tree_and (leveled_to M l V h) (leveled_to_each M l V hs)
-
-mutual
-  -- both have one word
-  pub steps_yield : (M : Meaning) (l : Name → ℕ → Name) {g : ClosedSymbol} {t m : WrittenTree} → Steps M l g t m → yield t ≡ yield m
-  steps_yield M l (terminal_kept a) = refl
-  steps_yield M l error_kept = refl
-  steps_yield M l (wrapped_kept w g t m h) = steps_yield M l h
-  steps_yield M l lookahead_kept = refl
-  steps_yield M l lookbehind_kept = refl
-  steps_yield M l (group_kept gs ts ms h) = steps_yields M l h
-  steps_yield M l (star_kept x ts ms h) = steps_yield_each M l h
-  steps_yield M l (plus_kept x ts ms n h) = steps_yield_each M l h
-  steps_yield M l (question_kept x ts ms n h) = steps_yield_each M l h
-  steps_yield M l (call_kept n k args parts ts ms e h) = steps_yields M l h
-  steps_yield M l (at_level n k p b parts ts ms e i h) = steps_yields M l h
-  steps_yield M l (below_level n p b c t m e i h) = steps_yield M l h ∙ sym (append-nil (yield m))
-
-  pub steps_yields : (M : Meaning) (l : Name → ℕ → Name) {gs : ClosedSymbols} {ts ms : WrittenTrees} → AllSteps M l gs ts ms → yields ts ≡ yields ms
-  steps_yields M l all_done = refl
-  steps_yields M l (all_and g gs t ts m ms h hs) = ap₂ ◌++◌ (steps_yield M l h) (steps_yields M l hs)
-
-  pub steps_yield_each : (M : Meaning) (l : Name → ℕ → Name) {x : ClosedSymbol} {ts ms : WrittenTrees} → EachSteps M l x ts ms → yields ts ≡ yields ms
-  steps_yield_each M l (each_done x) = refl
-  steps_yield_each M l (each_and x t ts m ms h hs) = ap₂ ◌++◌ (steps_yield M l h) (steps_yield_each M l hs)
-
-mutual
-  -- and the same written alternatives
-  pub steps_alternatives : (M L : Meaning) (l : Name → ℕ → Name) (origin : Name → ℕ → Origin) → IsLeveled M L l origin →
-    {g : ClosedSymbol} {t m : WrittenTree} → Steps M l g t m → alternatives t ≡ written_alternatives origin m
-  steps_alternatives M L l origin I (terminal_kept a) = refl
-  steps_alternatives M L l origin I error_kept = refl
-  steps_alternatives M L l origin I (wrapped_kept w g t m h) = steps_alternatives M L l origin I h
-  steps_alternatives M L l origin I lookahead_kept = refl
-  steps_alternatives M L l origin I lookbehind_kept = refl
-  steps_alternatives M L l origin I (group_kept gs ts ms h) = steps_alternatives_all M L l origin I h
-  steps_alternatives M L l origin I (star_kept x ts ms h) = steps_alternatives_each M L l origin I h
-  steps_alternatives M L l origin I (plus_kept x ts ms n h) = steps_alternatives_each M L l origin I h
-  steps_alternatives M L l origin I (question_kept x ts ms n h) = steps_alternatives_each M L l origin I h
-  steps_alternatives M L l origin I (call_kept n k args parts ts ms e h) =
-    rw (I.macro_origins n args k parts e) (ap (λ r. (n, k) ∷ r) (steps_alternatives_all M L l origin I h))
-  steps_alternatives M L l origin I (at_level n k p b parts ts ms e i h) =
-    rw (I.rule_origins n b p _ i) (ap (λ r. (n, k) ∷ r) (steps_alternatives_all M L l origin I h))
-  steps_alternatives M L l origin I (below_level n p b c t m e i h) =
-    rw (I.rule_origins n b p _ i) (steps_alternatives M L l origin I h ∙ sym (append-nil (written_alternatives origin m)))
-
-  pub steps_alternatives_all : (M L : Meaning) (l : Name → ℕ → Name) (origin : Name → ℕ → Origin) → IsLeveled M L l origin →
-    {gs : ClosedSymbols} {ts ms : WrittenTrees} → AllSteps M l gs ts ms → alternatives_of ts ≡ written_alternatives_of origin ms
-  steps_alternatives_all M L l origin I all_done = refl
-  steps_alternatives_all M L l origin I (all_and g gs t ts m ms h hs) =
-    ap₂ ◌++◌ (steps_alternatives M L l origin I h) (steps_alternatives_all M L l origin I hs)
-
-  pub steps_alternatives_each : (M L : Meaning) (l : Name → ℕ → Name) (origin : Name → ℕ → Origin) → IsLeveled M L l origin →
-    {x : ClosedSymbol} {ts ms : WrittenTrees} → EachSteps M l x ts ms → alternatives_of ts ≡ written_alternatives_of origin ms
-  steps_alternatives_each M L l origin I (each_done x) = refl
-  steps_alternatives_each M L l origin I (each_and x t ts m ms h hs) =
-    ap₂ ◌++◌ (steps_alternatives M L l origin I h) (steps_alternatives_each M L l origin I hs)
-
--- the written trees of a symbol and the trees of the grammar with levels, one to one
-pub steps_one_to_one : (M L : Meaning) (l : Name → ℕ → Name) (origin : Name → ℕ → Origin) → IsLeveled M L l origin →
-  HasCounts M → HasLevels M → (g : ClosedSymbol) → StepsAreOneToOne M L l origin g
-steps_one_to_one M L l origin I C V g = record {
-  down = λ t h.
-    let steps = steps_leveled M l C V t g h in
-    (leveled_tree M l t g, (level_tree M L l origin I steps, steps), λ m f. sym (leveled_to M l V f.1));
-  up = λ m h.
-    let steps = steps_unleveled M L l origin I m g h in
-    (unleveled_tree origin m, (bounded_tree M l V steps, steps), λ t f. sym (unleveled_to M L l origin I f.1));
-  same_yields = λ t m h. steps_yield M l h;
-  same_alternatives = λ t m h. steps_alternatives M L l origin I h }
+  -- the written trees of a symbol and the trees of the grammar with levels, one to one
+  pub steps_one_to_one : HasCounts M → (g : ClosedSymbol) → IsResolvedIn declared g → StepsAreOneToOne M L l origin g
+  steps_one_to_one C g r = record {
+    down = λ t h.
+      let steps = steps_leveled M l C V t g h in
+      (leveled_tree M l t g, (level_tree steps r, steps), λ m f. sym (leveled_to M l V f.1));
+    up = λ m h.
+      let steps = steps_unleveled m g h r in
+      (unleveled_tree origin m, (bounded_tree M l V steps, steps), λ t f. sym (unleveled_to f.1 r));
+    same_yields = λ t m h. steps_yield M l h;
+    same_alternatives = λ t m h. steps_alternatives h r }

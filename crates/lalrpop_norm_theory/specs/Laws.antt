@@ -4,13 +4,13 @@ use Rattle.lalrpop_norm_theory.specs.Symbols.{Name, Terminal, ClosedSymbol}
 use Rattle.lalrpop_norm_theory.specs.Meaning.{Meaning, HasCounts, HasLevels}
 use Rattle.lalrpop_norm_theory.specs.WrittenTrees.{WrittenTree, IsTreeOf, yield, alternatives}
 use Rattle.lalrpop_norm_theory.specs.LoweredTrees.{LoweredTree, LoweredGrammar, Origin, IsDerivation, lowered_yield, written_origins}
-use Rattle.lalrpop_norm_theory.specs.Clauses.{symbol_of}
+use Rattle.lalrpop_norm_theory.specs.Clauses.{clauses, symbol_of}
 use Rattle.lalrpop_norm_theory.specs.Pairs.{Pairs}
 use Rattle.lalrpop_norm_theory.specs.Translations.{lowered_tree, written_tree}
 use Rattle.lalrpop_norm_theory.specs.Rounds.{In, Chain, NewIn, IsInOrderOf, IsDistinct, IsTest}
 use Rattle.lalrpop_norm_theory.specs.Same.{same_symbol}
-use Rattle.lalrpop_norm_theory.specs.Met.{meets, rule_meets, expansion, expanded_symbols, IsExpanded, IsKnown}
-use Rattle.lalrpop_norm_theory.specs.Tables.{Realizes, Stands, table, rule_of}
+use Rattle.lalrpop_norm_theory.specs.Met.{meets, rule_meets, expansion, expanded_symbols, IsExpanded, IsKnown, IsResolvedIn, IsResolved}
+use Rattle.lalrpop_norm_theory.specs.Tables.{Realizes, OneRuleAName, Stands, table, rule_of}
 use Rattle.lalrpop_norm_theory.specs.Leveled.{leveled_symbol, IsLeveled, recomposed}
 use Rattle.lalrpop_norm_theory.specs.Steps.{Steps, written_alternatives}
 
@@ -82,10 +82,10 @@ pub record PairsInTwoSteps (M L : Meaning) (l : Name → ℕ → Name) (origin :
     (m : WrittenTree) × Steps M l g t m × Pairs L name (leveled_symbol l g) m u
 
 abbrev pub LevelsAreTwoSteps : Type 0
-LevelsAreTwoSteps = (M L : Meaning) (l : Name → ℕ → Name) (origin : Name → ℕ → Origin) → IsLeveled M L l origin →
-  HasCounts M → HasLevels M → HasCounts L → HasLevels L →
+LevelsAreTwoSteps = (M L : Meaning) (l : Name → ℕ → Name) (origin : Name → ℕ → Origin) (references : List ClosedSymbol) →
+  IsResolved M references → IsLeveled M L l origin references → HasCounts M → HasLevels M → HasCounts L → HasLevels L →
   (name : ClosedSymbol → Name) (P : LoweredGrammar) (declared met : List ClosedSymbol) → Realizes L name P (IsKnown declared met) →
-  (g : ClosedSymbol) → IsKnown declared met (leveled_symbol l g) → PairsInTwoSteps M L l origin name P g
+  (g : ClosedSymbol) → IsResolvedIn references g → IsKnown declared met (leveled_symbol l g) → PairsInTwoSteps M L l origin name P g
 
 -- What is new in round k + 1 is what has a chain of k + 1 rules and no shorter one.
 abbrev pub RoundsAreShortestChains : Type 0
@@ -125,6 +125,16 @@ pub record IsWhole (M : Meaning) (declared met : List ClosedSymbol) : Type 0 whe
 abbrev pub NothingNewIsWhole : Type 0
 NothingNewIsWhole = (M : Meaning) (declared : List ClosedSymbol) (k : ℕ) → (expansion M declared k).fresh ≡ [] →
   IsWhole M declared (expansion M declared k).seen
+
+-- Where a resolved expansion has nothing new and each name means one rule, its rules stand. Roots may share the rule of a
+-- declared symbol, as a rule taken by itself has that of its highest level.
+abbrev pub ExpansionsStand : Type 0
+ExpansionsStand = (M : Meaning) → HasLevels M → (roots declared : List ClosedSymbol) → IsResolved M declared →
+  ((g : ClosedSymbol) → In g declared → IsResolvedIn declared g) →
+  ((g : ClosedSymbol) → In g roots → (h : ClosedSymbol) × In h declared × (clauses M g ≡ clauses M h)) →
+  (k : ℕ) → (expansion M declared k).fresh ≡ [] →
+  (name : ClosedSymbol → Name) → OneRuleAName M name ((roots ++ declared) ++ (expansion M declared k).seen) →
+  Stands M name (roots ++ declared) (expansion M declared k).seen
 
 -- Two closed symbols pass the test of sameness exactly where they are equal.
 abbrev pub SameIsEqual : Type 0

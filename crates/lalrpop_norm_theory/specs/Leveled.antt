@@ -1,9 +1,10 @@
 -- The grammar with levels, where each level of a rule is a rule of its own: its symbols, and how it stands to the written one.
-use Rattle.std.specs.Prelude.{◌≡◌, ℕ, map, slice_get, Option, Some, None, option_map}
+use Rattle.std.specs.Prelude.{◌≡◌, ℕ, List, map, slice_get, Option, Some, None, option_map}
 use Rattle.lalrpop_norm_theory.specs.Symbols.{Name, ClosedSymbol, ClosedSymbols, terminal, error, reference, call, group, star, plus, question, wrapped, lookahead, lookbehind, no_symbols, symbol_and}
 use Rattle.lalrpop_norm_theory.specs.Meaning.{Meaning}
 use Rattle.lalrpop_norm_theory.specs.LoweredTrees.{Origin, Production, LoweredGrammar, written}
 use Rattle.lalrpop_norm_theory.specs.Clauses.{Clause, clauses}
+use Rattle.lalrpop_norm_theory.specs.Rounds.{In}
 
 -- the name of a level's rule; a rule without a bound keeps its name
 abbrev pub level_reference : (Name → ℕ → Name) → Name → Option ℕ → Name
@@ -29,17 +30,17 @@ abbrev mutual
   leveled_symbols l no_symbols = no_symbols
   leveled_symbols l (symbol_and g gs) = symbol_and (leveled_symbol l g) (leveled_symbols l gs)
 
--- L is the grammar with levels of M: place p of a level's rule is its p-th clause, no rule has levels, macros keep their
--- numbers, and each alternative has its origin in M.
-pub record IsLeveled (M L : Meaning) (l : Name → ℕ → Name) (origin : Name → ℕ → Origin) : Type 0 where
-  pub rules : (n : Name) (b : Option ℕ) (p : ℕ) →
+-- L is the grammar with levels of M: place p of the rule of a declared level is its p-th clause, no rule has levels, macros
+-- keep their numbers, and each alternative has its origin in M.
+pub record IsLeveled (M L : Meaning) (l : Name → ℕ → Name) (origin : Name → ℕ → Origin) (declared : List ClosedSymbol) : Type 0 where
+  pub rules : (n : Name) (b : Option ℕ) (p : ℕ) → In (reference n b) declared →
     L.reference_parts (level_reference l n b) None p ≡ option_map (λ c. leveled_symbols l c.parts) (slice_get (clauses M (reference n b)) p)
   pub flat : (n : Name) → L.previous n None ≡ None
   pub macros : (n : Name) (args : ClosedSymbols) (k : ℕ) →
     L.call_parts n (leveled_symbols l args) k ≡ option_map (leveled_symbols l) (M.call_parts n args k)
   pub macro_counts : (n : Name) → L.call_count n ≡ M.call_count n
-  pub rule_origins : (n : Name) (b : Option ℕ) (p : ℕ) (c : Clause) → slice_get (clauses M (reference n b)) p ≡ Some c →
-    origin (level_reference l n b) p ≡ c.origin
+  pub rule_origins : (n : Name) (b : Option ℕ) (p : ℕ) (c : Clause) → In (reference n b) declared →
+    slice_get (clauses M (reference n b)) p ≡ Some c → origin (level_reference l n b) p ≡ c.origin
   pub macro_origins : (n : Name) (args : ClosedSymbols) (k : ℕ) (parts : ClosedSymbols) → M.call_parts n args k ≡ Some parts →
     origin n k ≡ written n k
 

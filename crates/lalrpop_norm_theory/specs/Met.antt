@@ -1,6 +1,6 @@
 -- What rules meet, and which symbols are known once nothing new is met.
-use Rattle.std.specs.Prelude.{ℕ, List, [], ◌∷◌, ◌++◌, flat_map}
-use Rattle.lalrpop_norm_theory.specs.Symbols.{ClosedSymbol, ClosedSymbols, terminal, error, reference, call, group, star, plus, question, wrapped, lookahead, lookbehind, no_symbols, symbol_and}
+use Rattle.std.specs.Prelude.{◌≡◌, ℕ, Option, Some, List, [], ◌∷◌, ◌++◌, flat_map}
+use Rattle.lalrpop_norm_theory.specs.Symbols.{Name, ClosedSymbol, ClosedSymbols, terminal, error, reference, call, group, star, plus, question, wrapped, lookahead, lookbehind, no_symbols, symbol_and}
 use Rattle.lalrpop_norm_theory.specs.Meaning.{Meaning}
 use Rattle.lalrpop_norm_theory.specs.Clauses.{Clause, clauses}
 use Rattle.lalrpop_norm_theory.specs.Rounds.{In, Round, rounds, all_rules_made}
@@ -66,3 +66,31 @@ IsDeclaredIn declared _ = Unit {0}
 abbrev pub AreDeclaredIn : List ClosedSymbol → ClosedSymbols → Type 0
 AreDeclaredIn declared no_symbols = Unit {0}
 AreDeclaredIn declared (symbol_and g gs) = IsDeclaredIn declared g × AreDeclaredIn declared gs
+
+-- all references in a symbol, also inside of its parts, are declared
+abbrev mutual
+  pub IsResolvedIn : List ClosedSymbol → ClosedSymbol → Type 0
+  IsResolvedIn declared (terminal a) = Unit {0}
+  IsResolvedIn declared error = Unit {0}
+  IsResolvedIn declared (reference n b) = In (reference n b) declared
+  IsResolvedIn declared (call n args) = AreResolvedIn declared args
+  IsResolvedIn declared (group gs) = AreResolvedIn declared gs
+  IsResolvedIn declared (star x) = IsResolvedIn declared x
+  IsResolvedIn declared (plus x) = IsResolvedIn declared x
+  IsResolvedIn declared (question x) = IsResolvedIn declared x
+  IsResolvedIn declared (wrapped w g) = IsResolvedIn declared g
+  IsResolvedIn declared lookahead = Unit {0}
+  IsResolvedIn declared lookbehind = Unit {0}
+
+  pub AreResolvedIn : List ClosedSymbol → ClosedSymbols → Type 0
+  AreResolvedIn declared no_symbols = Unit {0}
+  AreResolvedIn declared (symbol_and g gs) = IsResolvedIn declared g × AreResolvedIn declared gs
+
+-- The declared references are closed: their alternatives refer to declared ones alone, the level below each is declared, and
+-- a macro called by resolved arguments has resolved alternatives.
+pub record IsResolved (M : Meaning) (declared : List ClosedSymbol) : Type 0 where
+  pub rules : (n : Name) (b : Option ℕ) (k : ℕ) (parts : ClosedSymbols) → In (reference n b) declared →
+    M.reference_parts n b k ≡ Some parts → AreResolvedIn declared parts
+  pub levels : (n : Name) (b c : Option ℕ) → In (reference n b) declared → M.previous n b ≡ Some c → In (reference n c) declared
+  pub macros : (n : Name) (args : ClosedSymbols) (k : ℕ) (parts : ClosedSymbols) → AreResolvedIn declared args →
+    M.call_parts n args k ≡ Some parts → AreResolvedIn declared parts

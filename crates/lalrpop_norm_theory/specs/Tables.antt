@@ -32,10 +32,14 @@ table (r ∷ rs) n = if bytes_eq r.name n then r.productions else table rs n
 abbrev pub rule_of : Meaning → (ClosedSymbol → Name) → ClosedSymbol → Rule
 rule_of M name g = record { name = name g; productions = map (production_of name) (clauses M g) }
 
--- The declared and the met symbols are a whole expansion, in which each name means one rule. Two symbols may share a name
--- where they have the same clauses, as a rule and its highest level have.
+-- Each name means one rule: two symbols share a name only where they have the same clauses, as a rule taken by itself and its
+-- highest level have.
+abbrev pub OneRuleAName : Meaning → (ClosedSymbol → Name) → List ClosedSymbol → Type 0
+OneRuleAName M name gs = (g h : ClosedSymbol) → In g gs → In h gs → name g ≡ name h → clauses M g ≡ clauses M h
+
+-- The declared and the met symbols are a whole expansion in which each name means one rule.
 pub record Stands (M : Meaning) (name : ClosedSymbol → Name) (declared met : List ClosedSymbol) : Type 0 where
-  pub distinct : (g h : ClosedSymbol) → In g (declared ++ met) → In h (declared ++ met) → name g ≡ name h → clauses M g ≡ clauses M h
+  pub distinct : OneRuleAName M name (declared ++ met)
   -- each reference in a rule is declared
   pub resolved : (g : ClosedSymbol) → In g (declared ++ met) → (p : ℕ) (c : Clause) → slice_get (clauses M g) p ≡ Some c →
     AreDeclaredIn declared c.parts

@@ -8,7 +8,7 @@
 
 ghost use Rattle.lalrpop_norm_theory.specs.Laws.{TreesAreOneToOne, WordsAreTheSame, TranslationsAreInverse};
 ghost use Rattle.lalrpop_norm_theory.specs.Laws.{RulesRealize, LevelsAreTwoSteps};
-ghost use Rattle.lalrpop_norm_theory.specs.Laws.{RoundsAreShortestChains, RoundsAreInOrder, NothingNewIsWhole};
+ghost use Rattle.lalrpop_norm_theory.specs.Laws.{RoundsAreShortestChains, RoundsAreInOrder, NothingNewIsWhole, ExpansionsStand};
 ghost use Rattle.lalrpop_norm_theory.specs.Laws.{RulesAreMadeOnce, PartsAreMetNoLater, SameIsEqual};
 
 /// In a lowered grammar that has, under the names of the known symbols, the productions of their rules, each written tree of
@@ -39,8 +39,8 @@ pub fn rules_realize()
 {
 }
 
-/// The pairing is made of two steps that meet at the grammar with levels: bounded written trees against its trees, then its
-/// trees, read without bounds, against the lowered ones. Each step is one to one, and the two in a row are the pairing.
+/// For resolved symbols the pairing is made of two steps that meet at the grammar with levels: bounded written trees against
+/// its trees, then its trees, read without bounds, against the lowered ones. Each step is one to one, and the two in a row are the pairing.
 pub fn levels_are_two_steps()
     ensures { LevelsAreTwoSteps }
 {
@@ -76,6 +76,13 @@ pub fn parts_are_met_no_later()
 /// Where a round adds nothing, the symbols so far have all that their rules meet.
 pub fn nothing_new_is_whole()
     ensures { NothingNewIsWhole }
+{
+}
+
+/// Where a resolved expansion has nothing new and each name means one rule, it stands: its rules are those that
+/// `rules_realize` speaks of.
+pub fn expansions_stand()
+    ensures { ExpansionsStand }
 {
 }
 
