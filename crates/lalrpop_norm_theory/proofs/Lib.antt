@@ -10,9 +10,11 @@ pub mod Trees
 pub mod Expansion
 pub mod LeveledTrees
 pub mod MadeLemmas
+pub mod ExampleGrammar
 pub mod TreeExamples
 pub mod RoundExamples
 pub mod ResolvedLemmas
 pub mod StepLemmas
 pub mod LeveledLemmas
 pub mod Composed
+pub mod LevelExamples

@@ -9,53 +9,7 @@ use Rattle.lalrpop_norm_theory.specs.Clauses.{Clause, clause, clauses}
 use Rattle.lalrpop_norm_theory.specs.Pairs.{Pairs, terminal_pair, plus_one_pair, plus_more_pair}
 use Rattle.lalrpop_norm_theory.specs.Translations.{lowered_tree, written_tree}
 use Rattle.lalrpop_norm_theory.specs.Tables.{table, rule_of}
-
-none_some : {A : Type 0} {x : A} → None ≡ Some x → ⊥
-none_some e = grind arith
-
--- Two names and two terminals: E and M, "n" and "+".
-abbrev expression : Name
-expression = 69 ∷ []
-
-abbrev pick : Name
-pick = 77 ∷ []
-
-abbrev number : Terminal
-number = quoted (110 ∷ [])
-
-abbrev sign : Terminal
-sign = quoted (43 ∷ [])
-
--- a reference to E within the bound b
-abbrev within : ℕ → ClosedSymbol
-within b = reference expression (Some b)
-
--- E = { #[precedence(level="1")] "n", #[precedence(level="2")] #[assoc(side="left")] E "+" E }
-abbrev expression_parts : ℕ → Option ClosedSymbols
-expression_parts zero = Some (only (terminal number))
-expression_parts (suc zero) = Some (symbol_and (within 2) (symbol_and (terminal sign) (only (within 1))))
-expression_parts _ = None
-
--- M<X> = { "n" if X == ".", X X }: for other arguments the first condition is false
-abbrev pick_parts : ClosedSymbols → ℕ → Option ClosedSymbols
-pick_parts (symbol_and x no_symbols) (suc zero) = Some (symbol_and x (only x))
-pick_parts _ _ = None
-
--- the highest level, where there is no bound
-abbrev bound : Option ℕ → ℕ
-bound None = 2
-bound (Some b) = b
-
--- alternative k has the level k + 1
-abbrev grammar : Meaning
-grammar = record {
-  reference_parts = λ m b k. if bytes_eq m expression && nat_le (suc k) (bound b) then expression_parts k else None;
-  reference_count = λ m. 2;
-  own_parts = λ m b k. if bytes_eq m expression && nat_eq (suc k) (bound b) then expression_parts k else None;
-  previous = λ m b. if bytes_eq m expression && nat_eq (bound b) 2 then Some (Some 1) else None;
-  depth = λ m b. bound b;
-  call_parts = λ m args k. if bytes_eq m pick then pick_parts args k else None;
-  call_count = λ m. 2 }
+use Rattle.lalrpop_norm_theory.proofs.ExampleGrammar.{none_some, expression, pick, number, sign, within, sum_parts, grammar}
 
 -- E 0 over n, and E 1 over (E 0 over n; +; E 0 over n)
 abbrev one_number : WrittenTree
@@ -77,7 +31,7 @@ sum_is_above h = none_some h.2
 
 sum_is_left : IsTreeOf grammar right_sum (reference expression None) → ⊥
 sum_is_left (same, parts, at, hs) =
-  let is : symbol_and (within 2) (symbol_and (terminal sign) (only (within 1))) ≡ parts = cc at in
+  let is : sum_parts ≡ parts = cc at in
   let children = rw (← is) at hs in
   sum_is_above children.1.1.0
 
@@ -158,7 +112,7 @@ call_clauses = refl
 
 -- the alternatives of the higher level, then the step to the lower one
 level_clauses : clauses grammar (reference expression None) ≡
-  clause (written expression 1) (symbol_and (within 2) (symbol_and (terminal sign) (only (within 1)))) ∷
+  clause (written expression 1) sum_parts ∷
     (clause level_step (only (within 1)) ∷ [])
 level_clauses = refl
 
