@@ -74,7 +74,8 @@ grammar = record {
   previous = λ m b. level_below (bound b);
   depth = λ m b. bound b;
   call_parts = λ m args k. called_parts (bytes_eq m pick) args k;
-  call_count = λ m. 2 }
+  call_count = λ m. 2;
+}
 
 at_counted : (h k : ℕ) (parts : ClosedSymbols) → parts_at h k ≡ Some parts → k < 2
 at_counted zero k parts e = absurd (none_some e)
@@ -99,7 +100,8 @@ called_counted false args k parts e = absurd (none_some e)
 pub grammar_counts : HasCounts grammar
 grammar_counts = record {
   of_rules = λ n b k parts e. at_counted (bound b) k parts e;
-  of_calls = λ n args k parts e. called_counted (bytes_eq n pick) args k parts e }
+  of_calls = λ n args k parts e. called_counted (bytes_eq n pick) args k parts e;
+}
 
 below_deeper : (h : ℕ) (c : Option ℕ) → level_below h ≡ Some c → bound c < h
 below_deeper zero c e = absurd (none_some e)
@@ -118,17 +120,17 @@ at_within (suc (suc (suc h))) k parts e = absurd (none_some e)
 
 -- the level below, its alternatives, and those of the level itself
 below_within : (h g k : ℕ) (parts : ClosedSymbols) → level_below h ≡ Some (Some g) → parts_within g k ≡ Some parts →
-  (parts_within h k ≡ Some parts) × (parts_at h k ≡ None)
+    (parts_within h k ≡ Some parts) × (parts_at h k ≡ None)
 below_within zero g k parts e i = absurd (none_some e)
 below_within (suc zero) g k parts e i = absurd (none_some e)
 below_within (suc (suc zero)) g k parts e i =
-  let same : 1 ≡ g = cc e in let i' : parts_within 1 k ≡ Some parts = rw same i in lower k i'
+    let same : 1 ≡ g = cc e in let i' : parts_within 1 k ≡ Some parts = rw same i in lower k i'
   where
     lower : (k : ℕ) → parts_within 1 k ≡ Some parts → (parts_within 2 k ≡ Some parts) × (parts_at 2 k ≡ None)
     lower zero j = (j, refl)
     lower (suc k) j = absurd (none_some j)
 below_within (suc (suc (suc h))) g k parts e i =
-  let same : 2 ≡ g = cc e in let i' : parts_within 2 k ≡ Some parts = rw same i in lower k i'
+    let same : 2 ≡ g = cc e in let i' : parts_within 2 k ≡ Some parts = rw same i in lower k i'
   where
     lower : (k : ℕ) → parts_within 2 k ≡ Some parts → (parts_within (suc (suc (suc h))) k ≡ Some parts) × (parts_at (suc (suc (suc h))) k ≡ None)
     lower zero j = (j, refl)
@@ -142,7 +144,7 @@ some_level (suc (suc zero)) c e = (1, (let same : Some 1 ≡ c = cc e in sym sam
 some_level (suc (suc (suc h))) c e = (2, (let same : Some 2 ≡ c = cc e in sym same))
 
 within_split : (h k : ℕ) (parts : ClosedSymbols) → parts_within h k ≡ Some parts →
-  (parts_at h k ≡ Some parts) ⊎ ((c : Option ℕ) × (parts_at h k ≡ None) × (level_below h ≡ Some c) × (parts_within (bound c) k ≡ Some parts))
+    (parts_at h k ≡ Some parts) ⊎ ((c : Option ℕ) × (parts_at h k ≡ None) × (level_below h ≡ Some c) × (parts_within (bound c) k ≡ Some parts))
 within_split zero k parts e = absurd (none_some e)
 within_split (suc zero) zero parts e = inl e
 within_split (suc zero) (suc k) parts e = absurd (none_some e)
@@ -158,13 +160,14 @@ grammar_levels = record {
   deeper = λ n b c e. below_deeper (bound b) c e;
   own = λ n b k parts e. at_within (bound b) k parts e;
   chained = λ n b c k parts e i.
-    let (g, same) = some_level (bound b) c e in
-    let e' = rw same at e in
-    let i' = rw same at i in
-    (below_within (bound b) g k parts e' i').0;
+      let (g, same) = some_level (bound b) c e in
+      let e' = rw same at e in
+      let i' = rw same at i in
+      (below_within (bound b) g k parts e' i').0;
   apart = λ n b c k parts e i.
-    let (g, same) = some_level (bound b) c e in
-    let e' = rw same at e in
-    let i' = rw same at i in
-    (below_within (bound b) g k parts e' i').1;
-  split = λ n b k parts e. within_split (bound b) k parts e }
+      let (g, same) = some_level (bound b) c e in
+      let e' = rw same at e in
+      let i' = rw same at i in
+      (below_within (bound b) g k parts e' i').1;
+  split = λ n b k parts e. within_split (bound b) k parts e;
+}

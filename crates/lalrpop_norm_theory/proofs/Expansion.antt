@@ -1,12 +1,12 @@
 -- The rounds of an expansion: new are the shortest chains, in the order of first meeting; where nothing is new it is whole.
-use Rattle.std.proofs.Common.{◌≡◌, ◌⊎◌, ◌<◌, ◌+◌, inl, inr, ℕ, zero, suc, List, [], ◌∷◌, ◌++◌, refl, subst, arith, append-nil}
+use Rattle.std.proofs.Common.{◌≡◌, inl, inr, ℕ, zero, suc, List, [], ◌∷◌, ◌++◌, subst, arith}
 use Rattle.std.specs.Prelude.{flat_map, slice_get, Some}
 use Rattle.lalrpop_norm_theory.specs.Symbols.{ClosedSymbol, ClosedSymbols, terminal, error, reference, call, group, star, plus, question, wrapped, lookahead, lookbehind, no_symbols, symbol_and}
 use Rattle.lalrpop_norm_theory.specs.Meaning.{Meaning}
 use Rattle.lalrpop_norm_theory.specs.Clauses.{Clause, clauses}
-use Rattle.lalrpop_norm_theory.specs.Rounds.{In, Round, Chain, rounds}
+use Rattle.lalrpop_norm_theory.specs.Rounds.{In, Chain}
 use Rattle.lalrpop_norm_theory.specs.Same.{same_symbol}
-use Rattle.lalrpop_norm_theory.specs.Met.{meets, meets_all, clauses_meet, rule_meets, expansion, IsExpanded, IsDeclaredIn, AreDeclaredIn, IsResolvedIn}
+use Rattle.lalrpop_norm_theory.specs.Met.{meets, meets_all, rule_meets, expansion, IsExpanded, IsDeclaredIn, AreDeclaredIn, IsResolvedIn}
 use Rattle.lalrpop_norm_theory.specs.Laws.{RoundsAreShortestChains, RoundsAreInOrder, NothingNewIsWhole, IsWhole, ExpansionsStand}
 use Rattle.lalrpop_norm_theory.proofs.RoundsLemmas.{After, after_rounds, fresh_is_new, closed, in_left, in_right, in_cases, in_flat, of_flat}
 use Rattle.lalrpop_norm_theory.proofs.OrderLemmas.{fresh_in_order}
@@ -17,9 +17,10 @@ pub rounds_shortest : RoundsAreShortestChains
 rounds_shortest M declared k x = fresh_is_new same_symbol symbol_test (rule_meets M) (flat_map (rule_meets M) declared) k x
 
 pub rounds_in_order : RoundsAreInOrder
-rounds_in_order M declared =
-  (fresh_in_order same_symbol symbol_test [] (flat_map (rule_meets M) declared),
-   λ k. fresh_in_order same_symbol symbol_test _ _)
+rounds_in_order M declared = (
+  fresh_in_order same_symbol symbol_test [] (flat_map (rule_meets M) declared),
+  λ k. fresh_in_order same_symbol symbol_test _ _,
+)
 
 -- what is met last is the symbol itself
 met_itself : (g h : ClosedSymbol) → IsExpanded g → In h (g ∷ []) → IsExpanded h
@@ -36,48 +37,65 @@ mutual
   meets_expanded (reference n b) h i = absurd i
   meets_expanded (wrapped w g) h i = meets_expanded g h i
   meets_expanded (call n args) h i = elim (in_cases h (meets_all args) _ i) [
-    inl j ↦ all_meet_expanded args h j | inr j ↦ met_itself (call n args) h tt j ]
+    | inl j ↦ all_meet_expanded args h j
+    | inr j ↦ met_itself (call n args) h tt j
+  ]
   meets_expanded (group gs) h i = elim (in_cases h (meets_all gs) _ i) [
-    inl j ↦ all_meet_expanded gs h j | inr j ↦ met_itself (group gs) h tt j ]
+    | inl j ↦ all_meet_expanded gs h j
+    | inr j ↦ met_itself (group gs) h tt j
+  ]
   meets_expanded (star x) h i = elim (in_cases h (meets x) _ i) [
-    inl j ↦ meets_expanded x h j | inr j ↦ met_itself (star x) h tt j ]
+    | inl j ↦ meets_expanded x h j
+    | inr j ↦ met_itself (star x) h tt j
+  ]
   meets_expanded (plus x) h i = elim (in_cases h (meets x) _ i) [
-    inl j ↦ meets_expanded x h j | inr j ↦ met_itself (plus x) h tt j ]
+    | inl j ↦ meets_expanded x h j
+    | inr j ↦ met_itself (plus x) h tt j
+  ]
   meets_expanded (question x) h i = elim (in_cases h (meets x) _ i) [
-    inl j ↦ meets_expanded x h j | inr j ↦ met_itself (question x) h tt j ]
+    | inl j ↦ meets_expanded x h j
+    | inr j ↦ met_itself (question x) h tt j
+  ]
   meets_expanded lookahead h i = met_itself lookahead h tt i
   meets_expanded lookbehind h i = met_itself lookbehind h tt i
 
   all_meet_expanded : (gs : ClosedSymbols) (h : ClosedSymbol) → In h (meets_all gs) → IsExpanded h
   all_meet_expanded no_symbols h i = absurd i
   all_meet_expanded (symbol_and g gs) h i = elim (in_cases h (meets g) _ i) [
-    inl j ↦ meets_expanded g h j | inr j ↦ all_meet_expanded gs h j ]
+    | inl j ↦ meets_expanded g h j
+    | inr j ↦ all_meet_expanded gs h j
+  ]
 
 rule_meets_expanded : (M : Meaning) (g h : ClosedSymbol) → In h (rule_meets M g) → IsExpanded h
 rule_meets_expanded M g h i =
-  let (c, there, j) = of_flat (λ (c : Clause). meets_all c.parts) h (clauses M g) i in all_meet_expanded c.parts h j
+    let (c, there, j) = of_flat (λ (c : Clause). meets_all c.parts) h (clauses M g) i in all_meet_expanded c.parts h j
 
 chain_expanded : (M : Meaning) (declared : List ClosedSymbol) (k : ℕ) (h : ClosedSymbol) →
-  Chain (rule_meets M) (flat_map (rule_meets M) declared) k h → IsExpanded h
+    Chain (rule_meets M) (flat_map (rule_meets M) declared) k h → IsExpanded h
 chain_expanded M declared zero h i = let (g, there, j) = of_flat (rule_meets M) h declared i in rule_meets_expanded M g h j
 chain_expanded M declared (suc k) h (g, c, i) = rule_meets_expanded M g h i
 
 pub nothing_new_whole : NothingNewIsWhole
 nothing_new_whole M declared k none = record {
-    done = λ g h i j. elim (in_cases g declared (expansion M declared k).seen i) [
-        inl d ↦ found h (known.all_found h 0 (omega arith) (in_flat (rule_meets M) h g declared d j))
-      | inr s ↦ closed same_symbol symbol_test (rule_meets M) start k none g h s j ];
-    expanded = λ g i. let (j, l, c) = known.seen_chain g i in chain_expanded M declared j g c;
-    reached = λ g i. let (j, l, c) = known.seen_chain g i in (j, c) }
+  done = λ g h i j. elim (in_cases g declared (expansion M declared k).seen i) [
+    | inl d ↦ found h (known.all_found h 0 (omega arith) (in_flat (rule_meets M) h g declared d j))
+    | inr s ↦ closed same_symbol symbol_test (rule_meets M) start k none g h s j
+  ];
+  expanded = λ g i. let (j, l, c) = known.seen_chain g i in chain_expanded M declared j g c;
+  reached = λ g i. let (j, l, c) = known.seen_chain g i in (j, c);
+}
   where
     start : List ClosedSymbol
     start = flat_map (rule_meets M) declared
+
     known : After (rule_meets M) (flat_map (rule_meets M) declared) k (expansion M declared k)
     known = after_rounds same_symbol symbol_test (rule_meets M) (flat_map (rule_meets M) declared) k
+
     found : (h : ClosedSymbol) → In h ((expansion M declared k).seen ++ (expansion M declared k).fresh) → In h (expansion M declared k).seen
     found h i = elim (in_cases h _ _ i) [
-        inl s ↦ s
-      | inr f ↦ absurd (subst (λ (ys : List ClosedSymbol). In h ys) none f) ]
+      | inl s ↦ s
+      | inr f ↦ absurd (subst (λ (ys : List ClosedSymbol). In h ys) none f)
+    ]
 
 -- what is declared stays declared among more
 declared_more : (roots declared : List ClosedSymbol) (g : ClosedSymbol) → IsDeclaredIn declared g → IsDeclaredIn (roots ++ declared) g
@@ -99,21 +117,27 @@ all_declared_more roots declared (symbol_and g gs) d = (declared_more roots decl
 
 pub expansion_stands : ExpansionsStand
 expansion_stands M V roots declared D own shared k none name one = record {
-    distinct = one;
-    resolved = λ g i p c e. elim (in_cases g (roots ++ declared) _ i) [
-        inl j ↦ elim (in_cases g roots declared j) [
-            inl r ↦ (let (h, there, same) = shared g r in of_resolved h (own h there) p c (rw (← same) e))
-          | inr d ↦ of_resolved g (own g d) p c e ]
-      | inr s ↦ (let (j, chain) = whole.reached g s in of_resolved g (chain_resolved M declared D V declared own j g chain) p c e) ];
-    done = λ g h i m. elim (in_cases g (roots ++ declared) _ i) [
-        inl j ↦ elim (in_cases g roots declared j) [
-            inl r ↦ (let (x, there, same) = shared g r in whole.done x h (in_left x declared _ there) (rw (← same) m))
-          | inr d ↦ whole.done g h (in_left g declared _ d) m ]
-      | inr s ↦ whole.done g h (in_right g declared _ s) m ] }
+  distinct = one;
+  resolved = λ g i p c e. elim (in_cases g (roots ++ declared) _ i) [
+    | inl j ↦ elim (in_cases g roots declared j) [
+      | inl r ↦ (let (h, there, same) = shared g r in of_resolved h (own h there) p c (rw (← same) e))
+      | inr d ↦ of_resolved g (own g d) p c e
+    ]
+    | inr s ↦ (let (j, chain) = whole.reached g s in of_resolved g (chain_resolved M declared D V declared own j g chain) p c e)
+  ];
+  done = λ g h i m. elim (in_cases g (roots ++ declared) _ i) [
+    | inl j ↦ elim (in_cases g roots declared j) [
+      | inl r ↦ (let (x, there, same) = shared g r in whole.done x h (in_left x declared _ there) (rw (← same) m))
+      | inr d ↦ whole.done g h (in_left g declared _ d) m
+    ]
+    | inr s ↦ whole.done g h (in_right g declared _ s) m
+  ];
+}
   where
     whole : IsWhole M declared (expansion M declared k).seen
     whole = nothing_new_whole M declared k none
+
     of_resolved : (g : ClosedSymbol) → IsResolvedIn declared g → (p : ℕ) (c : Clause) → slice_get (clauses M g) p ≡ Some c →
-      AreDeclaredIn (roots ++ declared) c.parts
+        AreDeclaredIn (roots ++ declared) c.parts
     of_resolved g r p c e =
-      all_declared_more roots declared c.parts (all_declared_from declared c.parts (clause_resolved M declared D V g p c r e))
+        all_declared_more roots declared c.parts (all_declared_from declared c.parts (clause_resolved M declared D V g p c r e))

@@ -1,20 +1,20 @@
 -- The premises of the laws on levels hold of the small grammar, and so do the laws.
-use Rattle.std.proofs.Common.{◌≡◌, ◌⊎◌, ◌<◌, inl, inr, ℕ, zero, suc, List, [], ◌∷◌, ◌++◌, map, refl, sym, ap, ap₂, ◌∙◌, subst, arith}
-use Rattle.std.specs.Prelude.{Bool, true, false, bytes_eq, if◌then◌else◌, slice_get, option_map, Option, Some, None}
+use Rattle.std.proofs.Common.{◌≡◌, ◌<◌, inl, inr, ℕ, zero, suc, List, [], ◌∷◌, ◌++◌, map, refl, sym, ap, ap₂, subst, arith}
+use Rattle.std.specs.Prelude.{Bool, true, false, bytes_eq, slice_get, option_map, Option, Some, None}
 use Rattle.std.proofs.lemmas.Bool.{cases_Bool}
 use Rattle.lalrpop_norm_theory.specs.Symbols.{Name, ClosedSymbol, ClosedSymbols, terminal, reference, no_symbols, symbol_and, only}
 use Rattle.lalrpop_norm_theory.specs.Meaning.{Meaning, HasCounts, HasLevels}
 use Rattle.lalrpop_norm_theory.specs.LoweredTrees.{Origin, written, level_step}
 use Rattle.lalrpop_norm_theory.specs.Clauses.{Clause, clauses}
 use Rattle.lalrpop_norm_theory.specs.Rounds.{In}
-use Rattle.lalrpop_norm_theory.specs.Met.{AreResolvedIn, IsResolved, IsKnown, AreDeclaredIn, rule_meets}
+use Rattle.lalrpop_norm_theory.specs.Met.{AreResolvedIn, IsResolved, AreDeclaredIn, rule_meets}
 use Rattle.lalrpop_norm_theory.specs.Tables.{table, rule_of, Stands}
 use Rattle.lalrpop_norm_theory.specs.Leveled.{level_reference, leveled_symbols, IsLeveled}
 use Rattle.lalrpop_norm_theory.specs.Laws.{PairsInTwoSteps}
 use Rattle.lalrpop_norm_theory.proofs.SameLemmas.{text_sound}
 use Rattle.lalrpop_norm_theory.proofs.TableLemmas.{rules_realize}
 use Rattle.lalrpop_norm_theory.proofs.Composed.{levels_two_steps}
-use Rattle.lalrpop_norm_theory.proofs.ExampleGrammar.{none_some, expression, pick, number, sign, within, number_parts, sum_parts, parts_within, level_below, bound, pick_parts, called_parts, called_counted, grammar, grammar_counts, grammar_levels}
+use Rattle.lalrpop_norm_theory.proofs.ExampleGrammar.{none_some, expression, pick, sign, within, number_parts, sum_parts, parts_within, level_below, bound, called_parts, called_counted, grammar, grammar_counts, grammar_levels}
 
 -- the references to E: by itself, and within each level
 abbrev references : List ClosedSymbol
@@ -25,34 +25,35 @@ parts_resolved zero k parts e = absurd (none_some e)
 parts_resolved (suc h) zero parts e = let same : number_parts ≡ parts = cc e in subst (AreResolvedIn references) same (tt, tt)
 parts_resolved (suc zero) (suc k) parts e = absurd (none_some e)
 parts_resolved (suc (suc h)) (suc zero) parts e =
-  let same : sum_parts ≡ parts = cc e in subst (AreResolvedIn references) same (inr (inl refl), (tt, (inr (inr (inl refl)), tt)))
+    let same : sum_parts ≡ parts = cc e in subst (AreResolvedIn references) same (inr (inl refl), (tt, (inr (inr (inl refl)), tt)))
 parts_resolved (suc (suc h)) (suc (suc k)) parts e = absurd (none_some e)
 
 level_declared : (n : Name) (b c : Option ℕ) → In (reference n b) references → level_below (bound b) ≡ Some c → In (reference n c) references
 level_declared n b c (inl i) e =
-  let none : b ≡ None = cc i in let e' = rw none at e in let one : c ≡ Some 1 = cc e' in
-  let name : n ≡ expression = cc i in inr (inr (inl (ap₂ reference name one)))
+    let none : b ≡ None = cc i in let e' = rw none at e in let one : c ≡ Some 1 = cc e' in
+    let name : n ≡ expression = cc i in inr (inr (inl (ap₂ reference name one)))
 level_declared n b c (inr (inl i)) e =
-  let two : b ≡ Some 2 = cc i in let e' = rw two at e in let one : c ≡ Some 1 = cc e' in
-  let name : n ≡ expression = cc i in inr (inr (inl (ap₂ reference name one)))
+    let two : b ≡ Some 2 = cc i in let e' = rw two at e in let one : c ≡ Some 1 = cc e' in
+    let name : n ≡ expression = cc i in inr (inr (inl (ap₂ reference name one)))
 level_declared n b c (inr (inr (inl i))) e = let one : b ≡ Some 1 = cc i in let e' = rw one at e in absurd (none_some e')
 level_declared n b c (inr (inr (inr i))) e = absurd i
 
 called_resolved : (t : Bool) (args : ClosedSymbols) (k : ℕ) (parts : ClosedSymbols) → AreResolvedIn references args →
-  called_parts t args k ≡ Some parts → AreResolvedIn references parts
+    called_parts t args k ≡ Some parts → AreResolvedIn references parts
 called_resolved false args k parts r e = absurd (none_some e)
 called_resolved true no_symbols k parts r e = absurd (none_some e)
 called_resolved true (symbol_and x (symbol_and y gs)) k parts r e = absurd (none_some e)
 called_resolved true (symbol_and x no_symbols) zero parts r e = absurd (none_some e)
 called_resolved true (symbol_and x no_symbols) (suc zero) parts r e =
-  let same : symbol_and x (only x) ≡ parts = cc e in subst (AreResolvedIn references) same (r.0, (r.0, tt))
+    let same : symbol_and x (only x) ≡ parts = cc e in subst (AreResolvedIn references) same (r.0, (r.0, tt))
 called_resolved true (symbol_and x no_symbols) (suc (suc k)) parts r e = absurd (none_some e)
 
 grammar_resolved : IsResolved grammar references
 grammar_resolved = record {
   rules = λ n b k parts r e. parts_resolved (bound b) k parts e;
   levels = λ n b c r e. level_declared n b c r e;
-  macros = λ n args k parts r e. called_resolved (bytes_eq n pick) args k parts r e }
+  macros = λ n args k parts r e. called_resolved (bytes_eq n pick) args k parts r e;
+}
 
 -- The grammar with levels: E = { E "+" E1, E1 }; E1 = { "n" }.
 abbrev lower_expression : Name
@@ -83,7 +84,8 @@ leveled = record {
   previous = λ m b. None;
   depth = λ m b. 0;
   call_parts = λ m args k. called_parts (bytes_eq m pick) args k;
-  call_count = λ m. 2 }
+  call_count = λ m. 2;
+}
 
 level_counted : (t : Bool) (k : ℕ) (parts : ClosedSymbols) → level_parts t k ≡ Some parts → k < 2
 level_counted true zero parts e = omega arith
@@ -95,7 +97,8 @@ level_counted false (suc k) parts e = absurd (none_some e)
 leveled_counts : HasCounts leveled
 leveled_counts = record {
   of_rules = λ n b k parts e. level_counted (bytes_eq n expression) k parts e;
-  of_calls = λ n args k parts e. called_counted (bytes_eq n pick) args k parts e }
+  of_calls = λ n args k parts e. called_counted (bytes_eq n pick) args k parts e;
+}
 
 leveled_levels : HasLevels leveled
 leveled_levels = record {
@@ -103,7 +106,8 @@ leveled_levels = record {
   own = λ n b k parts e. e;
   chained = λ n b c k parts e i. absurd (none_some e);
   apart = λ n b c k parts e i. absurd (none_some e);
-  split = λ n b k parts e. inl e }
+  split = λ n b k parts e. inl e;
+}
 
 -- the origins: E 1, the step, E 0, and those of the macro
 abbrev high_origin : ℕ → Origin
@@ -120,7 +124,7 @@ origin n p = origin_of n (bytes_eq n expression) (bytes_eq n pick) p
 
 -- what holds of the three references holds of each
 by_reference : (F : Name → Option ℕ → Type 0) → F expression None → F expression (Some 2) → F expression (Some 1) →
-  (n : Name) (b : Option ℕ) → In (reference n b) references → F n b
+    (n : Name) (b : Option ℕ) → In (reference n b) references → F n b
 by_reference F x y z n b (inl i) = let name : n ≡ expression = cc i in let at : b ≡ None = cc i in rw (name, at) x
 by_reference F x y z n b (inr (inl i)) = let name : n ≡ expression = cc i in let at : b ≡ Some 2 = cc i in rw (name, at) y
 by_reference F x y z n b (inr (inr (inl i))) = let name : n ≡ expression = cc i in let at : b ≡ Some 1 = cc i in rw (name, at) z
@@ -128,10 +132,10 @@ by_reference F x y z n b (inr (inr (inr i))) = absurd i
 
 abbrev RulesAt : Name → Option ℕ → Type 0
 RulesAt n b = (p : ℕ) → leveled.reference_parts (level_reference level_name n b) None p ≡
-  option_map (λ c. leveled_symbols level_name c.parts) (slice_get (clauses grammar (reference n b)) p)
+    option_map (λ c. leveled_symbols level_name c.parts) (slice_get (clauses grammar (reference n b)) p)
 
 high_rules : (p : ℕ) → high_parts p ≡
-  option_map (λ c. leveled_symbols level_name c.parts) (slice_get (clauses grammar (within 2)) p)
+    option_map (λ c. leveled_symbols level_name c.parts) (slice_get (clauses grammar (within 2)) p)
 high_rules zero = refl
 high_rules (suc zero) = refl
 high_rules (suc (suc p)) = refl
@@ -142,7 +146,7 @@ low_rules (suc p) = refl
 
 abbrev OriginsAt : Name → Option ℕ → Type 0
 OriginsAt n b = (p : ℕ) (c : Clause) → slice_get (clauses grammar (reference n b)) p ≡ Some c →
-  origin (level_reference level_name n b) p ≡ c.origin
+    origin (level_reference level_name n b) p ≡ c.origin
 
 origin_same : (d c : Clause) → Some d ≡ Some c → d.origin ≡ c.origin
 origin_same d c e = let same : d ≡ c = cc e in ap (λ x. x.origin) same
@@ -157,7 +161,7 @@ low_origins zero c e = origin_same _ c e
 low_origins (suc p) c e = absurd (none_some e)
 
 called_leveled : (t : Bool) (args : ClosedSymbols) (k : ℕ) →
-  called_parts t (leveled_symbols level_name args) k ≡ option_map (leveled_symbols level_name) (called_parts t args k)
+    called_parts t (leveled_symbols level_name args) k ≡ option_map (leveled_symbols level_name) (called_parts t args k)
 called_leveled false args k = refl
 called_leveled true no_symbols k = refl
 called_leveled true (symbol_and x (symbol_and y gs)) k = refl
@@ -166,10 +170,11 @@ called_leveled true (symbol_and x no_symbols) (suc zero) = refl
 called_leveled true (symbol_and x no_symbols) (suc (suc k)) = refl
 
 called_origin : (n : Name) (args : ClosedSymbols) (k : ℕ) (parts : ClosedSymbols) → called_parts (bytes_eq n pick) args k ≡ Some parts →
-  origin n k ≡ written n k
+    origin n k ≡ written n k
 called_origin n args k parts e = elim (cases_Bool (bytes_eq n pick)) [
-    inl is ↦ (let same : n ≡ pick = text_sound n pick is in rw same refl)
-  | inr other ↦ (let e' = rw other at e in absurd (none_some e')) ]
+  | inl is ↦ (let same : n ≡ pick = text_sound n pick is in rw same refl)
+  | inr other ↦ (let e' = rw other at e in absurd (none_some e'))
+]
 
 grammar_leveled : IsLeveled grammar leveled level_name origin references
 grammar_leveled = record {
@@ -178,7 +183,8 @@ grammar_leveled = record {
   macros = λ n args k. called_leveled (bytes_eq n pick) args k;
   macro_counts = λ n. refl;
   rule_origins = λ n b p c r e. by_reference OriginsAt high_origins high_origins low_origins n b r p c e;
-  macro_origins = λ n args k parts e. called_origin n args k parts e }
+  macro_origins = λ n args k parts e. called_origin n args k parts e;
+}
 
 -- the names of the grammar with levels are the names of its rules
 abbrev name : ClosedSymbol → Name
@@ -202,7 +208,7 @@ low_declared (suc p) c e = absurd (none_some e)
 
 -- what holds of the two rules holds of each
 by_rule : (F : ClosedSymbol → Type 0) → F (reference expression None) → F (reference lower_expression None) →
-  (g : ClosedSymbol) → In g (declared ++ []) → F g
+    (g : ClosedSymbol) → In g (declared ++ []) → F g
 by_rule F x y g (inl i) = subst F (sym i) x
 by_rule F x y g (inr (inl i)) = subst F (sym i) y
 by_rule F x y g (inr (inr i)) = absurd i
@@ -212,23 +218,24 @@ names_apart e = cc e
 
 -- each of the two names means one rule
 one_rule : (g : ClosedSymbol) → In g (declared ++ []) → (h : ClosedSymbol) → In h (declared ++ []) → name g ≡ name h →
-  clauses leveled g ≡ clauses leveled h
+    clauses leveled g ≡ clauses leveled h
 one_rule = by_rule (λ g. (h : ClosedSymbol) → In h (declared ++ []) → name g ≡ name h → clauses leveled g ≡ clauses leveled h)
-  (by_rule (λ h. name (reference expression None) ≡ name h → clauses leveled (reference expression None) ≡ clauses leveled h)
+    (by_rule (λ h. name (reference expression None) ≡ name h → clauses leveled (reference expression None) ≡ clauses leveled h)
     (λ e. refl) (λ e. absurd (names_apart e)))
-  (by_rule (λ h. name (reference lower_expression None) ≡ name h → clauses leveled (reference lower_expression None) ≡ clauses leveled h)
+    (by_rule (λ h. name (reference lower_expression None) ≡ name h → clauses leveled (reference lower_expression None) ≡ clauses leveled h)
     (λ e. absurd (names_apart (sym e))) (λ e. refl))
 
 leveled_stands : Stands leveled name declared []
 leveled_stands = record {
   distinct = λ g h i j e. one_rule g i h j e;
   resolved = by_rule (λ g. (p : ℕ) (c : Clause) → slice_get (clauses leveled g) p ≡ Some c → AreDeclaredIn declared c.parts)
-    high_declared low_declared;
-  done = λ g h i m. by_rule (λ x. In h (rule_meets leveled x) → In h []) (λ j. j) (λ j. j) g i m }
+      high_declared low_declared;
+  done = λ g h i m. by_rule (λ x. In h (rule_meets leveled x) → In h []) (λ j. j) (λ j. j) g i m;
+}
 
 -- so E's trees pair in two steps with those of the lowered grammar
 expression_in_two_steps : PairsInTwoSteps grammar leveled level_name origin name
-  (table (map (rule_of leveled name) (declared ++ []))) (reference expression None)
+    (table (map (rule_of leveled name) (declared ++ []))) (reference expression None)
 expression_in_two_steps = levels_two_steps grammar leveled level_name origin references grammar_resolved grammar_leveled
-  grammar_counts grammar_levels leveled_counts leveled_levels name _ declared [] (rules_realize leveled name declared [] leveled_stands)
-  (reference expression None) (inl refl) (inl refl)
+    grammar_counts grammar_levels leveled_counts leveled_levels name _ declared [] (rules_realize leveled name declared [] leveled_stands)
+    (reference expression None) (inl refl) (inl refl)

@@ -28,9 +28,9 @@ first_alternative parts _ = None
 -- A<I> = { "a" B<("." I)> }; B<I> = { "b" C<("," I)> }; C<I> = { "c" I };
 abbrev body : Name → ClosedSymbol → ClosedSymbols
 body m x =
-  if bytes_eq m (letter 65) then symbol_and (literal 97) (only (called 66 (pair (literal 46) x)))
-  else (if bytes_eq m (letter 66) then symbol_and (literal 98) (only (called 67 (pair (literal 44) x)))
-  else symbol_and (literal 99) (only x))
+    if bytes_eq m (letter 65) then symbol_and (literal 97) (only (called 66 (pair (literal 46) x)))
+    else (if bytes_eq m (letter 66) then symbol_and (literal 98) (only (called 67 (pair (literal 44) x)))
+    else symbol_and (literal 99) (only x))
 
 abbrev macro_parts : Name → ClosedSymbols → ℕ → Option ClosedSymbols
 macro_parts m (symbol_and x no_symbols) k = first_alternative (body m x) k
@@ -44,7 +44,8 @@ grammar_of parts = record {
   previous = λ m b. None;
   depth = λ m b. 0;
   call_parts = macro_parts;
-  call_count = λ m. 1 }
+  call_count = λ m. 1;
+}
 
 abbrev rule_d : List ClosedSymbol
 rule_d = reference (letter 68) None ∷ []
@@ -58,12 +59,12 @@ first_round = refl
 
 -- round 2 reads the rules of C, B and A, in this order; each call meets its argument's group before itself
 second_round : (expansion nested rule_d 1).fresh ≡
-  pair (literal 44) (literal 100) ∷ called 67 (pair (literal 44) (literal 100)) ∷
-  pair (literal 46) (literal 100) ∷ called 66 (pair (literal 46) (literal 100)) ∷ []
+    pair (literal 44) (literal 100) ∷ called 67 (pair (literal 44) (literal 100)) ∷
+    pair (literal 46) (literal 100) ∷ called 66 (pair (literal 46) (literal 100)) ∷ []
 second_round = refl
 
 third_round : (expansion nested rule_d 2).fresh ≡
-  pair (literal 44) (pair (literal 46) (literal 100)) ∷ called 67 (pair (literal 44) (pair (literal 46) (literal 100))) ∷ []
+    pair (literal 44) (pair (literal 46) (literal 100)) ∷ called 67 (pair (literal 44) (pair (literal 46) (literal 100))) ∷ []
 third_round = refl
 
 -- three rounds make nine rules, and a fourth has nothing new
@@ -93,9 +94,9 @@ optional = grammar_of (only (question (pair (literal 97) (wrapped chosen (litera
 
 -- the repeat is met last, so its rule stands first
 repeat_is_first : expanded_symbols optional rule_d 2 ≡
-  question (pair (literal 97) (wrapped chosen (literal 98))) ∷ pair (literal 97) (wrapped chosen (literal 98)) ∷ []
+    question (pair (literal 97) (wrapped chosen (literal 98))) ∷ pair (literal 97) (wrapped chosen (literal 98)) ∷ []
 repeat_is_first = refl
 
 group_is_not_first : expanded_symbols optional rule_d 2 ≡
-  pair (literal 97) (wrapped chosen (literal 98)) ∷ question (pair (literal 97) (wrapped chosen (literal 98))) ∷ [] → ⊥
+    pair (literal 97) (wrapped chosen (literal 98)) ∷ question (pair (literal 97) (wrapped chosen (literal 98))) ∷ [] → ⊥
 group_is_not_first h = cc h

@@ -1,6 +1,6 @@
 -- The test of sameness is a test of equality.
 use Rattle.std.proofs.Common.{◌≡◌, ℕ, List, refl, ap, ap₂}
-use Rattle.std.specs.Prelude.{Bool, true, false, not, nat_eq, bytes_eq, ◌&&◌, Option, Some, None}
+use Rattle.std.specs.Prelude.{Bool, true, false, bytes_eq, Option, Some, None}
 use Rattle.std.proofs.lemmas.Bool.{eqb-true, eq-eqb, and_parts, and_from}
 use Rattle.std.proofs.lemmas.Slice.Eq.{bytes_eq-Decides}
 use Rattle.lalrpop_norm_theory.specs.Symbols.{Terminal, quoted, regex, bare, error_terminal, ArgumentPattern, ArgumentPatterns, name_pattern, tuple_pattern, no_patterns, pattern_and, Wrapper, chosen, named, tuple, ClosedSymbol, ClosedSymbols, terminal, error, reference, call, group, star, plus, question, wrapped, lookahead, lookbehind, no_symbols, symbol_and}
@@ -49,14 +49,14 @@ bound_same (Some a) = eq-eqb a a refl
 mutual
   pattern_sound : (p q : ArgumentPattern) → same_pattern p q ≡ true → p ≡ q
   pattern_sound (name_pattern m a) (name_pattern n b) e =
-    let r = and_parts _ _ e in ap₂ name_pattern (flag_sound m n r.0) (text_sound a b r.1)
+      let r = and_parts _ _ e in ap₂ name_pattern (flag_sound m n r.0) (text_sound a b r.1)
   pattern_sound (tuple_pattern p) (tuple_pattern q) e = ap tuple_pattern (patterns_sound p q e)
   pattern_sound _ _ e = absurd (cc e)
 
   patterns_sound : (p q : ArgumentPatterns) → same_patterns p q ≡ true → p ≡ q
   patterns_sound no_patterns no_patterns e = refl
   patterns_sound (pattern_and p ps) (pattern_and q qs) e =
-    let r = and_parts _ _ e in ap₂ pattern_and (pattern_sound p q r.0) (patterns_sound ps qs r.1)
+      let r = and_parts _ _ e in ap₂ pattern_and (pattern_sound p q r.0) (patterns_sound ps qs r.1)
   patterns_sound _ _ e = absurd (cc e)
 
 mutual
@@ -84,14 +84,14 @@ mutual
   symbol_sound (terminal a) (terminal b) e = ap terminal (terminal_sound a b e)
   symbol_sound error error e = refl
   symbol_sound (reference n b) (reference m c) e =
-    let r = and_parts _ _ e in ap₂ reference (text_sound n m r.0) (bound_sound b c r.1)
+      let r = and_parts _ _ e in ap₂ reference (text_sound n m r.0) (bound_sound b c r.1)
   symbol_sound (call n x) (call m y) e = let r = and_parts _ _ e in ap₂ call (text_sound n m r.0) (symbols_sound x y r.1)
   symbol_sound (group x) (group y) e = ap group (symbols_sound x y e)
   symbol_sound (star x) (star y) e = ap star (symbol_sound x y e)
   symbol_sound (plus x) (plus y) e = ap plus (symbol_sound x y e)
   symbol_sound (question x) (question y) e = ap question (symbol_sound x y e)
   symbol_sound (wrapped v x) (wrapped w y) e =
-    let r = and_parts _ _ e in ap₂ wrapped (wrapper_sound v w r.0) (symbol_sound x y r.1)
+      let r = and_parts _ _ e in ap₂ wrapped (wrapper_sound v w r.0) (symbol_sound x y r.1)
   symbol_sound lookahead lookahead e = refl
   symbol_sound lookbehind lookbehind e = refl
   symbol_sound _ _ e = absurd (cc e)
@@ -99,7 +99,7 @@ mutual
   symbols_sound : (g h : ClosedSymbols) → same_symbols g h ≡ true → g ≡ h
   symbols_sound no_symbols no_symbols e = refl
   symbols_sound (symbol_and g gs) (symbol_and h hs) e =
-    let r = and_parts _ _ e in ap₂ symbol_and (symbol_sound g h r.0) (symbols_sound gs hs r.1)
+      let r = and_parts _ _ e in ap₂ symbol_and (symbol_sound g h r.0) (symbols_sound gs hs r.1)
   symbols_sound _ _ e = absurd (cc e)
 
 mutual

@@ -1,9 +1,8 @@
 -- Small trees and rules, computed: what holds of them, and what does not.
 use Rattle.std.proofs.Common.{◌≡◌, ℕ, zero, suc, List, [], ◌∷◌, refl, ap, arith}
-use Rattle.std.specs.Prelude.{nat_eq, nat_le, bytes_eq, if◌then◌else◌, ◌&&◌, Option, Some, None}
-use Rattle.lalrpop_norm_theory.specs.Symbols.{Name, Terminal, quoted, error_terminal, chosen, ClosedSymbol, ClosedSymbols, terminal, error, reference, call, group, star, plus, question, wrapped, no_symbols, symbol_and, only}
-use Rattle.lalrpop_norm_theory.specs.Meaning.{Meaning}
-use Rattle.lalrpop_norm_theory.specs.WrittenTrees.{WrittenTree, WrittenTrees, leaf, list, node, no_trees, tree_and, IsTreeOf, yield, alternatives}
+use Rattle.std.specs.Prelude.{Some, None}
+use Rattle.lalrpop_norm_theory.specs.Symbols.{Name, error_terminal, chosen, ClosedSymbol, ClosedSymbols, terminal, error, reference, call, group, star, plus, question, wrapped, no_symbols, symbol_and, only}
+use Rattle.lalrpop_norm_theory.specs.WrittenTrees.{WrittenTree, leaf, list, node, no_trees, tree_and, IsTreeOf, yield, alternatives}
 use Rattle.lalrpop_norm_theory.specs.LoweredTrees.{LoweredTree, lowered_leaf, lowered_node, no_lowered, lowered_and, LoweredGrammar, written, level_step, from_group, star_empty, star_some, plus_one, plus_more, question_some, question_empty, IsDerivation, nonterminal_symbol, lowered_yield, written_origins}
 use Rattle.lalrpop_norm_theory.specs.Clauses.{Clause, clause, clauses}
 use Rattle.lalrpop_norm_theory.specs.Pairs.{Pairs, terminal_pair, plus_one_pair, plus_more_pair}
@@ -31,9 +30,9 @@ sum_is_above h = none_some h.2
 
 sum_is_left : IsTreeOf grammar right_sum (reference expression None) → ⊥
 sum_is_left (same, parts, at, hs) =
-  let is : sum_parts ≡ parts = cc at in
-  let children = rw (← is) at hs in
-  sum_is_above children.1.1.0
+    let is : sum_parts ≡ parts = cc at in
+    let children = rw (← is) at hs in
+    sum_is_above children.1.1.0
 
 sum_yield : yield one_sum ≡ number ∷ sign ∷ number ∷ []
 sum_yield = refl
@@ -47,6 +46,7 @@ sum_alternatives_order h = differ _ (ap first_number h) refl
   where
     differ : (k : ℕ) → k ≡ 0 → k ≡ 1 → ⊥
     differ k e f = omega arith
+
     first_number : List (Name × ℕ) → ℕ
     first_number [] = 0
     first_number (p ∷ ps) = p.1
@@ -79,40 +79,41 @@ none_are_too_few h = h.0
 
 -- The rules of the symbols.
 star_clauses : clauses grammar (star (terminal number)) ≡
-  clause star_empty no_symbols ∷ (clause star_some (only (plus (terminal number))) ∷ [])
+    clause star_empty no_symbols ∷ (clause star_some (only (plus (terminal number))) ∷ [])
 star_clauses = refl
 
 plus_clauses : clauses grammar (plus (terminal number)) ≡
-  clause plus_one (only (terminal number)) ∷ (clause plus_more (symbol_and (plus (terminal number)) (only (terminal number))) ∷ [])
+    clause plus_one (only (terminal number)) ∷ (clause plus_more (symbol_and (plus (terminal number)) (only (terminal number))) ∷ [])
 plus_clauses = refl
 
 plus_is_not_doubled : clauses grammar (plus (terminal number)) ≡
-  clause plus_one (only (terminal number)) ∷ (clause plus_more (symbol_and (plus (terminal number)) (only (plus (terminal number)))) ∷ []) → ⊥
+    clause plus_one (only (terminal number)) ∷ (clause plus_more (symbol_and (plus (terminal number)) (only (plus (terminal number)))) ∷ []) → ⊥
 plus_is_not_doubled h = let same : terminal number ≡ plus (terminal number) = ap (λ cs. second_of (parts_at cs)) h in cc same
   where
     parts_at : List Clause → ClosedSymbols
     parts_at (c ∷ (d ∷ cs)) = d.parts
     parts_at _ = no_symbols
+
     second_of : ClosedSymbols → ClosedSymbol
     second_of (symbol_and g (symbol_and h gs)) = h
     second_of _ = error
 
 question_clauses : clauses grammar (question (terminal number)) ≡
-  clause question_some (only (terminal number)) ∷ (clause question_empty no_symbols ∷ [])
+    clause question_some (only (terminal number)) ∷ (clause question_empty no_symbols ∷ [])
 question_clauses = refl
 
 group_clauses : clauses grammar (group (symbol_and error (only (terminal sign)))) ≡
-  clause from_group (symbol_and error (only (terminal sign))) ∷ []
+    clause from_group (symbol_and error (only (terminal sign))) ∷ []
 group_clauses = refl
 
 -- the alternative with a false condition has no clause, and the other keeps its number
 call_clauses : clauses grammar (call pick (only (terminal number))) ≡
-  clause (written pick 1) (symbol_and (terminal number) (only (terminal number))) ∷ []
+    clause (written pick 1) (symbol_and (terminal number) (only (terminal number))) ∷ []
 call_clauses = refl
 
 -- the alternatives of the higher level, then the step to the lower one
 level_clauses : clauses grammar (reference expression None) ≡
-  clause (written expression 1) sum_parts ∷
+    clause (written expression 1) sum_parts ∷
     (clause level_step (only (within 1)) ∷ [])
 level_clauses = refl
 
@@ -129,17 +130,17 @@ name g = []
 -- the first element stands innermost
 abbrev left_leaning_two : LoweredTree
 left_leaning_two = lowered_node (43 ∷ []) 1
-  (lowered_and (lowered_node (43 ∷ []) 0 (lowered_and (lowered_leaf number) no_lowered)) (lowered_and (lowered_leaf number) no_lowered))
+    (lowered_and (lowered_node (43 ∷ []) 0 (lowered_and (lowered_leaf number) no_lowered)) (lowered_and (lowered_leaf number) no_lowered))
 
 two_pair : Pairs grammar name (plus (terminal number)) two_numbers left_leaning_two
 two_pair = plus_more_pair (terminal number) (tree_and (leaf number) no_trees) (leaf number) _ _
-  (plus_one_pair (terminal number) (leaf number) (lowered_leaf number) (terminal_pair number)) (terminal_pair number)
+    (plus_one_pair (terminal number) (leaf number) (lowered_leaf number) (terminal_pair number)) (terminal_pair number)
 
 two_lowered : lowered_tree grammar name two_numbers (plus (terminal number)) ≡ left_leaning_two
 two_lowered = refl
 
 two_lean_left : lowered_tree grammar name two_numbers (plus (terminal number)) ≡
-  lowered_node (43 ∷ []) 1 (lowered_and (lowered_leaf number) (lowered_and (lowered_node (43 ∷ []) 0 (lowered_and (lowered_leaf number) no_lowered)) no_lowered)) → ⊥
+    lowered_node (43 ∷ []) 1 (lowered_and (lowered_leaf number) (lowered_and (lowered_node (43 ∷ []) 0 (lowered_and (lowered_leaf number) no_lowered)) no_lowered)) → ⊥
 two_lean_left h = cc h
 
 -- E 0 stands below a step, within the bound and without one
@@ -160,7 +161,7 @@ lowered_grammar = table (rule_of grammar name (within 2) ∷ rule_of grammar nam
 
 sum_is_derivation : IsDerivation lowered_grammar lowered_sum (nonterminal_symbol expression)
 sum_is_derivation =
-  (refl, _, refl, ((refl, _, refl, ((refl, _, refl, (refl, tt)), tt)), (refl, ((refl, _, refl, (refl, tt)), tt))))
+    (refl, _, refl, ((refl, _, refl, ((refl, _, refl, (refl, tt)), tt)), (refl, ((refl, _, refl, (refl, tt)), tt))))
 
 sum_read_back : written_tree lowered_grammar lowered_sum ≡ one_sum
 sum_read_back = refl

@@ -28,22 +28,22 @@ pub record OneToOne (M : Meaning) (name : ClosedSymbol → Name) (P : LoweredGra
 -- In a lowered grammar that realizes the known symbols, the trees of each known symbol are one to one.
 abbrev pub TreesAreOneToOne : Type 0
 TreesAreOneToOne = (M : Meaning) → HasCounts M → HasLevels M →
-  (name : ClosedSymbol → Name) (P : LoweredGrammar) (declared met : List ClosedSymbol) → Realizes M name P (IsKnown declared met) →
-  (g : ClosedSymbol) → IsKnown declared met g → OneToOne M name P g
+    (name : ClosedSymbol → Name) (P : LoweredGrammar) (declared met : List ClosedSymbol) → Realizes M name P (IsKnown declared met) →
+    (g : ClosedSymbol) → IsKnown declared met g → OneToOne M name P g
 
 -- A word has a written tree exactly where it has a lowered one.
 abbrev pub WordsAreTheSame : Type 0
 WordsAreTheSame = (M : Meaning) → HasCounts M → HasLevels M →
-  (name : ClosedSymbol → Name) (P : LoweredGrammar) (declared met : List ClosedSymbol) → Realizes M name P (IsKnown declared met) →
-  (g : ClosedSymbol) → IsKnown declared met g → (w : List Terminal) →
-  ((t : WrittenTree) × IsTreeOf M t g × (yield t ≡ w)) ↔ ((u : LoweredTree) × IsDerivation P u (symbol_of name g) × (lowered_yield u ≡ w))
+    (name : ClosedSymbol → Name) (P : LoweredGrammar) (declared met : List ClosedSymbol) → Realizes M name P (IsKnown declared met) →
+    (g : ClosedSymbol) → IsKnown declared met g → (w : List Terminal) →
+    ((t : WrittenTree) × IsTreeOf M t g × (yield t ≡ w)) ↔ ((u : LoweredTree) × IsDerivation P u (symbol_of name g) × (lowered_yield u ≡ w))
 
 -- the translations answer trees that pair with their arguments, and each undoes the other
 pub record TranslationsFit (M : Meaning) (name : ClosedSymbol → Name) (P : LoweredGrammar) (g : ClosedSymbol) : Type 0 where
   pub forward : (t : WrittenTree) → IsTreeOf M t g →
-    IsDerivation P (lowered_tree M name t g) (symbol_of name g) × Pairs M name g t (lowered_tree M name t g)
+      IsDerivation P (lowered_tree M name t g) (symbol_of name g) × Pairs M name g t (lowered_tree M name t g)
   pub back : (u : LoweredTree) → IsDerivation P u (symbol_of name g) →
-    IsTreeOf M (written_tree P u) g × Pairs M name g (written_tree P u) u
+      IsTreeOf M (written_tree P u) g × Pairs M name g (written_tree P u) u
   pub back_forward : (t : WrittenTree) → IsTreeOf M t g → written_tree P (lowered_tree M name t g) ≡ t
   pub forward_back : (u : LoweredTree) → IsDerivation P u (symbol_of name g) → lowered_tree M name (written_tree P u) g ≡ u
   -- what pairs is what the translations make of one another
@@ -51,13 +51,13 @@ pub record TranslationsFit (M : Meaning) (name : ClosedSymbol → Name) (P : Low
 
 abbrev pub TranslationsAreInverse : Type 0
 TranslationsAreInverse = (M : Meaning) → HasCounts M → HasLevels M →
-  (name : ClosedSymbol → Name) (P : LoweredGrammar) (declared met : List ClosedSymbol) → Realizes M name P (IsKnown declared met) →
-  (g : ClosedSymbol) → IsKnown declared met g → TranslationsFit M name P g
+    (name : ClosedSymbol → Name) (P : LoweredGrammar) (declared met : List ClosedSymbol) → Realizes M name P (IsKnown declared met) →
+    (g : ClosedSymbol) → IsKnown declared met g → TranslationsFit M name P g
 
 -- The rules of an expansion in which each name means one rule are a lowered grammar that realizes its symbols.
 abbrev pub RulesRealize : Type 0
 RulesRealize = (M : Meaning) (name : ClosedSymbol → Name) (declared met : List ClosedSymbol) → Stands M name declared met →
-  Realizes M name (table (map (rule_of M name) (declared ++ met))) (IsKnown declared met)
+    Realizes M name (table (map (rule_of M name) (declared ++ met))) (IsKnown declared met)
 
 -- the written trees of g and the trees of the grammar with levels stand one to one, with the same words and alternatives
 pub record StepsAreOneToOne (M L : Meaning) (l : Name → ℕ → Name) (origin : Name → ℕ → Origin) (g : ClosedSymbol) : Type 0 where
@@ -77,41 +77,41 @@ pub record PairsInTwoSteps (M L : Meaning) (l : Name → ℕ → Name) (origin :
   pub second : OneToOne L name P (leveled_symbol l g)
   pub whole : OneToOne M (level_named l name) (recomposed origin P) g
   pub joined : (t m : WrittenTree) (u : LoweredTree) → Steps M l g t m → Pairs L name (leveled_symbol l g) m u →
-    Pairs M (level_named l name) g t u
+      Pairs M (level_named l name) g t u
   pub parted : (t : WrittenTree) (u : LoweredTree) → Pairs M (level_named l name) g t u →
-    (m : WrittenTree) × Steps M l g t m × Pairs L name (leveled_symbol l g) m u
+      (m : WrittenTree) × Steps M l g t m × Pairs L name (leveled_symbol l g) m u
 
 abbrev pub LevelsAreTwoSteps : Type 0
 LevelsAreTwoSteps = (M L : Meaning) (l : Name → ℕ → Name) (origin : Name → ℕ → Origin) (references : List ClosedSymbol) →
-  IsResolved M references → IsLeveled M L l origin references → HasCounts M → HasLevels M → HasCounts L → HasLevels L →
-  (name : ClosedSymbol → Name) (P : LoweredGrammar) (declared met : List ClosedSymbol) → Realizes L name P (IsKnown declared met) →
-  (g : ClosedSymbol) → IsResolvedIn references g → IsKnown declared met (leveled_symbol l g) → PairsInTwoSteps M L l origin name P g
+    IsResolved M references → IsLeveled M L l origin references → HasCounts M → HasLevels M → HasCounts L → HasLevels L →
+    (name : ClosedSymbol → Name) (P : LoweredGrammar) (declared met : List ClosedSymbol) → Realizes L name P (IsKnown declared met) →
+    (g : ClosedSymbol) → IsResolvedIn references g → IsKnown declared met (leveled_symbol l g) → PairsInTwoSteps M L l origin name P g
 
 -- What is new in round k + 1 is what has a chain of k + 1 rules and no shorter one.
 abbrev pub RoundsAreShortestChains : Type 0
 RoundsAreShortestChains = (M : Meaning) (declared : List ClosedSymbol) (k : ℕ) (x : ClosedSymbol) →
-  In x (expansion M declared k).fresh ↔ NewIn (rule_meets M) (flat_map (rule_meets M) declared) k x
+    In x (expansion M declared k).fresh ↔ NewIn (rule_meets M) (flat_map (rule_meets M) declared) k x
 
 -- What is new in a round stands in the order of first meeting: round 1 meets what the declared symbols' rules meet, a later
 -- round what the rules meet that the one before made, these read in the reverse order of first meeting.
 abbrev pub RoundsAreInOrder : Type 0
 RoundsAreInOrder = (M : Meaning) (declared : List ClosedSymbol) →
-  IsInOrderOf (expansion M declared 0).fresh (flat_map (rule_meets M) declared)
-  × ((k : ℕ) → IsInOrderOf (expansion M declared (suc k)).fresh (flat_map (rule_meets M) (reverse (expansion M declared k).fresh)))
+    IsInOrderOf (expansion M declared 0).fresh (flat_map (rule_meets M) declared)
+    × ((k : ℕ) → IsInOrderOf (expansion M declared (suc k)).fresh (flat_map (rule_meets M) (reverse (expansion M declared k).fresh)))
 
 -- Exactly one rule is made of each symbol that is new in some round, and none of any other.
 abbrev pub RulesAreMadeOnce : Type 0
 RulesAreMadeOnce = (M : Meaning) (declared : List ClosedSymbol) (count : ℕ) →
-  IsDistinct (expanded_symbols M declared count)
-  × ((x : ClosedSymbol) → In x (expanded_symbols M declared count)
+    IsDistinct (expanded_symbols M declared count)
+    × ((x : ClosedSymbol) → In x (expanded_symbols M declared count)
     ↔ ((k : ℕ) × (k < count) × NewIn (rule_meets M) (flat_map (rule_meets M) declared) k x))
 
 -- What a symbol meets has a chain wherever the symbol itself has one: so an argument put into the body of a macro meets
 -- nothing there that the call did not meet.
 abbrev pub PartsAreMetNoLater : Type 0
 PartsAreMetNoLater = (M : Meaning) (declared : List ClosedSymbol) (k : ℕ) (g h : ClosedSymbol) →
-  Chain (rule_meets M) (flat_map (rule_meets M) declared) k g → In h (meets g) →
-  Chain (rule_meets M) (flat_map (rule_meets M) declared) k h
+    Chain (rule_meets M) (flat_map (rule_meets M) declared) k g → In h (meets g) →
+    Chain (rule_meets M) (flat_map (rule_meets M) declared) k h
 
 -- an expansion in which round k + 1 adds nothing
 pub record IsWhole (M : Meaning) (declared met : List ClosedSymbol) : Type 0 where
@@ -124,17 +124,17 @@ pub record IsWhole (M : Meaning) (declared met : List ClosedSymbol) : Type 0 whe
 
 abbrev pub NothingNewIsWhole : Type 0
 NothingNewIsWhole = (M : Meaning) (declared : List ClosedSymbol) (k : ℕ) → (expansion M declared k).fresh ≡ [] →
-  IsWhole M declared (expansion M declared k).seen
+    IsWhole M declared (expansion M declared k).seen
 
 -- Where a resolved expansion has nothing new and each name means one rule, its rules stand. Roots may share the rule of a
 -- declared symbol, as a rule taken by itself has that of its highest level.
 abbrev pub ExpansionsStand : Type 0
 ExpansionsStand = (M : Meaning) → HasLevels M → (roots declared : List ClosedSymbol) → IsResolved M declared →
-  ((g : ClosedSymbol) → In g declared → IsResolvedIn declared g) →
-  ((g : ClosedSymbol) → In g roots → (h : ClosedSymbol) × In h declared × (clauses M g ≡ clauses M h)) →
-  (k : ℕ) → (expansion M declared k).fresh ≡ [] →
-  (name : ClosedSymbol → Name) → OneRuleAName M name ((roots ++ declared) ++ (expansion M declared k).seen) →
-  Stands M name (roots ++ declared) (expansion M declared k).seen
+    ((g : ClosedSymbol) → In g declared → IsResolvedIn declared g) →
+    ((g : ClosedSymbol) → In g roots → (h : ClosedSymbol) × In h declared × (clauses M g ≡ clauses M h)) →
+    (k : ℕ) → (expansion M declared k).fresh ≡ [] →
+    (name : ClosedSymbol → Name) → OneRuleAName M name ((roots ++ declared) ++ (expansion M declared k).seen) →
+    Stands M name (roots ++ declared) (expansion M declared k).seen
 
 -- Two closed symbols pass the test of sameness exactly where they are equal.
 abbrev pub SameIsEqual : Type 0

@@ -38,7 +38,7 @@ abbrev mutual
   pub IsDerivation : LoweredGrammar → LoweredTree → LoweredSymbol → Type 0
   IsDerivation P (lowered_leaf a) s = s ≡ terminal_symbol a
   IsDerivation P (lowered_node n p us) s =
-    (s ≡ nonterminal_symbol n) × (q : Production) × (slice_get (P n) p ≡ Some q) × AreDerivations P us q.symbols
+      (s ≡ nonterminal_symbol n) × (q : Production) × (slice_get (P n) p ≡ Some q) × AreDerivations P us q.symbols
 
   pub AreDerivations : LoweredGrammar → LoweredTrees → List LoweredSymbol → Type 0
   AreDerivations P no_lowered [] = Unit {0}

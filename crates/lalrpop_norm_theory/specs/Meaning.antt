@@ -28,9 +28,9 @@ pub record HasLevels (M : Meaning) : Type 0 where
   pub deeper : (n : Name) (b c : Option ℕ) → M.previous n b ≡ Some c → M.depth n c < M.depth n b
   pub own : (n : Name) (b : Option ℕ) (k : ℕ) (parts : ClosedSymbols) → M.own_parts n b k ≡ Some parts → M.reference_parts n b k ≡ Some parts
   pub chained : (n : Name) (b c : Option ℕ) (k : ℕ) (parts : ClosedSymbols) → M.previous n b ≡ Some c →
-    M.reference_parts n c k ≡ Some parts → M.reference_parts n b k ≡ Some parts
+      M.reference_parts n c k ≡ Some parts → M.reference_parts n b k ≡ Some parts
   pub apart : (n : Name) (b c : Option ℕ) (k : ℕ) (parts : ClosedSymbols) → M.previous n b ≡ Some c →
-    M.reference_parts n c k ≡ Some parts → M.own_parts n b k ≡ None
+      M.reference_parts n c k ≡ Some parts → M.own_parts n b k ≡ None
   pub split : (n : Name) (b : Option ℕ) (k : ℕ) (parts : ClosedSymbols) → M.reference_parts n b k ≡ Some parts →
-    (M.own_parts n b k ≡ Some parts) ⊎
-    ((c : Option ℕ) × (M.own_parts n b k ≡ None) × (M.previous n b ≡ Some c) × (M.reference_parts n c k ≡ Some parts))
+      (M.own_parts n b k ≡ Some parts) ⊎
+      ((c : Option ℕ) × (M.own_parts n b k ≡ None) × (M.previous n b ≡ Some c) × (M.reference_parts n c k ≡ Some parts))

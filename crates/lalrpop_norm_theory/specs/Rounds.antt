@@ -15,7 +15,7 @@ is_in same x (y ∷ ys) = same x y || is_in same x ys
 abbrev pub fresh_of : {A : Type 0} → (A → A → Bool) → List A → List A → List A
 fresh_of same seen [] = []
 fresh_of same seen (x ∷ xs) =
-  if is_in same x seen then fresh_of same seen xs else x ∷ fresh_of same (x ∷ seen) xs
+    if is_in same x seen then fresh_of same seen xs else x ∷ fresh_of same (x ∷ seen) xs
 
 -- after some rounds: what was new before the last of them, and what is new in the last, in the order of first meeting
 pub record Round (A : Type 0) : Type 0 where
@@ -29,7 +29,8 @@ rules_made r = reverse r.fresh
 abbrev pub next_round : {A : Type 0} → (A → A → Bool) → (A → List A) → Round A → Round A
 next_round same meets r = record {
   seen = r.seen ++ r.fresh;
-  fresh = fresh_of same (r.seen ++ r.fresh) (flat_map meets (rules_made r)) }
+  fresh = fresh_of same (r.seen ++ r.fresh) (flat_map meets (rules_made r));
+}
 
 -- the state after round k + 1: round 1 meets `start`
 abbrev pub rounds : {A : Type 0} → (A → A → Bool) → (A → List A) → List A → ℕ → Round A
@@ -62,7 +63,7 @@ IsFirstAt x xs j = (slice_get xs j ≡ Some x) × ((i : ℕ) → i < j → slice
 -- what stands before in the first list is first met before in the second
 abbrev pub IsInOrderOf : {A : Type 0} → List A → List A → Type 0
 IsInOrderOf {A} fresh met = (p q i j : ℕ) (x y : A) → slice_get fresh p ≡ Some x → slice_get fresh q ≡ Some y →
-  IsFirstAt x met i → IsFirstAt y met j → p < q → i < j
+    IsFirstAt x met i → IsFirstAt y met j → p < q → i < j
 
 -- a test of equality
 pub record IsTest {A : Type 0} (same : A → A → Bool) : Type 0 where

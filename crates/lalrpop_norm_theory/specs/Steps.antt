@@ -22,25 +22,25 @@ mutual
     plus_kept : (x : ClosedSymbol) (ts ms : WrittenTrees) → IsNonempty ts → EachSteps M l x ts ms → Steps M l (plus x) (list ts) (list ms)
     question_kept : (x : ClosedSymbol) (ts ms : WrittenTrees) → IsAtMostOne ts → EachSteps M l x ts ms → Steps M l (question x) (list ts) (list ms)
     call_kept : (n : Name) (k : ℕ) (args parts : ClosedSymbols) (ts ms : WrittenTrees) → M.call_parts n args k ≡ Some parts →
-      AllSteps M l parts ts ms → Steps M l (call n args) (node n k ts) (node n k ms)
+        AllSteps M l parts ts ms → Steps M l (call n args) (node n k ts) (node n k ms)
     at_level : (n : Name) (k p : ℕ) (b : Option ℕ) (parts : ClosedSymbols) (ts ms : WrittenTrees) → M.own_parts n b k ≡ Some parts →
-      slice_get (clauses M (reference n b)) p ≡ Some (clause (written n k) parts) →
-      AllSteps M l parts ts ms → Steps M l (reference n b) (node n k ts) (node (level_reference l n b) p ms)
+        slice_get (clauses M (reference n b)) p ≡ Some (clause (written n k) parts) →
+        AllSteps M l parts ts ms → Steps M l (reference n b) (node n k ts) (node (level_reference l n b) p ms)
     below_level : (n : Name) (p : ℕ) (b c : Option ℕ) (t m : WrittenTree) → M.previous n b ≡ Some c →
-      slice_get (clauses M (reference n b)) p ≡ Some (clause level_step (only (reference n c))) →
-      Steps M l (reference n c) t m → Steps M l (reference n b) t (node (level_reference l n b) p (tree_and m no_trees))
+        slice_get (clauses M (reference n b)) p ≡ Some (clause level_step (only (reference n c))) →
+        Steps M l (reference n c) t m → Steps M l (reference n b) t (node (level_reference l n b) p (tree_and m no_trees))
 
   -- one by one, symbol by symbol
   pub data AllSteps (M : Meaning) (l : Name → ℕ → Name) : ClosedSymbols → WrittenTrees → WrittenTrees → Type 0 where
     all_done : AllSteps M l no_symbols no_trees no_trees
     all_and : (g : ClosedSymbol) (gs : ClosedSymbols) (t : WrittenTree) (ts : WrittenTrees) (m : WrittenTree) (ms : WrittenTrees) →
-      Steps M l g t m → AllSteps M l gs ts ms → AllSteps M l (symbol_and g gs) (tree_and t ts) (tree_and m ms)
+        Steps M l g t m → AllSteps M l gs ts ms → AllSteps M l (symbol_and g gs) (tree_and t ts) (tree_and m ms)
 
   -- one by one, all of one symbol
   pub data EachSteps (M : Meaning) (l : Name → ℕ → Name) : ClosedSymbol → WrittenTrees → WrittenTrees → Type 0 where
     each_done : (x : ClosedSymbol) → EachSteps M l x no_trees no_trees
     each_and : (x : ClosedSymbol) (t : WrittenTree) (ts : WrittenTrees) (m : WrittenTree) (ms : WrittenTrees) →
-      Steps M l x t m → EachSteps M l x ts ms → EachSteps M l x (tree_and t ts) (tree_and m ms)
+        Steps M l x t m → EachSteps M l x ts ms → EachSteps M l x (tree_and t ts) (tree_and m ms)
 
 -- back, by the origins: the written tree of a tree of the grammar with levels
 abbrev mutual
@@ -78,7 +78,7 @@ step_level M l n b (Some c) below = node (level_reference l n b) (length (own_cl
 abbrev pub leveled_rule : Meaning → (Name → ℕ → Name) → Name → ℕ → (ClosedSymbols → WrittenTrees) → ℕ → Option ℕ → WrittenTree
 leveled_rule M l n k children zero b = own_level M l n k children b (M.own_parts n b k) nothing
 leveled_rule M l n k children (suc depth) b =
-  own_level M l n k children b (M.own_parts n b k)
+    own_level M l n k children b (M.own_parts n b k)
     (step_level M l n b (M.previous n b) (λ c. leveled_rule M l n k children depth c))
 
 -- the tree in the grammar with levels of a written tree of a closed symbol

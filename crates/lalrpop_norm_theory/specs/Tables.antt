@@ -42,6 +42,6 @@ pub record Stands (M : Meaning) (name : ClosedSymbol → Name) (declared met : L
   pub distinct : OneRuleAName M name (declared ++ met)
   -- each reference in a rule is declared
   pub resolved : (g : ClosedSymbol) → In g (declared ++ met) → (p : ℕ) (c : Clause) → slice_get (clauses M g) p ≡ Some c →
-    AreDeclaredIn declared c.parts
+      AreDeclaredIn declared c.parts
   -- what a rule meets is met
   pub done : (g h : ClosedSymbol) → In g (declared ++ met) → In h (rule_meets M g) → In h met

@@ -63,17 +63,17 @@ place f k (suc number) = counted (f k) (place f (suc k) number)
 abbrev pub own_node : Meaning → (ClosedSymbol → Name) → Name → ℕ → (ClosedSymbols → LoweredTrees) → Option ℕ → Option ClosedSymbols → LoweredTree → LoweredTree
 own_node M name n k children b None below = below
 own_node M name n k children b (Some parts) below =
-  lowered_node (name (reference n b)) (place (M.own_parts n b) 0 k) (children parts)
+    lowered_node (name (reference n b)) (place (M.own_parts n b) 0 k) (children parts)
 
 abbrev pub step_node : Meaning → (ClosedSymbol → Name) → Name → Option ℕ → Option (Option ℕ) → (Option ℕ → LoweredTree) → LoweredTree
 step_node M name n b None below = lowered_leaf error_terminal
 step_node M name n b (Some c) below =
-  lowered_node (name (reference n b)) (length (own_clauses M n b)) (lowered_and (below c) no_lowered)
+    lowered_node (name (reference n b)) (length (own_clauses M n b)) (lowered_and (below c) no_lowered)
 
 abbrev pub lowered_rule : Meaning → (ClosedSymbol → Name) → Name → ℕ → (ClosedSymbols → LoweredTrees) → ℕ → Option ℕ → LoweredTree
 lowered_rule M name n k children zero b = own_node M name n k children b (M.own_parts n b k) (lowered_leaf error_terminal)
 lowered_rule M name n k children (suc depth) b =
-  own_node M name n k children b (M.own_parts n b k)
+    own_node M name n k children b (M.own_parts n b k)
     (step_node M name n b (M.previous n b) (λ c. lowered_rule M name n k children depth c))
 
 abbrev pub lowered_star : (ClosedSymbol → Name) → WrittenTrees → ClosedSymbol → LoweredTree → LoweredTree
@@ -88,7 +88,7 @@ lowered_question name x (lowered_and u us) = lowered_node (name (question x)) 0 
 abbrev pub extended : (ClosedSymbol → Name) → ClosedSymbol → LoweredTree → LoweredTrees → LoweredTree
 extended name x before no_lowered = before
 extended name x before (lowered_and u us) =
-  extended name x (lowered_node (name (plus x)) 1 (lowered_and before (lowered_and u no_lowered))) us
+    extended name x (lowered_node (name (plus x)) 1 (lowered_and before (lowered_and u no_lowered))) us
 
 -- the tree under `X+` over the trees us, leaning to the left
 abbrev pub left_leaning : (ClosedSymbol → Name) → ClosedSymbol → LoweredTrees → LoweredTree
@@ -108,9 +108,9 @@ abbrev mutual
   lowered_tree M name (list ts) (plus x) = left_leaning name x (lowered_each M name ts x)
   lowered_tree M name (list ts) (question x) = lowered_question name x (lowered_each M name ts x)
   lowered_tree M name (node n k ts) (reference m b) =
-    lowered_rule M name m k (λ gs. lowered_all M name ts gs) (M.depth m b) b
+      lowered_rule M name m k (λ gs. lowered_all M name ts gs) (M.depth m b) b
   lowered_tree M name (node n k ts) (call m args) =
-    lowered_node (name (call m args)) (place (M.call_parts m args) 0 k)
+      lowered_node (name (call m args)) (place (M.call_parts m args) 0 k)
       (lowered_all M name ts (unwrap_or (M.call_parts m args k) no_symbols))
   lowered_tree M name _ _ = lowered_leaf error_terminal
 

@@ -38,9 +38,9 @@ abbrev mutual
   IsTreeOf M (list ts) (plus x) = IsNonempty ts × EachTreeOf M ts x
   IsTreeOf M (list ts) (question x) = IsAtMostOne ts × EachTreeOf M ts x
   IsTreeOf M (node n k ts) (reference m b) =
-    (n ≡ m) × (parts : ClosedSymbols) × (M.reference_parts m b k ≡ Some parts) × AreTreesOf M ts parts
+      (n ≡ m) × (parts : ClosedSymbols) × (M.reference_parts m b k ≡ Some parts) × AreTreesOf M ts parts
   IsTreeOf M (node n k ts) (call m args) =
-    (n ≡ m) × (parts : ClosedSymbols) × (M.call_parts m args k ≡ Some parts) × AreTreesOf M ts parts
+      (n ≡ m) × (parts : ClosedSymbols) × (M.call_parts m args k ≡ Some parts) × AreTreesOf M ts parts
   IsTreeOf M _ _ = ⊥
 
   -- one tree for each symbol
