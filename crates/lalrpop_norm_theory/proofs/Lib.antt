@@ -10,6 +10,7 @@ pub mod Trees
 pub mod Expansion
 pub mod LeveledTrees
 pub mod MadeLemmas
+pub mod ViewedLemmas
 pub mod ExampleGrammar
 pub mod TreeExamples
 pub mod RoundExamples
