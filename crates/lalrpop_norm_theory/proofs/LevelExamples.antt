@@ -225,9 +225,10 @@ one_rule = by_rule (λ g. (h : ClosedSymbol) → In h (declared ++ []) → name 
     (by_rule (λ h. name (reference lower_expression None) ≡ name h → clauses leveled (reference lower_expression None) ≡ clauses leveled h)
     (λ e. absurd (names_apart (sym e))) (λ e. refl))
 
-leveled_stands : Stands leveled name declared []
+leveled_stands : Stands leveled name [] declared []
 leveled_stands = record {
   distinct = λ g h i j e. one_rule g i h j e;
+  shared = λ g i. absurd i;
   resolved = by_rule (λ g. (p : ℕ) (c : Clause) → slice_get (clauses leveled g) p ≡ Some c → AreDeclaredIn declared c.parts)
       high_declared low_declared;
   done = λ g h i m. by_rule (λ x. In h (rule_meets leveled x) → In h []) (λ j. j) (λ j. j) g i m;
@@ -237,5 +238,5 @@ leveled_stands = record {
 expression_in_two_steps : PairsInTwoSteps grammar leveled level_name origin name
     (table (map (rule_of leveled name) (declared ++ []))) (reference expression None)
 expression_in_two_steps = levels_two_steps grammar leveled level_name origin references grammar_resolved grammar_leveled
-    grammar_counts grammar_levels leveled_counts leveled_levels name _ declared [] (rules_realize leveled name declared [] leveled_stands)
+    grammar_counts grammar_levels leveled_counts leveled_levels name _ declared [] (rules_realize leveled name [] declared [] leveled_stands)
     (reference expression None) (inl refl) (inl refl)

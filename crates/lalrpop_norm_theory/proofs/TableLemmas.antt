@@ -8,7 +8,8 @@ use Rattle.lalrpop_norm_theory.specs.Clauses.{Clause, clauses, production_of, Is
 use Rattle.lalrpop_norm_theory.specs.Rounds.{In}
 use Rattle.lalrpop_norm_theory.specs.Met.{meets, meets_all, clauses_meet, IsKnown, IsDeclaredIn, AreDeclaredIn}
 use Rattle.lalrpop_norm_theory.specs.Tables.{AllKnown, Realizes, Stands, table, rule_of}
-use Rattle.lalrpop_norm_theory.proofs.RoundsLemmas.{in_left, in_right}
+use Rattle.lalrpop_norm_theory.specs.Laws.{RulesRealize}
+use Rattle.lalrpop_norm_theory.proofs.RoundsLemmas.{in_left, in_right, in_cases}
 use Rattle.lalrpop_norm_theory.proofs.SameLemmas.{text_sound, text_same}
 
 -- the rule that stands under a symbol's name is the symbol's
@@ -71,14 +72,45 @@ nonterminal_of M error p c e = absurd (grind arith)
 nonterminal_of M (wrapped w g) p c e = absurd (grind arith)
 nonterminal_of M _ p c e = tt
 
-pub rules_realize : (M : Meaning) (name : ClosedSymbol → Name) (declared met : List ClosedSymbol) → Stands M name declared met →
-    Realizes M name (table (map (rule_of M name) (declared ++ met))) (IsKnown declared met)
-rules_realize M name declared met S = record {
-  productions = λ g n k.
-      let here : In g (declared ++ met) = known_listed declared met g n k in
-      named_rule M name (declared ++ met) g here (λ h i s. S.distinct h g i here s);
-  inner = λ w g k. k;
-  parts_known = λ g p c k e.
-      let here : In g (declared ++ met) = known_listed declared met g (nonterminal_of M g p c e) k in
-      all_known_from declared met c.parts (λ h i. S.done g h here (clause_meets (clauses M g) p c e h i)) (S.resolved g here p c e);
-}
+known_more : (roots declared met : List ClosedSymbol) (g : ClosedSymbol) → IsKnown declared met g → IsKnown (roots ++ declared) met g
+known_more roots declared met (terminal a) k = tt
+known_more roots declared met error k = tt
+known_more roots declared met (reference m b) k = in_right (reference m b) roots declared k
+known_more roots declared met (wrapped w g) k = known_more roots declared met g k
+known_more roots declared met (call m args) k = k
+known_more roots declared met (group gs) k = k
+known_more roots declared met (star x) k = k
+known_more roots declared met (plus x) k = k
+known_more roots declared met (question x) k = k
+known_more roots declared met lookahead k = k
+known_more roots declared met lookbehind k = k
+
+all_known_more : (roots declared met : List ClosedSymbol) (gs : ClosedSymbols) → AllKnown (IsKnown declared met) gs →
+  AllKnown (IsKnown (roots ++ declared) met) gs
+all_known_more roots declared met no_symbols k = tt
+all_known_more roots declared met (symbol_and g gs) k = (known_more roots declared met g k.0, all_known_more roots declared met gs k.1)
+
+module _ (M : Meaning) (name : ClosedSymbol → Name) (roots declared met : List ClosedSymbol) (S : Stands M name roots declared met) where
+  -- a known nonterminal has the name and the clauses of one whose rule is listed
+  listed : (g : ClosedSymbol) → IsNonterminal g → IsKnown (roots ++ declared) met g →
+    (h : ClosedSymbol) × In h (declared ++ met) × (name g ≡ name h) × (clauses M g ≡ clauses M h)
+  listed g n k = elim (in_cases g (roots ++ declared) met (known_listed (roots ++ declared) met g n k)) [
+      inl i ↦ elim (in_cases g roots declared i) [
+          inl r ↦ (let (h, there, same, alike) = S.shared g r in (h, in_left h declared met there, same, alike))
+        | inr d ↦ (g, in_left g declared met d, refl, refl) ]
+    | inr m ↦ (g, in_right g declared met m, refl, refl) ]
+
+  pub rules_realize_known : Realizes M name (table (map (rule_of M name) (declared ++ met))) (IsKnown (roots ++ declared) met)
+  rules_realize_known = record {
+    productions = λ g n k.
+      let (h, here, same, alike) = listed g n k in
+      rw (same, alike) (named_rule M name (declared ++ met) h here (λ x i s. S.distinct x h i here s));
+    inner = λ w g k. k;
+    parts_known = λ g p c k e.
+      let (h, here, same, alike) = listed g (nonterminal_of M g p c e) k in
+      let e' : slice_get (clauses M h) p ≡ Some c = rw (← alike) e in
+      all_known_more roots declared met c.parts
+        (all_known_from declared met c.parts (λ x i. S.done h x here (clause_meets (clauses M h) p c e' x i)) (S.resolved h here p c e')) }
+
+pub rules_realize : RulesRealize
+rules_realize M name roots declared met S = rules_realize_known M name roots declared met S

@@ -4,13 +4,13 @@ use Rattle.lalrpop_norm_theory.specs.Symbols.{Name, Terminal, ClosedSymbol}
 use Rattle.lalrpop_norm_theory.specs.Meaning.{Meaning, HasCounts, HasLevels}
 use Rattle.lalrpop_norm_theory.specs.WrittenTrees.{WrittenTree, IsTreeOf, yield, alternatives}
 use Rattle.lalrpop_norm_theory.specs.LoweredTrees.{LoweredTree, LoweredGrammar, Origin, IsDerivation, lowered_yield, written_origins}
-use Rattle.lalrpop_norm_theory.specs.Clauses.{clauses, symbol_of}
+use Rattle.lalrpop_norm_theory.specs.Clauses.{symbol_of}
 use Rattle.lalrpop_norm_theory.specs.Pairs.{Pairs}
 use Rattle.lalrpop_norm_theory.specs.Translations.{lowered_tree, written_tree}
 use Rattle.lalrpop_norm_theory.specs.Rounds.{In, Chain, NewIn, IsInOrderOf, IsDistinct, IsTest}
 use Rattle.lalrpop_norm_theory.specs.Same.{same_symbol}
 use Rattle.lalrpop_norm_theory.specs.Met.{meets, rule_meets, expansion, expanded_symbols, IsExpanded, IsKnown, IsResolvedIn, IsResolved}
-use Rattle.lalrpop_norm_theory.specs.Tables.{Realizes, OneRuleAName, Stands, table, rule_of}
+use Rattle.lalrpop_norm_theory.specs.Tables.{Realizes, OneRuleAName, SharesRule, Stands, table, rule_of}
 use Rattle.lalrpop_norm_theory.specs.Leveled.{leveled_symbol, IsLeveled, recomposed}
 use Rattle.lalrpop_norm_theory.specs.Steps.{Steps, written_alternatives}
 
@@ -54,10 +54,10 @@ TranslationsAreInverse = (M : Meaning) → HasCounts M → HasLevels M →
     (name : ClosedSymbol → Name) (P : LoweredGrammar) (declared met : List ClosedSymbol) → Realizes M name P (IsKnown declared met) →
     (g : ClosedSymbol) → IsKnown declared met g → TranslationsFit M name P g
 
--- The rules of an expansion in which each name means one rule are a lowered grammar that realizes its symbols.
+-- The list of rules of an expansion that stands is a lowered grammar that realizes its symbols, and the roots.
 abbrev pub RulesRealize : Type 0
-RulesRealize = (M : Meaning) (name : ClosedSymbol → Name) (declared met : List ClosedSymbol) → Stands M name declared met →
-    Realizes M name (table (map (rule_of M name) (declared ++ met))) (IsKnown declared met)
+RulesRealize = (M : Meaning) (name : ClosedSymbol → Name) (roots declared met : List ClosedSymbol) → Stands M name roots declared met →
+    Realizes M name (table (map (rule_of M name) (declared ++ met))) (IsKnown (roots ++ declared) met)
 
 -- the written trees of g and the trees of the grammar with levels stand one to one, with the same words and alternatives
 pub record StepsAreOneToOne (M L : Meaning) (l : Name → ℕ → Name) (origin : Name → ℕ → Origin) (g : ClosedSymbol) : Type 0 where
@@ -124,17 +124,16 @@ pub record IsWhole (M : Meaning) (declared met : List ClosedSymbol) : Type 0 whe
 
 abbrev pub NothingNewIsWhole : Type 0
 NothingNewIsWhole = (M : Meaning) (declared : List ClosedSymbol) (k : ℕ) → (expansion M declared k).fresh ≡ [] →
-    IsWhole M declared (expansion M declared k).seen
+    IsWhole M declared (expanded_symbols M declared k)
 
--- Where a resolved expansion has nothing new and each name means one rule, its rules stand. Roots may share the rule of a
--- declared symbol, as a rule taken by itself has that of its highest level.
+-- Where a resolved expansion has nothing new and each name means one rule, its rules stand, in the order in which they are made.
 abbrev pub ExpansionsStand : Type 0
-ExpansionsStand = (M : Meaning) → HasLevels M → (roots declared : List ClosedSymbol) → IsResolved M declared →
+ExpansionsStand = (M : Meaning) → HasLevels M → (declared : List ClosedSymbol) → IsResolved M declared →
     ((g : ClosedSymbol) → In g declared → IsResolvedIn declared g) →
-    ((g : ClosedSymbol) → In g roots → (h : ClosedSymbol) × In h declared × (clauses M g ≡ clauses M h)) →
     (k : ℕ) → (expansion M declared k).fresh ≡ [] →
-    (name : ClosedSymbol → Name) → OneRuleAName M name ((roots ++ declared) ++ (expansion M declared k).seen) →
-    Stands M name (roots ++ declared) (expansion M declared k).seen
+    (name : ClosedSymbol → Name) → OneRuleAName M name (declared ++ expanded_symbols M declared k) →
+    (roots : List ClosedSymbol) → ((g : ClosedSymbol) → In g roots → SharesRule M name declared g) →
+    Stands M name roots declared (expanded_symbols M declared k)
 
 -- Two closed symbols pass the test of sameness exactly where they are equal.
 abbrev pub SameIsEqual : Type 0

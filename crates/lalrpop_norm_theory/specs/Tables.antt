@@ -32,14 +32,18 @@ table (r ∷ rs) n = if bytes_eq r.name n then r.productions else table rs n
 abbrev pub rule_of : Meaning → (ClosedSymbol → Name) → ClosedSymbol → Rule
 rule_of M name g = record { name = name g; productions = map (production_of name) (clauses M g) }
 
--- Each name means one rule: two symbols share a name only where they have the same clauses, as a rule taken by itself and its
--- highest level have.
+-- each name means one rule: two symbols share a name only where they have the same clauses
 abbrev pub OneRuleAName : Meaning → (ClosedSymbol → Name) → List ClosedSymbol → Type 0
 OneRuleAName M name gs = (g h : ClosedSymbol) → In g gs → In h gs → name g ≡ name h → clauses M g ≡ clauses M h
 
--- The declared and the met symbols are a whole expansion in which each name means one rule.
-pub record Stands (M : Meaning) (name : ClosedSymbol → Name) (declared met : List ClosedSymbol) : Type 0 where
+-- The symbol g has the name and the clauses of a declared one, as a rule taken by itself has those of its highest level.
+abbrev pub SharesRule : Meaning → (ClosedSymbol → Name) → List ClosedSymbol → ClosedSymbol → Type 0
+SharesRule M name declared g = (h : ClosedSymbol) × In h declared × (name g ≡ name h) × (clauses M g ≡ clauses M h)
+
+-- The declared and the met symbols are a whole expansion in which each name means one rule, and roots share declared rules.
+pub record Stands (M : Meaning) (name : ClosedSymbol → Name) (roots declared met : List ClosedSymbol) : Type 0 where
   pub distinct : OneRuleAName M name (declared ++ met)
+  pub shared : (g : ClosedSymbol) → In g roots → SharesRule M name declared g
   -- each reference in a rule is declared
   pub resolved : (g : ClosedSymbol) → In g (declared ++ met) → (p : ℕ) (c : Clause) → slice_get (clauses M g) p ≡ Some c →
       AreDeclaredIn declared c.parts
