@@ -7,8 +7,10 @@ use Rattle.lalrpop_norm_theory.specs.Clauses.{Clause, clauses}
 use Rattle.lalrpop_norm_theory.specs.Rounds.{In, Chain}
 use Rattle.lalrpop_norm_theory.specs.Same.{same_symbol}
 use Rattle.lalrpop_norm_theory.specs.Met.{meets, meets_all, rule_meets, expansion, expanded_symbols, IsExpanded, IsDeclaredIn, AreDeclaredIn, IsResolvedIn}
-use Rattle.lalrpop_norm_theory.specs.Laws.{RoundsAreShortestChains, RoundsAreInOrder, NothingNewIsWhole, IsWhole, ExpansionsStand}
+use Rattle.lalrpop_norm_theory.specs.Laws.{RoundsAreShortestChains, RoundsAreInOrder, NothingNewIsWhole, IsWhole, ExpansionsStand, ExpansionsAreOneToOne}
 use Rattle.lalrpop_norm_theory.proofs.RoundsLemmas.{After, after_rounds, fresh_is_new, closed, in_left, in_right, in_cases, in_reverse, of_reverse, in_flat, of_flat}
+use Rattle.lalrpop_norm_theory.proofs.TableLemmas.{rules_realize}
+use Rattle.lalrpop_norm_theory.proofs.Trees.{one_to_one}
 use Rattle.lalrpop_norm_theory.proofs.OrderLemmas.{fresh_in_order}
 use Rattle.lalrpop_norm_theory.proofs.SameLemmas.{symbol_test}
 use Rattle.lalrpop_norm_theory.proofs.ResolvedLemmas.{all_declared_from, clause_resolved, chain_resolved}
@@ -121,3 +123,9 @@ expansion_stands M V declared D own k none name one roots shared = record {
     of_resolved : (g : ClosedSymbol) → IsResolvedIn declared g → (p : ℕ) (c : Clause) → slice_get (clauses M g) p ≡ Some c →
       AreDeclaredIn declared c.parts
     of_resolved g r p c e = all_declared_from declared c.parts (clause_resolved M declared D V g p c r e)
+
+pub expansions_one_to_one : ExpansionsAreOneToOne
+expansions_one_to_one M C V declared D own k none name one roots shared g known =
+  one_to_one M C V name _ _
+    (rules_realize M name roots declared (expanded_symbols M declared k) (expansion_stands M V declared D own k none name one roots shared))
+    g known

@@ -135,6 +135,17 @@ ExpansionsStand = (M : Meaning) → HasLevels M → (declared : List ClosedSymbo
     (roots : List ClosedSymbol) → ((g : ClosedSymbol) → In g roots → SharesRule M name declared g) →
     Stands M name roots declared (expanded_symbols M declared k)
 
+-- The whole way: where an expansion of a resolved grammar has nothing new and each name means one rule, the trees of each
+-- known symbol and of each root are one to one with those of the rules made.
+abbrev pub ExpansionsAreOneToOne : Type 0
+ExpansionsAreOneToOne = (M : Meaning) → HasCounts M → HasLevels M → (declared : List ClosedSymbol) → IsResolved M declared →
+    ((g : ClosedSymbol) → In g declared → IsResolvedIn declared g) →
+    (k : ℕ) → (expansion M declared k).fresh ≡ [] →
+    (name : ClosedSymbol → Name) → OneRuleAName M name (declared ++ expanded_symbols M declared k) →
+    (roots : List ClosedSymbol) → ((g : ClosedSymbol) → In g roots → SharesRule M name declared g) →
+    (g : ClosedSymbol) → IsKnown (roots ++ declared) (expanded_symbols M declared k) g →
+    OneToOne M name (table (map (rule_of M name) (declared ++ expanded_symbols M declared k))) g
+
 -- Two closed symbols pass the test of sameness exactly where they are equal.
 abbrev pub SameIsEqual : Type 0
 SameIsEqual = IsTest same_symbol

@@ -8,7 +8,8 @@
 
 ghost use Rattle.lalrpop_norm_theory.specs.Laws.{TreesAreOneToOne, WordsAreTheSame, TranslationsAreInverse};
 ghost use Rattle.lalrpop_norm_theory.specs.Laws.{RulesRealize, LevelsAreTwoSteps};
-ghost use Rattle.lalrpop_norm_theory.specs.Laws.{RoundsAreShortestChains, RoundsAreInOrder, NothingNewIsWhole, ExpansionsStand};
+ghost use Rattle.lalrpop_norm_theory.specs.Laws.{RoundsAreShortestChains, RoundsAreInOrder, NothingNewIsWhole};
+ghost use Rattle.lalrpop_norm_theory.specs.Laws.{ExpansionsStand, ExpansionsAreOneToOne};
 ghost use Rattle.lalrpop_norm_theory.specs.Laws.{RulesAreMadeOnce, PartsAreMetNoLater, SameIsEqual};
 
 /// In a lowered grammar that has, under the names of the known symbols, the productions of their rules, each written tree of
@@ -29,8 +30,8 @@ pub fn translations_are_inverse()
     ensures { TranslationsAreInverse }
 {}
 
-/// Where an expansion is whole and each name in it means one rule, the list of its rules is a lowered grammar of the kind
-/// that the laws on trees ask for.
+/// Where an expansion is whole and each name in it means one rule, the list of its rules, read by name, is a lowered grammar
+/// of the kind that the laws on trees ask for. Roots may share the rule of a declared symbol.
 pub fn rules_realize()
     ensures { RulesRealize }
 {}
@@ -69,10 +70,16 @@ pub fn nothing_new_is_whole()
     ensures { NothingNewIsWhole }
 {}
 
-/// Where a resolved expansion has nothing new and each name means one rule, it stands: its rules are those that
-/// `rules_realize` speaks of.
+/// Where a resolved expansion has nothing new and each name means one rule, its declared rules and the rules made, in their
+/// order, are those that `rules_realize` speaks of.
 pub fn expansions_stand()
     ensures { ExpansionsStand }
+{}
+
+/// The whole way: of a resolved grammar whose expansion ends, each name meaning one rule, the written trees of each known
+/// symbol and of each root stand one to one with the derivation trees of the declared rules and the rules made.
+pub fn expansions_are_one_to_one()
+    ensures { ExpansionsAreOneToOne }
 {}
 
 /// The test of sameness, by cases on the shape of two closed symbols, says whether they are equal.
