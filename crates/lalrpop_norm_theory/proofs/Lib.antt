@@ -19,3 +19,4 @@ pub mod StepLemmas
 pub mod LeveledLemmas
 pub mod Composed
 pub mod LevelExamples
+pub mod ExpansionExample

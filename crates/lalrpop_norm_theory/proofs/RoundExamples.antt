@@ -6,10 +6,10 @@ use Rattle.lalrpop_norm_theory.specs.Meaning.{Meaning}
 use Rattle.lalrpop_norm_theory.specs.Met.{expansion, expanded_symbols}
 
 -- a text of one letter, and the quoted literal of it
-abbrev letter : ℕ → Name
+abbrev pub letter : ℕ → Name
 letter c = c ∷ []
 
-abbrev literal : ℕ → ClosedSymbol
+abbrev pub literal : ℕ → ClosedSymbol
 literal c = terminal (quoted (letter c))
 
 -- a call of one argument
@@ -20,23 +20,23 @@ called c x = call (letter c) (only x)
 abbrev pair : ClosedSymbol → ClosedSymbol → ClosedSymbol
 pair x y = group (symbol_and x (only y))
 
-abbrev first_alternative : ClosedSymbols → ℕ → Option ClosedSymbols
+abbrev pub first_alternative : ClosedSymbols → ℕ → Option ClosedSymbols
 first_alternative parts zero = Some parts
 first_alternative parts _ = None
 
 -- A grammar of the rule D alone, with the macros A, B and C:
 -- A<I> = { "a" B<("." I)> }; B<I> = { "b" C<("," I)> }; C<I> = { "c" I };
-abbrev body : Name → ClosedSymbol → ClosedSymbols
+abbrev pub body : Name → ClosedSymbol → ClosedSymbols
 body m x =
     if bytes_eq m (letter 65) then symbol_and (literal 97) (only (called 66 (pair (literal 46) x)))
     else (if bytes_eq m (letter 66) then symbol_and (literal 98) (only (called 67 (pair (literal 44) x)))
     else symbol_and (literal 99) (only x))
 
-abbrev macro_parts : Name → ClosedSymbols → ℕ → Option ClosedSymbols
+abbrev pub macro_parts : Name → ClosedSymbols → ℕ → Option ClosedSymbols
 macro_parts m (symbol_and x no_symbols) k = first_alternative (body m x) k
 macro_parts m _ k = None
 
-abbrev grammar_of : ClosedSymbols → Meaning
+abbrev pub grammar_of : ClosedSymbols → Meaning
 grammar_of parts = record {
   reference_parts = λ m b k. first_alternative parts k;
   reference_count = λ m. 1;
@@ -47,7 +47,7 @@ grammar_of parts = record {
   call_count = λ m. 1;
 }
 
-abbrev rule_d : List ClosedSymbol
+abbrev pub rule_d : List ClosedSymbol
 rule_d = reference (letter 68) None ∷ []
 
 -- pub D = A<"d"> B<"d"> C<"d">;
@@ -78,7 +78,7 @@ third_round_is_not_empty : (expansion nested rule_d 2).fresh ≡ [] → ⊥
 third_round_is_not_empty h = cc h
 
 -- pub D = "a"* @L;
-abbrev repeated : Meaning
+abbrev pub repeated : Meaning
 repeated = grammar_of (symbol_and (star (literal 97)) (only lookahead))
 
 -- `X*` holds `X+`, which is met a round later; a lookaround is met

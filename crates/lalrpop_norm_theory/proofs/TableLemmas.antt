@@ -1,13 +1,13 @@
 -- The rules of a whole expansion realize its symbols.
-use Rattle.std.proofs.Common.{◌≡◌, ◌⊎◌, inl, inr, ℕ, zero, suc, List, [], ◌∷◌, ◌++◌, map, refl, sym, ap, arith}
+use Rattle.std.proofs.Common.{◌≡◌, ◌⊎◌, inl, inr, ℕ, zero, suc, List, [], ◌∷◌, ◌++◌, map, refl, sym, ap, ◌∙◌, subst, arith}
 use Rattle.std.specs.Prelude.{slice_get, Some, bytes_eq, true}
 use Rattle.std.proofs.lemmas.Bool.{cases_Bool}
 use Rattle.lalrpop_norm_theory.specs.Symbols.{Name, ClosedSymbol, ClosedSymbols, terminal, error, reference, call, group, star, plus, question, wrapped, lookahead, lookbehind, no_symbols, symbol_and}
 use Rattle.lalrpop_norm_theory.specs.Meaning.{Meaning}
 use Rattle.lalrpop_norm_theory.specs.Clauses.{Clause, clauses, production_of, IsNonterminal}
-use Rattle.lalrpop_norm_theory.specs.Rounds.{In}
+use Rattle.lalrpop_norm_theory.specs.Rounds.{In, IsDistinct}
 use Rattle.lalrpop_norm_theory.specs.Met.{meets, meets_all, clauses_meet, IsKnown, IsDeclaredIn, AreDeclaredIn}
-use Rattle.lalrpop_norm_theory.specs.Tables.{AllKnown, Realizes, Stands, table, rule_of}
+use Rattle.lalrpop_norm_theory.specs.Tables.{AllKnown, Realizes, OneRuleAName, Stands, table, rule_of}
 use Rattle.lalrpop_norm_theory.specs.Laws.{RulesRealize}
 use Rattle.lalrpop_norm_theory.proofs.RoundsLemmas.{in_left, in_right, in_cases}
 use Rattle.lalrpop_norm_theory.proofs.SameLemmas.{text_sound, text_same}
@@ -86,31 +86,50 @@ known_more roots declared met lookahead k = k
 known_more roots declared met lookbehind k = k
 
 all_known_more : (roots declared met : List ClosedSymbol) (gs : ClosedSymbols) → AllKnown (IsKnown declared met) gs →
-  AllKnown (IsKnown (roots ++ declared) met) gs
+    AllKnown (IsKnown (roots ++ declared) met) gs
 all_known_more roots declared met no_symbols k = tt
 all_known_more roots declared met (symbol_and g gs) k = (known_more roots declared met g k.0, all_known_more roots declared met gs k.1)
 
 module _ (M : Meaning) (name : ClosedSymbol → Name) (roots declared met : List ClosedSymbol) (S : Stands M name roots declared met) where
   -- a known nonterminal has the name and the clauses of one whose rule is listed
   listed : (g : ClosedSymbol) → IsNonterminal g → IsKnown (roots ++ declared) met g →
-    (h : ClosedSymbol) × In h (declared ++ met) × (name g ≡ name h) × (clauses M g ≡ clauses M h)
+      (h : ClosedSymbol) × In h (declared ++ met) × (name g ≡ name h) × (clauses M g ≡ clauses M h)
   listed g n k = elim (in_cases g (roots ++ declared) met (known_listed (roots ++ declared) met g n k)) [
-      inl i ↦ elim (in_cases g roots declared i) [
-          inl r ↦ (let (h, there, same, alike) = S.shared g r in (h, in_left h declared met there, same, alike))
-        | inr d ↦ (g, in_left g declared met d, refl, refl) ]
-    | inr m ↦ (g, in_right g declared met m, refl, refl) ]
+    | inl i ↦ elim (in_cases g roots declared i) [
+      | inl r ↦ (let (h, there, same, alike) = S.shared g r in (h, in_left h declared met there, same, alike))
+      | inr d ↦ (g, in_left g declared met d, refl, refl)
+    ]
+    | inr m ↦ (g, in_right g declared met m, refl, refl)
+  ]
 
   pub rules_realize_known : Realizes M name (table (map (rule_of M name) (declared ++ met))) (IsKnown (roots ++ declared) met)
   rules_realize_known = record {
     productions = λ g n k.
-      let (h, here, same, alike) = listed g n k in
-      rw (same, alike) (named_rule M name (declared ++ met) h here (λ x i s. S.distinct x h i here s));
+        let (h, here, same, alike) = listed g n k in
+        rw (same, alike) (named_rule M name (declared ++ met) h here (λ x i s. S.distinct x h i here s));
     inner = λ w g k. k;
     parts_known = λ g p c k e.
-      let (h, here, same, alike) = listed g (nonterminal_of M g p c e) k in
-      let e' : slice_get (clauses M h) p ≡ Some c = rw (← alike) e in
-      all_known_more roots declared met c.parts
-        (all_known_from declared met c.parts (λ x i. S.done h x here (clause_meets (clauses M h) p c e' x i)) (S.resolved h here p c e')) }
+        let (h, here, same, alike) = listed g (nonterminal_of M g p c e) k in
+        let e' : slice_get (clauses M h) p ≡ Some c = rw (← alike) e in
+        all_known_more roots declared met c.parts
+        (all_known_from declared met c.parts (λ x i. S.done h x here (clause_meets (clauses M h) p c e' x i)) (S.resolved h here p c e'));
+  }
 
 pub rules_realize : RulesRealize
 rules_realize M name roots declared met S = rules_realize_known M name roots declared met S
+
+in_mapped : (name : ClosedSymbol → Name) (g : ClosedSymbol) (gs : List ClosedSymbol) → In g gs → In (name g) (map name gs)
+in_mapped name g (h ∷ gs) (inl e) = inl (ap name e)
+in_mapped name g (h ∷ gs) (inr i) = inr (in_mapped name g gs i)
+in_mapped name g [] i = absurd i
+
+-- where all names differ each means one rule
+pub one_rule_from_distinct : (M : Meaning) (name : ClosedSymbol → Name) (gs : List ClosedSymbol) → IsDistinct (map name gs) →
+    OneRuleAName M name gs
+one_rule_from_distinct M name [] d g h i j e = absurd i
+one_rule_from_distinct M name (x ∷ gs) d g h (inl i) (inl j) e = ap (clauses M) (i ∙ sym j)
+one_rule_from_distinct M name (x ∷ gs) d g h (inr i) (inr j) e = one_rule_from_distinct M name gs d.1 g h i j e
+one_rule_from_distinct M name (x ∷ gs) d g h (inl i) (inr j) e =
+    absurd (d.0 (subst (λ n. In n (map name gs)) (sym e ∙ ap name i) (in_mapped name h gs j)))
+one_rule_from_distinct M name (x ∷ gs) d g h (inr i) (inl j) e =
+    absurd (d.0 (subst (λ n. In n (map name gs)) (e ∙ ap name j) (in_mapped name g gs i)))
