@@ -4,10 +4,12 @@ use Rattle.lalrpop_norm_theory.specs.Symbols.{Name, error_terminal, ClosedSymbol
 use Rattle.lalrpop_norm_theory.specs.Meaning.{Meaning}
 use Rattle.lalrpop_norm_theory.specs.LoweredTrees.{Origin, LoweredSymbol, Production, terminal_symbol, nonterminal_symbol, written, level_step, from_group, star_empty, star_some, plus_one, plus_more, question_some, question_empty, from_lookahead, from_lookbehind}
 
+-- an alternative of a rule: where it comes from, and its symbols
 pub record Clause : Type 0 where
   pub origin : Origin
   pub parts : ClosedSymbols
 
+-- a clause, in one line
 abbrev pub clause : Origin → ClosedSymbols → Clause
 clause o parts = record { origin = o; parts = parts }
 
@@ -51,10 +53,12 @@ symbol_of name error = terminal_symbol error_terminal
 symbol_of name (wrapped w g) = symbol_of name g
 symbol_of name g = nonterminal_symbol (name g)
 
+-- one for each symbol
 abbrev pub symbols_of : (ClosedSymbol → Name) → ClosedSymbols → List LoweredSymbol
 symbols_of name no_symbols = []
 symbols_of name (symbol_and g gs) = symbol_of name g ∷ symbols_of name gs
 
+-- a clause as a production
 abbrev pub production_of : (ClosedSymbol → Name) → Clause → Production
 production_of name c = record { origin = c.origin; symbols = symbols_of name c.parts }
 

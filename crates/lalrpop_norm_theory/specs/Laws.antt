@@ -49,6 +49,7 @@ pub record TranslationsFit (M : Meaning) (name : ClosedSymbol → Name) (P : Low
   -- what pairs is what the translations make of one another
   pub paired : (t : WrittenTree) (u : LoweredTree) → Pairs M name g t u → (lowered_tree M name t g ≡ u) × (written_tree P u ≡ t)
 
+-- In a lowered grammar that realizes the known symbols, the translations of each known symbol fit.
 abbrev pub TranslationsAreInverse : Type 0
 TranslationsAreInverse = (M : Meaning) → HasCounts M → HasLevels M →
     (name : ClosedSymbol → Name) (P : LoweredGrammar) (declared met : List ClosedSymbol) → Realizes M name P (IsKnown declared met) →
@@ -81,6 +82,7 @@ pub record PairsInTwoSteps (M L : Meaning) (l : Name → ℕ → Name) (origin :
   pub parted : (t : WrittenTree) (u : LoweredTree) → Pairs M (level_named l name) g t u →
       (m : WrittenTree) × Steps M l g t m × Pairs L name (leveled_symbol l g) m u
 
+-- For resolved symbols that are known in the grammar with levels, the pairing is made of two steps.
 abbrev pub LevelsAreTwoSteps : Type 0
 LevelsAreTwoSteps = (M L : Meaning) (l : Name → ℕ → Name) (origin : Name → ℕ → Origin) (references : List ClosedSymbol) →
     IsResolved M references → IsLeveled M L l origin references → HasCounts M → HasLevels M → HasCounts L → HasLevels L →
@@ -122,6 +124,7 @@ pub record IsWhole (M : Meaning) (declared met : List ClosedSymbol) : Type 0 whe
   -- all that is met was met by a chain
   pub reached : (g : ClosedSymbol) → In g met → (k : ℕ) × Chain (rule_meets M) (flat_map (rule_meets M) declared) k g
 
+-- Where round k + 1 adds nothing, the symbols of the rules made so far are whole.
 abbrev pub NothingNewIsWhole : Type 0
 NothingNewIsWhole = (M : Meaning) (declared : List ClosedSymbol) (k : ℕ) → (expansion M declared k).fresh ≡ [] →
     IsWhole M declared (expanded_symbols M declared k)

@@ -49,6 +49,7 @@ abbrev pub composed : (Name → ℕ → Origin) → Origin → Origin
 composed origin (written n p) = origin n p
 composed origin o = o
 
+-- a production with its origin in the written grammar
 abbrev pub recomposed_production : (Name → ℕ → Origin) → Production → Production
 recomposed_production origin q = record { origin = composed origin q.origin; symbols = q.symbols }
 

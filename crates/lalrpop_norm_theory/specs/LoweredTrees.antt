@@ -2,6 +2,7 @@
 use Rattle.std.specs.Prelude.{◌≡◌, ℕ, List, [], ◌∷◌, ◌++◌, slice_get, Option, Some, None}
 use Rattle.lalrpop_norm_theory.specs.Symbols.{Name, Terminal}
 
+-- a symbol of a production
 pub data LoweredSymbol : Type 0 where
   terminal_symbol : Terminal → LoweredSymbol
   nonterminal_symbol : Name → LoweredSymbol
@@ -15,6 +16,7 @@ pub data Origin : Type 0 where
   star_empty star_some plus_one plus_more question_some question_empty : Origin
   from_lookahead from_lookbehind : Origin
 
+-- a production: where it comes from, and its symbols
 pub record Production : Type 0 where
   pub origin : Origin
   pub symbols : List LoweredSymbol
@@ -61,6 +63,7 @@ abbrev pub written_of : Origin → List (Name × ℕ)
 written_of (written n k) = (n, k) ∷ []
 written_of _ = []
 
+-- the same of a production, if there is one
 abbrev pub written_at : Option Production → List (Name × ℕ)
 written_at None = []
 written_at (Some q) = written_of q.origin

@@ -26,10 +26,11 @@ abbrev mutual
   meets_all no_symbols = []
   meets_all (symbol_and g gs) = meets g ++ meets_all gs
 
--- what clauses meet, and what the rule of a symbol meets
+-- what clauses meet, in their order
 abbrev pub clauses_meet : List Clause → List ClosedSymbol
 clauses_meet cs = flat_map (λ (c : Clause). meets_all c.parts) cs
 
+-- what the rule of a symbol meets
 abbrev pub rule_meets : Meaning → ClosedSymbol → List ClosedSymbol
 rule_meets M g = clauses_meet (clauses M g)
 
@@ -63,6 +64,7 @@ IsDeclaredIn declared (reference n b) = In (reference n b) declared
 IsDeclaredIn declared (wrapped w g) = IsDeclaredIn declared g
 IsDeclaredIn declared _ = Unit {0}
 
+-- the same of each of several symbols
 abbrev pub AreDeclaredIn : List ClosedSymbol → ClosedSymbols → Type 0
 AreDeclaredIn declared no_symbols = Unit {0}
 AreDeclaredIn declared (symbol_and g gs) = IsDeclaredIn declared g × AreDeclaredIn declared gs

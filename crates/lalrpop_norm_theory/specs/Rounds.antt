@@ -26,6 +26,7 @@ pub record Round (A : Type 0) : Type 0 where
 abbrev pub rules_made : {A : Type 0} → Round A → List A
 rules_made r = reverse r.fresh
 
+-- the round after: it meets what the rules made meet, and keeps what was not seen
 abbrev pub next_round : {A : Type 0} → (A → A → Bool) → (A → List A) → Round A → Round A
 next_round same meets r = record {
   seen = r.seen ++ r.fresh;

@@ -71,10 +71,12 @@ abbrev pub own_level : Meaning → (Name → ℕ → Name) → Name → ℕ → 
 own_level M l n k children b None below = below
 own_level M l n k children b (Some parts) below = node (level_reference l n b) (place (M.own_parts n b) 0 k) (children parts)
 
+-- a step to the level below, if there is one
 abbrev pub step_level : Meaning → (Name → ℕ → Name) → Name → Option ℕ → Option (Option ℕ) → (Option ℕ → WrittenTree) → WrittenTree
 step_level M l n b None below = nothing
 step_level M l n b (Some c) below = node (level_reference l n b) (length (own_clauses M n b)) (tree_and (below c) no_trees)
 
+-- own alternatives first, else a step, as often as there are levels
 abbrev pub leveled_rule : Meaning → (Name → ℕ → Name) → Name → ℕ → (ClosedSymbols → WrittenTrees) → ℕ → Option ℕ → WrittenTree
 leveled_rule M l n k children zero b = own_level M l n k children b (M.own_parts n b k) nothing
 leveled_rule M l n k children (suc depth) b =

@@ -7,6 +7,7 @@ use Rattle.lalrpop_norm_theory.specs.Clauses.{Clause, clauses, production_of, Is
 use Rattle.lalrpop_norm_theory.specs.Rounds.{In}
 use Rattle.lalrpop_norm_theory.specs.Met.{rule_meets, AreDeclaredIn}
 
+-- each of several symbols is known
 abbrev pub AllKnown : (ClosedSymbol → Type 0) → ClosedSymbols → Type 0
 AllKnown Known no_symbols = Unit {0}
 AllKnown Known (symbol_and g gs) = Known g × AllKnown Known gs

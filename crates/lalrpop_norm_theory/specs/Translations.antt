@@ -6,10 +6,12 @@ use Rattle.lalrpop_norm_theory.specs.WrittenTrees.{WrittenTree, WrittenTrees, le
 use Rattle.lalrpop_norm_theory.specs.LoweredTrees.{LoweredTree, LoweredTrees, lowered_leaf, lowered_node, no_lowered, lowered_and, LoweredGrammar, Production, Origin, from_start, written, level_step, from_group, star_empty, star_some, plus_one, plus_more, question_some, question_empty, from_lookahead, from_lookbehind}
 use Rattle.lalrpop_norm_theory.specs.Clauses.{own_clauses}
 
+-- the first of a list of trees
 abbrev pub first : WrittenTrees → WrittenTree
 first no_trees = nothing
 first (tree_and t ts) = t
 
+-- the second of a list of trees
 abbrev pub second : WrittenTrees → WrittenTree
 second no_trees = nothing
 second (tree_and t ts) = first ts
@@ -35,6 +37,7 @@ made_by question_empty ts = list no_trees
 made_by from_lookahead ts = nothing
 made_by from_lookbehind ts = nothing
 
+-- the same of a production, if there is one
 abbrev pub made_at : Option Production → WrittenTrees → WrittenTree
 made_at None ts = nothing
 made_at (Some q) ts = made_by q.origin ts
@@ -65,21 +68,25 @@ own_node M name n k children b None below = below
 own_node M name n k children b (Some parts) below =
     lowered_node (name (reference n b)) (place (M.own_parts n b) 0 k) (children parts)
 
+-- a step to the level below, if there is one
 abbrev pub step_node : Meaning → (ClosedSymbol → Name) → Name → Option ℕ → Option (Option ℕ) → (Option ℕ → LoweredTree) → LoweredTree
 step_node M name n b None below = lowered_leaf error_terminal
 step_node M name n b (Some c) below =
     lowered_node (name (reference n b)) (length (own_clauses M n b)) (lowered_and (below c) no_lowered)
 
+-- own alternatives first, else a step, as often as there are levels
 abbrev pub lowered_rule : Meaning → (ClosedSymbol → Name) → Name → ℕ → (ClosedSymbols → LoweredTrees) → ℕ → Option ℕ → LoweredTree
 lowered_rule M name n k children zero b = own_node M name n k children b (M.own_parts n b k) (lowered_leaf error_terminal)
 lowered_rule M name n k children (suc depth) b =
     own_node M name n k children b (M.own_parts n b k)
     (step_node M name n b (M.previous n b) (λ c. lowered_rule M name n k children depth c))
 
+-- a list under `X*`: the empty production, or the step to the tree u under `X+`
 abbrev pub lowered_star : (ClosedSymbol → Name) → WrittenTrees → ClosedSymbol → LoweredTree → LoweredTree
 lowered_star name no_trees x u = lowered_node (name (star x)) 0 no_lowered
 lowered_star name (tree_and t ts) x u = lowered_node (name (star x)) 1 (lowered_and u no_lowered)
 
+-- a list under `X?`: the empty production, or its one element
 abbrev pub lowered_question : (ClosedSymbol → Name) → ClosedSymbol → LoweredTrees → LoweredTree
 lowered_question name x no_lowered = lowered_node (name (question x)) 1 no_lowered
 lowered_question name x (lowered_and u us) = lowered_node (name (question x)) 0 (lowered_and u us)

@@ -16,10 +16,12 @@ mutual
     no_trees : WrittenTrees
     tree_and : WrittenTree → WrittenTrees → WrittenTrees
 
+-- at least one tree
 abbrev pub IsNonempty : WrittenTrees → Type 0
 IsNonempty no_trees = ⊥
 IsNonempty (tree_and t ts) = Unit {0}
 
+-- no tree, or one
 abbrev pub IsAtMostOne : WrittenTrees → Type 0
 IsAtMostOne no_trees = Unit {0}
 IsAtMostOne (tree_and t no_trees) = Unit {0}
@@ -78,6 +80,7 @@ abbrev mutual
   alternatives_of no_trees = []
   alternatives_of (tree_and t ts) = alternatives t ++ alternatives_of ts
 
+-- one list of trees after the other
 abbrev pub append : WrittenTrees → WrittenTrees → WrittenTrees
 append no_trees ss = ss
 append (tree_and t ts) ss = tree_and t (append ts ss)
