@@ -8,3 +8,5 @@ pub mod Patterns
 pub mod Items
 pub mod Texts
 pub mod TypeTexts
+pub mod KnownTexts
+pub mod WrittenTypeTexts

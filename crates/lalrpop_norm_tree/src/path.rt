@@ -1,5 +1,5 @@
 //! Paths of Rust items.
-mod show;
+pub(crate) mod show;
 
 use shared_text::Atom;
 
