@@ -1,9 +1,17 @@
 -- The texts of lists, one after another.
-use Rattle.std.proofs.Common.{◌≡◌, ℕ, ◌+◌, List, [], ◌∷◌, ◌++◌, ◌≤◌, ◌<◌, Bool, true, false, ◌==◌, Option, Some, None, IfSome, length, take, get_or, map, refl, sym, ap, subst, arith, codes, Box, Vec, Global, option_map, ◌∙◌, append_assoc}
+use Rattle.std.proofs.Common.{Result, ◌≡◌, ℕ, ◌+◌, List, [], ◌∷◌, ◌++◌, ◌≤◌, ◌<◌, Bool, true, false, ◌==◌, Option, Some, None, IfSome, length, take, get_or, map, refl, sym, ap, subst, arith, codes, Box, Vec, Global, option_map, ◌∙◌, append_assoc}
 use Rattle.std.proofs.lemmas.List.{take_all, take_more, map-append, append-nil}
 use Rattle.std.specs.List.{flat_map}
-use Rattle.std.specs.Fmt.{◌++?◌, IsPlainFormatter, HasWritten}
+use Rattle.std.specs.Fmt.{◌++?◌, IsPlainFormatter, HasWritten, DisplaysOnOk}
 use Rattle.std.specs.declared.fmt.Formatter.{Formatter}
+use Rattle.std.specs.declared.fmt.Error.{Error}
+use Rattle.lalrpop_norm_tree.specs.declared.bound.TypeBoundParameter.{TypeBoundParameter}
+use Rattle.lalrpop_norm_tree.specs.declared.bound.TypeBound.{TypeBound}
+use Rattle.lalrpop_norm_tree.specs.declared.bound.TypeBound.TheVariants.{Trait}
+use Rattle.lalrpop_norm_tree.specs.declared.bound.WhereClause.{WhereClause}
+use Rattle.lalrpop_norm_tree.specs.declared.bound.WhereClause.TheVariants.{OfType}
+use Rattle.lalrpop_norm_tree.specs.Bounds.{bound_parameter_view, bound_view, where_clause_view}
+use Rattle.lalrpop_norm_tree.specs.BoundTexts.{bound_parameter_text, bound_text, where_clause_text}
 use Rattle.std.proofs.Output.{has_written_append}
 use Rattle.lalrpop_norm_tree.specs.declared.types.TypeRef.{TypeRef}
 use Rattle.lalrpop_norm_tree.specs.declared.types.TypeRef.TheVariants.{Slice, Ref, TraitObject, Fn}
@@ -15,10 +23,10 @@ use Rattle.lalrpop_norm_tree.specs.declared.names.Lifetime.{Lifetime}
 use Rattle.lalrpop_norm_tree.specs.declared.names.TypeParameter.{TypeParameter}
 use Rattle.lalrpop_norm_tree.specs.declared.path.Path.{Path}
 use Rattle.lalrpop_norm_tree.specs.Paths.{path_view}
-use Rattle.lalrpop_norm_tree.specs.TypeTexts.{angled}
+use Rattle.lalrpop_norm_tree.specs.TypeTexts.{angled, forall_text, path_text}
 use Rattle.lalrpop_norm_tree.specs.Texts.{joined}
 use Rattle.lalrpop_norm_tree.specs.WrittenTypeTexts.{type_text, type_texts}
-use Rattle.lalrpop_norm_tree.specs.KnownTexts.{each_after, joined_known}
+use Rattle.lalrpop_norm_tree.specs.KnownTexts.{each_after, joined_known, angled_known, bounds_known}
 
 -- ---- written types
 
@@ -83,6 +91,22 @@ module _ {X : Type 0} (text : X → Option (List ℕ)) (separator : List ℕ) wh
       → each_after separator (map text (take (i + 1) xs)) ≡ each_after separator (map text (take i xs)) ++? (Some separator ++? text x)
   each_after-more xs i x h e = rw (take_more xs i x h, ← e, each_after-push (take i xs) x)
 
+map_twice : {X Y Z : Type 0} (g : Y → Z) (f : X → Y) (xs : List X) → map (λ x. g (f x)) xs ≡ map g (map f xs)
+map_twice g f [] = refl
+map_twice g f (x ∷ xs) = ap (λ zs. g (f x) ∷ zs) (map_twice g f xs)
+
+-- one level of a bound, and of a where clause
+module _ {T : Type 0} (text : T → Option (List ℕ)) where
+  pub trait_bound_text : (b : TypeBound T) (gs : List TypeParameter) (fs : Vec TypeParameter Global) (p : Path) (xs : List (TypeBoundParameter T)) (ps : Vec (TypeBoundParameter T) Global)
+      → b ≡ Trait fs p ps → gs ≡ fs.items → xs ≡ ps.items
+      → Some (forall_text gs ++ path_text (path_view p)) ++? angled_known (map (λ q. bound_parameter_text (bound_parameter_view text q)) xs) ≡ bound_text (bound_view text b)
+  trait_bound_text b gs fs p xs ps e d h = rw (e, d, h, map_twice bound_parameter_text (bound_parameter_view text) ps.items)
+
+  pub type_clause_text : (w : WhereClause T) (gs : List TypeParameter) (fs : Vec TypeParameter Global) (t : T) (xs : List (TypeBound T)) (bs : Vec (TypeBound T) Global)
+      → w ≡ OfType fs t bs → gs ≡ fs.items → xs ≡ bs.items
+      → Some (forall_text gs) ++? text t ++? Some (codes ": ") ++? bounds_known (map (λ b. bound_text (bound_view text b)) xs) ≡ where_clause_text (where_clause_view text w)
+  type_clause_text w gs fs t xs bs e d h = rw (e, d, h, map_twice bound_text (bound_view text) bs.items)
+
 module _ {W : Type 0} (took : W → List ℕ → W → Type 0) where
   -- a text that may be open, and then another
   shown_then : (f g h : Formatter W) (o p : Option (List ℕ)) → IfSome o (λ a. HasWritten took f a g)
@@ -90,6 +114,17 @@ module _ {W : Type 0} (took : W → List ℕ → W → Type 0) where
   shown_then f g h None p x y = tt
   shown_then f g h (Some a) None x y = tt
   shown_then f g h (Some a) (Some b) x y = has_written_append took f a g b h x (y x.plain refl)
+
+  -- a write that succeeded, and then the last one
+  pub known_then : (f g h : Formatter W) (r : Result (Unit {0}) Error) (o p : Option (List ℕ)) → IfSome o (λ a. IsPlainFormatter f → true ≡ true → HasWritten took f a g)
+      → DisplaysOnOk took g r p h → DisplaysOnOk took f r (o ++? p) h
+  known_then f g h r None p x y = tt
+  known_then f g h r (Some a) None x y = tt
+  known_then f g h r (Some a) (Some b) x y = λ plain ok. has_written_append took f a g b h (x plain refl) (y (x plain refl).plain ok)
+
+  pub written_then : (f g h : Formatter W) (r : Result (Unit {0}) Error) (bs : List ℕ) (p : Option (List ℕ)) → (IsPlainFormatter f → true ≡ true → HasWritten took f bs g)
+      → DisplaysOnOk took g r p h → DisplaysOnOk took f r (Some bs ++? p) h
+  written_then f g h r bs p x y = known_then f g h r (Some bs) p x y
 
   -- after the texts so far, one more
   pub shown_more : (f g h k : Formatter W) (done : Option (List ℕ)) (separator : List ℕ) (o : Option (List ℕ)) → IfSome done (λ a. HasWritten took f a g)

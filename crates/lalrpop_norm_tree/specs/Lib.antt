@@ -10,3 +10,4 @@ pub mod Texts
 pub mod TypeTexts
 pub mod KnownTexts
 pub mod WrittenTypeTexts
+pub mod BoundTexts
