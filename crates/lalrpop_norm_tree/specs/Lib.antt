@@ -11,3 +11,5 @@ pub mod TypeTexts
 pub mod KnownTexts
 pub mod WrittenTypeTexts
 pub mod BoundTexts
+pub mod PatternTexts
+pub mod VisibilityTexts
