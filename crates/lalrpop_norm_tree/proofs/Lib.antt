@@ -1,3 +1,4 @@
 pub mod TextLemmas
 pub mod ReprTextLemmas
 pub mod ReprViews
+pub mod WrittenTextLemmas

@@ -8,3 +8,8 @@ pub mod Patterns
 pub mod Items
 pub mod Texts
 pub mod TypeTexts
+pub mod KnownTexts
+pub mod WrittenTypeTexts
+pub mod BoundTexts
+pub mod PatternTexts
+pub mod VisibilityTexts

@@ -1,5 +1,5 @@
 //! Paths of Rust items.
-mod show;
+pub(crate) mod show;
 
 ghost use Rattle.std.specs.Prelude.{◌≡◌};
 ghost use Rattle.lalrpop_norm_tree.specs.Paths.{path_view};

@@ -1,5 +1,6 @@
 //! Written types.
 mod copy;
+mod show;
 
 use crate::names::{Lifetime, TypeParameter};
 use crate::path::Path;
