@@ -8,3 +8,4 @@ pub mod Patterns
 pub mod Items
 pub mod Texts
 pub mod TypeTexts
+pub mod LoweredTypes

@@ -17,6 +17,7 @@ pub mod parse_tree {
         ArgPattern, ExprSymbol, MacroSymbol, Name, RepeatOp, RepeatSymbol, Symbol, SymbolKind,
         Tuple,
     };
+    pub use crate::types::repr::TypeReprError;
     pub use crate::types::{Parameter, TypeRef};
     pub use shared_text::{Atom, NoMemory};
 }

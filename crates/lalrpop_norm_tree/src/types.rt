@@ -1,5 +1,6 @@
 //! Written types.
 mod copy;
+pub(crate) mod repr;
 
 use crate::names::{Lifetime, TypeParameter};
 use crate::path::Path;
