@@ -1,4 +1,6 @@
 //! Patterns of conversions.
+mod copy;
+
 use crate::names::Span;
 use crate::path::Path;
 use shared_text::Atom;
