@@ -1,3 +1,5 @@
 pub mod TextLemmas
 pub mod TypeLemmas
 pub mod PatternLemmas
+pub mod PatternViews
+pub mod BoundLemmas

@@ -1,4 +1,6 @@
 //! Where clauses and their bounds, over written or lowered types.
+mod copy;
+
 use crate::names::{Lifetime, TypeParameter};
 use crate::path::Path;
 use shared_text::Atom;

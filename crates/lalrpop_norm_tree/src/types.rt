@@ -1,5 +1,5 @@
 //! Written types.
-mod copy;
+pub(crate) mod copy;
 pub(crate) mod repr;
 
 use crate::names::{Lifetime, TypeParameter};
