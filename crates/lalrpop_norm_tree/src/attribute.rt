@@ -1,7 +1,7 @@
 //! Attributes.
 ghost use Rattle.std.specs.Prelude.{◌≡◌};
 
-mod copy;
+pub(crate) mod copy;
 
 use crate::names::Span;
 use shared_text::Atom;
