@@ -3,3 +3,4 @@ pub mod TypeLemmas
 pub mod PatternLemmas
 pub mod PatternViews
 pub mod BoundLemmas
+pub mod BoundViews

@@ -3,6 +3,7 @@ ghost use Rattle.std.specs.Prelude.{Some};
 ghost use Rattle.lalrpop_norm_tree.specs.Texts.{mapping_text};
 
 mod copy;
+mod copy_grammar;
 
 use crate::attribute::Attribute;
 use crate::bound::WhereClause;

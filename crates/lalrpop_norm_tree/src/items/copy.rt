@@ -191,7 +191,7 @@ impl Clone for AssociatedType {
     }
 }
 
-fn copy_associated_types(
+pub(super) fn copy_associated_types(
     alloc: Global,
     types: &[AssociatedType],
 ) -> Result<Vec<AssociatedType>, AllocError>
