@@ -9,3 +9,4 @@ pub mod Items
 pub mod Texts
 pub mod TypeTexts
 pub mod LoweredTypes
+pub mod Accessors

@@ -1,6 +1,8 @@
 //! Places and names.
 ghost use Rattle.std.specs.Prelude.{Some};
 
+mod accessors;
+
 use shared_text::Atom;
 use std::fmt;
 
