@@ -4,3 +4,4 @@ pub mod PatternLemmas
 pub mod PatternViews
 pub mod BoundLemmas
 pub mod BoundViews
+pub mod FirstLemmas

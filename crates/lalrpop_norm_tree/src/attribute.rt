@@ -1,6 +1,8 @@
 //! Attributes.
 ghost use Rattle.std.specs.Prelude.{◌≡◌};
 
+mod accessors;
+pub(crate) mod algorithm;
 pub(crate) mod copy;
 
 use crate::names::Span;
