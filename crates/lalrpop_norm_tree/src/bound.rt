@@ -1,4 +1,5 @@
 //! Where clauses and their bounds, over written or lowered types.
+mod copy;
 mod show;
 
 use crate::names::{Lifetime, TypeParameter};

@@ -2,6 +2,7 @@
 ghost use Rattle.std.specs.Prelude.{Some};
 
 pub(crate) mod show;
+mod accessors;
 
 use shared_text::Atom;
 use std::fmt;

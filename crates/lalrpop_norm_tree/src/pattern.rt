@@ -1,4 +1,5 @@
 //! Patterns of conversions.
+mod copy;
 mod show;
 
 use crate::names::Span;

@@ -1,6 +1,8 @@
 //! Written types.
 mod copy;
 mod show;
+pub(crate) mod copy;
+pub(crate) mod repr;
 
 use crate::names::{Lifetime, TypeParameter};
 use crate::path::Path;
