@@ -5,5 +5,7 @@
 mod names;
 mod parts;
 mod patterns;
+mod rules;
 mod symbols;
+mod tokens;
 mod types;
