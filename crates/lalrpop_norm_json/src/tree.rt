@@ -2,6 +2,7 @@
 //!
 //! A reader gives the part whose form the value is. It refuses a value only where that has not the shape of the part,
 //! as the table of shapes in specs/ has it: a row for each field and each variant that is read.
+mod grammars;
 mod names;
 mod parts;
 mod patterns;
@@ -9,3 +10,5 @@ mod rules;
 mod symbols;
 mod tokens;
 mod types;
+
+pub use grammars::grammar;
