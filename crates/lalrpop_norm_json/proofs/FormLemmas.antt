@@ -1,5 +1,5 @@
 -- The form of a list, item by item.
-use Rattle.std.proofs.Common.{◌≡◌, List, [], ◌∷◌, map, Option, Some, None, option_map, option_and_then, refl, ap, ◌∙◌}
+use Rattle.std.proofs.Common.{◌≡◌, List, [], ◌∷◌, map, Option, Some, None, option_map, refl, ap}
 use Rattle.serde_json.specs.Data.{Data, item, array}
 use Rattle.serde_json.specs.View.{items_of}
 use Rattle.lalrpop_norm_tree.specs.declared.symbol.Symbol.{Symbol}

@@ -1,13 +1,13 @@
 -- What has not the parts of a shape does not have the shape.
-use Rattle.std.proofs.Common.{◌≡◌, ◌≢◌, ℕ, zero, suc, ◌<◌, ◌≤◌, map, List, [], ◌∷◌, length, get_or, take, Option, Some, None, option_and_then, Bool, true, false, ◌&&◌, refl, sym, ap, ◌∙◌, arith}
+use Rattle.std.proofs.Common.{◌≡◌, ◌≢◌, ℕ, zero, suc, ◌<◌, ◌≤◌, map, List, [], ◌∷◌, length, get_or, take, Some, None, option_and_then, Bool, true, false, ◌&&◌, refl, sym, ap, ◌∙◌, arith}
 use Rattle.std.proofs.lemmas.List.{take_all}
-use Rattle.serde_json.specs.Data.{Data, null, boolean, number, unsigned, negative, float, string, array, object, Items, no_items, item, Members, no_members, member}
-use Rattle.serde_json.specs.Find.{as_object, as_array, as_number, as_u64, as_str}
+use Rattle.serde_json.specs.Data.{Data, null, boolean, number, unsigned, negative, float, string, array, object, no_items, item, Members, no_members, member}
+use Rattle.serde_json.specs.Find.{as_object, as_array, as_number, as_u64}
 use Rattle.serde_json.specs.View.{view, items_view, items_of}
 use Rattle.serde_json.specs.declared.value.Value.{Value}
 use Rattle.lalrpop_norm_json.specs.Weight.{weight, items_weight}
 use Rattle.lalrpop_norm_json.specs.Parts.{is_null, is_pair, is_variant, is_no_members, starts_with}
-use Rattle.lalrpop_norm_json.specs.Shapes.{Name, natural, absent, Place, Held, Texts, Arrays, Objects, shape, struct_of, variant_of, each, row, fits, fits_items, fits_members, place, struct, variants, arrayed, optional, Shape, is}
+use Rattle.lalrpop_norm_json.specs.Shapes.{Name, natural, absent, Place, Held, Arrays, shape, struct_of, each, row, fits, fits_items, fits_members, struct, variants, arrayed, optional, Shape, is}
 
 pub not_pair : (vs : List Value) → length vs ≢ 2 → is_pair (array (items_view vs)) ≡ false
 not_pair [] other = refl

@@ -1,7 +1,7 @@
 -- What the parts of a value are.
 use Rattle.std.specs.Prelude.{ℕ, Bool, true, false, List}
 use Rattle.std.specs.Str.{bytes_eq}
-use Rattle.serde_json.specs.Data.{Data, null, boolean, number, string, array, object, Items, no_items, item, Members, no_members, member}
+use Rattle.serde_json.specs.Data.{Data, null, string, array, object, no_items, item, Members, no_members, member}
 use Rattle.serde_json.specs.View.{view}
 use Rattle.lalrpop_norm_json.specs.declared.json.Case.{Case}
 use Rattle.lalrpop_norm_json.specs.declared.json.Case.TheVariants.{Bare, Of}

@@ -22,6 +22,7 @@ pub enum TreeError {
 
 impl From<AllocError> for TreeError {
     ghost use Rattle.lalrpop_norm_json.specs.declared.json.TreeError.TheVariants.{Memory};
+
     ghost from_gives = { λ _ e. e ≡ Memory };
 
     fn from(_e: AllocError) -> TreeError {
@@ -31,6 +32,7 @@ impl From<AllocError> for TreeError {
 
 impl<T: Drop> From<AllocFailed<T>> for TreeError {
     ghost use Rattle.lalrpop_norm_json.specs.declared.json.TreeError.TheVariants.{Memory};
+
     ghost from_gives = { λ _ e. e ≡ Memory };
 
     fn from(_e: AllocFailed<T>) -> TreeError {
@@ -40,6 +42,7 @@ impl<T: Drop> From<AllocFailed<T>> for TreeError {
 
 impl From<NoMemory> for TreeError {
     ghost use Rattle.lalrpop_norm_json.specs.declared.json.TreeError.TheVariants.{Memory};
+
     ghost from_gives = { λ _ e. e ≡ Memory };
 
     fn from(_e: NoMemory) -> TreeError {
@@ -149,11 +152,9 @@ pub fn text(value: &Value) -> Result<&str, TreeError>
 {
     match value {
         Value::String(text) => Ok(text.as_str()),
-        Value::Null
-        | Value::Bool(_)
-        | Value::Number(_)
-        | Value::Array(_)
-        | Value::Object(_) => Err(TreeError::NotATree),
+        Value::Null | Value::Bool(_) | Value::Number(_) | Value::Array(_) | Value::Object(_) => Err(
+            TreeError::NotATree,
+        ),
     }
 }
 
@@ -164,11 +165,8 @@ pub fn truth(value: &Value) -> Result<bool, TreeError>
 {
     match value {
         Value::Bool(b) => Ok(*b),
-        Value::Null
-        | Value::String(_)
-        | Value::Number(_)
-        | Value::Array(_)
-        | Value::Object(_) => Err(TreeError::NotATree),
+        Value::Null | Value::String(_) | Value::Number(_) | Value::Array(_) | Value::Object(_) =>
+            Err(TreeError::NotATree),
     }
 }
 
@@ -206,11 +204,8 @@ pub fn present(value: &Value) -> Option<&Value>
 {
     match value {
         Value::Null => None,
-        Value::Bool(_)
-        | Value::String(_)
-        | Value::Number(_)
-        | Value::Array(_)
-        | Value::Object(_) => Some(value),
+        Value::Bool(_) | Value::String(_) | Value::Number(_) | Value::Array(_) | Value::Object(_) =>
+            Some(value),
     }
 }
 

@@ -19,7 +19,6 @@ mod tests;
 mod tree;
 
 pub use json::TreeError;
-
 use lalrpop_norm_tree::grammar::parse_tree::Grammar;
 use serde_json::Value;
 use std::alloc::Global;

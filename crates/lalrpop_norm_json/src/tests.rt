@@ -15,7 +15,8 @@ const SMALL: &str = r#"{"prefix":"__","span":[0,0],"type_parameters":[],"paramet
 "attributes":[]}]}}],"attributes":[],"module_attributes":[]}"#;
 
 /// A grammar without items, up to its items and its span.
-const BARE: &str = r#"{"prefix":"__","type_parameters":[],"parameters":[],"where_clauses":[],"attributes":[],"module_attributes":[],"#;
+const BARE: &str =
+    r#"{"prefix":"__","type_parameters":[],"parameters":[],"where_clauses":[],"attributes":[],"module_attributes":[],"#;
 
 #[test]
 fn small_grammar(rt: HostRuntime) -> Result<(), Fail> {
@@ -67,9 +68,18 @@ fn items(rt: HostRuntime) -> Result<(), Fail> {
         ("null", false),
         ("[{\"Use\":\"a::b\"}]", false),
         ("[\"InternToken\"]", false),
-        ("[{\"ExternToken\":{\"span\":[0,1],\"associated_types\":[],\"enum_token\":null}}]", true),
-        ("[{\"ExternToken\":{\"span\":[0,1],\"associated_types\":[]}}]", false),
-        ("[{\"ExternToken\":{\"span\":[0,1],\"associated_types\":null,\"enum_token\":null}}]", false),
+        (
+            "[{\"ExternToken\":{\"span\":[0,1],\"associated_types\":[],\"enum_token\":null}}]",
+            true,
+        ),
+        (
+            "[{\"ExternToken\":{\"span\":[0,1],\"associated_types\":[]}}]",
+            false,
+        ),
+        (
+            "[{\"ExternToken\":{\"span\":[0,1],\"associated_types\":null,\"enum_token\":null}}]",
+            false,
+        ),
     ];
     for (items, is_tree) in rows {
         let text = format!(in rt.alloc(); "{BARE}\"span\":[0,0],\"items\":{items}}}")?;
@@ -89,19 +99,41 @@ fn types(rt: HostRuntime) -> Result<(), Fail> {
         ("null", true),
         ("{\"Id\":\"T\"}", true),
         ("{\"Lifetime\":\"'a\"}", true),
-        ("{\"Slice\":{\"Tuple\":[{\"Id\":\"T\"},{\"Id\":\"U\"}]}}", true),
-        ("{\"Ref\":{\"mutable\":true,\"lifetime\":null,\"referent\":{\"Id\":\"T\"}}}", true),
-        ("{\"Nominal\":{\"path\":{\"absolute\":true,\"ids\":[\"a\",\"B\"]},\"types\":[{\"Lifetime\":\"'a\"}]}}", true),
-        ("{\"TraitObject\":{\"path\":{\"absolute\":false,\"ids\":[\"B\"]},\"types\":[]}}", true),
-        ("{\"Fn\":{\"forall\":[{\"Lifetime\":\"'a\"},{\"Id\":\"T\"}],\"path\":{\"absolute\":false,\"ids\":[\"Fn\"]},\"parameters\":[],\"ret\":{\"Id\":\"T\"}}}", true),
-        ("{\"Ref\":{\"mutable\":true,\"lifetime\":null,\"referent\":null}}", false),
+        (
+            "{\"Slice\":{\"Tuple\":[{\"Id\":\"T\"},{\"Id\":\"U\"}]}}",
+            true,
+        ),
+        (
+            "{\"Ref\":{\"mutable\":true,\"lifetime\":null,\"referent\":{\"Id\":\"T\"}}}",
+            true,
+        ),
+        (
+            "{\"Nominal\":{\"path\":{\"absolute\":true,\"ids\":[\"a\",\"B\"]},\"types\":[{\"Lifetime\":\"'a\"}]}}",
+            true,
+        ),
+        (
+            "{\"TraitObject\":{\"path\":{\"absolute\":false,\"ids\":[\"B\"]},\"types\":[]}}",
+            true,
+        ),
+        (
+            "{\"Fn\":{\"forall\":[{\"Lifetime\":\"'a\"},{\"Id\":\"T\"}],\"path\":{\"absolute\":false,\"ids\":[\"Fn\"]},\"parameters\":[],\"ret\":{\"Id\":\"T\"}}}",
+            true,
+        ),
+        (
+            "{\"Ref\":{\"mutable\":true,\"lifetime\":null,\"referent\":null}}",
+            false,
+        ),
         ("{\"OfSymbol\":\"Lookahead\"}", false),
         ("\"Tuple\"", false),
         ("{\"Id\":\"T\",\"Lifetime\":\"'a\"}", false),
     ];
     for (type_decl, is_tree) in rows {
-        let rule = format!(in rt.alloc(); "{{\"visibility\":\"Priv\",\"name\":\"S\",\"attributes\":[],\"span\":[0,1],\"args\":[],\"alternatives\":[],\"type_decl\":{type_decl}}}")?;
-        let text = format!(in rt.alloc(); "{BARE}\"span\":[0,0],\"items\":[{{\"Nonterminal\":{rule}}}]}}")?;
+        let rule = format!(in rt.alloc();
+            "{{\"visibility\":\"Priv\",\"name\":\"S\",\"attributes\":[],\"span\":[0,1],\"args\":[],\"alternatives\":[],\"type_decl\":{type_decl}}}"
+        )?;
+        let text = format!(in rt.alloc();
+            "{BARE}\"span\":[0,0],\"items\":[{{\"Nonterminal\":{rule}}}]}}"
+        )?;
         match read_tree(rt.alloc(), text.as_str()) {
             Ok(_) => assert!(rt; is_tree, "{type_decl}"),
             Err(TreeError::NotATree) => assert!(rt; !is_tree, "{type_decl}"),

@@ -86,7 +86,9 @@ pub(super) fn path(alloc: Global, value: &Value) -> Result<Path, TreeError>
 impl FromValue for Atom {
     ghost use Rattle.serde_json.specs.Data.{string};
     ghost use Rattle.lalrpop_norm_json.specs.Shapes.{text};
+
     ghost form = { string };
+
     ghost named = { text };
 
     fn from_value(alloc: Global, value: &Value) -> Result<Atom, TreeError> {
@@ -98,7 +100,9 @@ impl FromValue for String {
     ghost use Rattle.std.specs.Prelude.{string_bytes};
     ghost use Rattle.serde_json.specs.Data.{string};
     ghost use Rattle.lalrpop_norm_json.specs.Shapes.{text};
+
     ghost form = { λ s. string (string_bytes s) };
+
     ghost named = { text };
 
     fn from_value(alloc: Global, value: &Value) -> Result<String, TreeError> {
@@ -109,7 +113,9 @@ impl FromValue for String {
 impl FromValue for NonterminalString {
     ghost use Rattle.lalrpop_norm_json.specs.Forms.{nonterminal_form};
     ghost use Rattle.lalrpop_norm_json.specs.Shapes.{text};
+
     ghost form = { nonterminal_form };
+
     ghost named = { text };
 
     fn from_value(alloc: Global, value: &Value) -> Result<NonterminalString, TreeError> {
@@ -120,7 +126,9 @@ impl FromValue for NonterminalString {
 impl FromValue for Lifetime {
     ghost use Rattle.lalrpop_norm_json.specs.Forms.{lifetime_form};
     ghost use Rattle.lalrpop_norm_json.specs.Shapes.{text};
+
     ghost form = { lifetime_form };
+
     ghost named = { text };
 
     fn from_value(alloc: Global, value: &Value) -> Result<Lifetime, TreeError> {
@@ -131,7 +139,9 @@ impl FromValue for Lifetime {
 impl FromValue for TypeParameter {
     ghost use Rattle.lalrpop_norm_json.specs.Forms.{type_parameter_form};
     ghost use Rattle.lalrpop_norm_json.specs.Shapes.{type_parameter};
+
     ghost form = { type_parameter_form };
+
     ghost named = { type_parameter };
 
     #[tactic(auto, using(crate::proofs::Refusals::refusals))]
@@ -151,7 +161,9 @@ impl FromValue for Path {
     ghost use Rattle.lalrpop_norm_tree.specs.Paths.{path_view};
     ghost use Rattle.lalrpop_norm_json.specs.Forms.{path_form};
     ghost use Rattle.lalrpop_norm_json.specs.Shapes as shape;
+
     ghost form = { λ p. path_form (path_view p) };
+
     ghost named = { shape.path };
 
     fn from_value(alloc: Global, value: &Value) -> Result<Path, TreeError> {

@@ -12,6 +12,7 @@ use std::alloc::Global;
 /// What is read from its JSON form.
 pub(super) trait FromValue: Sized {
     ghost form: { Self → Data };
+
     ghost named: { Name };
 
     /// The value whose form that is.

@@ -42,7 +42,9 @@ impl FromValue for ActionKind {
     ghost use Rattle.lalrpop_norm_tree.specs.Items.{action_view};
     ghost use Rattle.lalrpop_norm_json.specs.ItemForms.{action_form};
     ghost use Rattle.lalrpop_norm_json.specs.Shapes as shape;
+
     ghost form = { λ a. action_form (action_view a) };
+
     ghost named = { shape.action };
 
     #[tactic(auto, using(crate::proofs::Refusals::refusals))]
@@ -82,7 +84,9 @@ impl FromValue for Alternative {
     ghost use Rattle.lalrpop_norm_tree.specs.Items.{alternative_view};
     ghost use Rattle.lalrpop_norm_json.specs.ItemForms.{alternative_form};
     ghost use Rattle.lalrpop_norm_json.specs.Shapes as shape;
+
     ghost form = { λ a. alternative_form (alternative_view a) };
+
     ghost named = { shape.alternative };
 
     fn from_value(alloc: Global, value: &Value) -> Result<Alternative, TreeError> {
@@ -94,7 +98,9 @@ impl FromValue for Visibility {
     ghost use Rattle.lalrpop_norm_tree.specs.Items.{visibility_view};
     ghost use Rattle.lalrpop_norm_json.specs.ItemForms.{visibility_form};
     ghost use Rattle.lalrpop_norm_json.specs.Shapes as shape;
+
     ghost form = { λ v. visibility_form (visibility_view v) };
+
     ghost named = { shape.visibility };
 
     #[tactic(auto, using(crate::proofs::Refusals::refusals, crate::proofs::FormLemmas::maybe_seen))]

@@ -30,7 +30,9 @@ impl FromValue for Conversion {
     ghost use Rattle.lalrpop_norm_tree.specs.Items.{conversion_view};
     ghost use Rattle.lalrpop_norm_json.specs.ItemForms.{conversion_form};
     ghost use Rattle.lalrpop_norm_json.specs.Shapes as shape;
+
     ghost form = { λ c. conversion_form (conversion_view c) };
+
     ghost named = { shape.conversion };
 
     #[tactic(auto, using(crate::proofs::Refusals::refusals))]
@@ -71,7 +73,9 @@ impl FromValue for EnumToken {
     ghost use Rattle.lalrpop_norm_tree.specs.Items.{enum_token_view};
     ghost use Rattle.lalrpop_norm_json.specs.ItemForms.{enum_token_form};
     ghost use Rattle.lalrpop_norm_json.specs.Shapes as shape;
+
     ghost form = { λ e. enum_token_form (enum_token_view e) };
+
     ghost named = { shape.enum_token };
 
     fn from_value(alloc: Global, value: &Value) -> Result<EnumToken, TreeError> {

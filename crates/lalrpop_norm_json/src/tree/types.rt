@@ -22,7 +22,9 @@ impl FromValue for TypeRef {
     ghost use Rattle.lalrpop_norm_tree.specs.Types.{type_view};
     ghost use Rattle.lalrpop_norm_json.specs.TypeForms.{type_form};
     ghost use Rattle.lalrpop_norm_json.specs.Shapes as shape;
+
     ghost form = { λ t. type_form (type_view t) };
+
     ghost named = { shape.type };
 
     fn from_value(alloc: Global, value: &Value) -> Result<TypeRef, TreeError> {
@@ -125,7 +127,10 @@ pub(super) fn parameters(alloc: Global, value: &Value) -> Result<Vec<Parameter>,
 }
 
 /// No where clauses: none are read yet.
-pub(super) fn where_clauses(alloc: Global, value: &Value) -> Result<Vec<WhereClause<TypeRef>>, TreeError>
+pub(super) fn where_clauses(
+    alloc: Global,
+    value: &Value,
+) -> Result<Vec<WhereClause<TypeRef>>, TreeError>
     ensures ok { IfOk result (λ cs. view value.now ≡ list_form where_clause_form (map (where_clause_view type_view) cs.items)) }
     ensures err { IsErrOf result TreeError.NotATree → is shape.empty (view value.now) ≡ false }
 {
