@@ -1,0 +1,4 @@
+pub mod Grammars
+pub mod LoweredTypes
+pub mod Later
+pub mod LaterWalks
