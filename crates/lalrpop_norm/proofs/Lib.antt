@@ -1,1 +1,2 @@
+pub mod WalkLemmas
 pub mod LaterLemmas

@@ -6,6 +6,8 @@ ghost use Rattle.lalrpop_norm_front.specs.Faults.{Refuses};
 ghost use Rattle.lalrpop_norm.specs.Later.{later_parts, later_faults};
 ghost use Rattle.lalrpop_norm.specs.LaterWalks.{Stops};
 
+mod items;
+mod rules;
 mod symbols;
 mod tokens;
 
