@@ -1,2 +1,3 @@
 pub mod WalkLemmas
+pub mod KeyLemmas
 pub mod LaterLemmas
