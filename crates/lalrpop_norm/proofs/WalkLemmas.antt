@@ -25,3 +25,7 @@ finds_at (Err x) p here rest all from h same = rw (from, same) (first_of_more he
 pub stops_at : {T : Type 0} (r : Result T Stop) (e : Stop) (here rest all : List LaterPart) → IsErrAnd r (λ x. x ≡ e) → StopsAt here e → all ≡ here ++ rest → Stops r all
 stops_at (Ok x) e here rest all from h same = absurd from
 stops_at (Err x) e here rest all from h same = rw (from, same) (stop_of_more here rest e h)
+
+pub stops_same : {T : Type 0} (r : Result T Stop) (e : Stop) (here all : List LaterPart) → IsErrAnd r (λ x. x ≡ e) → StopsAt here e → here ≡ all → Stops r all
+stops_same (Ok x) e here all from h same = absurd from
+stops_same (Err x) e here all from h same = rw (from, ← same) h

@@ -10,6 +10,7 @@ mod items;
 mod names;
 mod rules;
 mod symbols;
+mod terminals;
 mod tokens;
 
 use lalrpop_norm_tree::grammar::parse_tree::NoMemory;
