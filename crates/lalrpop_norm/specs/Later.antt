@@ -210,8 +210,11 @@ rules_parts prefix has_rule has_conversion rules =
 abbrev pub has_rule : List ItemData → List ℕ → Bool
 has_rule items name = listed name (names_of (rules_of items))
 
+abbrev pub names_terminal : List ConversionData → TerminalString → Bool
+names_terminal conversions t = terminal_listed t (terminals_of conversions)
+
 abbrev pub has_conversion : List ItemData → TerminalString → Bool
-has_conversion items t = terminal_listed t (terminals_of (conversions_of items))
+has_conversion items = names_terminal (conversions_of items)
 
 abbrev pub together_parts : List ℕ → List ItemData → List LaterPart
 together_parts prefix items =

@@ -12,6 +12,7 @@ use Rattle.std.specs.List.{list_any}
 use Rattle.std.specs.BTreeMap.{is_at}
 use Rattle.std.specs.BTreeSet.{insert_key}
 use Rattle.lalrpop_norm.specs.declared.later.LaterPart.{LaterPart}
+use Rattle.lalrpop_norm.specs.declared.later.lacks.Known.{Known}
 use Rattle.lalrpop_norm.specs.declared.later.Stop.{Stop}
 use Rattle.lalrpop_norm.specs.declared.later.Stop.TheVariants.{Found, Memory}
 
@@ -47,7 +48,7 @@ abbrev pub repeats : {K : Type 0} → (K → K → Ordering) → List K → List
 repeats cmp keys [] = false
 repeats cmp keys (k ∷ ks) = has_key cmp keys k || repeats cmp (insert_key cmp keys k) ks
 
-abbrev literal_cmp : TerminalLiteral → TerminalLiteral → Ordering
+abbrev pub literal_cmp : TerminalLiteral → TerminalLiteral → Ordering
 literal_cmp (Quoted a) (Quoted b) = slice_cmp nat_cmp a b
 literal_cmp (Quoted a) (Regex b) = Less
 literal_cmp (Regex a) (Quoted b) = Greater
@@ -64,3 +65,9 @@ terminal_cmp (Bare a) Error = Less
 terminal_cmp Error (Literal b) = Greater
 terminal_cmp Error (Bare b) = Greater
 terminal_cmp Error Error = Equal
+
+abbrev pub rule_in : Known → List ℕ → Bool
+rule_in known = has_key (slice_cmp nat_cmp) known.rules.keys
+
+abbrev pub conversion_in : Known → TerminalString → Bool
+conversion_in known = has_key terminal_cmp known.terminals.keys

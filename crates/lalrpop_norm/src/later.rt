@@ -7,6 +7,7 @@ ghost use Rattle.lalrpop_norm.specs.Later.{later_parts, later_faults};
 ghost use Rattle.lalrpop_norm.specs.LaterWalks.{Stops};
 
 mod items;
+mod lacks;
 mod names;
 mod rules;
 mod symbols;
