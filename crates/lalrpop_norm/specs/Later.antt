@@ -216,13 +216,16 @@ names_terminal conversions t = terminal_listed t (terminals_of conversions)
 abbrev pub has_conversion : List ItemData → TerminalString → Bool
 has_conversion items = names_terminal (conversions_of items)
 
+-- a rule, and a terminal of a conversion, that stands twice
+abbrev pub repeated_parts : List ItemData → List LaterPart
+repeated_parts items =
+    part_if (has_repeated bytes_eq (names_of (rules_of items))) later.RepeatedRule
+    ++ part_if (has_repeated is_same_terminal (terminals_of (conversions_of items))) later.RepeatedConversion
+
 abbrev pub together_parts : List ℕ → List ItemData → List LaterPart
 together_parts prefix items =
-    second_parts (externs_of items)
-    ++ (part_of_none later.NoExternEnum (enum_in (externs_of items))
-    ++ (part_if (has_repeated bytes_eq (names_of (rules_of items))) later.RepeatedRule
-    ++ (part_if (has_repeated is_same_terminal (terminals_of (conversions_of items))) later.RepeatedConversion
-    ++ rules_parts prefix (has_rule items) (has_conversion items) (rules_of items))))
+    (second_parts (externs_of items) ++ part_of_none later.NoExternEnum (enum_in (externs_of items)))
+    ++ (repeated_parts items ++ rules_parts prefix (has_rule items) (has_conversion items) (rules_of items))
 
 -- what the grammar holds that a later stage brings, in an order of reading
 abbrev pub later_parts : GrammarData → List LaterPart

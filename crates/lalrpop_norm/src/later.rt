@@ -12,11 +12,15 @@ mod names;
 mod rules;
 mod symbols;
 mod terminals;
+mod together;
 mod tokens;
 
-use lalrpop_norm_tree::grammar::parse_tree::NoMemory;
-use std::alloc::{AllocError, AllocFailed};
+use items::{find_in_head, find_in_items};
+use lalrpop_norm_front::{FaultKind, NormFailure, NormResult, refusal};
+use lalrpop_norm_tree::grammar::parse_tree::{Grammar, NoMemory};
+use std::alloc::{AllocError, AllocFailed, Global};
 use std::fmt;
+use together::find_together;
 
 /// A part of a grammar that a later stage brings.
 #[derive(Clone, Copy, Debug, PartialEq, Eq)]
@@ -187,3 +191,27 @@ impl<T: Drop> From<AllocFailed<T>> for Stop {
     }
 }
 
+/// Refuses a grammar that holds a part of a later stage, with the fault F0 at the grammar's span. The message names
+/// the first such part.
+pub(crate) fn refuse_later_parts(alloc: Global, grammar: &Grammar) -> NormResult<()>
+    ensures { Refuses result (later_faults (grammar_view grammar.now)) }
+{
+    match find(alloc, grammar) {
+        Ok(()) => Ok(()),
+        Err(Stop::Found(part)) => Err(refusal(
+            FaultKind::NotYet,
+            grammar.span,
+            format!(in alloc; "{part} is not taken yet"),
+        )),
+        Err(Stop::Memory) => Err(NormFailure::Memory),
+    }
+}
+
+fn find(alloc: Global, grammar: &Grammar) -> Result<(), Stop>
+    ensures { Stops result (later_parts (grammar_view grammar.now)) }
+{
+    find_in_head(grammar)?;
+    find_in_items(&grammar.items)?;
+    find_together(alloc, grammar.prefix.as_str(), &grammar.items)?;
+    Ok(())
+}
