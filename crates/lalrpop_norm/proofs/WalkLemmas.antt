@@ -1,8 +1,10 @@
 -- First parts of joined lists.
-use Rattle.std.proofs.Common.{◌≡◌, ◌<◌, ◌+◌, ℕ, Result, Ok, Err, Some, get_or, drop, sym, ap, ◌∙◌, List, [], ◌∷◌, ◌++◌, length, arith, refl}
-use Rattle.std.specs.List.{flat_map}
+use Rattle.std.proofs.Common.{◌≡◌, ◌<◌, ◌+◌, ℕ, Result, Ok, Err, Some, get_or, drop, sym, ap, ◌∙◌, List, [], ◌∷◌, ◌++◌, length, arith, refl, map}
 use Rattle.std.specs.Result.{IsErrAnd}
-use Rattle.lalrpop_norm_front.proofs.FaultLemmas.{at_drop_item}
+use Rattle.lalrpop_norm_tree.specs.declared.names.Span.{Span}
+use Rattle.lalrpop_norm_front.specs.declared.faults.FaultKind.TheVariants.{NotYet}
+use Rattle.lalrpop_norm_front.specs.declared.faults.NormFailure.{NormFailure}
+use Rattle.lalrpop_norm_front.specs.Faults.{IsFirst}
 use Rattle.lalrpop_norm.specs.declared.later.LaterPart.{LaterPart}
 use Rattle.lalrpop_norm.specs.declared.later.Stop.{Stop}
 use Rattle.lalrpop_norm.specs.declared.later.Stop.TheVariants.{Found, Memory}
@@ -29,3 +31,8 @@ stops_at (Err x) e here rest all from h same = rw (from, same) (stop_of_more her
 pub stops_same : {T : Type 0} (r : Result T Stop) (e : Stop) (here all : List LaterPart) → IsErrAnd r (λ x. x ≡ e) → StopsAt here e → here ≡ all → Stops r all
 stops_same (Ok x) e here all from h same = absurd from
 stops_same (Err x) e here all from h same = rw (from, ← same) h
+
+-- where there is a first part, its fault is that of the whole grammar
+pub first_fault : (s : Span) (ps : List LaterPart) (p : LaterPart) (e : NormFailure) → first_part ps ≡ Some p → IsFirst ((NotYet, s) ∷ []) e → IsFirst (map (λ q. (NotYet, s)) ps) e
+first_fault s [] p e h first = cc
+first_fault s (q ∷ ps) p e h first = first
