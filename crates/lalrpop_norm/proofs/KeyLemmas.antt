@@ -87,9 +87,9 @@ module _ {K : Type 0} (cmp : K → K → Ordering) (exact : CmpEqualImpliesEq cm
     repeats_beside keys [] = refl
     repeats_beside keys (n ∷ ns) =
         ap (λ b. has_key cmp keys n || b)
-            (repeats_beside (insert_key cmp keys n) ns
-            ∙ ap (λ b. has_repeated same ns || b)
-                (ap (λ p. list_any p ns) (fun_ext (has_inserted keys n)) ∙ any_or (same n) (has_key cmp keys) ns))
+        (repeats_beside (insert_key cmp keys n) ns
+        ∙ ap (λ b. has_repeated same ns || b)
+        (ap (λ p. list_any p ns) (fun_ext (has_inserted keys n)) ∙ any_or (same n) (has_key cmp keys) ns))
         ∙ or_shuffle (has_key cmp keys n) (has_repeated same ns) (list_any (same n) ns) (list_any (has_key cmp keys) ns)
 
     -- one is there already when its turn comes exactly where one stands again behind itself

@@ -12,6 +12,8 @@ mod names;
 mod rules;
 mod symbols;
 mod terminals;
+#[cfg(test)]
+mod tests;
 mod together;
 mod tokens;
 

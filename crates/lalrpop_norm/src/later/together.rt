@@ -41,11 +41,7 @@ fn known(alloc: Global, items: &[GrammarItem]) -> Result<Known, Stop>
     Ok(Known { rules, terminals })
 }
 
-pub(super) fn find_together(
-    alloc: Global,
-    prefix: &str,
-    items: &[GrammarItem],
-) -> Result<(), Stop>
+pub(super) fn find_together(alloc: Global, prefix: &str, items: &[GrammarItem]) -> Result<(), Stop>
     ensures { Stops result (together_parts prefix.now (map item_view items.now)) }
 {
     find_wrong_extern(items)?;

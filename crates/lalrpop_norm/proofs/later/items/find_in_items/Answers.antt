@@ -9,4 +9,4 @@ use Rattle.lalrpop_norm.proofs.later.items.find_in_items.Goals as goal
 pub returns-in_err-find_in_item : goal.returns-in_err-find_in_item
 returns-in_err-find_in_item c =
     finds_at _ _ _ _ _ c.from_residual.ensures.1 c.in_err-find_in_item.ensures
-        (sym c.loop-item.invariant ∙ at_drop_item (λ ys. flat_map item_parts (map item_view ys)) c.args.items.now c.loop-item.item-index c.item-item.result (omega arith) c.item-item.is)
+    (sym c.loop-item.invariant ∙ at_drop_item (λ ys. flat_map item_parts (map item_view ys)) c.args.items.now c.loop-item.item-index c.item-item.result (omega arith) c.item-item.is)

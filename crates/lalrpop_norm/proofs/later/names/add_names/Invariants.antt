@@ -8,5 +8,5 @@ use Rattle.lalrpop_norm.proofs.later.names.add_names.Given as goal
 abbrev pub invariant-loop-item : goal.invariant-loop-item
 invariant-loop-item l = record {
   finds : repeats (slice_cmp nat_cmp) l.names.keys (names_of (rules_of (map item_view (drop l.item-index l.items)))) ≡ repeats (slice_cmp nat_cmp) l.initial.names.keys (names_of (rules_of (map item_view l.items)));
-  adds : with_keys (slice_cmp nat_cmp) l.names.keys (names_of (rules_of (map item_view (drop l.item-index l.items)))) ≡ with_keys (slice_cmp nat_cmp) l.initial.names.keys (names_of (rules_of (map item_view l.items)))
+  adds : with_keys (slice_cmp nat_cmp) l.names.keys (names_of (rules_of (map item_view (drop l.item-index l.items)))) ≡ with_keys (slice_cmp nat_cmp) l.initial.names.keys (names_of (rules_of (map item_view l.items)));
 }

@@ -15,7 +15,7 @@ from_none keys ns none = rw none (ap (λ b. part_if b RepeatedRule) (repeated_na
 pub returns-in_err-add_names-clause-finds : goal.returns-in_err-add_names-clause-finds
 returns-in_err-add_names-clause-finds c =
     stops_same _ _ _ _ c.from_residual.ensures.1 c.in_err-add_names.ensures.finds
-        (from_none c.new-names.result.keys (names_of (rules_of (map item_view c.args.items.now))) c.new-names.ensures.empty)
+    (from_none c.new-names.result.keys (names_of (rules_of (map item_view c.args.items.now))) c.new-names.ensures.empty)
 
 pub returns-clause-finds : goal.returns-clause-finds
 returns-clause-finds c =

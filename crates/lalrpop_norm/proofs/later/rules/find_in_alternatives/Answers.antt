@@ -9,4 +9,4 @@ use Rattle.lalrpop_norm.proofs.later.rules.find_in_alternatives.Goals as goal
 pub returns-in_err-find_in_alternative : goal.returns-in_err-find_in_alternative
 returns-in_err-find_in_alternative c =
     finds_at _ _ _ _ _ c.from_residual.ensures.1 c.in_err-find_in_alternative.ensures
-        (sym c.loop-alternative.invariant ∙ at_drop_item (λ ys. flat_map alternative_parts (map alternative_view ys)) c.args.alternatives.now c.loop-alternative.alternative-index c.alternative-item.result (omega arith) c.alternative-item.is)
+    (sym c.loop-alternative.invariant ∙ at_drop_item (λ ys. flat_map alternative_parts (map alternative_view ys)) c.args.alternatives.now c.loop-alternative.alternative-index c.alternative-item.result (omega arith) c.alternative-item.is)

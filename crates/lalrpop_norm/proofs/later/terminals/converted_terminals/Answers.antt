@@ -15,7 +15,7 @@ from_none keys ns none = rw none (ap (λ b. part_if b RepeatedConversion) (repea
 pub returns-in_err-add_terminals-clause-finds : goal.returns-in_err-add_terminals-clause-finds
 returns-in_err-add_terminals-clause-finds c =
     stops_same _ _ _ _ c.from_residual.ensures.1 c.in_err-add_terminals.ensures.finds
-        (from_none c.new-terminals.result.keys (terminals_of (map conversion_view c.args.conversions.now)) c.new-terminals.ensures.empty)
+    (from_none c.new-terminals.result.keys (terminals_of (map conversion_view c.args.conversions.now)) c.new-terminals.ensures.empty)
 
 pub returns-clause-finds : goal.returns-clause-finds
 returns-clause-finds c =
