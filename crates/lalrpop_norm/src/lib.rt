@@ -1,4 +1,4 @@
 //! LALRPOP's grammar normalization.
 #![tactic(auto)]
 
-pub mod later;
+mod later;
