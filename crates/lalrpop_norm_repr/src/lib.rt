@@ -8,5 +8,7 @@ mod action;
 pub mod grammar;
 mod production;
 mod symbol;
+#[cfg(test)]
+mod tests;
 mod types;
 mod whole;
