@@ -1,0 +1,14 @@
+//! Lowered grammars: plain productions, their actions and their types.
+//!
+//! The types stand under the paths of the module [`grammar`]. Each type that holds a list, a box, a text or a map has a
+//! *view* in specs/: plain data without pointers, of which every contract speaks.
+#![tactic(auto)]
+
+mod action;
+pub mod grammar;
+mod production;
+mod symbol;
+#[cfg(test)]
+mod tests;
+mod types;
+mod whole;
