@@ -15,4 +15,6 @@ mod path;
 mod pattern;
 mod show;
 mod symbol;
+#[cfg(test)]
+mod tests;
 mod types;
