@@ -14,4 +14,6 @@ mod names;
 mod path;
 mod pattern;
 mod symbol;
+#[cfg(test)]
+mod tests_accessors;
 mod types;
