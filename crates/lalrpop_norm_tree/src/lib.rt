@@ -17,4 +17,5 @@ mod show;
 mod symbol;
 #[cfg(test)]
 mod tests;
+mod tests_accessors;
 mod types;
