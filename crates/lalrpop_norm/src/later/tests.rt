@@ -155,18 +155,32 @@ fn answer_at(alloc: Global, kind: SymbolKind) -> Result<String, Fail> {
     answer_with(alloc, alternative(alloc, symbol(kind))?)
 }
 
+/// A plain rule S.
+fn start(alloc: Global) -> Result<GrammarItem, Fail> {
+    let only = alternative(alloc, letter(alloc)?)?;
+    Ok(GrammarItem::Nonterminal(rule(alloc, "S", only)?))
+}
+
+fn answer_of(alloc: Global, items: Vec<GrammarItem>) -> Result<String, Fail> {
+    let whole = grammar(alloc, items)?;
+    answer(alloc, &whole)
+}
+
 /// The answer where another item stands behind the extern block and S.
 fn answer_behind(alloc: Global, item: GrammarItem) -> Result<String, Fail> {
-    let start = rule(alloc, "S", alternative(alloc, letter(alloc)?)?)?;
-    let items = vec![in alloc; plain_tokens(alloc)?, GrammarItem::Nonterminal(start), item]?;
-    answer(alloc, &grammar(alloc, items)?)
+    let mut items = Vec::new(alloc);
+    items.push(plain_tokens(alloc)?)?;
+    items.push(start(alloc)?)?;
+    items.push(item)?;
+    answer_of(alloc, items)
 }
 
 /// The answer where this item stands before S.
 fn answer_before(alloc: Global, item: GrammarItem) -> Result<String, Fail> {
-    let start = rule(alloc, "S", alternative(alloc, letter(alloc)?)?)?;
-    let items = vec![in alloc; item, GrammarItem::Nonterminal(start)]?;
-    answer(alloc, &grammar(alloc, items)?)
+    let mut items = Vec::new(alloc);
+    items.push(item)?;
+    items.push(start(alloc)?)?;
+    answer_of(alloc, items)
 }
 
 #[test]
