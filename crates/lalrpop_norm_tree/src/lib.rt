@@ -17,5 +17,6 @@ mod show;
 mod symbol;
 #[cfg(test)]
 mod tests;
+#[cfg(test)]
 mod tests_accessors;
 mod types;
