@@ -19,4 +19,6 @@ mod symbol;
 mod tests;
 #[cfg(test)]
 mod tests_accessors;
+#[cfg(test)]
+mod tests_copies;
 mod types;

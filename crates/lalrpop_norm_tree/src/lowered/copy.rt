@@ -1,12 +1,9 @@
 //! Copies of lowered types.
-ghost use Rattle.std.specs.Prelude.{◌≡◌, IfOk, map, option_map};
+ghost use Rattle.std.specs.Prelude.{◌≡◌, IfOk, option_map};
 ghost use Rattle.lalrpop_norm_tree.specs.Reprs.{repr_view, applied_view, reprs_view};
-ghost use Rattle.lalrpop_norm_tree.specs.Paths.{path_view};
 
 use super::{NominalTypeRepr, TypeRepr};
-use crate::names::TypeParameter;
-use crate::path::Path;
-use shared_text::Atom;
+use crate::types::copy::copy_type_parameters;
 use std::alloc::AllocError;
 
 impl Clone for TypeRepr {
@@ -54,8 +51,8 @@ fn copy_repr(ty: &TypeRepr) -> Result<TypeRepr, AllocError>
             parameters,
             ret,
         } => Ok(TypeRepr::Fn {
-            forall: copy_parameters(forall)?,
-            path: copy_path(path)?,
+            forall: copy_type_parameters(forall)?,
+            path: path.clone()?,
             parameters: copy_reprs(parameters)?,
             ret: copy_return(ret)?,
         }),
@@ -66,7 +63,7 @@ fn copy_repr(ty: &TypeRepr) -> Result<TypeRepr, AllocError>
 fn copy_nominal(nominal: &NominalTypeRepr) -> Result<NominalTypeRepr, AllocError>
     ensures { IfOk result (λ n. applied_view n ≡ applied_view nominal.now) }
 {
-    let path = copy_path(&nominal.path)?;
+    let path = nominal.path.clone()?;
     let types = copy_reprs(&nominal.types)?;
     Ok(NominalTypeRepr { path, types })
 }
@@ -96,29 +93,6 @@ fn copy_reprs(types: &Vec<TypeRepr>) -> Result<Vec<TypeRepr>, AllocError>
     let mut copies = Vec::new(*types.allocator());
     for inner in types {
         copies.push(copy_repr(inner)?)?;
-    }
-    Ok(copies)
-}
-
-fn copy_path(path: &Path) -> Result<Path, AllocError>
-    ensures { IfOk result (λ p. path_view p ≡ path_view path.now) }
-{
-    let mut ids: Vec<Atom> = Vec::new(*path.ids.allocator());
-    for id in &path.ids {
-        ids.push(id.clone()?)?;
-    }
-    Ok(Path {
-        absolute: path.absolute,
-        ids,
-    })
-}
-
-fn copy_parameters(parameters: &Vec<TypeParameter>) -> Result<Vec<TypeParameter>, AllocError>
-    ensures { IfOk result (λ ps. ps.items ≡ parameters.now.items) }
-{
-    let mut copies = Vec::new(*parameters.allocator());
-    for parameter in parameters {
-        copies.push(parameter.clone()?)?;
     }
     Ok(copies)
 }

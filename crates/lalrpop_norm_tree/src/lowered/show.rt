@@ -1,15 +1,16 @@
 //! The texts of lowered types.
-ghost use Rattle.std.specs.Prelude.{Some, map, codes, ◌++◌};
+ghost use Rattle.std.specs.Prelude.{Some, codes, ◌++◌, option_map};
 ghost use Rattle.std.specs.Fmt.{WritesOnOk};
 ghost use Rattle.lalrpop_norm_tree.specs.Reprs.{repr_view, applied_view, reprs_view, maybe_repr_of};
-ghost use Rattle.lalrpop_norm_tree.specs.Texts.{joined, type_parameter_text};
-ghost use Rattle.lalrpop_norm_tree.specs.TypeTexts.{repr_text, repr_texts, applied_text, angled, forall_text, path_text, reference_text, return_text, signature_text};
+ghost use Rattle.lalrpop_norm_tree.specs.Texts.{joined};
+ghost use Rattle.lalrpop_norm_tree.specs.TypeTexts.{repr_text, repr_texts, applied_text, angled, reference_text, return_text, signature_text};
 ghost use Rattle.lalrpop_norm_tree.specs.Paths.{path_view};
-ghost use Rattle.std.specs.Prelude.{option_map};
 
 use super::{NominalTypeRepr, TypeRepr};
+use crate::names::show::show_reference;
 use crate::names::{Lifetime, TypeParameter};
 use crate::path::Path;
+use crate::path::show::show_forall_path;
 use shared_text::Atom;
 use std::fmt;
 
@@ -116,22 +117,9 @@ fn show_signature<W: fmt::Write>(
     ensures { WritesOnOk W.write_str_gives f.old result
         (signature_text forall.now (path_view path.now) (repr_texts (reprs_view parameters.now.items))) f.new }
 {
-    show_function_path(forall, path, f)?;
-    show_between(parameters, f)
-}
-
-/// What stands before the parentheses of a function type.
-fn show_function_path<W: fmt::Write>(
-    forall: &[TypeParameter],
-    path: &Path,
-    f: &mut fmt::Formatter<W>,
-) -> fmt::Result
-    ensures { WritesOnOk W.write_str_gives f.old result
-        (codes "dyn " ++ forall_text forall.now ++ path_text (path_view path.now)) f.new }
-{
     f.write_str("dyn ")?;
-    show_forall(forall, f)?;
-    fmt::Display::fmt(path, f)
+    show_forall_path(forall, path, f)?;
+    show_between(parameters, f)
 }
 
 /// `T::Id`.
@@ -191,58 +179,6 @@ fn show_types<W: fmt::Write>(types: &[TypeRepr], f: &mut fmt::Formatter<W>) -> f
         (joined (codes ", ") (repr_texts (reprs_view types.now))) f.new }
 {
     if let Some((first, others)) = types.split_first() {
-        fmt::Display::fmt(first, f)?;
-        for other in others {
-            f.write_str(", ")?;
-            fmt::Display::fmt(other, f)?;
-        }
-    }
-    Ok(())
-}
-
-/// What stands before the referent of a reference.
-pub(crate) fn show_reference<W: fmt::Write>(
-    lifetime: &Option<Lifetime>,
-    mutable: bool,
-    f: &mut fmt::Formatter<W>,
-) -> fmt::Result
-    ensures { WritesOnOk W.write_str_gives f.old result (reference_text lifetime.now mutable) f.new }
-{
-    f.write_str("&")?;
-    if let Some(lifetime) = lifetime {
-        fmt::Display::fmt(lifetime, f)?;
-        f.write_str(" ")?;
-    }
-    if mutable {
-        f.write_str("mut ")?;
-    }
-    Ok(())
-}
-
-/// `for<..> `, where there is a parameter.
-pub(crate) fn show_forall<W: fmt::Write>(
-    parameters: &[TypeParameter],
-    f: &mut fmt::Formatter<W>,
-) -> fmt::Result
-    ensures { WritesOnOk W.write_str_gives f.old result (forall_text parameters.now) f.new }
-{
-    if parameters.is_empty() {
-        return Ok(());
-    }
-    f.write_str("for<")?;
-    show_parameters(parameters, f)?;
-    f.write_str("> ")
-}
-
-/// The parameters with `, ` between each two.
-fn show_parameters<W: fmt::Write>(
-    parameters: &[TypeParameter],
-    f: &mut fmt::Formatter<W>,
-) -> fmt::Result
-    ensures { WritesOnOk W.write_str_gives f.old result
-        (joined (codes ", ") (map type_parameter_text parameters.now)) f.new }
-{
-    if let Some((first, others)) = parameters.split_first() {
         fmt::Display::fmt(first, f)?;
         for other in others {
             f.write_str(", ")?;
