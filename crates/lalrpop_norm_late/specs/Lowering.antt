@@ -1,6 +1,7 @@
 -- What plain rules are lowered to: numbered productions, action functions, terminals.
-use Rattle.std.specs.Prelude.{◌≡◌, ℕ, ◌+◌, ◌<◌, Bool, true, false, List, [], ◌∷◌, ◌++◌, length, map, nat_cmp, nat_le, Option, Some, None, is_none, unwrap_or, option_map, if◌then◌else◌}
+use Rattle.std.specs.Prelude.{◌≡◌, ℕ, ◌+◌, ◌<◌, Bool, true, false, List, [], ◌∷◌, ◌++◌, length, map, nat_le, Option, Some, None, is_none, unwrap_or, option_map, if◌then◌else◌}
 use Rattle.std.specs.BTreeMap.{insert_entry}
+use Rattle.std.specs.Ordering.{nat_cmp}
 use Rattle.std.specs.Cmp.Lexicographic.{slice_cmp}
 use Rattle.lalrpop_norm_front.specs.Faults.{Fault, fault_if}
 use Rattle.lalrpop_norm_front.specs.declared.faults.FaultKind.TheVariants.{NotYet, TooManyActions}
@@ -90,12 +91,17 @@ abbrev pub is_fallible : Option Action → Bool
 is_fallible (Some (fallible_code c)) = true
 is_fallible _ = false
 
--- the action of an alternative of a rule of that type: code over one argument for each symbol, or a location
+-- code over one argument for each symbol
+abbrev pub user_kind : List ℕ → TypeTable → ReprData → AlternativeData → ActionKindData
+user_kind prefix types type a = user (argument_patterns prefix a.parts) (map (type_or_unit types) (lowered_symbols a.parts)) (code_of type (source_names prefix a.parts) a.action)
+
+-- what the action of an alternative of a rule of that type does
 abbrev pub action_kind : List ℕ → TypeTable → ReprData → AlternativeData → Option Action → ActionKindData
 action_kind prefix types type a (Some lookahead_code) = lookaround Lookahead
 action_kind prefix types type a (Some lookbehind_code) = lookaround Lookbehind
-action_kind prefix types type a _ = user (argument_patterns prefix a.parts) (map (type_or_unit types) (lowered_symbols a.parts)) (code_of type (source_names prefix a.parts) a.action)
+action_kind prefix types type a _ = user_kind prefix types type a
 
+-- what it answers
 abbrev pub action_type : TypeTable → ReprData → Option Action → ReprData
 action_type types type (Some lookahead_code) = location_type types
 action_type types type (Some lookbehind_code) = location_type types
@@ -111,7 +117,7 @@ production_of name k a = record { nonterminal = name; symbols = lowered_symbols 
 -- the productions of a nonterminal; their actions are numbered from k on
 abbrev pub productions_from : NonterminalString → ℕ → List AlternativeData → List ProductionData
 productions_from name k [] = []
-productions_from name k (a ∷ as') = production_of name k a ∷ productions_from name (k + 1) as'
+productions_from name k (a ∷ rest) = production_of name k a ∷ productions_from name (k + 1) rest
 
 -- the type of a rule by the table
 abbrev pub rule_type : TypeTable → RuleData → ReprData
@@ -130,19 +136,24 @@ alternative_actions prefix types (r ∷ rs) = map (action_of prefix types (rule_
 abbrev pub Row : Type 0
 Row = NonterminalString × EntryData
 
-abbrev pub start_row : List ℕ → ℕ → RuleData → Row
-start_row prefix k r = (start_name prefix r.name, record { visibility = r.visibility; span = r.span; attributes = no_attributes; productions = production_of (start_name prefix r.name) k (start_alternative r) ∷ [] })
+abbrev pub start_entry : List ℕ → ℕ → RuleData → EntryData
+start_entry prefix k r = record { visibility = r.visibility; span = r.span; attributes = no_attributes; productions = production_of (start_name prefix r.name) k (start_alternative r) ∷ [] }
 
 abbrev pub start_rows : List ℕ → ℕ → List RuleData → List Row
 start_rows prefix k [] = []
-start_rows prefix k (r ∷ rs) = start_row prefix k r ∷ start_rows prefix (k + 1) rs
+start_rows prefix k (r ∷ rs) = (start_name prefix r.name, start_entry prefix k r) ∷ start_rows prefix (k + 1) rs
 
-abbrev pub rule_row : ℕ → RuleData → Row
-rule_row k r = (r.name, record { visibility = r.visibility; span = r.span; attributes = r.attributes; productions = productions_from r.name k r.alternatives })
+abbrev pub rule_entry : ℕ → RuleData → EntryData
+rule_entry k r = record { visibility = r.visibility; span = r.span; attributes = r.attributes; productions = productions_from r.name k r.alternatives }
 
 abbrev pub rule_rows : ℕ → List RuleData → List Row
 rule_rows k [] = []
-rule_rows k (r ∷ rs) = rule_row k r ∷ rule_rows (k + length r.alternatives) rs
+rule_rows k (r ∷ rs) = (r.name, rule_entry k r) ∷ rule_rows (k + length r.alternatives) rs
+
+-- each rule and its start symbol
+abbrev pub start_names : List ℕ → List RuleData → List (NonterminalString × NonterminalString)
+start_names prefix [] = []
+start_names prefix (r ∷ rs) = (r.name, start_name prefix r.name) ∷ start_names prefix rs
 
 -- ---- tables sorted by names
 
@@ -159,3 +170,16 @@ sorted_onto rows (r ∷ rs) = sorted_onto (with_row rows r) rs
 -- number k is past the greatest number of an action
 abbrev pub number_faults : ℕ → Span → List Fault
 number_faults k span = fault_if (nat_le 4294967296 k) (TooManyActions, span)
+
+-- the numbers of the alternatives' actions, from k on
+abbrev pub numbers_faults : ℕ → List AlternativeData → List Fault
+numbers_faults k [] = []
+numbers_faults k (a ∷ rest) = number_faults k a.span ++ numbers_faults (k + 1) rest
+
+abbrev pub starts_faults : ℕ → List RuleData → List Fault
+starts_faults k [] = []
+starts_faults k (r ∷ rs) = number_faults k r.span ++ starts_faults (k + 1) rs
+
+abbrev pub rules_faults : ℕ → List RuleData → List Fault
+rules_faults k [] = []
+rules_faults k (r ∷ rs) = numbers_faults k r.alternatives ++ rules_faults (k + length r.alternatives) rs

@@ -1,5 +1,10 @@
 //! Lowering: from plain rules to numbered productions, action functions and types.
 #![tactic(auto)]
 
+mod actions;
 mod arguments;
 mod code;
+mod productions;
+mod rules;
+mod starts;
+mod symbols;

@@ -1,0 +1,71 @@
+//! Productions: start symbols first, then the alternatives in item order.
+ghost use Rattle.std.specs.Prelude.{◌≡◌, ◌+◌, ◌++◌, [], ◌∷◌, length, IfOk, OnOk, map, vec_len};
+ghost use Rattle.lalrpop_norm_front.specs.Faults.{Refuses};
+ghost use Rattle.lalrpop_norm_tree.specs.Items.{alternative_view};
+ghost use Rattle.lalrpop_norm_tree.specs.Reprs.{repr_view};
+ghost use Rattle.lalrpop_norm_repr.specs.Actions.{action_defn_view};
+ghost use Rattle.lalrpop_norm_repr.specs.Productions.{production_view};
+ghost use Rattle.lalrpop_norm_repr.specs.Tables.{type_table};
+ghost use Rattle.lalrpop_norm_late.specs.Lowering.{number_faults, numbers_faults, action_of, production_of, productions_from};
+
+use crate::actions::{action_of, add_action};
+use crate::symbols::lowered_symbols;
+use lalrpop_norm_front::NormResult;
+use lalrpop_norm_repr::grammar::repr::{ActionFnDefn, Production, TypeRepr, Types};
+use lalrpop_norm_tree::grammar::parse_tree::{Alternative, NonterminalString};
+use std::alloc::Global;
+
+/// The production of an alternative of a rule of that type. Its action is added.
+pub(crate) fn lower_alternative(
+    alloc: Global,
+    prefix: &str,
+    types: &Types,
+    name: &NonterminalString,
+    ty: &TypeRepr,
+    alternative: &Alternative,
+    actions: &mut Vec<ActionFnDefn>,
+) -> NormResult<Production>
+    ensures refuses { Refuses result (number_faults (vec_len actions.old) alternative.now.span) }
+    ensures lowered { IfOk result (λ p.
+        production_view p ≡ production_of name.now (vec_len actions.old) (alternative_view alternative.now)) }
+    ensures adds { OnOk result (map action_defn_view actions.new.items
+        ≡ map action_defn_view actions.old.items ++ action_of prefix.now (type_table types.now) (repr_view ty.now) (alternative_view alternative.now) ∷ []) }
+    ensures count { OnOk result (vec_len actions.new ≡ vec_len actions.old + 1) }
+{
+    let symbols = lowered_symbols(alloc, &alternative.expr.symbols)?;
+    let defn = action_of(alloc, prefix, types, ty, alternative, &symbols)?;
+    let nonterminal = name.clone()?;
+    let action = add_action(alloc, actions, alternative.span, defn)?;
+    Ok(Production {
+        nonterminal,
+        symbols,
+        action,
+        span: alternative.span,
+    })
+}
+
+/// The productions of a rule's alternatives, in order.
+pub(crate) fn lower_alternatives(
+    alloc: Global,
+    prefix: &str,
+    types: &Types,
+    name: &NonterminalString,
+    ty: &TypeRepr,
+    alternatives: &[Alternative],
+    actions: &mut Vec<ActionFnDefn>,
+) -> NormResult<Vec<Production>>
+    ensures refuses { Refuses result (numbers_faults (vec_len actions.old) (map alternative_view alternatives.now)) }
+    ensures lowered { IfOk result (λ ps. map production_view ps.items
+        ≡ productions_from name.now (vec_len actions.old) (map alternative_view alternatives.now)) }
+    ensures adds { OnOk result (map action_defn_view actions.new.items
+        ≡ map action_defn_view actions.old.items ++ map (action_of prefix.now (type_table types.now) (repr_view ty.now)) (map alternative_view alternatives.now)) }
+    ensures count { OnOk result (vec_len actions.new ≡ vec_len actions.old + length alternatives.now) }
+{
+    let mut productions = Vec::new(alloc);
+    for alternative in alternatives {
+        let production =
+            lower_alternative(alloc, prefix, types, name, ty, alternative, actions)?;
+        productions.push(production)?;
+    }
+    Ok(productions)
+}

@@ -1,0 +1,232 @@
+//! The nonterminals of a lowered grammar: start symbols first, then the rules.
+ghost use Rattle.std.specs.Prelude.{◌≡◌, ◌+◌, ◌++◌, [], ◌∷◌, length, IfOk, OnOk, map, vec_len};
+ghost use Rattle.lalrpop_norm_front.specs.Faults.{Refuses};
+ghost use Rattle.lalrpop_norm_tree.specs.Attributes.{attribute_view};
+ghost use Rattle.lalrpop_norm_tree.specs.Items.{alternative_view, rule_view};
+ghost use Rattle.lalrpop_norm_tree.specs.Reprs.{repr_view};
+ghost use Rattle.lalrpop_norm_tree.specs.Symbols.{expr_view, symbol_view, nonterminal, at, part_and, no_parts};
+ghost use Rattle.lalrpop_norm_repr.specs.Actions.{action_defn_view};
+ghost use Rattle.lalrpop_norm_repr.specs.Productions.{nonterminal_data_view};
+ghost use Rattle.lalrpop_norm_repr.specs.Tables.{type_table, rows};
+ghost use Rattle.lalrpop_norm_late.specs.Lowering.{number_faults, numbers_faults, starts_faults, rules_faults, action_of, rule_type, rule_entry, rule_rows, start_entry, start_rows, start_name, start_names, start_alternative, start_actions, alternative_actions, with_row, sorted_onto};
+
+use crate::productions::{lower_alternative, lower_alternatives};
+use lalrpop_norm_front::NormResult;
+use lalrpop_norm_repr::grammar::repr::{ActionFnDefn, NonterminalData, TypeRepr, Types};
+use lalrpop_norm_tree::grammar::parse_tree as pt;
+use lalrpop_norm_tree::grammar::parse_tree::{
+    Alternative, Atom, Attribute, ExprSymbol, NoMemory, NonterminalString, Span, Symbol, SymbolKind,
+};
+use std::alloc::Global;
+use std::collections::BTreeMap;
+
+/// The type of a rule. Each rule of a plain grammar has one.
+fn rule_type(
+    alloc: Global,
+    types: &Types,
+    rule: &pt::NonterminalData,
+) -> Result<TypeRepr, NoMemory>
+    ensures { IfOk result (λ t. repr_view t ≡ rule_type (type_table types.now) (rule_view rule.now)) }
+{
+    match types.lookup_nonterminal_type(&rule.name) {
+        Some(ty) => Ok(ty.clone()?),
+        None => Ok(TypeRepr::Tuple(Vec::new(alloc))),
+    }
+}
+
+/// The name of a start symbol.
+fn start_name(
+    alloc: Global,
+    prefix: &str,
+    name: &NonterminalString,
+) -> Result<NonterminalString, NoMemory>
+    ensures { IfOk result (λ n. n ≡ start_name prefix.now name.now) }
+{
+    let text = format!(in alloc; "{prefix}{name}")?;
+    Ok(NonterminalString(Atom::new(alloc, text.as_str())?))
+}
+
+/// The one alternative of a start symbol: the rule's name.
+fn start_alternative(alloc: Global, rule: &pt::NonterminalData) -> Result<Alternative, NoMemory>
+    ensures { IfOk result (λ a. alternative_view a ≡ start_alternative (rule_view rule.now)) }
+{
+    let expr = named(alloc, rule.span, &rule.name)?;
+    Ok(Alternative {
+        span: rule.span,
+        expr,
+        condition: None,
+        action: None,
+        attributes: Vec::new(alloc),
+    })
+}
+
+/// The nonterminal alone, at that place.
+fn named(alloc: Global, span: Span, name: &NonterminalString) -> Result<ExprSymbol, NoMemory>
+    ensures { IfOk result (λ e. expr_view e ≡ part_and (at span (nonterminal name.now.0)) no_parts) }
+{
+    let symbol = named_symbol(span, name)?;
+    let mut symbols = Vec::new(alloc);
+    symbols.push(symbol)?;
+    Ok(ExprSymbol { symbols })
+}
+
+fn named_symbol(span: Span, name: &NonterminalString) -> Result<Symbol, NoMemory>
+    ensures { IfOk result (λ s. symbol_view s ≡ at span (nonterminal name.now.0)) }
+{
+    let kind = SymbolKind::Nonterminal(name.clone()?);
+    Ok(Symbol { span, kind })
+}
+
+/// The start symbol of a rule.
+fn lower_start(
+    alloc: Global,
+    prefix: &str,
+    types: &Types,
+    rule: &pt::NonterminalData,
+    name: &NonterminalString,
+    actions: &mut Vec<ActionFnDefn>,
+) -> NormResult<NonterminalData>
+    requires { name.now ≡ start_name prefix.now rule.now.name }
+    ensures refuses { Refuses result (number_faults (vec_len actions.old) rule.now.span) }
+    ensures lowered { IfOk result (λ n.
+        nonterminal_data_view n ≡ start_entry prefix.now (vec_len actions.old) (rule_view rule.now)) }
+    ensures adds { OnOk result (map action_defn_view actions.new.items ≡ map action_defn_view actions.old.items
+        ++ action_of prefix.now (type_table types.now) (rule_type (type_table types.now) (rule_view rule.now)) (start_alternative (rule_view rule.now)) ∷ []) }
+    ensures count { OnOk result (vec_len actions.new ≡ vec_len actions.old + 1) }
+{
+    let ty = rule_type(alloc, types, rule)?;
+    let alternative = start_alternative(alloc, rule)?;
+    let visibility = rule.visibility.clone()?;
+    let production = lower_alternative(alloc, prefix, types, name, &ty, &alternative, actions)?;
+    let mut productions = Vec::new(alloc);
+    productions.push(production)?;
+    Ok(NonterminalData {
+        visibility,
+        span: rule.span,
+        attributes: Vec::new(alloc),
+        productions,
+    })
+}
+
+/// The nonterminal of a rule.
+fn lower_rule(
+    alloc: Global,
+    prefix: &str,
+    types: &Types,
+    rule: &pt::NonterminalData,
+    actions: &mut Vec<ActionFnDefn>,
+) -> NormResult<NonterminalData>
+    ensures refuses { Refuses result (numbers_faults (vec_len actions.old) (rule_view rule.now).alternatives) }
+    ensures lowered { IfOk result (λ n. nonterminal_data_view n ≡ rule_entry (vec_len actions.old) (rule_view rule.now)) }
+    ensures adds { OnOk result (map action_defn_view actions.new.items ≡ map action_defn_view actions.old.items
+        ++ map (action_of prefix.now (type_table types.now) (rule_type (type_table types.now) (rule_view rule.now))) (rule_view rule.now).alternatives) }
+    ensures count { OnOk result (vec_len actions.new ≡ vec_len actions.old + length (rule_view rule.now).alternatives) }
+{
+    let ty = rule_type(alloc, types, rule)?;
+    let visibility = rule.visibility.clone()?;
+    let attributes = copy_attributes(alloc, &rule.attributes)?;
+    let productions = lower_alternatives(
+        alloc,
+        prefix,
+        types,
+        &rule.name,
+        &ty,
+        &rule.alternatives,
+        actions,
+    )?;
+    Ok(NonterminalData {
+        visibility,
+        span: rule.span,
+        attributes,
+        productions,
+    })
+}
+
+/// A copy of each attribute.
+fn copy_attributes(alloc: Global, attributes: &[Attribute]) -> Result<Vec<Attribute>, NoMemory>
+    ensures { IfOk result (λ copies. map attribute_view copies.items ≡ map attribute_view attributes.now) }
+{
+    let mut copies = Vec::new(alloc);
+    for attribute in attributes {
+        copies.push(attribute.clone()?)?;
+    }
+    Ok(copies)
+}
+
+/// Puts a nonterminal into the table.
+#[tactic(auto, using(crate::proofs::RowLemmas::rows_inserted))]
+fn insert(
+    nonterminals: &mut BTreeMap<NonterminalString, NonterminalData>,
+    name: NonterminalString,
+    entry: NonterminalData,
+) -> Result<(), NoMemory>
+    ensures { OnOk result (rows nonterminal_data_view nonterminals.new
+        ≡ with_row (rows nonterminal_data_view nonterminals.old) (name, nonterminal_data_view entry)) }
+{
+    nonterminals.insert(name, entry)?;
+    Ok(())
+}
+
+/// The start symbols of the public rules.
+pub(crate) fn lower_starts(
+    alloc: Global,
+    prefix: &str,
+    types: &Types,
+    rules: &[&pt::NonterminalData],
+    actions: &mut Vec<ActionFnDefn>,
+    nonterminals: &mut BTreeMap<NonterminalString, NonterminalData>,
+) -> NormResult<()>
+    ensures refuses { Refuses result (starts_faults (vec_len actions.old) (map (λ r. rule_view r.now) rules.now)) }
+    ensures table { OnOk result (rows nonterminal_data_view nonterminals.new
+        ≡ sorted_onto (rows nonterminal_data_view nonterminals.old) (start_rows prefix.now (vec_len actions.old) (map (λ r. rule_view r.now) rules.now))) }
+    ensures adds { OnOk result (map action_defn_view actions.new.items
+        ≡ map action_defn_view actions.old.items ++ start_actions prefix.now (type_table types.now) (map (λ r. rule_view r.now) rules.now)) }
+    ensures count { OnOk result (vec_len actions.new ≡ vec_len actions.old + length rules.now) }
+{
+    for rule in rules {
+        let name = start_name(alloc, prefix, &rule.name)?;
+        let data = lower_start(alloc, prefix, types, rule, &name, actions)?;
+        insert(nonterminals, name, data)?;
+    }
+    Ok(())
+}
+
+/// The nonterminals of the rules.
+pub(crate) fn lower_rules(
+    alloc: Global,
+    prefix: &str,
+    types: &Types,
+    rules: &[&pt::NonterminalData],
+    actions: &mut Vec<ActionFnDefn>,
+    nonterminals: &mut BTreeMap<NonterminalString, NonterminalData>,
+) -> NormResult<()>
+    ensures refuses { Refuses result (rules_faults (vec_len actions.old) (map (λ r. rule_view r.now) rules.now)) }
+    ensures table { OnOk result (rows nonterminal_data_view nonterminals.new
+        ≡ sorted_onto (rows nonterminal_data_view nonterminals.old) (rule_rows (vec_len actions.old) (map (λ r. rule_view r.now) rules.now))) }
+    ensures adds { OnOk result (map action_defn_view actions.new.items
+        ≡ map action_defn_view actions.old.items ++ alternative_actions prefix.now (type_table types.now) (map (λ r. rule_view r.now) rules.now)) }
+{
+    for rule in rules {
+        let name = rule.name.clone()?;
+        let data = lower_rule(alloc, prefix, types, rule, actions)?;
+        insert(nonterminals, name, data)?;
+    }
+    Ok(())
+}
+
+/// For each public rule its start symbol.
+pub(crate) fn start_table(
+    alloc: Global,
+    prefix: &str,
+    rules: &[&pt::NonterminalData],
+) -> Result<BTreeMap<NonterminalString, NonterminalString>, NoMemory>
+    ensures { IfOk result (λ m. m.entries ≡ sorted_onto [] (start_names prefix.now (map (λ r. rule_view r.now) rules.now))) }
+{
+    let mut starts = BTreeMap::new(alloc);
+    for rule in rules {
+        let name = rule.name.clone()?;
+        let start = start_name(alloc, prefix, &rule.name)?;
+        starts.insert(name, start)?;
+    }
+    Ok(starts)
+}
