@@ -1,0 +1,2 @@
+pub mod OneWrite
+pub mod SettingsLemmas

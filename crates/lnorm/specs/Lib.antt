@@ -1,0 +1,4 @@
+pub mod Settings
+pub mod Answers
+pub mod Runs
+pub mod Halts
