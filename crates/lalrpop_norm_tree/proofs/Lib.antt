@@ -1,1 +1,3 @@
 pub mod TextLemmas
+pub mod ReprTextLemmas
+pub mod ReprViews

@@ -1,12 +1,17 @@
 -- Lowered types and where clauses as plain data.
-use Rattle.std.specs.Prelude.{ℕ, Bool, List, [], ◌∷◌, map, Option, Some, None, option_map}
+use Rattle.std.specs.Prelude.{ℕ, Bool, false, List, [], ◌∷◌, map, Option, Some, None, option_map}
 use Rattle.lalrpop_norm_tree.specs.declared.names.Lifetime.{Lifetime}
 use Rattle.lalrpop_norm_tree.specs.declared.names.TypeParameter.{TypeParameter}
 use Rattle.lalrpop_norm_tree.specs.declared.lowered.NominalTypeRepr.{NominalTypeRepr}
 use Rattle.lalrpop_norm_tree.specs.declared.lowered.TypeRepr.{TypeRepr}
 use Rattle.lalrpop_norm_tree.specs.declared.lowered.TypeRepr.TheOpen.{TypeRepr-F, NominalTypeRepr-F}
 use Rattle.lalrpop_norm_tree.specs.declared.lowered.TypeRepr.TheFolds.{fold-TypeRepr, fold-NominalTypeRepr}
+use Rattle.lalrpop_norm_tree.specs.declared.lowered.WhereClause.{WhereClause}
+use Rattle.lalrpop_norm_tree.specs.declared.lowered.WhereClause.TheOpen.{WhereClause-F}
+use Rattle.lalrpop_norm_tree.specs.declared.lowered.WhereClause.TheFolds.{fold-WhereClause}
+use Rattle.lalrpop_norm_tree.specs.declared.names.TypeParameter.TheVariants as parameter
 use Rattle.lalrpop_norm_tree.specs.Paths.{PathData, path_view}
+use Rattle.lalrpop_norm_tree.specs.Bounds.{BoundData, bound_view}
 
 mutual
   pub data ReprData : Type 0 where
@@ -61,3 +66,24 @@ applied_view = fold-NominalTypeRepr ReprData Applied repr_step applied_step
 
 abbrev pub reprs_view : List TypeRepr → Reprs
 reprs_view ts = reprs_of (map repr_view ts)
+
+-- the type of that one name
+abbrev pub named_repr : List ℕ → ReprData
+named_repr name = nominal (record { absolute = false; ids = name ∷ [] }) no_reprs
+
+-- the type that a parameter stands for
+abbrev pub parameter_repr : TypeParameter → ReprData
+parameter_repr (parameter.Lifetime l) = of_lifetime l
+parameter_repr (parameter.Id a) = named_repr a
+
+pub data LoweredClause : Type 0 where
+  for_all : List TypeParameter → LoweredClause → LoweredClause
+  has_bound : ReprData → BoundData ReprData → LoweredClause
+
+-- one level of a where clause, with what is inside already seen as data
+abbrev pub lowered_clause_step : WhereClause-F LoweredClause → LoweredClause
+lowered_clause_step (WhereClause-F.Forall fs c) = for_all fs.items c.value
+lowered_clause_step (WhereClause-F.Bound t b) = has_bound (repr_view t) (bound_view repr_view b)
+
+abbrev pub lowered_where_clause_view : WhereClause → LoweredClause
+lowered_where_clause_view = fold-WhereClause LoweredClause lowered_clause_step

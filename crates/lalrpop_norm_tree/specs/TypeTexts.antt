@@ -25,6 +25,10 @@ abbrev pub angled : List (List ℕ) → List ℕ
 angled [] = []
 angled (t ∷ ts) = codes "<" ++ joined (codes ", ") (t ∷ ts) ++ codes ">"
 
+-- `dyn for<'a> P(A, B)`
+abbrev pub signature_text : List TypeParameter → PathData → List (List ℕ) → List ℕ
+signature_text fs p ts = codes "dyn " ++ forall_text fs ++ path_text p ++ (codes "(" ++ joined (codes ", ") ts ++ codes ")")
+
 abbrev mutual
   pub repr_text : ReprData → List ℕ
   repr_text (tuple ts) = codes "(" ++ joined (codes ", ") (repr_texts ts) ++ codes ")"
@@ -34,7 +38,7 @@ abbrev mutual
   repr_text (of_lifetime l) = l.0
   repr_text (reference l m t) = reference_text l m ++ repr_text t
   repr_text (trait_object p ts) = codes "dyn " ++ (path_text p ++ angled (repr_texts ts))
-  repr_text (function fs p ts r) = codes "dyn " ++ forall_text fs ++ path_text p ++ (codes "(" ++ joined (codes ", ") (repr_texts ts) ++ codes ")") ++ return_text r
+  repr_text (function fs p ts r) = signature_text fs p (repr_texts ts) ++ return_text r
 
   pub repr_texts : Reprs → List (List ℕ)
   repr_texts no_reprs = []

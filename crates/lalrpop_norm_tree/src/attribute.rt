@@ -1,6 +1,8 @@
 //! Attributes.
 ghost use Rattle.std.specs.Prelude.{◌≡◌};
 
+mod copy;
+
 use crate::names::Span;
 use shared_text::Atom;
 

@@ -2,6 +2,10 @@
 ghost use Rattle.std.specs.Prelude.{◌≡◌, false};
 ghost use Rattle.lalrpop_norm_tree.specs.declared.lowered.LrCodeGeneration.TheVariants.{TableDriven};
 
+mod copy;
+mod make;
+mod show;
+
 use crate::bound::TypeBound;
 use crate::names::{Lifetime, TypeParameter};
 use crate::path::Path;
@@ -9,7 +13,7 @@ use shared_text::Atom;
 
 /// A Rust type of a lowered grammar: no name of it is left to be resolved.
 #[cycle(repr)]
-#[derive(Debug, PartialEq, Eq, PartialOrd, Ord, Drop)]
+#[derive(PartialEq, Eq, PartialOrd, Ord, Drop)]
 pub enum TypeRepr {
     Tuple(Vec<TypeRepr>),
     Slice(Box<TypeRepr>),
@@ -36,7 +40,7 @@ pub enum TypeRepr {
 
 /// A path with its arguments, as `a::B<'a, T>`.
 #[cycle(repr)]
-#[derive(Debug, PartialEq, Eq, PartialOrd, Ord, Drop)]
+#[derive(PartialEq, Eq, PartialOrd, Ord, Drop)]
 pub struct NominalTypeRepr {
     pub path: Path,
     pub types: Vec<TypeRepr>,

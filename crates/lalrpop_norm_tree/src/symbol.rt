@@ -1,4 +1,7 @@
 //! Symbols of alternatives.
+mod copy;
+mod show;
+
 use crate::names::{NonterminalString, Span, TerminalString};
 use shared_text::Atom;
 

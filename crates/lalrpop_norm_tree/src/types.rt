@@ -1,4 +1,6 @@
 //! Written types.
+mod copy;
+
 use crate::names::{Lifetime, TypeParameter};
 use crate::path::Path;
 use crate::symbol::SymbolKind;

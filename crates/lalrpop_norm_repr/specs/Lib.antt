@@ -1,0 +1,4 @@
+pub mod Productions
+pub mod Actions
+pub mod Table
+pub mod Lowered
