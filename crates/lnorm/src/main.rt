@@ -3,6 +3,7 @@
 
 mod answer;
 mod halt;
+mod lines;
 mod run;
 mod streams;
 #[cfg(test)]
