@@ -1,14 +1,26 @@
 //! The lines of a lowered grammar.
-ghost use Rattle.std.specs.Prelude.{◌≡◌, ◌++◌, OnOk, map, string_bytes};
+ghost use Rattle.std.specs.Prelude.{◌≡◌, ◌++◌, IfOk, OnOk, map, option_map, string_bytes};
 ghost use Rattle.std.specs.List.{flat_map};
+ghost use Rattle.lalrpop_norm_tree.specs.Reprs.{repr_view};
 ghost use Rattle.lalrpop_norm_repr.specs.Productions.{production_view};
 ghost use Rattle.lalrpop_norm_repr.specs.Lowered.{nonterminal_view};
-ghost use Rattle.lalrpop_norm_repr.specs.Table.{rows};
-ghost use Rattle.lnorm.specs.Lines.{production_line, production_lines, start_line};
+ghost use Rattle.lalrpop_norm_repr.specs.Table.{rows, type_table};
+ghost use Rattle.lnorm.specs.Lines.{production_line, production_lines, type_line, type_of, start_line, lines, lowered_view};
 
-use lalrpop_norm_repr::grammar::repr::{NonterminalData, NonterminalString, Production};
-use std::alloc::AllocError;
+use lalrpop_norm_repr::grammar::repr::{Grammar, NonterminalData, NonterminalString, Production, TypeRepr, Types};
+use std::alloc::{AllocError, Global};
 use std::collections::BTreeMap;
+
+/// The lines of a lowered grammar, each ended by a line feed. The only error is want of memory.
+pub fn lines(alloc: Global, grammar: &Grammar) -> Result<String, AllocError>
+    ensures { IfOk result (λ text. string_bytes text ≡ lines (lowered_view grammar.now)) }
+{
+    let mut text = String::new(alloc);
+    push_nonterminals(&mut text, &grammar.nonterminals)?;
+    push_types(&mut text, grammar)?;
+    push_starts(&mut text, &grammar.start_nonterminals)?;
+    Ok(text)
+}
 
 /// The productions of each nonterminal, in the order of the nonterminals.
 fn push_nonterminals(
@@ -30,6 +42,36 @@ fn push_productions(text: &mut String, productions: &[Production]) -> Result<(),
         write!(text, "{}\n", production.nonterminal)?;
     }
     Ok(())
+}
+
+/// The type of each nonterminal.
+fn push_types(text: &mut String, grammar: &Grammar) -> Result<(), AllocError>
+    ensures { OnOk result (string_bytes text.new ≡ string_bytes text.old
+        ++ flat_map (λ r. type_line r.0 (type_of r.0 (type_table grammar.now.types))) (rows nonterminal_view grammar.now.nonterminals.entries)) }
+{
+    for (name, _) in &grammar.nonterminals {
+        push_type(text, name, look(&grammar.types, name))?;
+    }
+    Ok(())
+}
+
+fn look<'t>(types: &'t Types, name: &NonterminalString) -> Option<&'t TypeRepr>
+    ensures { option_map (λ t. repr_view t.now) result ≡ type_of name.now (type_table types.now) }
+{
+    None
+}
+
+fn push_type(
+    text: &mut String,
+    name: &NonterminalString,
+    ty: Option<&TypeRepr>,
+) -> Result<(), AllocError>
+    ensures { OnOk result (string_bytes text.new ≡ string_bytes text.old ++ type_line name.now (option_map (λ t. repr_view t.now) ty.entry)) }
+{
+    match ty {
+        Some(ty) => write!(text, "type {name}: {ty}\n"),
+        None => Ok(()),
+    }
 }
 
 /// The start symbol of each public rule.
