@@ -1,2 +1,3 @@
 pub mod OneWrite
 pub mod SettingsLemmas
+pub mod HaltLemmas

@@ -10,7 +10,8 @@ use Rattle.lalrpop_norm_json.specs.ItemForms.{grammar_form}
 use Rattle.lalrpop_norm_json.specs.Shapes as shape
 use Rattle.lalrpop_norm_json.specs.Shapes.{is}
 use Rattle.lnorm.specs.Settings.{Settings}
-use Rattle.lnorm.specs.Lines.{LoweredGrammar, lines}
+use Rattle.lalrpop_norm_repr.specs.Lowered.{LoweredGrammar}
+use Rattle.lnorm.specs.Lines.{lines}
 
 -- the input is JSON in the shape of a tree
 pub record IsTree (bytes : List ℕ) : Type 0 where

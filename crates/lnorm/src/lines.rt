@@ -2,18 +2,20 @@
 ghost use Rattle.std.specs.Prelude.{◌≡◌, ◌++◌, IfOk, OnOk, map, option_map, string_bytes};
 ghost use Rattle.std.specs.List.{flat_map};
 ghost use Rattle.lalrpop_norm_tree.specs.Reprs.{repr_view};
-ghost use Rattle.lalrpop_norm_repr.specs.Productions.{production_view};
-ghost use Rattle.lalrpop_norm_repr.specs.Lowered.{nonterminal_view};
-ghost use Rattle.lalrpop_norm_repr.specs.Table.{rows, type_table};
-ghost use Rattle.lnorm.specs.Lines.{production_line, production_lines, type_line, type_of, start_line, lines, lowered_view};
+ghost use Rattle.lalrpop_norm_repr.specs.Lowered.{grammar_view};
+ghost use Rattle.lalrpop_norm_repr.specs.Productions.{production_view, nonterminal_data_view};
+ghost use Rattle.lalrpop_norm_repr.specs.Tables.{rows, type_table};
+ghost use Rattle.lnorm.specs.Lines.{production_line, production_lines, type_line, typed_line, start_line, lines};
 
-use lalrpop_norm_repr::grammar::repr::{Grammar, NonterminalData, NonterminalString, Production, TypeRepr, Types};
+use lalrpop_norm_repr::grammar::repr::{
+    Grammar, NonterminalData, NonterminalString, Production, TypeRepr,
+};
 use std::alloc::{AllocError, Global};
 use std::collections::BTreeMap;
 
 /// The lines of a lowered grammar, each ended by a line feed. The only error is want of memory.
 pub fn lines(alloc: Global, grammar: &Grammar) -> Result<String, AllocError>
-    ensures { IfOk result (λ text. string_bytes text ≡ lines (lowered_view grammar.now)) }
+    ensures { IfOk result (λ text. string_bytes text ≡ lines (grammar_view grammar.now)) }
 {
     let mut text = String::new(alloc);
     push_nonterminals(&mut text, &grammar.nonterminals)?;
@@ -27,7 +29,8 @@ fn push_nonterminals(
     text: &mut String,
     nonterminals: &BTreeMap<NonterminalString, NonterminalData>,
 ) -> Result<(), AllocError>
-    ensures { OnOk result (string_bytes text.new ≡ string_bytes text.old ++ flat_map production_lines (rows nonterminal_view nonterminals.now.entries)) }
+    ensures { OnOk result (string_bytes text.new
+        ≡ string_bytes text.old ++ flat_map production_lines (rows nonterminal_data_view nonterminals.now)) }
 {
     for (_, nonterminal) in nonterminals {
         push_productions(text, &nonterminal.productions)?;
@@ -36,29 +39,24 @@ fn push_nonterminals(
 }
 
 fn push_productions(text: &mut String, productions: &[Production]) -> Result<(), AllocError>
-    ensures { OnOk result (string_bytes text.new ≡ string_bytes text.old ++ flat_map production_line (map production_view productions.now)) }
+    ensures { OnOk result (string_bytes text.new
+        ≡ string_bytes text.old ++ flat_map production_line (map production_view productions.now)) }
 {
     for production in productions {
-        write!(text, "{}\n", production.nonterminal)?;
+        write!(text, "{production:?}\n")?;
     }
     Ok(())
 }
 
-/// The type of each nonterminal.
+/// The type of each nonterminal, in the order of the nonterminals.
 fn push_types(text: &mut String, grammar: &Grammar) -> Result<(), AllocError>
-    ensures { OnOk result (string_bytes text.new ≡ string_bytes text.old
-        ++ flat_map (λ r. type_line r.0 (type_of r.0 (type_table grammar.now.types))) (rows nonterminal_view grammar.now.nonterminals.entries)) }
+    ensures { OnOk result (string_bytes text.new
+        ≡ string_bytes text.old ++ flat_map (typed_line (type_table grammar.now.types)) (rows nonterminal_data_view grammar.now.nonterminals)) }
 {
     for (name, _) in &grammar.nonterminals {
-        push_type(text, name, look(&grammar.types, name))?;
+        push_type(text, name, grammar.types.lookup_nonterminal_type(name))?;
     }
     Ok(())
-}
-
-fn look<'t>(types: &'t Types, name: &NonterminalString) -> Option<&'t TypeRepr>
-    ensures { option_map (λ t. repr_view t.now) result ≡ type_of name.now (type_table types.now) }
-{
-    None
 }
 
 fn push_type(
@@ -66,7 +64,8 @@ fn push_type(
     name: &NonterminalString,
     ty: Option<&TypeRepr>,
 ) -> Result<(), AllocError>
-    ensures { OnOk result (string_bytes text.new ≡ string_bytes text.old ++ type_line name.now (option_map (λ t. repr_view t.now) ty.entry)) }
+    ensures { OnOk result (string_bytes text.new
+        ≡ string_bytes text.old ++ type_line name.now (option_map (λ t. repr_view t.now) ty.entry)) }
 {
     match ty {
         Some(ty) => write!(text, "type {name}: {ty}\n"),
