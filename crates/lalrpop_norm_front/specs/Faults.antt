@@ -1,5 +1,5 @@
 -- Lists of faults, and answers that name the first of one.
-use Rattle.std.specs.Prelude.{◌≡◌, ℕ, List, [], ◌∷◌, Option, Some, None, Result, Ok, Err, codes}
+use Rattle.std.specs.Prelude.{◌≡◌, ℕ, Bool, if◌then◌else◌, List, [], ◌∷◌, Option, Some, None, Result, Ok, Err, codes}
 use Rattle.lalrpop_norm_tree.specs.declared.names.Span.{Span}
 use Rattle.lalrpop_norm_front.specs.declared.faults.FaultKind.{FaultKind}
 use Rattle.lalrpop_norm_front.specs.declared.faults.FaultKind.TheVariants.{NotYet, GrammarAttribute, SecondMatch, MatchWithExtern, SecondExtern, UnknownAssociatedType, RepeatedAssociatedType, PublicMacro, UnknownRuleAttribute, RepeatedRuleAttribute, InlineOnPublic, MalformedCfg, MissingLevel, LevelArgument, LevelNumber, SideArgument, Side, SideOnLowest, AlternativeAttribute, NamedWithoutAction, AnonymousInBraces, ChosenWithNamed, NameTwice, ErrorWithAscent, MacroWithoutArguments, NoLocation, WrittenIntern, WrittenErrorTerminal, WrittenOfSymbol, WrittenLookaround, NameDeclaredTwice, ArgumentTwice, NoDefinition, ConditionOnOther, NotNonterminal, NotMacro, Arity, MacroNamed, ConditionArgument, ConditionPattern, NamedInGroup, RecursionCap, SharedName, LiteralTwice, TerminalTwice, NoMapping, NoPattern, BadRegex, RegexFeature, Ambiguity, InputLifetime, InputParameter, NoAlternatives, OnlyCoded, NotGrounded, Disagreement, TupleOverSymbol, TupleOverType, TupleLength, Placeholders, StartTaken, TooManyActions}
@@ -33,6 +33,9 @@ Refuses (Err e) fs = IsFirst fs e
 abbrev pub RefusesOr : {T : Type 0} → Result T NormFailure → List Fault → (T → Type 0) → Type 0
 RefusesOr (Ok x) fs P = (fs ≡ []) × P x
 RefusesOr (Err e) fs P = IsFirst fs e
+
+abbrev pub fault_if : Bool → Fault → List Fault
+fault_if b f = if b then f ∷ [] else []
 
 -- the number of a fault
 abbrev pub code_of : FaultKind → List ℕ

@@ -1,5 +1,5 @@
 -- The code of an action.
-use Rattle.std.specs.Prelude.{ℕ, Bool, true, false, if◌then◌else◌, List, [], ◌∷◌, ◌++◌, Option, Some, None, codes}
+use Rattle.std.specs.Prelude.{ℕ, List, [], ◌∷◌, ◌++◌, Option, Some, None, codes}
 use Rattle.lalrpop_norm_front.specs.Braces.{around_slot}
 use Rattle.lalrpop_norm_tree.specs.Items.{Action, user_code, fallible_code, lookahead_code, lookbehind_code}
 use Rattle.lalrpop_norm_tree.specs.Reprs.{ReprData, tuple, no_reprs}
@@ -11,13 +11,10 @@ sources_code [] = codes "(<>)"
 sources_code (n ∷ []) = codes "<>"
 sources_code (n ∷ m ∷ names) = codes "(<>)"
 
-abbrev pub is_unit : ReprData → Bool
-is_unit (tuple no_reprs) = true
-is_unit _ = false
-
 -- absent code: `()` for the unit type
 abbrev pub absent_code : ReprData → List (List ℕ) → List ℕ
-absent_code type names = if is_unit type then codes "()" else sources_code names
+absent_code (tuple no_reprs) names = codes "()"
+absent_code type names = sources_code names
 
 abbrev pub written_code : ReprData → List (List ℕ) → Option Action → List ℕ
 written_code type names None = absent_code type names

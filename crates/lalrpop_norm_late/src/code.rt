@@ -4,47 +4,53 @@ ghost use Rattle.lalrpop_norm_tree.specs.Items.{action_view};
 ghost use Rattle.lalrpop_norm_tree.specs.Reprs.{ReprData, repr_view};
 ghost use Rattle.lalrpop_norm_tree.specs.Texts.{joined};
 ghost use Rattle.lalrpop_norm_front.specs.Braces.{around_slot};
-ghost use Rattle.lalrpop_norm_late.specs.Code.{is_unit, sources_code, absent_code, written_code, code_with, code_of};
+ghost use Rattle.lalrpop_norm_late.specs.Code.{sources_code, absent_code, written_code, code_with, code_of};
 
 use lalrpop_norm_tree::grammar::parse_tree::{ActionKind, Atom, NoMemory};
 use lalrpop_norm_tree::grammar::repr::TypeRepr;
 use std::alloc::Global;
 
-/// The code of an alternative of a rule of that type. Absent code is `()` for the unit type, else what the sources give.
+/// The code of an alternative of a rule of that type, with the names of its sources in the place of `<>`. Absent code is
+/// `()` for the unit type, else what the sources give.
 pub(crate) fn code_of(
     alloc: Global,
     ty: &TypeRepr,
     names: &[Atom],
-    action: Option<ActionKind>,
+    action: &Option<ActionKind>,
 ) -> Result<String, NoMemory>
     ensures { IfOk result (λ s.
-        string_bytes s ≡ code_of (repr_view ty.now) names.now (option_map action_view action)) }
+        string_bytes s ≡ code_of (repr_view ty.now) names.now (option_map action_view action.now)) }
 {
-    let code = match action {
-        Some(ActionKind::User(code)) => code,
-        Some(ActionKind::Fallible(code)) => code,
-        Some(ActionKind::Lookahead) => String::from_str(alloc, absent_code(ty, names))?,
-        Some(ActionKind::Lookbehind) => String::from_str(alloc, absent_code(ty, names))?,
-        None => String::from_str(alloc, absent_code(ty, names))?,
-    };
-    code_with(alloc, names, code)
+    code_with(alloc, names, written_code(ty, names, action))
+}
+
+fn written_code<'a>(ty: &TypeRepr, names: &[Atom], action: &'a Option<ActionKind>) -> &'a str
+    ensures { result.now ≡ written_code (repr_view ty.now) names.now (option_map action_view action.now) }
+{
+    match action {
+        Some(ActionKind::User(code)) => code.as_str(),
+        Some(ActionKind::Fallible(code)) => code.as_str(),
+        Some(ActionKind::Lookahead) => absent_code(ty, names),
+        Some(ActionKind::Lookbehind) => absent_code(ty, names),
+        None => absent_code(ty, names),
+    }
 }
 
 fn absent_code(ty: &TypeRepr, names: &[Atom]) -> &'static str
     ensures { result.now ≡ absent_code (repr_view ty.now) names.now }
 {
-    if is_unit(ty) {
+    if ty.is_unit() {
         return "()";
     }
     if names.len() == 1 { "<>" } else { "(<>)" }
 }
 
-/// The code with the names of the sources in the place of its `<>`.
-fn code_with(alloc: Global, names: &[Atom], code: String) -> Result<String, NoMemory>
-    ensures { IfOk result (λ s. string_bytes s ≡ code_with names.now (string_bytes code)) }
+/// The code with the names in the place of its `<>`.
+fn code_with(alloc: Global, names: &[Atom], code: &str) -> Result<String, NoMemory>
+    ensures { IfOk result (λ s. string_bytes s ≡ code_with names.now code.now) }
 {
-    match split_at_slot(code.as_str()) {
-        None => Ok(code),
+    match split_at_slot(code) {
+        None => Ok(String::from_str(alloc, code)?),
         Some((before, after)) => {
             let mut text = String::from_str(alloc, before)?;
             push_joined(&mut text, names)?;
@@ -76,22 +82,4 @@ fn push_joined(text: &mut String, names: &[Atom]) -> Result<(), NoMemory>
         }
     }
     Ok(())
-}
-
-fn is_unit(ty: &TypeRepr) -> bool
-    ensures { result ≡ is_unit (repr_view ty.now) }
-{
-    match ty {
-        TypeRepr::Tuple(types) => match types.first() {
-            None => true,
-            Some(_) => false,
-        },
-        TypeRepr::Slice(_)
-        | TypeRepr::Nominal(_)
-        | TypeRepr::Associated { .. }
-        | TypeRepr::Lifetime(_)
-        | TypeRepr::Ref { .. }
-        | TypeRepr::TraitObject(_)
-        | TypeRepr::Fn { .. } => false,
-    }
 }

@@ -1,4 +1,6 @@
+pub mod Tables
 pub mod Productions
+pub mod SymbolTypes
 pub mod Actions
-pub mod Table
 pub mod Lowered
+pub mod ReprTexts

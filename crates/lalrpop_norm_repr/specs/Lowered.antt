@@ -1,41 +1,66 @@
--- Lowered grammars as plain data: maps as their rows in the order of the keys.
-use Rattle.std.specs.Prelude.{ℕ, Bool, List, Option, map, option_map, string_bytes}
+-- Lowered grammars as plain data.
+use Rattle.std.specs.Prelude.{ℕ, Bool, List, map, Option, option_map, string_bytes}
+use Rattle.lalrpop_norm_tree.specs.declared.lowered.Algorithm.{Algorithm}
 use Rattle.lalrpop_norm_tree.specs.declared.names.NonterminalString.{NonterminalString}
-use Rattle.lalrpop_norm_tree.specs.declared.names.Span.{Span}
 use Rattle.lalrpop_norm_tree.specs.declared.names.TerminalString.{TerminalString}
 use Rattle.lalrpop_norm_tree.specs.declared.names.TypeParameter.{TypeParameter}
-use Rattle.lalrpop_norm_tree.specs.declared.lowered.Algorithm.{Algorithm}
-use Rattle.lalrpop_norm_tree.specs.Attributes.{Attributes, attributes_view}
-use Rattle.lalrpop_norm_tree.specs.Items.{VisibilityData, visibility_view, InternTokenData, intern_token_view}
+use Rattle.lalrpop_norm_tree.specs.Items.{InternTokenData, intern_token_view}
 use Rattle.lalrpop_norm_tree.specs.Patterns.{PatternData, pattern_view}
-use Rattle.lalrpop_norm_tree.specs.Reprs.{ReprData, repr_view}
-use Rattle.lalrpop_norm_repr.specs.declared.lowered.Grammar.{Grammar}
-use Rattle.lalrpop_norm_repr.specs.declared.lowered.NonterminalData.{NonterminalData}
-use Rattle.lalrpop_norm_repr.specs.declared.lowered.Parameter.{Parameter}
-use Rattle.lalrpop_norm_repr.specs.declared.lowered.TerminalSet.{TerminalSet}
-use Rattle.lalrpop_norm_repr.specs.Actions.{ActionData, action_view}
-use Rattle.lalrpop_norm_repr.specs.Productions.{ProductionData, production_view}
-use Rattle.lalrpop_norm_repr.specs.Table.{rows, TypeTable, type_table}
-
-pub record NonterminalRow : Type 0 where
-  pub visibility : VisibilityData
-  pub span : Span
-  pub attributes : Attributes
-  pub productions : List ProductionData
-
-abbrev pub nonterminal_view : NonterminalData → NonterminalRow
-nonterminal_view n = record { visibility = visibility_view n.visibility; span = n.span; attributes = attributes_view n.attributes.items; productions = map production_view n.productions.items }
-
-pub record TerminalNumbers : Type 0 where
-  pub all : List TerminalString
-  pub bits : List (TerminalString × ℕ)
-
-abbrev pub terminals_view : TerminalSet → TerminalNumbers
-terminals_view t = record { all = t.all.items; bits = t.bits.entries }
+use Rattle.lalrpop_norm_tree.specs.Reprs.{ReprData, repr_view, LoweredClause, lowered_where_clause_view}
+use Rattle.lalrpop_norm_repr.specs.declared.whole.Grammar.{Grammar}
+use Rattle.lalrpop_norm_repr.specs.declared.whole.Parameter.{Parameter}
+use Rattle.lalrpop_norm_repr.specs.declared.whole.TerminalSet.{TerminalSet}
+use Rattle.lalrpop_norm_repr.specs.Actions.{ActionData, action_defn_view}
+use Rattle.lalrpop_norm_repr.specs.Productions.{EntryData, nonterminal_data_view}
+use Rattle.lalrpop_norm_repr.specs.Tables.{rows, TypeTable, type_table}
 
 pub record LoweredParameter : Type 0 where
   pub name : List ℕ
-  pub type : ReprData
+  pub ty : ReprData
 
 abbrev pub lowered_parameter_view : Parameter → LoweredParameter
-lowered_parameter_view p = record { name = p.name; type = repr_view p.ty }
+lowered_parameter_view p = record { name = p.name; ty = repr_view p.ty }
+
+-- the terminals, and the rows of their places
+pub record TerminalTable : Type 0 where
+  pub all : List TerminalString
+  pub bits : List (TerminalString × ℕ)
+
+abbrev pub terminal_set_view : TerminalSet → TerminalTable
+terminal_set_view s = record { all = s.all.items; bits = s.bits.entries }
+
+pub record LoweredGrammar : Type 0 where
+  pub prefix : List ℕ
+  pub algorithm : Algorithm
+  pub uses_error_recovery : Bool
+  pub start_nonterminals : List (NonterminalString × NonterminalString)
+  pub uses : List (List ℕ)
+  pub type_parameters : List TypeParameter
+  pub parameters : List LoweredParameter
+  pub where_clauses : List LoweredClause
+  pub intern_token : Option InternTokenData
+  pub actions : List ActionData
+  pub terminals : TerminalTable
+  pub nonterminals : List (NonterminalString × EntryData)
+  pub conversions : List (TerminalString × PatternData ReprData)
+  pub types : TypeTable
+  pub module_attributes : List (List ℕ)
+
+abbrev pub grammar_view : Grammar → LoweredGrammar
+grammar_view g = record {
+  prefix = string_bytes g.prefix;
+  algorithm = g.algorithm;
+  uses_error_recovery = g.uses_error_recovery;
+  start_nonterminals = g.start_nonterminals.entries;
+  uses = map string_bytes g.uses.items;
+  type_parameters = g.type_parameters.items;
+  parameters = map lowered_parameter_view g.parameters.items;
+  where_clauses = map lowered_where_clause_view g.where_clauses.items;
+  intern_token = option_map intern_token_view g.intern_token;
+  actions = map action_defn_view g.action_fn_defns.items;
+  terminals = terminal_set_view g.terminals;
+  nonterminals = rows nonterminal_data_view g.nonterminals;
+  conversions = rows (pattern_view repr_view) g.conversions;
+  types = type_table g.types;
+  module_attributes = map string_bytes g.module_attributes.items;
+}

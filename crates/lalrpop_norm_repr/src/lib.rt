@@ -1,30 +1,14 @@
-//! Lowered grammars: numbered productions, action functions, terminals and types.
+//! Lowered grammars: plain productions, their actions and their types.
 //!
-//! The types stand under the paths of the module [`grammar`]. Contracts speak of their views in specs/.
+//! The types stand under the paths of the module [`grammar`]. Each type that holds a list, a box, a text or a map has a
+//! *view* in specs/: plain data without pointers, of which every contract speaks.
 #![tactic(auto)]
 
-mod actions;
-mod lowered;
+mod action;
+pub mod grammar;
 mod production;
-mod table;
-
-/// The parts of a grammar, by the modules that users know.
-pub mod grammar {
-    /// Lowered grammars.
-    pub mod repr {
-        pub use crate::actions::{
-            ActionFnDefn, ActionFnDefnKind, InlineActionFnDefn, InlinedSymbol,
-            LookaroundActionFnDefn, UserActionFnDefn,
-        };
-        pub use crate::lowered::{Grammar, NonterminalData, Parameter, TerminalSet};
-        pub use crate::production::{ActionFn, Production, Symbol};
-        pub use crate::table::Types;
-        pub use lalrpop_norm_tree::grammar::parse_tree::{
-            ArgPattern, Attribute, InternToken, Lifetime, NonterminalString, Path, Span,
-            TerminalLiteral, TerminalString, TypeBound, TypeParameter, Visibility,
-        };
-        pub use lalrpop_norm_tree::grammar::repr::{
-            Algorithm, LrCodeGeneration, NominalTypeRepr, TypeRepr, WhereClause,
-        };
-    }
-}
+mod symbol;
+#[cfg(test)]
+mod tests;
+mod types;
+mod whole;

@@ -1,43 +1,86 @@
 //! Productions.
-ghost use Rattle.std.specs.Prelude.{◌≡◌, ◌<◌};
+ghost use Rattle.std.specs.Prelude.{◌≡◌, Some, map, codes, IfOk};
+ghost use Rattle.std.specs.Fmt.{WritesOnOk};
+ghost use Rattle.lalrpop_norm_tree.specs.Texts.{joined};
+ghost use Rattle.lalrpop_norm_repr.specs.Productions.{production_view};
+ghost use Rattle.lalrpop_norm_repr.specs.ReprTexts.{symbol_text, production_text};
 
-use lalrpop_norm_tree::grammar::parse_tree::{NonterminalString, Span, TerminalString};
+use crate::action::ActionFn;
+use crate::symbol::Symbol;
+use lalrpop_norm_tree::grammar::parse_tree::{Attribute, NonterminalString, Span, Visibility};
+use std::alloc::AllocError;
+use std::fmt;
 
-/// The number of an action function, from 0.
-#[derive(Clone, Copy, PartialEq, Eq, PartialOrd, Ord, Hash)]
-pub struct ActionFn(u32);
-
-impl ActionFn {
-    ghost use Rattle.lalrpop_norm_repr.specs.Productions.{action_number};
-
-    /// The action of that number.
-    pub fn new(number: usize) -> ActionFn
-        requires { number < 4294967296 }
-        ensures { action_number result ≡ number }
-    {
-        ActionFn(number as u32)
-    }
-
-    /// Its number.
-    pub fn index(self) -> usize
-        ensures { result ≡ action_number self }
-    {
-        self.0 as usize
-    }
+/// A nonterminal and its productions.
+#[derive(Debug, Drop)]
+pub struct NonterminalData {
+    pub visibility: Visibility,
+    pub span: Span,
+    pub attributes: Vec<Attribute>,
+    pub productions: Vec<Production>,
 }
 
-/// A symbol of a production.
-#[derive(Clone, PartialEq, Eq, PartialOrd, Ord, Hash, Drop)]
-pub enum Symbol {
-    Nonterminal(NonterminalString),
-    Terminal(TerminalString),
-}
-
-/// A production: what its nonterminal may be, and the action that makes its value.
+/// A production, as `N = A, B`, and the action on what its symbols give.
 #[derive(PartialEq, Eq, PartialOrd, Ord, Hash, Drop)]
 pub struct Production {
     pub nonterminal: NonterminalString,
     pub symbols: Vec<Symbol>,
     pub action: ActionFn,
     pub span: Span,
+}
+
+impl Clone for Production {
+    ghost is_clone = { λ a b. production_view b ≡ production_view a };
+
+    fn clone(&self) -> Result<Production, AllocError> {
+        let nonterminal = self.nonterminal.clone()?;
+        let symbols = copy_symbols(&self.symbols)?;
+        Ok(Production {
+            nonterminal,
+            symbols,
+            action: self.action,
+            span: self.span,
+        })
+    }
+}
+
+pub(crate) fn copy_symbols(symbols: &Vec<Symbol>) -> Result<Vec<Symbol>, AllocError>
+    ensures { IfOk result (λ ss. ss.items ≡ symbols.now.items) }
+{
+    let mut copies = Vec::new(*symbols.allocator());
+    for symbol in symbols {
+        copies.push(symbol.clone()?)?;
+    }
+    Ok(copies)
+}
+
+impl fmt::Debug for Production {
+    ghost debug_output = { λ p. Some (production_text (production_view p)) };
+
+    fn fmt<W: fmt::Write>(&self, f: &mut fmt::Formatter<W>) -> fmt::Result {
+        fmt::Display::fmt(&self.nonterminal, f)?;
+        f.write_str(" = ")?;
+        show_symbols(&self.symbols, f)?;
+        f.write_str(" => ")?;
+        fmt::Debug::fmt(&self.action, f)?;
+        f.write_str(";")
+    }
+}
+
+/// The symbols with `, ` between each two.
+pub(crate) fn show_symbols<W: fmt::Write>(
+    symbols: &[Symbol],
+    f: &mut fmt::Formatter<W>,
+) -> fmt::Result
+    ensures { WritesOnOk W.write_str_gives f.old result
+        (joined (codes ", ") (map symbol_text symbols.now)) f.new }
+{
+    if let Some((first, others)) = symbols.split_first() {
+        fmt::Display::fmt(first, f)?;
+        for other in others {
+            f.write_str(", ")?;
+            fmt::Display::fmt(other, f)?;
+        }
+    }
+    Ok(())
 }

@@ -8,3 +8,10 @@ pub mod Patterns
 pub mod Items
 pub mod Texts
 pub mod TypeTexts
+pub mod Accessors
+pub mod BoundTexts
+pub mod KnownTexts
+pub mod LoweredTypes
+pub mod PatternTexts
+pub mod VisibilityTexts
+pub mod WrittenTypeTexts

@@ -110,3 +110,6 @@ abbrev mutual
   SameFields R no_fields no_fields = Unit {0}
   SameFields R (field_and s n p fs) (field_and t m q gs) = (s ≡ t) × (n ≡ m) × SamePattern R p q × SameFields R fs gs
   SameFields R _ _ = ⊥
+
+abbrev pub SameField : {T : Type 0} → (T → T → Type 0) → FieldData T → FieldData T → Type 0
+SameField R f g = (f.span ≡ g.span) × (f.name ≡ g.name) × SamePattern R f.pattern g.pattern

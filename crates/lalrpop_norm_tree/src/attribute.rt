@@ -1,7 +1,9 @@
 //! Attributes.
 ghost use Rattle.std.specs.Prelude.{◌≡◌};
 
-mod copy;
+mod accessors;
+pub(crate) mod algorithm;
+pub(crate) mod copy;
 
 use crate::names::Span;
 use shared_text::Atom;

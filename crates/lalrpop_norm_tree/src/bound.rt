@@ -1,4 +1,7 @@
 //! Where clauses and their bounds, over written or lowered types.
+mod copy;
+mod show;
+
 use crate::names::{Lifetime, TypeParameter};
 use crate::path::Path;
 use shared_text::Atom;

@@ -2,6 +2,7 @@
 
 /// What a parser of grammars makes: items, rules, symbols, types.
 pub mod parse_tree {
+    pub use crate::attribute::algorithm::{is_known_attribute, read_algorithm};
     pub use crate::attribute::{Attribute, AttributeArg};
     pub use crate::bound::{TypeBound, TypeBoundParameter, WhereClause};
     pub use crate::items::{
@@ -17,6 +18,7 @@ pub mod parse_tree {
         ArgPattern, ExprSymbol, MacroSymbol, Name, RepeatOp, RepeatSymbol, Symbol, SymbolKind,
         Tuple,
     };
+    pub use crate::types::repr::TypeReprError;
     pub use crate::types::{Parameter, TypeRef};
     pub use shared_text::{Atom, NoMemory};
 }

@@ -2,6 +2,11 @@
 ghost use Rattle.std.specs.Prelude.{Some};
 ghost use Rattle.lalrpop_norm_tree.specs.Texts.{mapping_text};
 
+mod accessors;
+mod copy;
+mod copy_grammar;
+mod show;
+
 use crate::attribute::Attribute;
 use crate::bound::WhereClause;
 use crate::names::{NonterminalString, Span, TerminalLiteral, TerminalString, TypeParameter};

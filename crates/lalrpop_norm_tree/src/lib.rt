@@ -13,5 +13,6 @@ mod lowered;
 mod names;
 mod path;
 mod pattern;
+mod show;
 mod symbol;
 mod types;

@@ -1,6 +1,9 @@
 //! Places and names.
 ghost use Rattle.std.specs.Prelude.{Some};
 
+pub(crate) mod show;
+mod accessors;
+
 use shared_text::Atom;
 use std::fmt;
 

@@ -1,8 +1,10 @@
 //! Paths of Rust items.
-mod show;
+pub(crate) mod show;
 
 ghost use Rattle.std.specs.Prelude.{◌≡◌};
 ghost use Rattle.lalrpop_norm_tree.specs.Paths.{path_view};
+
+mod accessors;
 
 use shared_text::Atom;
 use std::alloc::AllocError;

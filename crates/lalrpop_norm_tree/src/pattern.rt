@@ -1,4 +1,7 @@
 //! Patterns of conversions.
+mod copy;
+mod show;
+
 use crate::names::Span;
 use crate::path::Path;
 use shared_text::Atom;

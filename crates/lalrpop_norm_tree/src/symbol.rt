@@ -1,4 +1,5 @@
 //! Symbols of alternatives.
+mod accessors;
 mod copy;
 mod show;
 

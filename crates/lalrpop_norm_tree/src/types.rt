@@ -1,5 +1,7 @@
 //! Written types.
-mod copy;
+pub(crate) mod copy;
+pub(crate) mod repr;
+mod show;
 
 use crate::names::{Lifetime, TypeParameter};
 use crate::path::Path;

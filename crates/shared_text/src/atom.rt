@@ -1,5 +1,5 @@
 //! A shared text, seen as its bytes.
-ghost use Rattle.std.specs.Prelude.{◌≡◌, ℕ, List, IfOk, nat_eq, Some, refl};
+ghost use Rattle.std.specs.Prelude.{◌≡◌, ℕ, List, IfOk, nat_eq, Some, refl, ⊤};
 ghost use Rattle.std.specs.Ordering.{nat_cmp};
 ghost use Rattle.std.specs.Hash as fed;
 ghost use Rattle.std.specs.Str.{IsUtf8};
@@ -7,12 +7,12 @@ ghost use Rattle.std.specs.Cmp.Lexicographic.{pointwise, slice_cmp};
 ghost use Rattle.std.specs.Cmp;
 ghost use Rattle.std.specs.Cmp.Lexicographic.{nat_list_eq_equiv, nat_list_cmp_total, texts_ties, texts_po};
 
+use crate::counts::Shared;
 use std::alloc::{AllocError, AllocFailed, Global};
 use std::cmp::Ordering;
 use std::fmt;
 use std::hash::{Hash, Hasher};
 use std::marker::Model;
-use std::rc::RcStr;
 
 /// There was no memory for what was asked.
 #[derive(Clone, Copy, Debug, PartialEq, Eq)]
@@ -32,22 +32,23 @@ impl<T: Drop> From<AllocFailed<T>> for NoMemory {
 
 /// A text on the heap with several owners, seen as its bytes. It stays as it is.
 ///
-/// Equality, order and hash are those of the bytes.
+/// One more owner takes no memory and can always be had. Equality, order, hash and what is shown are those of
+/// the bytes.
 #[derive(Drop)]
 pub struct Atom {
-    text: RcStr,
+    text: Shared<String, Global>,
 }
 
 impl Model for Atom {
     ghost use Rattle.std.specs.Prelude.{ℕ, List};
     ghost use Rattle.std.specs.Coded.{coded_ℕ, coded_list};
-    ghost use Rattle.std.specs.Rc.{rc_str_bytes};
+    ghost use Rattle.std.specs.String.{string_bytes};
 
     ghost Value = { List ℕ };
 
     ghost coded = { coded_list coded_ℕ };
 
-    ghost view = { λ a. rc_str_bytes a.text };
+    ghost view = { λ a. string_bytes a.text.value };
 }
 
 impl Atom {
@@ -55,7 +56,8 @@ impl Atom {
     pub fn new(alloc: Global, text: &str) -> Result<Atom, NoMemory>
         ensures { IfOk result (λ a. a ≡ text.now) }
     {
-        let text = RcStr::from_str(alloc, text)?;
+        let text = String::from_str(alloc, text)?;
+        let text = Shared::new(alloc, text)?;
         Ok(Atom { text })
     }
 
@@ -64,16 +66,26 @@ impl Atom {
         ensures text { result.now ≡ self.now }
         ensures utf8 { IsUtf8 self.now }
     {
-        self.text.as_str()
+        self.text.value().as_str()
+    }
+
+    /// One more owner of the text: `clone` with no `Result`, for a function that must not fail.
+    pub fn again(&self) -> Atom
+        ensures { result ≡ self.now }
+    {
+        Atom {
+            text: self.text.again(),
+        }
     }
 }
 
 impl Clone for Atom {
     ghost is_clone = { λ a b. b ≡ a };
 
+    ghost is_infallible = { λ _. ⊤ };
+
     fn clone(&self) -> Result<Atom, AllocError> {
-        let text = self.text.clone()?;
-        Ok(Atom { text })
+        Ok(self.again())
     }
 }
 
@@ -83,7 +95,7 @@ impl PartialEq for Atom {
     ghost laws = { Cmp.partial_equiv_from_equiv nat_list_eq_equiv };
 
     fn eq(&self, other: &Atom) -> bool {
-        self.text == other.text
+        self.as_str() == other.as_str()
     }
 }
 
@@ -111,7 +123,7 @@ impl Ord for Atom {
     ghost matches_eq = { λ x y. texts_ties x y };
 
     fn cmp(&self, other: &Atom) -> Ordering {
-        self.text.cmp(&other.text)
+        self.as_str().cmp(other.as_str())
     }
 }
 
@@ -125,7 +137,7 @@ impl Hash for Atom {
     ghost respects_eq = { Prim.search (hashing, rules) };
 
     fn hash<H: Hasher>(&self, state: &mut H) {
-        self.text.hash(state);
+        self.as_str().hash(state);
     }
 }
 
@@ -133,12 +145,12 @@ impl fmt::Display for Atom {
     ghost output = { λ a. Some a };
 
     fn fmt<W: fmt::Write>(&self, f: &mut fmt::Formatter<W>) -> fmt::Result {
-        fmt::Display::fmt(&self.text, f)
+        fmt::Display::fmt(self.as_str(), f)
     }
 }
 
 impl fmt::Debug for Atom {
     fn fmt<W: fmt::Write>(&self, f: &mut fmt::Formatter<W>) -> fmt::Result {
-        fmt::Debug::fmt(&self.text, f)
+        fmt::Debug::fmt(self.as_str(), f)
     }
 }

@@ -1,7 +1,8 @@
-//! A text that is shared.
+//! A text that is shared. A clone of it takes no memory and always succeeds.
 #![tactic(auto)]
 
 mod atom;
+mod counts;
 #[cfg(test)]
 mod tests;
 

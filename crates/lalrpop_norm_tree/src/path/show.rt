@@ -1,11 +1,14 @@
 //! The text of a path.
-ghost use Rattle.std.specs.Prelude.{Some};
+ghost use Rattle.std.specs.Prelude.{Some, ◌++◌};
 ghost use Rattle.std.specs.Fmt.{WritesOnOk};
 ghost use Rattle.lalrpop_norm_tree.specs.Paths.{path_view};
 ghost use Rattle.lalrpop_norm_tree.specs.Texts.{joined};
-ghost use Rattle.lalrpop_norm_tree.specs.TypeTexts.{path_text};
+ghost use Rattle.lalrpop_norm_tree.specs.TypeTexts.{forall_text, path_text};
 
 use super::Path;
+use crate::names::TypeParameter;
+use crate::names::show::show_forall;
+use crate::show::show_joined;
 use shared_text::Atom;
 use std::fmt;
 
@@ -20,6 +23,19 @@ impl fmt::Display for Path {
     }
 }
 
+/// The path, after what it is quantified over.
+pub(crate) fn show_forall_path<W: fmt::Write>(
+    forall: &[TypeParameter],
+    path: &Path,
+    f: &mut fmt::Formatter<W>,
+) -> fmt::Result
+    ensures { WritesOnOk W.write_str_gives f.old result
+        (forall_text forall.now ++ path_text (path_view path.now)) f.new }
+{
+    show_forall(forall, f)?;
+    fmt::Display::fmt(path, f)
+}
+
 /// The names with the separator between each two.
 fn show_names<W: fmt::Write>(
     names: &[Atom],
@@ -28,12 +44,5 @@ fn show_names<W: fmt::Write>(
 ) -> fmt::Result
     ensures { WritesOnOk W.write_str_gives f.old result (joined separator.now names.now) f.new }
 {
-    if let Some((first, others)) = names.split_first() {
-        fmt::Display::fmt(first, f)?;
-        for other in others {
-            f.write_str(separator)?;
-            fmt::Display::fmt(other, f)?;
-        }
-    }
-    Ok(())
+    show_joined(names, separator, f)
 }

@@ -1,0 +1,3 @@
+pub mod WalkLemmas
+pub mod KeyLemmas
+pub mod LaterLemmas

@@ -1,0 +1,11 @@
+use Rattle.std.proofs.Common.{◌≡◌, drop, map}
+use Rattle.lalrpop_norm_tree.specs.Items.{conversion_view}
+use Rattle.lalrpop_norm.specs.Grammars.{terminals_of}
+use Rattle.lalrpop_norm.specs.LaterWalks.{with_keys, repeats, terminal_cmp}
+use Rattle.lalrpop_norm.proofs.later.terminals.add_terminals.Given as goal
+
+abbrev pub invariant-loop-conversion : goal.invariant-loop-conversion
+invariant-loop-conversion l = record {
+  finds : repeats terminal_cmp l.terminals.keys (terminals_of (map conversion_view (drop l.conversion-index l.conversions))) ≡ repeats terminal_cmp l.initial.terminals.keys (terminals_of (map conversion_view l.conversions));
+  adds : with_keys terminal_cmp l.terminals.keys (terminals_of (map conversion_view (drop l.conversion-index l.conversions))) ≡ with_keys terminal_cmp l.initial.terminals.keys (terminals_of (map conversion_view l.conversions));
+}

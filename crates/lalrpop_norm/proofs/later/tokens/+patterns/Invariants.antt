@@ -1,0 +1,8 @@
+use Rattle.std.proofs.Common.{◌≡◌, drop, map, option_map}
+use Rattle.lalrpop_norm_tree.specs.Patterns.{patterns_view}
+use Rattle.lalrpop_norm_tree.specs.Types.{type_view}
+use Rattle.lalrpop_norm.specs.Later.{patterns_parts}
+use Rattle.lalrpop_norm.proofs.later.tokens.+patterns.Given as goal
+
+abbrev pub invariant-find_in_patterns-loop-pattern : goal.invariant-find_in_patterns-loop-pattern
+invariant-find_in_patterns-loop-pattern l = patterns_parts (patterns_view type_view (drop l.pattern-index l.patterns)) ≡ patterns_parts (patterns_view type_view l.patterns)

@@ -1,0 +1,73 @@
+-- Answers by the first part that is found, and names in sets by their sorted keys.
+use Rattle.std.specs.Prelude.{◌≡◌, ℕ, Bool, true, false, ◌||◌, List, [], ◌∷◌, Option, Some, None, Result, Ok, Err}
+use Rattle.std.specs.Ordering.{nat_cmp}
+use Rattle.std.specs.declared.cmp.Ordering.{Ordering}
+use Rattle.std.specs.declared.cmp.Ordering.TheVariants.{Less, Equal, Greater}
+use Rattle.lalrpop_norm_tree.specs.declared.names.TerminalLiteral.{TerminalLiteral}
+use Rattle.lalrpop_norm_tree.specs.declared.names.TerminalLiteral.TheVariants.{Quoted, Regex}
+use Rattle.lalrpop_norm_tree.specs.declared.names.TerminalString.{TerminalString}
+use Rattle.lalrpop_norm_tree.specs.declared.names.TerminalString.TheVariants.{Literal, Bare, Error}
+use Rattle.std.specs.Cmp.Lexicographic.{slice_cmp}
+use Rattle.std.specs.List.{list_any}
+use Rattle.std.specs.BTreeMap.{is_at}
+use Rattle.std.specs.BTreeSet.{insert_key}
+use Rattle.lalrpop_norm.specs.declared.later.LaterPart.{LaterPart}
+use Rattle.lalrpop_norm.specs.declared.later.lacks.Known.{Known}
+use Rattle.lalrpop_norm.specs.declared.later.Stop.{Stop}
+use Rattle.lalrpop_norm.specs.declared.later.Stop.TheVariants.{Found, Memory}
+
+abbrev pub first_part : List LaterPart → Option LaterPart
+first_part [] = None
+first_part (p ∷ ps) = Some p
+
+-- Ok where there is no part, else the first one
+abbrev pub Finds : {T : Type 0} → Result T LaterPart → List LaterPart → Type 0
+Finds (Ok _) ps = ps ≡ []
+Finds (Err p) ps = first_part ps ≡ Some p
+
+-- why a search stopped: at the first part, or for want of memory
+abbrev pub StopsAt : List LaterPart → Stop → Type 0
+StopsAt ps (Found p) = first_part ps ≡ Some p
+StopsAt ps Memory = Unit
+
+abbrev pub Stops : {T : Type 0} → Result T Stop → List LaterPart → Type 0
+Stops (Ok _) ps = ps ≡ []
+Stops (Err e) ps = StopsAt ps e
+
+-- whether a key is equal to one of the list
+abbrev pub has_key : {K : Type 0} → (K → K → Ordering) → List K → K → Bool
+has_key cmp keys k = list_any (is_at (cmp k)) keys
+
+-- the keys, and one after the other those of a list
+abbrev pub with_keys : {K : Type 0} → (K → K → Ordering) → List K → List K → List K
+with_keys cmp keys [] = keys
+with_keys cmp keys (k ∷ ks) = with_keys cmp (insert_key cmp keys k) ks
+
+-- whether one of the list is there already when its turn comes
+abbrev pub repeats : {K : Type 0} → (K → K → Ordering) → List K → List K → Bool
+repeats cmp keys [] = false
+repeats cmp keys (k ∷ ks) = has_key cmp keys k || repeats cmp (insert_key cmp keys k) ks
+
+abbrev pub literal_cmp : TerminalLiteral → TerminalLiteral → Ordering
+literal_cmp (Quoted a) (Quoted b) = slice_cmp nat_cmp a b
+literal_cmp (Quoted a) (Regex b) = Less
+literal_cmp (Regex a) (Quoted b) = Greater
+literal_cmp (Regex a) (Regex b) = slice_cmp nat_cmp a b
+
+-- the order of terminals: literals, then bare names, then the error terminal
+abbrev pub terminal_cmp : TerminalString → TerminalString → Ordering
+terminal_cmp (Literal a) (Literal b) = literal_cmp a b
+terminal_cmp (Literal a) (Bare b) = Less
+terminal_cmp (Literal a) Error = Less
+terminal_cmp (Bare a) (Literal b) = Greater
+terminal_cmp (Bare a) (Bare b) = slice_cmp nat_cmp a b
+terminal_cmp (Bare a) Error = Less
+terminal_cmp Error (Literal b) = Greater
+terminal_cmp Error (Bare b) = Greater
+terminal_cmp Error Error = Equal
+
+abbrev pub rule_in : Known → List ℕ → Bool
+rule_in known = has_key (slice_cmp nat_cmp) known.rules.keys
+
+abbrev pub conversion_in : Known → TerminalString → Bool
+conversion_in known = has_key terminal_cmp known.terminals.keys

@@ -1,0 +1,104 @@
+//! Rules.
+ghost use Rattle.std.specs.Prelude.{◌≡◌, map, option_map};
+ghost use Rattle.std.specs.List.{flat_map};
+ghost use Rattle.lalrpop_norm_tree.specs.Items.{action_view, alternative_view, rule_view};
+ghost use Rattle.lalrpop_norm_tree.specs.Types.{type_view};
+ghost use Rattle.lalrpop_norm.specs.Later.{part_of_some, after_slot, has_several_slots, code_parts, action_parts, alternative_parts, declared_parts, rule_parts};
+ghost use Rattle.lalrpop_norm.specs.LaterWalks.{Finds};
+
+use super::LaterPart;
+use super::symbols::find_in_symbols;
+use super::tokens::{find_any, find_attribute, find_in_type};
+use lalrpop_norm_front::norm_util::check_between_braces;
+use lalrpop_norm_tree::grammar::parse_tree::{
+    ActionKind, Alternative, Condition, NonterminalData, TypeRef,
+};
+
+/// The code behind its first `<>`.
+fn after_slot(code: &str) -> Option<&str>
+    ensures { option_map (λ t. t.now) result ≡ after_slot code.now }
+{
+    match code.split_once("<>") {
+        Some((_before, rest)) => Some(rest),
+        None => None,
+    }
+}
+
+fn has_several_slots(code: &str) -> bool
+    ensures { result ≡ has_several_slots code.now }
+{
+    match after_slot(code) {
+        Some(rest) => after_slot(rest).is_some(),
+        None => false,
+    }
+}
+
+fn find_in_code(code: &str) -> Result<(), LaterPart>
+    ensures { Finds result (code_parts code.now) }
+{
+    if check_between_braces(code).is_in_curly_brackets() {
+        return Err(LaterPart::PlaceholderInBraces);
+    }
+    if has_several_slots(code) {
+        return Err(LaterPart::SeveralPlaceholders);
+    }
+    Ok(())
+}
+
+fn find_in_action(action: &Option<ActionKind>) -> Result<(), LaterPart>
+    ensures { Finds result (action_parts (option_map action_view action.now)) }
+{
+    match action {
+        None => Ok(()),
+        Some(ActionKind::User(code)) => find_in_code(code.as_str()),
+        Some(ActionKind::Fallible(_)) => Err(LaterPart::FallibleCode),
+        Some(ActionKind::Lookahead) | Some(ActionKind::Lookbehind) => {
+            Err(LaterPart::LookaroundCode)
+        }
+    }
+}
+
+fn find_condition(condition: &Option<Condition>) -> Result<(), LaterPart>
+    ensures { Finds result (part_of_some LaterPart.Condition condition.now) }
+{
+    match condition {
+        Some(_) => Err(LaterPart::Condition),
+        None => Ok(()),
+    }
+}
+
+fn find_in_alternative(alternative: &Alternative) -> Result<(), LaterPart>
+    ensures { Finds result (alternative_parts (alternative_view alternative.now)) }
+{
+    find_in_symbols(&alternative.expr.symbols)?;
+    find_condition(&alternative.condition)?;
+    find_in_action(&alternative.action)?;
+    find_attribute(LaterPart::Attribute, &alternative.attributes)
+}
+
+fn find_in_alternatives(alternatives: &[Alternative]) -> Result<(), LaterPart>
+    ensures { Finds result (flat_map alternative_parts (map alternative_view alternatives.now)) }
+{
+    for alternative in alternatives {
+        find_in_alternative(alternative)?;
+    }
+    Ok(())
+}
+
+fn find_in_declared(declared: &Option<TypeRef>) -> Result<(), LaterPart>
+    ensures { Finds result (declared_parts (option_map type_view declared.now)) }
+{
+    match declared {
+        Some(written) => find_in_type(written),
+        None => Err(LaterPart::UndeclaredType),
+    }
+}
+
+pub(super) fn find_in_rule(rule: &NonterminalData) -> Result<(), LaterPart>
+    ensures { Finds result (rule_parts (rule_view rule.now)) }
+{
+    find_attribute(LaterPart::Attribute, &rule.attributes)?;
+    find_any(LaterPart::MacroDefinition, &rule.args)?;
+    find_in_declared(&rule.type_decl)?;
+    find_in_alternatives(&rule.alternatives)
+}

@@ -1,0 +1,169 @@
+//! Types and extern blocks.
+ghost use Rattle.std.specs.Prelude.{◌≡◌, map, option_map};
+ghost use Rattle.std.specs.List.{flat_map};
+ghost use Rattle.lalrpop_norm_tree.specs.Attributes.{attributes_view};
+ghost use Rattle.lalrpop_norm_tree.specs.Items.{conversion_view, enum_token_view, extern_token_view};
+ghost use Rattle.lalrpop_norm_tree.specs.Patterns.{pattern_kind_view, pattern_view, patterns_view};
+ghost use Rattle.lalrpop_norm_tree.specs.Types.{type_view, types_view, maybe_of};
+ghost use Rattle.lalrpop_norm.specs.Later.{part_of_any, attribute_parts, type_parts, pattern_kind_parts, pattern_parts, patterns_parts, conversion_parts, enum_parts, extern_parts};
+ghost use Rattle.lalrpop_norm.specs.LaterWalks.{Finds};
+ghost use Rattle.lalrpop_norm.specs.LoweredTypes.{holds_symbol, any_holds_symbol, result_holds_symbol};
+
+use super::LaterPart;
+use super::symbols::find_in_terminal;
+use lalrpop_norm_tree::grammar::parse_tree::{
+    Attribute, Conversion, EnumToken, ExternToken, TypeRef,
+};
+use lalrpop_norm_tree::grammar::pattern::{Pattern, PatternKind};
+
+/// Answers `part` where there is anything.
+pub(super) fn find_any<T>(part: LaterPart, things: &[T]) -> Result<(), LaterPart>
+    ensures { Finds result (part_of_any part things.now) }
+{
+    match things.first() {
+        Some(_) => Err(part),
+        None => Ok(()),
+    }
+}
+
+/// Answers `part` where there is an attribute.
+pub(super) fn find_attribute(part: LaterPart, attributes: &[Attribute]) -> Result<(), LaterPart>
+    ensures { Finds result (attribute_parts part (attributes_view attributes.now)) }
+{
+    match attributes.first() {
+        Some(_) => Err(part),
+        None => Ok(()),
+    }
+}
+
+// ---- types
+
+#[cycle(types)]
+fn holds_symbol(written: &TypeRef) -> bool
+    ensures { result ≡ holds_symbol (type_view written.now) }
+{
+    match written {
+        TypeRef::Tuple(types) => any_holds_symbol(types),
+        TypeRef::Slice(inner) => holds_symbol(inner),
+        TypeRef::Nominal { path: _, types } => any_holds_symbol(types),
+        TypeRef::Ref {
+            lifetime: _,
+            mutable: _,
+            referent,
+        } => holds_symbol(referent),
+        TypeRef::TraitObject { path: _, types } => any_holds_symbol(types),
+        TypeRef::Lifetime(_) | TypeRef::Id(_) => false,
+        TypeRef::OfSymbol(_) => true,
+        TypeRef::Fn {
+            forall: _,
+            path: _,
+            parameters,
+            ret,
+        } => any_holds_symbol(parameters) || result_holds_symbol(ret),
+    }
+}
+
+#[cycle(types)]
+fn any_holds_symbol(types: &[TypeRef]) -> bool
+    ensures { result ≡ any_holds_symbol (types_view types.now) }
+{
+    for written in types {
+        if holds_symbol(written) {
+            return true;
+        }
+    }
+    false
+}
+
+#[cycle(types)]
+fn result_holds_symbol(ret: &Option<Box<TypeRef>>) -> bool
+    ensures { result ≡ result_holds_symbol (maybe_of (option_map (λ b. type_view b.value) ret.now)) }
+{
+    match ret {
+        Some(written) => holds_symbol(written),
+        None => false,
+    }
+}
+
+pub(super) fn find_in_type(written: &TypeRef) -> Result<(), LaterPart>
+    ensures { Finds result (type_parts (type_view written.now)) }
+{
+    if holds_symbol(written) {
+        return Err(LaterPart::TypeOfSymbol);
+    }
+    Ok(())
+}
+
+// ---- patterns of conversions
+
+#[cycle(patterns)]
+fn find_in_patterns(patterns: &[Pattern<TypeRef>]) -> Result<(), LaterPart>
+    ensures { Finds result (patterns_parts (patterns_view type_view patterns.now)) }
+{
+    for pattern in patterns {
+        find_in_pattern(pattern)?;
+    }
+    Ok(())
+}
+
+#[cycle(patterns)]
+fn find_in_pattern(pattern: &Pattern<TypeRef>) -> Result<(), LaterPart>
+    ensures { Finds result (pattern_parts (pattern_view type_view pattern.now)) }
+{
+    find_in_pattern_kind(&pattern.kind)
+}
+
+#[cycle(patterns)]
+fn find_in_pattern_kind(kind: &PatternKind<TypeRef>) -> Result<(), LaterPart>
+    ensures { Finds result (pattern_kind_parts (pattern_kind_view type_view kind.now)) }
+{
+    match kind {
+        PatternKind::Enum(_, patterns) => find_in_patterns(patterns),
+        PatternKind::Path(_) | PatternKind::Underscore | PatternKind::DotDot => Ok(()),
+        PatternKind::Choose(_) => Err(LaterPart::ChosenType),
+        PatternKind::Struct(_, _, _)
+        | PatternKind::Tuple(_)
+        | PatternKind::TupleStruct(_, _)
+        | PatternKind::Usize(_)
+        | PatternKind::CharLiteral(_)
+        | PatternKind::String(_) => Err(LaterPart::PatternKind),
+    }
+}
+
+// ---- extern blocks
+
+fn find_in_conversion(conversion: &Conversion) -> Result<(), LaterPart>
+    ensures { Finds result (conversion_parts (conversion_view conversion.now)) }
+{
+    find_attribute(LaterPart::Attribute, &conversion.attributes)?;
+    find_in_terminal(&conversion.from)?;
+    find_in_pattern(&conversion.to)
+}
+
+fn find_in_conversions(conversions: &[Conversion]) -> Result<(), LaterPart>
+    ensures { Finds result (flat_map conversion_parts (map conversion_view conversions.now)) }
+{
+    for conversion in conversions {
+        find_in_conversion(conversion)?;
+    }
+    Ok(())
+}
+
+fn find_in_enum(tokens: &Option<EnumToken>) -> Result<(), LaterPart>
+    ensures { Finds result (enum_parts (option_map enum_token_view tokens.now)) }
+{
+    match tokens {
+        Some(tokens) => {
+            find_in_type(&tokens.type_name)?;
+            find_in_conversions(&tokens.conversions)
+        }
+        None => Ok(()),
+    }
+}
+
+pub(super) fn find_in_extern(block: &ExternToken) -> Result<(), LaterPart>
+    ensures { Finds result (extern_parts (extern_token_view block.now)) }
+{
+    find_any(LaterPart::AssociatedType, &block.associated_types)?;
+    find_in_enum(&block.enum_token)
+}

@@ -1,0 +1,4 @@
+//! LALRPOP's grammar normalization.
+#![tactic(auto)]
+
+mod later;

@@ -1,0 +1,5 @@
+pub mod Refusals
+pub mod FormLemmas
+pub mod ItemLemmas
+pub mod MemberLemma
+pub mod Complete

@@ -1,0 +1,149 @@
+-- What has not the parts of a shape does not have the shape.
+use Rattle.std.proofs.Common.{◌≡◌, ◌≢◌, ℕ, zero, suc, ◌<◌, ◌≤◌, map, List, [], ◌∷◌, length, get_or, take, Some, None, option_and_then, Bool, true, false, ◌&&◌, refl, sym, ap, ◌∙◌, arith}
+use Rattle.std.proofs.lemmas.List.{take_all}
+use Rattle.serde_json.specs.Data.{Data, null, boolean, number, unsigned, negative, float, string, array, object, no_items, item, Members, no_members, member}
+use Rattle.serde_json.specs.Find.{as_object, as_array, as_number, as_u64}
+use Rattle.serde_json.specs.View.{view, items_view, items_of}
+use Rattle.serde_json.specs.declared.value.Value.{Value}
+use Rattle.lalrpop_norm_json.specs.Weight.{weight, items_weight}
+use Rattle.lalrpop_norm_json.specs.Parts.{is_null, is_pair, is_variant, is_no_members, starts_with}
+use Rattle.lalrpop_norm_json.specs.Shapes.{Name, natural, absent, Place, Held, Arrays, shape, struct_of, each, row, fits, fits_items, fits_members, struct, variants, arrayed, optional, Shape, is}
+
+pub not_pair : (vs : List Value) → length vs ≢ 2 → is_pair (array (items_view vs)) ≡ false
+not_pair [] other = refl
+not_pair (a ∷ []) other = refl
+not_pair (a ∷ b ∷ []) other = absurd (other refl)
+not_pair (a ∷ b ∷ c ∷ vs) other = refl
+
+pub pair_of : (vs : List Value) (d : Value) → length vs ≡ 2 → items_view vs ≡ item (view (get_or vs 0 d)) (item (view (get_or vs 1 d)) no_items)
+pair_of [] d two = cc
+pair_of (a ∷ []) d two = cc
+pair_of (a ∷ b ∷ []) d two = refl
+pair_of (a ∷ b ∷ c ∷ vs) d two = absurd (omega arith)
+
+pub not_empty : (vs : List Value) → length vs ≢ 0 → fits_items (row []) (items_view vs) ≡ false
+not_empty [] other = absurd (other refl)
+not_empty (a ∷ vs) other = refl
+
+pub empty_of : (vs : List Value) → length vs ≡ 0 → items_view vs ≡ no_items
+empty_of [] none = refl
+empty_of (a ∷ vs) none = absurd (omega arith)
+
+pub not_absent : (d : Data) → is_null d ≡ false → is absent d ≡ false
+not_absent null there = cc
+not_absent (boolean b) there = refl
+not_absent (number n) there = refl
+not_absent (string s) there = refl
+not_absent (array ds) there = refl
+not_absent (object ms) there = refl
+
+pub natural_of : (d : Data) (n : ℕ) → option_and_then as_u64 (as_number d) ≡ Some n → d ≡ number (unsigned n)
+natural_of (number (unsigned m)) n e = cc
+natural_of (number (negative z)) n e = cc
+natural_of (number (float x)) n e = cc
+natural_of null n e = cc
+natural_of (boolean b) n e = cc
+natural_of (string s) n e = cc
+natural_of (array ds) n e = cc
+natural_of (object ms) n e = cc
+
+pub not_natural : (d : Data) → option_and_then as_u64 (as_number d) ≡ None → is natural d ≡ false
+not_natural (number (unsigned m)) e = cc
+not_natural (number (negative z)) e = refl
+not_natural (number (float x)) e = refl
+not_natural null e = refl
+not_natural (boolean b) e = refl
+not_natural (string s) e = refl
+not_natural (array ds) e = refl
+not_natural (object ms) e = refl
+
+-- ---- a struct
+
+pub no_struct : (rows : List (List ℕ × Place)) (d : Data) → as_object d ≡ None → fits (struct rows) d ≡ false
+no_struct rows null e = refl
+no_struct rows (boolean b) e = refl
+no_struct rows (number n) e = refl
+no_struct rows (string s) e = refl
+no_struct rows (array ds) e = refl
+no_struct rows (object ms) e = cc
+
+pub no_field : (r : List ℕ × Place) (rows : List (List ℕ × Place)) (ms : Members) → starts_with r.0 ms ≡ false → fits_members (struct_of (r ∷ rows)) ms ≡ false
+no_field r rows no_members e = refl
+no_field r rows (member k d ms) e = rw e refl
+
+pub no_end : (ms : Members) → is_no_members ms ≡ false → fits_members (struct_of []) ms ≡ false
+no_end no_members e = e
+no_end (member k d ms) e = refl
+
+pub and_false : (a b : Bool) → b ≡ false → (a && b) ≡ false
+and_false true b e = e
+and_false false b e = refl
+
+-- ---- a variant, a list
+
+pub no_variant : (ns : List (List ℕ)) (rows : List (List ℕ × Held)) (d : Data) → is_variant d ≡ false → fits (variants ns rows) d ≡ false
+no_variant ns rows null e = refl
+no_variant ns rows (boolean b) e = refl
+no_variant ns rows (number n) e = refl
+no_variant ns rows (string s) e = cc
+no_variant ns rows (array ds) e = refl
+no_variant ns rows (object no_members) e = refl
+no_variant ns rows (object (member k d no_members)) e = cc
+no_variant ns rows (object (member k d (member l f ms))) e = refl
+
+pub no_array : (a : Arrays) (d : Data) → as_array d ≡ None → fits (arrayed a) d ≡ false
+no_array a null e = refl
+no_array a (boolean b) e = refl
+no_array a (number n) e = refl
+no_array a (string s) e = refl
+no_array a (array ds) e = cc
+no_array a (object ms) e = refl
+
+pub no_pair : (p q : Place) (d : Data) → is_pair d ≡ false → fits (arrayed (row (p ∷ q ∷ []))) d ≡ false
+no_pair p q null e = refl
+no_pair p q (boolean b) e = refl
+no_pair p q (number n) e = refl
+no_pair p q (string s) e = refl
+no_pair p q (array no_items) e = refl
+no_pair p q (array (item a no_items)) e = and_false _ _ refl
+no_pair p q (array (item a (item b no_items))) e = cc
+no_pair p q (array (item a (item b (item c ds)))) e = and_false _ _ (and_false _ _ refl)
+no_pair p q (object ms) e = refl
+
+pub no_optional : (s : Shape) (d : Data) → is_null d ≡ false → fits s d ≡ false → fits (optional s) d ≡ false
+no_optional s null there e = cc
+no_optional s (boolean b) there e = e
+no_optional s (number n) there e = e
+no_optional s (string t) there e = e
+no_optional s (array ds) there e = e
+no_optional s (object ms) there e = e
+
+-- ---- lists
+
+pub item_weight : (vs : List Value) (i : ℕ) (d : Value) → i < length vs → weight (view (get_or vs i d)) ≤ items_weight (items_view vs)
+item_weight [] i d h = absurd (omega arith)
+item_weight (v ∷ vs) zero d h = omega arith
+item_weight (v ∷ vs) (suc i) d h = let later = item_weight vs i d (omega arith) in omega arith
+
+pub no_item : (n : Name) (vs : List Value) (i : ℕ) (d : Value) → i < length vs → is n (view (get_or vs i d)) ≡ false → fits_items (each n) (items_view vs) ≡ false
+no_item n [] i d h e = absurd (omega arith)
+no_item n (v ∷ vs) zero d h e = rw e refl
+no_item n (v ∷ vs) (suc i) d h e = and_false _ _ (no_item n vs i d (omega arith) e)
+
+-- an item of a list is lighter than the list
+pub lighter : (v : Data) (vs : List Value) (i : ℕ) (x : Value) → v ≡ array (items_view vs) → i < length vs → x ≡ get_or vs i x → weight (view x) < weight v
+lighter v vs i x is h at =
+    let e : weight v ≡ suc (items_weight (items_view vs)) = ap weight is in
+    let below : weight (view (get_or vs i x)) ≤ items_weight (items_view vs) = item_weight vs i x h in
+    let here : weight (view x) ≡ weight (view (get_or vs i x)) = ap (λ y. weight (view y)) at in
+    omega arith
+
+-- a list with a refused item is refused
+pub no_list : (n : Name) (v : Data) (vs : List Value) (i : ℕ) (x : Value) → v ≡ array (items_view vs) → i < length vs → x ≡ get_or vs i x → is n (view x) ≡ false → fits (arrayed (each n)) v ≡ false
+no_list n v vs i x is h at refused = rw is (no_item n vs i x h (ap (λ y. fits (shape n) (view y)) (sym at) ∙ refused))
+
+-- a list that was read to its end
+pub whole_list : {X : Type 0} (f : X → Data) (xs : List X) (v : Data) (vs : List Value) (i : ℕ) → v ≡ array (items_view vs) → map f xs ≡ map view (take i vs) → length vs ≤ i → v ≡ array (items_of (map f xs))
+whole_list f xs v vs i is e h = is ∙ ap (λ ds. array (items_of ds)) (ap (map view) (sym (take_all i vs h)) ∙ sym e)
+
+pub ruleset refusals = (no_struct, no_field, no_end, and_false, no_variant, no_array, no_pair, no_optional, lighter, no_list)

@@ -1,0 +1,19 @@
+use Rattle.std.proofs.Common.{◌≡◌, map, take}
+use Rattle.serde_json.specs.View.{view}
+use Rattle.lalrpop_norm_tree.specs.Types.{type_view}
+use Rattle.lalrpop_norm_tree.specs.Patterns.{pattern_view}
+use Rattle.lalrpop_norm_json.specs.PatternForms.{pattern_form}
+use Rattle.lalrpop_norm_json.specs.Weight.{weight}
+use Rattle.lalrpop_norm_json.proofs.tree.patterns.+pattern.Given as goal
+
+abbrev pub decreases-pattern : goal.decreases-pattern
+decreases-pattern l = weight (view l.value.now)
+
+abbrev pub decreases-pattern_kind : goal.decreases-pattern_kind
+decreases-pattern_kind l = weight (view l.value.now)
+
+abbrev pub decreases-patterns : goal.decreases-patterns
+decreases-patterns l = weight (view l.value.now)
+
+abbrev pub invariant-patterns-loop-value : goal.invariant-patterns-loop-value
+invariant-patterns-loop-value l = map (λ p. pattern_form (pattern_view type_view p)) l.patterns.items ≡ map view (take l.value-index l.values)

@@ -1,0 +1,18 @@
+use Rattle.std.proofs.Common.{◌≡◌, ◌+◌, map, take}
+use Rattle.serde_json.specs.View.{view}
+use Rattle.lalrpop_norm_tree.specs.Types.{type_view}
+use Rattle.lalrpop_norm_json.specs.TypeForms.{type_form}
+use Rattle.lalrpop_norm_json.specs.Weight.{weight}
+use Rattle.lalrpop_norm_json.proofs.tree.types.+type_ref.Given as goal
+
+abbrev pub decreases-type_ref : goal.decreases-type_ref
+decreases-type_ref l = weight (view l.value.now) + weight (view l.value.now)
+
+abbrev pub decreases-maybe_type_ref : goal.decreases-maybe_type_ref
+decreases-maybe_type_ref l = weight (view l.value.now) + weight (view l.value.now) + 1
+
+abbrev pub decreases-type_refs : goal.decreases-type_refs
+decreases-type_refs l = weight (view l.value.now) + weight (view l.value.now)
+
+abbrev pub invariant-type_refs-loop-value : goal.invariant-type_refs-loop-value
+invariant-type_refs-loop-value l = map (λ t. type_form (type_view t)) l.types.items ≡ map view (take l.value-index l.values)

@@ -1,0 +1,9 @@
+pub mod Json
+pub mod Forms
+pub mod SymbolForms
+pub mod TypeForms
+pub mod PatternForms
+pub mod ItemForms
+pub mod Shapes
+pub mod Parts
+pub mod Weight

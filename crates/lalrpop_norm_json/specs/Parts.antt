@@ -1,0 +1,35 @@
+-- What the parts of a value are.
+use Rattle.std.specs.Prelude.{ℕ, Bool, true, false, List}
+use Rattle.std.specs.Str.{bytes_eq}
+use Rattle.serde_json.specs.Data.{Data, null, string, array, object, no_items, item, Members, no_members, member}
+use Rattle.serde_json.specs.View.{view}
+use Rattle.lalrpop_norm_json.specs.declared.json.Case.{Case}
+use Rattle.lalrpop_norm_json.specs.declared.json.Case.TheVariants.{Bare, Of}
+
+-- the first member has that key
+abbrev pub starts_with : List ℕ → Members → Bool
+starts_with name no_members = false
+starts_with name (member k d ms) = bytes_eq k name
+
+abbrev pub is_no_members : Members → Bool
+is_no_members no_members = true
+is_no_members (member k d ms) = false
+
+-- a text, or an object with one member
+abbrev pub is_variant : Data → Bool
+is_variant (string s) = true
+is_variant (object (member k d no_members)) = true
+is_variant _ = false
+
+abbrev pub is_pair : Data → Bool
+is_pair (array (item a (item b no_items))) = true
+is_pair _ = false
+
+abbrev pub is_null : Data → Bool
+is_null null = true
+is_null _ = false
+
+-- a variant's name, alone or with what it holds
+abbrev pub case_form : Case → Data
+case_form (Bare name) = string name.now
+case_form (Of name d) = object (member name.now (view d.now) no_members)

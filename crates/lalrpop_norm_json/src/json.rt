@@ -1,0 +1,222 @@
+//! The parts of a JSON value, each refused as no tree where it is not there.
+ghost use Rattle.std.specs.Prelude.{◌≡◌, [], Some, None, IfOk, IfSome, IfNone, IsErrOf, false};
+ghost use Rattle.serde_json.specs.Data.{null, boolean, number, unsigned, string, array, object, item, no_items, member, no_members};
+ghost use Rattle.serde_json.specs.Find.{as_object, as_array};
+ghost use Rattle.serde_json.specs.View.{view, items_view, members_view};
+ghost use Rattle.lalrpop_norm_json.specs.Shapes.{is, text, truth, natural, empty, absent};
+ghost use Rattle.lalrpop_norm_json.specs.Parts.{starts_with, is_no_members, is_variant, is_pair, is_null, case_form};
+
+use lalrpop_norm_tree::grammar::parse_tree::NoMemory;
+use serde_json::Value;
+use std::alloc::{AllocError, AllocFailed};
+use std::collections::btree_map::Iter;
+
+/// Why a text gives no tree.
+#[derive(Clone, Copy, Debug, PartialEq, Eq)]
+pub enum TreeError {
+    /// The text is not JSON, or its value has not the shape of a tree that is read.
+    NotATree,
+    /// There was no memory for the value or the tree.
+    Memory,
+}
+
+impl From<AllocError> for TreeError {
+    ghost use Rattle.lalrpop_norm_json.specs.declared.json.TreeError.TheVariants.{Memory};
+
+    ghost from_gives = { λ _ e. e ≡ Memory };
+
+    fn from(_e: AllocError) -> TreeError {
+        TreeError::Memory
+    }
+}
+
+impl<T: Drop> From<AllocFailed<T>> for TreeError {
+    ghost use Rattle.lalrpop_norm_json.specs.declared.json.TreeError.TheVariants.{Memory};
+
+    ghost from_gives = { λ _ e. e ≡ Memory };
+
+    fn from(_e: AllocFailed<T>) -> TreeError {
+        TreeError::Memory
+    }
+}
+
+impl From<NoMemory> for TreeError {
+    ghost use Rattle.lalrpop_norm_json.specs.declared.json.TreeError.TheVariants.{Memory};
+
+    ghost from_gives = { λ _ e. e ≡ Memory };
+
+    fn from(_e: NoMemory) -> TreeError {
+        TreeError::Memory
+    }
+}
+
+/// The members of an object that are left, in the order of their keys.
+pub type Members<'v> = Iter<'v, String, Value>;
+
+/// The members of an object.
+pub fn members_of(value: &Value) -> Result<Members<'_>, TreeError>
+    ensures ok { IfOk result (λ ms. view value.now ≡ object (members_view ms)) }
+    ensures err { IsErrOf result TreeError.NotATree → as_object (view value.now) ≡ None }
+{
+    match value.as_object() {
+        Some(map) => Ok(map.iter()),
+        None => Err(TreeError::NotATree),
+    }
+}
+
+/// The value of the next member, which has that key.
+pub fn field<'v>(members: &mut Members<'v>, name: &str) -> Result<&'v Value, TreeError>
+    ensures ok { IfOk result (λ v. members_view members.old ≡ member name.now (view v.now) (members_view members.new)) }
+    ensures err { IsErrOf result TreeError.NotATree → starts_with name.now (members_view members.old) ≡ false }
+{
+    match members.next() {
+        Some((key, value)) => {
+            if key.as_str() == name {
+                Ok(value)
+            } else {
+                Err(TreeError::NotATree)
+            }
+        }
+        None => Err(TreeError::NotATree),
+    }
+}
+
+/// No member is left.
+pub fn end(mut members: Members<'_>) -> Result<(), TreeError>
+    ensures ok { IfOk result (λ _. members_view members.entry ≡ no_members) }
+    ensures err { IsErrOf result TreeError.NotATree → is_no_members (members_view members.entry) ≡ false }
+{
+    match members.next() {
+        Some(_) => Err(TreeError::NotATree),
+        None => Ok(()),
+    }
+}
+
+/// A variant: its name alone, or its name and what it holds.
+pub enum Case<'v> {
+    Bare(&'v str),
+    Of(&'v str, &'v Value),
+}
+
+/// The variant that a value is.
+pub fn case_of(value: &Value) -> Result<Case<'_>, TreeError>
+    ensures ok { IfOk result (λ v. view value.now ≡ case_form v) }
+    ensures err { IsErrOf result TreeError.NotATree → is_variant (view value.now) ≡ false }
+{
+    match value {
+        Value::String(name) => Ok(Case::Bare(name.as_str())),
+        Value::Object(map) => {
+            let mut members = map.iter();
+            match members.next() {
+                Some((name, held)) => match members.next() {
+                    None => Ok(Case::Of(name.as_str(), held)),
+                    Some(_) => Err(TreeError::NotATree),
+                },
+                None => Err(TreeError::NotATree),
+            }
+        }
+        Value::Null | Value::Bool(_) | Value::Number(_) | Value::Array(_) => {
+            Err(TreeError::NotATree)
+        }
+    }
+}
+
+/// The items of an array.
+pub fn items(value: &Value) -> Result<&[Value], TreeError>
+    ensures ok { IfOk result (λ vs. view value.now ≡ array (items_view vs.now)) }
+    ensures err { IsErrOf result TreeError.NotATree → as_array (view value.now) ≡ None }
+{
+    match value.as_array() {
+        Some(list) => Ok(list.as_slice()),
+        None => Err(TreeError::NotATree),
+    }
+}
+
+/// The two items of an array of two.
+#[tactic(auto, using(crate::proofs::Refusals::not_pair, crate::proofs::Refusals::pair_of))]
+pub fn pair(value: &Value) -> Result<(&Value, &Value), TreeError>
+    ensures ok { IfOk result (λ p. view value.now ≡ array (item (view p.0.now) (item (view p.1.now) no_items))) }
+    ensures err { IsErrOf result TreeError.NotATree → is_pair (view value.now) ≡ false }
+{
+    let list = items(value)?;
+    if list.len() != 2 {
+        return Err(TreeError::NotATree);
+    }
+    Ok((&list[0], &list[1]))
+}
+
+/// A text.
+pub fn text(value: &Value) -> Result<&str, TreeError>
+    ensures ok { IfOk result (λ s. view value.now ≡ string s.now) }
+    ensures err { IsErrOf result TreeError.NotATree → is text (view value.now) ≡ false }
+{
+    match value {
+        Value::String(text) => Ok(text.as_str()),
+        Value::Null | Value::Bool(_) | Value::Number(_) | Value::Array(_) | Value::Object(_) => Err(
+            TreeError::NotATree,
+        ),
+    }
+}
+
+/// A truth value.
+pub fn truth(value: &Value) -> Result<bool, TreeError>
+    ensures ok { IfOk result (λ b. view value.now ≡ boolean b) }
+    ensures err { IsErrOf result TreeError.NotATree → is truth (view value.now) ≡ false }
+{
+    match value {
+        Value::Bool(b) => Ok(*b),
+        Value::Null | Value::String(_) | Value::Number(_) | Value::Array(_) | Value::Object(_) =>
+            Err(TreeError::NotATree),
+    }
+}
+
+/// A natural number below 2 ^ 64, written without point or exponent.
+#[tactic(auto, using(crate::proofs::Refusals::natural_of, crate::proofs::Refusals::not_natural))]
+pub fn natural(value: &Value) -> Result<usize, TreeError>
+    ensures ok { IfOk result (λ n. view value.now ≡ number (unsigned n)) }
+    ensures err { IsErrOf result TreeError.NotATree → is natural (view value.now) ≡ false }
+{
+    match value.as_u64() {
+        Some(n) => Ok(n as usize),
+        None => Err(TreeError::NotATree),
+    }
+}
+
+/// An array of nothing.
+#[tactic(auto, using(crate::proofs::Refusals::no_array, crate::proofs::Refusals::not_empty, crate::proofs::Refusals::empty_of))]
+pub fn nothing(value: &Value) -> Result<(), TreeError>
+    ensures ok { IfOk result (λ _. view value.now ≡ array no_items) }
+    ensures err { IsErrOf result TreeError.NotATree → is empty (view value.now) ≡ false }
+{
+    let list = items(value)?;
+    if list.is_empty() {
+        Ok(())
+    } else {
+        Err(TreeError::NotATree)
+    }
+}
+
+/// The value, unless it is null.
+pub fn present(value: &Value) -> Option<&Value>
+    ensures some { IfSome result (λ v. v.now ≡ value.now) }
+    ensures not_null { IfSome result (λ _. is_null (view value.now) ≡ false) }
+    ensures none { IfNone result (view value.now ≡ null) }
+{
+    match value {
+        Value::Null => None,
+        Value::Bool(_) | Value::String(_) | Value::Number(_) | Value::Array(_) | Value::Object(_) =>
+            Some(value),
+    }
+}
+
+/// A null.
+#[tactic(auto, using(crate::proofs::Refusals::not_absent))]
+pub fn absent(value: &Value) -> Result<(), TreeError>
+    ensures ok { IfOk result (λ _. view value.now ≡ null) }
+    ensures err { IsErrOf result TreeError.NotATree → is absent (view value.now) ≡ false }
+{
+    match present(value) {
+        None => Ok(()),
+        Some(_) => Err(TreeError::NotATree),
+    }
+}

@@ -1,0 +1,49 @@
+//! Written grammars in JSON: the form of a grammar as JSON data, and its reader.
+//!
+//! A struct is an object with exactly its fields, a span `[from, to]`, a list an array, an option null or its content,
+//! and a variant its name as a text, or an object whose one key is its name: over what it holds, over an array where
+//! it holds several values, over an object where its fields have names. `grammar_form` of specs/ says it in full.
+#![tactic(auto)]
+
+ghost use Rattle.std.specs.Prelude.{◌≡◌, Some, IfOk, IsErrOf, false};
+ghost use Rattle.serde_json.specs.Data.{Data};
+ghost use Rattle.serde_json.specs.Read.{read};
+ghost use Rattle.lalrpop_norm_tree.specs.Items.{grammar_view};
+ghost use Rattle.lalrpop_norm_json.specs.ItemForms.{grammar_form};
+ghost use Rattle.lalrpop_norm_json.specs.Shapes as shape;
+ghost use Rattle.lalrpop_norm_json.specs.Shapes.{is};
+
+mod json;
+#[cfg(test)]
+mod tests;
+mod tree;
+
+pub use json::TreeError;
+use lalrpop_norm_tree::grammar::parse_tree::Grammar;
+use serde_json::Value;
+use std::alloc::Global;
+
+/// The grammar whose form in JSON the text is: members in any order, blanks as JSON has them.
+///
+/// A grammar with an `InternToken` has no form. Of a key that an object repeats the last value counts. Forms that are
+/// not read yet are refused, as `shape` of specs/ says.
+///
+/// # Errors
+///
+/// `NotATree`: the text is not JSON (127 levels of arrays and objects are read), or its value has not the shape of a
+/// grammar. `Memory`: there was no memory for the value or the grammar.
+pub fn read_tree(alloc: Global, text: &str) -> Result<Grammar, TreeError>
+    ensures ok { IfOk result (λ g. (d : Data) × (read text.now ≡ Some d) × (grammar_form (grammar_view g) ≡ Some d)) }
+    ensures not { IsErrOf result TreeError.NotATree → (d : Data) → read text.now ≡ Some d → is shape.grammar d ≡ false }
+{
+    match Value::from_str(alloc, text) {
+        Ok(value) => tree::grammar(alloc, &value),
+        Err(error) => {
+            if error.is_memory() {
+                Err(TreeError::Memory)
+            } else {
+                Err(TreeError::NotATree)
+            }
+        }
+    }
+}

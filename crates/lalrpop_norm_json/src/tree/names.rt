@@ -1,0 +1,172 @@
+//! Places, names, terminals and paths.
+ghost use Rattle.std.specs.Prelude.{◌≡◌, IfOk, IsErrOf, string_bytes, false};
+ghost use Rattle.serde_json.specs.Data.{string};
+ghost use Rattle.serde_json.specs.View.{view};
+ghost use Rattle.lalrpop_norm_tree.specs.Paths.{path_view};
+ghost use Rattle.lalrpop_norm_json.specs.Shapes as shape;
+ghost use Rattle.lalrpop_norm_json.specs.Shapes.{is};
+ghost use Rattle.lalrpop_norm_json.specs.Forms.{span_form, literal_form, terminal_form, path_form};
+
+use super::parts::{FromValue, list};
+use crate::json::{Case, TreeError, case_of, end, field, members_of, natural, pair, text, truth};
+use lalrpop_norm_tree::grammar::parse_tree::{
+    Atom, Lifetime, NonterminalString, Path, Span, TerminalLiteral, TerminalString, TypeParameter,
+};
+use serde_json::Value;
+use std::alloc::Global;
+
+#[tactic(auto, using(crate::proofs::Refusals::no_pair, crate::proofs::Refusals::and_false))]
+pub(super) fn span(value: &Value) -> Result<Span, TreeError>
+    ensures ok { IfOk result (λ s. view value.now ≡ span_form s) }
+    ensures err { IsErrOf result TreeError.NotATree → is shape.span (view value.now) ≡ false }
+{
+    let (from, to) = pair(value)?;
+    let from = natural(from)?;
+    let to = natural(to)?;
+    Ok(Span(from, to))
+}
+
+pub(super) fn atom(alloc: Global, value: &Value) -> Result<Atom, TreeError>
+    ensures ok { IfOk result (λ a. view value.now ≡ string a) }
+    ensures err { IsErrOf result TreeError.NotATree → is shape.text (view value.now) ≡ false }
+{
+    let atom = Atom::new(alloc, text(value)?)?;
+    Ok(atom)
+}
+
+pub(super) fn string(alloc: Global, value: &Value) -> Result<String, TreeError>
+    ensures ok { IfOk result (λ s. view value.now ≡ string (string_bytes s)) }
+    ensures err { IsErrOf result TreeError.NotATree → is shape.text (view value.now) ≡ false }
+{
+    let string = String::from_str(alloc, text(value)?)?;
+    Ok(string)
+}
+
+#[tactic(auto, using(crate::proofs::Refusals::no_variant))]
+pub(super) fn literal(alloc: Global, value: &Value) -> Result<TerminalLiteral, TreeError>
+    ensures ok { IfOk result (λ l. view value.now ≡ literal_form l) }
+    ensures err { IsErrOf result TreeError.NotATree → is shape.literal (view value.now) ≡ false }
+{
+    match case_of(value)? {
+        Case::Bare(_) => Err(TreeError::NotATree),
+        Case::Of(variant, held) => match variant {
+            "Quoted" => Ok(TerminalLiteral::Quoted(atom(alloc, held)?)),
+            "Regex" => Ok(TerminalLiteral::Regex(atom(alloc, held)?)),
+            _ => Err(TreeError::NotATree),
+        },
+    }
+}
+
+#[tactic(auto, using(crate::proofs::Refusals::no_variant))]
+pub(super) fn terminal(alloc: Global, value: &Value) -> Result<TerminalString, TreeError>
+    ensures ok { IfOk result (λ l. view value.now ≡ terminal_form l) }
+    ensures err { IsErrOf result TreeError.NotATree → is shape.terminal (view value.now) ≡ false }
+{
+    match case_of(value)? {
+        Case::Bare(_) => Err(TreeError::NotATree),
+        Case::Of(variant, held) => match variant {
+            "Literal" => Ok(TerminalString::Literal(literal(alloc, held)?)),
+            _ => Err(TreeError::NotATree),
+        },
+    }
+}
+
+#[tactic(auto, using(crate::proofs::Refusals::refusals))]
+pub(super) fn path(alloc: Global, value: &Value) -> Result<Path, TreeError>
+    ensures ok { IfOk result (λ p. view value.now ≡ path_form (path_view p)) }
+    ensures err { IsErrOf result TreeError.NotATree → is shape.path (view value.now) ≡ false }
+{
+    let mut members = members_of(value)?;
+    let absolute = truth(field(&mut members, "absolute")?)?;
+    let ids = list(alloc, field(&mut members, "ids")?)?;
+    end(members)?;
+    Ok(Path { absolute, ids })
+}
+
+impl FromValue for Atom {
+    ghost use Rattle.serde_json.specs.Data.{string};
+    ghost use Rattle.lalrpop_norm_json.specs.Shapes.{text};
+
+    ghost form = { string };
+
+    ghost named = { text };
+
+    fn from_value(alloc: Global, value: &Value) -> Result<Atom, TreeError> {
+        atom(alloc, value)
+    }
+}
+
+impl FromValue for String {
+    ghost use Rattle.std.specs.Prelude.{string_bytes};
+    ghost use Rattle.serde_json.specs.Data.{string};
+    ghost use Rattle.lalrpop_norm_json.specs.Shapes.{text};
+
+    ghost form = { λ s. string (string_bytes s) };
+
+    ghost named = { text };
+
+    fn from_value(alloc: Global, value: &Value) -> Result<String, TreeError> {
+        string(alloc, value)
+    }
+}
+
+impl FromValue for NonterminalString {
+    ghost use Rattle.lalrpop_norm_json.specs.Forms.{nonterminal_form};
+    ghost use Rattle.lalrpop_norm_json.specs.Shapes.{text};
+
+    ghost form = { nonterminal_form };
+
+    ghost named = { text };
+
+    fn from_value(alloc: Global, value: &Value) -> Result<NonterminalString, TreeError> {
+        Ok(NonterminalString(atom(alloc, value)?))
+    }
+}
+
+impl FromValue for Lifetime {
+    ghost use Rattle.lalrpop_norm_json.specs.Forms.{lifetime_form};
+    ghost use Rattle.lalrpop_norm_json.specs.Shapes.{text};
+
+    ghost form = { lifetime_form };
+
+    ghost named = { text };
+
+    fn from_value(alloc: Global, value: &Value) -> Result<Lifetime, TreeError> {
+        Ok(Lifetime(atom(alloc, value)?))
+    }
+}
+
+impl FromValue for TypeParameter {
+    ghost use Rattle.lalrpop_norm_json.specs.Forms.{type_parameter_form};
+    ghost use Rattle.lalrpop_norm_json.specs.Shapes.{type_parameter};
+
+    ghost form = { type_parameter_form };
+
+    ghost named = { type_parameter };
+
+    #[tactic(auto, using(crate::proofs::Refusals::refusals))]
+    fn from_value(alloc: Global, value: &Value) -> Result<TypeParameter, TreeError> {
+        match case_of(value)? {
+            Case::Bare(_) => Err(TreeError::NotATree),
+            Case::Of(variant, held) => match variant {
+                "Lifetime" => Ok(TypeParameter::Lifetime(Lifetime(atom(alloc, held)?))),
+                "Id" => Ok(TypeParameter::Id(atom(alloc, held)?)),
+                _ => Err(TreeError::NotATree),
+            },
+        }
+    }
+}
+
+impl FromValue for Path {
+    ghost use Rattle.lalrpop_norm_tree.specs.Paths.{path_view};
+    ghost use Rattle.lalrpop_norm_json.specs.Forms.{path_form};
+    ghost use Rattle.lalrpop_norm_json.specs.Shapes as shape;
+
+    ghost form = { λ p. path_form (path_view p) };
+
+    ghost named = { shape.path };
+
+    fn from_value(alloc: Global, value: &Value) -> Result<Path, TreeError> {
+        path(alloc, value)
+    }
+}

@@ -1,0 +1,48 @@
+//! What has a JSON form, and lists and options of it.
+ghost use Rattle.std.specs.Prelude.{◌≡◌, IfOk, IsErrOf, false};
+ghost use Rattle.serde_json.specs.Data.{Data};
+ghost use Rattle.serde_json.specs.View.{view};
+ghost use Rattle.lalrpop_norm_json.specs.Shapes.{Name, is, fits, place, many, maybe};
+ghost use Rattle.lalrpop_norm_json.specs.Json.{list_form, maybe_form};
+
+use crate::json::{TreeError, items, present};
+use serde_json::Value;
+use std::alloc::Global;
+
+/// What is read from its JSON form.
+pub(super) trait FromValue: Sized {
+    ghost form: { Self → Data };
+
+    ghost named: { Name };
+
+    /// The value whose form that is.
+    fn from_value(alloc: Global, value: &Value) -> Result<Self, TreeError>
+        ensures ok { IfOk result (λ x. view value.now ≡ form x) }
+        ensures err { IsErrOf result TreeError.NotATree → is named (view value.now) ≡ false };
+}
+
+/// Null, or what is there.
+#[tactic(auto, using(crate::proofs::Refusals::refusals))]
+pub(super) fn maybe<T: FromValue>(alloc: Global, value: &Value) -> Result<Option<T>, TreeError>
+    ensures ok { IfOk result (λ o. view value.now ≡ maybe_form T.FromValue.form o) }
+    ensures err { IsErrOf result TreeError.NotATree → fits (place (maybe T.FromValue.named)) (view value.now) ≡ false }
+{
+    match present(value) {
+        None => Ok(None),
+        Some(value) => Ok(Some(T::from_value(alloc, value)?)),
+    }
+}
+
+/// An array of values of one type.
+#[tactic(auto, using(crate::proofs::Refusals::refusals))]
+pub(super) fn list<T: FromValue + Drop>(alloc: Global, value: &Value) -> Result<Vec<T>, TreeError>
+    ensures ok { IfOk result (λ xs. view value.now ≡ list_form T.FromValue.form xs.items) }
+    ensures err { IsErrOf result TreeError.NotATree → fits (place (many T.FromValue.named)) (view value.now) ≡ false }
+{
+    let values = items(value)?;
+    let mut read = Vec::new(alloc);
+    for value in values {
+        read.push(T::from_value(alloc, value)?)?;
+    }
+    Ok(read)
+}

@@ -1,0 +1,145 @@
+//! Rules and their alternatives.
+ghost use Rattle.std.specs.Prelude.{◌≡◌, IfOk, IsErrOf, false};
+ghost use Rattle.serde_json.specs.Data.{array};
+ghost use Rattle.serde_json.specs.View.{view};
+ghost use Rattle.lalrpop_norm_tree.specs.Attributes.{attributes_view};
+ghost use Rattle.lalrpop_norm_tree.specs.Items.{alternative_view, rule_view};
+ghost use Rattle.lalrpop_norm_json.specs.Shapes as shape;
+ghost use Rattle.lalrpop_norm_json.specs.Shapes.{is};
+ghost use Rattle.lalrpop_norm_json.specs.Json.{maybe_form};
+ghost use Rattle.lalrpop_norm_json.specs.Forms.{attributes_form};
+ghost use Rattle.lalrpop_norm_json.specs.ItemForms.{condition_form, alternative_form, rule_form};
+
+use super::names::{atom, path, span, string};
+use super::parts::{FromValue, list, maybe};
+use super::symbols::group;
+use crate::json::{Case, TreeError, absent, case_of, end, field, members_of, nothing};
+use lalrpop_norm_tree::grammar::parse_tree::{
+    ActionKind, Alternative, Attribute, Condition, NonterminalData, NonterminalString, Visibility,
+};
+use serde_json::Value;
+use std::alloc::Global;
+
+/// No attributes: none are read yet.
+pub(super) fn attributes(alloc: Global, value: &Value) -> Result<Vec<Attribute>, TreeError>
+    ensures ok { IfOk result (λ xs. view value.now ≡ array (attributes_form (attributes_view xs.items))) }
+    ensures err { IsErrOf result TreeError.NotATree → is shape.empty (view value.now) ≡ false }
+{
+    nothing(value)?;
+    Ok(Vec::new(alloc))
+}
+
+/// No condition: none is read yet.
+fn condition(value: &Value) -> Result<Option<Condition>, TreeError>
+    ensures ok { IfOk result (λ o. view value.now ≡ maybe_form condition_form o) }
+    ensures err { IsErrOf result TreeError.NotATree → is shape.absent (view value.now) ≡ false }
+{
+    absent(value)?;
+    Ok(None)
+}
+
+impl FromValue for ActionKind {
+    ghost use Rattle.lalrpop_norm_tree.specs.Items.{action_view};
+    ghost use Rattle.lalrpop_norm_json.specs.ItemForms.{action_form};
+    ghost use Rattle.lalrpop_norm_json.specs.Shapes as shape;
+
+    ghost form = { λ a. action_form (action_view a) };
+
+    ghost named = { shape.action };
+
+    #[tactic(auto, using(crate::proofs::Refusals::refusals))]
+    fn from_value(alloc: Global, value: &Value) -> Result<ActionKind, TreeError> {
+        match case_of(value)? {
+            Case::Bare(_) => Err(TreeError::NotATree),
+            Case::Of(variant, held) => match variant {
+                "User" => Ok(ActionKind::User(string(alloc, held)?)),
+                _ => Err(TreeError::NotATree),
+            },
+        }
+    }
+}
+
+#[tactic(auto, using(crate::proofs::Refusals::refusals, crate::proofs::FormLemmas::maybe_seen))]
+fn alternative(alloc: Global, value: &Value) -> Result<Alternative, TreeError>
+    ensures ok { IfOk result (λ a. view value.now ≡ alternative_form (alternative_view a)) }
+    ensures err { IsErrOf result TreeError.NotATree → is shape.alternative (view value.now) ≡ false }
+{
+    let mut members = members_of(value)?;
+    let action = maybe(alloc, field(&mut members, "action")?)?;
+    let attributes = attributes(alloc, field(&mut members, "attributes")?)?;
+    let condition = condition(field(&mut members, "condition")?)?;
+    let expr = group(alloc, field(&mut members, "expr")?)?;
+    let span = span(field(&mut members, "span")?)?;
+    end(members)?;
+    Ok(Alternative {
+        span,
+        expr,
+        condition,
+        action,
+        attributes,
+    })
+}
+
+impl FromValue for Alternative {
+    ghost use Rattle.lalrpop_norm_tree.specs.Items.{alternative_view};
+    ghost use Rattle.lalrpop_norm_json.specs.ItemForms.{alternative_form};
+    ghost use Rattle.lalrpop_norm_json.specs.Shapes as shape;
+
+    ghost form = { λ a. alternative_form (alternative_view a) };
+
+    ghost named = { shape.alternative };
+
+    fn from_value(alloc: Global, value: &Value) -> Result<Alternative, TreeError> {
+        alternative(alloc, value)
+    }
+}
+
+impl FromValue for Visibility {
+    ghost use Rattle.lalrpop_norm_tree.specs.Items.{visibility_view};
+    ghost use Rattle.lalrpop_norm_json.specs.ItemForms.{visibility_form};
+    ghost use Rattle.lalrpop_norm_json.specs.Shapes as shape;
+
+    ghost form = { λ v. visibility_form (visibility_view v) };
+
+    ghost named = { shape.visibility };
+
+    #[tactic(auto, using(crate::proofs::Refusals::refusals, crate::proofs::FormLemmas::maybe_seen))]
+    fn from_value(alloc: Global, value: &Value) -> Result<Visibility, TreeError> {
+        match case_of(value)? {
+            Case::Bare(variant) => match variant {
+                "Priv" => Ok(Visibility::Priv),
+                _ => Err(TreeError::NotATree),
+            },
+            Case::Of(variant, held) => match variant {
+                "Pub" => Ok(Visibility::Pub(maybe(alloc, held)?)),
+                "PubIn" => Ok(Visibility::PubIn(path(alloc, held)?)),
+                _ => Err(TreeError::NotATree),
+            },
+        }
+    }
+}
+
+#[tactic(auto, using(crate::proofs::Refusals::refusals))]
+pub(super) fn rule(alloc: Global, value: &Value) -> Result<NonterminalData, TreeError>
+    ensures ok { IfOk result (λ n. view value.now ≡ rule_form (rule_view n)) }
+    ensures err { IsErrOf result TreeError.NotATree → is shape.rule (view value.now) ≡ false }
+{
+    let mut members = members_of(value)?;
+    let alternatives = list(alloc, field(&mut members, "alternatives")?)?;
+    let args = list(alloc, field(&mut members, "args")?)?;
+    let attributes = attributes(alloc, field(&mut members, "attributes")?)?;
+    let name = NonterminalString(atom(alloc, field(&mut members, "name")?)?);
+    let span = span(field(&mut members, "span")?)?;
+    let type_decl = maybe(alloc, field(&mut members, "type_decl")?)?;
+    let visibility = Visibility::from_value(alloc, field(&mut members, "visibility")?)?;
+    end(members)?;
+    Ok(NonterminalData {
+        visibility,
+        name,
+        attributes,
+        span,
+        args,
+        type_decl,
+        alternatives,
+    })
+}

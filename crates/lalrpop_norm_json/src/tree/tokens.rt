@@ -1,0 +1,101 @@
+//! Extern blocks.
+ghost use Rattle.std.specs.Prelude.{◌≡◌, map, IfOk, IsErrOf, false};
+ghost use Rattle.serde_json.specs.View.{view};
+ghost use Rattle.lalrpop_norm_tree.specs.Items.{associated_type_view, enum_token_view, extern_token_view};
+ghost use Rattle.lalrpop_norm_json.specs.Shapes as shape;
+ghost use Rattle.lalrpop_norm_json.specs.Shapes.{is};
+ghost use Rattle.lalrpop_norm_json.specs.Json.{list_form};
+ghost use Rattle.lalrpop_norm_json.specs.ItemForms.{associated_type_form, enum_token_form, extern_token_form};
+
+use super::names::{span, terminal};
+use super::parts::{FromValue, list, maybe};
+use super::patterns::pattern;
+use super::rules::attributes;
+use super::types::type_ref;
+use crate::json::{TreeError, end, field, members_of, nothing};
+use lalrpop_norm_tree::grammar::parse_tree::{AssociatedType, Conversion, EnumToken, ExternToken};
+use serde_json::Value;
+use std::alloc::Global;
+
+/// No associated types: none are read yet.
+fn associated_types(alloc: Global, value: &Value) -> Result<Vec<AssociatedType>, TreeError>
+    ensures ok { IfOk result (λ xs. view value.now ≡ list_form associated_type_form (map associated_type_view xs.items)) }
+    ensures err { IsErrOf result TreeError.NotATree → is shape.empty (view value.now) ≡ false }
+{
+    nothing(value)?;
+    Ok(Vec::new(alloc))
+}
+
+impl FromValue for Conversion {
+    ghost use Rattle.lalrpop_norm_tree.specs.Items.{conversion_view};
+    ghost use Rattle.lalrpop_norm_json.specs.ItemForms.{conversion_form};
+    ghost use Rattle.lalrpop_norm_json.specs.Shapes as shape;
+
+    ghost form = { λ c. conversion_form (conversion_view c) };
+
+    ghost named = { shape.conversion };
+
+    #[tactic(auto, using(crate::proofs::Refusals::refusals))]
+    fn from_value(alloc: Global, value: &Value) -> Result<Conversion, TreeError> {
+        let mut members = members_of(value)?;
+        let attributes = attributes(alloc, field(&mut members, "attributes")?)?;
+        let from = terminal(alloc, field(&mut members, "from")?)?;
+        let span = span(field(&mut members, "span")?)?;
+        let to = pattern(alloc, field(&mut members, "to")?)?;
+        end(members)?;
+        Ok(Conversion {
+            span,
+            attributes,
+            from,
+            to,
+        })
+    }
+}
+
+#[tactic(auto, using(crate::proofs::Refusals::refusals))]
+fn enum_token(alloc: Global, value: &Value) -> Result<EnumToken, TreeError>
+    ensures ok { IfOk result (λ e. view value.now ≡ enum_token_form (enum_token_view e)) }
+    ensures err { IsErrOf result TreeError.NotATree → is shape.enum_token (view value.now) ≡ false }
+{
+    let mut members = members_of(value)?;
+    let conversions = list(alloc, field(&mut members, "conversions")?)?;
+    let type_name = type_ref(alloc, field(&mut members, "type_name")?)?;
+    let type_span = span(field(&mut members, "type_span")?)?;
+    end(members)?;
+    Ok(EnumToken {
+        type_name,
+        type_span,
+        conversions,
+    })
+}
+
+impl FromValue for EnumToken {
+    ghost use Rattle.lalrpop_norm_tree.specs.Items.{enum_token_view};
+    ghost use Rattle.lalrpop_norm_json.specs.ItemForms.{enum_token_form};
+    ghost use Rattle.lalrpop_norm_json.specs.Shapes as shape;
+
+    ghost form = { λ e. enum_token_form (enum_token_view e) };
+
+    ghost named = { shape.enum_token };
+
+    fn from_value(alloc: Global, value: &Value) -> Result<EnumToken, TreeError> {
+        enum_token(alloc, value)
+    }
+}
+
+#[tactic(auto, using(crate::proofs::Refusals::refusals))]
+pub(super) fn extern_token(alloc: Global, value: &Value) -> Result<ExternToken, TreeError>
+    ensures ok { IfOk result (λ t. view value.now ≡ extern_token_form (extern_token_view t)) }
+    ensures err { IsErrOf result TreeError.NotATree → is shape.extern_token (view value.now) ≡ false }
+{
+    let mut members = members_of(value)?;
+    let associated_types = associated_types(alloc, field(&mut members, "associated_types")?)?;
+    let enum_token = maybe(alloc, field(&mut members, "enum_token")?)?;
+    let span = span(field(&mut members, "span")?)?;
+    end(members)?;
+    Ok(ExternToken {
+        span,
+        associated_types,
+        enum_token,
+    })
+}

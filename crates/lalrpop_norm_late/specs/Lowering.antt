@@ -1,0 +1,161 @@
+-- What plain rules are lowered to: numbered productions, action functions, terminals.
+use Rattle.std.specs.Prelude.{◌≡◌, ℕ, ◌+◌, ◌<◌, Bool, true, false, List, [], ◌∷◌, ◌++◌, length, map, nat_cmp, nat_le, Option, Some, None, is_none, unwrap_or, option_map, if◌then◌else◌}
+use Rattle.std.specs.BTreeMap.{insert_entry}
+use Rattle.std.specs.Cmp.Lexicographic.{slice_cmp}
+use Rattle.lalrpop_norm_front.specs.Faults.{Fault, fault_if}
+use Rattle.lalrpop_norm_front.specs.declared.faults.FaultKind.TheVariants.{NotYet, TooManyActions}
+use Rattle.lalrpop_norm_tree.specs.declared.names.NonterminalString.{NonterminalString}
+use Rattle.lalrpop_norm_tree.specs.declared.names.Span.{Span}
+use Rattle.lalrpop_norm_tree.specs.declared.names.TerminalString.TheVariants as terminal_string
+use Rattle.lalrpop_norm_tree.specs.Attributes.{no_attributes}
+use Rattle.lalrpop_norm_tree.specs.Items.{Action, user_code, fallible_code, lookahead_code, lookbehind_code, AlternativeData, RuleData, VisibilityData, everywhere, within, private, ItemData, match_item, extern_item, intern_item, rule_item, use_item}
+use Rattle.lalrpop_norm_tree.specs.Reprs.{ReprData}
+use Rattle.lalrpop_norm_tree.specs.Symbols.{Kind, group, ambiguous_id, terminal, nonterminal, call, repeated, chosen, named, tupled, lookahead, lookbehind, error_terminal, Part, at, Parts, no_parts, part_and}
+use Rattle.lalrpop_norm_tree.specs.Texts.{kind_text}
+use Rattle.lalrpop_norm_repr.specs.declared.action.ActionFn.{ActionFn}
+use Rattle.lalrpop_norm_repr.specs.declared.action.LookaroundActionFnDefn.TheVariants.{Lookahead, Lookbehind}
+use Rattle.lalrpop_norm_repr.specs.declared.symbol.Symbol.{Symbol}
+use Rattle.lalrpop_norm_repr.specs.declared.symbol.Symbol.TheVariants.{Nonterminal, Terminal}
+use Rattle.lalrpop_norm_repr.specs.Actions.{ActionData, ActionKindData, user, lookaround}
+use Rattle.lalrpop_norm_repr.specs.Productions.{ProductionData, EntryData}
+use Rattle.lalrpop_norm_repr.specs.Tables.{TypeTable, type_of, type_of_terminal, unit_type, location_type}
+use Rattle.lalrpop_norm_late.specs.Code.{code_of}
+use Rattle.lalrpop_norm_late.specs.Sources.{argument_patterns, source_names}
+
+-- ---- rules
+
+-- the rules of a grammar, in item order
+abbrev pub rules_of : List ItemData → List RuleData
+rules_of [] = []
+rules_of (rule_item r ∷ items) = r ∷ rules_of items
+rules_of (match_item m ∷ items) = rules_of items
+rules_of (extern_item t ∷ items) = rules_of items
+rules_of (intern_item t ∷ items) = rules_of items
+rules_of (use_item u ∷ items) = rules_of items
+
+abbrev pub is_public : VisibilityData → Bool
+is_public (everywhere p) = true
+is_public (within p) = true
+is_public private = false
+
+abbrev pub public_rules : List RuleData → List RuleData
+public_rules [] = []
+public_rules (r ∷ rs) = if is_public r.visibility then r ∷ public_rules rs else public_rules rs
+
+-- the start symbol of a public rule
+abbrev pub start_name : List ℕ → NonterminalString → NonterminalString
+start_name prefix n = record { 0 = prefix ++ n.0 }
+
+-- a start production holds the rule's name and has no code
+abbrev pub start_alternative : RuleData → AlternativeData
+start_alternative r = record { span = r.span; parts = part_and (at r.span (nonterminal r.name.0)) no_parts; condition = None; action = None; attributes = no_attributes }
+
+-- ---- symbols and types
+
+-- a terminal stands for itself, `!` is the error terminal, a chosen, named or tuple symbol is what is in it, and any
+-- other symbol is the nonterminal of its text
+abbrev mutual
+  pub lowered_kind : Kind → Symbol
+  lowered_kind (group ps) = Nonterminal (record { 0 = kind_text (group ps) })
+  lowered_kind (ambiguous_id a) = Nonterminal (record { 0 = a })
+  lowered_kind (terminal t) = Terminal t
+  lowered_kind (nonterminal n) = Nonterminal (record { 0 = n })
+  lowered_kind (call n ps) = Nonterminal (record { 0 = kind_text (call n ps) })
+  lowered_kind (repeated o p) = Nonterminal (record { 0 = kind_text (repeated o p) })
+  lowered_kind (chosen p) = lowered_symbol p
+  lowered_kind (named n p) = lowered_symbol p
+  lowered_kind (tupled t p) = lowered_symbol p
+  lowered_kind lookahead = Nonterminal (record { 0 = kind_text lookahead })
+  lowered_kind lookbehind = Nonterminal (record { 0 = kind_text lookbehind })
+  lowered_kind error_terminal = Terminal terminal_string.Error
+
+  pub lowered_symbol : Part → Symbol
+  lowered_symbol (at s k) = lowered_kind k
+
+abbrev pub lowered_symbols : Parts → List Symbol
+lowered_symbols no_parts = []
+lowered_symbols (part_and p ps) = lowered_symbol p ∷ lowered_symbols ps
+
+-- the type of a symbol by the table, if it has one
+abbrev pub symbol_type : TypeTable → Symbol → Option ReprData
+symbol_type types (Terminal t) = Some (type_of_terminal t types)
+symbol_type types (Nonterminal n) = type_of n types
+
+abbrev pub type_or_unit : TypeTable → Symbol → ReprData
+type_or_unit types s = unwrap_or (symbol_type types s) unit_type
+
+-- ---- actions and productions
+
+abbrev pub is_fallible : Option Action → Bool
+is_fallible (Some (fallible_code c)) = true
+is_fallible _ = false
+
+-- the action of an alternative of a rule of that type: code over one argument for each symbol, or a location
+abbrev pub action_kind : List ℕ → TypeTable → ReprData → AlternativeData → Option Action → ActionKindData
+action_kind prefix types type a (Some lookahead_code) = lookaround Lookahead
+action_kind prefix types type a (Some lookbehind_code) = lookaround Lookbehind
+action_kind prefix types type a _ = user (argument_patterns prefix a.parts) (map (type_or_unit types) (lowered_symbols a.parts)) (code_of type (source_names prefix a.parts) a.action)
+
+abbrev pub action_type : TypeTable → ReprData → Option Action → ReprData
+action_type types type (Some lookahead_code) = location_type types
+action_type types type (Some lookbehind_code) = location_type types
+action_type types type _ = type
+
+abbrev pub action_of : List ℕ → TypeTable → ReprData → AlternativeData → ActionData
+action_of prefix types type a = record { fallible = is_fallible a.action; ret_type = action_type types type a.action; kind = action_kind prefix types type a a.action }
+
+-- the production of an alternative, with the action of that number
+abbrev pub production_of : NonterminalString → ℕ → AlternativeData → ProductionData
+production_of name k a = record { nonterminal = name; symbols = lowered_symbols a.parts; action = record { 0 = k }; span = a.span }
+
+-- the productions of a nonterminal; their actions are numbered from k on
+abbrev pub productions_from : NonterminalString → ℕ → List AlternativeData → List ProductionData
+productions_from name k [] = []
+productions_from name k (a ∷ as') = production_of name k a ∷ productions_from name (k + 1) as'
+
+-- the type of a rule by the table
+abbrev pub rule_type : TypeTable → RuleData → ReprData
+rule_type types r = unwrap_or (type_of r.name types) unit_type
+
+-- ---- start symbols first, then the alternatives in item order
+
+abbrev pub start_actions : List ℕ → TypeTable → List RuleData → List ActionData
+start_actions prefix types rs = map (λ r. action_of prefix types (rule_type types r) (start_alternative r)) rs
+
+abbrev pub alternative_actions : List ℕ → TypeTable → List RuleData → List ActionData
+alternative_actions prefix types [] = []
+alternative_actions prefix types (r ∷ rs) = map (action_of prefix types (rule_type types r)) r.alternatives ++ alternative_actions prefix types rs
+
+-- a row of the nonterminals
+abbrev pub Row : Type 0
+Row = NonterminalString × EntryData
+
+abbrev pub start_row : List ℕ → ℕ → RuleData → Row
+start_row prefix k r = (start_name prefix r.name, record { visibility = r.visibility; span = r.span; attributes = no_attributes; productions = production_of (start_name prefix r.name) k (start_alternative r) ∷ [] })
+
+abbrev pub start_rows : List ℕ → ℕ → List RuleData → List Row
+start_rows prefix k [] = []
+start_rows prefix k (r ∷ rs) = start_row prefix k r ∷ start_rows prefix (k + 1) rs
+
+abbrev pub rule_row : ℕ → RuleData → Row
+rule_row k r = (r.name, record { visibility = r.visibility; span = r.span; attributes = r.attributes; productions = productions_from r.name k r.alternatives })
+
+abbrev pub rule_rows : ℕ → List RuleData → List Row
+rule_rows k [] = []
+rule_rows k (r ∷ rs) = rule_row k r ∷ rule_rows (k + length r.alternatives) rs
+
+-- ---- tables sorted by names
+
+abbrev pub with_row : {V : Type 0} → List (NonterminalString × V) → NonterminalString × V → List (NonterminalString × V)
+with_row rows r = insert_entry (λ (a : NonterminalString) (b : NonterminalString). slice_cmp nat_cmp a.0 b.0) rows r.0 r.1
+
+-- the rows in the order of their names, a later one in the place of an earlier one of its name
+abbrev pub sorted_onto : {V : Type 0} → List (NonterminalString × V) → List (NonterminalString × V) → List (NonterminalString × V)
+sorted_onto rows [] = rows
+sorted_onto rows (r ∷ rs) = sorted_onto (with_row rows r) rs
+
+-- ---- faults
+
+-- number k is past the greatest number of an action
+abbrev pub number_faults : ℕ → Span → List Fault
+number_faults k span = fault_if (nat_le 4294967296 k) (TooManyActions, span)

@@ -1,0 +1,6 @@
+pub mod SymbolTexts
+pub mod TableLemmas
+pub mod SeenTypes
+pub mod TerminalOrder
+pub mod NominalViews
+pub mod SameTables

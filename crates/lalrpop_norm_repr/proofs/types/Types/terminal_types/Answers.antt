@@ -1,0 +1,8 @@
+use Rattle.std.proofs.Common.{◌≡◌, ◌++◌, [], map, sym, ◌∙◌}
+use Rattle.lalrpop_norm_tree.specs.Reprs.{repr_view}
+use Rattle.lalrpop_norm_repr.proofs.TableLemmas.{values_seen, all_listed}
+use Rattle.lalrpop_norm_repr.proofs.types.Types.terminal_types.Goals as goal
+
+pub returns : goal.returns
+returns c =
+    all_listed repr_view c.loop-ty.types.items _ c.args.self.now.terminal_types.entries c.in-None.ensures.steps.0 c.loop-ty.invariant

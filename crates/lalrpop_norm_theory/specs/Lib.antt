@@ -1,0 +1,14 @@
+pub mod Symbols
+pub mod Meaning
+pub mod WrittenTrees
+pub mod LoweredTrees
+pub mod Clauses
+pub mod Pairs
+pub mod Translations
+pub mod Rounds
+pub mod Same
+pub mod Met
+pub mod Tables
+pub mod Leveled
+pub mod Steps
+pub mod Laws

@@ -1,0 +1,49 @@
+-- Closed symbols: what a written symbol is once the arguments of its macro are put in and each of its references has a
+-- bound. Spans are no part of them, so two closed symbols are the same exactly where they are equal.
+use Rattle.std.specs.Prelude.{ℕ, Bool, List, Option}
+
+-- a text, by its bytes
+abbrev pub Name : Type 0
+Name = List ℕ
+
+-- a terminal: a quoted literal, the literal of a regular expression, a bare name, or the error terminal
+pub data Terminal : Type 0 where
+  quoted regex bare : Name → Terminal
+  error_terminal : Terminal
+
+-- a pattern of a tuple symbol: a name, with whether it is `mut`, or a tuple of patterns
+mutual
+  pub data ArgumentPattern : Type 0 where
+    name_pattern : Bool → Name → ArgumentPattern
+    tuple_pattern : ArgumentPatterns → ArgumentPattern
+
+  pub data ArgumentPatterns : Type 0 where
+    no_patterns : ArgumentPatterns
+    pattern_and : ArgumentPattern → ArgumentPatterns → ArgumentPatterns
+
+-- what stands around a symbol and adds nothing to its trees: `<X>`, `<x:X>` or `<mut x:X>`, `<(x, y):X>`
+pub data Wrapper : Type 0 where
+  chosen : Wrapper
+  named : Bool → Name → Wrapper
+  tuple : ArgumentPatterns → Wrapper
+
+-- A closed symbol. A reference names a nonterminal and has, as its bound, a level's number. One without a bound is that
+-- of a rule without levels, or of a rule taken by itself. `!` is a symbol of its own, and no terminal.
+mutual
+  pub data ClosedSymbol : Type 0 where
+    terminal : Terminal → ClosedSymbol
+    error : ClosedSymbol
+    reference : Name → Option ℕ → ClosedSymbol
+    call : Name → ClosedSymbols → ClosedSymbol
+    group : ClosedSymbols → ClosedSymbol
+    star plus question : ClosedSymbol → ClosedSymbol
+    wrapped : Wrapper → ClosedSymbol → ClosedSymbol
+    lookahead lookbehind : ClosedSymbol
+
+  pub data ClosedSymbols : Type 0 where
+    no_symbols : ClosedSymbols
+    symbol_and : ClosedSymbol → ClosedSymbols → ClosedSymbols
+
+-- one symbol alone
+abbrev pub only : ClosedSymbol → ClosedSymbols
+only g = symbol_and g no_symbols

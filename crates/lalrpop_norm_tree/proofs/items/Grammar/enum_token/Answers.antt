@@ -1,0 +1,11 @@
+use Rattle.std.proofs.Common.{ap, sym, ◌∙◌}
+use Rattle.lalrpop_norm_tree.specs.Accessors.{first_of, enum_token_of}
+use Rattle.lalrpop_norm_tree.specs.Items.{item_view}
+use Rattle.lalrpop_norm_tree.proofs.FirstLemmas.{first_of-map}
+use Rattle.lalrpop_norm_tree.proofs.items.Grammar.enum_token.Goals as goal
+
+pub returns : goal.returns
+returns c =
+    c.first_enum.ensures
+    ∙ ap (first_of (λ i. enum_token_of (item_view i))) c.deref.ensures.value
+    ∙ sym (first_of-map enum_token_of item_view c.args.self.now.items.items)

@@ -1,0 +1,153 @@
+//! The texts of written types.
+ghost use Rattle.std.specs.Prelude.{Some, codes, option_map, ◌++◌};
+ghost use Rattle.std.specs.Fmt.{WritesOnOk};
+ghost use Rattle.lalrpop_norm_tree.specs.Paths.{path_view};
+ghost use Rattle.lalrpop_norm_tree.specs.Types.{type_view, types_view, maybe_of};
+ghost use Rattle.lalrpop_norm_tree.specs.Symbols.{kind_view};
+ghost use Rattle.lalrpop_norm_tree.specs.Texts.{joined, kind_text};
+ghost use Rattle.lalrpop_norm_tree.specs.TypeTexts.{angled, path_text, signature_text};
+ghost use Rattle.lalrpop_norm_tree.specs.WrittenTypeTexts.{type_text, type_texts, returned_text};
+
+use super::TypeRef;
+use crate::names::TypeParameter;
+use crate::names::show::show_reference;
+use crate::path::Path;
+use crate::path::show::show_forall_path;
+use crate::symbol::SymbolKind;
+use std::fmt;
+
+impl fmt::Display for TypeRef {
+    ghost output = { λ t. Some (type_text (type_view t)) };
+
+    #[cycle(show)]
+    fn fmt<W: fmt::Write>(&self, f: &mut fmt::Formatter<W>) -> fmt::Result {
+        match self {
+            TypeRef::Tuple(types) => show_between(types, f),
+            TypeRef::Slice(inner) => {
+                f.write_str("[")?;
+                fmt::Display::fmt(&**inner, f)?;
+                f.write_str("]")
+            }
+            TypeRef::Nominal { path, types } => show_applied(path, types, f),
+            TypeRef::Ref {
+                lifetime,
+                mutable,
+                referent,
+            } => {
+                show_reference(lifetime, *mutable, f)?;
+                fmt::Display::fmt(&**referent, f)
+            }
+            TypeRef::TraitObject { path, types } => {
+                f.write_str("dyn ")?;
+                show_applied(path, types, f)
+            }
+            TypeRef::Lifetime(lifetime) => fmt::Display::fmt(lifetime, f),
+            TypeRef::Id(id) => fmt::Display::fmt(id, f),
+            TypeRef::OfSymbol(symbol) => show_quoted(symbol, f),
+            TypeRef::Fn {
+                forall,
+                path,
+                parameters,
+                ret,
+            } => {
+                show_signature(forall, path, parameters, f)?;
+                show_return(ret, f)
+            }
+        }
+    }
+}
+
+/// The types between parentheses.
+#[cycle(show)]
+fn show_between<W: fmt::Write>(types: &[TypeRef], f: &mut fmt::Formatter<W>) -> fmt::Result
+    ensures { WritesOnOk W.write_str_gives f.old result
+        (codes "(" ++ joined (codes ", ") (type_texts (types_view types.now)) ++ codes ")") f.new }
+{
+    f.write_str("(")?;
+    show_types(types, f)?;
+    f.write_str(")")
+}
+
+/// The path, and the types between angle brackets, where there are any.
+#[cycle(show)]
+fn show_applied<W: fmt::Write>(
+    path: &Path,
+    types: &[TypeRef],
+    f: &mut fmt::Formatter<W>,
+) -> fmt::Result
+    ensures { WritesOnOk W.write_str_gives f.old result
+        (path_text (path_view path.now) ++ angled (type_texts (types_view types.now))) f.new }
+{
+    fmt::Display::fmt(path, f)?;
+    show_angled(types, f)
+}
+
+/// The types between angle brackets, where there are any.
+#[cycle(show)]
+fn show_angled<W: fmt::Write>(types: &[TypeRef], f: &mut fmt::Formatter<W>) -> fmt::Result
+    ensures { WritesOnOk W.write_str_gives f.old result (angled (type_texts (types_view types.now))) f.new }
+{
+    if types.is_empty() {
+        return Ok(());
+    }
+    f.write_str("<")?;
+    show_types(types, f)?;
+    f.write_str(">")
+}
+
+/// A function type up to its result.
+#[cycle(show)]
+fn show_signature<W: fmt::Write>(
+    forall: &[TypeParameter],
+    path: &Path,
+    parameters: &Vec<TypeRef>,
+    f: &mut fmt::Formatter<W>,
+) -> fmt::Result
+    ensures { WritesOnOk W.write_str_gives f.old result
+        (signature_text forall.now (path_view path.now) (type_texts (types_view parameters.now.items))) f.new }
+{
+    f.write_str("dyn ")?;
+    show_forall_path(forall, path, f)?;
+    show_between(parameters, f)
+}
+
+/// The symbol between backquotes.
+fn show_quoted<W: fmt::Write>(symbol: &SymbolKind, f: &mut fmt::Formatter<W>) -> fmt::Result
+    ensures { WritesOnOk W.write_str_gives f.old result
+        (codes "`" ++ kind_text (kind_view symbol.now) ++ codes "`") f.new }
+{
+    f.write_str("`")?;
+    fmt::Display::fmt(symbol, f)?;
+    f.write_str("`")
+}
+
+/// ` -> R`, where there is a result.
+#[cycle(show)]
+fn show_return<W: fmt::Write>(ret: &Option<Box<TypeRef>>, f: &mut fmt::Formatter<W>) -> fmt::Result
+    ensures { WritesOnOk W.write_str_gives f.old result
+        (returned_text (maybe_of (option_map (λ b. type_view b.value) ret.now))) f.new }
+{
+    match ret {
+        None => Ok(()),
+        Some(inner) => {
+            f.write_str(" -> ")?;
+            fmt::Display::fmt(&**inner, f)
+        }
+    }
+}
+
+/// The types with `, ` between each two.
+#[cycle(show)]
+fn show_types<W: fmt::Write>(types: &[TypeRef], f: &mut fmt::Formatter<W>) -> fmt::Result
+    ensures { WritesOnOk W.write_str_gives f.old result
+        (joined (codes ", ") (type_texts (types_view types.now))) f.new }
+{
+    if let Some((first, others)) = types.split_first() {
+        fmt::Display::fmt(first, f)?;
+        for other in others {
+            f.write_str(", ")?;
+            fmt::Display::fmt(other, f)?;
+        }
+    }
+    Ok(())
+}
