@@ -66,7 +66,8 @@ fn say<E: Write>(faults: &mut E, text: &str)
 }
 
 fn line(alloc: Global, error: &NormError) -> Result<String, AllocError>
-    ensures { IfOk result (λ s. string_bytes s ≡ fault_line error.now.fault error.now.span (string_bytes error.now.message)) }
+    ensures { IfOk result (λ s. string_bytes s
+        ≡ fault_line error.now.fault error.now.span (string_bytes error.now.message)) }
 {
     let code = error.fault.code();
     let message = error.message.as_str();

@@ -51,7 +51,8 @@ fn push_productions(text: &mut String, productions: &[Production]) -> Result<(),
 /// The type of each nonterminal, in the order of the nonterminals.
 fn push_types(text: &mut String, grammar: &Grammar) -> Result<(), AllocError>
     ensures { OnOk result (string_bytes text.new
-        ≡ string_bytes text.old ++ flat_map (typed_line (type_table grammar.now.types)) (rows nonterminal_data_view grammar.now.nonterminals)) }
+        ≡ string_bytes text.old ++ flat_map (typed_line (type_table grammar.now.types))
+        (rows nonterminal_data_view grammar.now.nonterminals)) }
 {
     for (name, _) in &grammar.nonterminals {
         push_type(text, name, grammar.types.lookup_nonterminal_type(name))?;

@@ -25,22 +25,28 @@ pub fn run<R: Read, W: Write, E: Write>(
     faults: &mut E,
 ) -> u8
     // Well ended: the whole input was read, and the whole right text was written.
-    ensures done { result ≡ 0 → (text : List ℕ) × IsRight (map string_bytes words.now) (R.remaining input.old) (R.remaining input.new) text
-        × Appends (W.contents output.old) (W.contents output.new) text × Keeps (E.contents faults.old) (E.contents faults.new) }
-    // Refused: that fault stands in the input.
+    ensures done { result ≡ 0 → (text : List ℕ)
+        × IsRight (map string_bytes words.now) (R.remaining input.old) (R.remaining input.new) text
+        × Appends (W.contents output.old) (W.contents output.new) text
+        × Keeps (E.contents faults.old) (E.contents faults.new) }
+    // Refused: that fault stands in the whole input.
     ensures fault { result ≡ 1 → (fault : FaultKind) × (span : Span) × (message : List ℕ)
         × IsRefused (map string_bytes words.now) (R.remaining input.old) (R.remaining input.new) fault span
         × WritesFront (E.contents faults.old) (E.contents faults.new) (fault_line fault span message) }
     // The words are refused before any read, or the whole input is no tree.
-    ensures refused { result ≡ 2 → ((settings_of (map string_bytes words.now) ≡ None) × Keeps (R.remaining input.old) (R.remaining input.new)
+    ensures refused { result ≡ 2 →
+        ((settings_of (map string_bytes words.now) ≡ None)
+        × Keeps (R.remaining input.old) (R.remaining input.new)
         × WritesFront (E.contents faults.old) (E.contents faults.new) usage_line)
         ⊎ (IsNoTree (map string_bytes words.now) (R.remaining input.old) (R.remaining input.new)
         × WritesFront (E.contents faults.old) (E.contents faults.new) no_tree_line) }
     ensures memory { result ≡ 3 → WritesFront (E.contents faults.old) (E.contents faults.new) memory_line }
     // A stream failed: nothing was written, or a beginning of the right text.
-    ensures stream { result ≡ 4 → WritesFront (E.contents faults.old) (E.contents faults.new) stream_line
+    ensures stream { result ≡ 4 →
+        WritesFront (E.contents faults.old) (E.contents faults.new) stream_line
         × (Keeps (W.contents output.old) (W.contents output.new)
-        ⊎ ((text : List ℕ) × IsRight (map string_bytes words.now) (R.remaining input.old) (R.remaining input.new) text
+        ⊎ ((text : List ℕ)
+        × IsRight (map string_bytes words.now) (R.remaining input.old) (R.remaining input.new) text
         × WritesFront (W.contents output.old) (W.contents output.new) text)) }
     ensures quiet { 0 < result → result < 4 → Keeps (W.contents output.old) (W.contents output.new) }
     ensures status { result ≤ 4 }
@@ -58,10 +64,11 @@ fn work<R: Read, W: Write>(
     input: &mut R,
     output: &mut W,
 ) -> Result<(), Halt>
-    ensures ok { OnOk result ((text : List ℕ) × IsRight (map string_bytes words.now) (R.remaining input.old) (R.remaining input.new) text
+    ensures ok { OnOk result ((text : List ℕ)
+        × IsRight (map string_bytes words.now) (R.remaining input.old) (R.remaining input.new) text
         × Appends (W.contents output.old) (W.contents output.new) text) }
-    ensures err { IfErr result (λ h. Halts h (map string_bytes words.now) (R.remaining input.old) (R.remaining input.new)
-        (W.contents output.old) (W.contents output.new)) }
+    ensures err { IfErr result (λ h. Halts h (map string_bytes words.now)
+        (R.remaining input.old) (R.remaining input.new) (W.contents output.old) (W.contents output.new)) }
 {
     let session = match session_of(alloc, words) {
         Ok(session) => session,

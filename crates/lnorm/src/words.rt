@@ -64,7 +64,8 @@ fn after_pair(
     option: &str,
     word: &str,
 ) -> Result<Session<()>, WordsError>
-    ensures ok { IfOk result (λ s. after_pair (settings_view session) option.now word.now ≡ Some (settings_view s)) }
+    ensures ok { IfOk result (λ s.
+        after_pair (settings_view session) option.now word.now ≡ Some (settings_view s)) }
     ensures usage { IsErrOf result Usage → after_pair (settings_view session) option.now word.now ≡ None }
 {
     match option {
@@ -101,7 +102,8 @@ fn with_feature(
     features: Option<BTreeSet<String>>,
     word: &str,
 ) -> Result<BTreeSet<String>, WordsError>
-    ensures ok { IfOk result (λ f. map string_bytes f.keys ≡ with_feature (option_map (λ s. map string_bytes s.keys) features) word.now) }
+    ensures ok { IfOk result (λ f. map string_bytes f.keys
+        ≡ with_feature (option_map (λ s. map string_bytes s.keys) features) word.now) }
     ensures usage { IsErrOf result Usage → ⊥ }
 {
     let mut features = match features {

@@ -12,10 +12,10 @@ returns-in_err-tree-clause-err c =
 pub returns-in-Ok-clause-ok : goal.returns-in-Ok-clause-ok
 returns-in-Ok-clause-ok c = IfOk-weaker c.text_of.result _ _
     (λ text printed. record {
-        tree = grammar_view c.in_ok-tree.tree;
-        form = c.in_ok-tree.ensures.ok;
-        lowered = lowered_view c.in-Ok.lowered;
-        lowers = c.in-Ok.ensures.ok;
-        printed = printed;
+      tree = grammar_view c.in_ok-tree.tree;
+      form = c.in_ok-tree.ensures.ok;
+      lowered = lowered_view c.in-Ok.lowered;
+      lowers = c.in-Ok.ensures.ok;
+      printed = printed;
     })
     c.text_of.ensures.ok
