@@ -1,8 +1,11 @@
 -- A grammar that holds no part of a later stage is plain.
-use Rattle.std.proofs.Common.{◌≡◌, ℕ, ◌<◌, ◌+◌, Bool, true, false, not, ◌||◌, ◌&&◌, List, [], ◌∷◌, ◌++◌, length, Option, Some, None, refl, sym, ap, ◌∙◌, arith, bytes_eq, map}
-use Rattle.std.specs.Prelude.{All}
+use Rattle.std.proofs.Common.{◌≡◌, ℕ, ◌<◌, ◌+◌, suc, Bool, true, false, not, ◌||◌, ◌&&◌, List, [], ◌∷◌, ◌++◌, length, Option, Some, None, refl, sym, ap, ◌∙◌, arith, bytes_eq, map}
+use Rattle.std.specs.Prelude.{All, Contains}
 use Rattle.std.specs.List.{flat_map, list_any, AllByRecursion, IsDistinct}
 use Rattle.std.proofs.lemmas.List.Elements.{All-nil, All-cons}
+use Rattle.std.proofs.lemmas.Slice.Eq.{bytes_eq-Decides}
+use Rattle.lalrpop_norm_tree.specs.declared.names.TerminalLiteral.{TerminalLiteral}
+use Rattle.lalrpop_norm_tree.specs.declared.names.TerminalLiteral.TheVariants.{Quoted, Regex}
 use Rattle.lalrpop_norm_tree.specs.declared.names.TerminalString.{TerminalString}
 use Rattle.lalrpop_norm_tree.specs.declared.names.TerminalString.TheVariants.{Literal, Bare, Error}
 use Rattle.lalrpop_norm_tree.specs.Attributes.{Attributes, no_attributes, attribute_and}
@@ -12,7 +15,7 @@ use Rattle.lalrpop_norm_tree.specs.Types.{TypeData}
 use Rattle.lalrpop_norm_front.specs.Braces.{presence, is_in_braces}
 use Rattle.lalrpop_norm.specs.declared.later.LaterPart.{LaterPart}
 use Rattle.lalrpop_norm.specs.declared.later.LaterPart.TheVariants as later
-use Rattle.lalrpop_norm.specs.Grammars.{rules_of, externs_of, names_of, is_public, enum_in, conversions_of, terminals_of, is_same_terminal, has_repeated}
+use Rattle.lalrpop_norm.specs.Grammars.{rules_of, externs_of, names_of, is_public, enum_in, conversions_of, terminals_of, listed, terminal_listed, is_same_literal, is_same_terminal, has_repeated}
 use Rattle.lalrpop_norm.specs.Later.{part_if, part_of_any, part_of_some, part_of_none, attribute_parts, type_parts, terminal_parts, kind_parts, symbol_parts, symbols_parts, has_several_slots, code_parts, action_parts, alternative_parts, declared_parts, rule_parts, pattern_parts, conversion_parts, enum_parts, extern_parts, item_parts, head_parts, second_parts, kind_lacks, symbols_lack, alternative_lacks, rule_lacks, start_parts, rules_parts, has_rule, has_conversion, repeated_parts, together_parts, later_parts}
 use Rattle.lalrpop_norm.specs.LoweredTypes.{holds_symbol}
 use Rattle.lalrpop_norm.specs.PlainGrammars.{IsLiteral, IsPlainKind, IsPlainSymbol, ArePlainSymbols, IsPlainAction, IsPlainAlternative, IsDeclared, IsPlainRule, IsPlainConversion, HasOneEnum, IsRuleOrExtern, HasFreeStart, IsPlainGrammar}
@@ -79,9 +82,10 @@ plain_kind names converts error_terminal h lack = cc
 
 pub plain_symbols : (names : List ℕ → Bool) (converts : TerminalString → Bool) (ps : Parts) → symbols_parts ps ≡ [] → symbols_lack names converts ps ≡ [] → ArePlainSymbols names converts ps
 plain_symbols names converts no_parts h lack = tt
-plain_symbols names converts (part_and (at s k) ps) h lack =
-    (plain_kind names converts k (left_none (kind_parts k) (symbols_parts ps) h) (left_none (kind_lacks names converts k) (symbols_lack names converts ps) lack),
-    plain_symbols names converts ps (right_none (kind_parts k) (symbols_parts ps) h) (right_none (kind_lacks names converts k) (symbols_lack names converts ps) lack))
+plain_symbols names converts (part_and (at s k) ps) h lack = (
+  plain_kind names converts k (left_none (kind_parts k) (symbols_parts ps) h) (left_none (kind_lacks names converts k) (symbols_lack names converts ps) lack),
+  plain_symbols names converts ps (right_none (kind_parts k) (symbols_parts ps) h) (right_none (kind_lacks names converts k) (symbols_lack names converts ps) lack),
+)
 
 pub plain_action : (action : Option Action) → action_parts action ≡ [] → IsPlainAction action
 plain_action None h = tt
@@ -207,9 +211,48 @@ none_passes p (x ∷ xs) h = (or_none_left (p x) (list_any p xs) h, none_passes 
 pub distinct_of : {X : Type 0} (same : X → X → Bool) (xs : List X) → has_repeated same xs ≡ false → IsDistinct same xs
 unfolding IsDistinct
 distinct_of same [] h = tt
-distinct_of same (x ∷ xs) h =
-    (none_passes (same x) xs (or_none_left (list_any (same x) xs) (has_repeated same xs) h),
-    distinct_of same xs (or_none_right (list_any (same x) xs) (has_repeated same xs) h))
+distinct_of same (x ∷ xs) h = (
+  none_passes (same x) xs (or_none_left (list_any (same x) xs) (has_repeated same xs) h),
+  distinct_of same xs (or_none_right (list_any (same x) xs) (has_repeated same xs) h),
+)
+
+contains_more : {X : Type 0} (x y : X) (xs : List X) → Contains xs y → Contains (x ∷ xs) y
+contains_more x y xs c = (suc c.0, omega (arith, c.1), c.2)
+
+-- a listed name is that of a rule
+pub found_rule : (name : List ℕ) (rules : List RuleData) → listed name (names_of rules) ≡ true → (r : RuleData) × Contains rules r × (r.name.0 ≡ name)
+found_rule name [] h = cc
+found_rule name (r ∷ rest) h = by_test (bytes_eq name r.name.0) refl h (found_rule name rest)
+  where
+    by_test : (b : Bool) → bytes_eq name r.name.0 ≡ b → (b || listed name (names_of rest)) ≡ true → (listed name (names_of rest) ≡ true → (s : RuleData) × Contains rest s × (s.name.0 ≡ name)) → (s : RuleData) × Contains (r ∷ rest) s × (s.name.0 ≡ name)
+    by_test true same h deeper = (r, (0, omega arith, refl), sym ((bytes_eq-Decides name r.name.0).0 same))
+    by_test false same h deeper = let there = deeper h in (there.0, contains_more r there.0 rest there.1, there.2)
+
+same_literal : (a b : TerminalLiteral) → is_same_literal a b ≡ true → a ≡ b
+same_literal (Quoted a) (Quoted b) h = ap Quoted ((bytes_eq-Decides a b).0 h)
+same_literal (Quoted a) (Regex b) h = cc
+same_literal (Regex a) (Quoted b) h = cc
+same_literal (Regex a) (Regex b) h = ap Regex ((bytes_eq-Decides a b).0 h)
+
+same_terminal : (a b : TerminalString) → is_same_terminal a b ≡ true → a ≡ b
+same_terminal (Literal a) (Literal b) h = ap Literal (same_literal a b h)
+same_terminal (Literal a) (Bare b) h = cc
+same_terminal (Literal a) Error h = cc
+same_terminal (Bare a) (Literal b) h = cc
+same_terminal (Bare a) (Bare b) h = ap Bare ((bytes_eq-Decides a b).0 h)
+same_terminal (Bare a) Error h = cc
+same_terminal Error (Literal b) h = cc
+same_terminal Error (Bare b) h = cc
+same_terminal Error Error h = refl
+
+-- a listed terminal is that of a conversion
+pub found_conversion : (t : TerminalString) (cs : List ConversionData) → terminal_listed t (terminals_of cs) ≡ true → (c : ConversionData) × Contains cs c × (c.from ≡ t)
+found_conversion t [] h = cc
+found_conversion t (c ∷ rest) h = by_test (is_same_terminal t c.from) refl h (found_conversion t rest)
+  where
+    by_test : (b : Bool) → is_same_terminal t c.from ≡ b → (b || terminal_listed t (terminals_of rest)) ≡ true → (terminal_listed t (terminals_of rest) ≡ true → (d : ConversionData) × Contains rest d × (d.from ≡ t)) → (d : ConversionData) × Contains (c ∷ rest) d × (d.from ≡ t)
+    by_test true same h deeper = (c, (0, omega arith, refl), sym (same_terminal t c.from same))
+    by_test false same h deeper = let there = deeper h in (there.0, contains_more c there.0 rest there.1, there.2)
 
 -- ---- grammars
 

@@ -7,8 +7,7 @@ use Rattle.lalrpop_norm_tree.specs.declared.bound.TypeBoundParameter.{TypeBoundP
 use Rattle.lalrpop_norm_tree.specs.declared.bound.TypeBoundParameter.TheVariants as parameter
 use Rattle.lalrpop_norm_tree.specs.declared.bound.WhereClause.{WhereClause}
 use Rattle.lalrpop_norm_tree.specs.declared.bound.WhereClause.TheVariants as clause
-use Rattle.lalrpop_norm_tree.specs.Bounds.{bound_parameter_view, bound_view, where_clause_view, lifetime_parameter, type_parameter, associated_type, lifetime_bound, function_bound, trait_bound, lifetime_clause, type_clause, SameOption, SameBoundParameter, SameBound, SameWhereClause}
-use Rattle.lalrpop_norm_tree.specs.Paths.{path_view}
+use Rattle.lalrpop_norm_tree.specs.Bounds.{bound_parameter_view, bound_view, where_clause_view, type_parameter, SameOption, SameBoundParameter, SameBound, SameWhereClause}
 
 -- lists whose elements are related, seen by a view that takes related elements to one value
 same_map : {X D E : Type 0} (S : D → D → Type 0) (v : X → D) (w : X → E) → ((x y : X) → S (v x) (v y) → w y ≡ w x) → (xs ys : List X) → AllZip S (map v xs) (map v ys) → map w ys ≡ map w xs

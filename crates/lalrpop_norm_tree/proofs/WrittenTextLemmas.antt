@@ -1,6 +1,6 @@
 -- The texts of lists, one after another.
-use Rattle.std.proofs.Common.{Result, true≢false, ◌≡◌, ℕ, ◌+◌, List, [], ◌∷◌, ◌++◌, ◌≤◌, ◌<◌, Bool, true, false, ◌==◌, Option, Some, None, IfSome, length, take, get_or, map, refl, sym, ap, subst, arith, codes, Box, Vec, Global, option_map, ◌∙◌, append_assoc}
-use Rattle.std.proofs.lemmas.List.{take_all, take_more, map-append, append-nil}
+use Rattle.std.proofs.Common.{Result, true≢false, ◌≡◌, ℕ, ◌+◌, List, [], ◌∷◌, ◌++◌, ◌≤◌, ◌<◌, Bool, true, false, ◌==◌, Option, Some, None, IfSome, length, take, get_or, map, refl, sym, ap, subst, codes, Box, Vec, Global, option_map, ◌∙◌, append_assoc}
+use Rattle.std.proofs.lemmas.List.{take_all, take_more, append-nil}
 use Rattle.std.specs.List.{flat_map}
 use Rattle.std.specs.Fmt.{◌++?◌, IsPlainFormatter, HasWritten, DisplaysOnOk}
 use Rattle.std.specs.declared.fmt.Formatter.{Formatter}

@@ -1,5 +1,5 @@
 -- What the parts of a grammar are asked for.
-use Rattle.std.specs.Prelude.{ℕ, Bool, true, false, ◌+◌, ◌||◌, nat_lt, List, [], ◌∷◌, length, Option, Some, None, unwrap_or, if◌then◌else◌, bytes_eq, codes}
+use Rattle.std.specs.Prelude.{ℕ, Bool, true, false, ◌+◌, ◌||◌, nat_lt, List, [], ◌∷◌, length, Option, Some, None, if◌then◌else◌, bytes_eq, codes}
 use Rattle.lalrpop_norm_tree.specs.declared.items.MatchItem.{MatchItem}
 use Rattle.lalrpop_norm_tree.specs.declared.items.MatchItem.TheVariants.{CatchAll, Unmapped, Mapped}
 use Rattle.lalrpop_norm_tree.specs.declared.lowered.LrCodeGeneration.{LrCodeGeneration}
@@ -9,8 +9,8 @@ use Rattle.lalrpop_norm_tree.specs.declared.names.TerminalLiteral.{TerminalLiter
 use Rattle.lalrpop_norm_tree.specs.declared.names.TerminalLiteral.TheVariants.{Quoted, Regex}
 use Rattle.lalrpop_norm_tree.specs.declared.names.TerminalString.{TerminalString}
 use Rattle.lalrpop_norm_tree.specs.declared.names.TerminalString.TheVariants.{Literal, Bare, Error}
-use Rattle.lalrpop_norm_tree.specs.Attributes.{AttributeData, attribute, empty, paren, equal, no_attributes, attribute_and}
-use Rattle.lalrpop_norm_tree.specs.Items.{ItemData, match_item, extern_item, intern_item, rule_item, use_item, RuleData, MatchTokenData, ExternTokenData, InternTokenData, EnumTokenData, AssociatedTypeData, VisibilityData, everywhere, within, private}
+use Rattle.lalrpop_norm_tree.specs.Attributes.{AttributeData, attribute, paren, equal, attribute_and}
+use Rattle.lalrpop_norm_tree.specs.Items.{ItemData, match_item, extern_item, intern_item, rule_item, RuleData, MatchTokenData, ExternTokenData, InternTokenData, EnumTokenData, AssociatedTypeData, VisibilityData, everywhere, within, private}
 use Rattle.lalrpop_norm_tree.specs.Paths.{PathData}
 use Rattle.lalrpop_norm_tree.specs.Symbols.{Part, at, tupled, ArgumentPatterns}
 

@@ -15,4 +15,8 @@ mod path;
 mod pattern;
 mod show;
 mod symbol;
+#[cfg(test)]
+mod tests;
+#[cfg(test)]
+mod tests_accessors;
 mod types;

@@ -1,8 +1,8 @@
 //! Places and names.
 ghost use Rattle.std.specs.Prelude.{Some};
 
-pub(crate) mod show;
 mod accessors;
+pub(crate) mod show;
 
 use shared_text::Atom;
 use std::fmt;

@@ -1,5 +1,5 @@
 //! Names and terminals among the items.
-ghost use Rattle.std.specs.Prelude.{◌≡◌, ◌++◌, [], map, option_map, OnOk, IfOk, not, bytes_eq};
+ghost use Rattle.std.specs.Prelude.{◌≡◌, map, option_map, OnOk, IfOk, bytes_eq};
 ghost use Rattle.std.specs.BTreeSet.{insert_key};
 ghost use Rattle.std.specs.Ordering.{nat_cmp};
 ghost use Rattle.std.specs.Cmp.Lexicographic.{slice_cmp};

@@ -3,9 +3,9 @@ use lalrpop_norm_front::{FaultKind, NormFailure};
 use lalrpop_norm_tree::grammar::parse_tree::{
     ActionKind, Alternative, AssociatedType, Atom, Attribute, AttributeArg, Condition, ConditionOp,
     Conversion, Dfa, EnumToken, ExprSymbol, ExternToken, Grammar, GrammarItem, InternToken,
-    MacroSymbol, MatchToken, Name, NonterminalData, NonterminalString, Path, RepeatOp,
-    RepeatSymbol, Span, Symbol, SymbolKind, TerminalLiteral, TerminalString, Tuple, TypeRef,
-    Visibility,
+    Lifetime, MacroSymbol, MatchToken, Name, NonterminalData, NonterminalString, Parameter, Path,
+    RepeatOp, RepeatSymbol, Span, Symbol, SymbolKind, TerminalLiteral, TerminalString, Tuple,
+    TypeParameter, TypeRef, Visibility, WhereClause,
 };
 use lalrpop_norm_tree::grammar::pattern::{Pattern, PatternKind};
 use std::alloc::Global;
@@ -155,18 +155,32 @@ fn answer_at(alloc: Global, kind: SymbolKind) -> Result<String, Fail> {
     answer_with(alloc, alternative(alloc, symbol(kind))?)
 }
 
+/// A plain rule S.
+fn start(alloc: Global) -> Result<GrammarItem, Fail> {
+    let only = alternative(alloc, letter(alloc)?)?;
+    Ok(GrammarItem::Nonterminal(rule(alloc, "S", only)?))
+}
+
+fn answer_of(alloc: Global, items: Vec<GrammarItem>) -> Result<String, Fail> {
+    let whole = grammar(alloc, items)?;
+    answer(alloc, &whole)
+}
+
 /// The answer where another item stands behind the extern block and S.
 fn answer_behind(alloc: Global, item: GrammarItem) -> Result<String, Fail> {
-    let start = rule(alloc, "S", alternative(alloc, letter(alloc)?)?)?;
-    let items = vec![in alloc; plain_tokens(alloc)?, GrammarItem::Nonterminal(start), item]?;
-    answer(alloc, &grammar(alloc, items)?)
+    let mut items = Vec::new(alloc);
+    items.push(plain_tokens(alloc)?)?;
+    items.push(start(alloc)?)?;
+    items.push(item)?;
+    answer_of(alloc, items)
 }
 
 /// The answer where this item stands before S.
 fn answer_before(alloc: Global, item: GrammarItem) -> Result<String, Fail> {
-    let start = rule(alloc, "S", alternative(alloc, letter(alloc)?)?)?;
-    let items = vec![in alloc; item, GrammarItem::Nonterminal(start)]?;
-    answer(alloc, &grammar(alloc, items)?)
+    let mut items = Vec::new(alloc);
+    items.push(item)?;
+    items.push(start(alloc)?)?;
+    answer_of(alloc, items)
 }
 
 #[test]
@@ -441,5 +455,46 @@ fn conversions_of_later_stages(rt: HostRuntime) -> Result<(), Fail> {
         "an attribute is not taken yet"
     );
     assert_eq!(rt; answer_before(alloc, plain_tokens(alloc)?)?.as_str(), "ok");
+    Ok(())
+}
+
+#[test]
+fn heads_of_later_stages(rt: HostRuntime) -> Result<(), Fail> {
+    let alloc = rt.alloc();
+    let items = vec![in alloc; plain_tokens(alloc)?]?;
+    let mut whole = grammar(alloc, items)?;
+    assert_eq!(rt; answer(alloc, &whole)?.as_str(), "ok");
+    whole.module_attributes = vec![in alloc; String::new(alloc)]?;
+    assert_eq!(rt;
+        answer(alloc, &whole)?.as_str(),
+        "a module attribute is not taken yet"
+    );
+    whole.attributes = vec![in alloc; attribute(alloc)?]?;
+    assert_eq!(rt;
+        answer(alloc, &whole)?.as_str(),
+        "a grammar attribute is not taken yet"
+    );
+    let bounds = Vec::new(alloc);
+    let lifetime = Lifetime(Atom::new(alloc, "'a")?);
+    whole.where_clauses = vec![in alloc; WhereClause::Lifetime { lifetime, bounds }]?;
+    assert_eq!(rt;
+        answer(alloc, &whole)?.as_str(),
+        "a where clause is not taken yet"
+    );
+    let input = Parameter {
+        name: Atom::new(alloc, "input")?,
+        ty: TypeRef::Id(Atom::new(alloc, "u8")?),
+    };
+    whole.parameters = vec![in alloc; input]?;
+    assert_eq!(rt;
+        answer(alloc, &whole)?.as_str(),
+        "a parameter is not taken yet"
+    );
+    let parameter = TypeParameter::Id(Atom::new(alloc, "T")?);
+    whole.type_parameters = vec![in alloc; parameter]?;
+    assert_eq!(rt;
+        answer(alloc, &whole)?.as_str(),
+        "a type parameter is not taken yet"
+    );
     Ok(())
 }

@@ -1,7 +1,7 @@
 //! What the items of a grammar hold together.
 ghost use Rattle.std.specs.Prelude.{◌≡◌, ◌++◌, map, IfOk};
 ghost use Rattle.lalrpop_norm_tree.specs.Items.{item_view};
-ghost use Rattle.lalrpop_norm.specs.Grammars.{rules_of, externs_of, enum_in, names_of, conversions_of, terminals_of, has_repeated, is_same_terminal};
+ghost use Rattle.lalrpop_norm.specs.Grammars.{externs_of, enum_in, conversions_of, terminals_of, has_repeated, is_same_terminal};
 ghost use Rattle.lalrpop_norm.specs.Later.{part_if, part_of_none, second_parts, repeated_parts, together_parts, has_rule, has_conversion};
 ghost use Rattle.lalrpop_norm.specs.LaterWalks.{Finds, Stops, rule_in, conversion_in, has_key, terminal_cmp};
 

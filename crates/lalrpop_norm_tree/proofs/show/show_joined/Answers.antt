@@ -1,5 +1,4 @@
-use Rattle.std.proofs.Common.{◌+◌, arith, map, take}
-use Rattle.lalrpop_norm_tree.specs.KnownTexts.{each_after}
+use Rattle.std.proofs.Common.{arith}
 use Rattle.lalrpop_norm_tree.proofs.WrittenTextLemmas.{each_after-more, shown_more, joined_shown}
 use Rattle.lalrpop_norm_tree.proofs.show.show_joined.Goals as goal
 

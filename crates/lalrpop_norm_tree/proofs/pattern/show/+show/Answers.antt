@@ -1,6 +1,6 @@
-use Rattle.std.proofs.Common.{◌≡◌, ◌==◌, true, false, length, rules, arith, ap, map, take, codes, Some, Ok}
+use Rattle.std.proofs.Common.{◌≡◌, ◌==◌, true, false, length, rules, arith, ap, codes, Some, Ok}
 use Rattle.std.proofs.Output.{displays_on_ok_of_eq}
-use Rattle.lalrpop_norm_tree.specs.KnownTexts.{each_after, joined_known}
+use Rattle.lalrpop_norm_tree.specs.KnownTexts.{joined_known}
 use Rattle.lalrpop_norm_tree.specs.Patterns.{pattern_view, patterns_view, field_view, fields_view}
 use Rattle.lalrpop_norm_tree.specs.PatternTexts.{pattern_text, pattern_texts, field_text, field_texts}
 use Rattle.lalrpop_norm_tree.proofs.WrittenTextLemmas.{written_then, known_then, each_after-more, shown_more, joined_shown, texts_of_patterns, texts_of_fields, rest_behind}
