@@ -1,3 +1,4 @@
 pub mod Sources
 pub mod Code
 pub mod Lowering
+pub mod Typing

@@ -8,3 +8,4 @@ mod productions;
 mod rules;
 mod starts;
 mod symbols;
+mod typing;

@@ -21,7 +21,7 @@ use std::alloc::Global;
 use std::collections::BTreeMap;
 
 /// The type of a rule. Each rule of a plain grammar has one.
-fn rule_type(
+pub(crate) fn rule_type(
     alloc: Global,
     types: &Types,
     rule: &pt::NonterminalData,
@@ -35,7 +35,7 @@ fn rule_type(
 }
 
 /// The name of a start symbol.
-fn start_name(
+pub(crate) fn start_name(
     alloc: Global,
     prefix: &str,
     name: &NonterminalString,

@@ -1,0 +1,36 @@
+-- The type table of plain rules.
+use Rattle.std.specs.Prelude.{◌≡◌, ℕ, Bool, List, [], ◌∷◌, Option, Some, None, if◌then◌else◌}
+use Rattle.lalrpop_norm_tree.specs.declared.names.NonterminalString.{NonterminalString}
+use Rattle.lalrpop_norm_tree.specs.Items.{RuleData}
+use Rattle.lalrpop_norm_tree.specs.LoweredTypes.{holds_symbol, repr_of}
+use Rattle.lalrpop_norm_tree.specs.Reprs.{ReprData}
+use Rattle.lalrpop_norm_tree.specs.Types.{TypeData}
+use Rattle.lalrpop_norm_repr.specs.Tables.{TypeTable, type_of, found, unit_type}
+use Rattle.lalrpop_norm_late.specs.Lowering.{start_name, rule_type}
+
+-- a written type lowered; one that holds a symbol, which no plain grammar has, counts as unit
+abbrev pub lowered_type : TypeData → ReprData
+lowered_type t = if holds_symbol t then unit_type else repr_of t
+
+abbrev pub lowered_declaration : Option TypeData → ReprData
+lowered_declaration None = unit_type
+lowered_declaration (Some t) = lowered_type t
+
+-- each rule with its declared type
+abbrev pub declared_rows : List RuleData → List (NonterminalString × ReprData)
+declared_rows [] = []
+declared_rows (r ∷ rs) = (r.name, lowered_declaration r.type_decl) ∷ declared_rows rs
+
+-- each start symbol with its rule's type
+abbrev pub start_types : List ℕ → TypeTable → List RuleData → List (NonterminalString × ReprData)
+start_types prefix types [] = []
+start_types prefix types (r ∷ rs) = (start_name prefix r.name, rule_type types r) ∷ start_types prefix types rs
+
+abbrev pub or_else : {V : Type 0} → Option V → Option V → Option V
+or_else None o = o
+or_else (Some v) o = Some v
+
+-- the new table is the old one with the rows added, each where its name had no type yet
+pub record AddsTypes (old new : TypeTable) (rows : List (NonterminalString × ReprData)) : Type 0 where
+  pub names : (n : NonterminalString) → type_of n new ≡ or_else (type_of n old) (found n rows)
+  pub rest : new ≡ record old { nonterminals = new.nonterminals }

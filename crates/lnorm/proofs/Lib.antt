@@ -1,0 +1,3 @@
+pub mod OneWrite
+pub mod SettingsLemmas
+pub mod HaltLemmas

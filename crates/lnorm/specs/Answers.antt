@@ -1,0 +1,50 @@
+-- What the text and the faults of an input are.
+use Rattle.std.specs.Prelude.{◌≡◌, ℕ, List, [], ◌∷◌, Option, Some, true, IsUtf8}
+use Rattle.serde_json.specs.Data.{Data}
+use Rattle.serde_json.specs.Read.{read}
+use Rattle.lalrpop_norm_tree.specs.declared.names.Span.{Span}
+use Rattle.lalrpop_norm_tree.specs.Items.{GrammarData}
+use Rattle.lalrpop_norm_front.specs.declared.faults.FaultKind.{FaultKind}
+use Rattle.lalrpop_norm_front.specs.Faults.{Fault, first}
+use Rattle.lalrpop_norm_json.specs.ItemForms.{grammar_form}
+use Rattle.lalrpop_norm_json.specs.Shapes as shape
+use Rattle.lalrpop_norm_json.specs.Shapes.{is}
+use Rattle.lnorm.specs.Settings.{Settings}
+use Rattle.lalrpop_norm_repr.specs.Lowered.{LoweredGrammar}
+use Rattle.lnorm.specs.Lines.{lines}
+
+-- the input is JSON in the shape of a tree
+pub record IsTree (bytes : List ℕ) : Type 0 where
+  pub text : IsUtf8 bytes
+  pub value : Data
+  pub is_read : read bytes ≡ Some value
+  pub shaped : is shape.grammar value ≡ true
+
+-- the input is the JSON form of that tree
+pub record IsFormOf (g : GrammarData) (bytes : List ℕ) : Type 0 where
+  pub text : IsUtf8 bytes
+  pub value : Data
+  pub is_read : read bytes ≡ Some value
+  pub is_form : grammar_form g ≡ Some value
+
+-- stand-in
+abbrev pub Lowers : Settings → GrammarData → LoweredGrammar → Type 0
+Lowers s g l = g.span.0 ≡ 3
+
+-- stand-in
+abbrev pub faults_of : Settings → GrammarData → List Fault
+faults_of s g = []
+
+-- the text is the lines of a lowered grammar of the tree that the input is
+pub record IsAnswer (s : Settings) (bytes text : List ℕ) : Type 0 where
+  pub tree : GrammarData
+  pub form : IsFormOf tree bytes
+  pub lowered : LoweredGrammar
+  pub lowers : Lowers s tree lowered
+  pub printed : text ≡ lines lowered
+
+-- the fault stands in the tree that the input is, at that place, and is the first one there
+pub record Stands (s : Settings) (bytes : List ℕ) (fault : FaultKind) (span : Span) : Type 0 where
+  pub tree : GrammarData
+  pub form : IsFormOf tree bytes
+  pub stands : first (faults_of s tree) ≡ Some (fault, span)
