@@ -4,8 +4,13 @@
 mod actions;
 mod arguments;
 mod code;
+mod lower;
+mod patterns;
 mod productions;
 mod rules;
 mod starts;
 mod symbols;
+mod terminals;
 mod typing;
+
+pub use lower::lower_plain;

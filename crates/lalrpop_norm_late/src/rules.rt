@@ -1,9 +1,12 @@
 //! The rules of a grammar, in item order.
-ghost use Rattle.std.specs.Prelude.{◌≡◌, IfOk, map};
-ghost use Rattle.lalrpop_norm_tree.specs.Items.{rule_view, item_view};
-ghost use Rattle.lalrpop_norm_late.specs.Lowering.{rules_of, public_rules};
+ghost use Rattle.std.specs.Prelude.{◌≡◌, IfOk, map, option_map};
+ghost use Rattle.lalrpop_norm_tree.specs.Items.{rule_view, item_view, visibility_view, enum_token_view};
+ghost use Rattle.lalrpop_norm_late.specs.Lowering.{rules_of, public_rules, is_public};
+ghost use Rattle.lalrpop_norm_late.specs.Plain.{enum_of};
 
-use lalrpop_norm_tree::grammar::parse_tree::{GrammarItem, NoMemory, NonterminalData};
+use lalrpop_norm_tree::grammar::parse_tree::{
+    EnumToken, GrammarItem, NoMemory, NonterminalData, Visibility,
+};
 use std::alloc::Global;
 
 /// The rules among the items.
@@ -24,4 +27,46 @@ pub(crate) fn rules_of(
         }
     }
     Ok(rules)
+}
+
+/// The public ones among the rules.
+pub(crate) fn public_rules<'g>(
+    alloc: Global,
+    rules: &[&'g NonterminalData],
+) -> Result<Vec<&'g NonterminalData>, NoMemory>
+    ensures { IfOk result (λ rs. map (λ r. rule_view r.now) rs.items ≡ public_rules (map (λ r. rule_view r.now) rules.now)) }
+{
+    let mut chosen = Vec::new(alloc);
+    for rule in rules {
+        if is_public(&rule.visibility) {
+            chosen.push(*rule)?;
+        }
+    }
+    Ok(chosen)
+}
+
+fn is_public(visibility: &Visibility) -> bool
+    ensures { result ≡ is_public (visibility_view visibility.now) }
+{
+    match visibility {
+        Visibility::Pub(_) => true,
+        Visibility::PubIn(_) => true,
+        Visibility::Priv => false,
+    }
+}
+
+/// The enum of the first extern block.
+pub(crate) fn enum_of(items: &[GrammarItem]) -> Option<&EnumToken>
+    ensures { option_map (λ e. enum_token_view e.now) result ≡ enum_of (map item_view items.now) }
+{
+    for item in items {
+        match item {
+            GrammarItem::ExternToken(token) => return token.enum_token.as_ref(),
+            GrammarItem::MatchToken(_)
+            | GrammarItem::Nonterminal(_)
+            | GrammarItem::InternToken(_)
+            | GrammarItem::Use(_) => {}
+        }
+    }
+    None
 }

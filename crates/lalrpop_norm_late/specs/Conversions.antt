@@ -1,0 +1,80 @@
+-- Terminals and their patterns.
+use Rattle.std.specs.Prelude.{ℕ, ◌+◌, Bool, List, [], ◌∷◌, map}
+use Rattle.std.specs.BTreeMap.{insert_entry}
+use Rattle.std.specs.Cmp.Lexicographic.{slice_cmp}
+use Rattle.std.specs.declared.cmp.Ordering.{Ordering}
+use Rattle.std.specs.declared.cmp.Ordering.TheVariants.{Less, Equal, Greater}
+use Rattle.std.specs.Ordering.{nat_cmp}
+use Rattle.lalrpop_norm_tree.specs.declared.names.TerminalLiteral.{TerminalLiteral}
+use Rattle.lalrpop_norm_tree.specs.declared.names.TerminalLiteral.TheVariants.{Quoted, Regex}
+use Rattle.lalrpop_norm_tree.specs.declared.names.TerminalString.{TerminalString}
+use Rattle.lalrpop_norm_tree.specs.declared.names.TerminalString.TheVariants.{Literal, Bare, Error}
+use Rattle.lalrpop_norm_tree.specs.Items.{ConversionData}
+use Rattle.lalrpop_norm_tree.specs.Patterns.{PatternKindData, enumerated, structured, path, tuple, tuple_struct, number, underscore, dot_dot, chosen, character, text, PatternData, pattern_at, Patterns, no_patterns, pattern_and, Fields, no_fields, field_and, FieldData}
+use Rattle.lalrpop_norm_tree.specs.Reprs.{ReprData}
+use Rattle.lalrpop_norm_late.specs.Typing.{lowered_type}
+
+-- the pattern with each chosen part put through f
+abbrev mutual
+  pub mapped_kind : {T V : Type 0} → (T → V) → PatternKindData T → PatternKindData V
+  mapped_kind f (enumerated p ps) = enumerated p (mapped_patterns f ps)
+  mapped_kind f (structured p fs rest) = structured p (mapped_fields f fs) rest
+  mapped_kind f (path p) = path p
+  mapped_kind f (tuple ps) = tuple (mapped_patterns f ps)
+  mapped_kind f (tuple_struct p ps) = tuple_struct p (mapped_patterns f ps)
+  mapped_kind f (number n) = number n
+  mapped_kind f underscore = underscore
+  mapped_kind f dot_dot = dot_dot
+  mapped_kind f (chosen t) = chosen (f t)
+  mapped_kind f (character a) = character a
+  mapped_kind f (text a) = text a
+
+  pub mapped : {T V : Type 0} → (T → V) → PatternData T → PatternData V
+  mapped f (pattern_at s k) = pattern_at s (mapped_kind f k)
+
+  pub mapped_patterns : {T V : Type 0} → (T → V) → Patterns T → Patterns V
+  mapped_patterns f no_patterns = no_patterns
+  mapped_patterns f (pattern_and p ps) = pattern_and (mapped f p) (mapped_patterns f ps)
+
+  pub mapped_fields : {T V : Type 0} → (T → V) → Fields T → Fields V
+  mapped_fields f no_fields = no_fields
+  mapped_fields f (field_and s n p fs) = field_and s n (mapped f p) (mapped_fields f fs)
+
+abbrev pub mapped_field : {T V : Type 0} → (T → V) → FieldData T → FieldData V
+mapped_field f d = record { span = d.span; name = d.name; pattern = mapped f d.pattern }
+
+abbrev pub literal_cmp : TerminalLiteral → TerminalLiteral → Ordering
+literal_cmp (Quoted a) (Quoted b) = slice_cmp nat_cmp a b
+literal_cmp (Quoted a) (Regex b) = Less
+literal_cmp (Regex a) (Quoted b) = Greater
+literal_cmp (Regex a) (Regex b) = slice_cmp nat_cmp a b
+
+-- the order of terminals: literals, then bare names, then the error terminal
+abbrev pub terminal_cmp : TerminalString → TerminalString → Ordering
+terminal_cmp (Literal a) (Literal b) = literal_cmp a b
+terminal_cmp (Literal a) (Bare b) = Less
+terminal_cmp (Literal a) Error = Less
+terminal_cmp (Bare a) (Literal b) = Greater
+terminal_cmp (Bare a) (Bare b) = slice_cmp nat_cmp a b
+terminal_cmp (Bare a) Error = Less
+terminal_cmp Error (Literal b) = Greater
+terminal_cmp Error (Bare b) = Greater
+terminal_cmp Error Error = Equal
+
+-- the rows in the order of their terminals, a later one in the place of an earlier one of its terminal
+abbrev pub sorted_terminals : {V : Type 0} → List (TerminalString × V) → List (TerminalString × V) → List (TerminalString × V)
+sorted_terminals rows [] = rows
+sorted_terminals rows (r ∷ rs) = sorted_terminals (insert_entry terminal_cmp rows r.0 r.1) rs
+
+abbrev pub terminals_of : List ConversionData → List TerminalString
+terminals_of cs = map (λ c. c.from) cs
+
+-- the terminals with their numbers, from k on
+abbrev pub numbered : ℕ → List TerminalString → List (TerminalString × ℕ)
+numbered k [] = []
+numbered k (t ∷ ts) = (t, k) ∷ numbered (k + 1) ts
+
+-- each terminal with its lowered pattern
+abbrev pub lowered_conversions : List ConversionData → List (TerminalString × PatternData ReprData)
+lowered_conversions [] = []
+lowered_conversions (c ∷ cs) = (c.from, mapped lowered_type c.to) ∷ lowered_conversions cs

@@ -1,0 +1,103 @@
+//! The patterns of conversions.
+ghost use Rattle.std.specs.Prelude.{◌≡◌, IfOk, map};
+ghost use Rattle.lalrpop_norm_tree.specs.Patterns.{pattern_view, pattern_kind_view, patterns_view, field_view, fields_view};
+ghost use Rattle.lalrpop_norm_tree.specs.Reprs.{repr_view};
+ghost use Rattle.lalrpop_norm_tree.specs.Types.{type_view};
+ghost use Rattle.lalrpop_norm_late.specs.Conversions.{mapped, mapped_kind, mapped_patterns, mapped_fields, mapped_field};
+ghost use Rattle.lalrpop_norm_late.specs.Typing.{lowered_type};
+
+use crate::typing::lowered_type;
+use lalrpop_norm_tree::grammar::parse_tree::{NoMemory, TypeRef};
+use lalrpop_norm_tree::grammar::pattern::{FieldPattern, Pattern, PatternKind};
+use lalrpop_norm_tree::grammar::repr::TypeRepr;
+use std::alloc::Global;
+
+/// The pattern with its chosen types lowered.
+#[cycle(lowered)]
+pub(crate) fn lowered_pattern(
+    alloc: Global,
+    pattern: &Pattern<TypeRef>,
+) -> Result<Pattern<TypeRepr>, NoMemory>
+    ensures { IfOk result (λ p. pattern_view repr_view p ≡ mapped lowered_type (pattern_view type_view pattern.now)) }
+{
+    let kind = lowered_kind(alloc, &pattern.kind)?;
+    Ok(Pattern {
+        span: pattern.span,
+        kind,
+    })
+}
+
+#[cycle(lowered)]
+fn lowered_kind(
+    alloc: Global,
+    kind: &PatternKind<TypeRef>,
+) -> Result<PatternKind<TypeRepr>, NoMemory>
+    ensures { IfOk result (λ k. pattern_kind_view repr_view k ≡ mapped_kind lowered_type (pattern_kind_view type_view kind.now)) }
+{
+    match kind {
+        PatternKind::Enum(path, inner) => {
+            let path = path.clone()?;
+            Ok(PatternKind::Enum(path, lowered_patterns(alloc, inner)?))
+        }
+        PatternKind::Struct(path, fields, rest) => {
+            let path = path.clone()?;
+            Ok(PatternKind::Struct(path, lowered_fields(alloc, fields)?, *rest))
+        }
+        PatternKind::Path(path) => Ok(PatternKind::Path(path.clone()?)),
+        PatternKind::Tuple(inner) => Ok(PatternKind::Tuple(lowered_patterns(alloc, inner)?)),
+        PatternKind::TupleStruct(path, inner) => {
+            let path = path.clone()?;
+            Ok(PatternKind::TupleStruct(path, lowered_patterns(alloc, inner)?))
+        }
+        PatternKind::Usize(n) => Ok(PatternKind::Usize(*n)),
+        PatternKind::Underscore => Ok(PatternKind::Underscore),
+        PatternKind::DotDot => Ok(PatternKind::DotDot),
+        PatternKind::Choose(ty) => Ok(PatternKind::Choose(lowered_type(alloc, ty)?)),
+        PatternKind::CharLiteral(text) => Ok(PatternKind::CharLiteral(text.clone()?)),
+        PatternKind::String(text) => Ok(PatternKind::String(text.clone()?)),
+    }
+}
+
+#[cycle(lowered)]
+fn lowered_patterns(
+    alloc: Global,
+    patterns: &[Pattern<TypeRef>],
+) -> Result<Vec<Pattern<TypeRepr>>, NoMemory>
+    ensures { IfOk result (λ ps. patterns_view repr_view ps.items ≡ mapped_patterns lowered_type (patterns_view type_view patterns.now)) }
+{
+    let mut lowered = Vec::new(alloc);
+    for pattern in patterns {
+        lowered.push(lowered_pattern(alloc, pattern)?)?;
+    }
+    Ok(lowered)
+}
+
+#[cycle(lowered)]
+fn lowered_fields(
+    alloc: Global,
+    fields: &[FieldPattern<TypeRef>],
+) -> Result<Vec<FieldPattern<TypeRepr>>, NoMemory>
+    ensures { IfOk result (λ fs. fields_view repr_view fs.items ≡ mapped_fields lowered_type (fields_view type_view fields.now)) }
+{
+    let mut lowered = Vec::new(alloc);
+    for field in fields {
+        lowered.push(lowered_field(alloc, field)?)?;
+    }
+    Ok(lowered)
+}
+
+#[cycle(lowered)]
+fn lowered_field(
+    alloc: Global,
+    field: &FieldPattern<TypeRef>,
+) -> Result<FieldPattern<TypeRepr>, NoMemory>
+    ensures { IfOk result (λ f. field_view repr_view f ≡ mapped_field lowered_type (field_view type_view field.now)) }
+{
+    let field_name = field.field_name.clone()?;
+    let pattern = lowered_pattern(alloc, &field.pattern)?;
+    Ok(FieldPattern {
+        field_span: field.field_span,
+        field_name,
+        pattern,
+    })
+}
