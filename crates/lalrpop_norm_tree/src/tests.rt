@@ -1,6 +1,6 @@
 //! Texts as a grammar's author would write them.
 use crate::grammar::parse_tree::*;
-use crate::grammar::pattern::{FieldPattern, Pattern, PatternKind};
+use crate::grammar::pattern::PatternKind;
 use std::alloc::Global;
 use std::test::*;
 
@@ -47,21 +47,6 @@ fn shows_repeats(rt: HostRuntime) -> Result<(), Fail> {
 }
 
 #[test]
-fn shows_groups_and_calls(rt: HostRuntime) -> Result<(), Fail> {
-    let alloc = rt.alloc();
-    let group = ExprSymbol {
-        symbols: vec![in alloc; symbol(SymbolKind::Lookahead), symbol(SymbolKind::Error)]?,
-    };
-    assert_eq!(rt; group.canonical_form(alloc)?.as_str(), "(@L error)");
-    let call = MacroSymbol {
-        name: NonterminalString(Atom::new(alloc, "M")?),
-        args: group.symbols,
-    };
-    assert_eq!(rt; call.canonical_form(alloc)?.as_str(), "M<@L, error>");
-    Ok(())
-}
-
-#[test]
 fn shows_tuple_symbols(rt: HostRuntime) -> Result<(), Fail> {
     let alloc = rt.alloc();
     let first = ArgPattern::Name(Name::new(false, Atom::new(alloc, "x")?));
@@ -71,43 +56,6 @@ fn shows_tuple_symbols(rt: HostRuntime) -> Result<(), Fail> {
     let named = symbol(SymbolKind::Tuple(names, parts));
     let chosen = symbol(SymbolKind::Choose(Box::new(alloc, named)?));
     assert_eq!(rt; chosen.canonical_form(alloc)?.as_str(), "<(x, mut y):@R>");
-    Ok(())
-}
-
-#[test]
-fn shows_references(rt: HostRuntime) -> Result<(), Fail> {
-    let alloc = rt.alloc();
-    let reference = TypeRef::Ref {
-        lifetime: Some(lifetime(alloc, "'a")?),
-        mutable: true,
-        referent: Box::new(alloc, id(alloc, "T")?)?,
-    };
-    assert_eq!(rt; reference.to_string(alloc)?.as_str(), "&'a mut T");
-    Ok(())
-}
-
-#[test]
-fn shows_tuples_of_types(rt: HostRuntime) -> Result<(), Fail> {
-    let alloc = rt.alloc();
-    let object = TypeRef::TraitObject {
-        path: path(alloc, true, "P")?,
-        types: vec![in alloc; id(alloc, "B")?]?,
-    };
-    let pair = TypeRef::Tuple(vec![in alloc; id(alloc, "A")?, object]?);
-    assert_eq!(rt; pair.to_string(alloc)?.as_str(), "(A, dyn ::P<B>)");
-    Ok(())
-}
-
-#[test]
-fn shows_bounds_of_functions(rt: HostRuntime) -> Result<(), Fail> {
-    let alloc = rt.alloc();
-    let function = TypeBound::Fn {
-        forall: Vec::new(alloc),
-        path: path(alloc, false, "Fn")?,
-        parameters: vec![in alloc; id(alloc, "A")?]?,
-        ret: Some(id(alloc, "B")?),
-    };
-    assert_eq!(rt; function.to_string(alloc)?.as_str(), "Fn(A) -> B");
     Ok(())
 }
 
@@ -134,36 +82,31 @@ fn shows_where_clauses(rt: HostRuntime) -> Result<(), Fail> {
 }
 
 #[test]
-fn shows_patterns_without_fields(rt: HostRuntime) -> Result<(), Fail> {
+fn shows_calls(rt: HostRuntime) -> Result<(), Fail> {
     let alloc = rt.alloc();
-    let none: PatternKind<TypeRef> = PatternKind::Struct(
-        path(alloc, false, "P")?,
-        Vec::new(alloc),
-        false,
-    );
-    assert_eq!(rt; none.to_string(alloc)?.as_str(), "P {  }");
-    let rest: PatternKind<TypeRef> = PatternKind::Struct(
-        path(alloc, false, "P")?,
-        Vec::new(alloc),
-        true,
-    );
-    assert_eq!(rt; rest.to_string(alloc)?.as_str(), "P { .. }");
+    let call = MacroSymbol {
+        name: NonterminalString(Atom::new(alloc, "M")?),
+        args: vec![in alloc; symbol(SymbolKind::Lookahead), symbol(SymbolKind::Error)]?,
+    };
+    assert_eq!(rt; call.canonical_form(alloc)?.as_str(), "M<@L, error>");
     Ok(())
 }
 
 #[test]
-fn shows_patterns_of_fields(rt: HostRuntime) -> Result<(), Fail> {
+fn shows_groups(rt: HostRuntime) -> Result<(), Fail> {
     let alloc = rt.alloc();
-    let pattern = Pattern {
-        span: Span(0, 1),
-        kind: PatternKind::Choose(id(alloc, "T")?),
+    let group = ExprSymbol {
+        symbols: vec![in alloc; symbol(SymbolKind::Lookahead), symbol(SymbolKind::Error)]?,
     };
-    let field = FieldPattern {
-        field_span: Span(0, 1),
-        field_name: Atom::new(alloc, "f")?,
-        pattern,
-    };
-    let fields = PatternKind::Struct(path(alloc, true, "P")?, vec![in alloc; field]?, true);
-    assert_eq!(rt; fields.to_string(alloc)?.as_str(), "::P { f: T, .. }");
+    assert_eq!(rt; group.canonical_form(alloc)?.as_str(), "(@L error)");
+    Ok(())
+}
+
+#[test]
+fn shows_patterns(rt: HostRuntime) -> Result<(), Fail> {
+    let alloc = rt.alloc();
+    let path = path(alloc, true, "P")?;
+    let fields: PatternKind<TypeRef> = PatternKind::Struct(path, Vec::new(alloc), true);
+    assert_eq!(rt; fields.to_string(alloc)?.as_str(), "::P { .. }");
     Ok(())
 }

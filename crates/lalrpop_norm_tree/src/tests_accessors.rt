@@ -1,6 +1,6 @@
 //! Each call that makes a part of a tree, once with enough memory.
 use crate::grammar::parse_tree::*;
-use crate::grammar::repr::{NominalTypeRepr, TypeRepr};
+use crate::grammar::repr::TypeRepr;
 use std::alloc::Global;
 use std::test::*;
 
@@ -53,9 +53,8 @@ fn match_blocks_grow_at_their_end(rt: HostRuntime) -> Result<(), Fail> {
 fn types_lose_their_single_names(rt: HostRuntime) -> Result<(), Fail> {
     let alloc = rt.alloc();
     let written = id(alloc, "str")?;
-    assert!(rt; written.type_repr(alloc) == Ok(TypeRepr::str(alloc)?));
-    let symbol = TypeRef::Slice(Box::new(alloc, TypeRef::OfSymbol(SymbolKind::Error))?);
-    assert!(rt; symbol.type_repr(alloc) == Err(TypeReprError::OfSymbol));
+    let lowered = TypeRepr::str(alloc)?;
+    assert!(rt; written.type_repr(alloc) == Ok(lowered));
     Ok(())
 }
 

@@ -1,6 +1,6 @@
 //! Each call that copies, once with enough memory.
 use crate::grammar::parse_tree::*;
-use crate::grammar::pattern::{FieldPattern, Pattern, PatternKind};
+use crate::grammar::pattern::{Pattern, PatternKind};
 use crate::grammar::repr::TypeRepr;
 use std::alloc::Global;
 use std::test::*;
@@ -20,63 +20,55 @@ fn types_are_copied(rt: HostRuntime) -> Result<(), Fail> {
     let alloc = rt.alloc();
     let ty = id(alloc, "T")?;
     assert!(rt; copies(&ty)?);
-    let parameter = Parameter {
-        name: Atom::new(alloc, "p")?,
-        ty,
-    };
-    assert!(rt; copies(&parameter)?);
-    let lowered = TypeRepr::usize(alloc)?;
-    assert!(rt; copies(&lowered)?);
     Ok(())
 }
 
 #[test]
-fn symbols_are_copied(rt: HostRuntime) -> Result<(), Fail> {
+fn lowered_types_are_copied(rt: HostRuntime) -> Result<(), Fail> {
     let alloc = rt.alloc();
-    let repeat = RepeatSymbol {
-        op: RepeatOp::Plus,
-        symbol: Symbol::new(Span(7, 8), SymbolKind::Lookahead),
-    };
-    assert!(rt; copies(&repeat.symbol.kind)?);
-    assert!(rt; copies(&repeat.symbol)?);
-    assert!(rt; copies(&repeat)?);
-    let name = ArgPattern::Name(Name::immut(Atom::new(alloc, "x")?));
-    assert!(rt; copies(&name)?);
-    let tuple = Tuple::new(vec![in alloc; name]?);
-    assert!(rt; copies(&tuple)?);
+    let ty = TypeRepr::usize(alloc)?;
+    assert!(rt; copies(&ty)?);
     Ok(())
 }
 
 #[test]
-fn rows_of_symbols_are_copied(rt: HostRuntime) -> Result<(), Fail> {
+fn groups_are_copied(rt: HostRuntime) -> Result<(), Fail> {
     let alloc = rt.alloc();
-    let symbol = Symbol::new(Span(7, 8), SymbolKind::Lookbehind);
     let group = ExprSymbol {
-        symbols: vec![in alloc; symbol]?,
+        symbols: vec![in alloc; Symbol::new(Span(7, 8), SymbolKind::Lookbehind)]?,
     };
     assert!(rt; copies(&group)?);
+    Ok(())
+}
+
+#[test]
+fn calls_are_copied(rt: HostRuntime) -> Result<(), Fail> {
+    let alloc = rt.alloc();
     let call = MacroSymbol {
         name: NonterminalString(Atom::new(alloc, "M")?),
-        args: group.symbols,
+        args: Vec::new(alloc),
     };
     assert!(rt; copies(&call)?);
     Ok(())
 }
 
 #[test]
+fn tuples_are_copied(rt: HostRuntime) -> Result<(), Fail> {
+    let alloc = rt.alloc();
+    let tuple = Tuple::new(Vec::new(alloc));
+    assert!(rt; copies(&tuple)?);
+    Ok(())
+}
+
+#[test]
 fn patterns_are_copied(rt: HostRuntime) -> Result<(), Fail> {
     let alloc = rt.alloc();
-    let kind = PatternKind::Choose(id(alloc, "u8")?);
-    assert!(rt; kind.clone()? == kind);
-    let span = Span(2, 3);
-    let pattern = Pattern { span, kind };
-    assert!(rt; pattern.clone()? == pattern);
-    let field = FieldPattern {
-        field_span: Span(1, 2),
-        field_name: Atom::new(alloc, "f")?,
-        pattern,
+    let pattern = Pattern {
+        span: Span(2, 3),
+        kind: PatternKind::Choose(id(alloc, "u8")?),
     };
-    assert!(rt; field.clone()? == field);
+    let copy = pattern.clone()?;
+    assert!(rt; copy == pattern);
     Ok(())
 }
 
@@ -101,10 +93,9 @@ fn attributes_are_copied(rt: HostRuntime) -> Result<(), Fail> {
     let alloc = rt.alloc();
     let attribute = Attribute {
         id_span: Span(0, 1),
-        id: Atom::new(alloc, "level")?,
-        arg: AttributeArg::Equal(String::from_str(alloc, "1")?),
+        id: Atom::new(alloc, "inline")?,
+        arg: AttributeArg::Empty,
     };
-    assert!(rt; copies(&attribute.arg)?);
     assert!(rt; copies(&attribute)?);
     Ok(())
 }
@@ -121,7 +112,6 @@ fn alternatives_are_copied(rt: HostRuntime) -> Result<(), Fail> {
         action: Some(ActionKind::Lookahead),
         attributes: Vec::new(alloc),
     };
-    assert!(rt; copies(&alternative.action)?);
     assert!(rt; copies(&alternative)?);
     Ok(())
 }
@@ -138,20 +128,17 @@ fn rules_are_copied(rt: HostRuntime) -> Result<(), Fail> {
         type_decl: None,
         alternatives: Vec::new(alloc),
     };
-    assert!(rt; copies(&rule.visibility)?);
     assert!(rt; copies(&rule)?);
     Ok(())
 }
 
 #[test]
-fn match_blocks_are_copied(rt: HostRuntime) -> Result<(), Fail> {
+fn match_groups_are_copied(rt: HostRuntime) -> Result<(), Fail> {
     let alloc = rt.alloc();
-    let contents = MatchContents {
+    let group = MatchContents {
         items: vec![in alloc; MatchItem::CatchAll(Span(3, 4))]?,
     };
-    assert!(rt; copies(&contents)?);
-    let block = MatchToken::new(alloc, contents, Span(0, 9))?;
-    assert!(rt; copies(&block)?);
+    assert!(rt; copies(&group)?);
     Ok(())
 }
 
@@ -164,66 +151,37 @@ fn tokenizers_are_copied(rt: HostRuntime) -> Result<(), Fail> {
             code: vec![in alloc; 7]?,
         },
     };
-    assert!(rt; copies(&tokenizer.dfa)?);
     assert!(rt; copies(&tokenizer)?);
-    Ok(())
-}
-
-#[test]
-fn enums_of_tokens_are_copied(rt: HostRuntime) -> Result<(), Fail> {
-    let alloc = rt.alloc();
-    let conversion = Conversion {
-        span: Span(0, 9),
-        attributes: Vec::new(alloc),
-        from: TerminalString::Error,
-        to: Pattern {
-            span: Span(8, 9),
-            kind: PatternKind::Underscore,
-        },
-    };
-    assert!(rt; conversion.clone()? == conversion);
-    let tokens = EnumToken {
-        type_name: id(alloc, "Tok")?,
-        type_span: Span(5, 8),
-        conversions: vec![in alloc; conversion]?,
-    };
-    assert!(rt; tokens.clone()? == tokens);
     Ok(())
 }
 
 #[test]
 fn extern_blocks_are_copied(rt: HostRuntime) -> Result<(), Fail> {
     let alloc = rt.alloc();
-    let location = AssociatedType {
-        type_span: Span(0, 4),
-        type_name: Atom::new(alloc, "Location")?,
-        type_ref: id(alloc, "usize")?,
-    };
-    assert!(rt; copies(&location)?);
     let block = ExternToken {
         span: Span(0, 9),
-        associated_types: vec![in alloc; location]?,
+        associated_types: Vec::new(alloc),
         enum_token: None,
     };
-    assert!(rt; block.clone()? == block);
+    let copy = block.clone()?;
+    assert!(rt; copy == block);
     Ok(())
 }
 
 #[test]
 fn grammars_are_copied(rt: HostRuntime) -> Result<(), Fail> {
     let alloc = rt.alloc();
-    let item = GrammarItem::Use(String::from_str(alloc, "a::b")?);
-    assert!(rt; item.clone()? == item);
     let grammar = Grammar {
         prefix: String::from_str(alloc, "__")?,
         span: Span(0, 12),
         type_parameters: Vec::new(alloc),
         parameters: Vec::new(alloc),
         where_clauses: Vec::new(alloc),
-        items: vec![in alloc; item]?,
+        items: Vec::new(alloc),
         attributes: Vec::new(alloc),
         module_attributes: Vec::new(alloc),
     };
-    assert!(rt; grammar.clone()? == grammar);
+    let copy = grammar.clone()?;
+    assert!(rt; copy == grammar);
     Ok(())
 }
