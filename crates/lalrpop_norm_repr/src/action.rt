@@ -3,6 +3,8 @@ ghost use Rattle.std.specs.Prelude.{◌≡◌, ◌<◌, Some};
 ghost use Rattle.lalrpop_norm_repr.specs.Actions.{action_index};
 ghost use Rattle.lalrpop_norm_repr.specs.ReprTexts.{action_text};
 
+pub(crate) mod copy;
+
 use crate::symbol::Symbol;
 use lalrpop_norm_tree::grammar::parse_tree::ArgPattern;
 use lalrpop_norm_tree::grammar::repr::TypeRepr;

@@ -3,6 +3,8 @@ ghost use Rattle.std.specs.Prelude.{◌≡◌, Some};
 ghost use Rattle.lalrpop_norm_repr.specs.Lowered.{lowered_parameter_view};
 ghost use Rattle.lalrpop_norm_repr.specs.ReprTexts.{parameter_text};
 
+mod copy;
+
 use crate::action::ActionFnDefn;
 use crate::production::NonterminalData;
 use crate::types::Types;
@@ -42,7 +44,7 @@ pub struct Grammar {
 }
 
 /// The terminals of a grammar, and the place of each.
-#[derive(Clone, Debug, Drop)]
+#[derive(Debug, Drop)]
 pub struct TerminalSet {
     pub all: Vec<TerminalString>,
     pub bits: BTreeMap<TerminalString, usize>,
