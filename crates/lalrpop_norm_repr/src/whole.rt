@@ -4,6 +4,7 @@ ghost use Rattle.lalrpop_norm_repr.specs.Lowered.{lowered_parameter_view};
 ghost use Rattle.lalrpop_norm_repr.specs.ReprTexts.{parameter_text};
 
 mod copy;
+mod lookups;
 
 use crate::action::ActionFnDefn;
 use crate::production::NonterminalData;
