@@ -14,7 +14,7 @@ use std::alloc::Global;
 use std::collections::BTreeMap;
 
 /// The type of each terminal and nonterminal, and those of locations, errors and tokens.
-#[derive(Drop)]
+#[derive(Debug, Drop)]
 pub struct Types {
     alloc: Global,
     terminal_token_type: TypeRepr,

@@ -20,7 +20,7 @@ use std::collections::BTreeMap;
 use std::fmt;
 
 /// A lowered grammar.
-#[derive(Drop)]
+#[derive(Debug, Drop)]
 pub struct Grammar {
     /// Begins each name that the passes make.
     pub prefix: String,

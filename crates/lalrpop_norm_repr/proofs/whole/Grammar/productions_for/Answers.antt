@@ -1,4 +1,4 @@
-use Rattle.std.proofs.Common.{ap, sym, ◌∙◌, Option, unwrap_or, [], map, List, ◌≡◌}
+use Rattle.std.proofs.Common.{ap, sym, ◌∙◌, Option, unwrap_or, [], map, List}
 use Rattle.std.specs.Prelude.{option_map}
 use Rattle.std.specs.Option.{option_copied}
 use denote.Ref.{Bor}
