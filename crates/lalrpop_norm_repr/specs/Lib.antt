@@ -4,3 +4,4 @@ pub mod SymbolTypes
 pub mod Actions
 pub mod Lowered
 pub mod ReprTexts
+pub mod Lookups

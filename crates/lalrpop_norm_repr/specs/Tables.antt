@@ -7,7 +7,7 @@ use Rattle.lalrpop_norm_tree.specs.declared.names.TerminalLiteral.{TerminalLiter
 use Rattle.lalrpop_norm_tree.specs.declared.names.TerminalLiteral.TheVariants.{Quoted, Regex}
 use Rattle.lalrpop_norm_tree.specs.declared.names.TerminalString.{TerminalString}
 use Rattle.lalrpop_norm_tree.specs.declared.names.TerminalString.TheVariants as terminal
-use Rattle.lalrpop_norm_tree.specs.Reprs.{ReprData, tuple, nominal, reference, Reprs, no_reprs, repr_and, repr_view, named_repr}
+use Rattle.lalrpop_norm_tree.specs.Reprs.{ReprData, tuple, nominal, reference, no_reprs, repr_and, repr_view, named_repr}
 use Rattle.lalrpop_norm_repr.specs.declared.types.Types.{Types}
 
 -- the rows of a map, each value seen through f

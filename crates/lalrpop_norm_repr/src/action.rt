@@ -3,6 +3,9 @@ ghost use Rattle.std.specs.Prelude.{◌≡◌, ◌<◌, Some};
 ghost use Rattle.lalrpop_norm_repr.specs.Actions.{action_index};
 ghost use Rattle.lalrpop_norm_repr.specs.ReprTexts.{action_text};
 
+pub(crate) mod copy;
+mod show;
+
 use crate::symbol::Symbol;
 use lalrpop_norm_tree::grammar::parse_tree::ArgPattern;
 use lalrpop_norm_tree::grammar::repr::TypeRepr;
@@ -49,7 +52,7 @@ pub struct ActionFnDefn {
 }
 
 /// What an action does.
-#[derive(PartialEq, Eq, Drop)]
+#[derive(Debug, PartialEq, Eq, Drop)]
 pub enum ActionFnDefnKind {
     User(UserActionFnDefn),
     Inline(InlineActionFnDefn),
@@ -57,7 +60,7 @@ pub enum ActionFnDefnKind {
 }
 
 /// An action with code, and for each symbol of its production a pattern and a type.
-#[derive(PartialEq, Eq, Drop)]
+#[derive(Debug, PartialEq, Eq, Drop)]
 pub struct UserActionFnDefn {
     pub arg_patterns: Vec<ArgPattern>,
     pub arg_types: Vec<TypeRepr>,
@@ -65,7 +68,7 @@ pub struct UserActionFnDefn {
 }
 
 /// An action that calls others first and then one with what they answer.
-#[derive(PartialEq, Eq, Drop)]
+#[derive(Debug, PartialEq, Eq, Drop)]
 pub struct InlineActionFnDefn {
     pub action: ActionFn,
     pub symbols: Vec<InlinedSymbol>,
@@ -79,7 +82,7 @@ pub enum LookaroundActionFnDefn {
 }
 
 /// An argument of an inline action.
-#[derive(PartialEq, Eq, Drop)]
+#[derive(Debug, PartialEq, Eq, Drop)]
 pub enum InlinedSymbol {
     /// The symbol's own value.
     Original(Symbol),

@@ -5,6 +5,8 @@ ghost use Rattle.lalrpop_norm_tree.specs.Texts.{joined};
 ghost use Rattle.lalrpop_norm_repr.specs.Productions.{production_view};
 ghost use Rattle.lalrpop_norm_repr.specs.ReprTexts.{symbol_text, production_text};
 
+mod copy;
+
 use crate::action::ActionFn;
 use crate::symbol::Symbol;
 use lalrpop_norm_tree::grammar::parse_tree::{Attribute, NonterminalString, Span, Visibility};

@@ -5,6 +5,7 @@ ghost use Rattle.lalrpop_norm_tree.specs.declared.names.NonterminalString.{Nonte
 ghost use Rattle.lalrpop_norm_tree.specs.declared.names.TerminalString.{TerminalString};
 ghost use Rattle.lalrpop_norm_repr.specs.Tables.{type_table, type_of, listed_type, type_of_terminal};
 
+mod copy;
 mod made;
 
 use lalrpop_norm_tree::grammar::parse_tree::{NoMemory, NonterminalString, TerminalString};
@@ -13,7 +14,7 @@ use std::alloc::Global;
 use std::collections::BTreeMap;
 
 /// The type of each terminal and nonterminal, and those of locations, errors and tokens.
-#[derive(Drop)]
+#[derive(Debug, Drop)]
 pub struct Types {
     alloc: Global,
     terminal_token_type: TypeRepr,

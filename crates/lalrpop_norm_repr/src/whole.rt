@@ -3,6 +3,9 @@ ghost use Rattle.std.specs.Prelude.{◌≡◌, Some};
 ghost use Rattle.lalrpop_norm_repr.specs.Lowered.{lowered_parameter_view};
 ghost use Rattle.lalrpop_norm_repr.specs.ReprTexts.{parameter_text};
 
+mod copy;
+mod lookups;
+
 use crate::action::ActionFnDefn;
 use crate::production::NonterminalData;
 use crate::types::Types;
@@ -17,7 +20,7 @@ use std::collections::BTreeMap;
 use std::fmt;
 
 /// A lowered grammar.
-#[derive(Drop)]
+#[derive(Debug, Drop)]
 pub struct Grammar {
     /// Begins each name that the passes make.
     pub prefix: String,
@@ -42,7 +45,7 @@ pub struct Grammar {
 }
 
 /// The terminals of a grammar, and the place of each.
-#[derive(Clone, Debug, Drop)]
+#[derive(Debug, Drop)]
 pub struct TerminalSet {
     pub all: Vec<TerminalString>,
     pub bits: BTreeMap<TerminalString, usize>,

@@ -1,6 +1,5 @@
-use Rattle.std.proofs.Common.{◌≡◌, ◌++◌, [], map, sym, ◌∙◌}
 use Rattle.lalrpop_norm_tree.specs.Reprs.{repr_view}
-use Rattle.lalrpop_norm_repr.proofs.TableLemmas.{values_seen, all_listed}
+use Rattle.lalrpop_norm_repr.proofs.TableLemmas.{all_listed}
 use Rattle.lalrpop_norm_repr.proofs.types.Types.nonterminal_types.Goals as goal
 
 pub returns : goal.returns

@@ -1,0 +1,125 @@
+//! Copies of actions.
+ghost use Rattle.std.specs.Prelude.{◌≡◌, IfOk, map};
+ghost use Rattle.lalrpop_norm_tree.specs.Reprs.{repr_view};
+ghost use Rattle.lalrpop_norm_tree.specs.Symbols.{argument_pattern_view};
+ghost use Rattle.lalrpop_norm_repr.specs.Actions.{action_defn_view, action_kind_view, inline_action_view, inlined_symbol_view, user_action_view};
+
+use super::{ActionFnDefn, ActionFnDefnKind, InlineActionFnDefn, InlinedSymbol, UserActionFnDefn};
+use crate::production::copy_symbols;
+use lalrpop_norm_tree::grammar::parse_tree::ArgPattern;
+use lalrpop_norm_tree::grammar::repr::TypeRepr;
+use std::alloc::{AllocError, Global};
+
+impl Clone for ActionFnDefn {
+    ghost is_clone = { λ a b. action_defn_view b ≡ action_defn_view a };
+
+    fn clone(&self) -> Result<ActionFnDefn, AllocError> {
+        let ret_type = self.ret_type.clone()?;
+        let kind = self.kind.clone()?;
+        Ok(ActionFnDefn {
+            fallible: self.fallible,
+            ret_type,
+            kind,
+        })
+    }
+}
+
+impl Clone for ActionFnDefnKind {
+    ghost is_clone = { λ a b. action_kind_view b ≡ action_kind_view a };
+
+    fn clone(&self) -> Result<ActionFnDefnKind, AllocError> {
+        match self {
+            ActionFnDefnKind::User(action) => Ok(ActionFnDefnKind::User(action.clone()?)),
+            ActionFnDefnKind::Inline(action) => Ok(ActionFnDefnKind::Inline(action.clone()?)),
+            ActionFnDefnKind::Lookaround(action) => {
+                Ok(ActionFnDefnKind::Lookaround(action.clone()?))
+            }
+        }
+    }
+}
+
+impl Clone for UserActionFnDefn {
+    ghost is_clone = { λ a b. user_action_view b ≡ user_action_view a };
+
+    fn clone(&self) -> Result<UserActionFnDefn, AllocError> {
+        let arg_patterns = copy_patterns(*self.arg_patterns.allocator(), &self.arg_patterns)?;
+        let arg_types = copy_types(*self.arg_types.allocator(), &self.arg_types)?;
+        let code = self.code.clone()?;
+        Ok(UserActionFnDefn {
+            arg_patterns,
+            arg_types,
+            code,
+        })
+    }
+}
+
+impl Clone for InlineActionFnDefn {
+    ghost is_clone = { λ a b. inline_action_view b ≡ inline_action_view a };
+
+    fn clone(&self) -> Result<InlineActionFnDefn, AllocError> {
+        let symbols = copy_arguments(*self.symbols.allocator(), &self.symbols)?;
+        Ok(InlineActionFnDefn {
+            action: self.action,
+            symbols,
+        })
+    }
+}
+
+impl Clone for InlinedSymbol {
+    ghost is_clone = { λ a b. inlined_symbol_view b ≡ inlined_symbol_view a };
+
+    fn clone(&self) -> Result<InlinedSymbol, AllocError> {
+        match self {
+            InlinedSymbol::Original(symbol) => Ok(InlinedSymbol::Original(symbol.clone()?)),
+            InlinedSymbol::Inlined(action, symbols) => {
+                Ok(InlinedSymbol::Inlined(*action, copy_symbols(symbols)?))
+            }
+        }
+    }
+}
+
+fn copy_patterns(alloc: Global, patterns: &[ArgPattern]) -> Result<Vec<ArgPattern>, AllocError>
+    ensures { IfOk result (λ copies. map argument_pattern_view copies.items ≡ map argument_pattern_view patterns.now) }
+{
+    let mut copies = Vec::new(alloc);
+    for pattern in patterns {
+        copies.push(pattern.clone()?)?;
+    }
+    Ok(copies)
+}
+
+fn copy_types(alloc: Global, types: &[TypeRepr]) -> Result<Vec<TypeRepr>, AllocError>
+    ensures { IfOk result (λ copies. map repr_view copies.items ≡ map repr_view types.now) }
+{
+    let mut copies = Vec::new(alloc);
+    for ty in types {
+        copies.push(ty.clone()?)?;
+    }
+    Ok(copies)
+}
+
+fn copy_arguments(
+    alloc: Global,
+    symbols: &[InlinedSymbol],
+) -> Result<Vec<InlinedSymbol>, AllocError>
+    ensures { IfOk result (λ copies. map inlined_symbol_view copies.items ≡ map inlined_symbol_view symbols.now) }
+{
+    let mut copies = Vec::new(alloc);
+    for symbol in symbols {
+        copies.push(symbol.clone()?)?;
+    }
+    Ok(copies)
+}
+
+pub(crate) fn copy_actions(
+    alloc: Global,
+    actions: &[ActionFnDefn],
+) -> Result<Vec<ActionFnDefn>, AllocError>
+    ensures { IfOk result (λ copies. map action_defn_view copies.items ≡ map action_defn_view actions.now) }
+{
+    let mut copies = Vec::new(alloc);
+    for action in actions {
+        copies.push(action.clone()?)?;
+    }
+    Ok(copies)
+}
