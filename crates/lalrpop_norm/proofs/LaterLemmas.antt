@@ -17,7 +17,7 @@ use Rattle.lalrpop_norm.specs.declared.later.LaterPart.{LaterPart}
 use Rattle.lalrpop_norm.specs.declared.later.LaterPart.TheVariants as later
 use Rattle.lalrpop_norm.specs.Grammars.{rules_of, externs_of, names_of, is_public, enum_in, conversions_of, terminals_of, listed, terminal_listed, is_same_literal, is_same_terminal, has_repeated}
 use Rattle.lalrpop_norm.specs.Later.{part_if, part_of_any, part_of_some, part_of_none, attribute_parts, type_parts, terminal_parts, kind_parts, symbol_parts, symbols_parts, has_several_slots, code_parts, action_parts, alternative_parts, declared_parts, rule_parts, pattern_parts, conversion_parts, enum_parts, extern_parts, item_parts, head_parts, second_parts, kind_lacks, symbols_lack, alternative_lacks, rule_lacks, start_parts, rules_parts, has_rule, has_conversion, repeated_parts, together_parts, later_parts}
-use Rattle.lalrpop_norm.specs.LoweredTypes.{holds_symbol}
+use Rattle.lalrpop_norm_tree.specs.LoweredTypes.{holds_symbol}
 use Rattle.lalrpop_norm.specs.PlainGrammars.{IsLiteral, IsPlainKind, IsPlainSymbol, ArePlainSymbols, IsPlainAction, IsPlainAlternative, IsDeclared, IsPlainRule, IsPlainConversion, HasOneEnum, IsRuleOrExtern, HasFreeStart, IsPlainGrammar}
 
 -- ---- empty lists

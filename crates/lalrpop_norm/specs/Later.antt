@@ -15,7 +15,7 @@ use Rattle.lalrpop_norm_front.specs.declared.faults.FaultKind.TheVariants.{NotYe
 use Rattle.lalrpop_norm.specs.declared.later.LaterPart.{LaterPart}
 use Rattle.lalrpop_norm.specs.declared.later.LaterPart.TheVariants as later
 use Rattle.lalrpop_norm.specs.Grammars.{rules_of, externs_of, names_of, is_public, enum_in, conversions_of, terminals_of, listed, terminal_listed, is_same_terminal, has_repeated}
-use Rattle.lalrpop_norm.specs.LoweredTypes.{holds_symbol}
+use Rattle.lalrpop_norm_tree.specs.LoweredTypes.{holds_symbol}
 
 abbrev pub part_if : Bool → LaterPart → List LaterPart
 part_if b p = if b then p ∷ [] else []

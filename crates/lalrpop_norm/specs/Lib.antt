@@ -1,5 +1,5 @@
 pub mod Grammars
-pub mod LoweredTypes
 pub mod Later
 pub mod LaterWalks
 pub mod PlainGrammars
+pub mod Normalize

@@ -10,7 +10,7 @@ use Rattle.lalrpop_norm_tree.specs.Types.{TypeData}
 use Rattle.lalrpop_norm_front.specs.Braces.{presence, is_in_braces}
 use Rattle.lalrpop_norm.specs.Grammars.{rules_of, externs_of, names_of, is_public, conversions_of, terminals_of, is_same_terminal}
 use Rattle.lalrpop_norm.specs.Later.{has_several_slots, pattern_parts, has_rule, has_conversion}
-use Rattle.lalrpop_norm.specs.LoweredTypes.{holds_symbol}
+use Rattle.lalrpop_norm_tree.specs.LoweredTypes.{holds_symbol}
 
 abbrev pub IsLiteral : TerminalString → Type 0
 IsLiteral (Literal l) = Unit {0}

@@ -11,8 +11,6 @@ mod names;
 mod rules;
 mod symbols;
 mod terminals;
-#[cfg(test)]
-mod tests;
 mod together;
 mod tokens;
 

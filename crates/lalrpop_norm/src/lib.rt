@@ -1,4 +1,11 @@
-//! LALRPOP's grammar normalization.
+//! LALRPOP's grammar normalization: from a written grammar to its lowered one.
+//!
+//! [`normalize`] is the whole way. The types of both sides stand under the module [`grammar`].
 #![tactic(auto)]
 
+pub mod grammar;
 mod later;
+mod passes;
+
+pub use lalrpop_norm_front::{FaultKind, NormError, NormFailure, NormResult, Session};
+pub use passes::normalize;

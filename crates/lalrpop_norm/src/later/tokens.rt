@@ -7,7 +7,7 @@ ghost use Rattle.lalrpop_norm_tree.specs.Patterns.{pattern_kind_view, pattern_vi
 ghost use Rattle.lalrpop_norm_tree.specs.Types.{type_view, types_view, maybe_of};
 ghost use Rattle.lalrpop_norm.specs.Later.{part_of_any, attribute_parts, type_parts, pattern_kind_parts, pattern_parts, patterns_parts, conversion_parts, enum_parts, extern_parts};
 ghost use Rattle.lalrpop_norm.specs.LaterWalks.{Finds};
-ghost use Rattle.lalrpop_norm.specs.LoweredTypes.{holds_symbol, any_holds_symbol, result_holds_symbol};
+ghost use Rattle.lalrpop_norm_tree.specs.LoweredTypes.{holds_symbol, any_holds_symbol, result_holds_symbol};
 
 use super::LaterPart;
 use super::symbols::find_in_terminal;

@@ -1,6 +1,6 @@
 use Rattle.std.proofs.Common.{◌≡◌, drop, map, option_map}
 use Rattle.lalrpop_norm_tree.specs.Types.{types_view}
-use Rattle.lalrpop_norm.specs.LoweredTypes.{any_holds_symbol}
+use Rattle.lalrpop_norm_tree.specs.LoweredTypes.{any_holds_symbol}
 use Rattle.lalrpop_norm.proofs.later.tokens.+types.Given as goal
 
 abbrev pub invariant-any_holds_symbol-loop-written : goal.invariant-any_holds_symbol-loop-written

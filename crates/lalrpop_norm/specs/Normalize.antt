@@ -1,0 +1,10 @@
+-- What normalization refuses while the library grows.
+use Rattle.std.specs.Prelude.{List, ◌++◌}
+use Rattle.lalrpop_norm_front.specs.Faults.{Fault}
+use Rattle.lalrpop_norm_late.specs.Plain.{plain_faults}
+use Rattle.lalrpop_norm_tree.specs.Items.{GrammarData}
+use Rattle.lalrpop_norm.specs.Later.{later_faults}
+
+-- first what a later stage brings, then a number of an action past the greatest
+abbrev pub normalize_faults : GrammarData → List Fault
+normalize_faults g = later_faults g ++ plain_faults g

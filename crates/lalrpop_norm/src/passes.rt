@@ -1,0 +1,33 @@
+//! The passes, one after another.
+ghost use Rattle.std.specs.Prelude.{IfOk};
+ghost use Rattle.lalrpop_norm_front.specs.Faults.{Refuses};
+ghost use Rattle.lalrpop_norm_tree.specs.Items as written;
+ghost use Rattle.lalrpop_norm_repr.specs.Lowered as lowered;
+ghost use Rattle.lalrpop_norm_late.specs.Plain.{IsLowered};
+ghost use Rattle.lalrpop_norm.specs.Normalize.{normalize_faults};
+
+use crate::later::refuse_later_parts;
+use lalrpop_norm_front::{NormResult, Session};
+use lalrpop_norm_late::lower_plain;
+use lalrpop_norm_repr::grammar::repr;
+use lalrpop_norm_tree::grammar::parse_tree;
+use std::alloc::Global;
+
+/// Normalizes a written grammar: the lowered grammar with its numbered productions, action functions, terminals and
+/// types. The grammar is consumed, also where it is refused.
+///
+/// In this stage of the library only plain grammars are taken. Errors: F0 (`NotYet`) at the grammar's span where it holds
+/// something that a later stage brings; F56 (`TooManyActions`) at the alternative or rule whose action would have a
+/// number past the greatest; `Memory`. The session changes nothing yet.
+pub fn normalize<L>(
+    alloc: Global,
+    _session: &Session<L>,
+    grammar: parse_tree::Grammar,
+) -> NormResult<repr::Grammar>
+    // Ok exactly where no such fault stands, and a refusal names the first one, memory aside.
+    ensures refuses { Refuses result (normalize_faults (written.grammar_view grammar)) }
+    ensures lowered { IfOk result (λ l. IsLowered (written.grammar_view grammar) (lowered.grammar_view l)) }
+{
+    refuse_later_parts(alloc, &grammar)?;
+    lower_plain(alloc, &grammar)
+}
