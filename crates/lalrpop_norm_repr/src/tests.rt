@@ -1,6 +1,6 @@
 use crate::grammar::repr::{
-    ActionFn, NonterminalString, Parameter, Production, Span, Symbol, TerminalString, TypeRepr,
-    Types,
+    ActionFn, ActionFnDefn, ActionFnDefnKind, LookaroundActionFnDefn, NonterminalString, Parameter,
+    Production, Span, Symbol, TerminalString, TypeRepr, Types,
 };
 use shared_text::Atom;
 use std::alloc::Global;
@@ -60,22 +60,37 @@ fn without_a_location_it_is_the_unit_type(rt: HostRuntime) -> Result<(), Fail> {
 }
 
 #[test]
-fn types_are_added_and_found(rt: HostRuntime) -> Result<(), Fail> {
+fn the_type_of_a_nonterminal_is_added(rt: HostRuntime) -> Result<(), Fail> {
     let alloc = rt.alloc();
     let mut types = Types::new(alloc, "__", None, None, TypeRepr::str(alloc)?)?;
     types.add_type(nonterminal(alloc, "S")?, TypeRepr::usize(alloc)?)?;
-    types.add_term_type(terminal(alloc, "Id")?, TypeRepr::usize(alloc)?)?;
-    assert!(rt; types.has_term_type(&terminal(alloc, "Id")?));
-    assert!(rt; !types.has_term_type(&terminal(alloc, "Num")?));
-    assert!(rt;
-        types
-            .lookup_nonterminal_type(&nonterminal(alloc, "T")?)
-            .is_none()
-    );
-    let start = Symbol::Nonterminal(nonterminal(alloc, "S")?);
-    let text = format!(in alloc; "{} {}", start.ty(&types), types.terminal_token_type())?;
-    assert_eq!(rt; text.as_str(), "usize str");
+    let other = nonterminal(alloc, "T")?;
+    assert!(rt; types.lookup_nonterminal_type(&other).is_none());
     assert_eq!(rt; types.nonterminal_types()?.len(), 1);
+    Ok(())
+}
+
+#[test]
+fn an_unlisted_terminal_has_the_type_of_a_token(rt: HostRuntime) -> Result<(), Fail> {
+    let alloc = rt.alloc();
+    let types = Types::new(alloc, "__", None, None, TypeRepr::str(alloc)?)?;
+    let number = terminal(alloc, "Num")?;
+    assert!(rt; !types.has_term_type(&number));
+    let text = format!(in alloc; "{}", Symbol::Terminal(number).ty(&types))?;
+    assert_eq!(rt; text.as_str(), "str");
+    Ok(())
+}
+
+#[test]
+fn actions_show(rt: HostRuntime) -> Result<(), Fail> {
+    let alloc = rt.alloc();
+    let action = ActionFnDefn {
+        fallible: false,
+        ret_type: TypeRepr::usize(alloc)?,
+        kind: ActionFnDefnKind::Lookaround(LookaroundActionFnDefn::Lookbehind),
+    };
+    let text = format!(in alloc; "{:?}", action.clone()?)?;
+    assert_eq!(rt; text.as_str(), "Lookbehind");
     Ok(())
 }
 
