@@ -12,17 +12,21 @@ ghost use Rattle.lnorm.specs.Settings.{Settings, settings_view};
 
 use crate::halt::Halt;
 use crate::lines::lines;
-use lalrpop_norm_front::{NormFailure, NormResult, Session};
+use lalrpop_norm::grammar::repr;
+use lalrpop_norm::{NormFailure, NormResult, Session, normalize};
 use lalrpop_norm_json::{TreeError, read_tree};
-use lalrpop_norm_repr::grammar::repr;
 use lalrpop_norm_tree::grammar::parse_tree::Grammar;
 use std::alloc::Global;
 
-fn normalize(alloc: Global, session: &Session<()>, grammar: Grammar) -> NormResult<repr::Grammar>
+/// What the passes make of the tree. In this stage no setting changes it.
+fn normalized(alloc: Global, session: &Session<()>, grammar: Grammar) -> NormResult<repr::Grammar>
     ensures ok { IfOk result (λ l. Lowers (settings_view session.now) (grammar_view grammar) (lowered_view l)) }
     ensures err { IfErr result (IsFirst (faults_of (settings_view session.now) (grammar_view grammar))) }
 {
-    Err(NormFailure::Memory)
+    match normalize(alloc, session, grammar) {
+        Ok(lowered) => Ok(lowered),
+        Err(failure) => Err(failure),
+    }
 }
 
 /// The text for the bytes that were read.
@@ -31,7 +35,7 @@ pub fn answer(alloc: Global, session: &Session<()>, bytes: &[u8]) -> Result<Stri
     ensures err { IfErr result (Explains (settings_view session.now) bytes.now) }
 {
     let tree = tree_of(alloc, bytes)?;
-    match normalize(alloc, session, tree) {
+    match normalized(alloc, session, tree) {
         Ok(lowered) => text_of(alloc, lowered),
         Err(failure) => Err(Halt::Failed(failure)),
     }
