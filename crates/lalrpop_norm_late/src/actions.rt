@@ -145,11 +145,7 @@ fn user_kind(
     }))
 }
 
-fn symbol_types(
-    alloc: Global,
-    types: &Types,
-    symbols: &[Symbol],
-) -> Result<Vec<TypeRepr>, NoMemory>
+fn symbol_types(alloc: Global, types: &Types, symbols: &[Symbol]) -> Result<Vec<TypeRepr>, NoMemory>
     ensures { IfOk result (λ ts. map repr_view ts.items ≡ map (type_or_unit (type_table types.now)) symbols.now) }
 {
     let mut found = Vec::new(alloc);

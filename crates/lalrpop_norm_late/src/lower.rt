@@ -62,9 +62,7 @@ fn lower_over(
     let terminals = terminal_set(alloc, conversions)?;
     let patterns = lowered_conversions(alloc, conversions)?;
     let text = String::from_str(alloc, prefix)?;
-    Ok(assemble(
-        alloc, text, produced, starts, terminals, patterns, types,
-    ))
+    Ok(assemble(alloc, text, produced, starts, terminals, patterns, types))
 }
 
 /// The nonterminals with their productions, and the actions by their numbers.
@@ -88,11 +86,18 @@ fn produce(
         ++ alternative_actions prefix.now (type_table types.now) (map (λ r. written.rule_view r.now) rules.now)) }
     ensures nonterminals { IfOk result (λ p. rows nonterminal_data_view p.nonterminals
         ≡ sorted_onto (sorted_onto [] (start_rows prefix.now 0 (map (λ r. written.rule_view r.now) public.now)))
-            (rule_rows (length (map (λ r. written.rule_view r.now) public.now)) (map (λ r. written.rule_view r.now) rules.now))) }
+        (rule_rows (length (map (λ r. written.rule_view r.now) public.now)) (map (λ r. written.rule_view r.now) rules.now))) }
 {
     let mut actions = Vec::new(alloc);
     let mut nonterminals = BTreeMap::new(alloc);
-    lower_starts(alloc, prefix, types, public, &mut actions, &mut nonterminals)?;
+    lower_starts(
+        alloc,
+        prefix,
+        types,
+        public,
+        &mut actions,
+        &mut nonterminals,
+    )?;
     lower_rules(alloc, prefix, types, rules, &mut actions, &mut nonterminals)?;
     Ok(Produced {
         actions,

@@ -63,8 +63,7 @@ pub(crate) fn lower_alternatives(
 {
     let mut productions = Vec::new(alloc);
     for alternative in alternatives {
-        let production =
-            lower_alternative(alloc, prefix, types, name, ty, alternative, actions)?;
+        let production = lower_alternative(alloc, prefix, types, name, ty, alternative, actions)?;
         productions.push(production)?;
     }
     Ok(productions)

@@ -7,10 +7,10 @@ ghost use Rattle.lalrpop_norm_repr.specs.Tables.{type_table, unit_type};
 ghost use Rattle.lalrpop_norm_late.specs.Lowering.{lowered_kind, lowered_symbol, lowered_symbols, type_or_unit};
 
 use lalrpop_norm_repr::grammar::repr::{Symbol, TypeRepr, Types};
+use lalrpop_norm_tree::grammar::parse_tree as pt;
 use lalrpop_norm_tree::grammar::parse_tree::{
     Atom, NoMemory, NonterminalString, SymbolKind, TerminalString,
 };
-use lalrpop_norm_tree::grammar::parse_tree as pt;
 use std::alloc::Global;
 
 /// What the symbols are in a production.

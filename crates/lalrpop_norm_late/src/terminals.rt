@@ -27,10 +27,7 @@ pub(crate) fn terminal_set(
     Ok(TerminalSet { all, bits })
 }
 
-fn terminals_of(
-    alloc: Global,
-    conversions: &[Conversion],
-) -> Result<Vec<TerminalString>, NoMemory>
+fn terminals_of(alloc: Global, conversions: &[Conversion]) -> Result<Vec<TerminalString>, NoMemory>
     ensures { IfOk result (λ ts. ts.items ≡ terminals_of (map conversion_view conversions.now)) }
 {
     let mut terminals = Vec::new(alloc);

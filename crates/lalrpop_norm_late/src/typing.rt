@@ -108,11 +108,7 @@ fn add_types(types: &mut Types, rows: &[Typed]) -> Result<(), NoMemory>
     Ok(())
 }
 
-fn add_missing(
-    types: &mut Types,
-    name: &NonterminalString,
-    ty: &TypeRepr,
-) -> Result<(), NoMemory>
+fn add_missing(types: &mut Types, name: &NonterminalString, ty: &TypeRepr) -> Result<(), NoMemory>
     ensures { OnOk result (AddsTypes (type_table types.old) (type_table types.new) ((name.now, repr_view ty.now) ∷ [])) }
 {
     let is_new = types.lookup_nonterminal_type(name).is_none();

@@ -1,3 +1,4 @@
 pub mod OneWrite
 pub mod SettingsLemmas
 pub mod HaltLemmas
+pub mod StatusLemmas

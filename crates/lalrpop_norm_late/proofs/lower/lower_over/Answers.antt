@@ -20,5 +20,5 @@ returns-clause-lowered c =
     let conversions : map conversion_view c.conversions_in-conversions.result.now ≡ conversions_in (enum_of g.items) = c.conversions_in-conversions.ensures ∙ ap conversions_in token in
     subst P (sym c.assemble.ensures)
     (whole g _ _ _ _ _ _ _ _ _ (type_table c.in_ok-types.types) _ _ _ prefix c.requires.rules c.requires.public type conversions
-        c.in_ok-text.ensures.ok c.in_ok-produced.ensures.actions c.in_ok-produced.ensures.nonterminals c.in_ok-starts.ensures
-        c.in_ok-terminals.ensures.all c.in_ok-terminals.ensures.bits c.in_ok-patterns.ensures c.in_ok-types.ensures c.in_ok-add_start_types.ensures)
+    c.in_ok-text.ensures.ok c.in_ok-produced.ensures.actions c.in_ok-produced.ensures.nonterminals c.in_ok-starts.ensures
+    c.in_ok-terminals.ensures.all c.in_ok-terminals.ensures.bits c.in_ok-patterns.ensures c.in_ok-types.ensures c.in_ok-add_start_types.ensures)
