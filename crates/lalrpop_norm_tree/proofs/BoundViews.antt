@@ -30,7 +30,8 @@ same_parameter_views R f one (parameter.TypeParameter t) (parameter.TypeParamete
 same_parameter_views R f one (parameter.Associated a t) (parameter.Associated b u) h = let e = one t u h.1 in cc h.0
 same_parameter_views R f one _ _ h = absurd h
 
-same_bound_views : {T V : Type 0} (R : T → T → Type 0) (f : T → V) → ((t u : T) → R t u → f u ≡ f t) → (b c : TypeBound T) → SameBound R (bound_view (λ t. t) b) (bound_view (λ t. t) c) → bound_view f c ≡ bound_view f b
+-- bounds that are the same apart from related types have equal views, where f takes related types to one value
+pub same_bound_views : {T V : Type 0} (R : T → T → Type 0) (f : T → V) → ((t u : T) → R t u → f u ≡ f t) → (b c : TypeBound T) → SameBound R (bound_view (λ t. t) b) (bound_view (λ t. t) c) → bound_view f c ≡ bound_view f b
 same_bound_views R f one (bound.Lifetime l) (bound.Lifetime m) h = cc
 same_bound_views R f one (bound.Fn fs p ts r) (bound.Fn gs q us s) h =
     let types = same_map R (λ t. t) f one ts.items us.items h.2 in

@@ -2,6 +2,7 @@ pub mod TextLemmas
 pub mod BoundLemmas
 pub mod BoundViews
 pub mod FirstLemmas
+pub mod LoweredTextLemmas
 pub mod PatternLemmas
 pub mod PatternViews
 pub mod ReprTextLemmas

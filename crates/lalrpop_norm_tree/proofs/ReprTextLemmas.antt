@@ -1,5 +1,5 @@
 -- The texts of several types or parameters, one after another.
-use Rattle.std.proofs.Common.{◌≡◌, false, ◌==◌, ℕ, List, [], ◌∷◌, ◌++◌, ◌≤◌, length, take, map, codes, refl, ap, sym, ◌∙◌}
+use Rattle.std.proofs.Common.{◌≡◌, false, ◌==◌, ℕ, List, [], ◌∷◌, ◌++◌, ◌≤◌, length, take, map, codes, refl, ap, ◌∙◌}
 use Rattle.std.proofs.lemmas.List.{take_all}
 use Rattle.std.specs.List.{flat_map}
 use Rattle.lalrpop_norm_tree.specs.declared.lowered.TypeRepr.{TypeRepr}

@@ -1,5 +1,5 @@
 -- What each lowered type is seen as.
-use Rattle.std.proofs.Common.{◌≡◌, ◌==◌, ◌↔◌, true, false, IsTrue, List, [], ◌∷◌, length, refl, ap, sym, ◌∙◌, Vec, Global}
+use Rattle.std.proofs.Common.{◌≡◌, ◌==◌, ◌↔◌, false, IsTrue, List, [], ◌∷◌, length, refl, ap, sym, ◌∙◌, Vec, Global}
 use Rattle.std.proofs.Common.{arith, ℕ}
 use Rattle.std.proofs.lemmas.Bool.Decides.{nat_tests}
 use Rattle.lalrpop_norm_tree.specs.declared.path.Path.{Path}

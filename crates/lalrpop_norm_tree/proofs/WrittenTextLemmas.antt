@@ -100,7 +100,7 @@ module _ {X : Type 0} (text : X → Option (List ℕ)) (separator : List ℕ) wh
       → each_after separator (map text (take (i + 1) xs)) ≡ each_after separator (map text (take i xs)) ++? (Some separator ++? text x)
   each_after-more xs i x h e = rw (take_more xs i x h, ← e, each_after-push (take i xs) x)
 
-map_twice : {X Y Z : Type 0} (g : Y → Z) (f : X → Y) (xs : List X) → map (λ x. g (f x)) xs ≡ map g (map f xs)
+pub map_twice : {X Y Z : Type 0} (g : Y → Z) (f : X → Y) (xs : List X) → map (λ x. g (f x)) xs ≡ map g (map f xs)
 map_twice g f [] = refl
 map_twice g f (x ∷ xs) = ap (λ zs. g (f x) ∷ zs) (map_twice g f xs)
 

@@ -12,7 +12,8 @@ use Rattle.lalrpop_norm_tree.specs.declared.names.TerminalString.TheVariants.{Li
 use Rattle.lalrpop_norm_tree.specs.Attributes.{AttributeData, attribute, paren, equal, attribute_and}
 use Rattle.lalrpop_norm_tree.specs.Items.{ItemData, match_item, extern_item, intern_item, rule_item, RuleData, MatchTokenData, ExternTokenData, InternTokenData, EnumTokenData, AssociatedTypeData, VisibilityData, everywhere, within, private}
 use Rattle.lalrpop_norm_tree.specs.Paths.{PathData}
-use Rattle.lalrpop_norm_tree.specs.Symbols.{Part, at, tupled, ArgumentPatterns}
+use Rattle.lalrpop_norm_tree.specs.Symbols.{Part, at, tupled, ArgumentPattern, one_name, several, ArgumentPatterns}
+use Rattle.lalrpop_norm_tree.specs.Texts.{tuple_text}
 
 -- ---- lists
 
@@ -67,6 +68,11 @@ terminal_display_len Error = 5
 abbrev pub tuple_of : Part → Option (ArgumentPatterns × Part)
 tuple_of (at s (tupled ps p)) = Some (ps, p)
 tuple_of _ = None
+
+-- a name without `mut`, and the text of a tuple
+abbrev pub pattern_name : ArgumentPattern → List ℕ
+pattern_name (one_name n) = n.name
+pattern_name (several ps) = tuple_text ps
 
 -- ---- items
 

@@ -11,6 +11,7 @@ pub mod TypeTexts
 pub mod Accessors
 pub mod BoundTexts
 pub mod KnownTexts
+pub mod LoweredTexts
 pub mod LoweredTypes
 pub mod PatternTexts
 pub mod VisibilityTexts

@@ -15,10 +15,4 @@ mod path;
 mod pattern;
 mod show;
 mod symbol;
-#[cfg(test)]
-mod tests;
-#[cfg(test)]
-mod tests_accessors;
-#[cfg(test)]
-mod tests_copies;
 mod types;

@@ -1,9 +1,12 @@
-//! Copies of lowered types.
+//! Copies of lowered types and where clauses.
 ghost use Rattle.std.specs.Prelude.{◌≡◌, IfOk, option_map};
-ghost use Rattle.lalrpop_norm_tree.specs.Reprs.{repr_view, applied_view, reprs_view};
+ghost use Rattle.lalrpop_norm_tree.specs.Bounds.{bound_view};
+ghost use Rattle.lalrpop_norm_tree.specs.Reprs.{repr_view, applied_view, reprs_view, lowered_where_clause_view};
 
-use super::{NominalTypeRepr, TypeRepr};
+use super::{NominalTypeRepr, TypeRepr, WhereClause};
+use crate::bound::TypeBound;
 use crate::types::copy::copy_type_parameters;
+use shared_text::NoMemory;
 use std::alloc::AllocError;
 
 impl Clone for TypeRepr {
@@ -95,4 +98,38 @@ fn copy_reprs(types: &Vec<TypeRepr>) -> Result<Vec<TypeRepr>, AllocError>
         copies.push(copy_repr(inner)?)?;
     }
     Ok(copies)
+}
+
+impl WhereClause {
+    /// A copy.
+    pub fn clone(&self) -> Result<WhereClause, NoMemory>
+        ensures { IfOk result (λ c. lowered_where_clause_view c ≡ lowered_where_clause_view self.now) }
+    {
+        copy_clause(self)
+    }
+}
+
+#[cycle(copy_clause)]
+fn copy_clause(clause: &WhereClause) -> Result<WhereClause, NoMemory>
+    ensures { IfOk result (λ c. lowered_where_clause_view c ≡ lowered_where_clause_view clause.now) }
+{
+    match clause {
+        WhereClause::Forall { binder, clause } => {
+            let binder = copy_type_parameters(binder)?;
+            let copy = copy_clause(&**clause)?;
+            let clause = Box::new(*Box::allocator(clause), copy)?;
+            Ok(WhereClause::Forall { binder, clause })
+        }
+        WhereClause::Bound { subject, bound } => {
+            let subject = copy_repr(subject)?;
+            let bound = copy_bound(bound)?;
+            Ok(WhereClause::Bound { subject, bound })
+        }
+    }
+}
+
+fn copy_bound(bound: &TypeBound<TypeRepr>) -> Result<TypeBound<TypeRepr>, NoMemory>
+    ensures { IfOk result (λ b. bound_view repr_view b ≡ bound_view repr_view bound.now) }
+{
+    Ok(bound.clone()?)
 }

@@ -1,13 +1,16 @@
-//! The texts of lowered types.
+//! The texts of lowered types and where clauses.
 ghost use Rattle.std.specs.Prelude.{Some, codes, ◌++◌, option_map};
 ghost use Rattle.std.specs.Fmt.{WritesOnOk};
-ghost use Rattle.lalrpop_norm_tree.specs.Reprs.{repr_view, applied_view, reprs_view, maybe_repr_of};
+ghost use Rattle.lalrpop_norm_tree.specs.Bounds.{bound_view};
+ghost use Rattle.lalrpop_norm_tree.specs.LoweredTexts.{binder_text, lowered_bound_text, lowered_clause_text};
+ghost use Rattle.lalrpop_norm_tree.specs.Reprs.{repr_view, applied_view, reprs_view, maybe_repr_of, lowered_where_clause_view};
 ghost use Rattle.lalrpop_norm_tree.specs.Texts.{joined};
 ghost use Rattle.lalrpop_norm_tree.specs.TypeTexts.{repr_text, repr_texts, applied_text, angled, reference_text, return_text, signature_text};
 ghost use Rattle.lalrpop_norm_tree.specs.Paths.{path_view};
 
-use super::{NominalTypeRepr, TypeRepr};
-use crate::names::show::show_reference;
+use super::{NominalTypeRepr, TypeRepr, WhereClause};
+use crate::bound::TypeBound;
+use crate::names::show::{show_binder, show_reference};
 use crate::names::{Lifetime, TypeParameter};
 use crate::path::Path;
 use crate::path::show::show_forall_path;
@@ -202,4 +205,52 @@ impl fmt::Debug for NominalTypeRepr {
     fn fmt<W: fmt::Write>(&self, f: &mut fmt::Formatter<W>) -> fmt::Result {
         fmt::Display::fmt(self, f)
     }
+}
+
+impl fmt::Display for WhereClause {
+    ghost output = { λ w. Some (lowered_clause_text (lowered_where_clause_view w)) };
+
+    #[cycle(show_clause)]
+    fn fmt<W: fmt::Write>(&self, f: &mut fmt::Formatter<W>) -> fmt::Result {
+        match self {
+            WhereClause::Forall { binder, clause } => show_quantified(binder, &**clause, f),
+            WhereClause::Bound { subject, bound } => show_claim(subject, bound, f),
+        }
+    }
+}
+
+/// `for<'a> C`.
+#[cycle(show_clause)]
+fn show_quantified<W: fmt::Write>(
+    binder: &[TypeParameter],
+    clause: &WhereClause,
+    f: &mut fmt::Formatter<W>,
+) -> fmt::Result
+    ensures { WritesOnOk W.write_str_gives f.old result
+        (binder_text binder.now ++ lowered_clause_text (lowered_where_clause_view clause.now)) f.new }
+{
+    show_binder(binder, f)?;
+    fmt::Display::fmt(clause, f)
+}
+
+/// `S: B`.
+fn show_claim<W: fmt::Write>(
+    subject: &TypeRepr,
+    bound: &TypeBound<TypeRepr>,
+    f: &mut fmt::Formatter<W>,
+) -> fmt::Result
+    ensures { WritesOnOk W.write_str_gives f.old result
+        (repr_text (repr_view subject.now) ++ codes ": " ++ lowered_bound_text (bound_view repr_view bound.now)) f.new }
+{
+    fmt::Display::fmt(subject, f)?;
+    f.write_str(": ")?;
+    show_bound(bound, f)
+}
+
+/// The text of a bound, which is known since those of its types are.
+fn show_bound<W: fmt::Write>(bound: &TypeBound<TypeRepr>, f: &mut fmt::Formatter<W>) -> fmt::Result
+    ensures { WritesOnOk W.write_str_gives f.old result
+        (lowered_bound_text (bound_view repr_view bound.now)) f.new }
+{
+    fmt::Display::fmt(bound, f)
 }

@@ -2,6 +2,7 @@
 ghost use Rattle.std.specs.Prelude.{map, codes};
 ghost use Rattle.std.specs.Fmt.{WritesOnOk};
 ghost use Rattle.lalrpop_norm_tree.specs.Texts.{joined, type_parameter_text};
+ghost use Rattle.lalrpop_norm_tree.specs.LoweredTexts.{binder_text};
 ghost use Rattle.lalrpop_norm_tree.specs.TypeTexts.{forall_text, reference_text};
 
 use super::{Lifetime, TypeParameter};
@@ -37,6 +38,16 @@ pub(crate) fn show_forall<W: fmt::Write>(
     if parameters.is_empty() {
         return Ok(());
     }
+    show_binder(parameters, f)
+}
+
+/// `for<..> `, also where there is no parameter.
+pub(crate) fn show_binder<W: fmt::Write>(
+    parameters: &[TypeParameter],
+    f: &mut fmt::Formatter<W>,
+) -> fmt::Result
+    ensures { WritesOnOk W.write_str_gives f.old result (binder_text parameters.now) f.new }
+{
     f.write_str("for<")?;
     show_parameters(parameters, f)?;
     f.write_str("> ")

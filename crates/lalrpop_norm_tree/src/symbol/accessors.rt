@@ -1,11 +1,12 @@
 //! What symbols are made of and asked for.
-ghost use Rattle.std.specs.Prelude.{◌≡◌, false, option_map};
-ghost use Rattle.lalrpop_norm_tree.specs.Accessors.{tuple_of};
-ghost use Rattle.lalrpop_norm_tree.specs.Symbols.{at, argument_patterns_view, kind_view, symbol_view, tuple_view};
+ghost use Rattle.std.specs.Prelude.{◌≡◌, false, option_map, IfOk, string_bytes};
+ghost use Rattle.lalrpop_norm_tree.specs.Accessors.{pattern_name, tuple_of};
+ghost use Rattle.lalrpop_norm_tree.specs.Symbols.{at, argument_pattern_view, argument_patterns_view, kind_view, symbol_view, tuple_view};
 
 use super::{ArgPattern, Name, Symbol, SymbolKind, Tuple};
 use crate::names::Span;
-use shared_text::Atom;
+use shared_text::{Atom, NoMemory};
+use std::alloc::Global;
 
 impl Symbol {
     /// A symbol and where it stands.
@@ -63,5 +64,17 @@ impl Tuple {
         ensures { tuple_view result ≡ argument_patterns_view tuples.items }
     {
         Tuple { tuples }
+    }
+}
+
+impl ArgPattern {
+    /// The name without `mut`, or the text of a tuple as `Display` prints it, in new memory.
+    pub fn name(&self, alloc: Global) -> Result<String, NoMemory>
+        ensures { IfOk result (λ t. string_bytes t ≡ pattern_name (argument_pattern_view self.now)) }
+    {
+        match self {
+            ArgPattern::Name(name) => Ok(name.name.to_string(alloc)?),
+            ArgPattern::Tuple(tuple) => Ok(tuple.to_string(alloc)?),
+        }
     }
 }

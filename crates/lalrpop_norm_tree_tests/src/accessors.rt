@@ -1,6 +1,6 @@
 //! Each call that makes a part of a tree, once with enough memory.
-use crate::grammar::parse_tree::*;
-use crate::grammar::repr::TypeRepr;
+use lalrpop_norm_tree::grammar::parse_tree::*;
+use lalrpop_norm_tree::grammar::repr::TypeRepr;
 use std::alloc::Global;
 use std::test::*;
 
@@ -65,5 +65,16 @@ fn parameters_stand_for_types(rt: HostRuntime) -> Result<(), Fail> {
     let lowered = TypeRepr::from_parameter(alloc, &parameter)?;
     assert!(rt; lowered == TypeRepr::usize(alloc)?);
     assert_eq!(rt; lowered.to_string(alloc)?.as_str(), "usize");
+    Ok(())
+}
+
+#[test]
+fn patterns_have_names(rt: HostRuntime) -> Result<(), Fail> {
+    let alloc = rt.alloc();
+    let first = ArgPattern::Name(Name::immut(Atom::new(alloc, "x")?));
+    let second = ArgPattern::Name(Name::new(true, Atom::new(alloc, "y")?));
+    assert_eq!(rt; second.name(alloc)?.as_str(), "y");
+    let both = ArgPattern::Tuple(Tuple::new(vec![in alloc; first, second]?));
+    assert_eq!(rt; both.name(alloc)?.as_str(), "(x, mut y)");
     Ok(())
 }

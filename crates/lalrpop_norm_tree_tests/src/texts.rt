@@ -1,6 +1,7 @@
 //! Texts as a grammar's author would write them.
-use crate::grammar::parse_tree::*;
-use crate::grammar::pattern::PatternKind;
+use lalrpop_norm_tree::grammar::parse_tree::*;
+use lalrpop_norm_tree::grammar::pattern::PatternKind;
+use lalrpop_norm_tree::grammar::repr;
 use std::alloc::Global;
 use std::test::*;
 
@@ -78,6 +79,29 @@ fn shows_where_clauses(rt: HostRuntime) -> Result<(), Fail> {
         clause.to_string(alloc)?.as_str(),
         "for<'a> T:  I<Item = B> + 'a"
     );
+    Ok(())
+}
+
+#[test]
+fn shows_lowered_where_clauses(rt: HostRuntime) -> Result<(), Fail> {
+    let alloc = rt.alloc();
+    let parameter = TypeParameter::Id(Atom::new(alloc, "T")?);
+    let bound = TypeBound::Trait {
+        forall: Vec::new(alloc),
+        path: path(alloc, false, "Foo")?,
+        parameters: Vec::new(alloc),
+    };
+    let inner = repr::WhereClause::Bound {
+        subject: repr::TypeRepr::from_parameter(alloc, &parameter)?,
+        bound,
+    };
+    let clause = repr::WhereClause::Forall {
+        binder: vec![in alloc; TypeParameter::Lifetime(lifetime(alloc, "'a")?)]?,
+        clause: Box::new(alloc, inner)?,
+    };
+    let copy = clause.clone()?;
+    assert!(rt; copy == clause);
+    assert_eq!(rt; copy.to_string(alloc)?.as_str(), "for<'a> T: Foo");
     Ok(())
 }
 
