@@ -1,7 +1,11 @@
+//! Readings of whole texts, and what is no tree.
 use super::{TreeError, read_tree};
-use std::test::Fail;
+use lalrpop_norm_tree::grammar::parse_tree::*;
+use lalrpop_norm_tree::grammar::pattern::{Pattern, PatternKind};
+use std::alloc::{AllocError, Global};
+use std::test::*;
 
-/// A grammar with one extern block and the rule `S = "a"`.
+/// `extern { enum Tok { "a" => A(..) } } pub S: () = "a";`
 const SMALL: &str = r#"{"prefix":"__","span":[0,0],"type_parameters":[],"parameters":[],
 "where_clauses":[],"items":[{"ExternToken":{"span":[0,36],
 "associated_types":[],"enum_token":{"type_name":{"Id":"Tok"},
@@ -14,51 +18,152 @@ const SMALL: &str = r#"{"prefix":"__","span":[0,0],"type_parameters":[],"paramet
 {"Literal":{"Quoted":"a"}}}}]},"condition":null,"action":null,
 "attributes":[]}]}}],"attributes":[],"module_attributes":[]}"#;
 
-/// A grammar without items, up to its items and its span.
+/// A grammar up to its items and its span.
 const BARE: &str =
     r#"{"prefix":"__","type_parameters":[],"parameters":[],"where_clauses":[],"attributes":[],"module_attributes":[],"#;
 
+fn literal(alloc: Global, name: &str) -> Result<TerminalString, NoMemory> {
+    Ok(TerminalString::Literal(TerminalLiteral::Quoted(Atom::new(alloc, name)?)))
+}
+
+/// The extern block of `SMALL`.
+fn small_tokens(alloc: Global) -> Result<ExternToken, NoMemory> {
+    let rest = Pattern {
+        span: Span(29, 31),
+        kind: PatternKind::DotDot,
+    };
+    let path = Path {
+        absolute: false,
+        ids: vec![in alloc; Atom::new(alloc, "A")?]?,
+    };
+    let conversion = Conversion {
+        span: Span(20, 32),
+        attributes: Vec::new(alloc),
+        from: literal(alloc, "a")?,
+        to: Pattern {
+            span: Span(27, 32),
+            kind: PatternKind::Enum(path, vec![in alloc; rest]?),
+        },
+    };
+    Ok(ExternToken {
+        span: Span(0, 36),
+        associated_types: Vec::new(alloc),
+        enum_token: Some(EnumToken {
+            type_name: TypeRef::Id(Atom::new(alloc, "Tok")?),
+            type_span: Span(14, 17),
+            conversions: vec![in alloc; conversion]?,
+        }),
+    })
+}
+
+/// The rule of `SMALL`.
+fn small_rule(alloc: Global) -> Result<NonterminalData, NoMemory> {
+    let symbol = Symbol {
+        span: Span(49, 52),
+        kind: SymbolKind::Terminal(literal(alloc, "a")?),
+    };
+    let alternative = Alternative {
+        span: Span(49, 52),
+        expr: ExprSymbol {
+            symbols: vec![in alloc; symbol]?,
+        },
+        condition: None,
+        action: None,
+        attributes: Vec::new(alloc),
+    };
+    Ok(NonterminalData {
+        visibility: Visibility::Pub(None),
+        name: NonterminalString(Atom::new(alloc, "S")?),
+        attributes: Vec::new(alloc),
+        span: Span(41, 46),
+        args: Vec::new(alloc),
+        type_decl: Some(TypeRef::Tuple(Vec::new(alloc))),
+        alternatives: vec![in alloc; alternative]?,
+    })
+}
+
+/// The tree of `SMALL`, with that span.
+fn small_tree(alloc: Global, span: Span) -> Result<Grammar, NoMemory> {
+    let tokens = GrammarItem::ExternToken(small_tokens(alloc)?);
+    let rule = GrammarItem::Nonterminal(small_rule(alloc)?);
+    Ok(Grammar {
+        prefix: String::from_str(alloc, "__")?,
+        span,
+        type_parameters: Vec::new(alloc),
+        parameters: Vec::new(alloc),
+        where_clauses: Vec::new(alloc),
+        items: vec![in alloc; tokens, rule]?,
+        attributes: Vec::new(alloc),
+        module_attributes: Vec::new(alloc),
+    })
+}
+
 #[test]
 fn small_grammar(rt: HostRuntime) -> Result<(), Fail> {
-    match read_tree(rt.alloc(), SMALL) {
+    let alloc = rt.alloc();
+    match read_tree(alloc, SMALL) {
         Ok(grammar) => {
-            assert_eq!(rt; grammar.prefix.as_str(), "__");
-            assert_eq!(rt; grammar.items.len(), 2);
+            assert!(rt; grammar == small_tree(alloc, Span(0, 0))?);
+            assert!(rt; grammar != small_tree(alloc, Span(0, 1))?);
         }
         Err(_) => assert!(rt; false),
     }
     Ok(())
 }
 
+/// What follows the items of a grammar, and the span that is read.
+const SPANS: [(&str, Option<Span>); 18] = [
+    ("\"span\":[1,2]}", Some(Span(1, 2))),
+    (
+        "\"span\" : [ 1 , 18446744073709551615 ] }\n",
+        Some(Span(1, 18446744073709551615)),
+    ),
+    ("\"span\":[1,18446744073709551616]}", None),
+    ("\"span\":[1,2.0]}", None),
+    ("\"span\":[1,2e0]}", None),
+    ("\"span\":[1,-0]}", None),
+    ("\"span\":[1,-1]}", None),
+    ("\"span\":[1]}", None),
+    ("\"span\":[1,2,3]}", None),
+    ("\"span\":[1,2]", None),
+    ("\"span\":null}", None),
+    ("\"spam\":[1,2]}", None),
+    ("\"items\":[]}", None),
+    ("\"span\":[1,2],\"more\":0}", None),
+    ("\"span\":[true],\"span\":[1,2]}", Some(Span(1, 2))),
+    ("\"span\":[1,2],\"span\":[true]}", None),
+    ("\"span\":[1,2],\"sp\\u0061n\":[3,4]}", Some(Span(3, 4))),
+    ("\"span\":[1,2]} x", None),
+];
+
+/// A missing key, a further one, and a repeated one, of which the last value counts.
 #[test]
 fn spans(rt: HostRuntime) -> Result<(), Fail> {
-    let rows = [
-        ("[1,2]}", true),
-        ("[ 1 , 18446744073709551615 ] }", true),
-        ("[1,18446744073709551616]}", false),
-        ("[1,2.0]}", false),
-        ("[1,2e0]}", false),
-        ("[1,-0]}", false),
-        ("[1,-1]}", false),
-        ("[1]}", false),
-        ("[1,2,3]}", false),
-        ("[1,2]", false),
-        ("null}", false),
-        ("[1,2],\"more\":0}", false),
-        ("[true],\"span\":[1,2]}", true),
-        ("[1,2],\"span\":[true]}", false),
-        ("[1,2],\"sp\\u0061n\":[3,4]}", true),
-        ("[1,2]} x", false),
-    ];
-    for (rest, is_tree) in rows {
-        let text = format!(in rt.alloc(); "{BARE}\"items\":[],\"span\":{rest}")?;
+    for (rest, want) in SPANS {
+        let text = format!(in rt.alloc(); "{BARE}\"items\":[],{rest}")?;
         match read_tree(rt.alloc(), text.as_str()) {
-            Ok(_) => assert!(rt; is_tree, "{rest}"),
-            Err(TreeError::NotATree) => assert!(rt; !is_tree, "{rest}"),
+            Ok(grammar) => assert_eq!(rt; Some(grammar.span), want, "{rest}"),
+            Err(TreeError::NotATree) => assert_eq!(rt; None, want, "{rest}"),
             Err(TreeError::Memory) => assert!(rt; false),
         }
     }
     Ok(())
+}
+
+/// Whether a text is a tree; `None` where there was no memory to tell.
+fn is_tree(alloc: Global, text: &str) -> Option<bool> {
+    match read_tree(alloc, text) {
+        Ok(_) => Some(true),
+        Err(TreeError::NotATree) => Some(false),
+        Err(TreeError::Memory) => None,
+    }
+}
+
+#[test]
+fn no_json(rt: HostRuntime) {
+    for text in ["", " ", "{\"prefix\":", "{}", "[]", "null", "\"__\""] {
+        assert_eq!(rt; is_tree(rt.alloc(), text), Some(false), "{text}");
+    }
 }
 
 #[test]
@@ -81,64 +186,92 @@ fn items(rt: HostRuntime) -> Result<(), Fail> {
             false,
         ),
     ];
-    for (items, is_tree) in rows {
+    for (items, want) in rows {
         let text = format!(in rt.alloc(); "{BARE}\"span\":[0,0],\"items\":{items}}}")?;
-        match read_tree(rt.alloc(), text.as_str()) {
-            Ok(_) => assert!(rt; is_tree, "{items}"),
-            Err(TreeError::NotATree) => assert!(rt; !is_tree, "{items}"),
+        assert_eq!(rt; is_tree(rt.alloc(), text.as_str()), Some(want), "{items}");
+    }
+    Ok(())
+}
+
+/// A grammar of one rule with that type.
+fn with_type(alloc: Global, form: &str) -> Result<String, AllocError> {
+    let rule = format!(in alloc;
+        "{{\"visibility\":\"Priv\",\"name\":\"S\",\"attributes\":[],\"span\":[0,1],\"args\":[],\"alternatives\":[],\"type_decl\":{form}}}"
+    )?;
+    format!(in alloc; "{BARE}\"span\":[0,0],\"items\":[{{\"Nonterminal\":{rule}}}]}}")
+}
+
+/// Each variant of a type that is read, with its text, and some that are not.
+const TYPES: [(&str, Option<&str>); 11] = [
+    ("{\"Id\":\"T\"}", Some("T")),
+    ("{\"Lifetime\":\"'a\"}", Some("'a")),
+    (
+        "{\"Slice\":{\"Tuple\":[{\"Id\":\"T\"},{\"Id\":\"U\"}]}}",
+        Some("[(T, U)]"),
+    ),
+    (
+        "{\"Ref\":{\"mutable\":true,\"lifetime\":null,\"referent\":{\"Id\":\"T\"}}}",
+        Some("&mut T"),
+    ),
+    (
+        "{\"Nominal\":{\"path\":{\"absolute\":true,\"ids\":[\"a\",\"B\"]},\"types\":[{\"Lifetime\":\"'a\"}]}}",
+        Some("::a::B<'a>"),
+    ),
+    (
+        "{\"TraitObject\":{\"path\":{\"absolute\":false,\"ids\":[\"B\"]},\"types\":[]}}",
+        Some("dyn B"),
+    ),
+    (
+        "{\"Fn\":{\"forall\":[{\"Lifetime\":\"'a\"},{\"Id\":\"T\"}],\"path\":{\"absolute\":false,\"ids\":[\"F\"]},\"parameters\":[],\"ret\":{\"Id\":\"T\"}}}",
+        Some("dyn for<'a, T> F() -> T"),
+    ),
+    (
+        "{\"Ref\":{\"mutable\":true,\"lifetime\":null,\"referent\":null}}",
+        None,
+    ),
+    ("{\"OfSymbol\":\"Lookahead\"}", None),
+    ("\"Tuple\"", None),
+    ("{\"Id\":\"T\",\"Lifetime\":\"'a\"}", None),
+];
+
+#[test]
+fn types(rt: HostRuntime) -> Result<(), Fail> {
+    let alloc = rt.alloc();
+    for (form, want) in TYPES {
+        let text = with_type(alloc, form)?;
+        match read_tree(alloc, text.as_str()) {
+            Ok(grammar) => match grammar.items.first() {
+                Some(GrammarItem::Nonterminal(rule)) => {
+                    let shown = match &rule.type_decl {
+                        Some(ty) => ty.to_string(alloc)?,
+                        None => String::new(alloc),
+                    };
+                    assert_eq!(rt; Some(shown.as_str()), want, "{form}");
+                }
+                _ => assert!(rt; false, "{form}"),
+            },
+            Err(TreeError::NotATree) => assert_eq!(rt; None, want, "{form}"),
             Err(TreeError::Memory) => assert!(rt; false),
         }
     }
     Ok(())
 }
 
-/// Each variant of a type that is read, as the type of a rule.
+/// Arrays and objects are read 127 deep. The type in these slices is the object at depth 5.
 #[test]
-fn types(rt: HostRuntime) -> Result<(), Fail> {
-    let rows = [
-        ("null", true),
-        ("{\"Id\":\"T\"}", true),
-        ("{\"Lifetime\":\"'a\"}", true),
-        (
-            "{\"Slice\":{\"Tuple\":[{\"Id\":\"T\"},{\"Id\":\"U\"}]}}",
-            true,
-        ),
-        (
-            "{\"Ref\":{\"mutable\":true,\"lifetime\":null,\"referent\":{\"Id\":\"T\"}}}",
-            true,
-        ),
-        (
-            "{\"Nominal\":{\"path\":{\"absolute\":true,\"ids\":[\"a\",\"B\"]},\"types\":[{\"Lifetime\":\"'a\"}]}}",
-            true,
-        ),
-        (
-            "{\"TraitObject\":{\"path\":{\"absolute\":false,\"ids\":[\"B\"]},\"types\":[]}}",
-            true,
-        ),
-        (
-            "{\"Fn\":{\"forall\":[{\"Lifetime\":\"'a\"},{\"Id\":\"T\"}],\"path\":{\"absolute\":false,\"ids\":[\"Fn\"]},\"parameters\":[],\"ret\":{\"Id\":\"T\"}}}",
-            true,
-        ),
-        (
-            "{\"Ref\":{\"mutable\":true,\"lifetime\":null,\"referent\":null}}",
-            false,
-        ),
-        ("{\"OfSymbol\":\"Lookahead\"}", false),
-        ("\"Tuple\"", false),
-        ("{\"Id\":\"T\",\"Lifetime\":\"'a\"}", false),
-    ];
-    for (type_decl, is_tree) in rows {
-        let rule = format!(in rt.alloc();
-            "{{\"visibility\":\"Priv\",\"name\":\"S\",\"attributes\":[],\"span\":[0,1],\"args\":[],\"alternatives\":[],\"type_decl\":{type_decl}}}"
-        )?;
-        let text = format!(in rt.alloc();
-            "{BARE}\"span\":[0,0],\"items\":[{{\"Nonterminal\":{rule}}}]}}"
-        )?;
-        match read_tree(rt.alloc(), text.as_str()) {
-            Ok(_) => assert!(rt; is_tree, "{type_decl}"),
-            Err(TreeError::NotATree) => assert!(rt; !is_tree, "{type_decl}"),
-            Err(TreeError::Memory) => assert!(rt; false),
+fn nesting(rt: HostRuntime) -> Result<(), Fail> {
+    let alloc = rt.alloc();
+    for (slices, want) in [(122, true), (123, false)] {
+        let mut form = String::new(alloc);
+        for _ in 0..slices {
+            form.push_str("{\"Slice\":")?;
         }
+        form.push_str("{\"Id\":\"T\"}")?;
+        for _ in 0..slices {
+            form.push_str("}")?;
+        }
+        let text = with_type(alloc, form.as_str())?;
+        assert_eq!(rt; is_tree(alloc, text.as_str()), Some(want));
     }
     Ok(())
 }

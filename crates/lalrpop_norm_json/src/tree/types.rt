@@ -1,12 +1,14 @@
 //! Written types, and a grammar's parameters and where clauses.
-ghost use Rattle.std.specs.Prelude.{◌≡◌, map, option_map, IfOk, IsErrOf, false};
+ghost use Rattle.std.specs.Prelude.{◌≡◌, [], ◌∷◌, codes, map, option_map, IfOk, IsErrOf, false};
 ghost use Rattle.serde_json.specs.Data.{array};
 ghost use Rattle.serde_json.specs.View.{view};
+ghost use Rattle.lalrpop_norm_tree.specs.Paths.{path_view};
 ghost use Rattle.lalrpop_norm_tree.specs.Types.{type_view, types_view, maybe_of, parameter_view};
 ghost use Rattle.lalrpop_norm_tree.specs.Bounds.{where_clause_view};
 ghost use Rattle.lalrpop_norm_json.specs.Shapes as shape;
-ghost use Rattle.lalrpop_norm_json.specs.Shapes.{is, fits, place, many, maybe};
-ghost use Rattle.lalrpop_norm_json.specs.Json.{list_form};
+ghost use Rattle.lalrpop_norm_json.specs.Shapes.{is, fits, place, one, many, maybe, struct};
+ghost use Rattle.lalrpop_norm_json.specs.Json.{fields, variant, list_form};
+ghost use Rattle.lalrpop_norm_json.specs.Forms.{path_form};
 ghost use Rattle.lalrpop_norm_json.specs.TypeForms.{type_form, types_form, maybe_type_form, parameter_form, where_clause_form};
 
 use super::names::{atom, path};
@@ -14,7 +16,7 @@ use super::parts::{FromValue, list, maybe};
 use crate::json::{
     Case, TreeError, case_of, end, field, items, members_of, nothing, present, truth,
 };
-use lalrpop_norm_tree::grammar::parse_tree::{Lifetime, Parameter, TypeRef, WhereClause};
+use lalrpop_norm_tree::grammar::parse_tree::{Lifetime, Parameter, Path, TypeRef, WhereClause};
 use serde_json::Value;
 use std::alloc::Global;
 
@@ -44,50 +46,76 @@ pub(super) fn type_ref(alloc: Global, value: &Value) -> Result<TypeRef, TreeErro
             "Tuple" => Ok(TypeRef::Tuple(type_refs(alloc, held)?)),
             "Slice" => Ok(TypeRef::Slice(Box::new(alloc, type_ref(alloc, held)?)?)),
             "Nominal" => {
-                let mut members = members_of(held)?;
-                let path = path(alloc, field(&mut members, "path")?)?;
-                let types = type_refs(alloc, field(&mut members, "types")?)?;
-                end(members)?;
+                let (path, types) = path_and_types(alloc, held)?;
                 Ok(TypeRef::Nominal { path, types })
             }
-            "Ref" => {
-                let mut members = members_of(held)?;
-                let lifetime = maybe(alloc, field(&mut members, "lifetime")?)?;
-                let mutable = truth(field(&mut members, "mutable")?)?;
-                let referent = type_ref(alloc, field(&mut members, "referent")?)?;
-                end(members)?;
-                Ok(TypeRef::Ref {
-                    lifetime,
-                    mutable,
-                    referent: Box::new(alloc, referent)?,
-                })
-            }
+            "Ref" => reference_type(alloc, held),
             "TraitObject" => {
-                let mut members = members_of(held)?;
-                let path = path(alloc, field(&mut members, "path")?)?;
-                let types = type_refs(alloc, field(&mut members, "types")?)?;
-                end(members)?;
+                let (path, types) = path_and_types(alloc, held)?;
                 Ok(TypeRef::TraitObject { path, types })
             }
             "Lifetime" => Ok(TypeRef::Lifetime(Lifetime(atom(alloc, held)?))),
             "Id" => Ok(TypeRef::Id(atom(alloc, held)?)),
-            "Fn" => {
-                let mut members = members_of(held)?;
-                let forall = list(alloc, field(&mut members, "forall")?)?;
-                let parameters = type_refs(alloc, field(&mut members, "parameters")?)?;
-                let path = path(alloc, field(&mut members, "path")?)?;
-                let ret = maybe_type_ref(alloc, field(&mut members, "ret")?)?;
-                end(members)?;
-                Ok(TypeRef::Fn {
-                    forall,
-                    path,
-                    parameters,
-                    ret,
-                })
-            }
+            "Fn" => function_type(alloc, held),
             _ => Err(TreeError::NotATree),
         },
     }
+}
+
+/// What a named type and a trait object hold.
+#[cycle(type_ref)]
+#[tactic(auto, using(crate::proofs::Refusals::refusals))]
+fn path_and_types(alloc: Global, value: &Value) -> Result<(Path, Vec<TypeRef>), TreeError>
+    ensures ok { IfOk result (λ p. view value.now ≡
+        fields ((codes "path", path_form (path_view p.0)) ∷ (codes "types", array (types_form (types_view p.1.items))) ∷ [])) }
+    ensures err { IsErrOf result TreeError.NotATree →
+        fits (struct ((codes "path", one shape.path) ∷ (codes "types", many shape.type) ∷ [])) (view value.now) ≡ false }
+{
+    let mut members = members_of(value)?;
+    let path = path(alloc, field(&mut members, "path")?)?;
+    let types = type_refs(alloc, field(&mut members, "types")?)?;
+    end(members)?;
+    Ok((path, types))
+}
+
+/// The reference whose fields these are.
+#[cycle(type_ref)]
+#[tactic(auto, using(crate::proofs::Refusals::refusals))]
+fn reference_type(alloc: Global, value: &Value) -> Result<TypeRef, TreeError>
+    ensures ok { IfOk result (λ t. variant (codes "Ref") (view value.now) ≡ type_form (type_view t)) }
+    ensures err { IsErrOf result TreeError.NotATree → is shape.type (variant (codes "Ref") (view value.now)) ≡ false }
+{
+    let mut members = members_of(value)?;
+    let lifetime = maybe(alloc, field(&mut members, "lifetime")?)?;
+    let mutable = truth(field(&mut members, "mutable")?)?;
+    let referent = type_ref(alloc, field(&mut members, "referent")?)?;
+    end(members)?;
+    Ok(TypeRef::Ref {
+        lifetime,
+        mutable,
+        referent: Box::new(alloc, referent)?,
+    })
+}
+
+/// The function type whose fields these are.
+#[cycle(type_ref)]
+#[tactic(auto, using(crate::proofs::Refusals::refusals))]
+fn function_type(alloc: Global, value: &Value) -> Result<TypeRef, TreeError>
+    ensures ok { IfOk result (λ t. variant (codes "Fn") (view value.now) ≡ type_form (type_view t)) }
+    ensures err { IsErrOf result TreeError.NotATree → is shape.type (variant (codes "Fn") (view value.now)) ≡ false }
+{
+    let mut members = members_of(value)?;
+    let forall = list(alloc, field(&mut members, "forall")?)?;
+    let parameters = type_refs(alloc, field(&mut members, "parameters")?)?;
+    let path = path(alloc, field(&mut members, "path")?)?;
+    let ret = maybe_type_ref(alloc, field(&mut members, "ret")?)?;
+    end(members)?;
+    Ok(TypeRef::Fn {
+        forall,
+        path,
+        parameters,
+        ret,
+    })
 }
 
 /// Null, or a type.

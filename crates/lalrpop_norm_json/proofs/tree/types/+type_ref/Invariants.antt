@@ -11,6 +11,15 @@ decreases-type_ref l = weight (view l.value.now) + weight (view l.value.now)
 abbrev pub decreases-maybe_type_ref : goal.decreases-maybe_type_ref
 decreases-maybe_type_ref l = weight (view l.value.now) + weight (view l.value.now) + 1
 
+abbrev pub decreases-path_and_types : goal.decreases-path_and_types
+decreases-path_and_types l = weight (view l.value.now) + weight (view l.value.now)
+
+abbrev pub decreases-reference_type : goal.decreases-reference_type
+decreases-reference_type l = weight (view l.value.now) + weight (view l.value.now)
+
+abbrev pub decreases-function_type : goal.decreases-function_type
+decreases-function_type l = weight (view l.value.now) + weight (view l.value.now)
+
 abbrev pub decreases-type_refs : goal.decreases-type_refs
 decreases-type_refs l = weight (view l.value.now) + weight (view l.value.now)
 
