@@ -90,9 +90,9 @@ pub enum FaultKind {
     ConditionPattern,
     /// F35: a named or tuple symbol in a group.
     NamedInGroup,
-    /// F36: macros call deeper than the limit.
+    /// F36: something is to be made into a rule in a round past the limit.
     RecursionCap,
-    /// F37: two different symbols have one text.
+    /// F37: two different symbols have one text, or a symbol has the text of a declared name.
     SharedName,
     /// F38: a literal twice in a match block.
     LiteralTwice,
@@ -114,11 +114,11 @@ pub enum FaultKind {
     InputParameter,
     /// F47: no declared type and no alternatives.
     NoAlternatives,
-    /// F48: no declared type, and each alternative has code.
+    /// F48: no declared type, and no alternative is a default one or a lookaround.
     OnlyCoded,
     /// F49: no type follows for a rule.
     NotGrounded,
-    /// F50: an alternative gives another type than its rule has.
+    /// F50: an alternative of a rule without a declared type gives another type than the rule has.
     Disagreement,
     /// F51: a tuple pattern over no nonterminal.
     TupleOverSymbol,
@@ -209,16 +209,20 @@ impl FaultKind {
 /// A fault where it stands.
 #[derive(Debug, Drop)]
 pub struct NormError {
+    /// What is wrong.
     pub fault: FaultKind,
     /// What users are told, without number and place.
     pub message: String,
+    /// Where it stands: byte offsets in the grammar's text, half open.
     pub span: Span,
 }
 
 /// Why a pass gave no answer: a fault of the grammar, or want of memory.
 #[derive(Debug, Drop)]
 pub enum NormFailure {
+    /// The grammar has this fault.
     Refused(NormError),
+    /// There was no memory for the answer, or for the message of a fault.
     Memory,
 }
 

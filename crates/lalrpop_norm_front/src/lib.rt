@@ -4,6 +4,8 @@
 mod faults;
 pub mod norm_util;
 mod session;
+#[cfg(test)]
+mod tests;
 
 pub use faults::{FaultKind, NormError, NormFailure, NormResult, refusal};
 pub use session::Session;

@@ -9,6 +9,7 @@ pub enum Presence {
     None,
     /// Just between braces, as in `{ <> }`.
     InCurlyBrackets,
+    /// Anywhere else.
     Normal,
 }
 
