@@ -1,0 +1,3 @@
+pub mod Conditions
+pub mod Laws
+pub mod Patterns

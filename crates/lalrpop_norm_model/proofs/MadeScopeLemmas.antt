@@ -1,0 +1,214 @@
+-- In what is met, and so in the made rules, each name has a meaning and no argument is left.
+use Rattle.std.proofs.Common.{◌≡◌, inl, inr, List, [], ◌∷◌, ◌++◌, map, Option, Some, None, Bool, true, false, not, ◌||◌, ◌&&◌, refl, sym, ap, ap₂, ◌∙◌, subst}
+use Rattle.std.specs.Prelude.{flat_map, bytes_eq, if◌then◌else◌}
+use Rattle.std.proofs.lemmas.Bool.{and_parts}
+use Rattle.lalrpop_norm_tree.specs.declared.names.Span.{Span}
+use Rattle.lalrpop_norm_tree.specs.declared.names.NonterminalString.{NonterminalString}
+use Rattle.lalrpop_norm_tree.specs.declared.symbol.RepeatOp.{RepeatOp}
+use Rattle.lalrpop_norm_tree.specs.declared.symbol.RepeatOp.TheVariants.{Star, Plus, Question}
+use Rattle.lalrpop_norm_tree.specs.Symbols as written
+use Rattle.lalrpop_norm_tree.specs.Symbols.{Kind, Part, Parts, at, no_parts, part_and}
+use Rattle.lalrpop_norm_tree.specs.Items.{lookahead_code, lookbehind_code, AlternativeData, RuleData}
+use Rattle.lalrpop_norm_theory.specs.Symbols.{Name}
+use Rattle.lalrpop_norm_theory.specs.Rounds.{In}
+use Rattle.lalrpop_norm_theory.specs.Met.{IsExpanded}
+use Rattle.lalrpop_norm_theory.proofs.RoundsLemmas.{in_cases}
+use Rattle.lalrpop_norm_model.specs.Scopes.{is_argument}
+use Rattle.lalrpop_norm_model.specs.Levels.{every, without_levels}
+use Rattle.lalrpop_norm_model.specs.WrittenRules.{WrittenRule, rule_named}
+use Rattle.lalrpop_norm_model.specs.Reading.{read_all}
+use Rattle.lalrpop_norm_model.specs.Grammars.{is_nil, is_true, ConditionValue}
+use Rattle.lalrpop_norm_model.specs.Scoped.{is_rule, takes, is_macro_for, is_scoped_kind, is_scoped, are_scoped, IsScoped}
+use Rattle.lalrpop_norm_model.specs.MadeRules.{kind_of, argument_kind, or_name, kind_put_in, put_in, all_put_in, flat_reader, instance_alternative, instance_alternatives, instance_rule, instance_of, group_rule, star_rule, plus_rule, question_rule, location_rule}
+use Rattle.lalrpop_norm_model.specs.PlainRules.{met, all_met, met_in_rule, met_by_made}
+use Rattle.lalrpop_norm_model.specs.PlainTables.{closed}
+use Rattle.lalrpop_norm_model.proofs.LevelLemmas.{in_map}
+use Rattle.lalrpop_norm_model.proofs.MadeReadLemmas.{flat_of, macros_in, plain_in, called_of, plain_listed}
+
+module _ (rs : List WrittenRule) where
+  -- a symbol without arguments, whose names have a meaning, and of which a rule is made
+  abbrev pub IsMade : Part → Type 0
+  IsMade p = (is_scoped rs [] p ≡ true) × IsExpanded (closed p)
+
+  -- ---- what is met
+
+  then_itself : (x : Part) (ms : List Part) → IsMade x → ((q : Part) → In q ms → IsMade q) → (q : Part) → In q (ms ++ x ∷ []) → IsMade q
+  then_itself x ms h f q i = elim (in_cases q ms (x ∷ []) i) [ inl j ↦ f q j | inr j ↦ here j ]
+    where
+      here : In q (x ∷ []) → IsMade q
+      here (inl e) = subst (λ (y : Part). IsMade y) (sym e) h
+      here (inr e) = absurd e
+
+  repeat_expanded : (s : Span) (op : RepeatOp) (p : Part) → IsExpanded (closed (at s (written.repeated op p)))
+  repeat_expanded s Star p = tt
+  repeat_expanded s Plus p = tt
+  repeat_expanded s Question p = tt
+
+  mutual
+    met_made : (p : Part) → is_scoped rs [] p ≡ true → (q : Part) → In q (met p) → IsMade q
+    met_made (at s (written.group ps)) h q i = then_itself (at s (written.group ps)) (all_met ps) (h, tt) (all_met_made ps h) q i
+    met_made (at s (written.call n ps)) h q i =
+        then_itself (at s (written.call n ps)) (all_met ps) (h, tt)
+        (all_met_made ps (and_parts (is_macro_for ps (rule_named rs n)) (are_scoped rs [] ps) h).1) q i
+    met_made (at s (written.repeated op p)) h q i = then_itself (at s (written.repeated op p)) (met p) (h, repeat_expanded s op p) (met_made p h) q i
+    met_made (at s (written.chosen p)) h q i = met_made p h q i
+    met_made (at s (written.named n p)) h q i = met_made p h q i
+    met_made (at s (written.tupled ns p)) h q i = met_made p h q i
+    met_made (at s written.lookahead) h q i = then_itself (at s written.lookahead) [] (refl, tt) (λ r j. absurd j) q i
+    met_made (at s written.lookbehind) h q i = then_itself (at s written.lookbehind) [] (refl, tt) (λ r j. absurd j) q i
+    met_made (at s (written.ambiguous_id a)) h q i = absurd i
+    met_made (at s (written.terminal t)) h q i = absurd i
+    met_made (at s (written.nonterminal n)) h q i = absurd i
+    met_made (at s written.error_terminal) h q i = absurd i
+
+    all_met_made : (ps : Parts) → are_scoped rs [] ps ≡ true → (q : Part) → In q (all_met ps) → IsMade q
+    all_met_made no_parts h q i = absurd i
+    all_met_made (part_and p ps) h q i =
+        let both = and_parts (is_scoped rs [] p) (are_scoped rs [] ps) h in
+        elim (in_cases q (met p) (all_met ps) i) [
+          | inl j ↦ met_made p both.0 q j
+          | inr j ↦ all_met_made ps both.1 q j
+        ]
+
+  -- alternatives without arguments, whose names have a meaning
+  abbrev pub AreScoped : List AlternativeData → Type 0
+  AreScoped [] = Unit {0}
+  AreScoped (a ∷ xs) = (are_scoped rs [] a.parts ≡ true) × AreScoped xs
+
+  alternatives_made : (xs : List AlternativeData) → AreScoped xs → (q : Part) → In q (flat_map (λ (a : AlternativeData). all_met a.parts) xs) → IsMade q
+  alternatives_made [] h q i = absurd i
+  alternatives_made (a ∷ xs) h q i = elim (in_cases q (all_met a.parts) _ i) [
+    | inl j ↦ all_met_made a.parts h.0 q j
+    | inr j ↦ alternatives_made xs h.1 q j
+  ]
+
+  rules_made : (ds : List RuleData) → ((d : RuleData) → In d ds → AreScoped d.alternatives) → (q : Part) → In q (flat_map met_in_rule ds) → IsMade q
+  rules_made [] h q i = absurd i
+  rules_made (d ∷ ds) h q i = elim (in_cases q (met_in_rule d) _ i) [
+    | inl j ↦ alternatives_made d.alternatives (h d (inl refl)) q j
+    | inr j ↦ rules_made ds (λ e k. h e (inr k)) q j
+  ]
+
+  pub one_rule_made : (d : RuleData) → AreScoped d.alternatives → (q : Part) → In q (flat_map met_in_rule (d ∷ [])) → IsMade q
+  one_rule_made d h q i = elim (in_cases q (met_in_rule d) [] i) [
+    | inl j ↦ alternatives_made d.alternatives h q j
+    | inr j ↦ absurd j
+  ]
+
+  -- ---- arguments put in
+
+  argument_here : (n : Name) (p : Part) (o : Option Kind) (x y : Bool) → is_scoped rs [] p ≡ true →
+      ((y || is_rule (rule_named rs n)) ≡ true → is_scoped_kind rs [] (or_name n o) ≡ true) →
+      ((x || y) || is_rule (rule_named rs n)) ≡ true → is_scoped_kind rs [] (or_name n (if x then Some (kind_of p) else o)) ≡ true
+  argument_here n (at s k) o true y h f i = h
+  argument_here n p o false y h f i = f i
+
+  argument_scoped : (params : List NonterminalString) (args : Parts) (n : Name) → takes params args ≡ true → are_scoped rs [] args ≡ true →
+      (is_argument params n || is_rule (rule_named rs n)) ≡ true → is_scoped_kind rs [] (or_name n (argument_kind params args n)) ≡ true
+  argument_scoped [] no_parts n t h i = i
+  argument_scoped [] (part_and p ps) n t h i = absurd (cc t)
+  argument_scoped (a ∷ params) no_parts n t h i = absurd (cc t)
+  argument_scoped (a ∷ params) (part_and p ps) n t h i =
+      let both = and_parts (is_scoped rs [] p) (are_scoped rs [] ps) h in
+      argument_here n p (argument_kind params ps n) (bytes_eq a.0 n) (is_argument params n) both.0 (argument_scoped params ps n t both.1) i
+
+  takes_put : (params : List NonterminalString) (argument : Name → Option Kind) (ps : Parts) → takes params (all_put_in argument ps) ≡ takes params ps
+  takes_put [] argument no_parts = refl
+  takes_put [] argument (part_and p ps) = refl
+  takes_put (a ∷ params) argument no_parts = refl
+  takes_put (a ∷ params) argument (part_and p ps) = takes_put params argument ps
+
+  macro_put : (argument : Name → Option Kind) (ps : Parts) (o : Option WrittenRule) → is_macro_for (all_put_in argument ps) o ≡ is_macro_for ps o
+  macro_put argument ps None = refl
+  macro_put argument ps (Some r) = ap (λ b. not (is_nil r.args) && b) (takes_put r.args argument ps)
+
+  module _ (params : List NonterminalString) (args : Parts) (fitting : takes params args ≡ true) (scoped : are_scoped rs [] args ≡ true) where
+    mutual
+      kind_put_scoped : (k : Kind) → is_scoped_kind rs params k ≡ true → is_scoped_kind rs [] (kind_put_in (argument_kind params args) k) ≡ true
+      kind_put_scoped (written.nonterminal n) h = argument_scoped params args n fitting scoped h
+      kind_put_scoped (written.ambiguous_id n) h = absurd (cc h)
+      kind_put_scoped (written.terminal t) h = refl
+      kind_put_scoped (written.group ps) h = parts_put_scoped ps h
+      kind_put_scoped (written.call n ps) h =
+          let behind = (and_parts (not (is_argument params n)) (is_macro_for ps (rule_named rs n) && are_scoped rs params ps) h).1 in
+          let both = and_parts (is_macro_for ps (rule_named rs n)) (are_scoped rs params ps) behind in
+          ap₂ ◌&&◌ (macro_put (argument_kind params args) ps (rule_named rs n) ∙ both.0) (parts_put_scoped ps both.1)
+      kind_put_scoped (written.repeated op p) h = part_put_scoped p h
+      kind_put_scoped (written.chosen p) h = part_put_scoped p h
+      kind_put_scoped (written.named n p) h = part_put_scoped p h
+      kind_put_scoped (written.tupled ns p) h = part_put_scoped p h
+      kind_put_scoped written.lookahead h = refl
+      kind_put_scoped written.lookbehind h = refl
+      kind_put_scoped written.error_terminal h = refl
+
+      part_put_scoped : (p : Part) → is_scoped rs params p ≡ true → is_scoped rs [] (put_in (argument_kind params args) p) ≡ true
+      part_put_scoped (at s k) h = kind_put_scoped k h
+
+      pub parts_put_scoped : (ps : Parts) → are_scoped rs params ps ≡ true → are_scoped rs [] (all_put_in (argument_kind params args) ps) ≡ true
+      parts_put_scoped no_parts h = refl
+      parts_put_scoped (part_and p ps) h =
+          let both = and_parts (is_scoped rs params p) (are_scoped rs params ps) h in
+          ap₂ ◌&&◌ (part_put_scoped p both.0) (parts_put_scoped ps both.1)
+
+  instances_scoped : (value : ConditionValue) (s : Span) (d : RuleData) (ps : Parts) → takes d.args ps ≡ true → are_scoped rs [] ps ≡ true →
+      (xs : List AlternativeData) → ((a : AlternativeData) → In a xs → are_scoped rs d.args a.parts ≡ true) → AreScoped (instance_alternatives value s d ps xs)
+  instances_scoped value s d ps t h [] f = tt
+  instances_scoped value s d ps t h (a ∷ xs) f =
+      by (is_true value d.args (read_all flat_reader ps) a.condition) (parts_put_scoped d.args ps t h a.parts (f a (inl refl)))
+      (instances_scoped value s d ps t h xs (λ b i. f b (inr i)))
+    where
+      by : (b : Bool) → are_scoped rs [] (all_put_in (argument_kind d.args ps) a.parts) ≡ true → AreScoped (instance_alternatives value s d ps xs) →
+          AreScoped (if b then instance_alternative s (argument_kind d.args ps) a ∷ instance_alternatives value s d ps xs else instance_alternatives value s d ps xs)
+      by true e r = (e, r)
+      by false e r = r
+
+-- ---- the rules of a grammar
+
+-- an alternative of a rule stands at one of its places
+placed : (a : AlternativeData) (xs : List AlternativeData) → In a xs →
+    In (Some (record { level = 0; side = every; alternative = a })) (without_levels (map Some xs))
+placed a [] h = absurd h
+placed a (x ∷ xs) (inl e) = inl (ap (λ b. Some (record { level = 0; side = every; alternative = b })) e)
+placed a (x ∷ xs) (inr h) = inr (placed a xs h)
+
+no_arguments : (args : List NonterminalString) → is_nil args ≡ true → args ≡ []
+no_arguments [] h = refl
+no_arguments (a ∷ args) h = absurd (cc h)
+
+module _ (value : ConditionValue) (ds : List RuleData) (S : IsScoped (map flat_of ds)) where
+  written_scoped : (d : RuleData) → In d ds → (a : AlternativeData) → In a d.alternatives → are_scoped (map flat_of ds) d.args a.parts ≡ true
+  written_scoped d i a j = S.names (flat_of d) (record { level = 0; side = every; alternative = a }) (in_map flat_of d ds i) (placed a d.alternatives j)
+
+  each_scoped : (xs : List AlternativeData) → ((a : AlternativeData) → In a xs → are_scoped (map flat_of ds) [] a.parts ≡ true) → AreScoped (map flat_of ds) xs
+  each_scoped [] h = tt
+  each_scoped (a ∷ xs) h = (h a (inl refl), each_scoped xs (λ b i. h b (inr i)))
+
+  -- what the rules of the grammar meet
+  pub start_made : (q : Part) → In q (flat_map met_in_rule (plain_in ds)) → IsMade (map flat_of ds) q
+  start_made = rules_made (map flat_of ds) (plain_in ds) (λ d i.
+      let l = plain_listed ds d i in
+      each_scoped d.alternatives (λ a j.
+      subst (λ (args : List NonterminalString). are_scoped (map flat_of ds) args a.parts ≡ true) (no_arguments d.args l.1) (written_scoped d l.0 a j)))
+
+  -- what the rule of a symbol meets
+  pub next_made : (p : Part) → IsMade (map flat_of ds) p → (q : Part) → In q (met_by_made value (macros_in ds) p) → IsMade (map flat_of ds) q
+  next_made (at s (written.group ps)) h q i = one_rule_made (map flat_of ds) (group_rule s ps) (h.0, tt) q i
+  next_made (at s (written.call n ps)) h q i =
+      let both = and_parts (is_macro_for ps (rule_named (map flat_of ds) n)) (are_scoped (map flat_of ds) [] ps) h.0 in
+      let c = called_of ds n ps both.0 in
+      let j : In q (flat_map met_in_rule (instance_of value s (Some c.definition) ps)) =
+      subst (λ (o : Option RuleData). In q (flat_map met_in_rule (instance_of value s o ps))) c.named i in
+      one_rule_made (map flat_of ds) (instance_rule value s c.definition ps)
+      (instances_scoped (map flat_of ds) value s c.definition ps c.fitting both.1 c.definition.alternatives (written_scoped c.definition c.listed)) q j
+  next_made (at s (written.repeated Star p)) h q i = one_rule_made (map flat_of ds) (star_rule s p) (refl, (rw h.0 refl, tt)) q i
+  next_made (at s (written.repeated Plus p)) h q i = one_rule_made (map flat_of ds) (plus_rule s p) (rw h.0 refl, (rw h.0 refl, tt)) q i
+  next_made (at s (written.repeated Question p)) h q i = one_rule_made (map flat_of ds) (question_rule s p) (rw h.0 refl, (refl, tt)) q i
+  next_made (at s written.lookahead) h q i = one_rule_made (map flat_of ds) (location_rule s written.lookahead lookahead_code) (refl, tt) q i
+  next_made (at s written.lookbehind) h q i = one_rule_made (map flat_of ds) (location_rule s written.lookbehind lookbehind_code) (refl, tt) q i
+  next_made (at s (written.ambiguous_id a)) h q i = absurd i
+  next_made (at s (written.terminal t)) h q i = absurd i
+  next_made (at s (written.nonterminal n)) h q i = absurd i
+  next_made (at s (written.chosen p)) h q i = absurd i
+  next_made (at s (written.named n p)) h q i = absurd i
+  next_made (at s (written.tupled ns p)) h q i = absurd i
+  next_made (at s written.error_terminal) h q i = absurd i

@@ -1,0 +1,68 @@
+-- The text of a closed symbol: as it is displayed, with arguments put in and each bounded reference as the name of its level.
+use Rattle.std.specs.Prelude.{ℕ, Bool, List, [], ◌∷◌, ◌++◌, Option, Some, None, codes, decimal, nat_eq, if◌then◌else◌}
+use Rattle.lalrpop_norm_tree.specs.Texts.{escape, joined}
+use Rattle.lalrpop_norm_theory.specs.Symbols.{Name, Terminal, quoted, regex, bare, error_terminal, ArgumentPattern, ArgumentPatterns, name_pattern, tuple_pattern, no_patterns, pattern_and, Wrapper, chosen, named, tuple, ClosedSymbol, ClosedSymbols, terminal, error, reference, call, group, star, plus, question, wrapped, lookahead, lookbehind, no_symbols, symbol_and}
+use Rattle.lalrpop_norm_model.specs.Levels.{highest_level}
+use Rattle.lalrpop_norm_model.specs.WrittenRules.{WrittenRule, rule_named}
+
+abbrev pub terminal_text : Terminal → Name
+terminal_text (quoted a) = codes "\"" ++ escape a ++ codes "\""
+terminal_text (regex a) = codes "r#\"" ++ escape a ++ codes "\"#"
+terminal_text (bare a) = a
+terminal_text error_terminal = codes "error"
+
+abbrev pub name_text : Bool → Name → Name
+name_text mutable n = (if mutable then codes "mut " else []) ++ n
+
+abbrev mutual
+  pub pattern_text : ArgumentPattern → Name
+  pattern_text (name_pattern m n) = name_text m n
+  pattern_text (tuple_pattern ps) = codes "(" ++ joined (codes ", ") (pattern_texts ps) ++ codes ")"
+
+  pub pattern_texts : ArgumentPatterns → List Name
+  pattern_texts no_patterns = []
+  pattern_texts (pattern_and p ps) = pattern_text p ∷ pattern_texts ps
+
+abbrev pub wrapped_text : Wrapper → Name → Name
+wrapped_text chosen t = codes "<" ++ t ++ codes ">"
+wrapped_text (named m n) t = name_text m n ++ codes ":" ++ t
+wrapped_text (tuple ps) t = codes "(" ++ joined (codes ", ") (pattern_texts ps) ++ codes ")" ++ codes ":" ++ t
+
+abbrev mutual
+  pub closed_text : (Name → Option ℕ → Name) → ClosedSymbol → Name
+  closed_text name (terminal a) = terminal_text a
+  closed_text name error = codes "error"
+  closed_text name (reference n b) = name n b
+  closed_text name (call n gs) = n ++ codes "<" ++ joined (codes ", ") (closed_texts name gs) ++ codes ">"
+  closed_text name (group gs) = codes "(" ++ joined (codes " ") (closed_texts name gs) ++ codes ")"
+  closed_text name (star x) = closed_text name x ++ codes "*"
+  closed_text name (plus x) = closed_text name x ++ codes "+"
+  closed_text name (question x) = closed_text name x ++ codes "?"
+  closed_text name (wrapped w g) = wrapped_text w (closed_text name g)
+  closed_text name lookahead = codes "@L"
+  closed_text name lookbehind = codes "@R"
+
+  pub closed_texts : (Name → Option ℕ → Name) → ClosedSymbols → List Name
+  closed_texts name no_symbols = []
+  closed_texts name (symbol_and g gs) = closed_text name g ∷ closed_texts name gs
+
+-- the highest level keeps the rule's name, any other has its number behind it, in decimal
+abbrev pub level_name : Name → ℕ → ℕ → Name
+level_name n highest l = if nat_eq l highest then n else n ++ decimal l
+
+abbrev pub named_level : Option WrittenRule → Name → ℕ → Name
+named_level None n l = n
+named_level (Some r) n l = level_name n (highest_level r.places) l
+
+-- the names of the levels of the rules
+abbrev pub level_names : List WrittenRule → Name → ℕ → Name
+level_names rs n l = named_level (rule_named rs n) n l
+
+-- the name of a reference within a bound
+abbrev pub reference_name : List WrittenRule → Name → Option ℕ → Name
+reference_name rs n None = n
+reference_name rs n (Some b) = level_names rs n b
+
+-- the text of a symbol of a grammar
+abbrev pub text_in : List WrittenRule → ClosedSymbol → Name
+text_in rs g = closed_text (reference_name rs) g

@@ -1,0 +1,62 @@
+-- Where inference refuses: the rules and alternatives at which one of its faults stands, in the order of looking.
+use Rattle.std.specs.Prelude.{◌≡◌, Bool, true, false, not, ◌&&◌, List, [], filter, flat_map, Option, Some, None, is_none}
+use Rattle.lalrpop_norm_tree.specs.Items.{AlternativeData, RuleData, GrammarData}
+use Rattle.lalrpop_norm_tree.specs.Reprs.{ReprData}
+use Rattle.lalrpop_norm_model.specs.Grammars.{is_nil}
+use Rattle.lalrpop_norm_model.specs.PlainRules.{all_rules}
+use Rattle.lalrpop_norm_model.specs.SameTypes.{same_type}
+use Rattle.lalrpop_norm_model.specs.TypeRelation.{Clause, alternative_clause, clauses}
+use Rattle.lalrpop_norm_model.specs.TypeTables.{Table, clause_value}
+use Rattle.lalrpop_norm_model.specs.TypeRounds.{table_of, inferred}
+use Rattle.lalrpop_norm_model.specs.TuplePatterns.{pattern_misfits}
+
+abbrev pub is_undeclared : RuleData → Bool
+is_undeclared r = is_none r.type_decl
+
+-- the rules without a declared type
+abbrev pub undeclared : GrammarData → List RuleData
+undeclared g = filter is_undeclared (all_rules g)
+
+-- the undeclared rules without alternatives
+abbrev pub empty_rules : GrammarData → List RuleData
+empty_rules g = filter (λ r. is_nil r.alternatives) (undeclared g)
+
+-- the undeclared rules with alternatives, none of which is a default or a lookaround one
+abbrev pub coded_rules : GrammarData → List RuleData
+coded_rules g = filter (λ r. not (is_nil r.alternatives) && is_nil (clauses r)) (undeclared g)
+
+-- the table where the rounds end
+abbrev pub inferred_table : GrammarData → Table
+inferred_table g = table_of (inferred g)
+
+-- the rules without a type where the rounds end
+abbrev pub untyped_rules : GrammarData → List RuleData
+untyped_rules g = filter (λ r. is_none (inferred_table g r.name.0)) (all_rules g)
+
+-- a type is given, and it is not the one that stands
+abbrev pub is_other : Option ReprData → Option ReprData → Bool
+is_other None v = false
+is_other (Some x) None = true
+is_other (Some x) (Some y) = not (same_type x y)
+
+abbrev pub clause_disagrees : GrammarData → RuleData → Option Clause → Bool
+clause_disagrees g r None = false
+clause_disagrees g r (Some c) = is_other (clause_value g (inferred_table g) c) (inferred_table g r.name.0)
+
+-- the alternatives of a rule that give another type than the rule has where the rounds end
+abbrev pub disagreeing_in : GrammarData → RuleData → List AlternativeData
+disagreeing_in g r = filter (λ a. clause_disagrees g r (alternative_clause a)) r.alternatives
+
+-- those of the rules without a declared type
+abbrev pub disagreeing : GrammarData → List AlternativeData
+disagreeing g = flat_map (disagreeing_in g) (undeclared g)
+
+-- no fault of inference stands
+pub record HasNoFault (g : GrammarData) : Type 0 where
+  -- each undeclared rule has an alternative, and one that gives a type
+  pub each_has_alternatives : empty_rules g ≡ []
+  pub each_has_clauses : coded_rules g ≡ []
+  pub each_is_typed : untyped_rules g ≡ []
+  pub none_disagrees : disagreeing g ≡ []
+  -- tuple patterns fit the types where the rounds end
+  pub patterns_fit : pattern_misfits g (inferred_table g) ≡ []

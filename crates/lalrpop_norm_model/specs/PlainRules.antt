@@ -1,0 +1,103 @@
+-- The plain rules of a grammar: its rules, then those that are made, round by round, each symbol that is made into a rule
+-- replaced by the nonterminal of its text.
+use Rattle.std.specs.Prelude.{ℕ, Bool, List, [], ◌∷◌, ◌++◌, ◌≡◌, map, flat_map, filter, not, if◌then◌else◌}
+use Rattle.lalrpop_norm_tree.specs.Symbols.{Part, Parts, group, ambiguous_id, terminal, nonterminal, call, repeated, chosen, named, tupled, lookahead, lookbehind, error_terminal, at, no_parts, part_and}
+use Rattle.lalrpop_norm_tree.specs.Items.{AlternativeData, RuleData, ItemData, GrammarData, match_item, extern_item, intern_item, rule_item, use_item}
+use Rattle.lalrpop_norm_theory.specs.Same.{same_symbol}
+use Rattle.lalrpop_norm_theory.specs.Rounds.{Round, rounds, all_rules_made}
+use Rattle.lalrpop_norm_model.specs.Reading.{read_part}
+use Rattle.lalrpop_norm_model.specs.Replaced.{all_replaced}
+use Rattle.lalrpop_norm_model.specs.Grammars.{ConditionValue, is_nil}
+use Rattle.lalrpop_norm_model.specs.MadeRules.{flat_reader, made_rules}
+
+-- ---- rules replaced
+
+abbrev pub replaced_alternative : AlternativeData → AlternativeData
+replaced_alternative a = record a { parts = all_replaced a.parts }
+
+-- a rule with the symbols of its alternatives replaced
+abbrev pub replaced_rule : RuleData → RuleData
+replaced_rule r = record r { alternatives = map replaced_alternative r.alternatives }
+
+-- ---- what is met
+
+-- A call, group or repeat meets what its parts meet, then itself; a wrapped symbol what its inner symbol meets; a lookaround
+-- itself; all else nothing.
+abbrev mutual
+  pub met : Part → List Part
+  met (at s (group ps)) = all_met ps ++ at s (group ps) ∷ []
+  met (at s (call n ps)) = all_met ps ++ at s (call n ps) ∷ []
+  met (at s (repeated op p)) = met p ++ at s (repeated op p) ∷ []
+  met (at s (chosen p)) = met p
+  met (at s (named n p)) = met p
+  met (at s (tupled ns p)) = met p
+  met (at s lookahead) = at s lookahead ∷ []
+  met (at s lookbehind) = at s lookbehind ∷ []
+  met (at s (ambiguous_id a)) = []
+  met (at s (terminal t)) = []
+  met (at s (nonterminal n)) = []
+  met (at s error_terminal) = []
+
+  pub all_met : Parts → List Part
+  all_met no_parts = []
+  all_met (part_and p ps) = met p ++ all_met ps
+
+abbrev pub met_in_rule : RuleData → List Part
+met_in_rule r = flat_map (λ (a : AlternativeData). all_met a.parts) r.alternatives
+
+-- ---- rounds
+
+-- Two symbols are the same where they are equal apart from spans. An identifier counts as the name of a rule: in a grammar
+-- whose names are resolved there is none.
+abbrev pub same_apart_from_spans : Part → Part → Bool
+same_apart_from_spans p q = same_symbol (read_part flat_reader 0 0 p) (read_part flat_reader 0 0 q)
+
+-- what the rule of a symbol meets
+abbrev pub met_by_made : ConditionValue → List RuleData → Part → List Part
+met_by_made value macros p = flat_map met_in_rule (made_rules value macros p)
+
+abbrev pub rule_of_item : ItemData → List RuleData
+rule_of_item (rule_item r) = r ∷ []
+rule_of_item _ = []
+
+abbrev pub all_rules : GrammarData → List RuleData
+all_rules g = flat_map rule_of_item g.items
+
+-- rules without arguments, and macros
+abbrev pub rules_of : GrammarData → List RuleData
+rules_of g = filter (λ r. is_nil r.args) (all_rules g)
+
+abbrev pub macros_of : GrammarData → List RuleData
+macros_of g = filter (λ r. not (is_nil r.args)) (all_rules g)
+
+-- what is new in round k + 1, and what was before: round 1 reads the rules of the grammar, each later one those made before it
+abbrev pub expansion_round : ConditionValue → GrammarData → ℕ → Round Part
+expansion_round value g k = rounds same_apart_from_spans (met_by_made value (macros_of g)) (flat_map met_in_rule (rules_of g)) k
+
+-- the symbols that are made into rules in the first `count` rounds, in the order in which their rules stand
+abbrev pub made_symbols : ConditionValue → GrammarData → ℕ → List Part
+made_symbols value g count = all_rules_made same_apart_from_spans (met_by_made value (macros_of g)) (flat_map met_in_rule (rules_of g)) count
+
+abbrev pub made_in : ConditionValue → GrammarData → ℕ → List RuleData
+made_in value g count = flat_map (made_rules value (macros_of g)) (made_symbols value g count)
+
+-- no round after the first `count` has a new symbol
+abbrev pub IsWhole : ConditionValue → GrammarData → ℕ → Type 0
+IsWhole value g count = (expansion_round value g count).fresh ≡ []
+
+-- ---- the grammar of plain rules
+
+-- a rule without arguments, its symbols replaced; macros are dropped; all else as it is
+abbrev pub plain_item : ItemData → List ItemData
+plain_item (rule_item r) = if is_nil r.args then rule_item (replaced_rule r) ∷ [] else []
+plain_item (match_item m) = match_item m ∷ []
+plain_item (extern_item t) = extern_item t ∷ []
+plain_item (intern_item t) = intern_item t ∷ []
+plain_item (use_item u) = use_item u ∷ []
+
+-- the grammar of plain rules, where the first `count` rounds make all: what is left of its items, then the rules made
+abbrev pub plain_grammar : ConditionValue → GrammarData → ℕ → GrammarData
+plain_grammar value g count = record g { items = flat_map plain_item g.items ++ map (λ r. rule_item (replaced_rule r)) (made_in value g count) }
+
+abbrev pub plain_rules : ConditionValue → GrammarData → ℕ → List RuleData
+plain_rules value g count = map replaced_rule (rules_of g) ++ map replaced_rule (made_in value g count)

@@ -1,0 +1,152 @@
+-- The types that need no inference: of terminals, of locations, of errors and of `!`.
+use Rattle.std.specs.Prelude.{ℕ, false, List, [], ◌∷◌, ◌++◌, map, flat_map, Option, Some, None, option_map, option_and_then, unwrap_or, codes, if◌then◌else◌}
+use Rattle.lalrpop_norm_tree.specs.declared.names.Lifetime.{Lifetime}
+use Rattle.lalrpop_norm_tree.specs.declared.names.TerminalString.{TerminalString}
+use Rattle.lalrpop_norm_tree.specs.declared.names.TerminalString.TheVariants.{Error}
+use Rattle.lalrpop_norm_tree.specs.declared.items.MatchEntry.{MatchEntry}
+use Rattle.lalrpop_norm_tree.specs.Accessors.{first_of, path_of, enum_token_of, extern_token_of, intern_token_of, type_named}
+use Rattle.lalrpop_norm_tree.specs.Items.{AssociatedTypeData, ConversionData, EnumTokenData, ExternTokenData, InternTokenData, GrammarData}
+use Rattle.lalrpop_norm_tree.specs.LoweredTypes.{repr_of}
+use Rattle.lalrpop_norm_tree.specs.Patterns.{PatternKindData, enumerated, structured, path, tuple, tuple_struct, number, underscore, dot_dot, chosen, character, text, PatternData, pattern_at, Patterns, no_patterns, pattern_and, Fields, no_fields, field_and}
+use Rattle.lalrpop_norm_tree.specs.Reprs as lowered
+use Rattle.lalrpop_norm_tree.specs.Reprs.{ReprData, nominal, reference, of_lifetime, no_reprs, repr_and, reprs_of, named_repr}
+use Rattle.lalrpop_norm_model.specs.Entries.{user_names}
+use Rattle.lalrpop_norm_model.specs.Terminals.{same_terminal}
+
+-- ---- types with a name
+
+abbrev pub unit_type : ReprData
+unit_type = lowered.tuple no_reprs
+
+abbrev pub input_lifetime : Lifetime
+input_lifetime = record { 0 = codes "'input" }
+
+abbrev pub str_at : Lifetime → ReprData
+str_at l = reference (Some l) false (named_repr (codes "str"))
+
+-- `&'input str`
+abbrev pub input_str : ReprData
+input_str = str_at input_lifetime
+
+-- `&'static str`
+abbrev pub static_str : ReprData
+static_str = str_at (record { 0 = codes "'static" })
+
+-- `Token<'input>`
+abbrev pub token_of_input : ReprData
+token_of_input = nominal (path_of (codes "Token" ∷ [])) (repr_and (of_lifetime input_lifetime) no_reprs)
+
+-- ---- what a grammar declares
+
+-- the extern enum: the first of any extern block; without one tokens are internal
+abbrev pub extern_enum : GrammarData → Option EnumTokenData
+extern_enum g = first_of enum_token_of g.items
+
+abbrev pub first_extern : GrammarData → Option ExternTokenData
+first_extern g = first_of extern_token_of g.items
+
+-- The type that the first extern block declares under a name. Types that an extern block writes are lowered as they stand.
+abbrev pub declared_under : List ℕ → GrammarData → Option ReprData
+declared_under name g =
+    option_map (λ (t : AssociatedTypeData). repr_of t.type_ref)
+    (option_and_then (λ (t : ExternTokenData). first_of (type_named name) t.associated_types) (first_extern g))
+
+abbrev pub location_with : Option EnumTokenData → GrammarData → Option ReprData
+location_with (Some e) g = declared_under (codes "Location") g
+location_with None g = Some (named_repr (codes "usize"))
+
+-- the type of a location: the one that is declared beside an extern enum, if any; `usize` where tokens are internal
+abbrev pub location_type : GrammarData → Option ReprData
+location_type g = location_with (extern_enum g) g
+
+abbrev pub token_with : Option EnumTokenData → ReprData
+token_with (Some e) = repr_of e.type_name
+token_with None = token_of_input
+
+-- the type of a token: the enum; `Token<'input>` where tokens are internal
+abbrev pub token_type : GrammarData → ReprData
+token_type g = token_with (extern_enum g)
+
+-- the type of the user's errors, `&'static str` where none is declared
+abbrev pub error_type : GrammarData → ReprData
+error_type g = unwrap_or (declared_under (codes "Error") g) static_str
+
+-- the type of `!`: `{prefix}lalrpop_util::ErrorRecovery<L, T, E>`, where L is the unit type if there is no type of a location
+abbrev pub recovery_type : GrammarData → ReprData
+recovery_type g =
+    nominal (path_of ((g.prefix ++ codes "lalrpop_util") ∷ codes "ErrorRecovery" ∷ []))
+    (repr_and (unwrap_or (location_type g) unit_type) (repr_and (token_type g) (repr_and (error_type g) no_reprs)))
+
+-- ---- chosen types of patterns
+
+-- what a pattern chooses, in reading order
+abbrev mutual
+  pub chosen_in_kind : {T : Type 0} → PatternKindData T → List T
+  chosen_in_kind (chosen t) = t ∷ []
+  chosen_in_kind (enumerated p ps) = chosen_in_all ps
+  chosen_in_kind (structured p fs rest) = chosen_in_fields fs
+  chosen_in_kind (tuple ps) = chosen_in_all ps
+  chosen_in_kind (tuple_struct p ps) = chosen_in_all ps
+  chosen_in_kind (path p) = []
+  chosen_in_kind (number n) = []
+  chosen_in_kind underscore = []
+  chosen_in_kind dot_dot = []
+  chosen_in_kind (character a) = []
+  chosen_in_kind (text a) = []
+
+  pub chosen_in : {T : Type 0} → PatternData T → List T
+  chosen_in (pattern_at s k) = chosen_in_kind k
+
+  pub chosen_in_all : {T : Type 0} → Patterns T → List T
+  chosen_in_all no_patterns = []
+  chosen_in_all (pattern_and p ps) = chosen_in p ++ chosen_in_all ps
+
+  pub chosen_in_fields : {T : Type 0} → Fields T → List T
+  chosen_in_fields no_fields = []
+  chosen_in_fields (field_and s n p fs) = chosen_in p ++ chosen_in_fields fs
+
+-- one type bare, several as a tuple; nothing of none
+abbrev pub type_of_chosen : List ReprData → Option ReprData
+type_of_chosen [] = None
+type_of_chosen (t ∷ []) = Some t
+type_of_chosen (t ∷ u ∷ ts) = Some (lowered.tuple (reprs_of (t ∷ u ∷ ts)))
+
+-- ---- terminals
+
+-- a terminal with a type of its own
+abbrev pub Row : Type 0
+Row = TerminalString × ReprData
+
+abbrev pub row_for : TerminalString → Option ReprData → List Row
+row_for t None = []
+row_for t (Some x) = (t, x) ∷ []
+
+-- a conversion that chooses types gives these to its terminal
+abbrev pub conversion_row : ConversionData → List Row
+conversion_row c = row_for c.from (type_of_chosen (map repr_of (chosen_in c.to)))
+
+abbrev pub entries_of : Option InternTokenData → List MatchEntry
+entries_of None = []
+entries_of (Some t) = t.match_entries
+
+-- the entries of the internal tokens
+abbrev pub intern_entries : GrammarData → List MatchEntry
+intern_entries g = entries_of (first_of intern_token_of g.items)
+
+-- with an extern enum the conversions' rows; else `&'input str` for each terminal that an entry names
+abbrev pub rows_with : Option EnumTokenData → GrammarData → List Row
+rows_with (Some e) g = flat_map conversion_row e.conversions
+rows_with None g = map (λ t. (t, input_str)) (user_names (intern_entries g))
+
+-- the terminals with a type of their own: the error terminal, and those of the grammar
+abbrev pub terminal_rows : GrammarData → List Row
+terminal_rows g = (Error, recovery_type g) ∷ rows_with (extern_enum g) g
+
+-- what stands first in the rows for a terminal
+abbrev pub row_of : TerminalString → List Row → Option ReprData
+row_of t [] = None
+row_of t (r ∷ rows) = if same_terminal r.0 t then Some r.1 else row_of t rows
+
+-- the type of a terminal: its own, else that of a token
+abbrev pub terminal_type : GrammarData → TerminalString → ReprData
+terminal_type g t = unwrap_or (row_of t (terminal_rows g)) (token_type g)

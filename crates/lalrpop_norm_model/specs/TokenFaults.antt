@@ -1,0 +1,130 @@
+-- Where the pass on tokens refuses, but for what its lexer refuses: in the order of looking.
+use Rattle.std.specs.Prelude.{Bool, true, false, not, ◌||◌, List, [], ◌∷◌, ◌++◌, flat_map, Option, Some, None, bytes_eq, is_none, codes, if◌then◌else◌}
+use Rattle.std.specs.List.{list_any}
+use Rattle.lalrpop_norm_tree.specs.declared.names.Span.{Span}
+use Rattle.lalrpop_norm_tree.specs.declared.names.TerminalLiteral.{TerminalLiteral}
+use Rattle.lalrpop_norm_tree.specs.declared.names.TerminalString.{TerminalString}
+use Rattle.lalrpop_norm_tree.specs.declared.names.TerminalString.TheVariants.{Literal, Bare, Error}
+use Rattle.lalrpop_norm_tree.specs.declared.names.TypeParameter.{TypeParameter}
+use Rattle.lalrpop_norm_tree.specs.declared.names.TypeParameter.TheVariants as parameter
+use Rattle.lalrpop_norm_tree.specs.declared.items.MatchItem.{MatchItem}
+use Rattle.lalrpop_norm_tree.specs.declared.items.MatchItem.TheVariants.{CatchAll, Unmapped, Mapped}
+use Rattle.lalrpop_norm_tree.specs.Accessors.{match_item_span}
+use Rattle.lalrpop_norm_tree.specs.Items.{AlternativeData, RuleData, ConversionData, EnumTokenData, MatchTokenData, GrammarData}
+use Rattle.lalrpop_norm_tree.specs.Symbols.{Kind, Part, Parts, group, ambiguous_id, terminal, nonterminal, call, repeated, chosen, named, tupled, lookahead, lookbehind, error_terminal, at, no_parts, part_and}
+use Rattle.lalrpop_norm_tree.specs.Types.{ParameterData}
+use Rattle.lalrpop_norm_model.specs.PlainRules.{all_rules}
+use Rattle.lalrpop_norm_model.specs.Terminals.{same_literal, same_terminal}
+use Rattle.lalrpop_norm_model.specs.Entries.{match_block, match_entries, item_entries, catch_all, user_names}
+use Rattle.lalrpop_norm_model.specs.TerminalTypes.{extern_enum}
+
+-- a literal twice in a match block; a terminal twice; a terminal without a mapping, or without a conversion; `'input` or `input`
+-- declared beside internal tokens
+pub data TokenFault : Type 0 where
+  literal_twice : TokenFault
+  terminal_twice : TokenFault
+  no_mapping : TokenFault
+  no_pattern : TokenFault
+  input_lifetime_declared : TokenFault
+  input_parameter_declared : TokenFault
+
+-- a fault where it stands
+abbrev pub Fault : Type 0
+Fault = TokenFault × Span
+
+abbrev pub fault_if : Bool → TokenFault → Span → List Fault
+fault_if b f s = if b then (f, s) ∷ [] else []
+
+-- f of each of a list and of what stands before it, the nearest first
+abbrev pub each_after : {A B : Type 0} → (List A → A → List B) → List A → List A → List B
+each_after f before [] = []
+each_after f before (x ∷ xs) = f before x ++ each_after f (x ∷ before) xs
+
+-- ---- match blocks
+
+abbrev pub literals_of : MatchItem → List TerminalLiteral
+literals_of (Mapped l m s) = l ∷ []
+literals_of (Unmapped l s) = l ∷ []
+literals_of (CatchAll s) = []
+
+-- the terminals that an item names, whatever its precedence
+abbrev pub names_of : MatchItem → List TerminalString
+names_of i = user_names (item_entries 0 i)
+
+-- an item whose literal, or whose terminal, an item before it has
+abbrev pub item_faults : List MatchItem → MatchItem → List Fault
+item_faults before i =
+    fault_if (list_any (λ l. list_any (same_literal l) (flat_map literals_of before)) (literals_of i)) literal_twice (match_item_span i)
+    ++ fault_if (list_any (λ t. list_any (same_terminal t) (flat_map names_of before)) (names_of i)) terminal_twice (match_item_span i)
+
+abbrev pub match_faults : Option MatchTokenData → List Fault
+match_faults None = []
+match_faults (Some m) = each_after item_faults [] (flat_map (λ items. items) m.contents)
+
+-- ---- conversions
+
+-- a conversion whose terminal one before it has
+abbrev pub conversion_faults : List ConversionData → ConversionData → List Fault
+conversion_faults before c = fault_if (list_any (λ (b : ConversionData). same_terminal c.from b.from) before) terminal_twice c.span
+
+-- ---- symbols
+
+-- the terminals in a symbol, each where it stands, under wrappers
+abbrev mutual
+  pub places_in : Part → List (TerminalString × Span)
+  places_in (at s k) = places_in_kind s k
+
+  pub places_in_kind : Span → Kind → List (TerminalString × Span)
+  places_in_kind s (terminal t) = (t, s) ∷ []
+  places_in_kind s (chosen p) = places_in p
+  places_in_kind s (named n p) = places_in p
+  places_in_kind s (tupled ns p) = places_in p
+  places_in_kind s (nonterminal n) = []
+  places_in_kind s error_terminal = []
+  places_in_kind s (group ps) = []
+  places_in_kind s (ambiguous_id a) = []
+  places_in_kind s (call n ps) = []
+  places_in_kind s (repeated op p) = []
+  places_in_kind s lookahead = []
+  places_in_kind s lookbehind = []
+
+abbrev pub places_in_parts : Parts → List (TerminalString × Span)
+places_in_parts no_parts = []
+places_in_parts (part_and p ps) = places_in p ++ places_in_parts ps
+
+-- the terminals that alternatives use, each where it stands
+abbrev pub places_used : GrammarData → List (TerminalString × Span)
+places_used g = flat_map (λ (r : RuleData). flat_map (λ (a : AlternativeData). places_in_parts a.parts) r.alternatives) (all_rules g)
+
+-- whether a terminal has an entry: as a user name, or, where it is a literal, by the catch-all
+abbrev pub has_entry : GrammarData → TerminalString → Bool
+has_entry g (Literal l) = list_any (same_terminal (Literal l)) (user_names (match_entries g)) || not (is_none (catch_all g))
+has_entry g (Bare a) = list_any (same_terminal (Bare a)) (user_names (match_entries g))
+has_entry g Error = true
+
+abbrev pub has_conversion : List ConversionData → TerminalString → Bool
+has_conversion cs t = list_any (λ (c : ConversionData). same_terminal t c.from) cs
+
+-- ---- declarations beside internal tokens
+
+abbrev pub is_input_lifetime : TypeParameter → Bool
+is_input_lifetime (parameter.Lifetime l) = bytes_eq l.0 (codes "'input")
+is_input_lifetime (parameter.Id a) = false
+
+abbrev pub input_faults : GrammarData → List Fault
+input_faults g =
+    fault_if (list_any is_input_lifetime g.type_parameters) input_lifetime_declared g.span
+    ++ fault_if (list_any (λ (p : ParameterData). bytes_eq p.name (codes "input")) g.parameters) input_parameter_declared g.span
+
+-- ---- all of them
+
+abbrev pub token_faults_with : Option EnumTokenData → GrammarData → List Fault
+token_faults_with (Some e) g =
+    each_after conversion_faults [] e.conversions
+    ++ flat_map (λ p. fault_if (not (has_conversion e.conversions p.0)) no_pattern p.1) (places_used g)
+token_faults_with None g =
+    match_faults (match_block g) ++ flat_map (λ p. fault_if (not (has_entry g p.0)) no_mapping p.1) (places_used g) ++ input_faults g
+
+-- with an extern enum its conversions, then the symbols; else the match block, the symbols, the parameters
+abbrev pub token_faults : GrammarData → List Fault
+token_faults g = token_faults_with (extern_enum g) g

@@ -1,0 +1,109 @@
+-- Tuple patterns over symbols, and the types that they fit.
+use Rattle.std.specs.Prelude.{◌≡◌, ℕ, Bool, true, false, ◌&&◌, List, [], ◌∷◌, ◌++◌, map, flat_map, Option, Some, None, if◌then◌else◌}
+use Rattle.lalrpop_norm_tree.specs.Items.{AlternativeData, RuleData, GrammarData}
+use Rattle.lalrpop_norm_tree.specs.Reprs.{ReprData, Reprs, tuple, no_reprs, repr_and}
+use Rattle.lalrpop_norm_tree.specs.Symbols.{ArgumentPattern, ArgumentPatterns, one_name, several, no_arguments, argument_and, Kind, Part, Parts, nonterminal, tupled, at, no_parts, part_and}
+use Rattle.lalrpop_norm_theory.specs.Rounds.{In}
+use Rattle.lalrpop_norm_model.specs.Expanded.{IsAlternative}
+use Rattle.lalrpop_norm_model.specs.MadeRules.{kind_of}
+use Rattle.lalrpop_norm_model.specs.PlainRules.{all_rules}
+use Rattle.lalrpop_norm_model.specs.TypeRelation.{Has, HasOneType}
+use Rattle.lalrpop_norm_model.specs.TypeTables.{Table}
+
+-- a test of what is in a tuple type; any other type fails it
+abbrev pub in_tuple : (Reprs → Bool) → ReprData → Bool
+in_tuple test (tuple ts) = test ts
+in_tuple test _ = false
+
+-- a name fits each type, and a tuple pattern a tuple type of as many types, which its patterns fit in turn
+abbrev mutual
+  pub fits : ArgumentPattern → ReprData → Bool
+  fits (one_name n) x = true
+  fits (several ps) x = in_tuple (fit_all ps) x
+
+  pub fit_all : ArgumentPatterns → Reprs → Bool
+  fit_all no_arguments no_reprs = true
+  fit_all (argument_and p ps) (repr_and x xs) = fits p x && fit_all ps xs
+  fit_all _ _ = false
+
+-- ---- what does not fit
+
+-- what may be wrong with a tuple pattern: no nonterminal below it; no tuple type, for it or for one nested in it; another length
+pub data Misfit : Type 0 where
+  over_symbol : Misfit
+  over_type : Misfit
+  of_length : Misfit
+
+-- as many patterns as types
+abbrev pub as_many : ArgumentPatterns → Reprs → Bool
+as_many no_arguments no_reprs = true
+as_many (argument_and p ps) (repr_and x xs) = as_many ps xs
+as_many _ _ = false
+
+-- what is wrong over a type, where `long` tests the length of a tuple and `each` tells what is wrong in one
+abbrev pub over_tuple : (Reprs → Bool) → (Reprs → List Misfit) → ReprData → List Misfit
+over_tuple long each (tuple ts) = if long ts then each ts else of_length ∷ []
+over_tuple long each _ = over_type ∷ []
+
+-- what is wrong with a pattern over a type, a tuple before what is nested in it
+abbrev mutual
+  pub misfits : ArgumentPattern → ReprData → List Misfit
+  misfits (one_name n) x = []
+  misfits (several ps) x = over_tuple (as_many ps) (misfits_of ps) x
+
+  pub misfits_of : ArgumentPatterns → Reprs → List Misfit
+  misfits_of (argument_and p ps) (repr_and x xs) = misfits p x ++ misfits_of ps xs
+  misfits_of _ _ = []
+
+-- ---- tuple symbols
+
+-- a tuple symbol of an alternative: its patterns, and the symbol that they stand before
+abbrev pub Pattern : Type 0
+Pattern = ArgumentPatterns × Part
+
+abbrev pub tuple_symbols : Parts → List Pattern
+tuple_symbols no_parts = []
+tuple_symbols (part_and (at s (tupled ns p)) ps) = (ns, p) ∷ tuple_symbols ps
+tuple_symbols (part_and (at s k) ps) = tuple_symbols ps
+
+-- a tuple pattern stands before a nonterminal, and fits its type
+pub record PatternFits (g : GrammarData) (p : Pattern) : Type 0 where
+  pub name : List ℕ
+  pub type : ReprData
+  pub nonterminal_below : kind_of p.1 ≡ nonterminal name
+  pub has : Has g name type
+  pub fitting : fits (several p.0) type ≡ true
+
+-- each tuple symbol of an alternative fits
+abbrev pub PatternsFit : GrammarData → Type 0
+PatternsFit g = (a : AlternativeData) → IsAlternative g a → (p : Pattern) → In p (tuple_symbols a.parts) → PatternFits g p
+
+-- what inference asks for: each rule has exactly one type, and the tuple patterns fit
+pub record IsTypable (g : GrammarData) : Type 0 where
+  pub one_type : HasOneType g
+  pub patterns : PatternsFit g
+
+-- ---- what is wrong with tuple symbols by a table
+
+-- patterns over the type of a name; where it has none that is no tuple type
+abbrev pub over_found : ArgumentPatterns → Option ReprData → List Misfit
+over_found ns None = over_type ∷ []
+over_found ns (Some x) = misfits (several ns) x
+
+abbrev pub over_kind : Table → ArgumentPatterns → Kind → List Misfit
+over_kind f ns (nonterminal n) = over_found ns (f n)
+over_kind f ns _ = over_symbol ∷ []
+
+-- what is wrong with a tuple symbol, each at the symbol below it
+abbrev pub symbol_misfits : Table → Pattern → List (Misfit × Part)
+symbol_misfits f p = map (λ m. (m, p.1)) (over_kind f p.0 (kind_of p.1))
+
+abbrev pub alternative_misfits : Table → AlternativeData → List (Misfit × Part)
+alternative_misfits f a = flat_map (symbol_misfits f) (tuple_symbols a.parts)
+
+abbrev pub rule_misfits : Table → RuleData → List (Misfit × Part)
+rule_misfits f r = flat_map (alternative_misfits f) r.alternatives
+
+-- what is wrong with the tuple symbols of a grammar, of rules with a declared type too
+abbrev pub pattern_misfits : GrammarData → Table → List (Misfit × Part)
+pattern_misfits g f = flat_map (rule_misfits f) (all_rules g)

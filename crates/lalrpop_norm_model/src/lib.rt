@@ -1,0 +1,217 @@
+//! Definitions over written grammars that several passes share, and what is proved of them.
+//!
+//! The definitions stand in `specs/`. Each function here is a law: it does nothing, and its contract is a theorem on the
+//! definitions, whose statement stands in `specs/Laws.antt`.
+#![tactic(auto)]
+
+ghost use Rattle.lalrpop_norm_model.specs.Laws.{TextsAreDisplayed, MeaningsHaveLevels, MeaningsAreResolved};
+ghost use Rattle.lalrpop_norm_model.specs.Laws.{LevelsAreListed, PreviousIsBelow, HighestIsGreatest};
+ghost use Rattle.lalrpop_norm_model.specs.Laws.{PlacesAreLeveled, LevelsAreStated, SidesAreStated, LevelsAreHandedOn, DisabledAreNoMatter};
+ghost use Rattle.lalrpop_norm_model.specs.Laws.{ScopedAsWritten, EnabledAreActive, ResolvedOnce};
+ghost use Rattle.lalrpop_norm_model.specs.Laws.{LevelRulesAreRead, BoundsAreBySide, ConditionsDecide};
+ghost use Rattle.lalrpop_norm_model.specs.Laws.{DisabledAreLeftOut, RanksCountEnabled, DisabledOnlyRenumber, ClausesOnlyRenumber, TreesOnlyRenumber};
+ghost use Rattle.lalrpop_norm_model.specs.Laws.{GrammarsAreLeveled, LevelsAreSteps, WrittenTreesAreLowered};
+ghost use Rattle.lalrpop_norm_model.specs.Laws.{ArgumentsArePutIn, MadeRulesAreRead, RulesAreRead, MetIsRead};
+ghost use Rattle.lalrpop_norm_model.specs.Laws.{MadeSymbolsAreScoped, RoundsAreRead};
+ghost use Rattle.lalrpop_norm_model.specs.Laws.{TextsInGrammars, PlainRulesAreRead};
+ghost use Rattle.lalrpop_norm_model.specs.Laws.{PlainGrammarsHoldPlainRules, DistinctNamesMeanOneRule, PlainRulesAreFaithful};
+
+/// The text of a closed symbol without bounds is the text that its written symbol is displayed with.
+pub fn texts_are_displayed()
+    ensures { TextsAreDisplayed }
+{}
+
+/// The meaning of each grammar has what the theory of trees asks of one: an alternative with parts is one of those counted,
+/// and the alternatives within a bound are those of the bound's own level and those within the bound one level down.
+pub fn meanings_have_levels()
+    ensures { MeaningsHaveLevels }
+{}
+
+/// Where each name in the rules has a meaning, the references that they declare lead to declared ones alone: from alternative
+/// to alternative, from level to level, and out of macros called by resolved arguments.
+pub fn meanings_are_resolved()
+    ensures { MeaningsAreResolved }
+{}
+
+/// The levels of a rule are the levels that its alternatives have, each once, rising.
+pub fn levels_are_listed()
+    ensures { LevelsAreListed }
+{}
+
+/// The previous level of a level is the greatest lower one of the rule, where there is one.
+pub fn previous_is_below()
+    ensures { PreviousIsBelow }
+{}
+
+/// The highest level of a rule is one that it has, and none is higher.
+pub fn highest_is_greatest()
+    ensures { HighestIsGreatest }
+{}
+
+/// Each enabled alternative has the level and the side of its place.
+pub fn places_are_leveled()
+    ensures { PlacesAreLeveled }
+{}
+
+/// The level of a place is the one stated last at or before it.
+pub fn levels_are_stated()
+    ensures { LevelsAreStated }
+{}
+
+/// The side of a place is the one stated last at or before it and not before its level; where there is none, every side.
+pub fn sides_are_stated()
+    ensures { SidesAreStated }
+{}
+
+/// The rules that a grammar is read as are scoped where their names are, and one without levels has no two.
+pub fn scoped_as_written()
+    ensures { ScopedAsWritten }
+{}
+
+/// The alternatives of an enabled rule are those whose attributes are active, in order, and its places keep their numbers.
+pub fn enabled_are_active()
+    ensures { EnabledAreActive }
+{}
+
+/// Resolving the names of a resolved grammar changes nothing.
+pub fn resolved_once()
+    ensures { ResolvedOnce }
+{}
+
+/// The rule of a level in the grammar with levels, read without bounds, holds the clauses of the level in the written grammar:
+/// its own alternatives in order, then the step to the level below, with each bounded reference by the name of its level.
+pub fn level_rules_are_read()
+    ensures { LevelRulesAreRead }
+{}
+
+/// Levels and sides are handed on from place to place: each place needs only what the one before it had.
+pub fn levels_are_handed_on()
+    ensures { LevelsAreHandedOn }
+{}
+
+/// Where the alternatives that are not enabled are taken out, the others have the same levels and sides.
+pub fn disabled_are_no_matter()
+    ensures { DisabledAreNoMatter }
+{}
+
+/// The rules that the pass on levels gets are the enabled ones of the written grammar, in order: each with its name, its arguments
+/// and its levels, and of its alternatives those that are enabled, in order.
+pub fn disabled_are_left_out()
+    ensures { DisabledAreLeftOut }
+{}
+
+/// The rank of an alternative is the number of enabled alternatives that are written before it in its rule.
+pub fn ranks_count_enabled()
+    ensures { RanksCountEnabled }
+{}
+
+/// The grammar that the pass on levels gets is the written one but for the numbers of alternatives: the number of each is its rank
+/// among the enabled ones. Its parts, the levels, the declared references and the roots are the same.
+pub fn disabled_only_renumber()
+    ensures { DisabledOnlyRenumber }
+{}
+
+/// In the grammar that the pass on levels gets each symbol has the clauses that it has in the written grammar, in the same order, and
+/// each that is an alternative has its rank for its number.
+pub fn clauses_only_renumber()
+    ensures { ClausesOnlyRenumber }
+{}
+
+/// The written trees of a grammar stand one to one with those of the grammar that the pass on levels gets: the same trees, each
+/// node with the rank of its alternative for its number.
+pub fn trees_only_renumber()
+    ensures { TreesOnlyRenumber }
+{}
+
+/// The references of an alternative to its own rule have the bounds of its side, in the order in which they stand, however deep.
+pub fn bounds_are_by_side()
+    ensures { BoundsAreBySide }
+{}
+
+/// An alternative of a macro is there exactly where its condition is true.
+pub fn conditions_decide()
+    ensures { ConditionsDecide }
+{}
+
+/// The grammar with levels, read without levels, stands to the written one as the theory of trees has it: place by place its rules
+/// hold the clauses of the levels, macros keep their alternatives and their numbers, and each alternative has its origin. It asks
+/// that names be resolved and have a meaning, that no two rules share a name, also with the levels as rules, and that no macro
+/// has two levels.
+pub fn grammars_are_leveled()
+    ensures { GrammarsAreLeveled }
+{}
+
+/// With levels as rules in between, the trees of a grammar within bounds pair with those of a grammar lowered from its levels: each
+/// step is one to one, and the two in a row are the pairing.
+pub fn levels_are_steps()
+    ensures { LevelsAreSteps }
+{
+    lalrpop_norm_theory::levels_are_two_steps();
+}
+
+/// From the written grammar, with the features read and the numbers as written, to a grammar lowered from its levels: the written
+/// trees stand one to one with the derivation trees, with the same words, and with the alternatives by their ranks.
+pub fn written_trees_are_lowered()
+    ensures { WrittenTreesAreLowered }
+{
+    lalrpop_norm_theory::levels_are_two_steps();
+}
+
+/// In a grammar read without levels, a symbol into which the arguments of a macro are put reads as the symbol whose arguments
+/// are bound to what was put in.
+pub fn arguments_are_put_in()
+    ensures { ArgumentsArePutIn }
+{}
+
+/// Exactly one rule is made of each call, group, repeat and lookaround whose names have a meaning: it has the symbol's text as
+/// its name and holds the symbol's clauses, in order.
+pub fn made_rules_are_read()
+    ensures { MadeRulesAreRead }
+{}
+
+/// The rules without arguments are those of the declared references, in order, and hold the clauses of these.
+pub fn rules_are_read()
+    ensures { RulesAreRead }
+{}
+
+/// What is met in written symbols and in rules is, read, what the closed symbols and their clauses meet.
+pub fn met_is_read()
+    ensures { MetIsRead }
+{}
+
+/// Each symbol that is made into a rule is one that a rule is made of, and the names in it have a meaning without arguments.
+pub fn made_symbols_are_scoped()
+    ensures { MadeSymbolsAreScoped }
+{}
+
+/// The rounds of written symbols, which are compared apart from their spans, are, read, the rounds of the closed symbols.
+pub fn rounds_are_read()
+    ensures { RoundsAreRead }
+{}
+
+/// The text of a closed symbol without bounds is, in every grammar, the text that its written symbol is displayed with.
+pub fn texts_in_grammars()
+    ensures { TextsInGrammars }
+{}
+
+/// The plain rules, in their order, are the rules of the declared references and of the symbols made in the rounds, each under
+/// its text: as many alternatives as clauses, each with the clause's symbols.
+pub fn plain_rules_are_read()
+    ensures { PlainRulesAreRead }
+{}
+
+/// The rules of the grammar of plain rules are the plain rules, in their order.
+pub fn plain_grammars_hold_plain_rules()
+    ensures { PlainGrammarsHoldPlainRules }
+{}
+
+/// Where the names of the plain rules are distinct, no two symbols that have rules share a name.
+pub fn distinct_names_mean_one_rule()
+    ensures { DistinctNamesMeanOneRule }
+{}
+
+/// Where a round has nothing new and each name means one rule, the written trees of a grammar whose names are resolved stand one
+/// to one with the derivation trees of its plain rules, with the same words and alternatives, from every declared reference.
+pub fn plain_rules_are_faithful()
+    ensures { PlainRulesAreFaithful }
+{}
