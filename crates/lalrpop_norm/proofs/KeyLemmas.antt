@@ -1,5 +1,5 @@
 -- Keys that are added one after the other, against the list that they come from.
-use Rattle.std.proofs.Common.{◌≡◌, ℕ, Bool, true, false, ◌||◌, List, [], ◌∷◌, refl, sym, ap, ◌∙◌, bytes_eq, nat_cmp, cond}
+use Rattle.std.proofs.Common.{◌≡◌, ℕ, Bool, true, false, ◌||◌, List, [], ◌∷◌, refl, sym, ap, ◌∙◌, bytes_eq, nat_cmp}
 use Rattle.std.proofs.Math.Path.{fun_ext}
 use Rattle.std.specs.declared.cmp.Ordering.{Ordering}
 use Rattle.std.specs.declared.cmp.Ordering.TheVariants.{Less, Equal, Greater}
@@ -14,8 +14,10 @@ use Rattle.lalrpop_norm_tree.specs.declared.names.TerminalLiteral.{TerminalLiter
 use Rattle.lalrpop_norm_tree.specs.declared.names.TerminalLiteral.TheVariants.{Quoted, Regex}
 use Rattle.lalrpop_norm_tree.specs.declared.names.TerminalString.{TerminalString}
 use Rattle.lalrpop_norm_tree.specs.declared.names.TerminalString.TheVariants.{Literal, Bare, Error}
-use Rattle.lalrpop_norm.specs.Grammars.{has_repeated, is_same_literal, is_same_terminal}
-use Rattle.lalrpop_norm.specs.LaterWalks.{has_key, with_keys, repeats, literal_cmp, terminal_cmp}
+use Rattle.lalrpop_norm_late.proofs.KeyLaws.{terminals_exact}
+use Rattle.lalrpop_norm.specs.Grammars.{has_repeated, same_literal, same_terminal}
+use Rattle.lalrpop_norm.specs.LaterWalks.{has_key, with_keys, repeats}
+use Rattle.lalrpop_norm_late.specs.Conversions.{literal_cmp, terminal_cmp}
 
 or_twice : (a b : Bool) → (a || b) ≡ (a || (a || b))
 or_twice true b = refl
@@ -104,13 +106,13 @@ repeated_names ns = repeats_none (slice_cmp nat_cmp) exact_bytes bytes_eq is_eq-
 
 -- ---- terminals
 
-agree_literals : (a b : TerminalLiteral) → is_eq (literal_cmp a b) ≡ is_same_literal a b
+agree_literals : (a b : TerminalLiteral) → is_eq (literal_cmp a b) ≡ same_literal a b
 agree_literals (Quoted a) (Quoted b) = is_eq-slice_cmp a b
 agree_literals (Quoted a) (Regex b) = refl
 agree_literals (Regex a) (Quoted b) = refl
 agree_literals (Regex a) (Regex b) = is_eq-slice_cmp a b
 
-agree_terminals : (a b : TerminalString) → is_eq (terminal_cmp a b) ≡ is_same_terminal a b
+agree_terminals : (a b : TerminalString) → is_eq (terminal_cmp a b) ≡ same_terminal a b
 agree_terminals (Literal a) (Literal b) = agree_literals a b
 agree_terminals (Literal a) (Bare b) = refl
 agree_terminals (Literal a) Error = refl
@@ -121,30 +123,13 @@ agree_terminals Error (Literal b) = refl
 agree_terminals Error (Bare b) = refl
 agree_terminals Error Error = refl
 
-exact_literals : CmpEqualImpliesEq literal_cmp
-exact_literals (Quoted a) (Quoted b) e = ap Quoted (exact_bytes a b e)
-exact_literals (Quoted a) (Regex b) e = cc
-exact_literals (Regex a) (Quoted b) e = cc
-exact_literals (Regex a) (Regex b) e = ap Regex (exact_bytes a b e)
-
-exact_terminals : CmpEqualImpliesEq terminal_cmp
-exact_terminals (Literal a) (Literal b) e = ap Literal (exact_literals a b e)
-exact_terminals (Literal a) (Bare b) e = cc
-exact_terminals (Literal a) Error e = cc
-exact_terminals (Bare a) (Literal b) e = cc
-exact_terminals (Bare a) (Bare b) e = ap Bare (exact_bytes a b e)
-exact_terminals (Bare a) Error e = cc
-exact_terminals Error (Literal b) e = cc
-exact_terminals Error (Bare b) e = cc
-exact_terminals Error Error e = refl
-
-symm_literals : (a b : TerminalLiteral) → is_same_literal a b ≡ is_same_literal b a
+symm_literals : (a b : TerminalLiteral) → same_literal a b ≡ same_literal b a
 symm_literals (Quoted a) (Quoted b) = nat_list_eq_equiv.symm a b
 symm_literals (Quoted a) (Regex b) = refl
 symm_literals (Regex a) (Quoted b) = refl
 symm_literals (Regex a) (Regex b) = nat_list_eq_equiv.symm a b
 
-symm_terminals : (a b : TerminalString) → is_same_terminal a b ≡ is_same_terminal b a
+symm_terminals : (a b : TerminalString) → same_terminal a b ≡ same_terminal b a
 symm_terminals (Literal a) (Literal b) = symm_literals a b
 symm_terminals (Literal a) (Bare b) = refl
 symm_terminals (Literal a) Error = refl
@@ -155,8 +140,8 @@ symm_terminals Error (Literal b) = refl
 symm_terminals Error (Bare b) = refl
 symm_terminals Error Error = refl
 
-pub added_terminals : (ts : List TerminalString) → has_key terminal_cmp (with_keys terminal_cmp [] ts) ≡ (λ t. list_any (is_same_terminal t) ts)
-added_terminals ts = added_keys terminal_cmp exact_terminals is_same_terminal agree_terminals symm_terminals ts
+pub added_terminals : (ts : List TerminalString) → has_key terminal_cmp (with_keys terminal_cmp [] ts) ≡ (λ t. list_any (same_terminal t) ts)
+added_terminals ts = added_keys terminal_cmp terminals_exact same_terminal agree_terminals symm_terminals ts
 
-pub repeated_terminals : (ts : List TerminalString) → repeats terminal_cmp [] ts ≡ has_repeated is_same_terminal ts
-repeated_terminals ts = repeats_none terminal_cmp exact_terminals is_same_terminal agree_terminals symm_terminals ts
+pub repeated_terminals : (ts : List TerminalString) → repeats terminal_cmp [] ts ≡ has_repeated same_terminal ts
+repeated_terminals ts = repeats_none terminal_cmp terminals_exact same_terminal agree_terminals symm_terminals ts

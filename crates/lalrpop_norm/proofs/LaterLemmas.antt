@@ -1,32 +1,32 @@
 -- A grammar that holds no part of a later stage is plain.
-use Rattle.std.proofs.Common.{◌≡◌, ℕ, ◌<◌, ◌+◌, suc, Bool, true, false, not, ◌||◌, ◌&&◌, List, [], ◌∷◌, ◌++◌, length, Option, Some, None, refl, sym, ap, ◌∙◌, arith, bytes_eq, map}
+use Rattle.std.proofs.Common.{◌≡◌, ℕ, suc, Bool, true, false, not, ◌||◌, ◌&&◌, List, [], ◌∷◌, ◌++◌, Option, Some, None, refl, sym, ap, ◌∙◌, arith, bytes_eq}
 use Rattle.std.specs.Prelude.{All, Contains}
 use Rattle.std.specs.List.{flat_map, list_any, AllByRecursion, IsDistinct}
 use Rattle.std.proofs.lemmas.List.Elements.{All-nil, All-cons}
 use Rattle.std.proofs.lemmas.Slice.Eq.{bytes_eq-Decides}
-use Rattle.lalrpop_norm_tree.specs.declared.names.TerminalLiteral.{TerminalLiteral}
-use Rattle.lalrpop_norm_tree.specs.declared.names.TerminalLiteral.TheVariants.{Quoted, Regex}
 use Rattle.lalrpop_norm_tree.specs.declared.names.TerminalString.{TerminalString}
 use Rattle.lalrpop_norm_tree.specs.declared.names.TerminalString.TheVariants.{Literal, Bare, Error}
 use Rattle.lalrpop_norm_tree.specs.Attributes.{Attributes, no_attributes, attribute_and}
 use Rattle.lalrpop_norm_tree.specs.Items.{Action, user_code, fallible_code, lookahead_code, lookbehind_code, AlternativeData, RuleData, ConversionData, EnumTokenData, ExternTokenData, ItemData, match_item, extern_item, intern_item, rule_item, use_item, GrammarData}
-use Rattle.lalrpop_norm_tree.specs.Symbols.{Kind, group, ambiguous_id, terminal, nonterminal, call, repeated, chosen, named, tupled, lookahead, lookbehind, error_terminal, Part, at, Parts, no_parts, part_and}
+use Rattle.lalrpop_norm_tree.specs.Symbols.{Kind, group, ambiguous_id, terminal, nonterminal, call, repeated, chosen, named, tupled, lookahead, lookbehind, error_terminal, at, Parts, no_parts, part_and}
 use Rattle.lalrpop_norm_tree.specs.Types.{TypeData}
 use Rattle.lalrpop_norm_front.specs.Braces.{presence, is_in_braces}
+use Rattle.lalrpop_norm_repr.proofs.TableLemmas.{terminals_same}
 use Rattle.lalrpop_norm.specs.declared.later.LaterPart.{LaterPart}
 use Rattle.lalrpop_norm.specs.declared.later.LaterPart.TheVariants as later
-use Rattle.lalrpop_norm.specs.Grammars.{rules_of, externs_of, names_of, is_public, enum_in, conversions_of, terminals_of, listed, terminal_listed, is_same_literal, is_same_terminal, has_repeated}
-use Rattle.lalrpop_norm.specs.Later.{part_if, part_of_any, part_of_some, part_of_none, attribute_parts, type_parts, terminal_parts, kind_parts, symbol_parts, symbols_parts, has_several_slots, code_parts, action_parts, alternative_parts, declared_parts, rule_parts, pattern_parts, conversion_parts, enum_parts, extern_parts, item_parts, head_parts, second_parts, kind_lacks, symbols_lack, alternative_lacks, rule_lacks, start_parts, rules_parts, has_rule, has_conversion, repeated_parts, together_parts, later_parts}
+use Rattle.lalrpop_norm.specs.Grammars.{rules_of, externs_of, names_of, enum_in, conversions_of, terminals_of, listed, terminal_listed, same_terminal, has_repeated}
+use Rattle.lalrpop_norm.specs.Later.{part_if, part_of_any, part_of_some, part_of_none, attribute_parts, type_parts, terminal_parts, kind_parts, symbols_parts, has_several_slots, action_parts, alternative_parts, declared_parts, rule_parts, pattern_parts, conversion_parts, enum_parts, extern_parts, item_parts, head_parts, second_parts, kind_lacks, symbols_lack, alternative_lacks, rule_lacks, start_parts, has_rule, has_conversion, together_parts, later_parts}
 use Rattle.lalrpop_norm_tree.specs.LoweredTypes.{holds_symbol}
-use Rattle.lalrpop_norm.specs.PlainGrammars.{IsLiteral, IsPlainKind, IsPlainSymbol, ArePlainSymbols, IsPlainAction, IsPlainAlternative, IsDeclared, IsPlainRule, IsPlainConversion, HasOneEnum, IsRuleOrExtern, HasFreeStart, IsPlainGrammar}
+use Rattle.lalrpop_norm_late.specs.Lowerable.{IsDeclared, IsRuleOrExtern}
+use Rattle.lalrpop_norm.specs.PlainGrammars.{IsLiteral, IsPlainKind, ArePlainSymbols, IsPlainAction, IsPlainAlternative, IsPlainRule, IsPlainConversion, HasOneEnum, IsPlainGrammar}
 
 -- ---- empty lists
 
-left_none : {X : Type 0} (xs ys : List X) → xs ++ ys ≡ [] → xs ≡ []
+pub left_none : {X : Type 0} (xs ys : List X) → xs ++ ys ≡ [] → xs ≡ []
 left_none [] ys h = refl
 left_none (x ∷ xs) ys h = cc
 
-right_none : {X : Type 0} (xs ys : List X) → xs ++ ys ≡ [] → ys ≡ []
+pub right_none : {X : Type 0} (xs ys : List X) → xs ++ ys ≡ [] → ys ≡ []
 right_none [] ys h = h
 right_none (x ∷ xs) ys h = cc
 
@@ -228,30 +228,13 @@ found_rule name (r ∷ rest) h = by_test (bytes_eq name r.name.0) refl h (found_
     by_test true same h deeper = (r, (0, omega arith, refl), sym ((bytes_eq-Decides name r.name.0).0 same))
     by_test false same h deeper = let there = deeper h in (there.0, contains_more r there.0 rest there.1, there.2)
 
-same_literal : (a b : TerminalLiteral) → is_same_literal a b ≡ true → a ≡ b
-same_literal (Quoted a) (Quoted b) h = ap Quoted ((bytes_eq-Decides a b).0 h)
-same_literal (Quoted a) (Regex b) h = cc
-same_literal (Regex a) (Quoted b) h = cc
-same_literal (Regex a) (Regex b) h = ap Regex ((bytes_eq-Decides a b).0 h)
-
-same_terminal : (a b : TerminalString) → is_same_terminal a b ≡ true → a ≡ b
-same_terminal (Literal a) (Literal b) h = ap Literal (same_literal a b h)
-same_terminal (Literal a) (Bare b) h = cc
-same_terminal (Literal a) Error h = cc
-same_terminal (Bare a) (Literal b) h = cc
-same_terminal (Bare a) (Bare b) h = ap Bare ((bytes_eq-Decides a b).0 h)
-same_terminal (Bare a) Error h = cc
-same_terminal Error (Literal b) h = cc
-same_terminal Error (Bare b) h = cc
-same_terminal Error Error h = refl
-
 -- a listed terminal is that of a conversion
 pub found_conversion : (t : TerminalString) (cs : List ConversionData) → terminal_listed t (terminals_of cs) ≡ true → (c : ConversionData) × Contains cs c × (c.from ≡ t)
 found_conversion t [] h = cc
-found_conversion t (c ∷ rest) h = by_test (is_same_terminal t c.from) refl h (found_conversion t rest)
+found_conversion t (c ∷ rest) h = by_test (same_terminal t c.from) refl h (found_conversion t rest)
   where
-    by_test : (b : Bool) → is_same_terminal t c.from ≡ b → (b || terminal_listed t (terminals_of rest)) ≡ true → (terminal_listed t (terminals_of rest) ≡ true → (d : ConversionData) × Contains rest d × (d.from ≡ t)) → (d : ConversionData) × Contains (c ∷ rest) d × (d.from ≡ t)
-    by_test true same h deeper = (c, (0, omega arith, refl), sym (same_terminal t c.from same))
+    by_test : (b : Bool) → same_terminal t c.from ≡ b → (b || terminal_listed t (terminals_of rest)) ≡ true → (terminal_listed t (terminals_of rest) ≡ true → (d : ConversionData) × Contains rest d × (d.from ≡ t)) → (d : ConversionData) × Contains (c ∷ rest) d × (d.from ≡ t)
+    by_test true same h deeper = (c, (0, omega arith, refl), sym (terminals_same t c.from same))
     by_test false same h deeper = let there = deeper h in (there.0, contains_more c there.0 rest there.1, there.2)
 
 -- ---- grammars
@@ -268,7 +251,7 @@ plain_grammar g h =
     let second = second_parts (externs_of g.items) in
     let no_enum = part_of_none later.NoExternEnum (enum_in (externs_of g.items)) in
     let names = part_if (has_repeated bytes_eq (names_of (rules_of g.items))) later.RepeatedRule in
-    let terminals = part_if (has_repeated is_same_terminal (terminals_of (conversions_of g.items))) later.RepeatedConversion in
+    let terminals = part_if (has_repeated same_terminal (terminals_of (conversions_of g.items))) later.RepeatedConversion in
     let lacks = flat_map (rule_lacks (has_rule g.items) (has_conversion g.items)) (rules_of g.items) in
     let starts = flat_map (start_parts g.prefix (has_rule g.items)) (rules_of g.items) in
     let externs_right : second ++ no_enum ≡ [] = left_none (second ++ no_enum) ((names ++ terminals) ++ (lacks ++ starts)) together_none in
@@ -296,6 +279,6 @@ plain_grammar g h =
       tokens = one_enum g.items (externs_of g.items) refl (left_none second no_enum externs_right) (right_none second no_enum externs_right) (externs_none g.items items_none);
       rules = λ k d lt. plain_rule (has_rule g.items) (has_conversion g.items) _ (each k d lt) (each_lack k d lt);
       names = distinct_of bytes_eq (names_of (rules_of g.items)) (if_none (has_repeated bytes_eq (names_of (rules_of g.items))) later.RepeatedRule (left_none names terminals repeated_none));
-      terminals = distinct_of is_same_terminal (terminals_of (conversions_of g.items)) (if_none (has_repeated is_same_terminal (terminals_of (conversions_of g.items))) later.RepeatedConversion (right_none names terminals repeated_none));
+      terminals = distinct_of same_terminal (terminals_of (conversions_of g.items)) (if_none (has_repeated same_terminal (terminals_of (conversions_of g.items))) later.RepeatedConversion (right_none names terminals repeated_none));
       starts = λ k d lt. if_both_none _ _ later.StartTaken (each_start k d lt);
     }

@@ -1,5 +1,5 @@
 -- First parts of joined lists.
-use Rattle.std.proofs.Common.{◌≡◌, ◌<◌, ◌+◌, ℕ, Result, Ok, Err, Some, get_or, drop, sym, ap, ◌∙◌, List, [], ◌∷◌, ◌++◌, length, arith, refl, map}
+use Rattle.std.proofs.Common.{◌≡◌, Result, Ok, Err, Some, List, [], ◌∷◌, ◌++◌, map}
 use Rattle.std.specs.Result.{IsErrAnd}
 use Rattle.lalrpop_norm_tree.specs.declared.names.Span.{Span}
 use Rattle.lalrpop_norm_front.specs.declared.faults.FaultKind.TheVariants.{NotYet}

@@ -1,7 +1,6 @@
 -- What a written grammar holds that a later stage of the library brings.
-use Rattle.std.specs.Prelude.{ℕ, Bool, true, false, ◌&&◌, not, List, [], ◌∷◌, ◌++◌, map, Option, Some, None, option_map, is_some, bytes_eq, if◌then◌else◌}
+use Rattle.std.specs.Prelude.{ℕ, Bool, false, ◌&&◌, not, List, [], ◌∷◌, ◌++◌, map, Option, Some, None, option_map, is_some, bytes_eq, if◌then◌else◌}
 use Rattle.std.specs.List.{flat_map}
-use Rattle.lalrpop_norm_tree.specs.declared.items.Condition.{Condition}
 use Rattle.lalrpop_norm_tree.specs.declared.names.TerminalString.{TerminalString}
 use Rattle.lalrpop_norm_tree.specs.declared.names.TerminalString.TheVariants.{Literal, Bare, Error}
 use Rattle.lalrpop_norm_tree.specs.Attributes.{Attributes, no_attributes, attribute_and}
@@ -14,7 +13,7 @@ use Rattle.lalrpop_norm_front.specs.Faults.{Fault}
 use Rattle.lalrpop_norm_front.specs.declared.faults.FaultKind.TheVariants.{NotYet}
 use Rattle.lalrpop_norm.specs.declared.later.LaterPart.{LaterPart}
 use Rattle.lalrpop_norm.specs.declared.later.LaterPart.TheVariants as later
-use Rattle.lalrpop_norm.specs.Grammars.{rules_of, externs_of, names_of, is_public, enum_in, conversions_of, terminals_of, listed, terminal_listed, is_same_terminal, has_repeated}
+use Rattle.lalrpop_norm.specs.Grammars.{rules_of, externs_of, names_of, is_public, enum_in, conversions_of, terminals_of, listed, terminal_listed, same_terminal, has_repeated}
 use Rattle.lalrpop_norm_tree.specs.LoweredTypes.{holds_symbol}
 
 abbrev pub part_if : Bool → LaterPart → List LaterPart
@@ -220,7 +219,7 @@ has_conversion items = names_terminal (conversions_of items)
 abbrev pub repeated_parts : List ItemData → List LaterPart
 repeated_parts items =
     part_if (has_repeated bytes_eq (names_of (rules_of items))) later.RepeatedRule
-    ++ part_if (has_repeated is_same_terminal (terminals_of (conversions_of items))) later.RepeatedConversion
+    ++ part_if (has_repeated same_terminal (terminals_of (conversions_of items))) later.RepeatedConversion
 
 abbrev pub together_parts : List ℕ → List ItemData → List LaterPart
 together_parts prefix items =

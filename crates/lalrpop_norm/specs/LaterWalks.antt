@@ -1,16 +1,13 @@
 -- Answers by the first part that is found, and names in sets by their sorted keys.
-use Rattle.std.specs.Prelude.{◌≡◌, ℕ, Bool, true, false, ◌||◌, List, [], ◌∷◌, Option, Some, None, Result, Ok, Err}
+use Rattle.std.specs.Prelude.{◌≡◌, ℕ, Bool, false, ◌||◌, List, [], ◌∷◌, Option, Some, None, Result, Ok, Err}
 use Rattle.std.specs.Ordering.{nat_cmp}
 use Rattle.std.specs.declared.cmp.Ordering.{Ordering}
-use Rattle.std.specs.declared.cmp.Ordering.TheVariants.{Less, Equal, Greater}
-use Rattle.lalrpop_norm_tree.specs.declared.names.TerminalLiteral.{TerminalLiteral}
-use Rattle.lalrpop_norm_tree.specs.declared.names.TerminalLiteral.TheVariants.{Quoted, Regex}
 use Rattle.lalrpop_norm_tree.specs.declared.names.TerminalString.{TerminalString}
-use Rattle.lalrpop_norm_tree.specs.declared.names.TerminalString.TheVariants.{Literal, Bare, Error}
 use Rattle.std.specs.Cmp.Lexicographic.{slice_cmp}
 use Rattle.std.specs.List.{list_any}
 use Rattle.std.specs.BTreeMap.{is_at}
 use Rattle.std.specs.BTreeSet.{insert_key}
+use Rattle.lalrpop_norm_late.specs.Conversions.{terminal_cmp}
 use Rattle.lalrpop_norm.specs.declared.later.LaterPart.{LaterPart}
 use Rattle.lalrpop_norm.specs.declared.later.lacks.Known.{Known}
 use Rattle.lalrpop_norm.specs.declared.later.Stop.{Stop}
@@ -47,24 +44,6 @@ with_keys cmp keys (k ∷ ks) = with_keys cmp (insert_key cmp keys k) ks
 abbrev pub repeats : {K : Type 0} → (K → K → Ordering) → List K → List K → Bool
 repeats cmp keys [] = false
 repeats cmp keys (k ∷ ks) = has_key cmp keys k || repeats cmp (insert_key cmp keys k) ks
-
-abbrev pub literal_cmp : TerminalLiteral → TerminalLiteral → Ordering
-literal_cmp (Quoted a) (Quoted b) = slice_cmp nat_cmp a b
-literal_cmp (Quoted a) (Regex b) = Less
-literal_cmp (Regex a) (Quoted b) = Greater
-literal_cmp (Regex a) (Regex b) = slice_cmp nat_cmp a b
-
--- the order of terminals: literals, then bare names, then the error terminal
-abbrev pub terminal_cmp : TerminalString → TerminalString → Ordering
-terminal_cmp (Literal a) (Literal b) = literal_cmp a b
-terminal_cmp (Literal a) (Bare b) = Less
-terminal_cmp (Literal a) Error = Less
-terminal_cmp (Bare a) (Literal b) = Greater
-terminal_cmp (Bare a) (Bare b) = slice_cmp nat_cmp a b
-terminal_cmp (Bare a) Error = Less
-terminal_cmp Error (Literal b) = Greater
-terminal_cmp Error (Bare b) = Greater
-terminal_cmp Error Error = Equal
 
 abbrev pub rule_in : Known → List ℕ → Bool
 rule_in known = has_key (slice_cmp nat_cmp) known.rules.keys

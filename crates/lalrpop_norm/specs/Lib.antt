@@ -3,3 +3,5 @@ pub mod Later
 pub mod LaterWalks
 pub mod PlainGrammars
 pub mod Normalize
+pub mod Derivations
+pub mod Faithful

@@ -4,11 +4,11 @@ use Rattle.std.specs.List.{IsDistinct}
 use Rattle.lalrpop_norm_tree.specs.declared.names.TerminalString.{TerminalString}
 use Rattle.lalrpop_norm_tree.specs.declared.names.TerminalString.TheVariants.{Literal, Bare, Error}
 use Rattle.lalrpop_norm_tree.specs.Attributes.{no_attributes}
-use Rattle.lalrpop_norm_tree.specs.Items.{Action, user_code, fallible_code, lookahead_code, lookbehind_code, AlternativeData, RuleData, ConversionData, EnumTokenData, ExternTokenData, ItemData, match_item, extern_item, intern_item, rule_item, use_item, GrammarData}
+use Rattle.lalrpop_norm_tree.specs.Items.{Action, user_code, fallible_code, lookahead_code, lookbehind_code, AlternativeData, RuleData, ConversionData, EnumTokenData, ExternTokenData, ItemData, GrammarData}
 use Rattle.lalrpop_norm_tree.specs.Symbols.{Kind, group, ambiguous_id, terminal, nonterminal, call, repeated, chosen, named, tupled, lookahead, lookbehind, error_terminal, Part, at, Parts, no_parts, part_and}
-use Rattle.lalrpop_norm_tree.specs.Types.{TypeData}
 use Rattle.lalrpop_norm_front.specs.Braces.{presence, is_in_braces}
-use Rattle.lalrpop_norm.specs.Grammars.{rules_of, externs_of, names_of, is_public, conversions_of, terminals_of, is_same_terminal}
+use Rattle.lalrpop_norm_late.specs.Lowerable.{IsDeclared, IsRuleOrExtern}
+use Rattle.lalrpop_norm.specs.Grammars.{rules_of, externs_of, names_of, is_public, conversions_of, terminals_of, same_terminal}
 use Rattle.lalrpop_norm.specs.Later.{has_several_slots, pattern_parts, has_rule, has_conversion}
 use Rattle.lalrpop_norm_tree.specs.LoweredTypes.{holds_symbol}
 
@@ -54,11 +54,6 @@ pub record IsPlainAlternative (names : List ℕ → Bool) (converts : TerminalSt
   pub action : IsPlainAction a.action
   pub attributes : a.attributes ≡ no_attributes
 
--- a declared type that holds no symbol
-abbrev pub IsDeclared : Option TypeData → Type 0
-IsDeclared None = ⊥
-IsDeclared (Some t) = holds_symbol t ≡ false
-
 pub record IsPlainRule (names : List ℕ → Bool) (converts : TerminalString → Bool) (r : RuleData) : Type 0 where
   pub attributes : r.attributes ≡ no_attributes
   pub arguments : r.args ≡ []
@@ -78,13 +73,6 @@ pub record HasOneEnum (items : List ItemData) (block : ExternTokenData) (tokens 
   pub type_name : holds_symbol tokens.type_name ≡ false
   pub conversions : All IsPlainConversion tokens.conversions
 
-abbrev pub IsRuleOrExtern : ItemData → Type 0
-IsRuleOrExtern (match_item m) = ⊥
-IsRuleOrExtern (extern_item t) = Unit {0}
-IsRuleOrExtern (intern_item t) = ⊥
-IsRuleOrExtern (rule_item r) = Unit {0}
-IsRuleOrExtern (use_item s) = ⊥
-
 -- the start name of a public rule is no rule's name
 abbrev pub HasFreeStart : List ℕ → (List ℕ → Bool) → RuleData → Type 0
 HasFreeStart prefix names r = is_public r.visibility ≡ true → names (prefix ++ r.name.0) ≡ false
@@ -99,5 +87,5 @@ pub record IsPlainGrammar (g : GrammarData) : Type 0 where
   pub tokens : (block : ExternTokenData) × (tokens : EnumTokenData) × HasOneEnum g.items block tokens
   pub rules : All (IsPlainRule (has_rule g.items) (has_conversion g.items)) (rules_of g.items)
   pub names : IsDistinct bytes_eq (names_of (rules_of g.items))
-  pub terminals : IsDistinct is_same_terminal (terminals_of (conversions_of g.items))
+  pub terminals : IsDistinct same_terminal (terminals_of (conversions_of g.items))
   pub starts : All (HasFreeStart g.prefix (has_rule g.items)) (rules_of g.items)

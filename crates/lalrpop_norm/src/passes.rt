@@ -3,7 +3,9 @@ ghost use Rattle.std.specs.Prelude.{IfOk};
 ghost use Rattle.lalrpop_norm_front.specs.Faults.{Refuses};
 ghost use Rattle.lalrpop_norm_tree.specs.Items as written;
 ghost use Rattle.lalrpop_norm_repr.specs.Lowered as lowered;
+ghost use Rattle.lalrpop_norm_repr.specs.Closed.{IsClosed};
 ghost use Rattle.lalrpop_norm_late.specs.Plain.{IsLowered};
+ghost use Rattle.lalrpop_norm.specs.Faithful.{IsFaithful, no_lexer, features_of};
 ghost use Rattle.lalrpop_norm.specs.Normalize.{normalize_faults};
 
 use crate::later::refuse_later_parts;
@@ -21,12 +23,14 @@ use std::alloc::Global;
 /// number past the greatest; `Memory`. The session changes nothing yet.
 pub fn normalize<L>(
     alloc: Global,
-    _session: &Session<L>,
+    session: &Session<L>,
     grammar: parse_tree::Grammar,
 ) -> NormResult<repr::Grammar>
     // Ok exactly where no such fault stands, and a refusal names the first one, memory aside.
     ensures refuses { Refuses result (normalize_faults (written.grammar_view grammar)) }
     ensures lowered { IfOk result (λ l. IsLowered (written.grammar_view grammar) (lowered.grammar_view l)) }
+    ensures closed { IfOk result (λ l. IsClosed (lowered.grammar_view l)) }
+    ensures faithful { IfOk result (λ l. IsFaithful no_lexer (features_of session.now) (written.grammar_view grammar) (lowered.grammar_view l)) }
 {
     refuse_later_parts(alloc, &grammar)?;
     lower_plain(alloc, &grammar)

@@ -1,5 +1,5 @@
 -- The parts of a lowered grammar, put together.
-use Rattle.std.proofs.Common.{◌≡◌, ◌++◌, ℕ, List, [], map, length, None, refl}
+use Rattle.std.proofs.Common.{◌≡◌, ◌++◌, ℕ, List, [], length, None, refl}
 use Rattle.lalrpop_norm_tree.specs.declared.names.NonterminalString.{NonterminalString}
 use Rattle.lalrpop_norm_tree.specs.declared.names.TerminalString.{TerminalString}
 use Rattle.lalrpop_norm_tree.specs.Items.{GrammarData, RuleData, ConversionData}
@@ -7,12 +7,12 @@ use Rattle.lalrpop_norm_tree.specs.Patterns.{PatternData}
 use Rattle.lalrpop_norm_tree.specs.Reprs.{ReprData}
 use Rattle.lalrpop_norm_repr.specs.Actions.{ActionData}
 use Rattle.lalrpop_norm_repr.specs.Productions.{EntryData}
-use Rattle.lalrpop_norm_repr.specs.Lowered.{LoweredGrammar, TerminalTable}
+use Rattle.lalrpop_norm_repr.specs.Lowered.{TerminalTable}
 use Rattle.lalrpop_norm_repr.specs.Tables.{TypeTable, new_table}
-use Rattle.lalrpop_norm_late.specs.Conversions.{terminals_of, sorted_terminals, numbered, lowered_conversions}
+use Rattle.lalrpop_norm_late.specs.Conversions.{enum_of, conversions_in, terminals_of, sorted_terminals, numbered, lowered_conversions}
 use Rattle.lalrpop_norm_late.specs.Lowering.{rules_of, public_rules, start_names, start_rows, rule_rows, start_actions, alternative_actions, sorted_onto}
 use Rattle.lalrpop_norm_late.specs.Typing.{declared_rows, start_types, AddsTypes}
-use Rattle.lalrpop_norm_late.specs.Plain.{IsLowered, enum_of, token_type, conversions_in, assembled}
+use Rattle.lalrpop_norm_late.specs.Counted.{IsCounted, token_type, assembled}
 
 pub whole : (g : GrammarData) (prefix text : List ℕ) (rules public : List RuleData) (token : ReprData) (conversions : List ConversionData)
     (actions : List ActionData) (nonterminals : List (NonterminalString × EntryData)) (starts : List (NonterminalString × NonterminalString)) (types new_types : TypeTable)
@@ -28,7 +28,7 @@ pub whole : (g : GrammarData) (prefix text : List ℕ) (rules public : List Rule
     → patterns ≡ sorted_terminals [] (lowered_conversions conversions)
     → AddsTypes (new_table prefix None None token) types (declared_rows rules)
     → AddsTypes types new_types (start_types prefix types public)
-    → IsLowered g (assembled text actions nonterminals starts terminals patterns new_types)
+    → IsCounted g (assembled text actions nonterminals starts terminals patterns new_types)
 whole g prefix text rules public token conversions actions nonterminals starts types new_types terminals patterns p r q t k text_is a n s all bits ps declared added = record {
   types = types;
   lowered = record {

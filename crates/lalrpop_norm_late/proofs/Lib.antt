@@ -1,3 +1,16 @@
 pub mod RowLemmas
 pub mod PatternLemmas
 pub mod Assembly
+pub mod ArgumentLemmas
+pub mod CodeLemmas
+pub mod TableLemmas
+pub mod KeyLaws
+pub mod ClauseLemmas
+pub mod TypingLemmas
+pub mod TokenLemmas
+pub mod ActionLemmas
+pub mod ApartLemmas
+pub mod ShapeLemmas
+pub mod ClosedLemmas
+pub mod ArgumentExamples
+pub mod ShapeExamples

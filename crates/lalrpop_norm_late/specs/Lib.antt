@@ -1,6 +1,11 @@
 pub mod Sources
+pub mod Arguments
 pub mod Code
 pub mod Lowering
 pub mod Typing
 pub mod Conversions
+pub mod Counted
+pub mod Carried
+pub mod Shape
+pub mod Lowerable
 pub mod Plain

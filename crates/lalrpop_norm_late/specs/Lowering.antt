@@ -1,19 +1,19 @@
 -- What plain rules are lowered to: numbered productions, action functions, terminals.
-use Rattle.std.specs.Prelude.{◌≡◌, ℕ, ◌+◌, ◌<◌, Bool, true, false, List, [], ◌∷◌, ◌++◌, length, map, nat_le, Option, Some, None, is_none, unwrap_or, option_map, if◌then◌else◌}
+use Rattle.std.specs.Prelude.{ℕ, ◌+◌, Bool, true, false, List, [], ◌∷◌, ◌++◌, length, map, nat_le, Option, Some, None, unwrap_or, filter_map, if◌then◌else◌}
 use Rattle.std.specs.BTreeMap.{insert_entry}
 use Rattle.std.specs.Ordering.{nat_cmp}
 use Rattle.std.specs.Cmp.Lexicographic.{slice_cmp}
 use Rattle.lalrpop_norm_front.specs.Faults.{Fault, fault_if}
-use Rattle.lalrpop_norm_front.specs.declared.faults.FaultKind.TheVariants.{NotYet, TooManyActions}
+use Rattle.lalrpop_norm_front.specs.declared.faults.FaultKind.TheVariants.{TooManyActions}
 use Rattle.lalrpop_norm_tree.specs.declared.names.NonterminalString.{NonterminalString}
 use Rattle.lalrpop_norm_tree.specs.declared.names.Span.{Span}
 use Rattle.lalrpop_norm_tree.specs.declared.names.TerminalString.TheVariants as terminal_string
+use Rattle.lalrpop_norm_tree.specs.Accessors.{rule_of, is_public}
 use Rattle.lalrpop_norm_tree.specs.Attributes.{no_attributes}
-use Rattle.lalrpop_norm_tree.specs.Items.{Action, user_code, fallible_code, lookahead_code, lookbehind_code, AlternativeData, RuleData, VisibilityData, everywhere, within, private, ItemData, match_item, extern_item, intern_item, rule_item, use_item}
+use Rattle.lalrpop_norm_tree.specs.Items.{Action, fallible_code, lookahead_code, lookbehind_code, AlternativeData, RuleData, ItemData}
 use Rattle.lalrpop_norm_tree.specs.Reprs.{ReprData}
 use Rattle.lalrpop_norm_tree.specs.Symbols.{Kind, group, ambiguous_id, terminal, nonterminal, call, repeated, chosen, named, tupled, lookahead, lookbehind, error_terminal, Part, at, Parts, no_parts, part_and}
 use Rattle.lalrpop_norm_tree.specs.Texts.{kind_text}
-use Rattle.lalrpop_norm_repr.specs.declared.action.ActionFn.{ActionFn}
 use Rattle.lalrpop_norm_repr.specs.declared.action.LookaroundActionFnDefn.TheVariants.{Lookahead, Lookbehind}
 use Rattle.lalrpop_norm_repr.specs.declared.symbol.Symbol.{Symbol}
 use Rattle.lalrpop_norm_repr.specs.declared.symbol.Symbol.TheVariants.{Nonterminal, Terminal}
@@ -27,17 +27,7 @@ use Rattle.lalrpop_norm_late.specs.Sources.{argument_patterns, source_names}
 
 -- the rules of a grammar, in item order
 abbrev pub rules_of : List ItemData → List RuleData
-rules_of [] = []
-rules_of (rule_item r ∷ items) = r ∷ rules_of items
-rules_of (match_item m ∷ items) = rules_of items
-rules_of (extern_item t ∷ items) = rules_of items
-rules_of (intern_item t ∷ items) = rules_of items
-rules_of (use_item u ∷ items) = rules_of items
-
-abbrev pub is_public : VisibilityData → Bool
-is_public (everywhere p) = true
-is_public (within p) = true
-is_public private = false
+rules_of items = filter_map rule_of items
 
 abbrev pub public_rules : List RuleData → List RuleData
 public_rules [] = []

@@ -1,92 +1,36 @@
--- What a plain grammar is lowered to, whole.
-use Rattle.std.specs.Prelude.{◌≡◌, ℕ, Bool, false, List, [], ◌∷◌, ◌++◌, length, map, Option, Some, None, option_map}
+-- What a plain grammar is lowered to, and the faults of lowering.
+use Rattle.std.specs.Prelude.{◌≡◌, List, map, Option, None, option_map, option_and_then, unwrap_or}
 use Rattle.lalrpop_norm_front.specs.Faults.{Fault}
-use Rattle.lalrpop_norm_tree.specs.declared.lowered.Algorithm.{Algorithm}
-use Rattle.lalrpop_norm_tree.specs.declared.lowered.LrCodeGeneration.TheVariants.{TableDriven}
 use Rattle.lalrpop_norm_tree.specs.declared.names.NonterminalString.{NonterminalString}
-use Rattle.lalrpop_norm_tree.specs.Items.{ItemData, match_item, extern_item, intern_item, rule_item, use_item, RuleData, ConversionData, EnumTokenData, GrammarData}
+use Rattle.lalrpop_norm_tree.specs.Accessors.{first_of, enum_token_of}
+use Rattle.lalrpop_norm_tree.specs.Items.{RuleData, GrammarData}
+use Rattle.lalrpop_norm_tree.specs.LoweredTypes.{repr_of}
 use Rattle.lalrpop_norm_tree.specs.Reprs.{ReprData}
-use Rattle.lalrpop_norm_tree.specs.declared.names.TerminalString.{TerminalString}
-use Rattle.lalrpop_norm_tree.specs.Patterns.{PatternData}
-use Rattle.lalrpop_norm_repr.specs.Actions.{ActionData}
-use Rattle.lalrpop_norm_repr.specs.Productions.{EntryData}
-use Rattle.lalrpop_norm_repr.specs.Lowered.{LoweredGrammar, TerminalTable}
+use Rattle.lalrpop_norm_tree.specs.Types.{TypeData}
+use Rattle.lalrpop_norm_repr.specs.Lowered.{LoweredGrammar}
 use Rattle.lalrpop_norm_repr.specs.Tables.{TypeTable, type_of, found, unit_type, new_table}
-use Rattle.lalrpop_norm_late.specs.Conversions.{terminals_of, sorted_terminals, numbered, lowered_conversions}
-use Rattle.lalrpop_norm_late.specs.Lowering.{rules_of, public_rules, start_name, start_names, start_rows, rule_rows, start_actions, alternative_actions, sorted_onto, starts_faults, rules_faults}
-use Rattle.lalrpop_norm_late.specs.Typing.{lowered_type, declared_rows, start_types, or_else, AddsTypes}
+use Rattle.lalrpop_norm_late.specs.Lowering.{rules_of}
+use Rattle.lalrpop_norm_late.specs.Shape.{clauses_of, number_faults_of, IsLoweringOf}
 
--- the enum of the first extern block
-abbrev pub enum_of : List ItemData → Option EnumTokenData
-enum_of [] = None
-enum_of (extern_item t ∷ items) = t.enum_token
-enum_of (match_item m ∷ items) = enum_of items
-enum_of (intern_item t ∷ items) = enum_of items
-enum_of (rule_item r ∷ items) = enum_of items
-enum_of (use_item u ∷ items) = enum_of items
-
-abbrev pub conversions_in : Option EnumTokenData → List ConversionData
-conversions_in None = []
-conversions_in (Some e) = e.conversions
-
-abbrev pub token_type : Option EnumTokenData → ReprData
-token_type None = unit_type
-token_type (Some e) = lowered_type e.type_name
-
--- not LALR, by tables
-abbrev pub default_algorithm : Algorithm
-default_algorithm = record { lalr = false; codegen = TableDriven }
-
--- a lowered grammar of these parts, with nothing else
-abbrev pub assembled : List ℕ → List ActionData → List (NonterminalString × EntryData) → List (NonterminalString × NonterminalString) → TerminalTable → List (TerminalString × PatternData ReprData) → TypeTable → LoweredGrammar
-assembled prefix actions nonterminals starts terminals conversions types = record {
-  prefix = prefix;
-  algorithm = default_algorithm;
-  uses_error_recovery = false;
-  start_nonterminals = starts;
-  uses = [];
-  type_parameters = [];
-  parameters = [];
-  where_clauses = [];
-  intern_token = None;
-  actions = actions;
-  terminals = terminals;
-  nonterminals = nonterminals;
-  conversions = conversions;
-  types = types;
-  module_attributes = [];
-}
-
--- the faults that lowering names: a number past the greatest
+-- the faults that lowering names: a number of an action past the greatest
 abbrev pub plain_faults : GrammarData → List Fault
-plain_faults g =
-    starts_faults 0 (public_rules (rules_of g.items))
-    ++ rules_faults (length (public_rules (rules_of g.items))) (rules_of g.items)
+plain_faults g = number_faults_of (clauses_of g.prefix (rules_of g.items))
 
--- what the plain grammar is lowered to, where `types` is the table of its rules
-pub record IsLoweredOver (g : GrammarData) (types : TypeTable) (l : LoweredGrammar) : Type 0 where
-  -- actions are numbered in the order of the start symbols of public rules, then of the alternatives in item order
-  pub actions : l.actions ≡ start_actions g.prefix types (public_rules (rules_of g.items)) ++ alternative_actions g.prefix types (rules_of g.items)
-  pub nonterminals : l.nonterminals ≡ sorted_onto (sorted_onto [] (start_rows g.prefix 0 (public_rules (rules_of g.items)))) (rule_rows (length (public_rules (rules_of g.items))) (rules_of g.items))
-  pub start_nonterminals : l.start_nonterminals ≡ sorted_onto [] (start_names g.prefix (public_rules (rules_of g.items)))
-  -- terminals are numbered in the order of the conversions
-  pub all_terminals : l.terminals.all ≡ terminals_of (conversions_in (enum_of g.items))
-  pub terminal_numbers : l.terminals.bits ≡ sorted_terminals [] (numbered 0 (terminals_of (conversions_in (enum_of g.items))))
-  pub conversions : l.conversions ≡ sorted_terminals [] (lowered_conversions (conversions_in (enum_of g.items)))
-  -- each rule has its declared type, and each start symbol its rule's
-  pub rule_types : AddsTypes (new_table g.prefix None None (token_type (enum_of g.items))) types (declared_rows (rules_of g.items))
-  pub start_symbol_types : AddsTypes types l.types (start_types g.prefix types (public_rules (rules_of g.items)))
-  pub prefix : l.prefix ≡ g.prefix
-  pub algorithm : l.algorithm ≡ default_algorithm
-  pub uses_error_recovery : l.uses_error_recovery ≡ false
-  pub uses : l.uses ≡ []
-  pub type_parameters : l.type_parameters ≡ []
-  pub parameters : l.parameters ≡ []
-  pub where_clauses : l.where_clauses ≡ []
-  pub intern_token : l.intern_token ≡ None
-  pub module_attributes : l.module_attributes ≡ []
+-- the type of a token: that of the enum
+abbrev pub token_of : GrammarData → ReprData
+token_of g = unwrap_or (option_map (λ e. repr_of e.type_name) (first_of enum_token_of g.items)) unit_type
 
--- what the plain grammar is lowered to
+-- each rule with what it declares
+abbrev pub declarations : List RuleData → List (NonterminalString × Option TypeData)
+declarations rules = map (λ r. (r.name, r.type_decl)) rules
+
+-- the table where each rule has its declared type and nothing else has one
+pub record HasDeclaredTypes (g : GrammarData) (rules : List RuleData) (types : TypeTable) : Type 0 where
+  pub names : (n : NonterminalString) → type_of n types ≡ option_and_then (option_map repr_of) (found n (declarations rules))
+  pub rest : types ≡ record (new_table g.prefix None None (token_of g)) { nonterminals = types.nonterminals }
+
+-- what the plain grammar is lowered to: each rule has its declared type, and over that table the grammar is lowered
 pub record IsLowered (g : GrammarData) (l : LoweredGrammar) : Type 0 where
   pub types : TypeTable
-  pub lowered : IsLoweredOver g types l
+  pub declared : HasDeclaredTypes g (rules_of g.items) types
+  pub lowering : IsLoweringOf g (rules_of g.items) types l

@@ -1,7 +1,6 @@
 -- The sources of an alternative: the symbols whose values its code gets.
-use Rattle.std.specs.Prelude.{ℕ, ◌+◌, Bool, true, false, ◌||◌, List, [], ◌∷◌, ◌++◌, map, if◌then◌else◌, codes, decimal}
-use Rattle.lalrpop_norm_tree.specs.declared.symbol.Name.{Name}
-use Rattle.lalrpop_norm_tree.specs.Symbols.{ArgumentPattern, one_name, Kind, group, ambiguous_id, terminal, nonterminal, call, repeated, chosen, named, tupled, lookahead, lookbehind, error_terminal, Part, at, Parts, no_parts, part_and}
+use Rattle.std.specs.Prelude.{ℕ, ◌+◌, Bool, true, false, ◌||◌, List, [], ◌∷◌, ◌++◌, if◌then◌else◌, codes, decimal}
+use Rattle.lalrpop_norm_tree.specs.Symbols.{ArgumentPattern, one_name, Kind, chosen, Part, at, Parts, no_parts, part_and}
 
 abbrev pub is_chosen_kind : Kind → Bool
 is_chosen_kind (chosen p) = true

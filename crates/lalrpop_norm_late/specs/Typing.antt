@@ -1,6 +1,7 @@
 -- The type table of plain rules.
-use Rattle.std.specs.Prelude.{◌≡◌, ℕ, Bool, List, [], ◌∷◌, Option, Some, None, if◌then◌else◌}
+use Rattle.std.specs.Prelude.{◌≡◌, ℕ, List, [], ◌∷◌, Option, Some, None, if◌then◌else◌}
 use Rattle.lalrpop_norm_tree.specs.declared.names.NonterminalString.{NonterminalString}
+use Rattle.lalrpop_norm_tree.specs.Accessors.{or_else}
 use Rattle.lalrpop_norm_tree.specs.Items.{RuleData}
 use Rattle.lalrpop_norm_tree.specs.LoweredTypes.{holds_symbol, repr_of}
 use Rattle.lalrpop_norm_tree.specs.Reprs.{ReprData}
@@ -25,10 +26,6 @@ declared_rows (r ∷ rs) = (r.name, lowered_declaration r.type_decl) ∷ declare
 abbrev pub start_types : List ℕ → TypeTable → List RuleData → List (NonterminalString × ReprData)
 start_types prefix types [] = []
 start_types prefix types (r ∷ rs) = (start_name prefix r.name, rule_type types r) ∷ start_types prefix types rs
-
-abbrev pub or_else : {V : Type 0} → Option V → Option V → Option V
-or_else None o = o
-or_else (Some v) o = Some v
 
 -- the new table is the old one with the rows added, each where its name had no type yet
 pub record AddsTypes (old new : TypeTable) (rows : List (NonterminalString × ReprData)) : Type 0 where

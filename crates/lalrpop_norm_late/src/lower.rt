@@ -7,9 +7,13 @@ ghost use Rattle.lalrpop_norm_repr.specs.Lowered as lowered;
 ghost use Rattle.lalrpop_norm_tree.specs.Patterns.{pattern_view};
 ghost use Rattle.lalrpop_norm_repr.specs.Actions.{action_defn_view};
 ghost use Rattle.lalrpop_norm_repr.specs.Productions.{nonterminal_data_view};
+ghost use Rattle.lalrpop_norm_repr.specs.Closed.{IsClosed};
 ghost use Rattle.lalrpop_norm_repr.specs.Tables.{type_table, rows};
 ghost use Rattle.lalrpop_norm_late.specs.Lowering.{rules_of, public_rules, starts_faults, rules_faults, start_actions, alternative_actions, start_rows, rule_rows, sorted_onto};
-ghost use Rattle.lalrpop_norm_late.specs.Plain.{plain_faults, IsLowered, token_type, conversions_in, assembled};
+ghost use Rattle.lalrpop_norm_late.specs.Lowerable.{IsLowerable};
+ghost use Rattle.lalrpop_norm_late.specs.Plain.{plain_faults, IsLowered};
+ghost use Rattle.lalrpop_norm_late.specs.Counted.{counted_faults, IsCounted, token_type, assembled};
+ghost use Rattle.lalrpop_norm_late.specs.Conversions.{conversions_in};
 
 use crate::rules::{enum_of, public_rules, rules_of};
 use crate::starts::{lower_rules, lower_starts, start_table};
@@ -32,7 +36,8 @@ use std::collections::BTreeMap;
 /// The only fault is F56, at the alternative or rule whose action would have a number past the greatest.
 pub fn lower_plain(alloc: Global, grammar: &pt::Grammar) -> NormResult<Grammar>
     ensures refuses { Refuses result (plain_faults (written.grammar_view grammar.now)) }
-    ensures lowered { IfOk result (λ l. IsLowered (written.grammar_view grammar.now) (lowered.grammar_view l)) }
+    ensures lowered { IsLowerable (written.grammar_view grammar.now) → IfOk result (λ l. IsLowered (written.grammar_view grammar.now) (lowered.grammar_view l)) }
+    ensures closed { IsLowerable (written.grammar_view grammar.now) → IfOk result (λ l. IsClosed (lowered.grammar_view l)) }
 {
     let rules = rules_of(alloc, &grammar.items)?;
     let public = public_rules(alloc, &rules)?;
@@ -48,8 +53,8 @@ fn lower_over(
 ) -> NormResult<Grammar>
     requires rules { map (λ r. written.rule_view r.now) rules.now ≡ rules_of (written.grammar_view grammar.now).items }
     requires public { map (λ r. written.rule_view r.now) public.now ≡ public_rules (rules_of (written.grammar_view grammar.now).items) }
-    ensures refuses { Refuses result (plain_faults (written.grammar_view grammar.now)) }
-    ensures lowered { IfOk result (λ l. IsLowered (written.grammar_view grammar.now) (lowered.grammar_view l)) }
+    ensures refuses { Refuses result (counted_faults (written.grammar_view grammar.now)) }
+    ensures lowered { IfOk result (λ l. IsCounted (written.grammar_view grammar.now) (lowered.grammar_view l)) }
 {
     let prefix = grammar.prefix.as_str();
     let token = enum_of(&grammar.items);

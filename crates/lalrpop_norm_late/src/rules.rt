@@ -1,8 +1,9 @@
 //! The rules of a grammar, in item order.
 ghost use Rattle.std.specs.Prelude.{◌≡◌, IfOk, map, option_map};
 ghost use Rattle.lalrpop_norm_tree.specs.Items.{rule_view, item_view, visibility_view, enum_token_view};
-ghost use Rattle.lalrpop_norm_late.specs.Lowering.{rules_of, public_rules, is_public};
-ghost use Rattle.lalrpop_norm_late.specs.Plain.{enum_of};
+ghost use Rattle.lalrpop_norm_late.specs.Lowering.{rules_of, public_rules};
+ghost use Rattle.lalrpop_norm_tree.specs.Accessors.{is_public};
+ghost use Rattle.lalrpop_norm_late.specs.Conversions.{enum_of};
 
 use lalrpop_norm_tree::grammar::parse_tree::{
     EnumToken, GrammarItem, NoMemory, NonterminalData, Visibility,

@@ -5,3 +5,4 @@ pub mod Actions
 pub mod Lowered
 pub mod ReprTexts
 pub mod Lookups
+pub mod Closed

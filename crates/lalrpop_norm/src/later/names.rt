@@ -4,7 +4,7 @@ ghost use Rattle.std.specs.BTreeSet.{insert_key};
 ghost use Rattle.std.specs.Ordering.{nat_cmp};
 ghost use Rattle.std.specs.Cmp.Lexicographic.{slice_cmp};
 ghost use Rattle.lalrpop_norm_tree.specs.Items.{item_view, rule_view, extern_token_view, enum_token_view};
-ghost use Rattle.lalrpop_norm.specs.Grammars.{rule_of, extern_of, rules_of, externs_of, names_of, enum_in, has_repeated};
+ghost use Rattle.lalrpop_norm.specs.Grammars.{rule_of, extern_token_of, rules_of, externs_of, names_of, enum_in, has_repeated};
 ghost use Rattle.lalrpop_norm.specs.Later.{part_if, part_of_any, part_of_none, second_parts, has_rule};
 ghost use Rattle.lalrpop_norm.specs.LaterWalks.{Finds, Stops, has_key, with_keys, repeats};
 
@@ -28,7 +28,7 @@ pub(super) fn rule_of(item: &GrammarItem) -> Option<&NonterminalData>
 }
 
 fn extern_of(item: &GrammarItem) -> Option<&ExternToken>
-    ensures { option_map (λ t. extern_token_view t.now) result ≡ extern_of (item_view item.now) }
+    ensures { option_map (λ t. extern_token_view t.now) result ≡ extern_token_of (item_view item.now) }
 {
     match item {
         GrammarItem::ExternToken(block) => Some(block),

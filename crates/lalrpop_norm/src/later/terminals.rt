@@ -2,9 +2,10 @@
 ghost use Rattle.std.specs.Prelude.{◌≡◌, map, OnOk, IfOk};
 ghost use Rattle.std.specs.BTreeSet.{insert_key};
 ghost use Rattle.lalrpop_norm_tree.specs.Items.{conversion_view};
-ghost use Rattle.lalrpop_norm.specs.Grammars.{terminals_of, has_repeated, is_same_terminal};
+ghost use Rattle.lalrpop_norm.specs.Grammars.{terminals_of, has_repeated, same_terminal};
 ghost use Rattle.lalrpop_norm.specs.Later.{part_if, names_terminal};
-ghost use Rattle.lalrpop_norm.specs.LaterWalks.{Stops, has_key, with_keys, repeats, terminal_cmp};
+ghost use Rattle.lalrpop_norm.specs.LaterWalks.{Stops, has_key, with_keys, repeats};
+ghost use Rattle.lalrpop_norm_late.specs.Conversions.{terminal_cmp};
 
 use super::{LaterPart, Stop};
 use lalrpop_norm_tree::grammar::parse_tree::{Conversion, TerminalString};
@@ -44,7 +45,7 @@ pub(super) fn converted_terminals(
     alloc: Global,
     conversions: &[Conversion],
 ) -> Result<BTreeSet<TerminalString>, Stop>
-    ensures finds { Stops result (part_if (has_repeated is_same_terminal (terminals_of (map conversion_view conversions.now))) LaterPart.RepeatedConversion) }
+    ensures finds { Stops result (part_if (has_repeated same_terminal (terminals_of (map conversion_view conversions.now))) LaterPart.RepeatedConversion) }
     ensures has { IfOk result (λ s. has_key terminal_cmp s.keys ≡ names_terminal (map conversion_view conversions.now)) }
 {
     let mut terminals = BTreeSet::new(alloc);

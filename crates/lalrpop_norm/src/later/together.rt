@@ -1,9 +1,10 @@
 //! What the items of a grammar hold together.
 ghost use Rattle.std.specs.Prelude.{◌≡◌, ◌++◌, map, IfOk};
 ghost use Rattle.lalrpop_norm_tree.specs.Items.{item_view};
-ghost use Rattle.lalrpop_norm.specs.Grammars.{externs_of, enum_in, conversions_of, terminals_of, has_repeated, is_same_terminal};
+ghost use Rattle.lalrpop_norm.specs.Grammars.{externs_of, enum_in, conversions_of, terminals_of, has_repeated, same_terminal};
 ghost use Rattle.lalrpop_norm.specs.Later.{part_if, part_of_none, second_parts, repeated_parts, together_parts, has_rule, has_conversion};
-ghost use Rattle.lalrpop_norm.specs.LaterWalks.{Finds, Stops, rule_in, conversion_in, has_key, terminal_cmp};
+ghost use Rattle.lalrpop_norm.specs.LaterWalks.{Finds, Stops, rule_in, conversion_in, has_key};
+ghost use Rattle.lalrpop_norm_late.specs.Conversions.{terminal_cmp};
 
 use super::lacks::{Known, find_among_rules};
 use super::names::{find_no_enum, find_second_extern, first_enum, rule_names};
@@ -22,7 +23,7 @@ fn find_wrong_extern(items: &[GrammarItem]) -> Result<(), LaterPart>
 
 /// The terminals that have a conversion, where none has two.
 fn known_terminals(alloc: Global, items: &[GrammarItem]) -> Result<BTreeSet<TerminalString>, Stop>
-    ensures finds { Stops result (part_if (has_repeated is_same_terminal (terminals_of (conversions_of (map item_view items.now)))) LaterPart.RepeatedConversion) }
+    ensures finds { Stops result (part_if (has_repeated same_terminal (terminals_of (conversions_of (map item_view items.now)))) LaterPart.RepeatedConversion) }
     ensures has { IfOk result (λ s. has_key terminal_cmp s.keys ≡ has_conversion (map item_view items.now)) }
 {
     match first_enum(items) {

@@ -1,6 +1,6 @@
 use Rattle.std.proofs.Common.{◌≡◌, ◌++◌, length, drop, map}
 use Rattle.lalrpop_norm_tree.specs.Symbols.{parts_view, argument_pattern_view}
-use Rattle.lalrpop_norm_late.specs.Sources.{has_chosen, names_from, source_names, patterns_from, argument_patterns}
+use Rattle.lalrpop_norm_late.specs.Sources.{names_from, source_names, patterns_from, argument_patterns}
 use Rattle.lalrpop_norm_late.proofs.arguments.arguments_of.Given as goal
 
 abbrev pub invariant-loop-symbol : goal.invariant-loop-symbol

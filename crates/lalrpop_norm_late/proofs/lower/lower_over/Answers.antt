@@ -1,18 +1,17 @@
-use Rattle.std.proofs.Common.{◌≡◌, ◌++◌, ℕ, List, map, length, None, string_bytes, option_map, subst, sym, ap, ◌∙◌, refl}
-use Rattle.lalrpop_norm_tree.specs.Items.{grammar_view, item_view, rule_view, conversion_view, enum_token_view}
+use Rattle.std.proofs.Common.{◌≡◌, map, option_map, subst, sym, ap, ◌∙◌}
+use Rattle.lalrpop_norm_tree.specs.Items.{grammar_view, item_view, conversion_view, enum_token_view}
 use Rattle.lalrpop_norm_tree.specs.Reprs.{repr_view}
 use Rattle.lalrpop_norm_repr.specs.Lowered.{LoweredGrammar}
-use Rattle.lalrpop_norm_repr.specs.Tables.{type_table, TypeTable, new_table}
-use Rattle.lalrpop_norm_late.specs.Lowering.{rules_of, public_rules}
-use Rattle.lalrpop_norm_late.specs.Typing.{AddsTypes, declared_rows, start_types}
-use Rattle.lalrpop_norm_late.specs.Plain.{IsLowered, enum_of, token_type, conversions_in}
+use Rattle.lalrpop_norm_repr.specs.Tables.{type_table}
+use Rattle.lalrpop_norm_late.specs.Counted.{IsCounted, token_type}
+use Rattle.lalrpop_norm_late.specs.Conversions.{enum_of, conversions_in}
 use Rattle.lalrpop_norm_late.proofs.Assembly.{whole}
 use Rattle.lalrpop_norm_late.proofs.lower.lower_over.Goals as goal
 
 pub returns-clause-lowered : goal.returns-clause-lowered
 returns-clause-lowered c =
     let g = grammar_view c.args.grammar.now in
-    let P : LoweredGrammar → Type 0 = λ l. IsLowered g l in
+    let P : LoweredGrammar → Type 0 = λ l. IsCounted g l in
     let prefix : c.as_str-prefix.result.now ≡ g.prefix = c.as_str-prefix.ensures.value in
     let items : map item_view c.deref.result.now ≡ g.items = ap (map item_view) c.deref.ensures.value in
     let token : option_map (λ e. enum_token_view e.now) c.enum_of-token.result ≡ enum_of g.items = c.enum_of-token.ensures ∙ ap enum_of items in

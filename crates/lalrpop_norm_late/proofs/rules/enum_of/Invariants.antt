@@ -1,6 +1,6 @@
 use Rattle.std.proofs.Common.{◌≡◌, drop, map}
 use Rattle.lalrpop_norm_tree.specs.Items.{item_view}
-use Rattle.lalrpop_norm_late.specs.Plain.{enum_of}
+use Rattle.lalrpop_norm_late.specs.Conversions.{enum_of}
 use Rattle.lalrpop_norm_late.proofs.rules.enum_of.Given as goal
 
 abbrev pub invariant-loop-item : goal.invariant-loop-item

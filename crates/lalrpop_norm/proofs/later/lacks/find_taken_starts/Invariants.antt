@@ -3,7 +3,7 @@ use Rattle.std.specs.List.{flat_map}
 use Rattle.lalrpop_norm_tree.specs.Items.{item_view}
 use Rattle.lalrpop_norm.specs.Grammars.{rules_of}
 use Rattle.lalrpop_norm.specs.Later.{start_parts}
-use Rattle.lalrpop_norm.specs.LaterWalks.{rule_in, conversion_in}
+use Rattle.lalrpop_norm.specs.LaterWalks.{rule_in}
 use Rattle.lalrpop_norm.proofs.later.lacks.find_taken_starts.Given as goal
 
 abbrev pub invariant-loop-item : goal.invariant-loop-item

@@ -1,6 +1,6 @@
 use Rattle.std.proofs.Common.{◌≡◌, drop, map}
 use Rattle.lalrpop_norm_tree.specs.Items.{item_view}
-use Rattle.lalrpop_norm.specs.Grammars.{externs_of, enum_in}
+use Rattle.lalrpop_norm.specs.Grammars.{externs_of}
 use Rattle.lalrpop_norm.specs.declared.later.LaterPart.TheVariants.{SecondExtern}
 use Rattle.lalrpop_norm.specs.Later.{part_of_any}
 use Rattle.lalrpop_norm.proofs.later.names.find_extern.Given as goal

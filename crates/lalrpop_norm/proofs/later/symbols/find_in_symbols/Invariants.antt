@@ -1,4 +1,4 @@
-use Rattle.std.proofs.Common.{◌≡◌, drop, map, option_map}
+use Rattle.std.proofs.Common.{◌≡◌, drop}
 use Rattle.lalrpop_norm_tree.specs.Symbols.{parts_view}
 use Rattle.lalrpop_norm.specs.Later.{symbols_parts}
 use Rattle.lalrpop_norm.proofs.later.symbols.find_in_symbols.Given as goal

@@ -1,7 +1,8 @@
 use Rattle.std.proofs.Common.{◌≡◌, drop, map}
 use Rattle.lalrpop_norm_tree.specs.Items.{conversion_view}
 use Rattle.lalrpop_norm.specs.Grammars.{terminals_of}
-use Rattle.lalrpop_norm.specs.LaterWalks.{with_keys, repeats, terminal_cmp}
+use Rattle.lalrpop_norm.specs.LaterWalks.{with_keys, repeats}
+use Rattle.lalrpop_norm_late.specs.Conversions.{terminal_cmp}
 use Rattle.lalrpop_norm.proofs.later.terminals.add_terminals.Given as goal
 
 abbrev pub invariant-loop-conversion : goal.invariant-loop-conversion

@@ -2,14 +2,15 @@ use Rattle.std.proofs.Common.{◌≡◌, List, [], map, sym, ap, ◌∙◌}
 use Rattle.lalrpop_norm_tree.specs.declared.names.TerminalString.{TerminalString}
 use Rattle.lalrpop_norm_tree.specs.Items.{conversion_view}
 use Rattle.lalrpop_norm.specs.declared.later.LaterPart.TheVariants.{RepeatedConversion}
-use Rattle.lalrpop_norm.specs.Grammars.{terminals_of, is_same_terminal, has_repeated}
+use Rattle.lalrpop_norm.specs.Grammars.{terminals_of, same_terminal, has_repeated}
 use Rattle.lalrpop_norm.specs.Later.{part_if}
-use Rattle.lalrpop_norm.specs.LaterWalks.{has_key, with_keys, repeats, terminal_cmp}
+use Rattle.lalrpop_norm.specs.LaterWalks.{has_key, with_keys, repeats}
+use Rattle.lalrpop_norm_late.specs.Conversions.{terminal_cmp}
 use Rattle.lalrpop_norm.proofs.KeyLemmas.{added_terminals, repeated_terminals}
 use Rattle.lalrpop_norm.proofs.WalkLemmas.{stops_same}
 use Rattle.lalrpop_norm.proofs.later.terminals.converted_terminals.Goals as goal
 
-from_none : (keys ns : List TerminalString) → keys ≡ [] → part_if (repeats terminal_cmp keys ns) RepeatedConversion ≡ part_if (has_repeated is_same_terminal ns) RepeatedConversion
+from_none : (keys ns : List TerminalString) → keys ≡ [] → part_if (repeats terminal_cmp keys ns) RepeatedConversion ≡ part_if (has_repeated same_terminal ns) RepeatedConversion
 from_none keys ns none = rw none (ap (λ b. part_if b RepeatedConversion) (repeated_terminals ns))
 
 pub returns-in_err-add_terminals-clause-finds : goal.returns-in_err-add_terminals-clause-finds

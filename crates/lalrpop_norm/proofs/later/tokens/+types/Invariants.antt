@@ -1,4 +1,4 @@
-use Rattle.std.proofs.Common.{◌≡◌, drop, map, option_map}
+use Rattle.std.proofs.Common.{◌≡◌, drop}
 use Rattle.lalrpop_norm_tree.specs.Types.{types_view}
 use Rattle.lalrpop_norm_tree.specs.LoweredTypes.{any_holds_symbol}
 use Rattle.lalrpop_norm.proofs.later.tokens.+types.Given as goal

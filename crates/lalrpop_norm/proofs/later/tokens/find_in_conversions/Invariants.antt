@@ -1,4 +1,4 @@
-use Rattle.std.proofs.Common.{◌≡◌, drop, map, option_map}
+use Rattle.std.proofs.Common.{◌≡◌, drop, map}
 use Rattle.std.specs.List.{flat_map}
 use Rattle.lalrpop_norm_tree.specs.Items.{conversion_view}
 use Rattle.lalrpop_norm.specs.Later.{conversion_parts}

@@ -1,0 +1,112 @@
+-- The headline: what a lowered grammar owes the written one.
+use Rattle.std.specs.Prelude.{◌≡◌, ℕ, Bool, false, List, [], ◌∷◌, ◌++◌, length, map, Option, Some, None, option_map, codes, string_bytes, ◌↔◌}
+use Rattle.lalrpop_norm_tree.specs.declared.names.NonterminalString.{NonterminalString}
+use Rattle.lalrpop_norm_tree.specs.declared.names.TerminalString.{TerminalString}
+use Rattle.lalrpop_norm_tree.specs.Items.{RuleData, GrammarData}
+use Rattle.lalrpop_norm_tree.specs.Reprs.{ReprData}
+use Rattle.lalrpop_norm_theory.specs.Symbols.{ClosedSymbol}
+use Rattle.lalrpop_norm_theory.specs.Meaning.{Meaning}
+use Rattle.lalrpop_norm_theory.specs.LoweredTrees.{Origin}
+use Rattle.lalrpop_norm_theory.specs.Rounds.{In}
+use Rattle.lalrpop_norm_theory.specs.Met.{expansion}
+use Rattle.lalrpop_norm_theory.specs.Laws.{OneToOne}
+use Rattle.lalrpop_norm_conditions.specs.Conditions.{comparison}
+use Rattle.lalrpop_norm_model.specs.Features.{Features}
+use Rattle.lalrpop_norm_model.specs.Enabled.{enabled_grammar}
+use Rattle.lalrpop_norm_model.specs.Scopes.{resolved_grammar}
+use Rattle.lalrpop_norm_model.specs.WrittenRules.{WrittenRule, written_rules}
+use Rattle.lalrpop_norm_model.specs.Grammars.{meaning, references, roots}
+use Rattle.lalrpop_norm_model.specs.ClosedTexts.{text_in}
+use Rattle.lalrpop_norm_model.specs.LevelRules.{leveled_grammar}
+use Rattle.lalrpop_norm_model.specs.PlainRules.{plain_grammar, all_rules}
+use Rattle.lalrpop_norm_model.specs.Origins.{action_origins}
+use Rattle.lalrpop_norm_model.specs.TerminalTypes.{location_type, declared_under, token_type, terminal_rows, row_of}
+use Rattle.lalrpop_norm_model.specs.Lexers.{Lexer}
+use Rattle.lalrpop_norm_model.specs.CheckedTokens.{IsChecked}
+use Rattle.lalrpop_norm_model.specs.TypeRelation.{IsRule, Has}
+use Rattle.lalrpop_norm_front.specs.declared.session.Session.{Session}
+use Rattle.lalrpop_norm_repr.specs.Lowered.{LoweredGrammar}
+use Rattle.lalrpop_norm_repr.specs.Tables.{TypeTable, type_of, listed_type, new_table}
+use Rattle.lalrpop_norm_repr.specs.Closed.{IsClosed}
+use Rattle.lalrpop_norm_late.specs.Lowering.{public_rules, start_name}
+use Rattle.lalrpop_norm_late.specs.Shape.{IsLoweringOf}
+use Rattle.lalrpop_norm.specs.Derivations.{derivations}
+
+-- ---- trees
+
+-- what trees see of the enabled rules; conditions say what their operators say, patterns being read as `regex` reads them
+abbrev pub written_meaning : Features → GrammarData → Meaning
+written_meaning fs g = meaning comparison (written_rules fs g)
+
+-- From each enabled written rule that is no macro, by itself and within each of its levels, the derivation trees of the lowered
+-- grammar stand one to one with the written ones, with the same terminals and the same alternatives. After so many rounds
+-- nothing is new.
+pub record HasFaithfulTrees (fs : Features) (g : GrammarData) (plain : GrammarData) (rounds : ℕ) (l : LoweredGrammar) : Type 0 where
+  pub whole : (expansion (written_meaning fs g) (references (written_rules fs g)) rounds).fresh ≡ []
+  pub one_to_one : (s : ClosedSymbol) → In s (roots (written_rules fs g) ++ references (written_rules fs g)) →
+      OneToOne (written_meaning fs g) (text_in (written_rules fs g))
+      (derivations (action_origins (length (public_rules (all_rules plain))) (written_meaning fs g) (references (written_rules fs g)) rounds) l) s
+
+-- ---- types
+
+-- The table of types: each name has there the type that it has and no other name is listed; the terminals with a type of their
+-- own have it; all else is what needs no inference.
+pub record IsInferred (plain : GrammarData) (types : TypeTable) : Type 0 where
+  pub names : (n : NonterminalString) (x : ReprData) → (type_of n types ≡ Some x) ↔ Has plain n.0 x
+  pub terminals : (t : TerminalString) → listed_type t types ≡ row_of t (terminal_rows plain)
+  pub rest : types ≡ record (new_table plain.prefix (location_type plain) (declared_under (codes "Error") plain) (token_type plain)) {
+    terminals = types.terminals;
+    nonterminals = types.nonterminals;
+  }
+
+-- a type that a name has, and no other, stands in the table
+pub record HasOnlyType (plain : GrammarData) (types : TypeTable) (r : RuleData) : Type 0 where
+  pub type : ReprData
+  pub grounded : Has plain r.name.0 type
+  pub only : (other : ReprData) → Has plain r.name.0 other → other ≡ type
+  pub listed : type_of r.name types ≡ Some type
+
+-- each nonterminal has its only grounded type, a start symbol that of its rule
+pub record HasGroundedTypes (plain : GrammarData) (types : TypeTable) : Type 0 where
+  pub rules : (r : RuleData) → IsRule plain r → HasOnlyType plain types r
+  pub starts : (r : RuleData) → In r (public_rules (all_rules plain)) → type_of (start_name plain.prefix r.name) types ≡ type_of r.name types
+
+-- ---- tokens
+
+-- In this stage no lexer is handed in, and no automaton is built.
+abbrev pub no_lexer : Lexer (Unit {0})
+no_lexer = record {
+  IsBad = λ text. ⊥;
+  IsRegexOf = λ literal regex. ⊥;
+  HasFeature = λ regex feature. ⊥;
+  AreAmbiguous = λ regexes precedences i j. ⊥;
+  IsBuilt = λ regexes precedences code. ⊥;
+}
+
+-- ---- the whole
+
+-- the features of a session
+abbrev pub features_of : {L : Type 0} → Session L → Features
+features_of s = option_map (λ f. map string_bytes f.keys) s.features
+
+-- the grammar with levels, each enabled rule and macro in its place
+abbrev pub grammar_with_levels : Features → GrammarData → GrammarData
+grammar_with_levels fs g = leveled_grammar (resolved_grammar (enabled_grammar fs g))
+
+-- the grammar of plain rules, where so many rounds make all
+abbrev pub grammar_of_plain_rules : Features → GrammarData → ℕ → GrammarData
+grammar_of_plain_rules fs g rounds = plain_grammar comparison (grammar_with_levels fs g) rounds
+
+-- The lowered grammar is one of the written grammar: for a number of rounds after which nothing is new, its trees stand one to
+-- one with the written ones; it has the shape of the plain rules, in their order, with their tokens; each nonterminal has its
+-- only grounded type; and nothing in it is left open.
+pub record IsFaithful {R : Type 0} (lexer : Lexer R) (fs : Features) (g : GrammarData) (l : LoweredGrammar) : Type 0 where
+  pub rounds : ℕ
+  pub trees : HasFaithfulTrees fs g (grammar_of_plain_rules fs g rounds) rounds l
+  pub plain : GrammarData
+  pub tokens : IsChecked lexer (grammar_of_plain_rules fs g rounds) plain
+  pub types : HasGroundedTypes plain l.types
+  pub table : TypeTable
+  pub inferred : IsInferred plain table
+  pub shape : IsLoweringOf plain (all_rules plain) table l
+  pub closed : IsClosed l

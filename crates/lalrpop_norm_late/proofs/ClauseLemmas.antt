@@ -1,0 +1,213 @@
+-- Numbered alternatives: counted along the rules, and by their places in the one list.
+use Rattle.std.proofs.Common.{◌≡◌, ◌∙◌, ℕ, ◌+◌, Bool, true, false, cond, ◌||◌, ◌&&◌, List, [], ◌∷◌, ◌++◌, length, map, refl, sym, ap, arith, bytes_eq}
+use Rattle.std.specs.Prelude.{filter, flat_map, nat_le}
+use Rattle.std.specs.List.{list_any, enumerate_from, AllByRecursion}
+use Rattle.std.specs.Cmp.{nat_eq_equiv}
+use Rattle.std.specs.Cmp.Lexicographic.{nat_list_eq_equiv}
+use Rattle.std.proofs.lemmas.List.{append_assoc, append-nil, length-append, length-map, map-append}
+use Rattle.std.proofs.lemmas.List.Elements.{filter-append}
+use Rattle.lalrpop_norm_front.specs.Faults.{Fault, fault_if}
+use Rattle.lalrpop_norm_front.specs.declared.faults.FaultKind.TheVariants.{TooManyActions}
+use Rattle.lalrpop_norm_tree.specs.declared.names.NonterminalString.{NonterminalString}
+use Rattle.lalrpop_norm_tree.specs.Attributes.{no_attributes}
+use Rattle.lalrpop_norm_tree.specs.Items.{AlternativeData, RuleData}
+use Rattle.lalrpop_norm_repr.specs.Productions.{ProductionData, EntryData}
+use Rattle.lalrpop_norm_late.specs.Lowering.{start_name, start_alternative, production_of, productions_from, start_rows, rule_rows, number_faults, numbers_faults, starts_faults, rules_faults}
+use Rattle.lalrpop_norm_late.specs.Shape.{Clause, start_clause, rule_clauses, number_faults_of, productions_named, start_entry_of, rule_entry_of}
+
+enumerate_append : {A : Type 0} (k : ℕ) (xs ys : List A) → enumerate_from k (xs ++ ys) ≡ enumerate_from k xs ++ enumerate_from (k + length xs) ys
+enumerate_append k [] ys = ap (λ n. enumerate_from n ys) (omega arith)
+enumerate_append k (x ∷ xs) ys =
+    let n : k + 1 + length xs ≡ k + length (x ∷ xs) = omega arith in
+    ap (λ es. (k, x) ∷ es) (enumerate_append (k + 1) xs ys ∙ ap (λ m. enumerate_from (k + 1) xs ++ enumerate_from m ys) n)
+
+-- ---- the productions of a name, from number k on
+
+abbrev pub named_from : NonterminalString → ℕ → List Clause → List ProductionData
+named_from n k cs = map (λ e. production_of n e.0 e.1.1) (filter (λ e. bytes_eq n.0 e.1.0.0) (enumerate_from k cs))
+
+abbrev pub has_name : NonterminalString → List Clause → Bool
+has_name n cs = list_any (λ c. bytes_eq n.0 c.0.0) cs
+
+named_append : (n : NonterminalString) (k : ℕ) (xs ys : List Clause) → named_from n k (xs ++ ys) ≡ named_from n k xs ++ named_from n (k + length xs) ys
+named_append n k xs ys =
+    let test : ℕ × Clause → Bool = λ (e : ℕ × Clause). bytes_eq n.0 e.1.0.0 in
+    let made : ℕ × Clause → ProductionData = λ (e : ℕ × Clause). production_of n e.0 e.1.1 in
+    ap (λ (es : List (ℕ × Clause)). map made (filter test es)) (enumerate_append k xs ys)
+    ∙ ap (map made) (filter-append test (enumerate_from k xs) (enumerate_from (k + length xs) ys))
+    ∙ map-append made (filter test (enumerate_from k xs)) (filter test (enumerate_from (k + length xs) ys))
+
+pub or_left : (a b : Bool) → (a || b) ≡ false → a ≡ false
+or_left true b h = cc
+or_left false b h = refl
+
+pub or_right : (a b : Bool) → (a || b) ≡ false → b ≡ false
+or_right true b h = cc
+or_right false b h = h
+
+pub or_neither : (a b : Bool) → a ≡ false → b ≡ false → (a || b) ≡ false
+or_neither true b h i = cc
+or_neither false b h i = i
+
+named_none : (n : NonterminalString) (k : ℕ) (cs : List Clause) → has_name n cs ≡ false → named_from n k cs ≡ []
+named_none n k [] h = refl
+named_none n k (c ∷ cs) h =
+    let made : List (ℕ × Clause) → List ProductionData = map (λ (e : ℕ × Clause). production_of n e.0 e.1.1) in
+    let rest : List (ℕ × Clause) = filter (λ (e : ℕ × Clause). bytes_eq n.0 e.1.0.0) (enumerate_from (k + 1) cs) in
+    ap (λ b. made (cond b ((k, c) ∷ rest) rest)) (or_left (bytes_eq n.0 c.0.0) (has_name n cs) h)
+    ∙ named_none n (k + 1) cs (or_right (bytes_eq n.0 c.0.0) (has_name n cs) h)
+
+same_bytes : (a : List ℕ) → bytes_eq a a ≡ true
+same_bytes a = nat_list_eq_equiv.refl a
+
+named_all : (n : NonterminalString) (k : ℕ) (alts : List AlternativeData) → named_from n k (map (λ a. (n, a)) alts) ≡ productions_from n k alts
+named_all n k [] = refl
+named_all n k (a ∷ alts) =
+    let made : List (ℕ × Clause) → List ProductionData = map (λ (e : ℕ × Clause). production_of n e.0 e.1.1) in
+    let rest : List (ℕ × Clause) = filter (λ (e : ℕ × Clause). bytes_eq n.0 e.1.0.0) (enumerate_from (k + 1) (map (λ (b : AlternativeData). (n, b)) alts)) in
+    ap (λ b. made (cond b ((k, (n, a)) ∷ rest) rest)) (same_bytes n.0)
+    ∙ ap (λ ps. production_of n k a ∷ ps) (named_all n (k + 1) alts)
+
+-- the productions of a name that only one stretch of the list has
+named_between : (n : NonterminalString) (before here after : List Clause) (ps : List ProductionData) → has_name n before ≡ false → has_name n after ≡ false → named_from n (length before) here ≡ ps
+    → productions_named n (before ++ (here ++ after)) ≡ ps
+named_between n before here after ps none_before none_after is =
+    named_append n 0 before (here ++ after)
+    ∙ ap (λ qs. qs ++ named_from n (0 + length before) (here ++ after)) (named_none n 0 before none_before)
+    ∙ named_append n (0 + length before) here after
+    ∙ ap (λ qs. named_from n (0 + length before) here ++ qs) (named_none n (0 + length before + length here) after none_after)
+    ∙ append-nil (named_from n (0 + length before) here)
+    ∙ ap (λ k. named_from n k here) (omega arith)
+    ∙ is
+
+-- ---- names apart
+
+abbrev pub AreApart : NonterminalString → List RuleData → Type 0
+AreApart n rs = AllByRecursion (λ r. bytes_eq n.0 r.name.0 ≡ false) rs
+
+abbrev pub LackNames : List RuleData → List Clause → Type 0
+LackNames rs cs = AllByRecursion (λ r. has_name r.name cs ≡ false) rs
+
+apart_here : (n m : NonterminalString) (alts : List AlternativeData) → bytes_eq n.0 m.0 ≡ false → has_name n (map (λ a. (m, a)) alts) ≡ false
+apart_here n m [] h = refl
+apart_here n m (a ∷ alts) h = or_neither (bytes_eq n.0 m.0) (has_name n (map (λ b. (m, b)) alts)) h (apart_here n m alts h)
+
+has_append : (n : NonterminalString) (xs ys : List Clause) → has_name n xs ≡ false → has_name n ys ≡ false → has_name n (xs ++ ys) ≡ false
+has_append n [] ys h i = i
+has_append n (x ∷ xs) ys h i = or_neither (bytes_eq n.0 x.0.0) (has_name n (xs ++ ys)) (or_left (bytes_eq n.0 x.0.0) (has_name n xs) h) (has_append n xs ys (or_right (bytes_eq n.0 x.0.0) (has_name n xs) h) i)
+
+pub apart_all : (n : NonterminalString) (rs : List RuleData) → AreApart n rs → has_name n (flat_map rule_clauses rs) ≡ false
+apart_all n [] h = refl
+apart_all n (r ∷ rs) h = has_append n (rule_clauses r) (flat_map rule_clauses rs) (apart_here n r.name r.alternatives h.0) (apart_all n rs h.1)
+
+lack_more : (r : RuleData) (rs : List RuleData) (cs : List Clause) → AreApart r.name rs → LackNames rs cs → LackNames rs (cs ++ rule_clauses r)
+lack_more r [] cs h i = tt
+lack_more r (s ∷ rs) cs h i = (
+  has_append s.name cs (rule_clauses r) i.0 (apart_here s.name r.name r.alternatives (nat_list_eq_equiv.symm s.name.0 r.name.0 ∙ h.0)),
+  lack_more r rs cs h.1 i.1,
+)
+
+-- each name differs from those behind it
+abbrev pub AllApart : List RuleData → Type 0
+AllApart [] = Unit {0}
+AllApart (r ∷ rs) = AreApart r.name rs × AllApart rs
+
+-- the counted rows of rules are those by places
+pub rule_rows_named : (before : List Clause) (rs : List RuleData) (clauses : List Clause) → before ++ flat_map rule_clauses rs ≡ clauses → LackNames rs before → AllApart rs
+    → rule_rows (length before) rs ≡ map (rule_entry_of clauses) rs
+rule_rows_named before [] clauses e lack apart = refl
+rule_rows_named before (r ∷ rs) clauses e lack apart =
+    let here : productions_named r.name clauses ≡ productions_from r.name (length before) r.alternatives =
+    ap (productions_named r.name) (sym e)
+    ∙ named_between r.name before (rule_clauses r) (flat_map rule_clauses rs) (productions_from r.name (length before) r.alternatives) lack.0 (apart_all r.name rs apart.0) (named_all r.name (length before) r.alternatives) in
+    let more : length (before ++ rule_clauses r) ≡ length before + length r.alternatives = length-append before (rule_clauses r) ∙ ap (λ n. length before + n) (length-map r.alternatives (λ a. (r.name, a))) in
+    let row : List ProductionData → NonterminalString × EntryData = λ (ps : List ProductionData). (r.name, record { visibility = r.visibility; span = r.span; attributes = r.attributes; productions = ps }) in
+    ap (λ k. row (productions_from r.name (length before) r.alternatives) ∷ rule_rows k rs) (sym more)
+    ∙ ap (λ ps. row ps ∷ rule_rows (length (before ++ rule_clauses r)) rs) (sym here)
+    ∙ ap (λ rows. row (productions_named r.name clauses) ∷ rows)
+    (rule_rows_named (before ++ rule_clauses r) rs clauses (append_assoc before (rule_clauses r) (flat_map rule_clauses rs) ∙ e) (lack_more r rs before apart.0 lack.1) apart.1)
+
+-- ---- start symbols
+
+pub append_same : (p a b : List ℕ) → bytes_eq (p ++ a) (p ++ b) ≡ bytes_eq a b
+append_same [] a b = refl
+append_same (x ∷ p) a b = ap (λ t. t && bytes_eq (p ++ a) (p ++ b)) (nat_eq_equiv.refl x) ∙ append_same p a b
+
+module _ (prefix : List ℕ) where
+  abbrev pub LackStarts : List RuleData → List Clause → Type 0
+  LackStarts rs cs = AllByRecursion (λ r. has_name (start_name prefix r.name) cs ≡ false) rs
+
+  lack_start : (r : RuleData) (rs : List RuleData) (cs : List Clause) → AreApart r.name rs → LackStarts rs cs → LackStarts rs (cs ++ start_clause prefix r ∷ [])
+  lack_start r [] cs h i = tt
+  lack_start r (s ∷ rs) cs h i = (
+    has_append (start_name prefix s.name) cs (start_clause prefix r ∷ []) i.0
+        (or_neither (bytes_eq (prefix ++ s.name.0) (prefix ++ r.name.0)) false (append_same prefix s.name.0 r.name.0 ∙ nat_list_eq_equiv.symm s.name.0 r.name.0 ∙ h.0) refl),
+    lack_start r rs cs h.1 i.1,
+  )
+
+  starts_apart : (r : RuleData) (rs : List RuleData) → AreApart r.name rs → has_name (start_name prefix r.name) (map (start_clause prefix) rs) ≡ false
+  starts_apart r [] h = refl
+  starts_apart r (s ∷ rs) h =
+      or_neither (bytes_eq (prefix ++ r.name.0) (prefix ++ s.name.0)) (has_name (start_name prefix r.name) (map (start_clause prefix) rs)) (append_same prefix r.name.0 s.name.0 ∙ h.0) (starts_apart r rs h.1)
+
+  pub start_rows_named : (before : List Clause) (rs : List RuleData) (after clauses : List Clause) → before ++ (map (start_clause prefix) rs ++ after) ≡ clauses → LackStarts rs before → LackStarts rs after → AllApart rs
+      → start_rows prefix (length before) rs ≡ map (start_entry_of prefix clauses) rs
+  start_rows_named before [] after clauses e lack lack_after apart = refl
+  start_rows_named before (r ∷ rs) after clauses e lack lack_after apart =
+      let n : NonterminalString = start_name prefix r.name in
+      let one : List Clause = start_clause prefix r ∷ [] in
+      let here : productions_named n clauses ≡ production_of n (length before) (start_alternative r) ∷ [] =
+      ap (productions_named n) (sym e)
+      ∙ named_between n before one (map (start_clause prefix) rs ++ after) (production_of n (length before) (start_alternative r) ∷ []) lack.0
+      (has_append n (map (start_clause prefix) rs) after (starts_apart r rs apart.0) lack_after.0) (named_all n (length before) (start_alternative r ∷ [])) in
+      let more : length (before ++ one) ≡ length before + 1 = length-append before one in
+      let row : List ProductionData → NonterminalString × EntryData = λ (ps : List ProductionData). (n, record { visibility = r.visibility; span = r.span; attributes = no_attributes; productions = ps }) in
+      ap (λ k. row (production_of n (length before) (start_alternative r) ∷ []) ∷ start_rows prefix k rs) (sym more)
+      ∙ ap (λ ps. row ps ∷ start_rows prefix (length (before ++ one)) rs) (sym here)
+      ∙ ap (λ rows. row (productions_named n clauses) ∷ rows)
+      (start_rows_named (before ++ one) rs after clauses (append_assoc before one (map (start_clause prefix) rs ++ after) ∙ e) (lack_start r rs before apart.0 lack.1) lack_after.1 apart.1)
+
+-- ---- faults
+
+abbrev faults_from : ℕ → List Clause → List Fault
+faults_from k cs = map (λ e. (TooManyActions, e.1.1.span)) (filter (λ e. nat_le 4294967296 e.0) (enumerate_from k cs))
+
+faults_append : (k : ℕ) (xs ys : List Clause) → faults_from k (xs ++ ys) ≡ faults_from k xs ++ faults_from (k + length xs) ys
+faults_append k xs ys =
+    let test : ℕ × Clause → Bool = λ (e : ℕ × Clause). nat_le 4294967296 e.0 in
+    let made : ℕ × Clause → Fault = λ (e : ℕ × Clause). (TooManyActions, e.1.1.span) in
+    ap (λ (es : List (ℕ × Clause)). map made (filter test es)) (enumerate_append k xs ys)
+    ∙ ap (map made) (filter-append test (enumerate_from k xs) (enumerate_from (k + length xs) ys))
+    ∙ map-append made (filter test (enumerate_from k xs)) (filter test (enumerate_from (k + length xs) ys))
+
+fault_kept : (b : Bool) (c : ℕ × Clause) (rest : List (ℕ × Clause)) → fault_if b (TooManyActions, c.1.1.span) ++ map (λ (e : ℕ × Clause). (TooManyActions, e.1.1.span)) rest ≡ map (λ (e : ℕ × Clause). (TooManyActions, e.1.1.span)) (cond b (c ∷ rest) rest)
+fault_kept true c rest = refl
+fault_kept false c rest = refl
+
+numbers_named : (n : NonterminalString) (k : ℕ) (alts : List AlternativeData) → numbers_faults k alts ≡ faults_from k (map (λ a. (n, a)) alts)
+numbers_named n k [] = refl
+numbers_named n k (a ∷ alts) =
+    ap (λ (fs : List Fault). number_faults k a.span ++ fs) (numbers_named n (k + 1) alts)
+    ∙ fault_kept (nat_le 4294967296 k) (k, (n, a)) (filter (λ (e : ℕ × Clause). nat_le 4294967296 e.0) (enumerate_from (k + 1) (map (λ (b : AlternativeData). (n, b)) alts)))
+
+starts_named : (prefix : List ℕ) (k : ℕ) (rs : List RuleData) → starts_faults k rs ≡ faults_from k (map (start_clause prefix) rs)
+starts_named prefix k [] = refl
+starts_named prefix k (r ∷ rs) =
+    ap (λ (fs : List Fault). number_faults k r.span ++ fs) (starts_named prefix (k + 1) rs)
+    ∙ fault_kept (nat_le 4294967296 k) (k, start_clause prefix r) (filter (λ (e : ℕ × Clause). nat_le 4294967296 e.0) (enumerate_from (k + 1) (map (start_clause prefix) rs)))
+
+rules_named : (k : ℕ) (rs : List RuleData) → rules_faults k rs ≡ faults_from k (flat_map rule_clauses rs)
+rules_named k [] = refl
+rules_named k (r ∷ rs) =
+    ap (λ (fs : List Fault). numbers_faults k r.alternatives ++ fs) (rules_named (k + length r.alternatives) rs)
+    ∙ ap (λ (fs : List Fault). fs ++ faults_from (k + length r.alternatives) (flat_map rule_clauses rs)) (numbers_named r.name k r.alternatives)
+    ∙ ap (λ n. faults_from k (rule_clauses r) ++ faults_from (k + n) (flat_map rule_clauses rs)) (sym (length-map r.alternatives (λ a. (r.name, a))))
+    ∙ sym (faults_append k (rule_clauses r) (flat_map rule_clauses rs))
+
+-- the counted faults are those by places
+pub faults_counted : (prefix : List ℕ) (public rules : List RuleData) → starts_faults 0 public ++ rules_faults (length public) rules ≡ number_faults_of (map (start_clause prefix) public ++ flat_map rule_clauses rules)
+faults_counted prefix public rules =
+    ap (λ (fs : List Fault). fs ++ rules_faults (length public) rules) (starts_named prefix 0 public)
+    ∙ ap (λ (fs : List Fault). faults_from 0 (map (start_clause prefix) public) ++ fs) (rules_named (length public) rules)
+    ∙ ap (λ n. faults_from 0 (map (start_clause prefix) public) ++ faults_from n (flat_map rule_clauses rules)) (sym (length-map public (start_clause prefix)) ∙ omega arith)
+    ∙ sym (faults_append 0 (map (start_clause prefix) public) (flat_map rule_clauses rules))

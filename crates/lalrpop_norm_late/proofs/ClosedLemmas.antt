@@ -1,0 +1,222 @@
+-- What a grammar that lowering takes is lowered to leaves nothing open.
+use Rattle.std.proofs.Common.{◌≡◌, ◌∙◌, ℕ, suc, ◌+◌, ◌<◌, Bool, true, false, cond, ◌||◌, List, [], ◌∷◌, ◌++◌, length, map, get_or, Option, Some, None, refl, sym, ap, subst, bytes_eq, arith}
+use Rattle.std.specs.Prelude.{All, Contains, IsSome, flat_map, filter, slice_get}
+use Rattle.std.specs.List.{list_any, AllByRecursion, AllZip, enumerate_from}
+use Rattle.std.specs.List.Sorted.{IsStrictlySortedBy}
+use Rattle.std.specs.Map.{keys_of, lookup}
+use Rattle.std.specs.Ordering.{eq_by_cmp}
+use Rattle.std.proofs.lemmas.Cmp.{eq_by_cmp_equiv}
+use Rattle.std.proofs.lemmas.List.{length-map, get_or-map}
+use Rattle.std.proofs.lemmas.List.Elements.{All-from_recursion, recursion_from_All}
+use Rattle.std.proofs.lemmas.List.FromFn.{length-enumerate_from}
+use Rattle.std.proofs.lemmas.Map.Entries.{lookup_from_place}
+use Rattle.std.proofs.lemmas.Map.Keys.{IsDistinct-from_sorted}
+use Rattle.std.proofs.lemmas.Map.Text.{is_eq-slice_cmp}
+use Rattle.std.proofs.lemmas.Option.{slice_get-get_or}
+use Rattle.lalrpop_norm_tree.specs.declared.names.NonterminalString.{NonterminalString}
+use Rattle.lalrpop_norm_tree.specs.declared.names.TerminalString.{TerminalString}
+use Rattle.lalrpop_norm_tree.specs.Accessors.{or_else}
+use Rattle.lalrpop_norm_tree.specs.Items.{Action, user_code, fallible_code, lookahead_code, lookbehind_code, RuleData, AlternativeData, ConversionData, GrammarData}
+use Rattle.lalrpop_norm_tree.specs.Reprs.{ReprData}
+use Rattle.lalrpop_norm_tree.specs.Symbols.{Part, Parts, no_parts, part_and}
+use Rattle.lalrpop_norm_repr.specs.declared.symbol.Symbol.{Symbol}
+use Rattle.lalrpop_norm_repr.specs.declared.symbol.Symbol.TheVariants.{Nonterminal, Terminal}
+use Rattle.lalrpop_norm_repr.specs.Actions.{ActionData, ActionKindData}
+use Rattle.lalrpop_norm_repr.specs.Closed.{IsDefined, HasArguments, IsClosedProduction, IsClosedEntry, IsClosed}
+use Rattle.lalrpop_norm_repr.specs.Lowered.{LoweredGrammar}
+use Rattle.lalrpop_norm_repr.specs.Productions.{EntryData}
+use Rattle.lalrpop_norm_repr.specs.Tables.{TypeTable, type_of, found}
+use Rattle.lalrpop_norm_late.specs.Arguments.{part_list, patterns, pattern_at_place}
+use Rattle.lalrpop_norm_late.specs.Conversions.{terminals_of}
+use Rattle.lalrpop_norm_late.specs.Lowerable.{IsKnown, IsLowerableAlternative, IsLowerable, conversions_of}
+use Rattle.lalrpop_norm_late.specs.Lowering.{rules_of, public_rules, lowered_symbol, lowered_symbols, production_of}
+use Rattle.lalrpop_norm_late.specs.Plain.{IsLowered}
+use Rattle.lalrpop_norm_late.specs.Shape.{Clause, start_clause, rule_clauses, clauses_of, IsCodeOf, IsKindOf, IsActionOf, productions_named, start_entry_of, rule_entry_of, entries_of, name_cmp}
+use Rattle.lalrpop_norm_late.proofs.ApartLemmas.{all_by, IsNamedIn, named_in, each_named, kept_public}
+use Rattle.lalrpop_norm_late.proofs.ClauseLemmas.{named_from}
+use Rattle.lalrpop_norm_late.proofs.KeyLaws.{same_name, names_decide, names_total, found_is}
+use Rattle.lalrpop_norm_late.proofs.ShapeLemmas.{declared_some, alternatives_ok, declared_ok, terminals_ok}
+
+-- ---- lists
+
+join_all : {X : Type 0} (P : X → Type 0) (xs ys : List X) → AllByRecursion P xs → AllByRecursion P ys → AllByRecursion P (xs ++ ys)
+join_all P [] ys h i = i
+join_all P (x ∷ xs) ys h i = (h.0, join_all P xs ys h.1 i)
+
+map_all : {X Y : Type 0} (P : Y → Type 0) (f : X → Y) (xs : List X) → AllByRecursion (λ x. P (f x)) xs → AllByRecursion P (map f xs)
+map_all P f [] h = tt
+map_all P f (x ∷ xs) h = (h.0, map_all P f xs h.1)
+
+flat_all : {X Y : Type 0} (P : Y → Type 0) (f : X → List Y) (xs : List X) → AllByRecursion (λ x. AllByRecursion P (f x)) xs → AllByRecursion P (flat_map f xs)
+flat_all P f [] h = tt
+flat_all P f (x ∷ xs) h = join_all P (f x) (flat_map f xs) h.0 (flat_all P f xs h.1)
+
+mapped_within : {X Y : Type 0} (f : X → Y) (xs : List X) (x : X) → Contains xs x → Contains (map f xs) (f x)
+mapped_within f xs x c = (c.0, let same = length-map xs f in let lt : c.0 < length xs = c.1 in subst (λ n. c.0 < n) (sym same) lt, get_or-map f xs c.0 x (f x) c.1 ∙ ap f c.2)
+
+-- ---- the action of a clause has its arguments
+
+parts_long : (ps : Parts) → length (part_list ps) ≡ length (lowered_symbols ps)
+parts_long no_parts = refl
+parts_long (part_and p ps) = ap suc (parts_long ps)
+
+patterns_long : (prefix : List ℕ) (ps : Parts) → length (patterns prefix (part_list ps)) ≡ length (lowered_symbols ps)
+patterns_long prefix ps =
+    length-map (enumerate_from 0 (part_list ps)) (λ (e : ℕ × Part). pattern_at_place prefix (part_list ps) e.0 e.1) ∙ length-enumerate_from 0 (part_list ps) ∙ parts_long ps
+
+code_arguments : (prefix : List ℕ) (types : TypeTable) (type : ReprData) (a : AlternativeData) (kind : ActionKindData) → IsCodeOf prefix types type a kind → HasArguments types (lowered_symbols a.parts) kind
+code_arguments prefix types type a kind h = subst (HasArguments types (lowered_symbols a.parts)) (sym h.is) (patterns_long prefix a.parts, h.typed)
+
+kind_arguments : (prefix : List ℕ) (types : TypeTable) (type : ReprData) (a : AlternativeData) (kind : ActionKindData) (o : Option Action) → IsKindOf prefix types type a kind o → HasArguments types (lowered_symbols a.parts) kind
+kind_arguments prefix types type a kind None h = code_arguments prefix types type a kind h
+kind_arguments prefix types type a kind (Some (user_code c)) h = code_arguments prefix types type a kind h
+kind_arguments prefix types type a kind (Some (fallible_code c)) h = code_arguments prefix types type a kind h
+kind_arguments prefix types type a kind (Some lookahead_code) h = subst (HasArguments types (lowered_symbols a.parts)) (sym h) tt
+kind_arguments prefix types type a kind (Some lookbehind_code) h = subst (HasArguments types (lowered_symbols a.parts)) (sym h) tt
+
+-- ---- productions of a name
+
+abbrev IsDefinedClause : LoweredGrammar → Clause → Type 0
+IsDefinedClause l c = AllByRecursion (IsDefined l) (lowered_symbols c.1.parts)
+
+module _ (prefix : List ℕ) (l : LoweredGrammar) (n : NonterminalString) where
+  closed_one : (k : ℕ) (c : Clause) (d : ActionData) → bytes_eq n.0 c.0.0 ≡ true → slice_get l.actions k ≡ Some d → IsActionOf prefix l.types c d → IsDefinedClause l c → IsClosedProduction l n (production_of n k c.1)
+  closed_one k c d is at h defined = record {
+    nonterminal = refl;
+    symbols = All-from_recursion (IsDefined l) (lowered_symbols c.1.parts) defined;
+    action = d;
+    numbered = at;
+    answers = ap (λ m. type_of m l.types) ((names_decide n c.0).0 is) ∙ h.answers;
+    arguments = kind_arguments prefix l.types d.ret_type c.1 d.kind c.1.action h.kind;
+  }
+
+  closed_from : (k : ℕ) (cs : List Clause) (ds : List ActionData) → ((i : ℕ) (d : ActionData) → slice_get ds i ≡ Some d → slice_get l.actions (k + i) ≡ Some d) → AllZip (IsActionOf prefix l.types) cs ds → AllByRecursion (IsDefinedClause l) cs
+      → AllByRecursion (IsClosedProduction l n) (named_from n k cs)
+  closed_from k [] ds stand h defined = tt
+  closed_from k (c ∷ cs) [] stand h defined = absurd h
+  closed_from k (c ∷ cs) (d ∷ ds) stand h defined =
+      by (bytes_eq n.0 c.0.0) refl (closed_from (k + 1) cs ds (λ i e at. ap (slice_get l.actions) (omega arith) ∙ stand (suc i) e at) h.1 defined.1)
+    where
+      rest : List (ℕ × Clause)
+      rest = filter (λ e. bytes_eq n.0 e.1.0.0) (enumerate_from (k + 1) cs)
+
+      here : slice_get l.actions k ≡ Some d
+      here = ap (slice_get l.actions) (omega arith) ∙ stand 0 d refl
+
+      by : (b : Bool) → bytes_eq n.0 c.0.0 ≡ b → AllByRecursion (IsClosedProduction l n) (named_from n (k + 1) cs)
+          → AllByRecursion (IsClosedProduction l n) (map (λ e. production_of n e.0 e.1.1) (cond b ((k, c) ∷ filter (λ e. bytes_eq n.0 e.1.0.0) (enumerate_from (k + 1) cs)) (filter (λ e. bytes_eq n.0 e.1.0.0) (enumerate_from (k + 1) cs))))
+      by true is others = (closed_one k c d is here h.0 defined.0, others)
+      by false is others = others
+
+-- ---- looking up
+
+abbrev HoldsNamed : List Clause → NonterminalString × EntryData → Type 0
+HoldsNamed clauses r = r.1.productions ≡ productions_named r.0 clauses
+
+all_hold : (prefix : List ℕ) (rules : List RuleData) → AllByRecursion (HoldsNamed (clauses_of prefix rules)) (entries_of prefix rules)
+all_hold prefix rules =
+    let clauses : List Clause = clauses_of prefix rules in
+    join_all (HoldsNamed clauses) (map (start_entry_of prefix clauses) (public_rules rules)) (map (rule_entry_of clauses) rules) (starts (public_rules rules)) (each rules)
+  where
+    starts : (rs : List RuleData) → AllByRecursion (HoldsNamed (clauses_of prefix rules)) (map (start_entry_of prefix (clauses_of prefix rules)) rs)
+    starts [] = tt
+    starts (r ∷ rs) = (refl, starts rs)
+
+    each : (rs : List RuleData) → AllByRecursion (HoldsNamed (clauses_of prefix rules)) (map (rule_entry_of (clauses_of prefix rules)) rs)
+    each [] = tt
+    each (r ∷ rs) = (refl, each rs)
+
+some_inner : {A : Type 0} (x y : A) → Some x ≡ Some y → x ≡ y
+some_inner x y h = cc
+
+-- what is found has the productions of that name
+found_holds : (clauses : List Clause) (n : NonterminalString) (e : EntryData) (rows : List (NonterminalString × EntryData)) → AllByRecursion (HoldsNamed clauses) rows → found n rows ≡ Some e → e.productions ≡ productions_named n clauses
+found_holds clauses n e [] h is = cc
+found_holds clauses n e (r ∷ rows) h is = by (bytes_eq n.0 r.0.0) refl is (found_holds clauses n e rows h.1)
+  where
+    by : (b : Bool) → bytes_eq n.0 r.0.0 ≡ b → cond b (Some r.1) (found n rows) ≡ Some e → (found n rows ≡ Some e → e.productions ≡ productions_named n clauses) → e.productions ≡ productions_named n clauses
+    by true at there deeper = ap (λ (x : EntryData). x.productions) (sym (some_inner r.1 e there)) ∙ h.0 ∙ ap (λ m. productions_named m clauses) (sym ((names_decide n r.0).0 at))
+    by false at there deeper = deeper there
+
+tests_agree : {V : Type 0} (p q : NonterminalString → Bool) → ((x : NonterminalString) → p x ≡ q x) → (rows : List (NonterminalString × V)) → lookup p rows ≡ lookup q rows
+tests_agree p q same [] = refl
+tests_agree p q same (r ∷ rows) = ap (λ b. cond b (Some r.1) (lookup p rows)) (same r.0) ∙ ap (λ o. cond (q r.0) (Some r.1) o) (tests_agree p q same rows)
+
+found_at_place : {V : Type 0} (rows : List (NonterminalString × V)) → IsStrictlySortedBy name_cmp (keys_of rows) → (i : ℕ) (r : NonterminalString × V) → slice_get rows i ≡ Some r → found r.0 rows ≡ Some r.1
+found_at_place rows sorted i r at =
+    found_is r.0 rows
+    ∙ tests_agree (same_name r.0) (eq_by_cmp name_cmp r.0) (λ x. sym (is_eq-slice_cmp r.0.0 x.0)) rows
+    ∙ lookup_from_place (eq_by_cmp_equiv names_total) rows i r.0 r.1 (IsDistinct-from_sorted name_cmp (keys_of rows) sorted) at
+
+entry_some : (clauses : List Clause) (n : NonterminalString) (rs : List RuleData) → IsNamedIn rs n → IsSome (found n (map (rule_entry_of clauses) rs))
+entry_some clauses n [] h = cc
+entry_some clauses n (r ∷ rs) h = by (bytes_eq n.0 r.name.0) h (entry_some clauses n rs)
+  where
+    by : (b : Bool) → (b || list_any (λ s. bytes_eq n.0 s.name.0) rs) ≡ true → (IsNamedIn rs n → IsSome (found n (map (rule_entry_of clauses) rs))) → IsSome (cond b (Some (rule_entry_of clauses r).1) (found n (map (rule_entry_of clauses) rs)))
+    by true i deeper = refl
+    by false i deeper = deeper i
+
+behind_some : {V : Type 0} (n : NonterminalString) (xs ys : List (NonterminalString × V)) → IsSome (found n ys) → IsSome (found n (xs ++ ys))
+behind_some n [] ys h = h
+behind_some n (x ∷ xs) ys h = by (bytes_eq n.0 x.0.0) (behind_some n xs ys h)
+  where
+    by : (b : Bool) → IsSome (found n (xs ++ ys)) → IsSome (cond b (Some x.1) (found n (xs ++ ys)))
+    by true i = refl
+    by false i = i
+
+else_some : {A : Type 0} (o p : Option A) → IsSome o → IsSome (or_else o p)
+else_some None p h = cc
+else_some (Some x) p h = refl
+
+-- ---- the whole
+
+module _ (g : GrammarData) (ok : IsLowerable g) (l : LoweredGrammar) (lowered : IsLowered g l) where
+  name_defined : (n : NonterminalString) → IsNamedIn (rules_of g.items) n → IsDefined l (Nonterminal n)
+  name_defined n named =
+      let clauses : List Clause = clauses_of g.prefix (rules_of g.items) in (
+        subst IsSome (sym (lowered.lowering.nonterminals.holds n))
+            (behind_some n (map (start_entry_of g.prefix clauses) (public_rules (rules_of g.items))) (map (rule_entry_of clauses) (rules_of g.items)) (entry_some clauses n (rules_of g.items) named)),
+        subst IsSome (sym (lowered.lowering.types.names n))
+            (else_some (type_of n lowered.types) _ (subst IsSome (sym (lowered.declared.names n)) (declared_some n (rules_of g.items) (declared_ok g ok) named))),
+      )
+
+  symbol_defined : (s : Symbol) → IsKnown (rules_of g.items) (conversions_of g.items) s → IsDefined l s
+  symbol_defined (Nonterminal n) h = subst (λ (m : NonterminalString). IsDefined l (Nonterminal m)) h.2 (name_defined h.0.name (named_in (rules_of g.items) h.0 h.1))
+  symbol_defined (Terminal t) h =
+      let all : terminals_of (conversions_of g.items) ≡ l.terminals.all = terminals_ok g ok ∙ sym lowered.lowering.all_terminals in
+      subst (λ (ts : List TerminalString). Contains ts t) all
+      (subst (λ (u : TerminalString). Contains (terminals_of (conversions_of g.items)) u) h.2 (mapped_within (λ (c : ConversionData). c.from) (conversions_of g.items) h.0 h.1))
+
+  symbols_defined : (ps : Parts) → AllByRecursion (λ p. IsKnown (rules_of g.items) (conversions_of g.items) (lowered_symbol p)) (part_list ps) → AllByRecursion (IsDefined l) (lowered_symbols ps)
+  symbols_defined no_parts h = tt
+  symbols_defined (part_and p ps) h = (symbol_defined (lowered_symbol p) h.0, symbols_defined ps h.1)
+
+  clauses_defined : AllByRecursion (IsDefinedClause l) (clauses_of g.prefix (rules_of g.items))
+  clauses_defined =
+      let rules : List RuleData = rules_of g.items in
+      join_all (IsDefinedClause l) (map (start_clause g.prefix) (public_rules (rules_of g.items))) (flat_map rule_clauses (rules_of g.items))
+      (map_all (IsDefinedClause l) (start_clause g.prefix) (public_rules (rules_of g.items))
+      (kept_public (λ r. IsDefinedClause l (start_clause g.prefix r)) rules (all_by (λ r. IsNamedIn (rules_of g.items) r.name) (λ r. IsDefinedClause l (start_clause g.prefix r)) (λ r named. (name_defined r.name named, tt)) rules (each_named rules))))
+      (flat_all (IsDefinedClause l) rule_clauses rules
+      (all_by (λ r. AllByRecursion (IsLowerableAlternative (rules_of g.items) (conversions_of g.items)) r.alternatives) (λ r. AllByRecursion (IsDefinedClause l) (rule_clauses r))
+      (λ r h. map_all (IsDefinedClause l) (λ a. (r.name, a)) r.alternatives
+      (all_by (IsLowerableAlternative (rules_of g.items) (conversions_of g.items)) (λ a. IsDefinedClause l (r.name, a))
+      (λ a each. symbols_defined a.parts (recursion_from_All (λ p. IsKnown (rules_of g.items) (conversions_of g.items) (lowered_symbol p)) (part_list a.parts) each.known)) r.alternatives h))
+      rules (alternatives_ok g ok)))
+
+  entry_closed : (i : ℕ) (r : NonterminalString × EntryData) → slice_get l.nonterminals i ≡ Some r → IsClosedEntry l r
+  entry_closed i r at =
+      let clauses : List Clause = clauses_of g.prefix (rules_of g.items) in
+      let is : r.1.productions ≡ productions_named r.0 (clauses_of g.prefix (rules_of g.items)) =
+      found_holds clauses r.0 r.1 (entries_of g.prefix (rules_of g.items)) (all_hold g.prefix (rules_of g.items))
+      (sym (lowered.lowering.nonterminals.holds r.0) ∙ found_at_place l.nonterminals lowered.lowering.nonterminals.in_order i r at) in
+      subst (All (IsClosedProduction l r.0)) (sym is)
+      (All-from_recursion (IsClosedProduction l r.0) (productions_named r.0 clauses)
+      (closed_from g.prefix l r.0 0 clauses l.actions (λ j d there. ap (slice_get l.actions) (omega arith) ∙ there) lowered.lowering.actions clauses_defined))
+
+  pub is_closed : IsClosed l
+  is_closed = record {
+    productions = λ k d lt. entry_closed k (get_or l.nonterminals k d) (slice_get-get_or l.nonterminals k d lt);
+    numbers = λ t i at. (lowered.lowering.terminal_numbers.places t i).1 at;
+    distinct = λ t i j at there. some_inner i j (sym ((lowered.lowering.terminal_numbers.places t i).1 at) ∙ (lowered.lowering.terminal_numbers.places t j).1 there);
+  }

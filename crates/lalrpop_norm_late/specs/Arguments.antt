@@ -1,0 +1,91 @@
+-- The arguments of an alternative's code: which symbols give it values, under which names, and the code itself. All of it by
+-- places, which count from 0.
+use Rattle.std.specs.Prelude.{◌≡◌, ℕ, Bool, true, ◌||◌, List, [], ◌∷◌, ◌++◌, length, map, filter, take, zip, flat_map, replicate, nat_le, All, Option, Some, None, is_some, unwrap_or, if◌then◌else◌, codes}
+use Rattle.std.specs.List.{list_any, enumerate_from}
+use Rattle.lalrpop_norm_front.specs.Braces.{around_slot}
+use Rattle.lalrpop_norm_tree.specs.Symbols.{ArgumentPattern, one_name, several, Kind, chosen, named, tupled, Part, at, Parts, no_parts, part_and}
+use Rattle.lalrpop_norm_tree.specs.Texts.{joined, tuple_text}
+use Rattle.lalrpop_norm_late.specs.Sources.{is_chosen, source_name, plain_name}
+
+-- the symbols of an alternative
+abbrev pub part_list : Parts → List Part
+part_list no_parts = []
+part_list (part_and p ps) = p ∷ part_list ps
+
+-- ---- sources
+
+-- the pattern that a named or tuple symbol is written with
+abbrev pub kind_pattern : Kind → Option ArgumentPattern
+kind_pattern (named n p) = Some (one_name n)
+kind_pattern (tupled ns p) = Some (several ns)
+kind_pattern _ = None
+
+abbrev pub written_pattern : Part → Option ArgumentPattern
+written_pattern (at s k) = kind_pattern k
+
+abbrev pub has_pattern : Part → Bool
+has_pattern p = is_some (written_pattern p)
+
+-- which of the symbols are sources: the named and tuple ones if there are any, else the chosen ones if there are any, else all
+abbrev pub is_source_of : List Part → Part → Bool
+is_source_of ps p =
+    if list_any has_pattern ps then has_pattern p
+    else (if list_any is_chosen ps then is_chosen p else true)
+
+-- what stands in a chosen, named or tuple symbol
+abbrev pub kind_inside : Kind → Part → Part
+kind_inside (chosen p) whole = p
+kind_inside (named n p) whole = p
+kind_inside (tupled ns p) whole = p
+kind_inside _ whole = whole
+
+abbrev pub inside : Part → Part
+inside (at s k) = kind_inside k (at s k)
+
+-- the sources with their places, each as the symbol inside it
+abbrev pub sources : List Part → List (ℕ × Part)
+sources ps = map (λ e. (e.0, inside e.1)) (filter (λ e. is_source_of ps e.1) (enumerate_from 0 ps))
+
+-- ---- patterns and names
+
+-- how many sources stand before place i
+abbrev pub sources_before : List Part → ℕ → ℕ
+sources_before ps i = length (filter (is_source_of ps) (take i ps))
+
+-- the pattern at place i: a source's own, or its number behind the prefix, and `_` for any other symbol
+abbrev pub pattern_at_place : List ℕ → List Part → ℕ → Part → ArgumentPattern
+pattern_at_place prefix ps i p =
+    if is_source_of ps p then unwrap_or (written_pattern p) (plain_name (source_name prefix (sources_before ps i)))
+    else plain_name (codes "_")
+
+abbrev pub patterns : List ℕ → List Part → List ArgumentPattern
+patterns prefix ps = map (λ e. pattern_at_place prefix ps e.0 e.1) (enumerate_from 0 ps)
+
+-- the name that a pattern gives: without `mut`, and the text of a tuple
+abbrev pub name_given : ArgumentPattern → List ℕ
+name_given (one_name n) = n.name
+name_given (several ns) = tuple_text ns
+
+-- the names of the sources, in order
+abbrev pub names : List ℕ → List Part → List (List ℕ)
+names prefix ps = map (λ e. name_given (pattern_at_place prefix ps e.0 e.1)) (filter (λ e. is_source_of ps e.1) (enumerate_from 0 ps))
+
+-- ---- code
+
+-- the code is these pieces with `<>` between each two, and no piece holds a `<>`
+pub record ArePieces (code first : List ℕ) (others : List (List ℕ)) : Type 0 where
+  pub whole : joined (codes "<>") (first ∷ others) ≡ code
+  pub slotless : All (λ p. around_slot p ≡ None) (first ∷ others)
+
+-- what stands in the places of n `<>`: in each all names, joined by `, `, where symbols are named or there is at most one
+-- `<>`; else one name in each
+abbrev pub in_slots : Bool → List (List ℕ) → ℕ → List (List ℕ)
+in_slots is_named ns n = if is_named || nat_le n 1 then replicate n (joined (codes ", ") ns) else ns
+
+-- the code with its `<>` replaced, all at once
+pub record IsFilled (is_named : Bool) (ns : List (List ℕ)) (code filled : List ℕ) : Type 0 where
+  pub first : List ℕ
+  pub others : List (List ℕ)
+  pub pieces : ArePieces code first others
+  pub enough : length (in_slots is_named ns (length others)) ≡ length others
+  pub is : filled ≡ first ++ flat_map (λ e. e.0 ++ e.1) (zip (in_slots is_named ns (length others)) others)

@@ -1,0 +1,124 @@
+-- What a lowered grammar carries over from the written one.
+use Rattle.std.specs.Prelude.{ℕ, ◌||◌, Bool, true, false, List, [], ◌∷◌, map, flat_map, filter_map, fold, Option, Some, None, option_map, unwrap_or, bytes_eq, codes}
+use Rattle.std.specs.List.{list_any, enumerate_from}
+use Rattle.lalrpop_norm_tree.specs.declared.items.MatchEntry.{MatchEntry}
+use Rattle.lalrpop_norm_tree.specs.declared.items.MatchMapping.{MatchMapping}
+use Rattle.lalrpop_norm_tree.specs.declared.items.MatchMapping.TheVariants as mapping
+use Rattle.lalrpop_norm_tree.specs.declared.lowered.LrCodeGeneration.{LrCodeGeneration}
+use Rattle.lalrpop_norm_tree.specs.declared.lowered.LrCodeGeneration.TheVariants.{TableDriven}
+use Rattle.lalrpop_norm_tree.specs.declared.names.Span.{Span}
+use Rattle.lalrpop_norm_tree.specs.declared.names.TerminalString.{TerminalString}
+use Rattle.lalrpop_norm_tree.specs.declared.names.TypeParameter.{TypeParameter}
+use Rattle.lalrpop_norm_tree.specs.Accessors.{codegen_named}
+use Rattle.lalrpop_norm_tree.specs.Attributes.{Attributes, no_attributes, attribute_and, attribute}
+use Rattle.lalrpop_norm_tree.specs.Bounds.{BoundParameterData, lifetime_parameter, type_parameter, associated_type, BoundData, lifetime_bound, function_bound, trait_bound, WhereClauseData, lifetime_clause, type_clause}
+use Rattle.lalrpop_norm_tree.specs.Items.{ItemData, extern_item, intern_item, use_item, RuleData, GrammarData}
+use Rattle.lalrpop_norm_tree.specs.LoweredTypes.{repr_of, named_path}
+use Rattle.lalrpop_norm_tree.specs.Patterns.{PatternData, pattern_at, tuple_struct, pattern_and, no_patterns, number, chosen as chosen_type}
+use Rattle.lalrpop_norm_tree.specs.Reprs.{ReprData, of_lifetime, reference, named_repr, LoweredClause, for_all, has_bound}
+use Rattle.lalrpop_norm_tree.specs.Symbols.{Kind, group, ambiguous_id, terminal, nonterminal, call, repeated, chosen, named, tupled, lookahead, lookbehind, error_terminal, Part, at, Parts, no_parts, part_and}
+use Rattle.lalrpop_norm_tree.specs.Types.{TypeData, ParameterData}
+use Rattle.lalrpop_norm_repr.specs.Lowered.{LoweredParameter}
+use Rattle.lalrpop_norm_late.specs.Conversions.{conversions_in, mapped}
+
+-- ---- tokens
+
+-- a terminal and the pattern of its tokens
+abbrev pub TokenRow : Type 0
+TokenRow = TerminalString × PatternData ReprData
+
+-- `&'input str`
+abbrev pub input_type : ReprData
+input_type = reference (Some (record { 0 = codes "'input" })) false (named_repr (codes "str"))
+
+-- `Token(i, <&'input str>)`
+abbrev pub internal_pattern : Span → ℕ → PatternData ReprData
+internal_pattern span i =
+    pattern_at span (tuple_struct (named_path (codes "Token")) (pattern_and (pattern_at span (number i)) (pattern_and (pattern_at span (chosen_type input_type)) no_patterns)))
+
+abbrev pub terminal_named : MatchMapping → Option TerminalString
+terminal_named (mapping.Terminal t) = Some t
+terminal_named mapping.Skip = None
+
+-- the entries of a tokenizer that name a terminal, each with its own place
+abbrev pub entry_rows : Span → List MatchEntry → List TokenRow
+entry_rows span entries = filter_map (λ e. option_map (λ t. (t, internal_pattern span e.0)) (terminal_named e.1.user_name)) (enumerate_from 0 entries)
+
+abbrev pub item_tokens : Span → ItemData → List TokenRow
+item_tokens span (extern_item t) = map (λ c. (c.from, mapped repr_of c.to)) (conversions_in t.enum_token)
+item_tokens span (intern_item t) = entry_rows span t.match_entries
+item_tokens span _ = []
+
+-- the conversions of the enum, or the entries of the tokenizer, in order
+abbrev pub tokens_of : GrammarData → List TokenRow
+tokens_of g = flat_map (item_tokens g.span) g.items
+
+-- ---- `!`
+
+abbrev mutual
+  pub is_error_kind : Kind → Bool
+  is_error_kind error_terminal = true
+  is_error_kind (chosen p) = is_error p
+  is_error_kind (named n p) = is_error p
+  is_error_kind (tupled ns p) = is_error p
+  is_error_kind (group ps) = false
+  is_error_kind (ambiguous_id a) = false
+  is_error_kind (terminal t) = false
+  is_error_kind (nonterminal n) = false
+  is_error_kind (call n ps) = false
+  is_error_kind (repeated o p) = false
+  is_error_kind lookahead = false
+  is_error_kind lookbehind = false
+
+  -- `!`, also as a chosen, named or tuple symbol
+  pub is_error : Part → Bool
+  is_error (at s k) = is_error_kind k
+
+abbrev pub any_error : Parts → Bool
+any_error no_parts = false
+any_error (part_and p ps) = is_error p || any_error ps
+
+-- whether `!` stands in an alternative
+abbrev pub uses_recovery : List RuleData → Bool
+uses_recovery rules = list_any (λ r. list_any (λ a. any_error a.parts) r.alternatives) rules
+
+-- ---- the head of a grammar
+
+abbrev pub lowered_parameter : ParameterData → LoweredParameter
+lowered_parameter p = record { name = p.name; ty = repr_of p.type }
+
+abbrev pub lowered_bound_parameter : BoundParameterData TypeData → BoundParameterData ReprData
+lowered_bound_parameter (lifetime_parameter l) = lifetime_parameter l
+lowered_bound_parameter (type_parameter t) = type_parameter (repr_of t)
+lowered_bound_parameter (associated_type a t) = associated_type a (repr_of t)
+
+abbrev pub lowered_bound : BoundData TypeData → BoundData ReprData
+lowered_bound (lifetime_bound l) = lifetime_bound l
+lowered_bound (function_bound fs p ts r) = function_bound fs p (map repr_of ts) (option_map repr_of r)
+lowered_bound (trait_bound fs p ps) = trait_bound fs p (map lowered_bound_parameter ps)
+
+-- under its `for<..>`, if there is one
+abbrev pub under : List TypeParameter → LoweredClause → LoweredClause
+under [] c = c
+under (f ∷ fs) c = for_all (f ∷ fs) c
+
+-- a where clause: one clause for each of its bounds
+abbrev pub lowered_clauses : WhereClauseData TypeData → List LoweredClause
+lowered_clauses (lifetime_clause l ls) = map (λ m. has_bound (of_lifetime l) (lifetime_bound m)) ls
+lowered_clauses (type_clause fs t bs) = map (λ b. under fs (has_bound (repr_of t) (lowered_bound b))) bs
+
+abbrev pub use_of : ItemData → Option (List ℕ)
+use_of (use_item s) = Some s
+use_of _ = None
+
+abbrev pub attribute_names : Attributes → List (List ℕ)
+attribute_names no_attributes = []
+attribute_names (attribute_and (attribute s n a) rest) = n ∷ attribute_names rest
+
+-- whether an attribute asks for LALR tables
+abbrev pub asks_lalr : Attributes → Bool
+asks_lalr as_written = list_any (λ n. bytes_eq n (codes "LALR")) (attribute_names as_written)
+
+-- the code that the attributes ask for, the last one standing; by tables, if none does
+abbrev pub asked_code : Attributes → LrCodeGeneration
+asked_code as_written = fold (λ code n. unwrap_or (codegen_named n) code) TableDriven (attribute_names as_written)
