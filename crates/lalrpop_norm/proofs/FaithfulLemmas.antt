@@ -32,7 +32,7 @@ use Rattle.lalrpop_norm.specs.Later.{pattern_kind_parts, pattern_parts, patterns
 use Rattle.lalrpop_norm_late.specs.Lowerable.{IsRuleOrExtern, IsDeclared}
 use Rattle.lalrpop_norm.specs.PlainGrammars.{IsPlainKind, IsPlainSymbol, ArePlainSymbols, IsPlainAlternative, IsPlainRule, IsPlainConversion, HasOneEnum, HasFreeStart, IsPlainGrammar}
 use Rattle.lalrpop_norm.specs.Faithful.{IsFaithful}
-use Rattle.lalrpop_norm_front.specs.declared.faults.FaultKind.TheVariants.{NotYet}
+use Rattle.lalrpop_norm_faults.specs.declared.kind.FaultKind.TheVariants.{NotYet}
 use Rattle.lalrpop_norm.proofs.LaterLemmas.{plain_grammar}
 use Rattle.lalrpop_norm.proofs.ShapeTrees.{AreFree, turned}
 use Rattle.lalrpop_norm.proofs.SimpleFaithful.{IsSimpleGrammar, simple_faithful, rules_agree}

@@ -10,7 +10,7 @@ use Rattle.lalrpop_norm_tree.specs.Patterns as pattern
 use Rattle.lalrpop_norm_tree.specs.Symbols.{group, ambiguous_id, terminal, nonterminal, call, repeated, chosen, named, tupled, lookahead, lookbehind, error_terminal, Part, at, Parts, no_parts, part_and}
 use Rattle.lalrpop_norm_tree.specs.Types.{TypeData}
 use Rattle.lalrpop_norm_front.specs.Braces.{around_slot}
-use Rattle.lalrpop_norm_front.specs.declared.faults.FaultKind.TheVariants.{NotYet}
+use Rattle.lalrpop_norm_faults.specs.declared.kind.FaultKind.TheVariants.{NotYet}
 use Rattle.lalrpop_norm_repr.specs.Tables.{same_terminal}
 use Rattle.lalrpop_norm_late.specs.Arguments.{part_list, has_pattern}
 use Rattle.lalrpop_norm_late.specs.Carried.{is_error, any_error}

@@ -2,9 +2,9 @@
 use Rattle.std.proofs.Common.{◌≡◌, Result, Ok, Err, Some, List, [], ◌∷◌, ◌++◌, map}
 use Rattle.std.specs.Result.{IsErrAnd}
 use Rattle.lalrpop_norm_tree.specs.declared.names.Span.{Span}
-use Rattle.lalrpop_norm_front.specs.declared.faults.FaultKind.TheVariants.{NotYet}
-use Rattle.lalrpop_norm_front.specs.declared.faults.NormFailure.{NormFailure}
-use Rattle.lalrpop_norm_front.specs.Faults.{IsFirst}
+use Rattle.lalrpop_norm_faults.specs.declared.kind.FaultKind.TheVariants.{NotYet}
+use Rattle.lalrpop_norm_faults.specs.declared.failure.NormFailure.{NormFailure}
+use Rattle.lalrpop_norm_faults.specs.Faults.{IsFirst}
 use Rattle.lalrpop_norm.specs.declared.later.LaterPart.{LaterPart}
 use Rattle.lalrpop_norm.specs.declared.later.Stop.{Stop}
 use Rattle.lalrpop_norm.specs.declared.later.Stop.TheVariants.{Found, Memory}

@@ -9,8 +9,8 @@ use Rattle.lalrpop_norm_tree.specs.Patterns as pattern
 use Rattle.lalrpop_norm_tree.specs.Symbols.{Kind, group, ambiguous_id, terminal, nonterminal, call, repeated, chosen, named, tupled, lookahead, lookbehind, error_terminal, Part, at, Parts, no_parts, part_and}
 use Rattle.lalrpop_norm_tree.specs.Types.{TypeData}
 use Rattle.lalrpop_norm_front.specs.Braces.{around_slot, presence, is_in_braces}
-use Rattle.lalrpop_norm_front.specs.Faults.{Fault}
-use Rattle.lalrpop_norm_front.specs.declared.faults.FaultKind.TheVariants.{NotYet}
+use Rattle.lalrpop_norm_faults.specs.Faults.{Fault}
+use Rattle.lalrpop_norm_faults.specs.declared.kind.FaultKind.TheVariants.{NotYet}
 use Rattle.lalrpop_norm.specs.declared.later.LaterPart.{LaterPart}
 use Rattle.lalrpop_norm.specs.declared.later.LaterPart.TheVariants as later
 use Rattle.lalrpop_norm.specs.Grammars.{rules_of, externs_of, names_of, is_public, enum_in, conversions_of, terminals_of, listed, terminal_listed, same_terminal, has_repeated}

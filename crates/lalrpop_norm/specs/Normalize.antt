@@ -1,6 +1,6 @@
 -- What normalization refuses while the library grows.
 use Rattle.std.specs.Prelude.{List, ◌++◌}
-use Rattle.lalrpop_norm_front.specs.Faults.{Fault}
+use Rattle.lalrpop_norm_faults.specs.Faults.{Fault}
 use Rattle.lalrpop_norm_late.specs.Plain.{plain_faults}
 use Rattle.lalrpop_norm_tree.specs.Items.{GrammarData}
 use Rattle.lalrpop_norm.specs.Later.{later_faults}

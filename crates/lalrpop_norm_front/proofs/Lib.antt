@@ -1,2 +1,1 @@
-pub mod FaultLemmas
 pub mod Slots

@@ -1,5 +1,5 @@
 -- Where `<>` is found.
-use Rattle.std.proofs.Common.{◌≡◌, ℕ, ◌<◌, ◌≤◌, Bool, true, false, eqb, zero, suc, ◌&&◌, List, [], ◌∷◌, ◌++◌, Some, None, Decides, length, take, drop, option_map, codes, cond, refl, sym, ap, ◌∙◌, subst, arith}
+use Rattle.std.proofs.Common.{◌≡◌, ℕ, ◌<◌, ◌≤◌, Bool, true, false, eqb, zero, suc, ◌&&◌, List, [], ◌∷◌, ◌++◌, Some, None, Decides, length, take, drop, option_map, codes, refl, sym, ap, subst, arith}
 use Rattle.std.proofs.lemmas.Bool.Decides.{Decides-eqb}
 use Rattle.std.specs.Str.Pattern.{LacksTextAt}
 use Rattle.lalrpop_norm_front.specs.Braces.{is_slot, around_slot}

@@ -14,8 +14,6 @@ ghost use Rattle.lalrpop_norm_json.specs.Shapes as shape;
 ghost use Rattle.lalrpop_norm_json.specs.Shapes.{is};
 
 mod json;
-#[cfg(test)]
-mod tests;
 mod tree;
 
 pub use json::TreeError;

@@ -1,6 +1,6 @@
 -- What lowering makes, as it counts: the words of the code, from which the promises are proved.
 use Rattle.std.specs.Prelude.{◌≡◌, ℕ, false, List, [], ◌++◌, length, Option, Some, None}
-use Rattle.lalrpop_norm_front.specs.Faults.{Fault}
+use Rattle.lalrpop_norm_faults.specs.Faults.{Fault}
 use Rattle.lalrpop_norm_tree.specs.declared.lowered.Algorithm.{Algorithm}
 use Rattle.lalrpop_norm_tree.specs.declared.lowered.LrCodeGeneration.TheVariants.{TableDriven}
 use Rattle.lalrpop_norm_tree.specs.declared.names.NonterminalString.{NonterminalString}

@@ -3,8 +3,8 @@ use Rattle.std.specs.Prelude.{ℕ, ◌+◌, Bool, true, false, List, [], ◌∷�
 use Rattle.std.specs.BTreeMap.{insert_entry}
 use Rattle.std.specs.Ordering.{nat_cmp}
 use Rattle.std.specs.Cmp.Lexicographic.{slice_cmp}
-use Rattle.lalrpop_norm_front.specs.Faults.{Fault, fault_if}
-use Rattle.lalrpop_norm_front.specs.declared.faults.FaultKind.TheVariants.{TooManyActions}
+use Rattle.lalrpop_norm_faults.specs.Faults.{Fault, fault_if}
+use Rattle.lalrpop_norm_faults.specs.declared.kind.FaultKind.TheVariants.{TooManyActions}
 use Rattle.lalrpop_norm_tree.specs.declared.names.NonterminalString.{NonterminalString}
 use Rattle.lalrpop_norm_tree.specs.declared.names.Span.{Span}
 use Rattle.lalrpop_norm_tree.specs.declared.names.TerminalString.TheVariants as terminal_string

@@ -1,6 +1,6 @@
 -- What a plain grammar is lowered to, and the faults of lowering.
 use Rattle.std.specs.Prelude.{◌≡◌, List, map, Option, None, option_map, option_and_then, unwrap_or}
-use Rattle.lalrpop_norm_front.specs.Faults.{Fault}
+use Rattle.lalrpop_norm_faults.specs.Faults.{Fault}
 use Rattle.lalrpop_norm_tree.specs.declared.names.NonterminalString.{NonterminalString}
 use Rattle.lalrpop_norm_tree.specs.Accessors.{first_of, enum_token_of}
 use Rattle.lalrpop_norm_tree.specs.Items.{RuleData, GrammarData}

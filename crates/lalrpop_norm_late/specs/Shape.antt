@@ -6,8 +6,8 @@ use Rattle.std.specs.List.{list_any, enumerate_from, AllZip}
 use Rattle.std.specs.List.Sorted.{IsStrictlySortedBy}
 use Rattle.std.specs.Map.{keys_of}
 use Rattle.std.specs.Ordering.{nat_cmp}
-use Rattle.lalrpop_norm_front.specs.Faults.{Fault}
-use Rattle.lalrpop_norm_front.specs.declared.faults.FaultKind.TheVariants.{TooManyActions}
+use Rattle.lalrpop_norm_faults.specs.Faults.{Fault}
+use Rattle.lalrpop_norm_faults.specs.declared.kind.FaultKind.TheVariants.{TooManyActions}
 use Rattle.lalrpop_norm_tree.specs.declared.names.NonterminalString.{NonterminalString}
 use Rattle.lalrpop_norm_tree.specs.declared.names.TerminalString.{TerminalString}
 use Rattle.lalrpop_norm_tree.specs.declared.names.TerminalString.TheVariants as terminal_string

@@ -1,6 +1,6 @@
 //! Action functions, numbered as they are made.
 ghost use Rattle.std.specs.Prelude.{◌≡◌, ◌++◌, [], ◌∷◌, IfOk, OnOk, map, option_map, string_bytes, vec_len};
-ghost use Rattle.lalrpop_norm_front.specs.Faults.{Refuses};
+ghost use Rattle.lalrpop_norm_faults.specs.Faults.{Refuses};
 ghost use Rattle.lalrpop_norm_tree.specs.Items.{action_view, alternative_view};
 ghost use Rattle.lalrpop_norm_tree.specs.Reprs.{repr_view};
 ghost use Rattle.lalrpop_norm_tree.specs.Symbols.{expr_view};

@@ -1,6 +1,6 @@
 //! A plain grammar, lowered whole.
 ghost use Rattle.std.specs.Prelude.{◌≡◌, ◌++◌, IfOk, [], length, map, option_map, string_bytes};
-ghost use Rattle.lalrpop_norm_front.specs.Faults.{Refuses};
+ghost use Rattle.lalrpop_norm_faults.specs.Faults.{Refuses};
 ghost use Rattle.lalrpop_norm_tree.specs.Items as written;
 ghost use Rattle.lalrpop_norm_tree.specs.Reprs.{repr_view};
 ghost use Rattle.lalrpop_norm_repr.specs.Lowered as lowered;

@@ -1,6 +1,6 @@
 //! Productions: start symbols first, then the alternatives in item order.
 ghost use Rattle.std.specs.Prelude.{◌≡◌, ◌+◌, ◌++◌, [], ◌∷◌, length, IfOk, OnOk, map, vec_len};
-ghost use Rattle.lalrpop_norm_front.specs.Faults.{Refuses};
+ghost use Rattle.lalrpop_norm_faults.specs.Faults.{Refuses};
 ghost use Rattle.lalrpop_norm_tree.specs.Items.{alternative_view};
 ghost use Rattle.lalrpop_norm_tree.specs.Reprs.{repr_view};
 ghost use Rattle.lalrpop_norm_repr.specs.Actions.{action_defn_view};

@@ -8,7 +8,5 @@ mod action;
 pub mod grammar;
 mod production;
 mod symbol;
-#[cfg(test)]
-mod tests;
 mod types;
 mod whole;

@@ -1,7 +1,7 @@
 -- What the halt of an answer says of a run.
 use Rattle.std.proofs.Common.{ℕ, List, Option}
 use Rattle.std.specs.Io.KnownBytes.{Keeps}
-use Rattle.lalrpop_norm_front.specs.declared.faults.NormFailure.TheVariants.{Refused, Memory as no_room}
+use Rattle.lalrpop_norm_faults.specs.declared.failure.NormFailure.TheVariants.{Refused, Memory as no_room}
 use Rattle.lnorm.specs.Settings.{Settings}
 use Rattle.lnorm.specs.Runs.{Takes}
 use Rattle.lnorm.specs.Halts.{Explains, Halts}

@@ -1,8 +1,8 @@
 -- What status 1 tells.
 use Rattle.std.proofs.Common.{◌≡◌, ℕ, List, Option, string_bytes, arith}
 use Rattle.lalrpop_norm_tree.specs.declared.names.Span.{Span}
-use Rattle.lalrpop_norm_front.specs.declared.faults.FaultKind.{FaultKind}
-use Rattle.lalrpop_norm_front.specs.declared.faults.NormFailure.TheVariants.{Refused, Memory as no_room}
+use Rattle.lalrpop_norm_faults.specs.declared.kind.FaultKind.{FaultKind}
+use Rattle.lalrpop_norm_faults.specs.declared.failure.NormFailure.TheVariants.{Refused, Memory as no_room}
 use Rattle.lnorm.specs.Runs.{WritesFront, IsRefused, fault_line}
 use Rattle.lnorm.specs.Halts.{Halts, status_of, LineOf}
 use Rattle.lnorm.specs.declared.halt.Halt.{Halt}

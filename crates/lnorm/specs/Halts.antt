@@ -1,7 +1,7 @@
 -- What a halt says of what was read and written, and what is told of it.
 use Rattle.std.specs.Prelude.{◌≡◌, ℕ, List, Option, None, string_bytes}
 use Rattle.std.specs.Io.KnownBytes.{Keeps}
-use Rattle.lalrpop_norm_front.specs.declared.faults.NormFailure.TheVariants.{Refused, Memory as no_room}
+use Rattle.lalrpop_norm_faults.specs.declared.failure.NormFailure.TheVariants.{Refused, Memory as no_room}
 use Rattle.lnorm.specs.Answers.{IsTree, Stands}
 use Rattle.lnorm.specs.Settings.{Settings, settings_of}
 use Rattle.lnorm.specs.Runs.{WritesFront, IsRight, IsRefused, IsNoTree, fault_line, usage_line, no_tree_line, memory_line, stream_line}

@@ -2,8 +2,8 @@
 use Rattle.std.specs.Prelude.{◌≡◌, ◌≤◌, ℕ, List, ◌++◌, Option, Some, length, take, codes, decimal}
 use Rattle.std.specs.Io.KnownBytes.{Appends, Consumes, IsAtEnd}
 use Rattle.lalrpop_norm_tree.specs.declared.names.Span.{Span}
-use Rattle.lalrpop_norm_front.specs.declared.faults.FaultKind.{FaultKind}
-use Rattle.lalrpop_norm_front.specs.Faults.{code_of}
+use Rattle.lalrpop_norm_faults.specs.declared.kind.FaultKind.{FaultKind}
+use Rattle.lalrpop_norm_faults.specs.Faults.{code_of}
 use Rattle.lnorm.specs.Answers.{IsTree, IsAnswer, Stands}
 use Rattle.lnorm.specs.Settings.{Settings, settings_of}
 

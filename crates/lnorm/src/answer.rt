@@ -1,8 +1,8 @@
 //! The text for an input.
 ghost use Rattle.std.specs.Prelude.{◌≡◌, IfOk, IfErr, map, string_bytes};
 ghost use Rattle.lalrpop_norm_tree.specs.Items.{grammar_view};
-ghost use Rattle.lalrpop_norm_front.specs.Faults.{IsFirst};
-ghost use Rattle.lalrpop_norm_front.specs.declared.faults.NormFailure.TheVariants.{Memory};
+ghost use Rattle.lalrpop_norm_faults.specs.Faults.{IsFirst};
+ghost use Rattle.lalrpop_norm_faults.specs.declared.failure.NormFailure.TheVariants.{Memory};
 ghost use Rattle.lnorm.specs.Answers.{IsAnswer, IsFormOf, Lowers, faults_of};
 ghost use Rattle.lalrpop_norm_repr.specs.Lowered.{grammar_view as lowered_view};
 ghost use Rattle.lnorm.specs.Lines.{lines};

@@ -1,6 +1,6 @@
 use Rattle.std.proofs.Common.{subst}
 use Rattle.std.proofs.lemmas.Result.{IfOk-weaker}
-use Rattle.lalrpop_norm_front.specs.Faults.{Refuses}
+use Rattle.lalrpop_norm_faults.specs.Faults.{Refuses}
 use Rattle.lalrpop_norm_tree.specs.Items as written
 use Rattle.lalrpop_norm_repr.specs.Lowered as lowered
 use Rattle.lalrpop_norm_repr.specs.Closed.{IsClosed}

@@ -1,7 +1,7 @@
 use Rattle.std.proofs.Common.{◌∙◌, sym, map, arith}
 use Rattle.std.specs.List.{flat_map}
 use Rattle.lalrpop_norm_tree.specs.Items.{alternative_view}
-use Rattle.lalrpop_norm_front.proofs.FaultLemmas.{at_drop_item}
+use Rattle.lalrpop_norm_faults.proofs.FaultLemmas.{at_drop_item}
 use Rattle.lalrpop_norm.specs.Later.{alternative_parts}
 use Rattle.lalrpop_norm.proofs.WalkLemmas.{finds_at}
 use Rattle.lalrpop_norm.proofs.later.rules.find_in_alternatives.Goals as goal

@@ -1,4 +1,5 @@
-use crate::grammar::repr::{
+//! The table of types, and the texts of productions and actions.
+use lalrpop_norm_repr::grammar::repr::{
     ActionFn, ActionFnDefn, ActionFnDefnKind, LookaroundActionFnDefn, NonterminalString, Parameter,
     Production, Span, Symbol, TerminalString, TypeRepr, Types,
 };

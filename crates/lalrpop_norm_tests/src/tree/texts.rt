@@ -1,4 +1,5 @@
 //! Texts as a grammar's author would write them.
+use crate::made::named_type;
 use lalrpop_norm_tree::grammar::parse_tree::*;
 use lalrpop_norm_tree::grammar::pattern::PatternKind;
 use lalrpop_norm_tree::grammar::repr;
@@ -15,10 +16,6 @@ fn symbol(kind: SymbolKind) -> Symbol {
 fn path(alloc: Global, absolute: bool, name: &str) -> Result<Path, NoMemory> {
     let ids = vec![in alloc; Atom::new(alloc, name)?]?;
     Ok(Path { absolute, ids })
-}
-
-fn id(alloc: Global, name: &str) -> Result<TypeRef, NoMemory> {
-    Ok(TypeRef::Id(Atom::new(alloc, name)?))
 }
 
 fn lifetime(alloc: Global, name: &str) -> Result<Lifetime, NoMemory> {
@@ -63,7 +60,7 @@ fn shows_tuple_symbols(rt: HostRuntime) -> Result<(), Fail> {
 #[test]
 fn shows_where_clauses(rt: HostRuntime) -> Result<(), Fail> {
     let alloc = rt.alloc();
-    let item = TypeBoundParameter::Associated(Atom::new(alloc, "Item")?, id(alloc, "B")?);
+    let item = TypeBoundParameter::Associated(Atom::new(alloc, "Item")?, named_type(alloc, "B")?);
     let bound = TypeBound::Trait {
         forall: Vec::new(alloc),
         path: path(alloc, false, "I")?,
@@ -72,7 +69,7 @@ fn shows_where_clauses(rt: HostRuntime) -> Result<(), Fail> {
     let other = TypeBound::Lifetime(lifetime(alloc, "'a")?);
     let clause = WhereClause::OfType {
         forall: vec![in alloc; TypeParameter::Lifetime(lifetime(alloc, "'a")?)]?,
-        ty: id(alloc, "T")?,
+        ty: named_type(alloc, "T")?,
         bounds: vec![in alloc; bound, other]?,
     };
     assert_eq!(rt;

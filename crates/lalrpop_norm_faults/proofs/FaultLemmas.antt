@@ -1,11 +1,11 @@
 -- First faults of joined lists.
-use Rattle.std.proofs.Common.{◌≡◌, ◌<◌, ◌+◌, ℕ, Result, Ok, Err, get_or, drop, sym, ap, ◌∙◌, List, [], ◌∷◌, ◌++◌, length, arith, refl}
-use Rattle.lalrpop_norm_front.specs.declared.faults.NormFailure.{NormFailure}
-use Rattle.lalrpop_norm_front.specs.declared.faults.NormFailure.TheVariants.{Refused, Memory}
+use Rattle.std.proofs.Common.{◌≡◌, ◌<◌, ◌+◌, ℕ, Result, Ok, Err, get_or, drop, sym, ap, ◌∙◌, List, [], ◌∷◌, ◌++◌, length}
+use Rattle.lalrpop_norm_faults.specs.declared.failure.NormFailure.{NormFailure}
+use Rattle.lalrpop_norm_faults.specs.declared.failure.NormFailure.TheVariants.{Refused, Memory}
 use Rattle.std.specs.List.{flat_map}
 use Rattle.std.specs.Result.{IsErrAnd}
 use Rattle.std.proofs.lemmas.List.{at_drop_more}
-use Rattle.lalrpop_norm_front.specs.Faults.{Fault, IsFirst, Refuses}
+use Rattle.lalrpop_norm_faults.specs.Faults.{Fault, IsFirst, Refuses}
 
 -- what is first of some faults is first of them and more
 pub first_of_more : (xs ys : List Fault) (e : NormFailure) → IsFirst xs e → IsFirst (xs ++ ys) e

@@ -1,12 +1,8 @@
 //! Each call that makes a part of a tree, once with enough memory.
+use crate::made::named_type;
 use lalrpop_norm_tree::grammar::parse_tree::*;
 use lalrpop_norm_tree::grammar::repr::TypeRepr;
-use std::alloc::Global;
 use std::test::*;
-
-fn id(alloc: Global, text: &str) -> Result<TypeRef, NoMemory> {
-    Ok(TypeRef::Id(Atom::new(alloc, text)?))
-}
 
 #[test]
 fn names_have_their_texts(rt: HostRuntime) -> Result<(), Fail> {
@@ -52,7 +48,7 @@ fn match_blocks_grow_at_their_end(rt: HostRuntime) -> Result<(), Fail> {
 #[test]
 fn types_lose_their_single_names(rt: HostRuntime) -> Result<(), Fail> {
     let alloc = rt.alloc();
-    let written = id(alloc, "str")?;
+    let written = named_type(alloc, "str")?;
     let lowered = TypeRepr::str(alloc)?;
     assert!(rt; written.type_repr(alloc) == Ok(lowered));
     Ok(())

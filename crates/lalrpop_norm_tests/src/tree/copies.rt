@@ -1,4 +1,5 @@
 //! Each call that copies, once with enough memory.
+use crate::made::named_type;
 use lalrpop_norm_tree::grammar::parse_tree::*;
 use lalrpop_norm_tree::grammar::pattern::{FieldPattern, Pattern, PatternKind};
 use lalrpop_norm_tree::grammar::repr::{NominalTypeRepr, TypeRepr};
@@ -11,14 +12,10 @@ fn copies<T: Clone + PartialEq + Drop>(value: &T) -> Result<bool, NoMemory> {
     Ok(copy == *value)
 }
 
-fn id(alloc: Global, text: &str) -> Result<TypeRef, NoMemory> {
-    Ok(TypeRef::Id(Atom::new(alloc, text)?))
-}
-
 #[test]
 fn types_are_copied(rt: HostRuntime) -> Result<(), Fail> {
     let alloc = rt.alloc();
-    let ty = id(alloc, "T")?;
+    let ty = named_type(alloc, "T")?;
     assert!(rt; copies(&ty)?);
     Ok(())
 }
@@ -80,7 +77,7 @@ fn tuples_are_copied(rt: HostRuntime) -> Result<(), Fail> {
 fn field(alloc: Global) -> Result<FieldPattern<TypeRef>, NoMemory> {
     let pattern = Pattern {
         span: Span(2, 3),
-        kind: PatternKind::Choose(id(alloc, "u8")?),
+        kind: PatternKind::Choose(named_type(alloc, "u8")?),
     };
     Ok(FieldPattern {
         field_span: Span(1, 3),
@@ -110,13 +107,13 @@ fn struct_patterns_are_copied(rt: HostRuntime) -> Result<(), Fail> {
 #[test]
 fn where_clauses_are_copied(rt: HostRuntime) -> Result<(), Fail> {
     let alloc = rt.alloc();
-    let parameter = TypeBoundParameter::TypeParameter(id(alloc, "T")?);
+    let parameter = TypeBoundParameter::TypeParameter(named_type(alloc, "T")?);
     assert!(rt; parameter.clone()? == parameter);
     let bound = TypeBound::Lifetime(Lifetime::statik(alloc)?);
     assert!(rt; bound.clone()? == bound);
     let clause = WhereClause::OfType {
         forall: Vec::new(alloc),
-        ty: id(alloc, "T")?,
+        ty: named_type(alloc, "T")?,
         bounds: vec![in alloc; bound]?,
     };
     assert!(rt; clause.clone()? == clause);
@@ -203,7 +200,7 @@ fn extern_blocks_are_copied(rt: HostRuntime) -> Result<(), Fail> {
     let location = AssociatedType {
         type_span: Span(1, 4),
         type_name: Atom::new(alloc, "Location")?,
-        type_ref: id(alloc, "usize")?,
+        type_ref: named_type(alloc, "usize")?,
     };
     assert!(rt; copies(&location)?);
     let conversion = Conversion {
@@ -217,7 +214,7 @@ fn extern_blocks_are_copied(rt: HostRuntime) -> Result<(), Fail> {
     };
     assert!(rt; conversion.clone()? == conversion);
     let tokens = EnumToken {
-        type_name: id(alloc, "Tok")?,
+        type_name: named_type(alloc, "Tok")?,
         type_span: Span(2, 5),
         conversions: vec![in alloc; conversion]?,
     };
@@ -236,7 +233,7 @@ fn grammars_are_copied(rt: HostRuntime) -> Result<(), Fail> {
     let alloc = rt.alloc();
     let parameter = Parameter {
         name: Atom::new(alloc, "input")?,
-        ty: id(alloc, "T")?,
+        ty: named_type(alloc, "T")?,
     };
     assert!(rt; copies(&parameter)?);
     let item = GrammarItem::Use(String::from_str(alloc, "std::fmt")?);

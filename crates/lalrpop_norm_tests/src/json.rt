@@ -1,5 +1,5 @@
 //! Readings of whole texts, and what is no tree.
-use super::{TreeError, read_tree};
+use lalrpop_norm_json::{TreeError, read_tree};
 use lalrpop_norm_tree::grammar::parse_tree::*;
 use lalrpop_norm_tree::grammar::pattern::{Pattern, PatternKind};
 use std::alloc::{AllocError, Global};

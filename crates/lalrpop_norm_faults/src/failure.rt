@@ -1,0 +1,75 @@
+//! How a pass answers a fault, or want of memory.
+ghost use Rattle.lalrpop_norm_faults.specs.Faults.{IsFirst, IsRefusal};
+ghost use Rattle.std.specs.Prelude.{◌≡◌, [], ◌∷◌};
+
+use crate::kind::FaultKind;
+use lalrpop_norm_tree::grammar::parse_tree::{NoMemory, Span};
+use std::alloc::{AllocError, AllocFailed};
+
+/// A fault where it stands.
+#[derive(Debug, Drop)]
+pub struct NormError {
+    /// What is wrong.
+    pub fault: FaultKind,
+    /// What users are told, without number and place.
+    pub message: String,
+    /// Where it stands: byte offsets in the grammar's text, half open.
+    pub span: Span,
+}
+
+/// Why a pass gave no answer: a fault of the grammar, or want of memory.
+#[derive(Debug, Drop)]
+pub enum NormFailure {
+    /// The grammar has this fault.
+    Refused(NormError),
+    /// There was no memory for the answer, or for the message of a fault.
+    Memory,
+}
+
+/// What a pass answers.
+pub type NormResult<T> = Result<T, NormFailure>;
+
+impl From<NoMemory> for NormFailure {
+    ghost use Rattle.lalrpop_norm_faults.specs.declared.failure.NormFailure.TheVariants.{Memory};
+
+    ghost from_gives = { λ _ r. r ≡ Memory };
+
+    fn from(_: NoMemory) -> NormFailure {
+        NormFailure::Memory
+    }
+}
+
+impl From<AllocError> for NormFailure {
+    ghost use Rattle.lalrpop_norm_faults.specs.declared.failure.NormFailure.TheVariants.{Memory};
+
+    ghost from_gives = { λ _ r. r ≡ Memory };
+
+    fn from(_: AllocError) -> NormFailure {
+        NormFailure::Memory
+    }
+}
+
+impl<T: Drop> From<AllocFailed<T>> for NormFailure {
+    ghost use Rattle.lalrpop_norm_faults.specs.declared.failure.NormFailure.TheVariants.{Memory};
+
+    ghost from_gives = { λ _ r. r ≡ Memory };
+
+    fn from(_: AllocFailed<T>) -> NormFailure {
+        NormFailure::Memory
+    }
+}
+
+/// The refusal of a fault, once its message is made. Where there was no memory for the message, that is the answer.
+pub fn refusal(fault: FaultKind, span: Span, message: Result<String, AllocError>) -> NormFailure
+    ensures first { IsFirst ((fault, span) ∷ []) result }
+    ensures answer { IsRefusal fault span message result }
+{
+    match message {
+        Ok(message) => NormFailure::Refused(NormError {
+            fault,
+            message,
+            span,
+        }),
+        Err(_) => NormFailure::Memory,
+    }
+}

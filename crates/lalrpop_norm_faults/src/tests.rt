@@ -1,0 +1,30 @@
+//! Numbers of faults, and a refusal.
+use crate::{FaultKind, NormFailure, refusal};
+use lalrpop_norm_tree::grammar::parse_tree::Span;
+use std::alloc::AllocError;
+use std::test::*;
+
+#[test]
+fn numbers(rt: HostRuntime) {
+    assert_eq!(rt; FaultKind::NotYet.code(), "F0");
+    assert_eq!(rt; FaultKind::SideOnLowest.code(), "F12f");
+    assert_eq!(rt; FaultKind::TooManyActions.code(), "F56");
+}
+
+#[test]
+fn refusals(rt: HostRuntime) -> Result<(), Fail> {
+    let told = String::from_str(rt.alloc(), "no type follows")?;
+    match refusal(FaultKind::NotGrounded, Span(3, 8), Ok(told)) {
+        NormFailure::Refused(error) => {
+            assert_eq!(rt; error.fault, FaultKind::NotGrounded);
+            assert_eq!(rt; error.span, Span(3, 8));
+            assert_eq!(rt; error.message.as_str(), "no type follows");
+        }
+        NormFailure::Memory => assert!(rt; false),
+    }
+    match refusal(FaultKind::NotGrounded, Span(3, 8), Err(AllocError)) {
+        NormFailure::Refused(_) => assert!(rt; false),
+        NormFailure::Memory => {}
+    }
+    Ok(())
+}

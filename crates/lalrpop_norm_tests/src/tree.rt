@@ -1,0 +1,4 @@
+//! Texts, accessors and copies of written trees.
+mod accessors;
+mod copies;
+mod texts;
