@@ -1,7 +1,7 @@
 //! Readings of whole texts, and what is no tree.
+use crate::small::small_tree;
 use lalrpop_norm_json::{TreeError, read_tree};
 use lalrpop_norm_tree::grammar::parse_tree::*;
-use lalrpop_norm_tree::grammar::pattern::{Pattern, PatternKind};
 use std::alloc::{AllocError, Global};
 use std::test::*;
 
@@ -21,82 +21,6 @@ const SMALL: &str = r#"{"prefix":"__","span":[0,0],"type_parameters":[],"paramet
 /// A grammar up to its items and its span.
 const BARE: &str =
     r#"{"prefix":"__","type_parameters":[],"parameters":[],"where_clauses":[],"attributes":[],"module_attributes":[],"#;
-
-fn literal(alloc: Global, name: &str) -> Result<TerminalString, NoMemory> {
-    Ok(TerminalString::Literal(TerminalLiteral::Quoted(Atom::new(alloc, name)?)))
-}
-
-/// The extern block of `SMALL`.
-fn small_tokens(alloc: Global) -> Result<ExternToken, NoMemory> {
-    let rest = Pattern {
-        span: Span(29, 31),
-        kind: PatternKind::DotDot,
-    };
-    let path = Path {
-        absolute: false,
-        ids: vec![in alloc; Atom::new(alloc, "A")?]?,
-    };
-    let conversion = Conversion {
-        span: Span(20, 32),
-        attributes: Vec::new(alloc),
-        from: literal(alloc, "a")?,
-        to: Pattern {
-            span: Span(27, 32),
-            kind: PatternKind::Enum(path, vec![in alloc; rest]?),
-        },
-    };
-    Ok(ExternToken {
-        span: Span(0, 36),
-        associated_types: Vec::new(alloc),
-        enum_token: Some(EnumToken {
-            type_name: TypeRef::Id(Atom::new(alloc, "Tok")?),
-            type_span: Span(14, 17),
-            conversions: vec![in alloc; conversion]?,
-        }),
-    })
-}
-
-/// The rule of `SMALL`.
-fn small_rule(alloc: Global) -> Result<NonterminalData, NoMemory> {
-    let symbol = Symbol {
-        span: Span(49, 52),
-        kind: SymbolKind::Terminal(literal(alloc, "a")?),
-    };
-    let alternative = Alternative {
-        span: Span(49, 52),
-        expr: ExprSymbol {
-            symbols: vec![in alloc; symbol]?,
-        },
-        condition: None,
-        action: None,
-        attributes: Vec::new(alloc),
-    };
-    Ok(NonterminalData {
-        visibility: Visibility::Pub(None),
-        name: NonterminalString(Atom::new(alloc, "S")?),
-        attributes: Vec::new(alloc),
-        span: Span(41, 46),
-        args: Vec::new(alloc),
-        type_decl: Some(TypeRef::Tuple(Vec::new(alloc))),
-        alternatives: vec![in alloc; alternative]?,
-    })
-}
-
-/// The tree of `SMALL`, with that span.
-fn small_tree(alloc: Global, span: Span) -> Result<Grammar, NoMemory> {
-    let tokens = GrammarItem::ExternToken(small_tokens(alloc)?);
-    let rule = GrammarItem::Nonterminal(small_rule(alloc)?);
-    Ok(Grammar {
-        prefix: String::from_str(alloc, "__")?,
-        span,
-        type_parameters: Vec::new(alloc),
-        parameters: Vec::new(alloc),
-        where_clauses: Vec::new(alloc),
-        items: vec![in alloc; tokens, rule]?,
-        attributes: Vec::new(alloc),
-        module_attributes: Vec::new(alloc),
-    })
-}
 
 #[test]
 fn small_grammar(rt: HostRuntime) -> Result<(), Fail> {

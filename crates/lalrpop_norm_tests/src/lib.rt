@@ -4,8 +4,14 @@
 
 #[cfg(test)]
 mod json;
+#[cfg(test)]
+mod later_parts;
 pub mod made;
 #[cfg(test)]
+mod normalize;
+#[cfg(test)]
 mod repr;
+#[cfg(test)]
+mod small;
 #[cfg(test)]
 mod tree;

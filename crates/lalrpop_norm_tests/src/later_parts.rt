@@ -1,0 +1,442 @@
+//! What a later stage brings: each such part is refused with F0 at the grammar's span, by its name.
+use crate::made::named_type;
+use crate::small::*;
+use lalrpop_norm::{FaultKind, NormFailure, Session, normalize};
+use lalrpop_norm_tree::grammar::parse_tree::*;
+use lalrpop_norm_tree::grammar::pattern::PatternKind;
+use std::alloc::Global;
+use std::test::*;
+
+/// What the refusal of a grammar with F0 at its span says; nothing where there is no such refusal.
+fn told(alloc: Global, grammar: Grammar) -> String {
+    let session = Session {
+        features: None,
+        macro_recursion_limit: 200,
+        lexer: (),
+    };
+    let span = grammar.span;
+    match normalize(alloc, &session, grammar) {
+        Err(NormFailure::Refused(error)) => {
+            if error.fault == FaultKind::NotYet && error.span == span {
+                error.message
+            } else {
+                String::new(alloc)
+            }
+        }
+        Ok(_) | Err(NormFailure::Memory) => String::new(alloc),
+    }
+}
+
+/// Of the small grammar with that rule in the place of its own.
+fn told_of_rule(alloc: Global, rule: NonterminalData) -> Result<String, NoMemory> {
+    let tokens = GrammarItem::ExternToken(small_tokens(alloc)?);
+    let rule = GrammarItem::Nonterminal(rule);
+    Ok(told(
+        alloc,
+        grammar(alloc, Span(0, 53), vec![in alloc; tokens, rule]?)?,
+    ))
+}
+
+/// Of the small grammar with that symbol in the place of its own.
+fn told_of_symbol(alloc: Global, kind: SymbolKind) -> Result<String, NoMemory> {
+    told_of_rule(alloc, rule(alloc, alternative(alloc, kind)?)?)
+}
+
+/// Of the small grammar with that code.
+fn told_of_code(alloc: Global, action: ActionKind) -> Result<String, NoMemory> {
+    let mut alternative = alternative(alloc, SymbolKind::Terminal(literal(alloc, "a")?))?;
+    alternative.action = Some(action);
+    told_of_rule(alloc, rule(alloc, alternative)?)
+}
+
+/// Of the small grammar with that extern block in the place of its own.
+fn told_of_tokens(alloc: Global, tokens: ExternToken) -> Result<String, NoMemory> {
+    let tokens = GrammarItem::ExternToken(tokens);
+    let rule = GrammarItem::Nonterminal(small_rule(alloc)?);
+    Ok(told(
+        alloc,
+        grammar(alloc, Span(0, 53), vec![in alloc; tokens, rule]?)?,
+    ))
+}
+
+/// Of the small grammar with that item behind its own.
+fn told_of_item(alloc: Global, item: GrammarItem) -> Result<String, NoMemory> {
+    let mut grammar = small_tree(alloc, Span(0, 53))?;
+    grammar.items.push(item)?;
+    Ok(told(alloc, grammar))
+}
+
+fn symbol_a(alloc: Global) -> Result<Symbol, NoMemory> {
+    Ok(Symbol {
+        span: Span(49, 52),
+        kind: SymbolKind::Terminal(literal(alloc, "a")?),
+    })
+}
+
+fn attribute(alloc: Global) -> Result<Attribute, NoMemory> {
+    Ok(Attribute {
+        id_span: Span(0, 6),
+        id: Atom::new(alloc, "inline")?,
+        arg: AttributeArg::Empty,
+    })
+}
+
+#[test]
+fn no_part(rt: HostRuntime) -> Result<(), Fail> {
+    let alloc = rt.alloc();
+    assert_eq!(rt; told(alloc, small_tree(alloc, Span(0, 53))?).as_str(), "");
+    let code = ActionKind::User(String::from_str(alloc, "f(<>)")?);
+    assert_eq!(rt; told_of_code(alloc, code)?.as_str(), "");
+    let chosen = SymbolKind::Choose(Box::new(alloc, symbol_a(alloc)?)?);
+    assert_eq!(rt; told_of_symbol(alloc, chosen)?.as_str(), "");
+    Ok(())
+}
+
+#[test]
+fn groups_and_repeats(rt: HostRuntime) -> Result<(), Fail> {
+    let alloc = rt.alloc();
+    let group = SymbolKind::Expr(ExprSymbol {
+        symbols: Vec::new(alloc),
+    });
+    assert_eq!(rt;
+        told_of_symbol(alloc, group)?.as_str(),
+        "a group is not taken yet"
+    );
+    let repeat = RepeatSymbol {
+        op: RepeatOp::Star,
+        symbol: symbol_a(alloc)?,
+    };
+    let repeat = SymbolKind::Repeat(Box::new(alloc, repeat)?);
+    assert_eq!(rt;
+        told_of_symbol(alloc, repeat)?.as_str(),
+        "a repeat is not taken yet"
+    );
+    let call = SymbolKind::Macro(MacroSymbol {
+        name: nonterminal(alloc, "M")?,
+        args: Vec::new(alloc),
+    });
+    assert_eq!(rt;
+        told_of_symbol(alloc, call)?.as_str(),
+        "a macro call is not taken yet"
+    );
+    Ok(())
+}
+
+#[test]
+fn symbols_in_wrappers(rt: HostRuntime) -> Result<(), Fail> {
+    let alloc = rt.alloc();
+    let name = Name {
+        mutable: false,
+        name: Atom::new(alloc, "x")?,
+    };
+    let named = SymbolKind::Name(name, Box::new(alloc, symbol_a(alloc)?)?);
+    assert_eq!(rt;
+        told_of_symbol(alloc, named)?.as_str(),
+        "a named symbol is not taken yet"
+    );
+    let tuple = Tuple {
+        tuples: Vec::new(alloc),
+    };
+    let tuple = SymbolKind::Tuple(tuple, Box::new(alloc, symbol_a(alloc)?)?);
+    assert_eq!(rt;
+        told_of_symbol(alloc, tuple)?.as_str(),
+        "a tuple symbol is not taken yet"
+    );
+    let mut error = symbol_a(alloc)?;
+    error.kind = SymbolKind::Error;
+    let chosen = SymbolKind::Choose(Box::new(alloc, error)?);
+    assert_eq!(rt;
+        told_of_symbol(alloc, chosen)?.as_str(),
+        "an error symbol is not taken yet"
+    );
+    Ok(())
+}
+
+#[test]
+fn names_and_lookarounds(rt: HostRuntime) -> Result<(), Fail> {
+    let alloc = rt.alloc();
+    let name = SymbolKind::AmbiguousId(Atom::new(alloc, "S")?);
+    assert_eq!(rt;
+        told_of_symbol(alloc, name)?.as_str(),
+        "a name that is not resolved is not taken yet"
+    );
+    for kind in [SymbolKind::Lookahead, SymbolKind::Lookbehind] {
+        assert_eq!(rt;
+            told_of_symbol(alloc, kind)?.as_str(),
+            "a lookaround is not taken yet"
+        );
+    }
+    let missing = SymbolKind::Nonterminal(nonterminal(alloc, "T")?);
+    assert_eq!(rt;
+        told_of_symbol(alloc, missing)?.as_str(),
+        "a nonterminal without a rule is not taken yet"
+    );
+    Ok(())
+}
+
+#[test]
+fn terminals(rt: HostRuntime) -> Result<(), Fail> {
+    let alloc = rt.alloc();
+    let bare = SymbolKind::Terminal(TerminalString::Bare(Atom::new(alloc, "A")?));
+    assert_eq!(rt;
+        told_of_symbol(alloc, bare)?.as_str(),
+        "a terminal without quotes is not taken yet"
+    );
+    let error = SymbolKind::Terminal(TerminalString::Error);
+    assert_eq!(rt;
+        told_of_symbol(alloc, error)?.as_str(),
+        "the error terminal is not taken yet"
+    );
+    let missing = SymbolKind::Terminal(literal(alloc, "b")?);
+    assert_eq!(rt;
+        told_of_symbol(alloc, missing)?.as_str(),
+        "a terminal without a conversion is not taken yet"
+    );
+    Ok(())
+}
+
+#[test]
+fn codes(rt: HostRuntime) -> Result<(), Fail> {
+    let alloc = rt.alloc();
+    let rows = [
+        ("P { <> }", "a `<>` just between braces is not taken yet"),
+        ("(<>, <>)", "code with several `<>` is not taken yet"),
+    ];
+    for (code, want) in rows {
+        let code = ActionKind::User(String::from_str(alloc, code)?);
+        assert_eq!(rt; told_of_code(alloc, code)?.as_str(), want);
+    }
+    let fallible = ActionKind::Fallible(String::from_str(alloc, "f()")?);
+    assert_eq!(rt;
+        told_of_code(alloc, fallible)?.as_str(),
+        "code that may fail is not taken yet"
+    );
+    for action in [ActionKind::Lookahead, ActionKind::Lookbehind] {
+        assert_eq!(rt;
+            told_of_code(alloc, action)?.as_str(),
+            "the action of a lookaround is not taken yet"
+        );
+    }
+    Ok(())
+}
+
+#[test]
+fn heads_of_rules(rt: HostRuntime) -> Result<(), Fail> {
+    let alloc = rt.alloc();
+    let mut marked = small_rule(alloc)?;
+    marked.attributes = vec![in alloc; attribute(alloc)?]?;
+    assert_eq!(rt;
+        told_of_rule(alloc, marked)?.as_str(),
+        "an attribute is not taken yet"
+    );
+    let mut definition = small_rule(alloc)?;
+    definition.args = vec![in alloc; nonterminal(alloc, "X")?]?;
+    assert_eq!(rt;
+        told_of_rule(alloc, definition)?.as_str(),
+        "a macro is not taken yet"
+    );
+    let mut undeclared = small_rule(alloc)?;
+    undeclared.type_decl = None;
+    assert_eq!(rt;
+        told_of_rule(alloc, undeclared)?.as_str(),
+        "a rule without a declared type is not taken yet"
+    );
+    let mut of_symbol = small_rule(alloc)?;
+    of_symbol.type_decl = Some(TypeRef::OfSymbol(SymbolKind::Error));
+    assert_eq!(rt;
+        told_of_rule(alloc, of_symbol)?.as_str(),
+        "the type of a symbol is not taken yet"
+    );
+    Ok(())
+}
+
+#[test]
+fn marks_of_alternatives(rt: HostRuntime) -> Result<(), Fail> {
+    let alloc = rt.alloc();
+    let a = SymbolKind::Terminal(literal(alloc, "a")?);
+    let mut conditional = alternative(alloc, a)?;
+    conditional.condition = Some(Condition {
+        span: Span(0, 1),
+        lhs: nonterminal(alloc, "X")?,
+        rhs: Atom::new(alloc, "a")?,
+        op: ConditionOp::Equals,
+    });
+    let conditional = rule(alloc, conditional)?;
+    assert_eq!(rt;
+        told_of_rule(alloc, conditional)?.as_str(),
+        "a condition is not taken yet"
+    );
+    let a = SymbolKind::Terminal(literal(alloc, "a")?);
+    let mut marked = alternative(alloc, a)?;
+    marked.attributes = vec![in alloc; attribute(alloc)?]?;
+    let marked = rule(alloc, marked)?;
+    assert_eq!(rt;
+        told_of_rule(alloc, marked)?.as_str(),
+        "an attribute is not taken yet"
+    );
+    Ok(())
+}
+
+#[test]
+fn names_of_rules(rt: HostRuntime) -> Result<(), Fail> {
+    let alloc = rt.alloc();
+    let again = GrammarItem::Nonterminal(small_rule(alloc)?);
+    assert_eq!(rt;
+        told_of_item(alloc, again)?.as_str(),
+        "a second rule of one name is not taken yet"
+    );
+    let mut taken = small_rule(alloc)?;
+    taken.name = nonterminal(alloc, "__S")?;
+    let taken = GrammarItem::Nonterminal(taken);
+    assert_eq!(rt;
+        told_of_item(alloc, taken)?.as_str(),
+        "a rule with the name of a start symbol is not taken yet"
+    );
+    Ok(())
+}
+
+#[test]
+fn other_items(rt: HostRuntime) -> Result<(), Fail> {
+    let alloc = rt.alloc();
+    let used = GrammarItem::Use(String::from_str(alloc, "a::b")?);
+    assert_eq!(rt;
+        told_of_item(alloc, used)?.as_str(),
+        "a use item is not taken yet"
+    );
+    let tokenizer = GrammarItem::InternToken(InternToken {
+        match_entries: Vec::new(alloc),
+        dfa: Dfa {
+            code: Vec::new(alloc),
+        },
+    });
+    assert_eq!(rt;
+        told_of_item(alloc, tokenizer)?.as_str(),
+        "a written tokenizer is not taken yet"
+    );
+    let matched = GrammarItem::MatchToken(MatchToken {
+        contents: Vec::new(alloc),
+        span: Span(0, 1),
+    });
+    assert_eq!(rt;
+        told_of_item(alloc, matched)?.as_str(),
+        "a match block is not taken yet"
+    );
+    let second = GrammarItem::ExternToken(small_tokens(alloc)?);
+    assert_eq!(rt;
+        told_of_item(alloc, second)?.as_str(),
+        "a second extern block is not taken yet"
+    );
+    Ok(())
+}
+
+#[test]
+fn extern_blocks(rt: HostRuntime) -> Result<(), Fail> {
+    let alloc = rt.alloc();
+    let rule = GrammarItem::Nonterminal(small_rule(alloc)?);
+    let bare = grammar(alloc, Span(0, 53), vec![in alloc; rule]?)?;
+    assert_eq!(rt;
+        told(alloc, bare).as_str(),
+        "a grammar without an extern enum is not taken yet"
+    );
+    let mut typed = small_tokens(alloc)?;
+    let location = AssociatedType {
+        type_span: Span(0, 1),
+        type_name: Atom::new(alloc, "Location")?,
+        type_ref: named_type(alloc, "usize")?,
+    };
+    typed.associated_types = vec![in alloc; location]?;
+    assert_eq!(rt;
+        told_of_tokens(alloc, typed)?.as_str(),
+        "an associated type is not taken yet"
+    );
+    let mut empty = small_tokens(alloc)?;
+    empty.enum_token = None;
+    assert_eq!(rt;
+        told_of_tokens(alloc, empty)?.as_str(),
+        "a grammar without an extern enum is not taken yet"
+    );
+    Ok(())
+}
+
+#[test]
+fn conversions(rt: HostRuntime) -> Result<(), Fail> {
+    let alloc = rt.alloc();
+    let first = conversion(alloc, small_pattern(alloc)?)?;
+    let again = conversion(alloc, PatternKind::Underscore)?;
+    let twice = tokens(alloc, vec![in alloc; first, again]?)?;
+    assert_eq!(rt;
+        told_of_tokens(alloc, twice)?.as_str(),
+        "a second conversion of one terminal is not taken yet"
+    );
+    let chosen = conversion(alloc, PatternKind::Choose(named_type(alloc, "u8")?))?;
+    let chosen = tokens(alloc, vec![in alloc; chosen]?)?;
+    assert_eq!(rt;
+        told_of_tokens(alloc, chosen)?.as_str(),
+        "a chosen type of a token is not taken yet"
+    );
+    let number = conversion(alloc, PatternKind::Usize(7))?;
+    let number = tokens(alloc, vec![in alloc; number]?)?;
+    assert_eq!(rt;
+        told_of_tokens(alloc, number)?.as_str(),
+        "such a pattern of a token is not taken yet"
+    );
+    let mut marked = conversion(alloc, PatternKind::Underscore)?;
+    marked.attributes = vec![in alloc; attribute(alloc)?]?;
+    let marked = tokens(alloc, vec![in alloc; marked]?)?;
+    assert_eq!(rt;
+        told_of_tokens(alloc, marked)?.as_str(),
+        "an attribute is not taken yet"
+    );
+    Ok(())
+}
+
+#[test]
+fn heads_of_grammars(rt: HostRuntime) -> Result<(), Fail> {
+    let alloc = rt.alloc();
+    let mut grammar = small_tree(alloc, Span(0, 53))?;
+    grammar.attributes = vec![in alloc; attribute(alloc)?]?;
+    assert_eq!(rt;
+        told(alloc, grammar).as_str(),
+        "a grammar attribute is not taken yet"
+    );
+    let mut grammar = small_tree(alloc, Span(0, 53))?;
+    grammar.module_attributes = vec![in alloc; String::from_str(alloc, "#![a]")?]?;
+    assert_eq!(rt;
+        told(alloc, grammar).as_str(),
+        "a module attribute is not taken yet"
+    );
+    let mut grammar = small_tree(alloc, Span(0, 53))?;
+    grammar.type_parameters = vec![in alloc; TypeParameter::Id(Atom::new(alloc, "T")?)]?;
+    assert_eq!(rt;
+        told(alloc, grammar).as_str(),
+        "a type parameter is not taken yet"
+    );
+    Ok(())
+}
+
+#[test]
+fn parameters_and_clauses(rt: HostRuntime) -> Result<(), Fail> {
+    let alloc = rt.alloc();
+    let mut grammar = small_tree(alloc, Span(0, 53))?;
+    let parameter = Parameter {
+        name: Atom::new(alloc, "n")?,
+        ty: named_type(alloc, "usize")?,
+    };
+    grammar.parameters = vec![in alloc; parameter]?;
+    assert_eq!(rt;
+        told(alloc, grammar).as_str(),
+        "a parameter is not taken yet"
+    );
+    let mut grammar = small_tree(alloc, Span(0, 53))?;
+    let clause = WhereClause::OfType {
+        forall: Vec::new(alloc),
+        ty: named_type(alloc, "T")?,
+        bounds: Vec::new(alloc),
+    };
+    grammar.where_clauses = vec![in alloc; clause]?;
+    assert_eq!(rt;
+        told(alloc, grammar).as_str(),
+        "a where clause is not taken yet"
+    );
+    Ok(())
+}
