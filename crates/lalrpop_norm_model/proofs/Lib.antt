@@ -65,3 +65,4 @@ pub mod RenumberedLemmas
 pub mod RenumberedTrees
 pub mod RenumberedClauses
 pub mod RenumberedExamples
+pub mod LateFaultExamples
