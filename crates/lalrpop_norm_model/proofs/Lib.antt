@@ -66,3 +66,6 @@ pub mod RenumberedTrees
 pub mod RenumberedClauses
 pub mod RenumberedExamples
 pub mod LateFaultExamples
+pub mod TokenFindingLemmas
+pub mod LexerFaultExamples
+pub mod AutomatonLemmas

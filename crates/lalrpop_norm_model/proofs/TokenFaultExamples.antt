@@ -1,17 +1,19 @@
 -- Where the pass on tokens refuses small grammars, found by hand.
-use Rattle.std.proofs.Common.{◌≡◌, ℕ, [], ◌∷◌, None, codes, refl}
+use Rattle.std.proofs.Common.{◌≡◌, ℕ, List, [], ◌∷◌, Some, None, codes, refl}
 use Rattle.lalrpop_norm_tree.specs.declared.names.Span.{Span}
 use Rattle.lalrpop_norm_tree.specs.declared.names.TerminalLiteral.TheVariants.{Quoted, Regex}
 use Rattle.lalrpop_norm_tree.specs.declared.names.TerminalString.TheVariants.{Bare}
 use Rattle.lalrpop_norm_tree.specs.declared.names.TypeParameter.TheVariants as parameter
 use Rattle.lalrpop_norm_tree.specs.declared.items.MatchItem.TheVariants.{CatchAll, Unmapped, Mapped}
 use Rattle.lalrpop_norm_tree.specs.declared.items.MatchMapping.TheVariants.{Terminal, Skip}
-use Rattle.lalrpop_norm_tree.specs.Items.{RuleData, GrammarData}
+use Rattle.lalrpop_norm_tree.specs.Items.{RuleData, ConversionData, GrammarData}
 use Rattle.lalrpop_norm_tree.specs.Symbols.{Kind, terminal, chosen, at}
 use Rattle.lalrpop_norm_tree.specs.Types.{id}
+use Rattle.lalrpop_norm_faults.specs.Faults.{first}
 use Rattle.lalrpop_norm_faults.specs.declared.kind.FaultKind.TheVariants.{LiteralTwice, TerminalTwice, NoMapping, NoPattern, InputLifetime, InputParameter}
 use Rattle.lalrpop_norm_model.specs.TokenFaults.{token_faults}
-use Rattle.lalrpop_norm_model.proofs.ExampleGrammars.{nowhere, quoted, plain, a_rule, tok_tokens, match_tokens, of_rules}
+use Rattle.lalrpop_norm_model.proofs.ExampleWords.{span}
+use Rattle.lalrpop_norm_model.proofs.ExampleGrammars.{nowhere, quoted, plain, a_rule, converts, extern_tokens, tok_tokens, match_tokens, of_rules}
 
 abbrev place : ℕ → Span
 place k = record { 0 = k; 1 = k }
@@ -53,3 +55,34 @@ declared_inside = refl
 
 declared_outside : token_faults (with_input (of_rules (tok_tokens [] ∷ []) [])) ≡ []
 declared_outside = refl
+
+-- ---- with the spans of their texts
+
+abbrev of_quoted : Span → List ℕ → RuleData
+of_quoted s text = a_rule (codes "S") None (plain (chosen (at s (terminal (quoted text))) ∷ []) ∷ [])
+
+-- `match { "a" => "x" } else { "b" => "x" } S: () = "x";`
+named_twice : token_faults (of_rules (match_tokens ((Mapped (Quoted (codes "a")) (Terminal (quoted (codes "x"))) (span 17 27) ∷ []) ∷ (Mapped (Quoted (codes "b")) (Terminal (quoted (codes "x"))) (span 37 48) ∷ []) ∷ []) ∷ [])
+    (of_quoted (span 58 61) (codes "x") ∷ []))
+    ≡ (TerminalTwice, span 37 48) ∷ []
+named_twice = refl
+
+-- `match { "a" } S: () = "b";`
+not_mapped : token_faults (of_rules (match_tokens ((Unmapped (Quoted (codes "a")) (span 17 20) ∷ []) ∷ []) ∷ []) (of_quoted (span 31 34) (codes "b") ∷ [])) ≡ (NoMapping, span 31 34) ∷ []
+not_mapped = refl
+
+-- `extern { enum Tok { "a" => A(..), "a" => B(..) } } S: () = "a";`
+abbrev conversion_at : Span → List ℕ → ConversionData
+conversion_at s text = record (converts (quoted text) []) { span = s }
+
+converted_twice : token_faults (of_rules (extern_tokens [] (conversion_at (span 29 41) (codes "a") ∷ conversion_at (span 43 56) (codes "a") ∷ []) ∷ []) (of_quoted (span 68 71) (codes "a") ∷ []))
+    ≡ (TerminalTwice, span 43 56) ∷ []
+converted_twice = refl
+
+-- and with one conversion nothing is wrong
+converted_once : token_faults (of_rules (extern_tokens [] (conversion_at (span 29 41) (codes "a") ∷ []) ∷ []) (of_quoted (span 53 56) (codes "a") ∷ [])) ≡ []
+converted_once = refl
+
+-- a repeated literal is told before the name that its item repeats
+literal_first : first (token_faults (of_rules (match_tokens ((Unmapped (Quoted (codes "a")) (place 1) ∷ Unmapped (Quoted (codes "a")) (place 2) ∷ []) ∷ []) ∷ []) [])) ≡ Some (LiteralTwice, place 2)
+literal_first = refl

@@ -32,6 +32,8 @@ use Rattle.lalrpop_norm_theory.specs.Leveled.{leveled_symbols, leveled_symbol, I
 use Rattle.lalrpop_norm_theory.specs.Tables.{OneRuleAName, rule_of}
 use Rattle.lalrpop_norm_theory.specs.Laws.{OneToOne, level_named}
 use Rattle.lalrpop_norm_model.specs.Expanded.{rule_names}
+use Rattle.lalrpop_norm_model.specs.TuplePatterns.{IsTypable}
+use Rattle.lalrpop_norm_model.specs.InferenceFaults.{inference_faults}
 use Rattle.lalrpop_norm_model.specs.LevelNames.{HasLevelNames, level_origin}
 use Rattle.lalrpop_norm_model.specs.Renumbered.{prepared_grammar, closed_up, rank_in, rank_by, ranked_clause, IsRenumbered, TreesAreRenumbered, OneToOneByRank}
 
@@ -259,3 +261,7 @@ PlainRulesAreFaithful = (value : ConditionValue) (g : GrammarData) → IsSettled
     ((s : ClosedSymbol) → In s (declared g) → OneToOne (flat_meaning value g) (text_in (flat_rules g)) (plain_table value g n) s)
     × ((s : ClosedSymbol) → IsKnown (declared g) (expanded_symbols (flat_meaning value g) (declared g) n) s →
     OneToOne (flat_meaning value g) (text_in (flat_rules g)) (plain_table value g n) s)
+
+-- A grammar of distinct names is typable exactly where no fault of inference is.
+abbrev pub TypableExactly : Type 0
+TypableExactly = (g : GrammarData) → IsDistinct (rule_names g) → IsTypable g ↔ (inference_faults g ≡ [])
