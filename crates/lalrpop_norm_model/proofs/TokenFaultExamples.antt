@@ -6,13 +6,15 @@ use Rattle.lalrpop_norm_tree.specs.declared.names.TerminalString.TheVariants.{Ba
 use Rattle.lalrpop_norm_tree.specs.declared.names.TypeParameter.TheVariants as parameter
 use Rattle.lalrpop_norm_tree.specs.declared.items.MatchItem.TheVariants.{CatchAll, Unmapped, Mapped}
 use Rattle.lalrpop_norm_tree.specs.declared.items.MatchMapping.TheVariants.{Terminal, Skip}
+use Rattle.lalrpop_norm_tree.specs.Attributes.{attributes_of}
 use Rattle.lalrpop_norm_tree.specs.Items.{RuleData, ConversionData, GrammarData}
 use Rattle.lalrpop_norm_tree.specs.Symbols.{Kind, terminal, chosen, at}
 use Rattle.lalrpop_norm_tree.specs.Types.{id}
 use Rattle.lalrpop_norm_faults.specs.Faults.{first}
 use Rattle.lalrpop_norm_faults.specs.declared.kind.FaultKind.TheVariants.{LiteralTwice, TerminalTwice, NoMapping, NoPattern, InputLifetime, InputParameter}
+use Rattle.lalrpop_norm_model.specs.Enabled.{enabled_grammar}
 use Rattle.lalrpop_norm_model.specs.TokenFaults.{token_faults}
-use Rattle.lalrpop_norm_model.proofs.ExampleWords.{span}
+use Rattle.lalrpop_norm_model.proofs.ExampleWords.{span, if_f, without_f, with_f}
 use Rattle.lalrpop_norm_model.proofs.ExampleGrammars.{nowhere, quoted, plain, a_rule, converts, extern_tokens, tok_tokens, match_tokens, of_rules}
 
 abbrev place : ℕ → Span
@@ -78,6 +80,17 @@ conversion_at s text = record (converts (quoted text) []) { span = s }
 converted_twice : token_faults (of_rules (extern_tokens [] (conversion_at (span 29 41) (codes "a") ∷ conversion_at (span 43 56) (codes "a") ∷ []) ∷ []) (of_quoted (span 68 71) (codes "a") ∷ []))
     ≡ (TerminalTwice, span 43 56) ∷ []
 converted_twice = refl
+
+-- with the second one under `#[cfg(feature = "f")]`, which drops it where f is no feature
+abbrev twice_with_cfg : GrammarData
+twice_with_cfg = of_rules (extern_tokens [] (conversion_at (span 29 41) (codes "a")
+    ∷ record (conversion_at (span 62 75) (codes "a")) { attributes = attributes_of (if_f ∷ []) } ∷ []) ∷ []) (of_quoted (span 87 90) (codes "a") ∷ [])
+
+converted_under_cfg : token_faults (enabled_grammar without_f twice_with_cfg) ≡ []
+converted_under_cfg = refl
+
+converted_with_f : token_faults (enabled_grammar with_f twice_with_cfg) ≡ (TerminalTwice, span 62 75) ∷ []
+converted_with_f = refl
 
 -- and with one conversion nothing is wrong
 converted_once : token_faults (of_rules (extern_tokens [] (conversion_at (span 29 41) (codes "a") ∷ []) ∷ []) (of_quoted (span 53 56) (codes "a") ∷ [])) ≡ []

@@ -14,7 +14,8 @@ ghost use Rattle.lalrpop_norm_model.specs.Laws.{GrammarsAreLeveled, LevelsAreSte
 ghost use Rattle.lalrpop_norm_model.specs.Laws.{ArgumentsArePutIn, MadeRulesAreRead, RulesAreRead, MetIsRead};
 ghost use Rattle.lalrpop_norm_model.specs.Laws.{MadeSymbolsAreScoped, RoundsAreRead};
 ghost use Rattle.lalrpop_norm_model.specs.Laws.{TextsInGrammars, PlainRulesAreRead};
-ghost use Rattle.lalrpop_norm_model.specs.Laws.{PlainGrammarsHoldPlainRules, DistinctNamesMeanOneRule, PlainRulesAreFaithful, TypableExactly};
+ghost use Rattle.lalrpop_norm_model.specs.Laws.{PlainGrammarsHoldPlainRules, DistinctNamesMeanOneRule, PlainRulesAreFaithful};
+ghost use Rattle.lalrpop_norm_model.specs.Laws.{TypableExactly, AutomatonIsUnseen};
 
 /// The text of a closed symbol without bounds is the text that its written symbol is displayed with.
 pub fn texts_are_displayed()
@@ -220,4 +221,10 @@ pub fn plain_rules_are_faithful()
 /// exactly one type, and the tuple patterns fit.
 pub fn typable_exactly()
     ensures { TypableExactly }
+{}
+
+/// What inference finds wrong with a grammar that has internal tokens depends on their entries and not on their automaton: so it
+/// is the same whether or not a lexer can build one.
+pub fn automaton_is_unseen()
+    ensures { AutomatonIsUnseen }
 {}
