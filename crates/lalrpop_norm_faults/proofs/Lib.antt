@@ -1,1 +1,3 @@
 pub mod FaultLemmas
+pub mod FindingLemmas
+pub mod FindingExamples

@@ -1,5 +1,5 @@
 -- Lists of faults, and answers that name the first of one.
-use Rattle.std.specs.Prelude.{String, ◌≡◌, ℕ, Bool, if◌then◌else◌, List, [], ◌∷◌, Option, Some, None, Result, Ok, Err, codes}
+use Rattle.std.specs.Prelude.{String, ◌≡◌, ℕ, Bool, if◌then◌else◌, List, [], ◌∷◌, ◌⊎◌, Option, Some, None, Result, Ok, Err, codes}
 use Rattle.lalrpop_norm_tree.specs.declared.names.Span.{Span}
 use Rattle.lalrpop_norm_faults.specs.declared.kind.FaultKind.{FaultKind}
 use Rattle.lalrpop_norm_faults.specs.declared.kind.FaultKind.TheVariants.{NotYet, GrammarAttribute, SecondMatch, MatchWithExtern, SecondExtern, UnknownAssociatedType, RepeatedAssociatedType, PublicMacro, UnknownRuleAttribute, RepeatedRuleAttribute, InlineOnPublic, MalformedCfg, MissingLevel, LevelArgument, LevelNumber, SideArgument, Side, SideOnLowest, AlternativeAttribute, NamedWithoutAction, AnonymousInBraces, ChosenWithNamed, NameTwice, ErrorWithAscent, MacroWithoutArguments, NoLocation, WrittenIntern, WrittenErrorTerminal, WrittenOfSymbol, WrittenLookaround, NameDeclaredTwice, ArgumentTwice, NoDefinition, ConditionOnOther, NotNonterminal, NotMacro, Arity, MacroNamed, ConditionArgument, ConditionPattern, NamedInGroup, RecursionCap, SharedName, LiteralTwice, TerminalTwice, NoMapping, NoPattern, BadRegex, RegexFeature, Ambiguity, InputLifetime, InputParameter, NoAlternatives, OnlyCoded, NotGrounded, Disagreement, TupleOverSymbol, TupleOverType, TupleLength, Placeholders, StartTaken, TooManyActions}
@@ -43,6 +43,49 @@ RefusesOr (Err e) fs P = IsFirst fs e
 
 abbrev pub fault_if : Bool → Fault → List Fault
 fault_if b f = if b then f ∷ [] else []
+
+-- ---- faults that are told one way
+
+-- What a pass looks for, in the order of looking: a fault, which is told wherever it stands; or a place, where one may be told that
+-- stands there, and may go untold.
+pub data Finding (P : Type 0) : Type 0 where
+  sure : Fault → Finding P
+  maybe : P → Finding P
+
+-- the faults that are told wherever they stand
+abbrev pub sure_ones : {P : Type 0} → List (Finding P) → List Fault
+sure_ones [] = []
+sure_ones (sure f ∷ fs) = f ∷ sure_ones fs
+sure_ones (maybe p ∷ fs) = sure_ones fs
+
+-- the fault stands: it is one of the sure ones, or one that stands at a place
+abbrev pub Stands : {P : Type 0} → (P → Fault → Type 0) → List (Finding P) → Fault → Type 0
+Stands At [] f = ⊥
+Stands At (sure g ∷ fs) f = (g ≡ f) ⊎ Stands At fs f
+Stands At (maybe p ∷ fs) f = At p f ⊎ Stands At fs f
+
+-- the fault may be told: it stands, and no sure one comes before it
+abbrev pub MayBeTold : {P : Type 0} → (P → Fault → Type 0) → List (Finding P) → Fault → Type 0
+MayBeTold At [] f = ⊥
+MayBeTold At (sure g ∷ fs) f = g ≡ f
+MayBeTold At (maybe p ∷ fs) f = At p f ⊎ MayBeTold At fs f
+
+-- the failure names a fault that may be told; a want of memory says nothing
+abbrev pub IsTold : {P : Type 0} → (P → Fault → Type 0) → List (Finding P) → NormFailure → Type 0
+IsTold At fs (Refused e) = MayBeTold At fs (e.fault, e.span)
+IsTold At fs Memory = Unit
+
+-- Ok only where there is no sure fault, else a refusal by one that may be told, memory aside
+abbrev pub RefusesAmong : {P T : Type 0} → (P → Fault → Type 0) → Result T NormFailure → List (Finding P) → Type 0
+RefusesAmong At (Ok _) fs = sure_ones fs ≡ []
+RefusesAmong At (Err e) fs = IsTold At fs e
+
+-- likewise, with a fact of the value where the answer is Ok
+abbrev pub RefusesAmongOr : {P T : Type 0} → (P → Fault → Type 0) → Result T NormFailure → List (Finding P) → (T → Type 0) → Type 0
+RefusesAmongOr At (Ok x) fs Q = (sure_ones fs ≡ []) × Q x
+RefusesAmongOr At (Err e) fs Q = IsTold At fs e
+
+-- ---- numbers
 
 -- the number of a fault
 abbrev pub code_of : FaultKind → List ℕ

@@ -1,30 +1,40 @@
 -- The entries of small grammars, each found by hand.
 use Rattle.std.proofs.Common.{◌≡◌, ℕ, List, [], ◌∷◌, Some, None, codes, inl, inr, refl, sym, subst}
 use Rattle.std.specs.List.Sorted.{IsStrictlySortedBy}
+use Rattle.lalrpop_norm_tree.specs.declared.names.Span.{Span}
 use Rattle.lalrpop_norm_tree.specs.declared.names.TerminalLiteral.{TerminalLiteral}
 use Rattle.lalrpop_norm_tree.specs.declared.names.TerminalLiteral.TheVariants.{Quoted, Regex}
+use Rattle.lalrpop_norm_tree.specs.declared.names.TerminalString.{TerminalString}
 use Rattle.lalrpop_norm_tree.specs.declared.items.MatchEntry.{MatchEntry}
 use Rattle.lalrpop_norm_tree.specs.declared.items.MatchItem.TheVariants.{CatchAll, Unmapped, Mapped}
 use Rattle.lalrpop_norm_tree.specs.declared.items.MatchMapping.{MatchMapping}
 use Rattle.lalrpop_norm_tree.specs.declared.items.MatchMapping.TheVariants.{Terminal, Skip}
 use Rattle.lalrpop_norm_tree.specs.Items.{GrammarData}
-use Rattle.lalrpop_norm_tree.specs.Symbols.{terminal}
+use Rattle.lalrpop_norm_tree.specs.Symbols.{Kind, terminal, chosen, at}
 use Rattle.lalrpop_norm_theory.specs.Rounds.{In}
 use Rattle.lalrpop_norm_model.specs.Entries.{IsEntry, written, added, AreEntries, itself, match_entries, catch_all, entry_cmp}
 use Rattle.lalrpop_norm_model.proofs.ListLemmas.{texts_differ}
 use Rattle.lalrpop_norm_model.proofs.ExampleGrammars.{nowhere, quoted, pattern, plain, a_rule, match_tokens, a_grammar, of_rules}
 
-abbrev entry : ℕ → TerminalLiteral → MatchMapping → MatchEntry
+abbrev pub entry : ℕ → TerminalLiteral → MatchMapping → MatchEntry
 entry p l m = record { precedence = p; match_literal = l; user_name = m }
+
+abbrev pub place : ℕ → Span
+place k = record { 0 = k; 1 = k }
+
+-- a terminal that is chosen, at a place of its own
+abbrev pub use_at : ℕ → TerminalString → Kind
+use_at k t = chosen (at (place k) (terminal t))
 
 -- ---- `match { r"(?i)BEGIN" => "BEGIN", "+" => "+" } else { _ }`, where `r"[a-zA-Z]+"` is used too
 
-abbrev words : GrammarData
-words = of_rules (match_tokens ((Mapped (Regex (codes "(?i)BEGIN")) (Terminal (quoted (codes "BEGIN"))) nowhere
-    ∷ Mapped (Quoted (codes "+")) (Terminal (quoted (codes "+"))) nowhere ∷ []) ∷ (CatchAll nowhere ∷ []) ∷ []) ∷ [])
-    (a_rule (codes "S") None (plain (terminal (quoted (codes "BEGIN")) ∷ terminal (pattern (codes "[a-zA-Z]+")) ∷ terminal (quoted (codes "+")) ∷ []) ∷ []) ∷ [])
+-- the match items at the places 1 to 3, the symbols at 4 to 6
+abbrev pub words : GrammarData
+words = of_rules (match_tokens ((Mapped (Regex (codes "(?i)BEGIN")) (Terminal (quoted (codes "BEGIN"))) (place 1)
+    ∷ Mapped (Quoted (codes "+")) (Terminal (quoted (codes "+"))) (place 2) ∷ []) ∷ (CatchAll (place 3) ∷ []) ∷ []) ∷ [])
+    (a_rule (codes "S") None (plain (use_at 4 (quoted (codes "BEGIN")) ∷ use_at 5 (pattern (codes "[a-zA-Z]+")) ∷ use_at 6 (quoted (codes "+")) ∷ []) ∷ []) ∷ [])
 
-abbrev words_entries : List MatchEntry
+abbrev pub words_entries : List MatchEntry
 words_entries =
     entry 2 (Regex (codes "[a-zA-Z]+")) (itself (Regex (codes "[a-zA-Z]+")))
     ∷ entry 4 (Regex (codes "(?i)BEGIN")) (Terminal (quoted (codes "BEGIN")))
@@ -60,16 +70,17 @@ words_rising : IsStrictlySortedBy entry_cmp words_entries
 unfolding IsStrictlySortedBy
 words_rising = ((refl, (refl, tt)), ((refl, tt), (tt, tt)))
 
-words_are : AreEntries words words_entries
+pub words_are : AreEntries words words_entries
 words_are = record { all = λ e. (words_stand e, λ h. words_given h); rising = words_rising }
 
 -- ---- `match { "a" => "b" } else { _ }`, where `"a"` is used: it is no user name, so it has an entry of its own
 
-abbrev renamed : GrammarData
-renamed = of_rules (match_tokens ((Mapped (Quoted (codes "a")) (Terminal (quoted (codes "b"))) nowhere ∷ []) ∷ (CatchAll nowhere ∷ []) ∷ []) ∷ [])
-    (a_rule (codes "S") None (plain (terminal (quoted (codes "a")) ∷ []) ∷ []) ∷ [])
+-- the match item at the place 1, the symbol at 4 and once more at 5
+abbrev pub renamed : GrammarData
+renamed = of_rules (match_tokens ((Mapped (Quoted (codes "a")) (Terminal (quoted (codes "b"))) (place 1) ∷ []) ∷ (CatchAll nowhere ∷ []) ∷ []) ∷ [])
+    (a_rule (codes "S") None (plain (use_at 4 (quoted (codes "a")) ∷ []) ∷ plain (use_at 5 (quoted (codes "a")) ∷ []) ∷ []) ∷ [])
 
-abbrev renamed_entries : List MatchEntry
+abbrev pub renamed_entries : List MatchEntry
 renamed_entries = entry 3 (Quoted (codes "a")) (Terminal (quoted (codes "a"))) ∷ entry 5 (Quoted (codes "a")) (Terminal (quoted (codes "b"))) ∷ []
 
 renamed_given : {e : MatchEntry} → IsEntry renamed e → In e renamed_entries
@@ -79,7 +90,11 @@ renamed_given (added l p (inl h) new c) =
     let same : l ≡ Quoted (codes "a") = cc in
     let one : p ≡ 1 = cc in
     rw (same, one) (inl refl)
-renamed_given (added l p (inr i) new c) = absurd i
+renamed_given (added l p (inr (inl h)) new c) =
+    let same : l ≡ Quoted (codes "a") = cc in
+    let one : p ≡ 1 = cc in
+    rw (same, one) (inl refl)
+renamed_given (added l p (inr (inr i)) new c) = absurd i
 
 a_new : In (quoted (codes "a")) (quoted (codes "b") ∷ []) → ⊥
 a_new (inl h) = texts_differ (codes "a") (codes "b") refl cc
@@ -94,7 +109,7 @@ renamed_rising : IsStrictlySortedBy entry_cmp renamed_entries
 unfolding IsStrictlySortedBy
 renamed_rising = ((refl, tt), (tt, tt))
 
-renamed_are : AreEntries renamed renamed_entries
+pub renamed_are : AreEntries renamed renamed_entries
 renamed_are = record { all = λ e. (renamed_stand e, λ h. renamed_given h); rising = renamed_rising }
 
 -- the other order is none

@@ -65,3 +65,7 @@ pub mod RenumberedLemmas
 pub mod RenumberedTrees
 pub mod RenumberedClauses
 pub mod RenumberedExamples
+pub mod LateFaultExamples
+pub mod TokenFindingLemmas
+pub mod LexerFaultExamples
+pub mod AutomatonLemmas

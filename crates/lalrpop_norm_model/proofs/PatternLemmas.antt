@@ -3,15 +3,17 @@ use Rattle.std.proofs.Common.{◌≡◌, ◌↔◌, ℕ, Bool, true, false, ◌&
 use Rattle.lalrpop_norm_tree.specs.Items.{GrammarData}
 use Rattle.lalrpop_norm_tree.specs.Reprs.{ReprData, Reprs, tuple, no_reprs, repr_and}
 use Rattle.lalrpop_norm_tree.specs.Symbols.{ArgumentPattern, ArgumentPatterns, one_name, several, no_arguments, argument_and, Kind, Part, nonterminal}
+use Rattle.lalrpop_norm_faults.specs.declared.kind.FaultKind.{FaultKind}
+use Rattle.lalrpop_norm_faults.specs.declared.kind.FaultKind.TheVariants.{TupleLength}
 use Rattle.lalrpop_norm_model.specs.MadeRules.{kind_of}
 use Rattle.lalrpop_norm_model.specs.PlainRules.{all_rules}
 use Rattle.lalrpop_norm_model.specs.TypeTables.{Table, IsTable}
-use Rattle.lalrpop_norm_model.specs.TuplePatterns.{fits, fit_all, Misfit, of_length, as_many, misfits, misfits_of, Pattern, tuple_symbols, PatternFits, PatternsFit, over_found, over_kind, symbol_misfits, alternative_misfits, rule_misfits, pattern_misfits}
+use Rattle.lalrpop_norm_model.specs.TuplePatterns.{fits, fit_all, as_many, misfits, misfits_of, Pattern, tuple_symbols, PatternFits, PatternsFit, over_found, over_kind, symbol_misfits, alternative_misfits, rule_misfits, pattern_misfits}
 use Rattle.lalrpop_norm_model.proofs.InferenceLemmas.{both_empty, none_made, all_empty}
 
 -- ---- patterns and types
 
-empty_if : (b : Bool) (ms : List Misfit) → (if b then ms else of_length ∷ []) ≡ [] → (b ≡ true) × (ms ≡ [])
+empty_if : (b : Bool) (ms : List FaultKind) → (if b then ms else TupleLength ∷ []) ≡ [] → (b ≡ true) × (ms ≡ [])
 empty_if true ms e = (refl, e)
 empty_if false ms e = absurd cc
 
@@ -65,7 +67,7 @@ over_kind_fits : (g : GrammarData) (f : Table) → IsTable g f → (ns : Argumen
 over_kind_fits g f table ns p (nonterminal n) k e = over_found_fits g f table ns p n k (f n) refl e
 over_kind_fits g f table ns p _ k e = absurd cc
 
-no_map : {A B : Type 0} (h : A → B) (xs : List A) → map h xs ≡ [] → xs ≡ []
+pub no_map : {A B : Type 0} (h : A → B) (xs : List A) → map h xs ≡ [] → xs ≡ []
 no_map h [] e = refl
 no_map h (x ∷ xs) e = absurd cc
 

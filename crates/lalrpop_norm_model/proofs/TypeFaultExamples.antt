@@ -7,14 +7,15 @@ use Rattle.lalrpop_norm_tree.specs.Reprs as lowered
 use Rattle.lalrpop_norm_tree.specs.Reprs.{ReprData, named_repr}
 use Rattle.lalrpop_norm_tree.specs.Symbols.{ArgumentPattern, ArgumentPatterns, one_name, several, no_arguments, argument_and, nonterminal, tupled}
 use Rattle.lalrpop_norm_tree.specs.Types.{id, tuple, nominal, of_symbol, types_of, no_types}
+use Rattle.lalrpop_norm_faults.specs.declared.kind.FaultKind.TheVariants.{TupleLength}
 use Rattle.lalrpop_norm_model.specs.TerminalTypes.{unit_type}
 use Rattle.lalrpop_norm_model.specs.TypeRelation.{Has, IsFunctional, IsTotal}
-use Rattle.lalrpop_norm_model.specs.TuplePatterns.{fits, PatternsFit, of_length, pattern_misfits}
-use Rattle.lalrpop_norm_model.specs.InferenceFaults.{disagreeing as disagreeing_alternatives, untyped_rules, coded_rules, inferred_table}
+use Rattle.lalrpop_norm_model.specs.TuplePatterns.{fits, PatternsFit, pattern_misfits}
+use Rattle.lalrpop_norm_model.specs.InferenceFaults.{disagreeing as disagreeing_alternatives, untyped_rules, inferred_table}
 use Rattle.lalrpop_norm_model.specs.TypeRounds.{Row, table_of}
 use Rattle.lalrpop_norm_model.proofs.TypeLemmas.{none_had}
 use Rattle.lalrpop_norm_model.proofs.TableTests.{AllHad, had_by, Typing, typing, stuck_by_rules}
-use Rattle.lalrpop_norm_model.proofs.ExampleGrammars.{a_part, plain, with_code, coded, a_rule, tok_tokens, tok, of_rules}
+use Rattle.lalrpop_norm_model.proofs.ExampleGrammars.{nowhere, a_part, plain, with_code, coded, a_rule, tok_tokens, tok, of_rules}
 use Rattle.lalrpop_norm_model.proofs.TypeExamples.{tuple_of, literal}
 
 -- a token and a tuple are two types
@@ -202,12 +203,5 @@ declared_places = refl
 circle_places : map (λ (r : RuleData). r.name.0) (untyped_rules circle) ≡ codes "A" ∷ codes "B" ∷ codes "C" ∷ codes "D" ∷ []
 circle_places = refl
 
-coded_place : map (λ (r : RuleData). r.name.0) (coded_rules only_coded) ≡ codes "K" ∷ []
-coded_place = refl
-
--- a lookaround counts as an alternative that gives a type, though here it gives none
-located_places : map (λ (r : RuleData). r.name.0) (coded_rules nowhere_located) ≡ []
-located_places = refl
-
-foo_places : pattern_misfits foo (inferred_table foo) ≡ (of_length, a_part (nonterminal (codes "Bar"))) ∷ []
+foo_places : pattern_misfits foo (inferred_table foo) ≡ (TupleLength, nowhere) ∷ []
 foo_places = refl

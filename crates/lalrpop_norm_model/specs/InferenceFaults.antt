@@ -1,7 +1,9 @@
--- Where inference refuses: the rules and alternatives at which one of its faults stands, in the order of looking.
-use Rattle.std.specs.Prelude.{◌≡◌, Bool, true, false, not, ◌&&◌, List, [], filter, flat_map, Option, Some, None, is_none}
+-- Where inference refuses: its faults in the order of looking.
+use Rattle.std.specs.Prelude.{Bool, true, false, not, List, [], ◌∷◌, ◌++◌, map, filter, flat_map, Option, Some, None, is_none, if◌then◌else◌}
 use Rattle.lalrpop_norm_tree.specs.Items.{AlternativeData, RuleData, GrammarData}
 use Rattle.lalrpop_norm_tree.specs.Reprs.{ReprData}
+use Rattle.lalrpop_norm_faults.specs.Faults.{Fault}
+use Rattle.lalrpop_norm_faults.specs.declared.kind.FaultKind.TheVariants.{NoAlternatives, OnlyCoded, NotGrounded, Disagreement}
 use Rattle.lalrpop_norm_model.specs.Grammars.{is_nil}
 use Rattle.lalrpop_norm_model.specs.PlainRules.{all_rules}
 use Rattle.lalrpop_norm_model.specs.SameTypes.{same_type}
@@ -10,6 +12,8 @@ use Rattle.lalrpop_norm_model.specs.TypeTables.{Table, clause_value}
 use Rattle.lalrpop_norm_model.specs.TypeRounds.{table_of, inferred}
 use Rattle.lalrpop_norm_model.specs.TuplePatterns.{pattern_misfits}
 
+-- ---- rules that nothing gives a type
+
 abbrev pub is_undeclared : RuleData → Bool
 is_undeclared r = is_none r.type_decl
 
@@ -17,13 +21,16 @@ is_undeclared r = is_none r.type_decl
 abbrev pub undeclared : GrammarData → List RuleData
 undeclared g = filter is_undeclared (all_rules g)
 
--- the undeclared rules without alternatives
-abbrev pub empty_rules : GrammarData → List RuleData
-empty_rules g = filter (λ r. is_nil r.alternatives) (undeclared g)
+-- no alternatives at all; or some, none of which is a default or a lookaround one
+abbrev pub lack_of : RuleData → List AlternativeData → List Fault
+lack_of r [] = (NoAlternatives, r.span) ∷ []
+lack_of r (a ∷ rest) = (OnlyCoded, a.span) ∷ []
 
--- the undeclared rules with alternatives, none of which is a default or a lookaround one
-abbrev pub coded_rules : GrammarData → List RuleData
-coded_rules g = filter (λ r. not (is_nil r.alternatives) && is_nil (clauses r)) (undeclared g)
+-- what an undeclared rule lacks
+abbrev pub lacking : RuleData → List Fault
+lacking r = if is_nil (clauses r) then lack_of r r.alternatives else []
+
+-- ---- types where the rounds end
 
 -- the table where the rounds end
 abbrev pub inferred_table : GrammarData → Table
@@ -51,12 +58,13 @@ disagreeing_in g r = filter (λ a. clause_disagrees g r (alternative_clause a)) 
 abbrev pub disagreeing : GrammarData → List AlternativeData
 disagreeing g = flat_map (disagreeing_in g) (undeclared g)
 
--- no fault of inference stands
-pub record HasNoFault (g : GrammarData) : Type 0 where
-  -- each undeclared rule has an alternative, and one that gives a type
-  pub each_has_alternatives : empty_rules g ≡ []
-  pub each_has_clauses : coded_rules g ≡ []
-  pub each_is_typed : untyped_rules g ≡ []
-  pub none_disagrees : disagreeing g ≡ []
-  -- tuple patterns fit the types where the rounds end
-  pub patterns_fit : pattern_misfits g (inferred_table g) ≡ []
+-- ---- all of them
+
+-- Undeclared rules that lack what gives a type; then the rules without a type; then the alternatives that disagree; then the tuple
+-- patterns that do not fit.
+abbrev pub inference_faults : GrammarData → List Fault
+inference_faults g =
+    flat_map lacking (undeclared g)
+    ++ map (λ (r : RuleData). (NotGrounded, r.span)) (untyped_rules g)
+    ++ map (λ (a : AlternativeData). (Disagreement, a.span)) (disagreeing g)
+    ++ pattern_misfits g (inferred_table g)

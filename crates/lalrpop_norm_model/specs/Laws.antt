@@ -1,7 +1,7 @@
 -- What is proved of these definitions, each statement in one piece. The functions of the crate carry them.
 use Rattle.std.specs.Prelude.{◌≡◌, ◌⊎◌, ◌↔◌, ℕ, ◌≤◌, List, [], ◌∷◌, map, flat_map, length, filter, take, slice_get, Option, Some, None, option_map, true, false, bytes_eq}
 use Rattle.lalrpop_norm_theory.specs.Rounds.{In, IsDistinct}
-use Rattle.lalrpop_norm_tree.specs.Items.{AlternativeData, RuleData, GrammarData, rule_item}
+use Rattle.lalrpop_norm_tree.specs.Items.{AlternativeData, RuleData, InternTokenData, GrammarData, rule_item}
 use Rattle.lalrpop_norm_model.specs.Features.{Features, is_active}
 use Rattle.lalrpop_norm_model.specs.Enabled.{Places, present, all_places, enabled_places, enabled_rule}
 use Rattle.lalrpop_norm_model.specs.Scopes.{Global, globals, resolved_grammar}
@@ -32,6 +32,9 @@ use Rattle.lalrpop_norm_theory.specs.Leveled.{leveled_symbols, leveled_symbol, I
 use Rattle.lalrpop_norm_theory.specs.Tables.{OneRuleAName, rule_of}
 use Rattle.lalrpop_norm_theory.specs.Laws.{OneToOne, level_named}
 use Rattle.lalrpop_norm_model.specs.Expanded.{rule_names}
+use Rattle.lalrpop_norm_model.specs.TuplePatterns.{IsTypable}
+use Rattle.lalrpop_norm_model.specs.CheckedTokens.{with_tokens}
+use Rattle.lalrpop_norm_model.specs.InferenceFaults.{inference_faults}
 use Rattle.lalrpop_norm_model.specs.LevelNames.{HasLevelNames, level_origin}
 use Rattle.lalrpop_norm_model.specs.Renumbered.{prepared_grammar, closed_up, rank_in, rank_by, ranked_clause, IsRenumbered, TreesAreRenumbered, OneToOneByRank}
 
@@ -259,3 +262,12 @@ PlainRulesAreFaithful = (value : ConditionValue) (g : GrammarData) → IsSettled
     ((s : ClosedSymbol) → In s (declared g) → OneToOne (flat_meaning value g) (text_in (flat_rules g)) (plain_table value g n) s)
     × ((s : ClosedSymbol) → IsKnown (declared g) (expanded_symbols (flat_meaning value g) (declared g) n) s →
     OneToOne (flat_meaning value g) (text_in (flat_rules g)) (plain_table value g n) s)
+
+-- A grammar of distinct names is typable exactly where no fault of inference is.
+abbrev pub TypableExactly : Type 0
+TypableExactly = (g : GrammarData) → IsDistinct (rule_names g) → IsTypable g ↔ (inference_faults g ≡ [])
+
+-- The faults of inference of a grammar with internal tokens are those of its entries, whatever the automaton.
+abbrev pub AutomatonIsUnseen : Type 0
+AutomatonIsUnseen = (t u : InternTokenData) → t.match_entries ≡ u.match_entries → (g : GrammarData) →
+    inference_faults (with_tokens t g) ≡ inference_faults (with_tokens u g)

@@ -33,3 +33,5 @@ pub mod TuplePatterns
 pub mod SameTypes
 pub mod InferenceFaults
 pub mod TokenFaults
+pub mod LexerFaults
+pub mod LoweringFaults

@@ -22,6 +22,9 @@ use Rattle.lalrpop_norm_model.specs.Replaced.{replaced_kind}
 abbrev pub kind_of : Part → Kind
 kind_of (at s k) = k
 
+abbrev pub span_of : Part → Span
+span_of (at s k) = s
+
 -- a symbol with a name or a tuple of names for its value before it
 abbrev pub names_value : Part → Bool
 names_value (at s (named n p)) = true

@@ -13,27 +13,12 @@ use Rattle.lalrpop_norm_tree.specs.Accessors.{match_item_span}
 use Rattle.lalrpop_norm_tree.specs.Items.{AlternativeData, RuleData, ConversionData, EnumTokenData, MatchTokenData, GrammarData}
 use Rattle.lalrpop_norm_tree.specs.Symbols.{Kind, Part, Parts, group, ambiguous_id, terminal, nonterminal, call, repeated, chosen, named, tupled, lookahead, lookbehind, error_terminal, at, no_parts, part_and}
 use Rattle.lalrpop_norm_tree.specs.Types.{ParameterData}
+use Rattle.lalrpop_norm_faults.specs.Faults.{Fault, fault_if}
+use Rattle.lalrpop_norm_faults.specs.declared.kind.FaultKind.TheVariants.{LiteralTwice, TerminalTwice, NoMapping, NoPattern, InputLifetime, InputParameter}
 use Rattle.lalrpop_norm_model.specs.PlainRules.{all_rules}
 use Rattle.lalrpop_norm_model.specs.Terminals.{same_literal, same_terminal}
 use Rattle.lalrpop_norm_model.specs.Entries.{match_block, match_entries, item_entries, catch_all, user_names}
 use Rattle.lalrpop_norm_model.specs.TerminalTypes.{extern_enum}
-
--- a literal twice in a match block; a terminal twice; a terminal without a mapping, or without a conversion; `'input` or `input`
--- declared beside internal tokens
-pub data TokenFault : Type 0 where
-  literal_twice : TokenFault
-  terminal_twice : TokenFault
-  no_mapping : TokenFault
-  no_pattern : TokenFault
-  input_lifetime_declared : TokenFault
-  input_parameter_declared : TokenFault
-
--- a fault where it stands
-abbrev pub Fault : Type 0
-Fault = TokenFault × Span
-
-abbrev pub fault_if : Bool → TokenFault → Span → List Fault
-fault_if b f s = if b then (f, s) ∷ [] else []
 
 -- f of each of a list and of what stands before it, the nearest first
 abbrev pub each_after : {A B : Type 0} → (List A → A → List B) → List A → List A → List B
@@ -54,18 +39,22 @@ names_of i = user_names (item_entries 0 i)
 -- an item whose literal, or whose terminal, an item before it has
 abbrev pub item_faults : List MatchItem → MatchItem → List Fault
 item_faults before i =
-    fault_if (list_any (λ l. list_any (same_literal l) (flat_map literals_of before)) (literals_of i)) literal_twice (match_item_span i)
-    ++ fault_if (list_any (λ t. list_any (same_terminal t) (flat_map names_of before)) (names_of i)) terminal_twice (match_item_span i)
+    fault_if (list_any (λ l. list_any (same_literal l) (flat_map literals_of before)) (literals_of i)) (LiteralTwice, match_item_span i)
+    ++ fault_if (list_any (λ t. list_any (same_terminal t) (flat_map names_of before)) (names_of i)) (TerminalTwice, match_item_span i)
 
-abbrev pub match_faults : Option MatchTokenData → List Fault
-match_faults None = []
-match_faults (Some m) = each_after item_faults [] (flat_map (λ items. items) m.contents)
+abbrev pub items_of : Option MatchTokenData → List MatchItem
+items_of None = []
+items_of (Some m) = flat_map (λ items. items) m.contents
+
+-- the items of the match block, group by group
+abbrev pub match_items : GrammarData → List MatchItem
+match_items g = items_of (match_block g)
 
 -- ---- conversions
 
 -- a conversion whose terminal one before it has
 abbrev pub conversion_faults : List ConversionData → ConversionData → List Fault
-conversion_faults before c = fault_if (list_any (λ (b : ConversionData). same_terminal c.from b.from) before) terminal_twice c.span
+conversion_faults before c = fault_if (list_any (λ (b : ConversionData). same_terminal c.from b.from) before) (TerminalTwice, c.span)
 
 -- ---- symbols
 
@@ -113,18 +102,27 @@ is_input_lifetime (parameter.Id a) = false
 
 abbrev pub input_faults : GrammarData → List Fault
 input_faults g =
-    fault_if (list_any is_input_lifetime g.type_parameters) input_lifetime_declared g.span
-    ++ fault_if (list_any (λ (p : ParameterData). bytes_eq p.name (codes "input")) g.parameters) input_parameter_declared g.span
+    fault_if (list_any is_input_lifetime g.type_parameters) (InputLifetime, g.span)
+    ++ fault_if (list_any (λ (p : ParameterData). bytes_eq p.name (codes "input")) g.parameters) (InputParameter, g.span)
 
 -- ---- all of them
 
-abbrev pub token_faults_with : Option EnumTokenData → GrammarData → List Fault
-token_faults_with (Some e) g =
+-- conversions, then the terminals used: each has a conversion
+abbrev pub enum_faults : EnumTokenData → GrammarData → List Fault
+enum_faults e g =
     each_after conversion_faults [] e.conversions
-    ++ flat_map (λ p. fault_if (not (has_conversion e.conversions p.0)) no_pattern p.1) (places_used g)
-token_faults_with None g =
-    match_faults (match_block g) ++ flat_map (λ p. fault_if (not (has_entry g p.0)) no_mapping p.1) (places_used g) ++ input_faults g
+    ++ flat_map (λ p. fault_if (not (has_conversion e.conversions p.0)) (NoPattern, p.1)) (places_used g)
 
--- with an extern enum its conversions, then the symbols; else the match block, the symbols, the parameters
+-- the match block, then the terminals used: each has an entry
+abbrev pub entry_faults : GrammarData → List Fault
+entry_faults g =
+    each_after item_faults [] (match_items g)
+    ++ flat_map (λ p. fault_if (not (has_entry g p.0)) (NoMapping, p.1)) (places_used g)
+
+abbrev pub token_faults_with : Option EnumTokenData → GrammarData → List Fault
+token_faults_with (Some e) g = enum_faults e g
+token_faults_with None g = entry_faults g ++ input_faults g
+
+-- with an extern enum its conversions and the symbols; else the match block, the symbols, what is declared
 abbrev pub token_faults : GrammarData → List Fault
 token_faults g = token_faults_with (extern_enum g) g

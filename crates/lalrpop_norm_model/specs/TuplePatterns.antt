@@ -3,9 +3,12 @@ use Rattle.std.specs.Prelude.{◌≡◌, ℕ, Bool, true, false, ◌&&◌, List,
 use Rattle.lalrpop_norm_tree.specs.Items.{AlternativeData, RuleData, GrammarData}
 use Rattle.lalrpop_norm_tree.specs.Reprs.{ReprData, Reprs, tuple, no_reprs, repr_and}
 use Rattle.lalrpop_norm_tree.specs.Symbols.{ArgumentPattern, ArgumentPatterns, one_name, several, no_arguments, argument_and, Kind, Part, Parts, nonterminal, tupled, at, no_parts, part_and}
+use Rattle.lalrpop_norm_faults.specs.Faults.{Fault}
+use Rattle.lalrpop_norm_faults.specs.declared.kind.FaultKind.{FaultKind}
+use Rattle.lalrpop_norm_faults.specs.declared.kind.FaultKind.TheVariants.{TupleOverSymbol, TupleOverType, TupleLength}
 use Rattle.lalrpop_norm_theory.specs.Rounds.{In}
 use Rattle.lalrpop_norm_model.specs.Expanded.{IsAlternative}
-use Rattle.lalrpop_norm_model.specs.MadeRules.{kind_of}
+use Rattle.lalrpop_norm_model.specs.MadeRules.{kind_of, span_of}
 use Rattle.lalrpop_norm_model.specs.PlainRules.{all_rules}
 use Rattle.lalrpop_norm_model.specs.TypeRelation.{Has, HasOneType}
 use Rattle.lalrpop_norm_model.specs.TypeTables.{Table}
@@ -28,12 +31,6 @@ abbrev mutual
 
 -- ---- what does not fit
 
--- what may be wrong with a tuple pattern: no nonterminal below it; no tuple type, for it or for one nested in it; another length
-pub data Misfit : Type 0 where
-  over_symbol : Misfit
-  over_type : Misfit
-  of_length : Misfit
-
 -- as many patterns as types
 abbrev pub as_many : ArgumentPatterns → Reprs → Bool
 as_many no_arguments no_reprs = true
@@ -41,17 +38,17 @@ as_many (argument_and p ps) (repr_and x xs) = as_many ps xs
 as_many _ _ = false
 
 -- what is wrong over a type, where `long` tests the length of a tuple and `each` tells what is wrong in one
-abbrev pub over_tuple : (Reprs → Bool) → (Reprs → List Misfit) → ReprData → List Misfit
-over_tuple long each (tuple ts) = if long ts then each ts else of_length ∷ []
-over_tuple long each _ = over_type ∷ []
+abbrev pub over_tuple : (Reprs → Bool) → (Reprs → List FaultKind) → ReprData → List FaultKind
+over_tuple long each (tuple ts) = if long ts then each ts else TupleLength ∷ []
+over_tuple long each _ = TupleOverType ∷ []
 
 -- what is wrong with a pattern over a type, a tuple before what is nested in it
 abbrev mutual
-  pub misfits : ArgumentPattern → ReprData → List Misfit
+  pub misfits : ArgumentPattern → ReprData → List FaultKind
   misfits (one_name n) x = []
   misfits (several ps) x = over_tuple (as_many ps) (misfits_of ps) x
 
-  pub misfits_of : ArgumentPatterns → Reprs → List Misfit
+  pub misfits_of : ArgumentPatterns → Reprs → List FaultKind
   misfits_of (argument_and p ps) (repr_and x xs) = misfits p x ++ misfits_of ps xs
   misfits_of _ _ = []
 
@@ -86,24 +83,24 @@ pub record IsTypable (g : GrammarData) : Type 0 where
 -- ---- what is wrong with tuple symbols by a table
 
 -- patterns over the type of a name; where it has none that is no tuple type
-abbrev pub over_found : ArgumentPatterns → Option ReprData → List Misfit
-over_found ns None = over_type ∷ []
+abbrev pub over_found : ArgumentPatterns → Option ReprData → List FaultKind
+over_found ns None = TupleOverType ∷ []
 over_found ns (Some x) = misfits (several ns) x
 
-abbrev pub over_kind : Table → ArgumentPatterns → Kind → List Misfit
+abbrev pub over_kind : Table → ArgumentPatterns → Kind → List FaultKind
 over_kind f ns (nonterminal n) = over_found ns (f n)
-over_kind f ns _ = over_symbol ∷ []
+over_kind f ns _ = TupleOverSymbol ∷ []
 
--- what is wrong with a tuple symbol, each at the symbol below it
-abbrev pub symbol_misfits : Table → Pattern → List (Misfit × Part)
-symbol_misfits f p = map (λ m. (m, p.1)) (over_kind f p.0 (kind_of p.1))
+-- what is wrong with a tuple symbol, at the symbol below it
+abbrev pub symbol_misfits : Table → Pattern → List Fault
+symbol_misfits f p = map (λ k. (k, span_of p.1)) (over_kind f p.0 (kind_of p.1))
 
-abbrev pub alternative_misfits : Table → AlternativeData → List (Misfit × Part)
+abbrev pub alternative_misfits : Table → AlternativeData → List Fault
 alternative_misfits f a = flat_map (symbol_misfits f) (tuple_symbols a.parts)
 
-abbrev pub rule_misfits : Table → RuleData → List (Misfit × Part)
+abbrev pub rule_misfits : Table → RuleData → List Fault
 rule_misfits f r = flat_map (alternative_misfits f) r.alternatives
 
 -- what is wrong with the tuple symbols of a grammar, of rules with a declared type too
-abbrev pub pattern_misfits : GrammarData → Table → List (Misfit × Part)
+abbrev pub pattern_misfits : GrammarData → Table → List Fault
 pattern_misfits g f = flat_map (rule_misfits f) (all_rules g)

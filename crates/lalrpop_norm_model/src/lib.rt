@@ -15,6 +15,7 @@ ghost use Rattle.lalrpop_norm_model.specs.Laws.{ArgumentsArePutIn, MadeRulesAreR
 ghost use Rattle.lalrpop_norm_model.specs.Laws.{MadeSymbolsAreScoped, RoundsAreRead};
 ghost use Rattle.lalrpop_norm_model.specs.Laws.{TextsInGrammars, PlainRulesAreRead};
 ghost use Rattle.lalrpop_norm_model.specs.Laws.{PlainGrammarsHoldPlainRules, DistinctNamesMeanOneRule, PlainRulesAreFaithful};
+ghost use Rattle.lalrpop_norm_model.specs.Laws.{TypableExactly, AutomatonIsUnseen};
 
 /// The text of a closed symbol without bounds is the text that its written symbol is displayed with.
 pub fn texts_are_displayed()
@@ -214,4 +215,16 @@ pub fn distinct_names_mean_one_rule()
 /// to one with the derivation trees of its plain rules, with the same words and alternatives, from every declared reference.
 pub fn plain_rules_are_faithful()
     ensures { PlainRulesAreFaithful }
+{}
+
+/// A grammar whose rules have distinct names is typable exactly where its list of faults of inference is empty: each rule has
+/// exactly one type, and the tuple patterns fit.
+pub fn typable_exactly()
+    ensures { TypableExactly }
+{}
+
+/// What inference finds wrong with a grammar that has internal tokens depends on their entries and not on their automaton: so it
+/// is the same whether or not a lexer can build one.
+pub fn automaton_is_unseen()
+    ensures { AutomatonIsUnseen }
 {}

@@ -1,0 +1,119 @@
+-- Where lexers may refuse small grammars, and what is seen of a grammar for which none makes an automaton.
+use Rattle.std.proofs.Common.{◌≡◌, ℕ, List, [], ◌∷◌, Some, None, codes, inl, inr, refl, ap, arith}
+use Rattle.lalrpop_norm_tree.specs.declared.names.TerminalLiteral.{TerminalLiteral}
+use Rattle.lalrpop_norm_tree.specs.declared.names.TerminalLiteral.TheVariants.{Quoted, Regex}
+use Rattle.lalrpop_norm_tree.specs.declared.items.MatchItem.TheVariants.{Unmapped}
+use Rattle.lalrpop_norm_tree.specs.declared.items.MatchMapping.TheVariants.{Terminal}
+use Rattle.lalrpop_norm_tree.specs.Symbols.{Kind}
+use Rattle.lalrpop_norm_tree.specs.Items.{InternTokenData, GrammarData}
+use Rattle.lalrpop_norm_faults.specs.Faults.{Fault, MayBeTold}
+use Rattle.lalrpop_norm_faults.specs.declared.kind.FaultKind.TheVariants.{BadRegex, RegexFeature, Ambiguity, NoMapping}
+use Rattle.lalrpop_norm_model.specs.Entries.{itself, written}
+use Rattle.lalrpop_norm_model.specs.Lexers.{look_around, Lexer}
+use Rattle.lalrpop_norm_model.specs.CheckedTokens.{with_tokens, IsEntered, IsChecked}
+use Rattle.lalrpop_norm_model.specs.InferenceFaults.{inference_faults}
+use Rattle.lalrpop_norm_model.specs.LexerFaults.{literal_at, LexerRefuses, by_text, by_feature, by_ambiguity, StandsAtLexer, token_findings}
+use Rattle.lalrpop_norm_model.proofs.EntryExamples.{place, use_at, entry, words, words_entries, words_are, renamed, renamed_entries, renamed_are}
+use Rattle.lalrpop_norm_model.proofs.ExampleGrammars.{quoted, plain, a_rule, match_tokens, of_rules}
+
+-- ---- where literals stand
+
+-- the symbol that adds an entry, else the match item
+added_place : literal_at words (Regex (codes "[a-zA-Z]+")) ≡ Some (place 5)
+added_place = refl
+
+item_place : literal_at words (Regex (codes "(?i)BEGIN")) ≡ Some (place 1)
+item_place = refl
+
+-- a user name that is a literal of the block stands at its item, though it is used
+used_place : literal_at words (Quoted (codes "+")) ≡ Some (place 2)
+used_place = refl
+
+-- what names itself where it is used stands there for its item too, at its first use
+both_place : literal_at renamed (Quoted (codes "a")) ≡ Some (place 4)
+both_place = refl
+
+-- ---- a lexer whose regexes are literals
+
+-- the text `(` is bad; the regex of `r"(?i)BEGIN"` looks around; the first two entries are ambiguous; nothing is built
+abbrev strict : Lexer TerminalLiteral
+strict = record {
+  IsBad = λ text. text ≡ codes "(";
+  IsRegexOf = λ literal regex. regex ≡ literal;
+  HasFeature = λ regex feature. (regex ≡ Regex (codes "(?i)BEGIN")) × (feature ≡ look_around);
+  AreAmbiguous = λ regexes precedences i j. (i ≡ 0) × (j ≡ 1);
+  IsBuilt = λ regexes precedences code. ⊥;
+}
+
+abbrev words_regexes : List TerminalLiteral
+words_regexes = Regex (codes "[a-zA-Z]+") ∷ Regex (codes "(?i)BEGIN") ∷ Quoted (codes "+") ∷ []
+
+zero_not_one : ◌≡◌ {A = ℕ} 0 1 → ⊥
+zero_not_one h = absurd (omega (arith, h))
+
+-- entries 0 and 1: told at the literal of entry 0, which is the symbol's
+ambiguity : LexerRefuses strict words (Ambiguity, place 5)
+ambiguity = by_ambiguity (place 5) (record {
+  entries = words_entries;
+  regexes = words_regexes;
+  first = 0;
+  second = 1;
+  all_entries = words_are;
+  of_entries = (refl, (refl, (refl, tt)));
+  ambiguity = record { first_in_range = omega arith; second_in_range = omega arith; differ = zero_not_one; ambiguous = (refl, refl) };
+  place = record { entry = entry 2 (Regex (codes "[a-zA-Z]+")) (itself (Regex (codes "[a-zA-Z]+"))); at_index = refl; place = refl };
+})
+
+-- entry 1: told at its match item
+feature_there : LexerRefuses strict words (RegexFeature, place 1)
+feature_there = by_feature (place 1) (record {
+  entries = words_entries;
+  regexes = words_regexes;
+  index = 1;
+  feature = look_around;
+  all_entries = words_are;
+  of_entries = (refl, (refl, (refl, tt)));
+  unsupported = (Regex (codes "(?i)BEGIN"), refl, (refl, refl));
+  place = record { entry = entry 4 (Regex (codes "(?i)BEGIN")) (Terminal (quoted (codes "BEGIN"))); at_index = refl; place = refl };
+})
+
+-- `match { r"(" }`, and the same where a terminal is used that has no entry
+abbrev open_group : List Kind → GrammarData
+open_group uses = of_rules (match_tokens ((Unmapped (Regex (codes "(")) (place 1) ∷ []) ∷ []) ∷ []) (a_rule (codes "S") None (plain uses ∷ []) ∷ [])
+
+bad_text : (uses : List Kind) → LexerRefuses strict (open_group uses) (BadRegex, place 1)
+bad_text uses = by_text (place 1) (record {
+  entry = entry 2 (Regex (codes "(")) (itself (Regex (codes "(")));
+  text = codes "(";
+  is_entry = written (entry 2 (Regex (codes "(")) (itself (Regex (codes "(")))) (inl refl);
+  literal = refl;
+  bad = refl;
+  place = refl;
+})
+
+-- it may be told where nothing comes before it
+bad_is_told : MayBeTold (StandsAtLexer strict (open_group [])) (token_findings (open_group [])) (BadRegex, place 1)
+bad_is_told = inl (bad_text [])
+
+-- and not where a terminal has no entry, which comes before it
+bad_is_not_told : MayBeTold (StandsAtLexer strict (open_group (use_at 4 (quoted (codes "b")) ∷ []))) (token_findings (open_group (use_at 4 (quoted (codes "b")) ∷ []))) (BadRegex, place 1) → ⊥
+bad_is_not_told h = let apart : 4 ≡ 1 = ap (λ (f : Fault). f.1.0) h in absurd (omega (arith, apart))
+
+unmapped_is_told : MayBeTold (StandsAtLexer strict (open_group (use_at 4 (quoted (codes "b")) ∷ []))) (token_findings (open_group (use_at 4 (quoted (codes "b")) ∷ []))) (NoMapping, place 4)
+unmapped_is_told = refl
+
+-- ---- entries without an automaton
+
+abbrev without_automaton : InternTokenData
+without_automaton = record { match_entries = renamed_entries; code = [] }
+
+-- the lexer builds nothing, and yet the grammar has its entries
+entered : IsEntered renamed (with_tokens without_automaton renamed)
+entered = (without_automaton, record { entries = renamed_are; grammar = refl })
+
+never_checked : (h : GrammarData) → IsChecked strict renamed h → ⊥
+never_checked h c = c.2.built
+
+-- so its types are found, and what is wrong with them: here nothing
+entered_faults : inference_faults (with_tokens without_automaton renamed) ≡ []
+entered_faults = refl

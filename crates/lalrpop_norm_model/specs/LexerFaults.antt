@@ -1,0 +1,100 @@
+-- Where a lexer may refuse, and what the pass on tokens looks for, the lexer's refusals among the rest.
+use Rattle.std.specs.Prelude.{◌≡◌, ℕ, ◌||◌, List, [], ◌∷◌, ◌++◌, map, Option, Some, None, is_none, slice_get, if◌then◌else◌}
+use Rattle.std.specs.List.{list_any}
+use Rattle.lalrpop_norm_tree.specs.declared.names.Span.{Span}
+use Rattle.lalrpop_norm_tree.specs.declared.names.TerminalLiteral.{TerminalLiteral}
+use Rattle.lalrpop_norm_tree.specs.declared.names.TerminalLiteral.TheVariants.{Regex}
+use Rattle.lalrpop_norm_tree.specs.declared.names.TerminalString.{TerminalString}
+use Rattle.lalrpop_norm_tree.specs.declared.names.TerminalString.TheVariants.{Literal}
+use Rattle.lalrpop_norm_tree.specs.declared.items.MatchEntry.{MatchEntry}
+use Rattle.lalrpop_norm_tree.specs.declared.items.MatchItem.{MatchItem}
+use Rattle.lalrpop_norm_tree.specs.Accessors.{or_else, first_of, match_item_span}
+use Rattle.lalrpop_norm_tree.specs.Items.{EnumTokenData, GrammarData}
+use Rattle.lalrpop_norm_faults.specs.Faults.{Fault, Finding, sure, maybe}
+use Rattle.lalrpop_norm_faults.specs.declared.kind.FaultKind.TheVariants.{BadRegex, RegexFeature, Ambiguity}
+use Rattle.lalrpop_norm_model.specs.Terminals.{same_literal, same_terminal}
+use Rattle.lalrpop_norm_model.specs.Entries.{match_entries, catch_all, user_names, AreEntries, IsEntry}
+use Rattle.lalrpop_norm_model.specs.TerminalTypes.{extern_enum}
+use Rattle.lalrpop_norm_model.specs.Lexers.{Feature, Lexer, HasFeatureAt, IsAmbiguity}
+use Rattle.lalrpop_norm_model.specs.CheckedTokens.{AreRegexes, precedences}
+use Rattle.lalrpop_norm_model.specs.TokenFaults.{literals_of, match_items, places_used, enum_faults, entry_faults, input_faults}
+
+-- ---- where a literal stands
+
+abbrev pub place_if : TerminalLiteral → TerminalString × Span → Option Span
+place_if l p = if same_terminal p.0 (Literal l) then Some p.1 else None
+
+-- the symbol for which the literal has an entry: its first use, where it is no user name and is let in
+abbrev pub added_at : GrammarData → TerminalLiteral → Option Span
+added_at g l =
+    if list_any (same_terminal (Literal l)) (user_names (match_entries g)) || is_none (catch_all g) then None
+    else first_of (place_if l) (places_used g)
+
+abbrev pub item_place_if : TerminalLiteral → MatchItem → Option Span
+item_place_if l i = if list_any (same_literal l) (literals_of i) then Some (match_item_span i) else None
+
+-- where the literal of an entry stands: at the symbol that added it, else at its match item
+abbrev pub literal_at : GrammarData → TerminalLiteral → Option Span
+literal_at g l = or_else (added_at g l) (first_of (item_place_if l) (match_items g))
+
+-- ---- where a lexer may refuse
+
+-- the text of a regular expression among the entries is no pattern
+pub record IsBadAt {R : Type 0} (l : Lexer R) (g : GrammarData) (s : Span) : Type 0 where
+  pub entry : MatchEntry
+  pub text : List ℕ
+  pub is_entry : IsEntry g entry
+  pub literal : entry.match_literal ≡ Regex text
+  pub bad : l.IsBad text
+  pub place : literal_at g (Regex text) ≡ Some s
+
+-- the literal of the entry at that index stands there
+pub record StandsAt (g : GrammarData) (entries : List MatchEntry) (index : ℕ) (s : Span) : Type 0 where
+  pub entry : MatchEntry
+  pub at_index : slice_get entries index ≡ Some entry
+  pub place : literal_at g entry.match_literal ≡ Some s
+
+-- the regex of an entry has a feature that is not supported
+pub record HasFeatureThere {R : Type 0} (l : Lexer R) (g : GrammarData) (s : Span) : Type 0 where
+  pub entries : List MatchEntry
+  pub regexes : List R
+  pub index : ℕ
+  pub feature : Feature
+  pub all_entries : AreEntries g entries
+  pub of_entries : AreRegexes l entries regexes
+  pub unsupported : HasFeatureAt l regexes index feature
+  pub place : StandsAt g entries index s
+
+-- two entries are ambiguous; the place is that of the one named first
+pub record IsAmbiguousAt {R : Type 0} (l : Lexer R) (g : GrammarData) (s : Span) : Type 0 where
+  pub entries : List MatchEntry
+  pub regexes : List R
+  pub first : ℕ
+  pub second : ℕ
+  pub all_entries : AreEntries g entries
+  pub of_entries : AreRegexes l entries regexes
+  pub ambiguity : IsAmbiguity l regexes (precedences entries) first second
+  pub place : StandsAt g entries first s
+
+-- a refusal of the lexer that is true
+pub data LexerRefuses {R : Type 0} (l : Lexer R) (g : GrammarData) : Fault → Type 0 where
+  by_text : (s : Span) → IsBadAt l g s → LexerRefuses l g (BadRegex, s)
+  by_feature : (s : Span) → HasFeatureThere l g s → LexerRefuses l g (RegexFeature, s)
+  by_ambiguity : (s : Span) → IsAmbiguousAt l g s → LexerRefuses l g (Ambiguity, s)
+
+-- ---- what the pass looks for
+
+-- the one place where a fault may be told that stands, and may go untold
+pub data LexerPlace : Type 0 where
+  at_lexer : LexerPlace
+
+abbrev pub StandsAtLexer : {R : Type 0} → Lexer R → GrammarData → LexerPlace → Fault → Type 0
+StandsAtLexer l g at_lexer f = LexerRefuses l g f
+
+abbrev pub token_findings_with : Option EnumTokenData → GrammarData → List (Finding LexerPlace)
+token_findings_with (Some e) g = map sure (enum_faults e g)
+token_findings_with None g = map sure (entry_faults g) ++ maybe at_lexer ∷ map sure (input_faults g)
+
+-- beside internal tokens the lexer is asked once the entries stand, and before what is declared is looked at
+abbrev pub token_findings : GrammarData → List (Finding LexerPlace)
+token_findings g = token_findings_with (extern_enum g) g
