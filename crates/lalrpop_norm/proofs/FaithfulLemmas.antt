@@ -36,6 +36,7 @@ use Rattle.lalrpop_norm_faults.specs.declared.kind.FaultKind.TheVariants.{NotYet
 use Rattle.lalrpop_norm.proofs.LaterLemmas.{plain_grammar}
 use Rattle.lalrpop_norm.proofs.ShapeTrees.{AreFree, turned}
 use Rattle.lalrpop_norm.proofs.SimpleFaithful.{IsSimpleGrammar, simple_faithful, rules_agree}
+use Rattle.lalrpop_norm.proofs.WalkLemmas.{map_none}
 
 -- ---- symbols
 
@@ -284,10 +285,6 @@ plain_is_simple g h =
 pub plain_is_faithful : {R : Type 0} (lexer : Lexer R) (fs : Features) (g : GrammarData) (l : LoweredGrammar) → IsPlainGrammar g →
     IsLowered g l → IsClosed l → IsFaithful lexer fs g l
 plain_is_faithful lexer fs g l h lowered closed = simple_faithful lexer fs g l (plain_is_simple g h) lowered closed
-
-map_none : {X Y : Type 0} (f : X → Y) (xs : List X) → map f xs ≡ [] → xs ≡ []
-map_none f [] h = refl
-map_none f (x ∷ xs) h = absurd (cc h)
 
 -- what is not refused is plain
 pub plain_of : (g : GrammarData) → later_faults g ≡ [] → IsPlainGrammar g

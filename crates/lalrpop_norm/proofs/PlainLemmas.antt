@@ -21,6 +21,7 @@ use Rattle.lalrpop_norm.specs.Grammars.{externs_of, enum_in, conversions_of}
 use Rattle.lalrpop_norm.specs.Later.{pattern_parts, patterns_parts, has_slot_behind, has_several_slots, has_rule, has_conversion, later_parts, later_faults}
 use Rattle.lalrpop_norm.specs.PlainGrammars.{IsPlainSymbol, ArePlainSymbols, IsPlainAction, IsPlainAlternative, IsPlainRule, IsPlainConversion, HasOneEnum, IsPlainGrammar}
 use Rattle.lalrpop_norm.proofs.LaterLemmas.{left_none, right_none, found_rule, found_conversion, plain_grammar}
+use Rattle.lalrpop_norm.proofs.WalkLemmas.{map_none}
 
 -- ---- symbols and code
 
@@ -161,10 +162,6 @@ plain_is_taken g h =
       terminals = subst (λ (cs : List ConversionData). IsDistinct same_terminal (terminals_of cs)) same h.terminals;
       starts = h.starts;
     }
-
-map_none : {X Y : Type 0} (f : X → Y) (xs : List X) → map f xs ≡ [] → xs ≡ []
-map_none f [] h = refl
-map_none f (x ∷ xs) h = cc
 
 -- what is not refused is taken
 pub not_refused : (g : GrammarData) → later_faults g ≡ [] → lowerable.IsLowerable g

@@ -1,14 +1,19 @@
 -- First parts of joined lists.
-use Rattle.std.proofs.Common.{◌≡◌, Result, Ok, Err, Some, List, [], ◌∷◌, ◌++◌, map}
+use Rattle.std.proofs.Common.{◌≡◌, ℕ, Result, Ok, Err, Some, List, [], ◌∷◌, ◌++◌, map, codes, refl, sym, subst}
+use Rattle.std.specs.Prelude.{String, IfOk, IfErr, string_bytes}
+use Rattle.std.specs.declared.alloc.AllocError.{AllocError}
+use Rattle.std.specs.declared.alloc.Global.{Global}
 use Rattle.std.specs.Result.{IsErrAnd}
 use Rattle.lalrpop_norm_tree.specs.declared.names.Span.{Span}
+use Rattle.lalrpop_norm_faults.specs.declared.kind.FaultKind.{FaultKind}
 use Rattle.lalrpop_norm_faults.specs.declared.kind.FaultKind.TheVariants.{NotYet}
 use Rattle.lalrpop_norm_faults.specs.declared.failure.NormFailure.{NormFailure}
-use Rattle.lalrpop_norm_faults.specs.Faults.{IsFirst}
+use Rattle.lalrpop_norm_faults.specs.Faults.{IsFirst, IsRefusal}
 use Rattle.lalrpop_norm.specs.declared.later.LaterPart.{LaterPart}
 use Rattle.lalrpop_norm.specs.declared.later.Stop.{Stop}
 use Rattle.lalrpop_norm.specs.declared.later.Stop.TheVariants.{Found, Memory}
 use Rattle.lalrpop_norm.specs.LaterWalks.{first_part, Finds, StopsAt, Stops}
+use Rattle.lalrpop_norm.specs.LaterWords.{words_of, Tells, NamesFirst}
 
 -- what is first of some parts is first of them and more
 pub first_of_more : (ps qs : List LaterPart) (p : LaterPart) → first_part ps ≡ Some p → first_part (ps ++ qs) ≡ Some p
@@ -36,3 +41,23 @@ stops_same (Err x) e here all from h same = rw (from, ← same) h
 pub first_fault : (s : Span) (ps : List LaterPart) (p : LaterPart) (e : NormFailure) → first_part ps ≡ Some p → IsFirst ((NotYet, s) ∷ []) e → IsFirst (map (λ q. (NotYet, s)) ps) e
 first_fault s [] p e h first = cc
 first_fault s (q ∷ ps) p e h first = first
+
+-- a refusal whose message is that of the first part
+pub first_named : (ps : List LaterPart) (p : LaterPart) (e : NormFailure) → first_part ps ≡ Some p → Tells (words_of p ++ codes " is not taken yet") e → NamesFirst ps e
+first_named [] p e h told = tt
+first_named (q ∷ ps) p e h told =
+    let same : q ≡ p = cc in
+    subst (λ (x : LaterPart). Tells (words_of x ++ codes " is not taken yet") e) (sym same) told
+
+pub refusal_tells : (f : FaultKind) (s : Span) (m : Result (String Global) AllocError) (e : NormFailure) (text : List ℕ) → IsRefusal f s m e → IfOk m (λ x. string_bytes x ≡ text) → Tells text e
+refusal_tells f s (Ok m) e text is h = subst (Tells text) (sym is) h
+refusal_tells f s (Err x) e text is h = subst (Tells text) (sym is) tt
+
+pub map_none : {X Y : Type 0} (f : X → Y) (xs : List X) → map f xs ≡ [] → xs ≡ []
+map_none f [] h = refl
+map_none f (x ∷ xs) h = absurd (cc h)
+
+-- where there is no part, none is named
+pub none_named : {T : Type 0} (r : Result T NormFailure) (ps : List LaterPart) → ps ≡ [] → IfErr r (NamesFirst ps)
+none_named (Ok x) ps h = tt
+none_named (Err e) ps h = subst (λ (qs : List LaterPart). NamesFirst qs e) (sym h) tt

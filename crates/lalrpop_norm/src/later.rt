@@ -1,9 +1,10 @@
 //! What a later stage of this library brings. Until then a grammar that holds such a part is refused.
-ghost use Rattle.std.specs.Prelude.{◌≡◌};
+ghost use Rattle.std.specs.Prelude.{◌≡◌, Some, IfErr};
 ghost use Rattle.lalrpop_norm_tree.specs.Items.{grammar_view};
 ghost use Rattle.lalrpop_norm_faults.specs.Faults.{Refuses};
 ghost use Rattle.lalrpop_norm.specs.Later.{later_parts, later_faults};
 ghost use Rattle.lalrpop_norm.specs.LaterWalks.{Stops};
+ghost use Rattle.lalrpop_norm.specs.LaterWords.{words_of, NamesFirst};
 
 mod items;
 mod lacks;
@@ -94,7 +95,9 @@ pub(crate) enum LaterPart {
 
 impl LaterPart {
     /// What users are told that it is.
-    fn words(self) -> &'static str {
+    fn words(self) -> &'static str
+        ensures { result.now ≡ words_of self }
+    {
         match self {
             LaterPart::Group => "a group",
             LaterPart::Repeat => "a repeat",
@@ -138,6 +141,8 @@ impl LaterPart {
 }
 
 impl fmt::Display for LaterPart {
+    ghost output = { λ p. Some (words_of p) };
+
     fn fmt<W: fmt::Write>(&self, f: &mut fmt::Formatter<W>) -> fmt::Result {
         f.write_str(self.words())
     }
@@ -193,7 +198,8 @@ impl<T: Drop> From<AllocFailed<T>> for Stop {
 /// Refuses a grammar that holds a part of a later stage, with the fault F0 at the grammar's span. The message names
 /// the first such part.
 pub(crate) fn refuse_later_parts(alloc: Global, grammar: &Grammar) -> NormResult<()>
-    ensures { Refuses result (later_faults (grammar_view grammar.now)) }
+    ensures refuses { Refuses result (later_faults (grammar_view grammar.now)) }
+    ensures named { IfErr result (NamesFirst (later_parts (grammar_view grammar.now))) }
 {
     match find(alloc, grammar) {
         Ok(()) => Ok(()),

@@ -1,11 +1,13 @@
 //! The passes, one after another.
-ghost use Rattle.std.specs.Prelude.{IfOk};
+ghost use Rattle.std.specs.Prelude.{IfOk, IfErr};
 ghost use Rattle.lalrpop_norm_faults.specs.Faults.{Refuses};
 ghost use Rattle.lalrpop_norm_tree.specs.Items as written;
 ghost use Rattle.lalrpop_norm_repr.specs.Lowered as lowered;
 ghost use Rattle.lalrpop_norm_repr.specs.Closed.{IsClosed};
 ghost use Rattle.lalrpop_norm_late.specs.Plain.{IsLowered};
 ghost use Rattle.lalrpop_norm.specs.Faithful.{IsFaithful, no_lexer, features_of};
+ghost use Rattle.lalrpop_norm.specs.Later.{later_parts};
+ghost use Rattle.lalrpop_norm.specs.LaterWords.{NamesFirst};
 ghost use Rattle.lalrpop_norm.specs.Normalize.{normalize_faults};
 
 use crate::later::refuse_later_parts;
@@ -28,6 +30,8 @@ pub fn normalize<L>(
 ) -> NormResult<repr::Grammar>
     // Ok exactly where no such fault stands, and a refusal names the first one, memory aside.
     ensures refuses { Refuses result (normalize_faults (written.grammar_view grammar)) }
+    // F0 names the first part of a later stage.
+    ensures named { IfErr result (NamesFirst (later_parts (written.grammar_view grammar))) }
     ensures lowered { IfOk result (λ l. IsLowered (written.grammar_view grammar) (lowered.grammar_view l)) }
     ensures closed { IfOk result (λ l. IsClosed (lowered.grammar_view l)) }
     ensures faithful { IfOk result (λ l. IsFaithful no_lexer (features_of session.now) (written.grammar_view grammar) (lowered.grammar_view l)) }

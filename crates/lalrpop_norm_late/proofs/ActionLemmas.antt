@@ -13,7 +13,7 @@ use Rattle.lalrpop_norm_repr.specs.Tables.{TypeTable, type_of}
 use Rattle.lalrpop_norm_late.specs.Arguments.{part_list, has_pattern, names, IsFilled}
 use Rattle.lalrpop_norm_late.specs.Code.{sources_code, absent_code, written_code, code_of}
 use Rattle.lalrpop_norm_late.specs.Lowerable.{IsLowerableAction}
-use Rattle.lalrpop_norm_late.specs.Lowering.{start_name, start_alternative, lowered_symbols, type_or_unit, rule_type, action_of, action_type, action_kind, user_kind, start_actions, alternative_actions}
+use Rattle.lalrpop_norm_late.specs.Lowering.{start_name, start_alternative, lowered_symbols, type_or_unit, rule_type, action_of, action_kind, user_kind, start_actions, alternative_actions}
 use Rattle.lalrpop_norm_late.specs.Shape.{start_clause, rule_clauses, IsCodeOf, IsKindOf, IsActionOf}
 use Rattle.lalrpop_norm_late.specs.Sources.{source_names}
 use Rattle.lalrpop_norm_late.proofs.ArgumentLemmas.{patterns_counted, names_counted}
@@ -86,15 +86,8 @@ module _ (prefix : List ℕ) (types new : TypeTable) (type : ReprData) (a : Alte
             (filled_once ns (written_code type ns a.action) (written_once type ns a.action once)));
       }
 
-type_answered : (types : TypeTable) (type : ReprData) (o : Option Action) → IsLowerableAction o → action_type types type o ≡ type
-type_answered types type None h = refl
-type_answered types type (Some (user_code c)) h = refl
-type_answered types type (Some (fallible_code c)) h = refl
-type_answered types type (Some lookahead_code) h = absurd h
-type_answered types type (Some lookbehind_code) h = absurd h
-
 kind_made : (prefix : List ℕ) (types new : TypeTable) (type : ReprData) (a : AlternativeData) (o : Option Action) → IsLowerableAction o → IsCodeOf prefix new type a (user_kind prefix types type a)
-    → IsKindOf prefix new (action_type types type o) a (action_kind prefix types type a o) o
+    → IsKindOf prefix new type a (action_kind prefix types type a o) o
 kind_made prefix types new type a None h code = code
 kind_made prefix types new type a (Some (user_code c)) h code = code
 kind_made prefix types new type a (Some (fallible_code c)) h code = code
@@ -109,7 +102,7 @@ pub record IsReady (types new : TypeTable) (a : AlternativeData) : Type 0 where
 
 pub action_made : (prefix : List ℕ) (types new : TypeTable) (type : ReprData) (n : NonterminalString) (a : AlternativeData) → type_of n new ≡ Some type → IsReady types new a → IsActionOf prefix new (n, a) (action_of prefix types type a)
 action_made prefix types new type n a known ready = record {
-  answers = known ∙ ap Some (sym (type_answered types type a.action ready.once));
+  answers = known;
   fallible = refl;
   kind = kind_made prefix types new type a a.action ready.once (code_as_written prefix types new type a ready.unnamed ready.typed ready.once);
 }

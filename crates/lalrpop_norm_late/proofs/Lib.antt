@@ -1,4 +1,3 @@
-pub mod RowLemmas
 pub mod PatternLemmas
 pub mod Assembly
 pub mod ArgumentLemmas

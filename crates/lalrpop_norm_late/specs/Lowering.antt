@@ -19,7 +19,7 @@ use Rattle.lalrpop_norm_repr.specs.declared.symbol.Symbol.{Symbol}
 use Rattle.lalrpop_norm_repr.specs.declared.symbol.Symbol.TheVariants.{Nonterminal, Terminal}
 use Rattle.lalrpop_norm_repr.specs.Actions.{ActionData, ActionKindData, user, lookaround}
 use Rattle.lalrpop_norm_repr.specs.Productions.{ProductionData, EntryData}
-use Rattle.lalrpop_norm_repr.specs.Tables.{TypeTable, type_of, type_of_terminal, unit_type, location_type}
+use Rattle.lalrpop_norm_repr.specs.Tables.{TypeTable, type_of, type_of_terminal, unit_type}
 use Rattle.lalrpop_norm_late.specs.Code.{code_of}
 use Rattle.lalrpop_norm_late.specs.Sources.{argument_patterns, source_names}
 
@@ -91,14 +91,9 @@ action_kind prefix types type a (Some lookahead_code) = lookaround Lookahead
 action_kind prefix types type a (Some lookbehind_code) = lookaround Lookbehind
 action_kind prefix types type a _ = user_kind prefix types type a
 
--- what it answers
-abbrev pub action_type : TypeTable → ReprData → Option Action → ReprData
-action_type types type (Some lookahead_code) = location_type types
-action_type types type (Some lookbehind_code) = location_type types
-action_type types type _ = type
-
+-- the action answers that type
 abbrev pub action_of : List ℕ → TypeTable → ReprData → AlternativeData → ActionData
-action_of prefix types type a = record { fallible = is_fallible a.action; ret_type = action_type types type a.action; kind = action_kind prefix types type a a.action }
+action_of prefix types type a = record { fallible = is_fallible a.action; ret_type = type; kind = action_kind prefix types type a a.action }
 
 -- the production of an alternative, with the action of that number
 abbrev pub production_of : NonterminalString → ℕ → AlternativeData → ProductionData

@@ -5,8 +5,8 @@ ghost use Rattle.lalrpop_norm_tree.specs.Items.{action_view, alternative_view};
 ghost use Rattle.lalrpop_norm_tree.specs.Reprs.{repr_view};
 ghost use Rattle.lalrpop_norm_tree.specs.Symbols.{expr_view};
 ghost use Rattle.lalrpop_norm_repr.specs.Actions.{action_defn_view, action_kind_view};
-ghost use Rattle.lalrpop_norm_repr.specs.Tables.{type_table, location_type};
-ghost use Rattle.lalrpop_norm_late.specs.Lowering.{number_faults, is_fallible, action_type, user_kind, action_kind, action_of, type_or_unit, lowered_symbols};
+ghost use Rattle.lalrpop_norm_repr.specs.Tables.{type_table};
+ghost use Rattle.lalrpop_norm_late.specs.Lowering.{number_faults, is_fallible, user_kind, action_kind, action_of, type_or_unit, lowered_symbols};
 
 use crate::arguments::arguments_of;
 use crate::code::code_of;
@@ -44,7 +44,8 @@ pub(crate) fn add_action(
     Ok(ActionFn::new(number))
 }
 
-/// The action of an alternative of a rule of that type.
+/// The action of an alternative of a rule of that type: it answers the type, also where it is a lookaround's, whose rule has
+/// the type of a location.
 pub(crate) fn action_of(
     alloc: Global,
     prefix: &str,
@@ -58,7 +59,7 @@ pub(crate) fn action_of(
         action_defn_view d ≡ action_of prefix.now (type_table types.now) (repr_view ty.now) (alternative_view alternative.now)) }
 {
     let kind = action_kind(alloc, prefix, types, ty, alternative, symbols)?;
-    let ret_type = action_type(types, ty, &alternative.action)?;
+    let ret_type = ty.clone()?;
     let fallible = is_fallible(&alternative.action);
     Ok(ActionFnDefn {
         fallible,
@@ -76,24 +77,6 @@ fn is_fallible(action: &Option<ActionKind>) -> bool
         Some(ActionKind::Lookahead) => false,
         Some(ActionKind::Lookbehind) => false,
         None => false,
-    }
-}
-
-/// What the action answers: a location for a lookaround, else the rule's type.
-fn action_type(
-    types: &Types,
-    ty: &TypeRepr,
-    action: &Option<ActionKind>,
-) -> Result<TypeRepr, NoMemory>
-    ensures { IfOk result (λ t.
-        repr_view t ≡ action_type (type_table types.now) (repr_view ty.now) (option_map action_view action.now)) }
-{
-    match action {
-        Some(ActionKind::Lookahead) => Ok(types.terminal_loc_type()?),
-        Some(ActionKind::Lookbehind) => Ok(types.terminal_loc_type()?),
-        Some(ActionKind::User(_)) => Ok(ty.clone()?),
-        Some(ActionKind::Fallible(_)) => Ok(ty.clone()?),
-        None => Ok(ty.clone()?),
     }
 }
 

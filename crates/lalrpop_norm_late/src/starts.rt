@@ -154,7 +154,7 @@ fn copy_attributes(alloc: Global, attributes: &[Attribute]) -> Result<Vec<Attrib
 }
 
 /// Puts a nonterminal into the table.
-#[tactic(auto, using(crate::proofs::RowLemmas::rows_inserted))]
+#[tactic(auto, using(lalrpop_norm_repr::proofs::RowOrder::rows_inserted))]
 fn insert(
     nonterminals: &mut BTreeMap<NonterminalString, NonterminalData>,
     name: NonterminalString,

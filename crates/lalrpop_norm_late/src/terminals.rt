@@ -79,7 +79,7 @@ pub(crate) fn lowered_conversions(
     Ok(lowered)
 }
 
-#[tactic(auto, using(crate::proofs::RowLemmas::rows_inserted))]
+#[tactic(auto, using(lalrpop_norm_repr::proofs::RowOrder::rows_inserted))]
 fn insert(
     patterns: &mut BTreeMap<TerminalString, Pattern<TypeRepr>>,
     terminal: TerminalString,

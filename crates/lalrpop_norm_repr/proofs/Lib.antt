@@ -4,3 +4,4 @@ pub mod SeenTypes
 pub mod TerminalOrder
 pub mod NominalViews
 pub mod SameTables
+pub mod RowOrder

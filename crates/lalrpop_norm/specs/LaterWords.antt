@@ -1,0 +1,55 @@
+-- What users are told of a part that a later stage brings.
+use Rattle.std.specs.Prelude.{◌≡◌, ℕ, List, [], ◌∷◌, ◌++◌, codes, string_bytes}
+use Rattle.lalrpop_norm_faults.specs.declared.failure.NormFailure.{NormFailure}
+use Rattle.lalrpop_norm_faults.specs.declared.failure.NormFailure.TheVariants.{Refused, Memory}
+use Rattle.lalrpop_norm.specs.declared.later.LaterPart.{LaterPart}
+use Rattle.lalrpop_norm.specs.declared.later.LaterPart.TheVariants as later
+
+abbrev pub words_of : LaterPart → List ℕ
+words_of later.Group = codes "a group"
+words_of later.Repeat = codes "a repeat"
+words_of later.NamedSymbol = codes "a named symbol"
+words_of later.AmbiguousName = codes "a name that is not resolved"
+words_of later.BareTerminal = codes "a terminal without quotes"
+words_of later.UseItem = codes "a use item"
+words_of later.WrittenTokenizer = codes "a written tokenizer"
+words_of later.SecondExtern = codes "a second extern block"
+words_of later.Attribute = codes "an attribute"
+words_of later.ModuleAttribute = codes "a module attribute"
+words_of later.FallibleCode = codes "code that may fail"
+words_of later.LookaroundCode = codes "the action of a lookaround"
+words_of later.ErrorTerminal = codes "the error terminal"
+words_of later.TypeOfSymbol = codes "the type of a symbol"
+words_of later.RepeatedRule = codes "a second rule of one name"
+words_of later.MissingRule = codes "a nonterminal without a rule"
+words_of later.PlaceholderInBraces = codes "a `<>` just between braces"
+words_of later.MacroDefinition = codes "a macro"
+words_of later.MacroCall = codes "a macro call"
+words_of later.Condition = codes "a condition"
+words_of later.NoExternEnum = codes "a grammar without an extern enum"
+words_of later.MatchBlock = codes "a match block"
+words_of later.ErrorSymbol = codes "an error symbol"
+words_of later.MissingConversion = codes "a terminal without a conversion"
+words_of later.RepeatedConversion = codes "a second conversion of one terminal"
+words_of later.PatternKind = codes "such a pattern of a token"
+words_of later.LookaroundSymbol = codes "a lookaround"
+words_of later.TupleSymbol = codes "a tuple symbol"
+words_of later.UndeclaredType = codes "a rule without a declared type"
+words_of later.AssociatedType = codes "an associated type"
+words_of later.ChosenType = codes "a chosen type of a token"
+words_of later.GrammarAttribute = codes "a grammar attribute"
+words_of later.TypeParameter = codes "a type parameter"
+words_of later.Parameter = codes "a parameter"
+words_of later.WhereClause = codes "a where clause"
+words_of later.SeveralPlaceholders = codes "code with several `<>`"
+words_of later.StartTaken = codes "a rule with the name of a start symbol"
+
+-- the refusal has that message; a want of memory says nothing
+abbrev pub Tells : List ℕ → NormFailure → Type 0
+Tells message (Refused e) = string_bytes e.message ≡ message
+Tells message Memory = Unit
+
+-- the failure names the first of the parts, if there is one
+abbrev pub NamesFirst : List LaterPart → NormFailure → Type 0
+NamesFirst [] e = Unit
+NamesFirst (p ∷ ps) e = Tells (words_of p ++ codes " is not taken yet") e

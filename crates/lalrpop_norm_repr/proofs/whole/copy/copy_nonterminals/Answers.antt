@@ -1,0 +1,7 @@
+use Rattle.std.proofs.Common.{rules}
+use Rattle.lalrpop_norm_repr.specs.Productions.{nonterminal_data_view}
+use Rattle.lalrpop_norm_repr.proofs.TableLemmas.{rows_of_clones}
+use Rattle.lalrpop_norm_repr.proofs.whole.copy.copy_nonterminals.Goals as goal
+
+pub returns : goal.returns
+returns c = rows_of_clones nonterminal_data_view _ _ c.args.nonterminals.now.entries c.in_ok-copy.copy.entries (λ a b h. search rules) (λ x y h. h) c.in_ok-copy.ensures.cases
