@@ -2,7 +2,7 @@
 use Rattle.std.proofs.Common.{◌≡◌, ℕ, List, [], ◌∷◌, inl, inr, refl, ap, arith}
 use Rattle.lalrpop_norm_tree.specs.declared.names.Span.{Span}
 use Rattle.lalrpop_norm_faults.specs.declared.kind.FaultKind.TheVariants.{ConditionArgument, ConditionPattern, NamedInGroup}
-use Rattle.lalrpop_norm_faults.specs.Faults.{Fault, Finding, sure, maybe, sure_ones, Stands, MayBeTold}
+use Rattle.lalrpop_norm_faults.specs.Faults.{Fault, Finding, sure, maybe, sure_ones, StandsAmong, MayBeTold}
 
 abbrev place : ℕ → Span
 place k = record { 0 = k; 1 = k }
@@ -22,7 +22,7 @@ first_is_told : MayBeTold Bad findings (ConditionArgument, place 2)
 first_is_told = inr refl
 
 -- what stands after it stands, and may not be told
-later_stands : Stands Bad findings (ConditionPattern, place 3)
+later_stands : StandsAmong Bad findings (ConditionPattern, place 3)
 later_stands = inr (inr (inl (refl, refl)))
 
 later_is_not_told : MayBeTold Bad findings (ConditionPattern, place 3) → ⊥

@@ -1,10 +1,10 @@
 -- Findings: what may be told of lists one after the other, and what that says.
-use Rattle.std.proofs.Common.{◌≡◌, ◌⊎◌, ◌+◌, ◌<◌, ℕ, List, [], ◌∷◌, ◌++◌, map, length, Option, Some, Result, Ok, Err, inl, inr, refl, ap, arith}
+use Rattle.std.proofs.Common.{◌≡◌, ◌⊎◌, List, [], ◌∷◌, ◌++◌, map, Some, Result, Ok, Err, inl, inr, refl, ap, arith}
 use Rattle.std.specs.Prelude.{Contains}
 use Rattle.std.specs.Result.{IsErrAnd}
 use Rattle.lalrpop_norm_faults.specs.declared.failure.NormFailure.{NormFailure}
 use Rattle.lalrpop_norm_faults.specs.declared.failure.NormFailure.TheVariants.{Refused, Memory}
-use Rattle.lalrpop_norm_faults.specs.Faults.{Fault, first, IsFirst, Refuses, Finding, sure, maybe, sure_ones, Stands, MayBeTold, IsTold, RefusesAmong}
+use Rattle.lalrpop_norm_faults.specs.Faults.{Fault, first, Refuses, Finding, sure, maybe, sure_ones, StandsAmong, MayBeTold, IsTold, RefusesAmong}
 
 -- ---- what it says
 
@@ -14,7 +14,7 @@ first_stands [] f h = absurd cc
 first_stands (g ∷ fs) f h = let same : g ≡ f = cc in (0, omega arith, same)
 
 -- what may be told stands
-pub told_stands : {P : Type 0} (At : P → Fault → Type 0) (fs : List (Finding P)) (f : Fault) → MayBeTold At fs f → Stands At fs f
+pub told_stands : {P : Type 0} (At : P → Fault → Type 0) (fs : List (Finding P)) (f : Fault) → MayBeTold At fs f → StandsAmong At fs f
 told_stands At [] f h = h
 told_stands At (sure g ∷ fs) f h = inl h
 told_stands At (maybe p ∷ fs) f (inl h) = inl h

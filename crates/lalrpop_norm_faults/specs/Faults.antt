@@ -59,10 +59,10 @@ sure_ones (sure f ∷ fs) = f ∷ sure_ones fs
 sure_ones (maybe p ∷ fs) = sure_ones fs
 
 -- the fault stands: it is one of the sure ones, or one that stands at a place
-abbrev pub Stands : {P : Type 0} → (P → Fault → Type 0) → List (Finding P) → Fault → Type 0
-Stands At [] f = ⊥
-Stands At (sure g ∷ fs) f = (g ≡ f) ⊎ Stands At fs f
-Stands At (maybe p ∷ fs) f = At p f ⊎ Stands At fs f
+abbrev pub StandsAmong : {P : Type 0} → (P → Fault → Type 0) → List (Finding P) → Fault → Type 0
+StandsAmong At [] f = ⊥
+StandsAmong At (sure g ∷ fs) f = (g ≡ f) ⊎ StandsAmong At fs f
+StandsAmong At (maybe p ∷ fs) f = At p f ⊎ StandsAmong At fs f
 
 -- the fault may be told: it stands, and no sure one comes before it
 abbrev pub MayBeTold : {P : Type 0} → (P → Fault → Type 0) → List (Finding P) → Fault → Type 0

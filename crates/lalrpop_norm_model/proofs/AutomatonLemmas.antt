@@ -1,5 +1,5 @@
 -- What types and inference see of internal tokens: their entries, and not their automaton.
-use Rattle.std.proofs.Common.{◌≡◌, ℕ, zero, suc, Bool, List, [], ◌∷◌, ◌++◌, length, map, filter, flat_map, Option, Some, None, option_map, option_and_then, unwrap_or, codes, is_none, refl, ap, sym, ◌∙◌}
+use Rattle.std.proofs.Common.{◌≡◌, ℕ, zero, suc, List, [], ◌∷◌, ◌++◌, length, map, filter, flat_map, Option, Some, None, option_map, option_and_then, unwrap_or, codes, is_none, refl, ap, ◌∙◌}
 use Rattle.lalrpop_norm_tree.specs.declared.names.TerminalString.{TerminalString}
 use Rattle.lalrpop_norm_tree.specs.declared.names.TerminalString.TheVariants.{Error}
 use Rattle.lalrpop_norm_tree.specs.declared.items.MatchEntry.{MatchEntry}
@@ -11,13 +11,12 @@ use Rattle.lalrpop_norm_tree.specs.Reprs as lowered
 use Rattle.lalrpop_norm_tree.specs.Reprs.{ReprData}
 use Rattle.lalrpop_norm_tree.specs.Symbols.{Kind, Part, group, ambiguous_id, terminal, nonterminal, call, repeated, chosen, named, tupled, lookahead, lookbehind, error_terminal, at}
 use Rattle.lalrpop_norm_tree.specs.Types.{TypeData, TypesData, MaybeType, tuple, slice, nominal, reference, trait_object, of_lifetime, id, of_symbol, function, no_types, type_and, no_type, returns}
-use Rattle.lalrpop_norm_faults.specs.declared.kind.FaultKind.TheVariants.{NotGrounded, Disagreement}
 use Rattle.lalrpop_norm_model.specs.PlainRules.{all_rules, rule_of_item}
 use Rattle.lalrpop_norm_model.specs.Entries.{user_names}
 use Rattle.lalrpop_norm_model.specs.TerminalTypes.{unit_type, static_str, input_str, extern_enum, first_extern, declared_under, entries_of, location_with, location_type, token_with, token_type, error_type, recovery_type, rows_with, terminal_rows, row_of, terminal_type}
 use Rattle.lalrpop_norm_model.specs.TypeRelation.{associated_in, associated_of, Clause, makes, locates, alternative_clause, clauses}
 use Rattle.lalrpop_norm_model.specs.TypeTables.{Table, kind_value, part_value, path_value, both, type_value, types_value, return_value, clause_value}
-use Rattle.lalrpop_norm_model.specs.TypeRounds.{Row, table_of, first_value, taken, visit, visits, round, rounds, inferred}
+use Rattle.lalrpop_norm_model.specs.TypeRounds.{Row, table_of, first_value, taken, visit, visits, round, rounds}
 use Rattle.lalrpop_norm_model.specs.TuplePatterns.{rule_misfits, pattern_misfits}
 use Rattle.lalrpop_norm_model.specs.InferenceFaults.{is_undeclared, undeclared, lacking, inferred_table, untyped_rules, is_other, clause_disagrees, disagreeing_in, disagreeing, inference_faults}
 use Rattle.lalrpop_norm_model.specs.CheckedTokens.{with_tokens}

@@ -2,14 +2,14 @@
 use Rattle.std.proofs.Common.{◌≡◌, ℕ, List, [], ◌∷◌, Option, Some, None, false, codes, refl, ap, arith}
 use Rattle.lalrpop_norm_tree.specs.declared.names.Span.{Span}
 use Rattle.lalrpop_norm_tree.specs.Items.{Action, user_code, fallible_code, lookahead_code, AlternativeData, RuleData, GrammarData, everywhere}
-use Rattle.lalrpop_norm_tree.specs.Symbols.{ArgumentPattern, ArgumentPatterns, one_name, several, no_arguments, argument_and, Kind, Part, terminal, nonterminal, chosen, tupled, at, parts_of}
+use Rattle.lalrpop_norm_tree.specs.Symbols.{ArgumentPattern, ArgumentPatterns, one_name, several, no_arguments, argument_and, Part, terminal, nonterminal, chosen, tupled, at, parts_of}
 use Rattle.lalrpop_norm_tree.specs.Types.{TypeData, id, tuple, no_types}
 use Rattle.lalrpop_norm_faults.specs.Faults.{Fault, first}
 use Rattle.lalrpop_norm_faults.specs.declared.kind.FaultKind.TheVariants.{NoAlternatives, OnlyCoded, NotGrounded, Disagreement, TupleOverSymbol, TupleOverType, TupleLength, Placeholders, StartTaken, TooManyActions}
 use Rattle.lalrpop_norm_model.specs.InferenceFaults.{inferred_table, inference_faults}
 use Rattle.lalrpop_norm_model.specs.LoweringFaults.{slots, number_faults, lowering_faults}
 use Rattle.lalrpop_norm_model.proofs.ExampleWords.{span, name_before}
-use Rattle.lalrpop_norm_model.proofs.ExampleGrammars.{nowhere, quoted, a_part, plain, with_code, a_rule, tok_tokens, of_rules}
+use Rattle.lalrpop_norm_model.proofs.ExampleGrammars.{quoted, with_code, a_rule, tok_tokens, of_rules}
 
 -- ---- words
 

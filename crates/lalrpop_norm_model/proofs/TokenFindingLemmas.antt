@@ -1,7 +1,7 @@
 -- What the pass on tokens may tell, and that what it makes of a grammar has the entries.
 use Rattle.std.proofs.Common.{◌≡◌, ◌⊎◌, List, [], ◌∷◌, ◌++◌, map, Option, Some, None, inl, inr, refl, ap, ◌∙◌}
 use Rattle.lalrpop_norm_tree.specs.Items.{EnumTokenData, GrammarData}
-use Rattle.lalrpop_norm_faults.specs.Faults.{Fault, first, Finding, sure, maybe, sure_ones, MayBeTold}
+use Rattle.lalrpop_norm_faults.specs.Faults.{Fault, first, sure, maybe, sure_ones, MayBeTold}
 use Rattle.lalrpop_norm_faults.proofs.FindingLemmas.{sure_all, sure_append}
 use Rattle.lalrpop_norm_model.specs.TerminalTypes.{extern_enum}
 use Rattle.lalrpop_norm_model.specs.Lexers.{Lexer}

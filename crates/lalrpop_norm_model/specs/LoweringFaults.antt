@@ -1,5 +1,5 @@
 -- Where lowering refuses: its faults in the order of looking.
-use Rattle.std.specs.Prelude.{ℕ, zero, suc, Bool, not, ◌&&◌, List, [], ◌∷◌, ◌++◌, length, filter, flat_map, Option, Some, None, is_none, nat_eq, nat_le, codes, if◌then◌else◌}
+use Rattle.std.specs.Prelude.{ℕ, suc, Bool, not, ◌&&◌, List, [], ◌∷◌, ◌++◌, length, filter, flat_map, Option, Some, None, is_none, nat_eq, nat_le, codes, if◌then◌else◌}
 use Rattle.std.specs.List.{starts_with, enumerate_from}
 use Rattle.lalrpop_norm_tree.specs.declared.names.Span.{Span}
 use Rattle.lalrpop_norm_tree.specs.Accessors.{is_public}
