@@ -1,6 +1,6 @@
 -- What a plain grammar is lowered to is faithful.
-use Rattle.std.proofs.Common.{◌≡◌, inl, inr, ℕ, Bool, true, false, ◌||◌, List, [], ◌∷◌, ◌++◌, map, Option, Some, None, refl, ap, sym, subst, ◌∙◌}
-use Rattle.std.specs.Prelude.{All, bytes_eq, filter_map, flat_map, if◌then◌else◌, Result, Ok, Err, IfOk}
+use Rattle.std.proofs.Common.{◌≡◌, inl, inr, ℕ, Bool, true, false, ◌||◌, List, [], ◌∷◌, ◌++◌, Option, Some, None, refl, ap, sym, subst, ◌∙◌}
+use Rattle.std.specs.Prelude.{All, bytes_eq, flat_map, if◌then◌else◌, Result, Ok, Err, IfOk}
 use Rattle.std.specs.List.{list_any, AllByRecursion, IsDistinct}
 use Rattle.std.proofs.lemmas.Bool.{cases_Bool}
 use Rattle.std.proofs.lemmas.List.Elements.{All-head, All-tail}
@@ -18,16 +18,15 @@ use Rattle.lalrpop_norm_late.specs.Lowering.{rules_of, public_rules}
 use Rattle.lalrpop_norm_late.specs.Plain.{IsLowered}
 use Rattle.lalrpop_norm_model.specs.Features.{Features}
 use Rattle.lalrpop_norm_model.specs.Scopes.{conversions_in}
-use Rattle.lalrpop_norm_model.specs.PlainRules.{all_rules}
 use Rattle.lalrpop_norm_model.specs.Lexers.{Lexer}
 use Rattle.lalrpop_norm_model.specs.TerminalTypes.{chosen_in_kind, chosen_in, chosen_in_all, conversion_row, rows_with}
-use Rattle.lalrpop_norm_model.proofs.SimpleRules.{IsSimpleKind, IsSimplePart, AreSimple, AreSimpleAlternatives, IsSimpleRule}
+use Rattle.lalrpop_norm_model.proofs.SimpleRules.{IsSimpleKind, IsSimplePart, AreSimple, AreSimpleAlternatives}
 use Rattle.lalrpop_norm_model.proofs.SimpleTrees.{AreSimpleRules, simple_named, IsNamedKind, IsNamedPart, AreNamed, AreNamedAlternatives, AreNamedRules}
-use Rattle.lalrpop_norm_model.proofs.SimpleGrammars.{AreBareConversions, IsSimpleItem, AreSimpleItems}
+use Rattle.lalrpop_norm_model.proofs.SimpleGrammars.{AreBareConversions, AreSimpleItems}
 use Rattle.lalrpop_norm_model.proofs.SimpleTypes.{AreDeclared}
 use Rattle.lalrpop_norm_model.proofs.SimpleTypes as typed
 use Rattle.lalrpop_norm_model.proofs.NumberedNames.{NoneNamed, HaveDistinctNames}
-use Rattle.lalrpop_norm.specs.Grammars.{externs_of, names_of, listed}
+use Rattle.lalrpop_norm.specs.Grammars.{externs_of, names_of}
 use Rattle.lalrpop_norm.specs.Later.{pattern_kind_parts, pattern_parts, patterns_parts, has_rule, has_conversion, later_parts, later_faults}
 use Rattle.lalrpop_norm_late.specs.Lowerable.{IsRuleOrExtern, IsDeclared}
 use Rattle.lalrpop_norm.specs.PlainGrammars.{IsPlainKind, IsPlainSymbol, ArePlainSymbols, IsPlainAlternative, IsPlainRule, IsPlainConversion, HasOneEnum, HasFreeStart, IsPlainGrammar}

@@ -1,35 +1,33 @@
 -- The trees of a lowered grammar of simple rules: under the name of each it has the productions of its alternatives, with their
 -- origins, so its trees stand one to one with the written ones.
-use Rattle.std.proofs.Common.{◌≡◌, inl, inr, ℕ, zero, suc, ◌+◌, ◌<◌, Bool, true, false, List, [], ◌∷◌, ◌++◌, map, length, refl, ap, ap₂, sym, subst, ◌∙◌, arith}
-use Rattle.std.specs.Prelude.{Option, Some, None, option_map, unwrap_or, slice_get, bytes_eq, flat_map, filter, replicate, if◌then◌else◌}
-use Rattle.std.specs.List.{enumerate_from}
+use Rattle.std.proofs.Common.{◌≡◌, inl, inr, ℕ, zero, suc, ◌+◌, Bool, true, false, List, [], ◌∷◌, ◌++◌, map, length, refl, ap, ap₂, subst, ◌∙◌, arith}
+use Rattle.std.specs.Prelude.{Some, option_map, unwrap_or, slice_get, bytes_eq, flat_map, replicate, if◌then◌else◌}
 use Rattle.std.proofs.lemmas.Bool.{cases_Bool}
 use Rattle.std.proofs.lemmas.List.{append-nil}
 use Rattle.lalrpop_norm_tree.specs.declared.names.NonterminalString.{NonterminalString}
-use Rattle.lalrpop_norm_tree.specs.Accessors.{is_public}
-use Rattle.lalrpop_norm_tree.specs.Items.{AlternativeData, RuleData, ItemData, GrammarData}
+use Rattle.lalrpop_norm_tree.specs.Items.{AlternativeData, RuleData, GrammarData}
 use Rattle.lalrpop_norm_tree.specs.Symbols as written
 use Rattle.lalrpop_norm_tree.specs.Symbols.{Kind, Part, Parts, at, no_parts, part_and}
-use Rattle.lalrpop_norm_theory.specs.Symbols.{Name, ClosedSymbol, reference}
+use Rattle.lalrpop_norm_theory.specs.Symbols.{Name}
 use Rattle.lalrpop_norm_theory.specs.Meaning.{Meaning}
 use Rattle.lalrpop_norm_theory.specs.LoweredTrees.{LoweredSymbol, Production, Origin, from_start}
-use Rattle.lalrpop_norm_theory.specs.Clauses.{Clause, clauses}
+use Rattle.lalrpop_norm_theory.specs.Clauses.{Clause}
 use Rattle.lalrpop_norm_theory.specs.Rounds.{In}
 use Rattle.lalrpop_norm_theory.specs.LoweredTrees as theory
 use Rattle.lalrpop_norm_theory.proofs.SameLemmas.{text_sound, text_same}
 use Rattle.lalrpop_norm_repr.specs.Lowered.{LoweredGrammar}
-use Rattle.lalrpop_norm_repr.specs.Productions.{ProductionData, EntryData}
+use Rattle.lalrpop_norm_repr.specs.Productions.{EntryData}
 use Rattle.lalrpop_norm_repr.specs.Lookups.{productions_of}
 use Rattle.lalrpop_norm_repr.specs.Tables.{TypeTable, found}
-use Rattle.lalrpop_norm_late.specs.Lowering.{public_rules, start_name, start_alternative, lowered_symbol, lowered_symbols, lowered_kind, production_of}
-use Rattle.lalrpop_norm_late.specs.Shape.{IsLoweringOf, clauses_of, start_clause, rule_clauses, productions_named, start_entry_of, rule_entry_of, entries_of}
+use Rattle.lalrpop_norm_late.specs.Lowering.{public_rules, lowered_symbol, lowered_symbols, lowered_kind, production_of}
+use Rattle.lalrpop_norm_late.specs.Shape.{IsLoweringOf, clauses_of, start_clause, productions_named, start_entry_of, rule_entry_of}
 use Rattle.lalrpop_norm_model.specs.Levels.{map_numbered}
 use Rattle.lalrpop_norm_model.specs.Grammars.{ConditionValue, meaning, references}
-use Rattle.lalrpop_norm_model.specs.Origins.{rule_origins, plain_symbols, plain_origins, action_origins}
-use Rattle.lalrpop_norm_model.proofs.SimpleRules.{IsSimpleKind, IsSimplePart, AreSimple, AreSimpleAlternatives, IsSimpleRule, simple_written}
+use Rattle.lalrpop_norm_model.specs.Origins.{rule_origins, plain_origins, action_origins}
+use Rattle.lalrpop_norm_model.proofs.SimpleRules.{IsSimpleKind, IsSimplePart, AreSimple, AreSimpleAlternatives, simple_written}
 use Rattle.lalrpop_norm_model.proofs.SimpleTrees as simple
 use Rattle.lalrpop_norm_model.proofs.SimpleTrees.{AreSimpleRules, simple_named, simple_productions, HasSimpleProductions, lowered_part, lowered_parts, bare_reference, simple_references, simple_clauses, alternative_clauses, named_simple}
-use Rattle.lalrpop_norm_model.proofs.NumberedNames.{Named, of_rule, numbers_named, HaveOtherNames, passed, traced_entry, origins_of, traced_rules, behind, ahead, NoneNamed, HaveDistinctNames}
+use Rattle.lalrpop_norm_model.proofs.NumberedNames.{Named, of_rule, numbers_named, HaveOtherNames, passed, traced_entry, origins_of, traced_rules, behind, NoneNamed, HaveDistinctNames}
 use Rattle.lalrpop_norm.specs.Derivations.{tree_symbol, traced, derivations}
 
 -- ---- symbols

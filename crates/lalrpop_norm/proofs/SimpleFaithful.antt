@@ -1,5 +1,5 @@
 -- A lowered grammar of simple rules with declared types is faithful.
-use Rattle.std.proofs.Common.{◌≡◌, ◌⊎◌, inl, inr, ℕ, zero, suc, Bool, true, false, List, [], ◌∷◌, ◌++◌, map, length, refl, ap, ap₂, sym, subst, ◌∙◌, arith}
+use Rattle.std.proofs.Common.{◌≡◌, ◌⊎◌, inl, inr, ℕ, Bool, true, false, List, [], ◌∷◌, ◌++◌, map, length, refl, ap, ap₂, sym, subst, ◌∙◌, arith}
 use Rattle.std.specs.Prelude.{codes, unwrap_or, Option, Some, None, option_map, option_and_then, bytes_eq, flat_map, if◌then◌else◌}
 use Rattle.std.proofs.lemmas.Bool.{cases_Bool}
 use Rattle.lalrpop_norm_tree.specs.declared.names.NonterminalString.{NonterminalString}
@@ -10,7 +10,7 @@ use Rattle.lalrpop_norm_tree.specs.Items.{AssociatedTypeData, ExternTokenData, E
 use Rattle.lalrpop_norm_tree.specs.LoweredTypes.{holds_symbol, repr_of}
 use Rattle.lalrpop_norm_tree.specs.Reprs.{ReprData}
 use Rattle.lalrpop_norm_tree.specs.Types.{TypeData}
-use Rattle.lalrpop_norm_theory.specs.Symbols.{Name, ClosedSymbol, reference}
+use Rattle.lalrpop_norm_theory.specs.Symbols.{Name, ClosedSymbol}
 use Rattle.lalrpop_norm_theory.specs.Rounds.{In}
 use Rattle.lalrpop_norm_theory.specs.Met.{expansion}
 use Rattle.lalrpop_norm_theory.specs.Laws.{OneToOne}
@@ -25,7 +25,6 @@ use Rattle.lalrpop_norm_late.specs.Lowering.{public_rules, start_name}
 use Rattle.lalrpop_norm_late.specs.Shape.{IsLoweringOf, rules_of_starts}
 use Rattle.lalrpop_norm_late.specs.Plain.{IsLowered, HasDeclaredTypes, declarations, token_of}
 use Rattle.lalrpop_norm_model.specs.Features.{Features}
-use Rattle.lalrpop_norm_model.specs.Enabled.{enabled_grammar}
 use Rattle.lalrpop_norm_model.specs.Scopes.{resolved_grammar}
 use Rattle.lalrpop_norm_model.specs.WrittenRules.{WrittenRule, written_rules}
 use Rattle.lalrpop_norm_model.specs.Grammars.{meaning, is_macro, references, roots}
@@ -43,8 +42,8 @@ use Rattle.lalrpop_norm_model.proofs.SimpleGrammars.{AreSimpleItems, enabled_sam
 use Rattle.lalrpop_norm_model.proofs.SimpleTypes.{AreDeclared, declared_in, declared_has, declared_only}
 use Rattle.lalrpop_norm_model.proofs.NumberedNames.{NoneNamed, HaveDistinctNames}
 use Rattle.lalrpop_norm.specs.Derivations.{derivations}
-use Rattle.lalrpop_norm.specs.Faithful.{written_meaning, HasFaithfulTrees, HasOnlyType, HasGroundedTypes, IsInferred, grammar_of_plain_rules, IsFaithful}
-use Rattle.lalrpop_norm.proofs.ShapeTrees.{distinct_found, none_in, AreFree, turned, has_productions}
+use Rattle.lalrpop_norm.specs.Faithful.{HasFaithfulTrees, HasOnlyType, HasGroundedTypes, IsInferred, grammar_of_plain_rules, IsFaithful}
+use Rattle.lalrpop_norm.proofs.ShapeTrees.{distinct_found, AreFree, turned, has_productions}
 
 -- a grammar of simple rules with declared types, over an extern enum
 pub record IsSimpleGrammar (g : GrammarData) : Type 0 where

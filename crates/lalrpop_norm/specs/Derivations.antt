@@ -1,5 +1,5 @@
 -- The derivation trees of a lowered grammar: its productions, each with the origin of its action.
-use Rattle.std.specs.Prelude.{ℕ, List, map, slice_get, unwrap_or}
+use Rattle.std.specs.Prelude.{List, map, slice_get, unwrap_or}
 use Rattle.lalrpop_norm_repr.specs.declared.symbol.Symbol.{Symbol}
 use Rattle.lalrpop_norm_repr.specs.declared.symbol.Symbol.TheVariants.{Nonterminal, Terminal}
 use Rattle.lalrpop_norm_repr.specs.Actions.{action_index}

@@ -1,12 +1,11 @@
 -- The headline: what a lowered grammar owes the written one.
-use Rattle.std.specs.Prelude.{◌≡◌, ℕ, Bool, false, List, [], ◌∷◌, ◌++◌, length, map, Option, Some, None, option_map, codes, string_bytes, ◌↔◌}
+use Rattle.std.specs.Prelude.{◌≡◌, ℕ, [], ◌++◌, length, map, Some, option_map, codes, string_bytes, ◌↔◌}
 use Rattle.lalrpop_norm_tree.specs.declared.names.NonterminalString.{NonterminalString}
 use Rattle.lalrpop_norm_tree.specs.declared.names.TerminalString.{TerminalString}
 use Rattle.lalrpop_norm_tree.specs.Items.{RuleData, GrammarData}
 use Rattle.lalrpop_norm_tree.specs.Reprs.{ReprData}
 use Rattle.lalrpop_norm_theory.specs.Symbols.{ClosedSymbol}
 use Rattle.lalrpop_norm_theory.specs.Meaning.{Meaning}
-use Rattle.lalrpop_norm_theory.specs.LoweredTrees.{Origin}
 use Rattle.lalrpop_norm_theory.specs.Rounds.{In}
 use Rattle.lalrpop_norm_theory.specs.Met.{expansion}
 use Rattle.lalrpop_norm_theory.specs.Laws.{OneToOne}
@@ -14,7 +13,7 @@ use Rattle.lalrpop_norm_conditions.specs.Conditions.{comparison}
 use Rattle.lalrpop_norm_model.specs.Features.{Features}
 use Rattle.lalrpop_norm_model.specs.Enabled.{enabled_grammar}
 use Rattle.lalrpop_norm_model.specs.Scopes.{resolved_grammar}
-use Rattle.lalrpop_norm_model.specs.WrittenRules.{WrittenRule, written_rules}
+use Rattle.lalrpop_norm_model.specs.WrittenRules.{written_rules}
 use Rattle.lalrpop_norm_model.specs.Grammars.{meaning, references, roots}
 use Rattle.lalrpop_norm_model.specs.ClosedTexts.{text_in}
 use Rattle.lalrpop_norm_model.specs.LevelRules.{leveled_grammar}

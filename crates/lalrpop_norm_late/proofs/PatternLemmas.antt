@@ -1,12 +1,11 @@
 -- Patterns, one by one.
-use Rattle.std.proofs.Common.{◌≡◌, ◌∙◌, cond, List, [], ◌∷◌, map, refl, ap}
+use Rattle.std.proofs.Common.{◌≡◌, ◌∙◌, List, [], ◌∷◌, map, refl, ap}
 use Rattle.lalrpop_norm_tree.specs.declared.pattern.Pattern.{Pattern}
 use Rattle.lalrpop_norm_tree.specs.declared.pattern.FieldPattern.{FieldPattern}
 use Rattle.lalrpop_norm_tree.specs.declared.types.TypeRef.{TypeRef}
 use Rattle.lalrpop_norm_tree.specs.LoweredTypes.{repr_of}
 use Rattle.lalrpop_norm_tree.specs.Patterns.{PatternKindData, enumerated, structured, path, tuple, tuple_struct, number, underscore, dot_dot, chosen, character, text, PatternData, pattern_at, Patterns, no_patterns, pattern_and, Fields, no_fields, field_and, pattern_view, patterns_view, patterns_of, field_view, fields_view, fields_of}
 use Rattle.lalrpop_norm_tree.specs.Types.{TypeData, type_view}
-use Rattle.lalrpop_norm_repr.specs.Tables.{unit_type}
 use Rattle.lalrpop_norm_late.specs.Conversions.{mapped, mapped_kind, mapped_patterns, mapped_field, mapped_fields}
 use Rattle.lalrpop_norm_late.specs.Lowerable.{IsReadableKind, IsReadable, AreReadable, AreReadableFields}
 use Rattle.lalrpop_norm_late.specs.Typing.{lowered_type}

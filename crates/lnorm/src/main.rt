@@ -1,6 +1,9 @@
 //! Reads a written grammar as JSON, normalizes it, and writes the lowered grammar as lines.
 #![tactic(auto)]
 
+ghost use Rattle.std.specs.Prelude.{◌≡◌, ◌≢◌, ◌≤◌};
+ghost use Rattle.std.specs.IoError.{error_kind};
+
 mod answer;
 mod halt;
 mod lines;
@@ -21,7 +24,9 @@ fn main(rt: HostRuntime) -> ExitCode {
     ExitCode::from(status(&rt))
 }
 
-fn status(rt: &HostRuntime) -> u8 {
+fn status(rt: &HostRuntime) -> u8
+    ensures { result ≤ 4 }
+{
     let alloc = rt.alloc();
     match words_of_call(rt) {
         Ok(words) => run(
@@ -44,7 +49,10 @@ fn words_of_call(rt: &HostRuntime) -> io::Result<Vec<String>> {
 }
 
 /// A word that is no text is no option; the other errors are of memory.
-fn halt_of(error: &io::Error) -> Halt {
+fn halt_of(error: &io::Error) -> Halt
+    ensures text { error_kind error.now ≡ ErrorKind.InvalidData → result ≡ Halt.Usage }
+    ensures other { error_kind error.now ≢ ErrorKind.InvalidData → result ≡ Halt.Failed NormFailure.Memory }
+{
     if error.kind() == ErrorKind::InvalidData {
         Halt::Usage
     } else {
