@@ -41,7 +41,8 @@ fn productions(alloc: Global, grammar: &repr::Grammar, name: &str) -> Result<Str
 fn actions_are_numbered(rt: HostRuntime) -> Result<(), Fail> {
     let alloc = rt.alloc();
     match lowered(alloc, two_rules(alloc)?) {
-        Some(grammar) => {
+        Some(whole) => {
+            let grammar = whole.clone()?;
             let rows = [
                 ("__S", "__S = S => ActionFn(0);\n"),
                 ("__T", "__T = T => ActionFn(1);\n"),
@@ -93,8 +94,9 @@ fn terminals_have_numbers_and_patterns(rt: HostRuntime) -> Result<(), Fail> {
     match lowered(alloc, two_rules(alloc)?) {
         Some(grammar) => {
             let a = literal(alloc, "a")?;
-            assert_eq!(rt; grammar.terminals.all.len(), 1);
-            assert!(rt; grammar.terminals.bits.get(&a) == Some(&0));
+            let terminals = grammar.terminals.clone()?;
+            assert_eq!(rt; terminals.all.len(), 1);
+            assert!(rt; terminals.bits.get(&a) == Some(&0));
             match grammar.conversions.get(&a) {
                 Some(pattern) => {
                     let text = pattern.to_string(alloc)?;
@@ -146,6 +148,50 @@ fn codes_are_filled_in(rt: HostRuntime) -> Result<(), Fail> {
             let want = "__0: u8\nf(__0): u8\n__0: u8\n";
             assert_eq!(rt; codes(alloc, &grammar)?.as_str(), want);
         }
+        None => assert!(rt; false),
+    }
+    Ok(())
+}
+
+#[test]
+fn parameters_are_referred_to(rt: HostRuntime) -> Result<(), Fail> {
+    let alloc = rt.alloc();
+    match lowered(alloc, two_rules(alloc)?) {
+        Some(mut grammar) => {
+            for name in ["n", "m"] {
+                grammar.parameters.push(repr::Parameter {
+                    name: Atom::new(alloc, name)?,
+                    ty: repr::TypeRepr::usize(alloc)?,
+                })?;
+            }
+            let refs = grammar.user_parameter_refs(alloc)?;
+            assert_eq!(rt; refs.as_str(), "n, m, ");
+            grammar
+                .type_parameters
+                .push(TypeParameter::Lifetime(Lifetime::input(alloc)?))?;
+            grammar
+                .type_parameters
+                .push(TypeParameter::Id(Atom::new(alloc, "T")?))?;
+            assert_eq!(rt; grammar.non_lifetime_type_parameters(alloc)?.len(), 1);
+        }
+        None => assert!(rt; false),
+    }
+    Ok(())
+}
+
+#[test]
+fn nonterminals_are_copied(rt: HostRuntime) -> Result<(), Fail> {
+    let alloc = rt.alloc();
+    match lowered(alloc, two_rules(alloc)?) {
+        Some(grammar) => match grammar.nonterminals.get(&nonterminal(alloc, "T")?) {
+            Some(data) => {
+                let copy = data.clone()?;
+                assert_eq!(rt; copy.span, Span(41, 46));
+                assert_eq!(rt; copy.productions.len(), 1);
+                assert!(rt; copy.visibility == Visibility::Pub(None));
+            }
+            None => assert!(rt; false),
+        },
         None => assert!(rt; false),
     }
     Ok(())

@@ -83,6 +83,22 @@ fn an_unlisted_terminal_has_the_type_of_a_token(rt: HostRuntime) -> Result<(), F
 }
 
 #[test]
+fn the_type_of_a_terminal_is_added(rt: HostRuntime) -> Result<(), Fail> {
+    let alloc = rt.alloc();
+    let mut types = Types::new(alloc, "__", None, None, TypeRepr::str(alloc)?)?;
+    let number = terminal(alloc, "Num")?;
+    if !types.has_term_type(&number) {
+        types.add_term_type(number.clone()?, TypeRepr::usize(alloc)?)?;
+    }
+    let copy = types.clone()?;
+    assert!(rt; copy.has_term_type(&number));
+    let text = format!(in alloc; "{}", copy.terminal_type(&number))?;
+    assert_eq!(rt; text.as_str(), "usize");
+    assert_eq!(rt; copy.terminal_types()?.len(), 2);
+    Ok(())
+}
+
+#[test]
 fn actions_show(rt: HostRuntime) -> Result<(), Fail> {
     let alloc = rt.alloc();
     let action = ActionFnDefn {
