@@ -1,0 +1,11 @@
+mod SameLemmas
+mod ApartLemmas
+mod BackLemmas
+mod FreshLemmas
+mod InPlace
+mod IndexLemmas
+mod MeetingLemmas
+mod NameLemmas
+mod RoundLemmas
+mod SymbolLemmas
+mod SourceLemmas

@@ -1,0 +1,4 @@
+pub mod Apart
+pub mod Expansion
+pub mod Making
+pub mod Meeting

@@ -1,0 +1,59 @@
+-- What the code makes of the symbols that were met: its own words, of which no public clause speaks.
+use Rattle.std.specs.Prelude.{false, ℕ, List, [], ◌∷◌, codes}
+use Rattle.std.specs.BTreeSet.{insert_key}
+use Rattle.std.specs.Ordering.{nat_cmp}
+use Rattle.std.specs.Cmp.Lexicographic.{slice_cmp}
+use Rattle.lalrpop_norm_tree.specs.Symbols.{Kind, Part, chosen}
+use Rattle.lalrpop_norm_tree.specs.Items.{AlternativeData, RuleData, ItemData, match_item, extern_item, intern_item, rule_item, use_item}
+use Rattle.lalrpop_norm_tree.specs.Types.{TypeData}
+use Rattle.lalrpop_norm_model.specs.Grammars.{ConditionValue}
+use Rattle.lalrpop_norm_model.specs.MadeRules.{kind_of, made_rules}
+use Rattle.lalrpop_norm_model.specs.PlainRules.{all_met, met_in_rule, replaced_rule}
+
+-- where no macro is defined no condition is asked for
+abbrev pub no_condition : ConditionValue
+no_condition op text pattern = false
+
+-- the rule of a symbol, where no macro is defined
+abbrev pub made : Part → List RuleData
+made p = made_rules no_condition [] p
+
+abbrev pub met_in_alternative : AlternativeData → List Part
+met_in_alternative a = all_met a.parts
+
+-- an item with its symbols replaced, and what is met in it
+abbrev pub replaced_item : ItemData → ItemData
+replaced_item (rule_item r) = rule_item (replaced_rule r)
+replaced_item (match_item m) = match_item m
+replaced_item (extern_item t) = extern_item t
+replaced_item (intern_item t) = intern_item t
+replaced_item (use_item u) = use_item u
+
+abbrev pub met_in_item : ItemData → List Part
+met_in_item (rule_item r) = met_in_rule r
+met_in_item (match_item m) = []
+met_in_item (extern_item t) = []
+met_in_item (intern_item t) = []
+met_in_item (use_item u) = []
+
+-- the names that an item declares, and keys with names added one after another
+abbrev pub item_names : ItemData → List (List ℕ)
+item_names (rule_item r) = r.name.0 ∷ []
+item_names (match_item m) = []
+item_names (extern_item t) = []
+item_names (intern_item t) = []
+item_names (use_item u) = []
+
+abbrev pub with_names : List (List ℕ) → List (List ℕ) → List (List ℕ)
+with_names keys [] = keys
+with_names keys (n ∷ ns) = with_names (insert_key (slice_cmp nat_cmp) keys n) ns
+
+-- the code that gives values of these types: one bare, any other number of them as a tuple
+abbrev pub types_code : List TypeData → List ℕ
+types_code (t ∷ []) = codes "<>"
+types_code ts = codes "(<>)"
+
+-- what is in a symbol, if it is chosen
+abbrev pub chosen_in : Kind → List Kind
+chosen_in (chosen p) = kind_of p ∷ []
+chosen_in _ = []

@@ -1,0 +1,108 @@
+-- How the code meets symbols, one after another: its own words, of which no public clause speaks.
+use Rattle.std.specs.Prelude.{◌≡◌, ◌<◌, ℕ, Bool, false, not, ◌||◌, List, [], ◌∷◌, ◌++◌, map, length, Option, Some, None, option_and_then, slice_get, bytes_eq, if◌then◌else◌}
+use Rattle.std.specs.List.{list_any}
+use Rattle.std.specs.Ordering.{nat_cmp}
+use Rattle.std.specs.Cmp.Lexicographic.{slice_cmp}
+use Rattle.std.specs.BTreeMap.{is_at, get}
+use Rattle.std.specs.BTreeSet.{BTreeSet}
+use Rattle.lalrpop_norm_tree.specs.declared.names.Span.{Span}
+use Rattle.lalrpop_norm_tree.specs.Symbols.{Kind, Part, group, ambiguous_id, terminal, nonterminal, call, repeated, chosen, named, tupled, lookahead, lookbehind, error_terminal, at, symbol_view}
+use Rattle.lalrpop_norm_tree.specs.Texts.{part_text}
+use Rattle.lalrpop_norm_faults.specs.declared.kind.FaultKind.TheVariants.{SharedName}
+use Rattle.lalrpop_norm_faults.specs.Faults.{Fault, fault_if}
+use Rattle.lalrpop_norm_model.specs.PlainRules.{same_apart_from_spans, met, all_met}
+use Rattle.lalrpop_norm_expand.specs.declared.macro_expand.expander.Expander.{Expander}
+use Rattle.lalrpop_norm_expand.specs.Expansion.{span_of}
+
+-- ---- what a symbol meets
+
+-- what is inside it meets
+abbrev pub met_inside : Kind → List Part
+met_inside (group ps) = all_met ps
+met_inside (call n ps) = all_met ps
+met_inside (repeated op p) = met p
+met_inside (chosen p) = met p
+met_inside (named n p) = met p
+met_inside (tupled ns p) = met p
+met_inside (ambiguous_id a) = []
+met_inside (terminal t) = []
+met_inside (nonterminal n) = []
+met_inside lookahead = []
+met_inside lookbehind = []
+met_inside error_terminal = []
+
+-- the symbol itself, if it is made into a rule
+abbrev pub own : Span → Kind → List Part
+own s (group ps) = at s (group ps) ∷ []
+own s (call n ps) = at s (call n ps) ∷ []
+own s (repeated op p) = at s (repeated op p) ∷ []
+own s lookahead = at s lookahead ∷ []
+own s lookbehind = at s lookbehind ∷ []
+own s (ambiguous_id a) = []
+own s (terminal t) = []
+own s (nonterminal n) = []
+own s (chosen p) = []
+own s (named n p) = []
+own s (tupled ns p) = []
+own s error_terminal = []
+
+abbrev pub itself : Part → List Part
+itself (at s k) = own s k
+
+-- ---- symbols met one after another
+
+-- the first symbol of that text
+abbrev pub first_of : List ℕ → List Part → Option Part
+first_of t [] = None
+first_of t (p ∷ ps) = if bytes_eq (part_text p) t then Some p else first_of t ps
+
+abbrev pub joined_by : Option Part → List Part → Part → List Part
+joined_by None seen x = seen ++ x ∷ []
+joined_by (Some y) seen x = seen
+
+-- the symbols met, once one more is met: the first of each text stays
+abbrev pub after_one : List Part → Part → List Part
+after_one seen x = joined_by (first_of (part_text x) seen) seen x
+
+abbrev pub after : List Part → List Part → List Part
+after seen [] = seen
+after seen (x ∷ xs) = after (after_one seen x) xs
+
+abbrev pub differs : Option Part → Part → Bool
+differs None x = false
+differs (Some y) x = not (same_apart_from_spans y x)
+
+-- its text is a name, or that of a symbol that is not the same
+abbrev pub clashes : (List ℕ → Bool) → List Part → Part → Bool
+clashes names seen x = names (part_text x) || differs (first_of (part_text x) seen) x
+
+abbrev pub clash_faults : (List ℕ → Bool) → List Part → List Part → List Fault
+clash_faults names seen [] = []
+clash_faults names seen (x ∷ xs) = fault_if (clashes names seen x) (SharedName, span_of x) ++ clash_faults names (after_one seen x) xs
+
+abbrev pub seen_of : Expander → List Part
+seen_of e = map symbol_view e.met.items
+
+abbrev pub has_key : BTreeSet (List ℕ) → List ℕ → Bool
+has_key s t = list_any (is_at (slice_cmp nat_cmp t)) s.keys
+
+abbrev pub names_of : Expander → List ℕ → Bool
+names_of e = has_key e.names
+
+abbrev pub place_of : Expander → List ℕ → Option ℕ
+place_of e t = get (slice_cmp nat_cmp) e.places t
+
+-- the places lead to the symbols by their texts
+pub record IsExpander (e : Expander) : Type 0 where
+  pub finds : (t : List ℕ) → option_and_then (λ i. slice_get (seen_of e) i) (place_of e t) ≡ first_of t (seen_of e)
+  pub in_range : (t : List ℕ) (i : ℕ) → place_of e t ≡ Some i → i < length e.met.items
+
+-- the symbols were met
+pub record Meets (before later : Expander) (xs : List Part) : Type 0 where
+  pub seen : seen_of later ≡ after (seen_of before) xs
+  pub names : later.names ≡ before.names
+  pub indexed : IsExpander later
+
+-- what is refused where they are met
+abbrev pub refused_by : Expander → List Part → List Fault
+refused_by e xs = clash_faults (names_of e) (seen_of e) xs

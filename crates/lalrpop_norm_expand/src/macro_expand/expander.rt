@@ -1,0 +1,111 @@
+//! The symbols that were met.
+ghost use Rattle.std.specs.Prelude.{◌≡◌, ◌∷◌, [], IfOk, OnOk, None, Option, option_map, is_some};
+ghost use Rattle.lalrpop_norm_tree.specs.Symbols.{symbol_view};
+ghost use Rattle.lalrpop_norm_tree.specs.Texts.{part_text};
+ghost use Rattle.lalrpop_norm_faults.specs.Faults.{Refuses, IsFirst};
+ghost use Rattle.lalrpop_norm_faults.specs.declared.kind.FaultKind.TheVariants.{SharedName};
+ghost use Rattle.lalrpop_norm_expand.specs.Meeting.{first_of, after_one, seen_of, has_key, names_of, IsExpander, Meets, refused_by};
+
+use super::same::is_same_symbol;
+use lalrpop_norm_faults::{FaultKind, NormFailure, NormResult, refusal};
+use lalrpop_norm_tree::grammar::parse_tree::{Atom, NoMemory, Span, Symbol};
+use std::alloc::Global;
+use std::collections::{BTreeMap, BTreeSet};
+
+/// The symbols that were met: the first one of each text, in the order of meeting.
+#[derive(Drop)]
+pub(super) struct Expander {
+    /// The names that the grammar declares.
+    pub names: BTreeSet<Atom>,
+    /// The place of each symbol in `met`, by its text.
+    pub places: BTreeMap<Atom, usize>,
+    pub met: Vec<Symbol>,
+}
+
+fn shared_name(alloc: Global, name: &Atom, span: Span) -> NormFailure
+    ensures { IsFirst ((SharedName, span) ∷ []) result }
+{
+    refusal(
+        FaultKind::SharedName,
+        span,
+        format!(in alloc; "`{name}` names something else already"),
+    )
+}
+
+impl Expander {
+    /// No symbol was met yet.
+    pub fn new(alloc: Global, names: BTreeSet<Atom>) -> Expander
+        ensures indexed { IsExpander result }
+        ensures seen { seen_of result ≡ [] }
+        ensures names { result.names ≡ names }
+    {
+        Expander {
+            names,
+            places: BTreeMap::new(alloc),
+            met: Vec::new(alloc),
+        }
+    }
+
+    /// The symbol of that text.
+    fn first(&self, name: &Atom) -> Option<&Symbol>
+        requires { IsExpander self.now }
+        ensures { option_map (λ s. symbol_view s.now) result ≡ first_of name.now (seen_of self.now) }
+    {
+        match self.places.get(name) {
+            Some(place) => Some(&self.met[*place]),
+            None => None,
+        }
+    }
+
+    /// Whether a symbol that is the same was met.
+    fn is_known(&self, alloc: Global, name: &Atom, symbol: &Symbol) -> NormResult<bool>
+        requires indexed { IsExpander self.now }
+        requires named { name.now ≡ part_text (symbol_view symbol.now) }
+        ensures refuses { Refuses result (refused_by self.now (symbol_view symbol.now ∷ [])) }
+        ensures known { IfOk result (λ b. b ≡ is_some (first_of (part_text (symbol_view symbol.now)) (seen_of self.now))) }
+    {
+        if self.names.contains(name) {
+            return Err(shared_name(alloc, name, symbol.span));
+        }
+        match self.first(name) {
+            Some(other) => {
+                if is_same_symbol(other, symbol) {
+                    Ok(true)
+                } else {
+                    Err(shared_name(alloc, name, symbol.span))
+                }
+            }
+            None => Ok(false),
+        }
+    }
+
+    /// Puts a symbol of a new text last.
+    fn put(&mut self, name: Atom, symbol: Symbol) -> Result<(), NoMemory>
+        requires indexed { IsExpander self.old }
+        requires named { name ≡ part_text (symbol_view symbol) }
+        requires first { first_of name (seen_of self.old) ≡ None }
+        ensures names { OnOk result (self.new.names ≡ self.old.names) }
+        ensures seen { OnOk result (seen_of self.new ≡ after_one (seen_of self.old) (symbol_view symbol)) }
+        ensures indexed { OnOk result (IsExpander self.new) }
+    {
+        let place = self.met.len();
+        self.places.insert(name, place)?;
+        self.met.push(symbol)?;
+        Ok(())
+    }
+
+    /// Meets the symbol alone. Where one that is the same was met, nothing changes.
+    pub fn meet(&mut self, alloc: Global, symbol: &Symbol) -> NormResult<()>
+        requires { IsExpander self.old }
+        ensures refuses { Refuses result (refused_by self.old (symbol_view symbol.now ∷ [])) }
+        ensures met { OnOk result (Meets self.old self.new (symbol_view symbol.now ∷ [])) }
+    {
+        let text = symbol.canonical_form(alloc)?;
+        let name = Atom::new(alloc, text.as_str())?;
+        if self.is_known(alloc, &name, symbol)? {
+            return Ok(());
+        }
+        self.put(name, symbol.clone()?)?;
+        Ok(())
+    }
+}

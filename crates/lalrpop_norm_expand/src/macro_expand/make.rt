@@ -1,0 +1,322 @@
+//! The rules of groups, repeats and lookarounds.
+ghost use Rattle.std.specs.Prelude.{◌≡◌, ◌++◌, ◌∷◌, [], IfOk, OnOk, None, Some, map, option_map};
+ghost use Rattle.lalrpop_norm_tree.specs.Attributes.{attributes_view};
+ghost use Rattle.lalrpop_norm_tree.specs.Symbols.{at, group, repeated, kind_view, symbol_view, parts_view, expr_view};
+ghost use Rattle.lalrpop_norm_tree.specs.Types.{type_view};
+ghost use Rattle.lalrpop_norm_tree.specs.Paths.{path_view};
+ghost use Rattle.lalrpop_norm_tree.specs.Items.{alternative_view, rule_view, item_view, rule_item, action_view};
+ghost use Rattle.lalrpop_norm_tree.specs.Texts.{kind_text};
+ghost use Rattle.lalrpop_norm_faults.specs.Faults.{Refuses};
+ghost use Rattle.lalrpop_norm_model.specs.MadeRules.{inline_at, coded, private_rule, type_of_kind, with_name, holding, star_rule, plus_rule, question_rule, repeat_rule, group_rule, location_rule, some_name_value, bare_or_tuple, group_sources};
+ghost use Rattle.lalrpop_norm_expand.specs.Expansion.{unmade};
+ghost use Rattle.lalrpop_norm_expand.specs.Making.{made};
+
+use super::replaced::{name_of, replaced_kind};
+use super::sources::{group_values, has_name_value};
+use lalrpop_norm_faults::{FaultKind, NormResult, refusal};
+use lalrpop_norm_tree::grammar::parse_tree::{
+    ActionKind, Alternative, Atom, Attribute, AttributeArg, ExprSymbol, GrammarItem, Name,
+    NoMemory, NonterminalData, Path, RepeatOp, RepeatSymbol, Span, Symbol, SymbolKind, TypeRef,
+    Visibility,
+};
+use std::alloc::Global;
+
+// ---- rules in general
+
+fn inline_at(alloc: Global, span: Span) -> Result<Vec<Attribute>, NoMemory>
+    ensures { IfOk result (λ v. attributes_view v.items ≡ inline_at span) }
+{
+    let inline = Attribute {
+        id_span: span,
+        id: Atom::new(alloc, "inline")?,
+        arg: AttributeArg::Empty,
+    };
+    Ok(vec![in alloc; inline]?)
+}
+
+/// An alternative with that code.
+fn coded(
+    alloc: Global,
+    span: Span,
+    symbols: Vec<Symbol>,
+    code: &str,
+) -> Result<Alternative, NoMemory>
+    ensures { IfOk result (λ a. alternative_view a ≡ coded span (parts_view symbols.items) code.now) }
+{
+    let code = String::from_str(alloc, code)?;
+    Ok(Alternative {
+        span,
+        expr: ExprSymbol { symbols },
+        condition: None,
+        action: Some(ActionKind::User(code)),
+        attributes: Vec::new(alloc),
+    })
+}
+
+/// The private rule of a symbol.
+fn private_rule(
+    alloc: Global,
+    span: Span,
+    kind: &SymbolKind,
+    attributes: Vec<Attribute>,
+    type_decl: Option<TypeRef>,
+    alternatives: Vec<Alternative>,
+) -> Result<NonterminalData, NoMemory>
+    ensures { IfOk result (λ r. rule_view r ≡ private_rule span (kind_view kind.now) (attributes_view attributes.items)
+        (option_map type_view type_decl) (map alternative_view alternatives.items)) }
+{
+    let name = name_of(alloc, kind)?;
+    Ok(NonterminalData {
+        visibility: Visibility::Priv,
+        name,
+        attributes,
+        span,
+        args: Vec::new(alloc),
+        type_decl,
+        alternatives,
+    })
+}
+
+/// The symbol with a name of its own.
+fn with_name(alloc: Global, span: Span, name: &str, symbol: Symbol) -> Result<Symbol, NoMemory>
+    ensures { IfOk result (λ s. symbol_view s ≡ with_name span name.now (symbol_view symbol)) }
+{
+    let name = Name::immut(Atom::new(alloc, name)?);
+    let symbol = Box::new(alloc, symbol)?;
+    Ok(Symbol::new(span, SymbolKind::Name(name, symbol)))
+}
+
+/// A generic type over the type of a symbol.
+fn holding(alloc: Global, path: Path, symbol: &Symbol) -> Result<TypeRef, NoMemory>
+    ensures { IfOk result (λ t. type_view t ≡ holding (path_view path) (symbol_view symbol.now)) }
+{
+    let kind = replaced_kind(alloc, &symbol.kind)?;
+    let types = vec![in alloc; TypeRef::OfSymbol(kind)]?;
+    Ok(TypeRef::Nominal { path, types })
+}
+
+// ---- repeats
+
+fn repeated(alloc: Global, span: Span, op: RepeatOp, symbol: &Symbol) -> Result<Symbol, NoMemory>
+    ensures { IfOk result (λ s. symbol_view s ≡ at span (repeated op (symbol_view symbol.now))) }
+{
+    let symbol = symbol.clone()?;
+    let repeat = Box::new(alloc, RepeatSymbol { op, symbol })?;
+    Ok(Symbol::new(span, SymbolKind::Repeat(repeat)))
+}
+
+/// Of `X*`: nothing, or `X+`.
+fn star_rule(alloc: Global, symbol: &Symbol, inner: &Symbol) -> Result<NonterminalData, NoMemory>
+    requires { kind_view symbol.now.kind ≡ repeated RepeatOp.Star (symbol_view inner.now) }
+    ensures { IfOk result (λ r. rule_view r ≡ star_rule symbol.now.span (symbol_view inner.now)) }
+{
+    let span = symbol.span;
+    let plus = repeated(alloc, span, RepeatOp::Plus, inner)?;
+    let filled = vec![in alloc; with_name(alloc, span, "v", plus)?]?;
+    let alternatives = vec![in alloc;
+        coded(alloc, span, Vec::new(alloc), "alloc::vec![]")?,
+        coded(alloc, span, filled, "v")?,
+    ]?;
+    let inline = inline_at(alloc, span)?;
+    let of_vector = holding(alloc, Path::vec(alloc)?, inner)?;
+    private_rule(
+        alloc,
+        span,
+        &symbol.kind,
+        inline,
+        Some(of_vector),
+        alternatives,
+    )
+}
+
+/// Of `X+`: `X`, or `X+` and one more `X`.
+fn plus_rule(alloc: Global, symbol: &Symbol, inner: &Symbol) -> Result<NonterminalData, NoMemory>
+    requires { kind_view symbol.now.kind ≡ repeated RepeatOp.Plus (symbol_view inner.now) }
+    ensures { IfOk result (λ r. rule_view r ≡ plus_rule symbol.now.span (symbol_view inner.now)) }
+{
+    let span = symbol.span;
+    let first = vec![in alloc; inner.clone()?]?;
+    let before = with_name(
+        alloc,
+        span,
+        "v",
+        repeated(alloc, span, RepeatOp::Plus, inner)?,
+    )?;
+    let last = with_name(alloc, span, "e", inner.clone()?)?;
+    let more = vec![in alloc; before, last]?;
+    let alternatives = vec![in alloc;
+        coded(alloc, span, first, "alloc::vec![<>]")?,
+        coded(alloc, span, more, "{ let mut v = v; v.push(e); v }")?,
+    ]?;
+    let of_vector = holding(alloc, Path::vec(alloc)?, inner)?;
+    private_rule(
+        alloc,
+        span,
+        &symbol.kind,
+        Vec::new(alloc),
+        Some(of_vector),
+        alternatives,
+    )
+}
+
+/// Of `X?`: `X`, or nothing.
+fn question_rule(
+    alloc: Global,
+    symbol: &Symbol,
+    inner: &Symbol,
+) -> Result<NonterminalData, NoMemory>
+    requires { kind_view symbol.now.kind ≡ repeated RepeatOp.Question (symbol_view inner.now) }
+    ensures { IfOk result (λ r. rule_view r ≡ question_rule symbol.now.span (symbol_view inner.now)) }
+{
+    let span = symbol.span;
+    let filled = vec![in alloc; inner.clone()?]?;
+    let alternatives = vec![in alloc;
+        coded(alloc, span, filled, "Some(<>)")?,
+        coded(alloc, span, Vec::new(alloc), "None")?,
+    ]?;
+    let inline = inline_at(alloc, span)?;
+    let of_option = holding(alloc, Path::option(alloc)?, inner)?;
+    private_rule(
+        alloc,
+        span,
+        &symbol.kind,
+        inline,
+        Some(of_option),
+        alternatives,
+    )
+}
+
+fn repeat_rule(
+    alloc: Global,
+    symbol: &Symbol,
+    repeat: &RepeatSymbol,
+) -> Result<NonterminalData, NoMemory>
+    requires { kind_view symbol.now.kind ≡ repeated repeat.now.op (symbol_view repeat.now.symbol) }
+    ensures { IfOk result (λ r. rule_view r ≡ repeat_rule symbol.now.span repeat.now.op (symbol_view repeat.now.symbol)) }
+{
+    match repeat.op {
+        RepeatOp::Star => star_rule(alloc, symbol, &repeat.symbol),
+        RepeatOp::Plus => plus_rule(alloc, symbol, &repeat.symbol),
+        RepeatOp::Question => question_rule(alloc, symbol, &repeat.symbol),
+    }
+}
+
+// ---- groups and lookarounds
+
+/// One type bare, any other number of them as a tuple.
+fn bare_or_tuple(mut types: Vec<TypeRef>) -> TypeRef
+    ensures { type_view result ≡ bare_or_tuple (map type_view types.items) }
+{
+    if types.len() == 1 {
+        if let Some(only) = types.pop() {
+            return only;
+        }
+    }
+    TypeRef::Tuple(types)
+}
+
+/// Of a group: its one alternative.
+fn group_rule(
+    alloc: Global,
+    symbol: &Symbol,
+    expr: &ExprSymbol,
+) -> Result<NonterminalData, NoMemory>
+    requires { kind_view symbol.now.kind ≡ group (expr_view expr.now) }
+    ensures { IfOk result (λ r. rule_view r ≡ group_rule symbol.now.span (expr_view expr.now)) }
+{
+    let span = symbol.span;
+    let (types, code) = group_values(alloc, &expr.symbols)?;
+    let copy = expr.clone()?;
+    let alternatives = vec![in alloc; coded(alloc, span, copy.symbols, code)?]?;
+    let inline = inline_at(alloc, span)?;
+    private_rule(
+        alloc,
+        span,
+        &symbol.kind,
+        inline,
+        Some(bare_or_tuple(types)),
+        alternatives,
+    )
+}
+
+/// Of a lookaround: an empty alternative that gives a location.
+fn location_rule(
+    alloc: Global,
+    symbol: &Symbol,
+    action: ActionKind,
+) -> Result<NonterminalData, NoMemory>
+    ensures { IfOk result (λ r. rule_view r ≡ location_rule symbol.now.span (kind_view symbol.now.kind) (action_view action)) }
+{
+    let span = symbol.span;
+    let empty = Alternative {
+        span,
+        expr: ExprSymbol {
+            symbols: Vec::new(alloc),
+        },
+        condition: None,
+        action: Some(action),
+        attributes: Vec::new(alloc),
+    };
+    let alternatives = vec![in alloc; empty]?;
+    let inline = inline_at(alloc, span)?;
+    private_rule(alloc, span, &symbol.kind, inline, None, alternatives)
+}
+
+// ---- all of them
+
+fn add(items: &mut Vec<GrammarItem>, rule: NonterminalData) -> Result<(), NoMemory>
+    ensures { OnOk result (map item_view items.new.items ≡ map item_view items.old.items ++ rule_item (rule_view rule) ∷ []) }
+{
+    items.push(GrammarItem::Nonterminal(rule))?;
+    Ok(())
+}
+
+/// Adds the rule that a symbol is made into.
+///
+/// Errors: F35 (`NamedInGroup`) at a group with a named symbol in it; F0 (`NotYet`) at a macro call; `Memory`.
+pub(super) fn add_rule(
+    alloc: Global,
+    symbol: &Symbol,
+    items: &mut Vec<GrammarItem>,
+) -> NormResult<()>
+    ensures refuses { Refuses result (unmade (symbol_view symbol.now)) }
+    ensures adds { OnOk result (map item_view items.new.items ≡ map item_view items.old.items ++ map rule_item (made (symbol_view symbol.now))) }
+{
+    match &symbol.kind {
+        SymbolKind::Expr(expr) => {
+            if has_name_value(&expr.symbols) {
+                return Err(refusal(
+                    FaultKind::NamedInGroup,
+                    symbol.span,
+                    format!(in alloc; "a symbol in the group `{symbol}` has a name"),
+                ));
+            }
+            add(items, group_rule(alloc, symbol, expr)?)?;
+            Ok(())
+        }
+        SymbolKind::Macro(_) => Err(refusal(
+            FaultKind::NotYet,
+            symbol.span,
+            format!(in alloc; "the macro call `{symbol}` is not taken yet"),
+        )),
+        SymbolKind::Repeat(repeat) => {
+            add(items, repeat_rule(alloc, symbol, repeat)?)?;
+            Ok(())
+        }
+        SymbolKind::Lookahead => {
+            add(items, location_rule(alloc, symbol, ActionKind::Lookahead)?)?;
+            Ok(())
+        }
+        SymbolKind::Lookbehind => {
+            add(items, location_rule(alloc, symbol, ActionKind::Lookbehind)?)?;
+            Ok(())
+        }
+        SymbolKind::AmbiguousId(_)
+        | SymbolKind::Terminal(_)
+        | SymbolKind::Nonterminal(_)
+        | SymbolKind::Choose(_)
+        | SymbolKind::Name(_, _)
+        | SymbolKind::Tuple(_, _)
+        | SymbolKind::Error => Ok(()),
+    }
+}

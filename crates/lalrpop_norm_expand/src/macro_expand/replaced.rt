@@ -1,0 +1,70 @@
+//! What stands in the place of symbols.
+ghost use Rattle.std.specs.Prelude.{◌≡◌, IfOk};
+ghost use Rattle.lalrpop_norm_tree.specs.Symbols.{kind_view, symbol_view, parts_view};
+ghost use Rattle.lalrpop_norm_tree.specs.Texts.{part_text, kind_text};
+ghost use Rattle.lalrpop_norm_model.specs.Replaced.{replaced, replaced_kind, all_replaced};
+
+use lalrpop_norm_tree::grammar::parse_tree::{
+    Atom, NoMemory, NonterminalString, Symbol, SymbolKind,
+};
+use std::alloc::Global;
+
+/// The nonterminal of the text of a symbol.
+pub(super) fn name_of(alloc: Global, kind: &SymbolKind) -> Result<NonterminalString, NoMemory>
+    ensures { IfOk result (λ n. n.0 ≡ kind_text (kind_view kind.now)) }
+{
+    let text = format!(in alloc; "{kind}")?;
+    let name = Atom::new(alloc, text.as_str())?;
+    Ok(NonterminalString(name))
+}
+
+/// What a symbol is once it is replaced: the nonterminal of its text, if it is made into a rule.
+#[cycle(replaced)]
+pub(super) fn replaced_kind(alloc: Global, kind: &SymbolKind) -> Result<SymbolKind, NoMemory>
+    ensures { IfOk result (λ k. kind_view k ≡ replaced_kind (kind_view kind.now)) }
+{
+    match kind {
+        SymbolKind::Expr(_)
+        | SymbolKind::Macro(_)
+        | SymbolKind::Repeat(_)
+        | SymbolKind::Lookahead
+        | SymbolKind::Lookbehind => Ok(SymbolKind::Nonterminal(name_of(alloc, kind)?)),
+        SymbolKind::Choose(inner) => {
+            let symbol = replaced(alloc, inner)?;
+            Ok(SymbolKind::Choose(Box::new(alloc, symbol)?))
+        }
+        SymbolKind::Name(name, inner) => {
+            let name = name.clone()?;
+            let symbol = replaced(alloc, inner)?;
+            Ok(SymbolKind::Name(name, Box::new(alloc, symbol)?))
+        }
+        SymbolKind::Tuple(tuple, inner) => {
+            let tuple = tuple.clone()?;
+            let symbol = replaced(alloc, inner)?;
+            Ok(SymbolKind::Tuple(tuple, Box::new(alloc, symbol)?))
+        }
+        SymbolKind::AmbiguousId(id) => Ok(SymbolKind::AmbiguousId(id.clone()?)),
+        SymbolKind::Terminal(terminal) => Ok(SymbolKind::Terminal(terminal.clone()?)),
+        SymbolKind::Nonterminal(name) => Ok(SymbolKind::Nonterminal(name.clone()?)),
+        SymbolKind::Error => Ok(SymbolKind::Error),
+    }
+}
+
+#[cycle(replaced)]
+fn replaced(alloc: Global, symbol: &Symbol) -> Result<Symbol, NoMemory>
+    ensures { IfOk result (λ s. symbol_view s ≡ replaced (symbol_view symbol.now)) }
+{
+    let kind = replaced_kind(alloc, &symbol.kind)?;
+    Ok(Symbol::new(symbol.span, kind))
+}
+
+/// The symbols, each replaced.
+pub(super) fn all_replaced(alloc: Global, symbols: &[Symbol]) -> Result<Vec<Symbol>, NoMemory>
+    ensures { IfOk result (λ ss. parts_view ss.items ≡ all_replaced (parts_view symbols.now)) }
+{
+    let mut all = Vec::new(alloc);
+    for symbol in symbols {
+        all.push(replaced(alloc, symbol)?)?;
+    }
+    Ok(all)
+}
