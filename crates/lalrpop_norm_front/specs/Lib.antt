@@ -1,1 +1,3 @@
 pub mod Braces
+pub mod Sessions
+pub mod EnabledItems

@@ -1,6 +1,7 @@
 //! What stands in front of the passes: the session, and how code is read.
 #![tactic(auto)]
 
+pub mod cond_comp;
 pub mod norm_util;
 mod session;
 #[cfg(test)]

@@ -1,4 +1,6 @@
-//! Where placeholders stand.
+//! Where placeholders stand, and what features leave.
+mod features;
+
 use crate::norm_util::{Presence, check_between_braces};
 use std::test::*;
 
