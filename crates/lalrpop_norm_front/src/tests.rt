@@ -1,4 +1,5 @@
-//! Where placeholders stand, and what features leave.
+//! Where placeholders stand, what features leave, what is refused.
+mod checks;
 mod features;
 
 use crate::norm_util::{Presence, check_between_braces};

@@ -11,7 +11,7 @@ use std::alloc::Global;
 use std::collections::BTreeSet;
 use std::test::*;
 
-fn attribute(alloc: Global, name: &str, arg: AttributeArg) -> Result<Attribute, Fail> {
+pub(super) fn attribute(alloc: Global, name: &str, arg: AttributeArg) -> Result<Attribute, Fail> {
     Ok(Attribute {
         id_span: Span(0, 0),
         id: Atom::new(alloc, name)?,
@@ -19,11 +19,11 @@ fn attribute(alloc: Global, name: &str, arg: AttributeArg) -> Result<Attribute, 
     })
 }
 
-fn word(alloc: Global, name: &str) -> Result<Attribute, Fail> {
+pub(super) fn word(alloc: Global, name: &str) -> Result<Attribute, Fail> {
     attribute(alloc, name, AttributeArg::Empty)
 }
 
-fn call(alloc: Global, name: &str, inner: Vec<Attribute>) -> Result<Attribute, Fail> {
+pub(super) fn call(alloc: Global, name: &str, inner: Vec<Attribute>) -> Result<Attribute, Fail> {
     attribute(alloc, name, AttributeArg::Paren(inner))
 }
 
@@ -75,7 +75,7 @@ fn conditions(rt: HostRuntime) -> Result<(), Fail> {
     Ok(())
 }
 
-fn alternative(span: Span, alloc: Global, attributes: Vec<Attribute>) -> Alternative {
+pub(super) fn alternative(span: Span, alloc: Global, attributes: Vec<Attribute>) -> Alternative {
     Alternative {
         span,
         expr: ExprSymbol {
@@ -87,7 +87,7 @@ fn alternative(span: Span, alloc: Global, attributes: Vec<Attribute>) -> Alterna
     }
 }
 
-fn rule(
+pub(super) fn rule(
     alloc: Global,
     span: Span,
     attributes: Vec<Attribute>,
