@@ -1,1 +1,4 @@
 pub mod Slots
+pub mod EnabledLemmas
+pub mod CallLemmas
+pub mod LevelLemmas

@@ -1,1 +1,10 @@
 pub mod Braces
+pub mod Sessions
+pub mod EnabledItems
+pub mod SymbolFaults
+pub mod AlternativeFaults
+pub mod CfgFaults
+pub mod LevelFaults
+pub mod TypeFaults
+pub mod GrammarFaults
+pub mod Sides

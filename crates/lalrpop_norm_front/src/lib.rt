@@ -1,7 +1,10 @@
-//! What stands in front of the passes: the session, and how code is read.
+//! The first passes over a written grammar, the session, and how code is read.
 #![tactic(auto)]
 
+pub mod cond_comp;
 pub mod norm_util;
+pub mod precedence;
+pub mod prevalidate;
 mod session;
 #[cfg(test)]
 mod tests;

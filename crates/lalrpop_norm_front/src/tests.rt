@@ -1,4 +1,7 @@
-//! Where placeholders stand.
+//! Where placeholders stand, what features leave, what is refused.
+mod checks;
+mod features;
+
 use crate::norm_util::{Presence, check_between_braces};
 use std::test::*;
 

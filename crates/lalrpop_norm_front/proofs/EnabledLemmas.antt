@@ -1,0 +1,60 @@
+-- Features by name, lists of what is kept, and the enabled grammar in two steps.
+use Rattle.std.proofs.Common.{◌≡◌, ℕ, Bool, true, false, ◌||◌, List, [], ◌∷◌, ◌++◌, Option, Some, None, map, nat_cmp, bytes_eq, refl, sym, ap, ◌∙◌}
+use Rattle.std.specs.Prelude.{String, filter, flat_map, string_bytes, if◌then◌else◌}
+use Rattle.std.specs.List.{list_any}
+use Rattle.std.specs.BTreeMap.{is_at}
+use Rattle.std.specs.Cmp.Lexicographic.{slice_cmp}
+use Rattle.std.specs.declared.alloc.Global.{Global}
+use Rattle.std.proofs.lemmas.Bool.Decides.{same_from_decides}
+use Rattle.std.proofs.lemmas.Slice.Eq.{bytes_eq-Decides}
+use Rattle.std.proofs.lemmas.Map.Text.{is_eq-slice_cmp}
+use Rattle.lalrpop_norm_tree.specs.Items.{AlternativeData, RuleData, ItemData, match_item, extern_item, intern_item, rule_item, use_item}
+use Rattle.lalrpop_norm_model.specs.Features.{Features, is_one_of, is_active}
+use Rattle.lalrpop_norm_model.specs.Enabled.{if_active, present, enabled_rule, enabled_extern, enabled_item}
+use Rattle.lalrpop_norm_front.specs.EnabledItems.{active_alternatives, stays, trimmed}
+
+turned : (xs ys : List ℕ) → bytes_eq xs ys ≡ bytes_eq ys xs
+turned xs ys =
+    let other = bytes_eq-Decides ys xs in
+    same_from_decides _ _ (bytes_eq-Decides xs ys) ((λ e. sym (other.0 e)), λ e. other.1 (sym e))
+
+-- a set of texts holds a name where one of its texts is that name
+pub found_in_set : (name : List ℕ) (ks : List (String Global)) →
+    list_any (is_at (λ k. slice_cmp nat_cmp name (string_bytes k))) ks ≡ is_one_of name (map string_bytes ks)
+found_in_set name [] = refl
+found_in_set name (k ∷ ks) = rw (is_eq-slice_cmp name (string_bytes k), turned name (string_bytes k), found_in_set name ks) refl
+
+kept_viewed : {X Y : Type 0} (view : X → Y) (x : X) (b : Bool) (xs : List X) (ys : List Y) → map view xs ≡ ys →
+    map view (if b then x ∷ xs else xs) ≡ (if b then view x ∷ ys else ys)
+kept_viewed view x true xs ys e = ap (λ zs. view x ∷ zs) e
+kept_viewed view x false xs ys e = e
+
+-- what is kept by a test of the view
+pub filter_viewed : {X Y : Type 0} (view : X → Y) (test : Y → Bool) (xs : List X) → map view (filter (λ x. test (view x)) xs) ≡ filter test (map view xs)
+filter_viewed view test [] = refl
+filter_viewed view test (x ∷ xs) = kept_viewed view x (test (view x)) (filter (λ y. test (view y)) xs) (filter test (map view xs)) (filter_viewed view test xs)
+
+kept_active : (a : AlternativeData) (b : Bool) (xs : List (Option AlternativeData)) (ys : List AlternativeData) → present xs ≡ ys →
+    present ((if b then Some a else None) ∷ xs) ≡ (if b then a ∷ ys else ys)
+kept_active a true xs ys e = ap (λ zs. a ∷ zs) e
+kept_active a false xs ys e = e
+
+-- the alternatives at places that are enabled are the active ones
+pub active_kept : (fs : Features) (xs : List AlternativeData) → filter (λ a. is_active fs a.attributes) xs ≡ active_alternatives fs xs
+active_kept fs [] = refl
+active_kept fs (x ∷ xs) =
+    sym (kept_active x (is_active fs x.attributes) (map (if_active fs) xs) (filter (λ a. is_active fs a.attributes) xs) (sym (active_kept fs xs)))
+
+rule_kept : (fs : Features) (r : RuleData) (b : Bool) (xs ys : List ItemData) → xs ≡ map (trimmed fs) ys →
+    (if b then rule_item (enabled_rule fs r) ∷ [] else []) ++ xs ≡ map (trimmed fs) (if b then rule_item r ∷ ys else ys)
+rule_kept fs r true xs ys e = ap (λ zs. rule_item (enabled_rule fs r) ∷ zs) e
+rule_kept fs r false xs ys e = e
+
+-- the items of the enabled grammar are those that stay, trimmed
+pub items_enabled : (fs : Features) (xs : List ItemData) → flat_map (enabled_item fs) xs ≡ map (trimmed fs) (filter (stays fs) xs)
+items_enabled fs [] = refl
+items_enabled fs (rule_item r ∷ xs) = rule_kept fs r (is_active fs r.attributes) (flat_map (enabled_item fs) xs) (filter (stays fs) xs) (items_enabled fs xs)
+items_enabled fs (match_item m ∷ xs) = ap (λ zs. match_item m ∷ zs) (items_enabled fs xs)
+items_enabled fs (extern_item t ∷ xs) = ap (λ zs. extern_item (enabled_extern fs t) ∷ zs) (items_enabled fs xs)
+items_enabled fs (intern_item t ∷ xs) = ap (λ zs. intern_item t ∷ zs) (items_enabled fs xs)
+items_enabled fs (use_item u ∷ xs) = ap (λ zs. use_item u ∷ zs) (items_enabled fs xs)

@@ -1,0 +1,4 @@
+pub mod NameLemmas
+pub mod TableLemmas
+pub mod GlobalLemmas
+pub mod ResolvedFaults

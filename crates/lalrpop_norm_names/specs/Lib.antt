@@ -1,0 +1,2 @@
+pub mod NameFaults
+pub mod NameTables

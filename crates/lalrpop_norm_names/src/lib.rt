@@ -1,0 +1,6 @@
+//! Names in a grammar: what each one means.
+#![tactic(auto)]
+
+pub mod resolve;
+#[cfg(test)]
+mod tests;
