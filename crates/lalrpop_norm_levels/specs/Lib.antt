@@ -1,2 +1,5 @@
 pub mod Sides
 pub mod Attributes
+pub mod LevelFaults
+pub mod Handed
+pub mod Substituted

@@ -5,10 +5,14 @@ ghost use Rattle.lalrpop_norm_levels.specs.Attributes.{first_has_level_attribute
 
 mod assoc;
 mod attributes;
+mod read;
+mod replace;
 
 pub use assoc::{Assoc, ParseAssocError};
 use attributes::has_level_attribute;
 use lalrpop_norm_tree::grammar::parse_tree::NonterminalData;
+pub use read::{AlternativeLevel, read_levels};
+pub use replace::{Direction, Substitution, replace_nonterm};
 
 /// The attribute that states the level of an alternative: `#[precedence(level = "1")]`.
 pub const PREC_ATTR: &str = "precedence";
