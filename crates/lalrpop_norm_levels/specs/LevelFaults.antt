@@ -2,7 +2,7 @@
 use Rattle.std.specs.Prelude.{ℕ, ◌^◌, Bool, true, false, ◌&&◌, ◌||◌, List, [], ◌∷◌, ◌++◌, map, flat_map, Option, Some, None, unwrap_or, is_some, is_none, nat_lt, nat_eq, codes, if◌then◌else◌}
 use Rattle.lalrpop_norm_tree.specs.declared.names.Span.{Span}
 use Rattle.lalrpop_norm_tree.specs.Attributes.{AttributeData, attribute}
-use Rattle.lalrpop_norm_tree.specs.Items.{AlternativeData, RuleData}
+use Rattle.lalrpop_norm_tree.specs.Items.{AlternativeData, RuleData, ItemData, GrammarData, match_item, extern_item, intern_item, rule_item, use_item}
 use Rattle.lalrpop_norm_faults.specs.declared.kind.FaultKind.TheVariants.{MissingLevel, LevelArgument, LevelNumber, SideArgument, Side, SideOnLowest}
 use Rattle.lalrpop_norm_faults.specs.Faults.{Fault, fault_if}
 use Rattle.lalrpop_norm_model.specs.Enabled.{all_places, present}
@@ -86,3 +86,16 @@ level_faults r = first_faults r.alternatives ++ flat_map attribute_faults r.alte
 -- the level and the side of each alternative
 abbrev pub levels_and_sides : RuleData → List (ℕ × levels.Side)
 levels_and_sides r = map (λ (a : Leveled). (a.level, a.side)) (present (with_levels (all_places r)))
+
+-- ---- the grammar
+
+abbrev pub item_level_faults : ItemData → List Fault
+item_level_faults (rule_item r) = level_faults r
+item_level_faults (match_item m) = []
+item_level_faults (extern_item t) = []
+item_level_faults (intern_item t) = []
+item_level_faults (use_item u) = []
+
+-- the rules in item order
+abbrev pub grammar_level_faults : GrammarData → List Fault
+grammar_level_faults g = flat_map item_level_faults g.items

@@ -3,3 +3,5 @@ pub mod Attributes
 pub mod LevelFaults
 pub mod Handed
 pub mod Substituted
+pub mod Grouped
+pub mod Made

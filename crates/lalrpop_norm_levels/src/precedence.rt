@@ -5,14 +5,19 @@ ghost use Rattle.lalrpop_norm_levels.specs.Attributes.{first_has_level_attribute
 
 mod assoc;
 mod attributes;
+mod grammar;
+mod groups;
 mod read;
 mod replace;
+mod rules;
 
 pub use assoc::{Assoc, ParseAssocError};
 use attributes::has_level_attribute;
+pub use grammar::expand_levels;
 use lalrpop_norm_tree::grammar::parse_tree::NonterminalData;
 pub use read::{AlternativeLevel, read_levels};
 pub use replace::{Direction, Substitution, replace_nonterm};
+pub use rules::expand_nonterm;
 
 /// The attribute that states the level of an alternative: `#[precedence(level = "1")]`.
 pub const PREC_ATTR: &str = "precedence";
@@ -23,8 +28,8 @@ pub const ASSOC_ATTR: &str = "assoc";
 /// Its argument.
 pub const SIDE_ARG: &str = "side";
 
-/// Whether the first alternative of a rule has a `precedence` or an `assoc`. In a rule without faults of levels that
-/// is so exactly where some alternative has one.
+/// Whether the first alternative of a rule has a `precedence` or an `assoc`. Whether a rule has levels is another
+/// question: there each alternative counts.
 pub fn has_prec_attr(non_term: &NonterminalData) -> bool
     ensures { result ≡ first_has_level_attribute (rule_view non_term.now).alternatives }
 {

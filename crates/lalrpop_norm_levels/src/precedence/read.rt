@@ -99,7 +99,8 @@ fn stated_side(attributes: &[Attribute]) -> Option<Assoc>
 
 // ---- the first alternative
 
-fn has_levels(alternatives: &[Alternative]) -> bool
+/// Whether some alternative has a `precedence` or an `assoc`.
+pub(super) fn has_levels(alternatives: &[Alternative]) -> bool
     ensures { result ≡ has_levels (map Some (map alternative_view alternatives.now)) }
 {
     for alternative in alternatives {
