@@ -1,0 +1,6 @@
+mod NumberLemmas
+mod ReadLemmas
+mod WalkLemmas
+mod GroupLemmas
+mod KindLemmas
+mod RuleLemmas

@@ -1,0 +1,40 @@
+//! Levels of precedence: the attributes that state them, and the rules that they become.
+ghost use Rattle.std.specs.Prelude.{◌≡◌};
+ghost use Rattle.lalrpop_norm_tree.specs.Items.{rule_view};
+ghost use Rattle.lalrpop_norm_levels.specs.Attributes.{first_has_level_attribute};
+
+mod assoc;
+mod attributes;
+mod grammar;
+mod groups;
+mod read;
+mod replace;
+mod rules;
+
+pub use assoc::{Assoc, ParseAssocError};
+use attributes::has_level_attribute;
+pub use grammar::expand_levels;
+use lalrpop_norm_tree::grammar::parse_tree::NonterminalData;
+pub use read::{AlternativeLevel, read_levels};
+pub use replace::{Direction, Substitution, replace_nonterm};
+pub use rules::expand_nonterm;
+
+/// The attribute that states the level of an alternative: `#[precedence(level = "1")]`.
+pub const PREC_ATTR: &str = "precedence";
+/// Its argument.
+pub const LVL_ARG: &str = "level";
+/// The attribute that states the side of an alternative: `#[assoc(side = "left")]`.
+pub const ASSOC_ATTR: &str = "assoc";
+/// Its argument.
+pub const SIDE_ARG: &str = "side";
+
+/// Whether the first alternative of a rule has a `precedence` or an `assoc`. Whether a rule has levels is another
+/// question: there each alternative counts.
+pub fn has_prec_attr(non_term: &NonterminalData) -> bool
+    ensures { result ≡ first_has_level_attribute (rule_view non_term.now).alternatives }
+{
+    match non_term.alternatives.first() {
+        Some(first) => has_level_attribute(&first.attributes),
+        None => false,
+    }
+}
