@@ -2,3 +2,5 @@
 #![tactic(auto)]
 
 pub mod macro_expand;
+#[cfg(test)]
+mod tests;
