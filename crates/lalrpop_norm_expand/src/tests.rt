@@ -15,9 +15,8 @@ fn rule_of(alloc: Global, span: Span, name: &str) -> Result<Symbol, NoMemory> {
     Ok(Symbol::new(span, SymbolKind::Nonterminal(name)))
 }
 
-fn group(alloc: Global, span: Span, symbols: Vec<Symbol>) -> Result<Symbol, NoMemory> {
-    let _ = alloc;
-    Ok(Symbol::new(span, SymbolKind::Expr(ExprSymbol { symbols })))
+fn group(span: Span, symbols: Vec<Symbol>) -> Symbol {
+    Symbol::new(span, SymbolKind::Expr(ExprSymbol { symbols }))
 }
 
 fn repeat(alloc: Global, span: Span, op: RepeatOp, symbol: Symbol) -> Result<Symbol, NoMemory> {
@@ -177,7 +176,7 @@ fn repeats(rt: HostRuntime) -> Result<(), Fail> {
 fn choice(alloc: Global) -> Result<Symbol, NoMemory> {
     let a = quoted(alloc, Span(76, 79), "a")?;
     let b = chosen(alloc, Span(80, 85), quoted(alloc, Span(81, 84), "b")?)?;
-    group(alloc, Span(75, 86), vec![in alloc; a, b]?)
+    Ok(group(Span(75, 86), vec![in alloc; a, b]?))
 }
 
 /// `pub S: () = ("a" <"b">)?;` and what it becomes, the repeat's rule before the group's.
@@ -238,7 +237,7 @@ fn choices(rt: HostRuntime) -> Result<(), Fail> {
 fn empty_group(rt: HostRuntime) -> Result<(), Fail> {
     let alloc = rt.alloc();
     let at = Span(47, 49);
-    let nothing = group(alloc, at, Vec::new(alloc))?;
+    let nothing = group(at, Vec::new(alloc));
     let written = alternative(alloc, at, vec![in alloc; nothing]?, "")?;
     let given = grammar(
         alloc,
@@ -265,15 +264,13 @@ fn empty_group(rt: HostRuntime) -> Result<(), Fail> {
 fn shared_texts(rt: HostRuntime) -> Result<(), Fail> {
     let alloc = rt.alloc();
     let first = group(
-        alloc,
         Span(60, 65),
         vec![in alloc; quoted(alloc, Span(61, 64), "a")?]?,
-    )?;
+    );
     let second = group(
-        alloc,
         Span(66, 73),
         vec![in alloc; rule_of(alloc, Span(67, 72), "\"a\"")?]?,
-    )?;
+    );
     let written = alternative(alloc, Span(60, 73), vec![in alloc; first, second]?, "")?;
     let symbols = vec![in alloc; quoted(alloc, Span(87, 90), "a")?]?;
     let other = alternative(alloc, Span(87, 90), symbols, "")?;
@@ -292,7 +289,7 @@ fn declared_texts(rt: HostRuntime) -> Result<(), Fail> {
     let alloc = rt.alloc();
     let x = rule_of(alloc, Span(61, 62), "X")?;
     let y = rule_of(alloc, Span(63, 64), "Y")?;
-    let both = group(alloc, Span(60, 65), vec![in alloc; x, y]?)?;
+    let both = group(Span(60, 65), vec![in alloc; x, y]?);
     let written = alternative(alloc, Span(60, 65), vec![in alloc; both]?, "")?;
     let other = alternative(
         alloc,
@@ -316,7 +313,7 @@ fn named_in_group(rt: HostRuntime) -> Result<(), Fail> {
     let name = Name::immut(Atom::new(alloc, "x")?);
     let inner = Box::new(alloc, quoted(alloc, Span(13, 16), "a")?)?;
     let named = Symbol::new(Span(11, 16), SymbolKind::Name(name, inner));
-    let one = group(alloc, Span(10, 17), vec![in alloc; named]?)?;
+    let one = group(Span(10, 17), vec![in alloc; named]?);
     let star = repeat(alloc, Span(10, 18), RepeatOp::Star, one)?;
     let written = alternative(alloc, Span(10, 18), vec![in alloc; star]?, "")?;
     let items = vec![in alloc; unit_rule(alloc, "S", Span(0, 1), written)?]?;
