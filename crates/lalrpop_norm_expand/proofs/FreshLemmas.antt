@@ -78,12 +78,12 @@ one_fresh seen x h = cases (first_of (part_text x) seen) (is_in same_apart_from_
     cases None b e = rw e refl
     cases (Some y) b e = rw e (sym (append-nil seen))
 
-or_false : (a b : Bool) → (a || b) ≡ false → (a ≡ false) × (b ≡ false)
+pub or_false : (a b : Bool) → (a || b) ≡ false → (a ≡ false) × (b ≡ false)
 or_false true b e = absurd (cc e)
 or_false false b e = (refl, e)
 
 -- a list of faults that begins with one that may stand
-none_if : (b : Bool) (f : Fault) (fs : List Fault) → fault_if b f ++ fs ≡ [] → (b ≡ false) × (fs ≡ [])
+pub none_if : (b : Bool) (f : Fault) (fs : List Fault) → fault_if b f ++ fs ≡ [] → (b ≡ false) × (fs ≡ [])
 none_if true f fs e = absurd (cc e)
 none_if false f fs e = (refl, e)
 
@@ -165,7 +165,7 @@ head_same : (b : Bool) (f : Fault) (fs gs : List Fault) → (b ≡ false → fir
 head_same true f fs gs h = refl
 head_same false f fs gs h = h refl
 
-none_first : (fs : List Fault) → first fs ≡ None → fs ≡ []
+pub none_first : (fs : List Fault) → first fs ≡ None → fs ≡ []
 none_first [] e = refl
 none_first (f ∷ fs) e = absurd (cc e)
 

@@ -1,6 +1,7 @@
 mod SameLemmas
 mod ApartLemmas
 mod BackLemmas
+mod DistinctLemmas
 mod FreshLemmas
 mod InPlace
 mod IndexLemmas

@@ -5,9 +5,12 @@ use Rattle.std.specs.Result.{IsErrAnd}
 use Rattle.std.proofs.lemmas.List.{map-append, length-append, drop_at}
 use Rattle.std.proofs.lemmas.Grind.{flat_map-append}
 use Rattle.lalrpop_norm_tree.specs.Symbols.{Part, group, ambiguous_id, terminal, nonterminal, call, repeated, chosen, named, tupled, lookahead, lookbehind, error_terminal, at}
-use Rattle.lalrpop_norm_tree.specs.Items.{RuleData, ItemData, GrammarData, match_item, extern_item, intern_item, rule_item, use_item}
+use Rattle.lalrpop_norm_tree.specs.declared.items.Grammar.{Grammar}
+use Rattle.lalrpop_norm_tree.specs.declared.items.GrammarItem.{GrammarItem}
+use Rattle.lalrpop_norm_tree.specs.Items.{item_view, grammar_view, RuleData, ItemData, GrammarData, match_item, extern_item, intern_item, rule_item, use_item}
 use Rattle.lalrpop_norm_faults.specs.declared.failure.NormFailure.{NormFailure}
-use Rattle.lalrpop_norm_faults.specs.Faults.{Fault, first, IsFault, IsFirst, Refuses}
+use Rattle.lalrpop_norm_faults.specs.declared.kind.FaultKind.TheVariants.{NotYet}
+use Rattle.lalrpop_norm_faults.specs.Faults.{Fault, fault_if, first, IsFault, IsFirst, Refuses}
 use Rattle.lalrpop_norm_faults.proofs.FaultLemmas.{first_of_more}
 use Rattle.lalrpop_norm_theory.specs.Rounds.{Round, fresh_of}
 use Rattle.lalrpop_norm_model.specs.Grammars.{ConditionValue, is_nil}
@@ -15,8 +18,8 @@ use Rattle.lalrpop_norm_model.specs.MadeRules.{made_rules}
 use Rattle.lalrpop_norm_model.specs.Expanded.{rule_names}
 use Rattle.lalrpop_norm_model.specs.PlainRules.{met_in_rule, met_by_made, rule_of_item, macros_of, same_apart_from_spans, expansion_round, made_symbols, made_in, IsWhole, plain_item, plain_grammar, replaced_rule}
 use Rattle.lalrpop_norm_expand.specs.declared.macro_expand.expander.Expander.{Expander}
-use Rattle.lalrpop_norm_expand.specs.Expansion.{is_name, shared_names, meetings, met_before, shared_in, unmade, unmade_in, past_cap, faults_from, expansion_faults}
-use Rattle.lalrpop_norm_expand.specs.Making.{made, replaced_item, met_in_item}
+use Rattle.lalrpop_norm_expand.specs.Expansion.{is_name, shared_names, meetings, met_before, shared_in, unmade, unmade_in, past_cap, faults_from, expansion_faults, macro_faults}
+use Rattle.lalrpop_norm_expand.specs.Making.{made, replaced_item, met_in_item, item_macros}
 use Rattle.lalrpop_norm_expand.specs.Meeting.{after, seen_of, names_of, Meets, refused_by}
 use Rattle.lalrpop_norm_expand.proofs.FreshLemmas.{Tells, after_fresh, first_same, quiet_same, tells_after}
 
@@ -87,6 +90,38 @@ items_plain (match_item m ∷ is) h = ap (λ rs. match_item m ∷ rs) (items_pla
 items_plain (extern_item t ∷ is) h = ap (λ rs. extern_item t ∷ rs) (items_plain is h)
 items_plain (intern_item t ∷ is) h = ap (λ rs. intern_item t ∷ rs) (items_plain is h)
 items_plain (use_item u ∷ is) h = ap (λ rs. use_item u ∷ rs) (items_plain is h)
+
+-- ---- macros
+
+abbrev not_yet : RuleData → Fault
+not_yet r = (NotYet, r.span)
+
+one_macro : (b : Bool) (r : RuleData) (fs : List Fault) (rs : List RuleData) → fs ≡ map not_yet rs →
+    fault_if (not b) (not_yet r) ++ fs ≡ map not_yet (if not b then r ∷ rs else rs)
+one_macro true r fs rs e = e
+one_macro false r fs rs e = ap (λ gs. not_yet r ∷ gs) e
+
+macros_are : (is : List ItemData) → flat_map item_macros is ≡ map not_yet (macros_in is)
+macros_are [] = refl
+macros_are (rule_item r ∷ is) = one_macro (is_nil r.args) r (flat_map item_macros is) (macros_in is) (macros_are is)
+macros_are (match_item m ∷ is) = macros_are is
+macros_are (extern_item t ∷ is) = macros_are is
+macros_are (intern_item t ∷ is) = macros_are is
+macros_are (use_item u ∷ is) = macros_are is
+
+viewed : (is : List GrammarItem) → flat_map (λ i. item_macros (item_view i)) is ≡ flat_map item_macros (map item_view is)
+viewed [] = refl
+viewed (i ∷ is) = ap (λ fs. item_macros (item_view i) ++ fs) (viewed is)
+
+pub macro_faults_are : (g : Grammar) → flat_map (λ i. item_macros (item_view i)) g.items.items ≡ macro_faults (grammar_view g)
+macro_faults_are g = viewed g.items.items ∙ macros_are (map item_view g.items.items)
+
+no_rules : (rs : List RuleData) → map not_yet rs ≡ [] → rs ≡ []
+no_rules [] e = refl
+no_rules (r ∷ rs) e = absurd (cc e)
+
+pub no_macros : (g : GrammarData) → macro_faults g ≡ [] → macros_of g ≡ []
+no_macros g e = no_rules (macros_of g) e
 
 -- ---- rounds
 

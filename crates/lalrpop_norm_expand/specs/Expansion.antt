@@ -1,10 +1,10 @@
 -- The faults of an expansion, round by round: what `expand_macros` refuses.
-use Rattle.std.specs.Prelude.{ℕ, zero, suc, Bool, not, ◌&&◌, ◌||◌, List, [], ◌∷◌, ◌++◌, flat_map, bytes_eq}
+use Rattle.std.specs.Prelude.{ℕ, zero, suc, Bool, not, ◌&&◌, ◌||◌, List, [], ◌∷◌, ◌++◌, flat_map, bytes_eq, map}
 use Rattle.std.specs.List.{list_any}
 use Rattle.lalrpop_norm_tree.specs.declared.names.Span.{Span}
 use Rattle.lalrpop_norm_tree.specs.Symbols.{Part, group, ambiguous_id, terminal, nonterminal, call, repeated, chosen, named, tupled, lookahead, lookbehind, error_terminal, at}
 use Rattle.lalrpop_norm_tree.specs.Texts.{part_text}
-use Rattle.lalrpop_norm_tree.specs.Items.{GrammarData}
+use Rattle.lalrpop_norm_tree.specs.Items.{RuleData, GrammarData}
 use Rattle.lalrpop_norm_faults.specs.declared.kind.FaultKind.TheVariants.{NotYet, NamedInGroup, RecursionCap, SharedName}
 use Rattle.lalrpop_norm_faults.specs.Faults.{Fault, fault_if}
 use Rattle.lalrpop_norm_theory.specs.Rounds.{rules_made}
@@ -85,3 +85,7 @@ faults_from value g k (suc left) = shared_in value g k ++ (unmade_in value g k +
 -- all faults of an expansion, in the order of visiting
 abbrev pub expansion_faults : ConditionValue → GrammarData → ℕ → List Fault
 expansion_faults value g limit = faults_from value g 0 limit
+
+-- In this stage of the library no macro is taken: F0 at each.
+abbrev pub macro_faults : GrammarData → List Fault
+macro_faults g = map (λ (r : RuleData). (NotYet, r.span)) (macros_of g)

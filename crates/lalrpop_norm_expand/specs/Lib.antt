@@ -1,4 +1,5 @@
 pub mod Apart
 pub mod Expansion
+pub mod Laws
 pub mod Making
 pub mod Meeting

@@ -1,12 +1,14 @@
 -- What the code makes of the symbols that were met: its own words, of which no public clause speaks.
-use Rattle.std.specs.Prelude.{false, ℕ, List, [], ◌∷◌, codes}
+use Rattle.std.specs.Prelude.{false, ℕ, List, [], ◌∷◌, codes, not}
 use Rattle.std.specs.BTreeSet.{insert_key}
 use Rattle.std.specs.Ordering.{nat_cmp}
 use Rattle.std.specs.Cmp.Lexicographic.{slice_cmp}
 use Rattle.lalrpop_norm_tree.specs.Symbols.{Kind, Part, chosen}
 use Rattle.lalrpop_norm_tree.specs.Items.{AlternativeData, RuleData, ItemData, match_item, extern_item, intern_item, rule_item, use_item}
 use Rattle.lalrpop_norm_tree.specs.Types.{TypeData}
-use Rattle.lalrpop_norm_model.specs.Grammars.{ConditionValue}
+use Rattle.lalrpop_norm_faults.specs.declared.kind.FaultKind.TheVariants.{NotYet}
+use Rattle.lalrpop_norm_faults.specs.Faults.{Fault, fault_if}
+use Rattle.lalrpop_norm_model.specs.Grammars.{ConditionValue, is_nil}
 use Rattle.lalrpop_norm_model.specs.MadeRules.{kind_of, made_rules}
 use Rattle.lalrpop_norm_model.specs.PlainRules.{all_met, met_in_rule, replaced_rule}
 
@@ -35,6 +37,14 @@ met_in_item (match_item m) = []
 met_in_item (extern_item t) = []
 met_in_item (intern_item t) = []
 met_in_item (use_item u) = []
+
+-- an item that is a macro, with F0
+abbrev pub item_macros : ItemData → List Fault
+item_macros (rule_item r) = fault_if (not (is_nil r.args)) (NotYet, r.span)
+item_macros (match_item m) = []
+item_macros (extern_item t) = []
+item_macros (intern_item t) = []
+item_macros (use_item u) = []
 
 -- the names that an item declares, and keys with names added one after another
 abbrev pub item_names : ItemData → List (List ℕ)

@@ -3,13 +3,13 @@
 //! Round 1 reads the rules of the grammar, each later one the rules that the round before made. To read a rule is to meet
 //! the symbols in it, inner ones before outer ones, and to put in the place of each that is made into a rule the
 //! nonterminal of its text. Symbols that are the same apart from spans are made into one rule, where they were first met.
-ghost use Rattle.std.specs.Prelude.{◌≡◌, ◌<◌, ◌≤◌, [], IfOk, map, drop, length, reverse, flat_map};
+ghost use Rattle.std.specs.Prelude.{◌≡◌, ◌<◌, ◌≤◌, ◌++◌, [], IfOk, map, drop, length, reverse, flat_map};
 ghost use Rattle.lalrpop_norm_tree.specs.Items.{item_view, rule_item, grammar_view};
 ghost use Rattle.lalrpop_norm_faults.specs.Faults.{Refuses, IsFirst};
 ghost use Rattle.lalrpop_norm_model.specs.Grammars.{ConditionValue};
 ghost use Rattle.lalrpop_norm_model.specs.PlainRules.{macros_of, IsWhole, plain_grammar};
-ghost use Rattle.lalrpop_norm_expand.specs.Expansion.{unmade, past_cap, expansion_faults};
-ghost use Rattle.lalrpop_norm_expand.specs.Making.{made};
+ghost use Rattle.lalrpop_norm_expand.specs.Expansion.{unmade, past_cap, expansion_faults, macro_faults};
+ghost use Rattle.lalrpop_norm_expand.specs.Making.{made, item_macros};
 ghost use Rattle.lalrpop_norm_expand.specs.Meeting.{seen_of};
 
 mod expander;
@@ -59,22 +59,40 @@ fn past_cap(alloc: Global, expander: &Expander, from: usize) -> NormFailure
     )
 }
 
-/// Makes the groups, repeats and lookarounds of a grammar into rules: the answer holds the items of the grammar and then the
-/// made rules, round by round, each symbol that is made into a rule replaced by the nonterminal of its text. All else stays
-/// as it is. `limit` is the number of rounds whose new symbols may be made into rules.
-///
-/// The grammar may define no macro. It is consumed, also where it is refused.
-///
-/// Errors: F37 (`SharedName`) at a symbol whose text is the name of a rule, or the text of another symbol that was met before
-/// and is not the same; F36 (`RecursionCap`) at the last new symbol of the round after `limit` rounds; F35 (`NamedInGroup`)
-/// at a group with a named symbol in it; F0 (`NotYet`) at a macro call; `Memory`.
-pub fn expand_macros(alloc: Global, grammar: Grammar, limit: u16) -> NormResult<Grammar>
-    // Macros are brought by a later stage.
+fn refuse_macro(alloc: Global, item: &GrammarItem) -> NormResult<()>
+    ensures { Refuses result (item_macros (item_view item.now)) }
+{
+    match item {
+        GrammarItem::Nonterminal(rule) => {
+            if rule.args.is_empty() {
+                return Ok(());
+            }
+            Err(refusal(
+                FaultKind::NotYet,
+                rule.span,
+                format!(in alloc; "the macro `{}` is not taken yet", rule.name),
+            ))
+        }
+        GrammarItem::MatchToken(_)
+        | GrammarItem::ExternToken(_)
+        | GrammarItem::InternToken(_)
+        | GrammarItem::Use(_) => Ok(()),
+    }
+}
+
+fn refuse_macros(alloc: Global, items: &[GrammarItem]) -> NormResult<()>
+    ensures { Refuses result (flat_map (λ i. item_macros (item_view i)) items.now) }
+{
+    for item in items {
+        refuse_macro(alloc, item)?;
+    }
+    Ok(())
+}
+
+/// The rounds of a grammar without macros.
+fn expand_rounds(alloc: Global, grammar: Grammar, limit: u16) -> NormResult<Grammar>
     requires { macros_of (grammar_view grammar) ≡ [] }
-    // Ok exactly where no fault stands in a round, and a refusal names the first one, memory aside. Without macros no
-    // condition is asked for, so these hold whatever the value of conditions.
     ensures refuses { (value : ConditionValue) → Refuses result (expansion_faults value (grammar_view grammar) limit) }
-    // No round after the first `limit` has a new symbol.
     ensures whole { (value : ConditionValue) → IfOk result (λ made. IsWhole value (grammar_view grammar) limit) }
     ensures plain { (value : ConditionValue) → IfOk result (λ made. grammar_view made ≡ plain_grammar value (grammar_view grammar) limit) }
 {
@@ -99,4 +117,26 @@ pub fn expand_macros(alloc: Global, grammar: Grammar, limit: u16) -> NormResult<
         from = met;
         left -= 1;
     }
+}
+
+/// Makes the groups, repeats and lookarounds of a grammar into rules: the answer holds the items of the grammar and then
+/// the made rules, round by round, each symbol that is made into a rule replaced by the nonterminal of its text. All else
+/// stays as it is. `limit` is the number of rounds whose new symbols may be made into rules. The grammar is consumed, also
+/// where it is refused.
+///
+/// Errors: F37 (`SharedName`) at a symbol whose text is the name of a rule, or the text of another symbol that was met
+/// before and is not the same; F36 (`RecursionCap`) at the last new symbol of the round after `limit` rounds; F35
+/// (`NamedInGroup`) at a group with a named symbol in it; `Memory`. In this stage of the library also F0 (`NotYet`), at a
+/// macro, before all others, and at a macro call that is to be made into a rule.
+pub fn expand_macros(alloc: Global, grammar: Grammar, limit: u16) -> NormResult<Grammar>
+    // Ok exactly where no fault stands, and a refusal names the first one, memory aside. No condition is asked for where
+    // there is no macro, so these hold whatever the value of conditions.
+    ensures refuses { (value : ConditionValue) →
+        Refuses result (macro_faults (grammar_view grammar) ++ expansion_faults value (grammar_view grammar) limit) }
+    // No round after the first `limit` has a new symbol.
+    ensures whole { (value : ConditionValue) → IfOk result (λ made. IsWhole value (grammar_view grammar) limit) }
+    ensures plain { (value : ConditionValue) → IfOk result (λ made. grammar_view made ≡ plain_grammar value (grammar_view grammar) limit) }
+{
+    refuse_macros(alloc, &grammar.items)?;
+    expand_rounds(alloc, grammar, limit)
 }

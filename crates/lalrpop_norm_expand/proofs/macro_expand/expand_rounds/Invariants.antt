@@ -5,7 +5,7 @@ use Rattle.lalrpop_norm_model.specs.Expanded.{rule_names}
 use Rattle.lalrpop_norm_expand.specs.Expansion.{is_name}
 use Rattle.lalrpop_norm_expand.specs.Meeting.{IsExpander, seen_of, names_of}
 use Rattle.lalrpop_norm_expand.proofs.RoundLemmas.{AtRound}
-use Rattle.lalrpop_norm_expand.proofs.macro_expand.expand_macros.Given as goal
+use Rattle.lalrpop_norm_expand.proofs.macro_expand.expand_rounds.Given as goal
 
 abbrev pub invariant-rounds : goal.invariant-rounds
 invariant-rounds l = record {

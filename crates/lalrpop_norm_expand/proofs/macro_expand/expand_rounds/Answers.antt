@@ -1,0 +1,110 @@
+use Rattle.std.proofs.Common.{◌≡◌, ◌-◌, ℕ, suc, arith, map, length, sym, ap, ◌∙◌, subst, [], Vec, Global}
+use Rattle.std.specs.List.{flat_map}
+use Rattle.lalrpop_norm_tree.specs.declared.items.GrammarItem.{GrammarItem}
+use Rattle.std.proofs.lemmas.List.{length-map}
+use Rattle.lalrpop_norm_tree.specs.Symbols.{symbol_view}
+use Rattle.lalrpop_norm_tree.specs.Items.{GrammarData, item_view, grammar_view}
+use Rattle.lalrpop_norm_expand.specs.Making.{no_condition, item_names}
+use Rattle.lalrpop_norm_expand.specs.Expansion.{is_name}
+use Rattle.lalrpop_norm_expand.specs.Meeting.{seen_of, has_key}
+use Rattle.lalrpop_norm_expand.proofs.NameLemmas.{rule_names_are}
+use Rattle.lalrpop_norm_expand.proofs.RoundLemmas.{AtRound, err_refuses, first_round, shared_refused, cap_refused, unmade_refused, next_round, grown, last_round}
+use Rattle.lalrpop_norm_expand.proofs.macro_expand.expand_rounds.Goals as goal
+
+pub rounds-init : goal.rounds-init
+rounds-init c =
+    let g : GrammarData = grammar_view c.args.grammar in
+    let none : seen_of c.new-expander.result ≡ [] = c.new-expander.ensures.seen in
+    record {
+      grammar =
+          ap (λ (v : Vec GrammarItem Global). record g { items = map item_view v.items }) c.replace-pending.ensures.after
+          ∙ ap (λ is. record g { items = map item_view is }) c.new.ensures.items;
+      indexed = c.new-expander.ensures.indexed;
+      names = ap has_key c.new-expander.ensures.names ∙ c.in_ok-names.ensures
+          ∙ ap (λ is. is_name (flat_map item_names (map item_view is))) c.deref.ensures.value
+          ∙ ap is_name (rule_names_are g);
+      place = ap length (sym none);
+      bound = omega arith;
+      rounds = λ value.
+          let same : 0 ≡ c.args.limit - c.args.limit = omega arith in
+          rw (c.new-done.ensures.items, c.replace-pending.ensures.value, none, ← same) (first_round value g c.requires c.args.limit);
+    }
+
+pub returns-in_err-read_items-clause-refuses : goal.returns-in_err-read_items-clause-refuses
+returns-in_err-read_items-clause-refuses c = λ value.
+    err_refuses _ _ _ c.from_residual-in_err-read_items.ensures.1
+    (shared_refused value (grammar_view c.args.grammar) c.requires _ _ _ c.rounds.expander _ _ c.rounds.invariant.names (c.rounds.invariant.rounds value)
+    _ c.in_err-read_items.ensures.refuses)
+
+pub returns-then-met-from-clause-refuses : goal.returns-then-met-from-clause-refuses
+returns-then-met-from-clause-refuses c = λ value.
+    let long : length (seen_of c.read_items.new.expander) ≡ c.len-met.result =
+    omega (arith, length-map c.read_items.new.expander.met.items symbol_view, c.read_items.new.expander.met.ok.0, c.len-met.ensures) in
+    (last_round value (grammar_view c.args.grammar) c.requires _ _ _ c.rounds.expander _ _ c.rounds.invariant.names (c.rounds.invariant.rounds value)
+    c.read_items.new.expander c.in_ok-read_items.ensures.met c.in_ok-read_items.ensures.refuses
+    (omega (arith, c.rounds.invariant.bound)) (long ∙ c.if-met-from.true ∙ c.rounds.invariant.place) _ c.in_ok-read_items.ensures.value).faultless
+
+pub returns-then-met-from-clause-whole : goal.returns-then-met-from-clause-whole
+returns-then-met-from-clause-whole c = λ value.
+    let long : length (seen_of c.read_items.new.expander) ≡ c.len-met.result =
+    omega (arith, length-map c.read_items.new.expander.met.items symbol_view, c.read_items.new.expander.met.ok.0, c.len-met.ensures) in
+    (last_round value (grammar_view c.args.grammar) c.requires _ _ _ c.rounds.expander _ _ c.rounds.invariant.names (c.rounds.invariant.rounds value)
+    c.read_items.new.expander c.in_ok-read_items.ensures.met c.in_ok-read_items.ensures.refuses
+    (omega (arith, c.rounds.invariant.bound)) (long ∙ c.if-met-from.true ∙ c.rounds.invariant.place) _ c.in_ok-read_items.ensures.value).whole
+
+pub returns-then-met-from-clause-plain : goal.returns-then-met-from-clause-plain
+returns-then-met-from-clause-plain c = λ value.
+    let long : length (seen_of c.read_items.new.expander) ≡ c.len-met.result =
+    omega (arith, length-map c.read_items.new.expander.met.items symbol_view, c.read_items.new.expander.met.ok.0, c.len-met.ensures) in
+    let last =
+    last_round value (grammar_view c.args.grammar) c.requires _ _ _ c.rounds.expander _ _ c.rounds.invariant.names (c.rounds.invariant.rounds value)
+    c.read_items.new.expander c.in_ok-read_items.ensures.met c.in_ok-read_items.ensures.refuses
+    (omega (arith, c.rounds.invariant.bound)) (long ∙ c.if-met-from.true ∙ c.rounds.invariant.place) _ c.in_ok-read_items.ensures.value in
+    ap (λ (d : GrammarData). record d { items = map item_view c.read_items.new.done.items }) c.rounds.invariant.grammar
+    ∙ ap (λ is. record (grammar_view c.args.grammar) { items = is }) last.items
+
+pub past_cap-requires : goal.past_cap-requires
+past_cap-requires c =
+    let f = c.read_items.new.expander in
+    let more = grown no_condition (grammar_view c.args.grammar) c.requires _ _ _ c.rounds.expander _ _ c.rounds.invariant.names (c.rounds.invariant.rounds no_condition)
+    f c.in_ok-read_items.ensures.met c.in_ok-read_items.ensures.refuses in
+    omega (arith, more, c.rounds.invariant.place, length-map f.met.items symbol_view, f.met.ok.0, c.len-met.ensures)
+
+pub make_rules-requires : goal.make_rules-requires
+make_rules-requires c =
+    let f = c.read_items.new.expander in
+    let more = grown no_condition (grammar_view c.args.grammar) c.requires _ _ _ c.rounds.expander _ _ c.rounds.invariant.names (c.rounds.invariant.rounds no_condition)
+    f c.in_ok-read_items.ensures.met c.in_ok-read_items.ensures.refuses in
+    omega (arith, more, c.rounds.invariant.place, length-map f.met.items symbol_view)
+
+pub returns-then-left-eq0-clause-refuses : goal.returns-then-left-eq0-clause-refuses
+returns-then-left-eq0-clause-refuses c = λ value.
+    cap_refused value (grammar_view c.args.grammar) c.requires _ _ _ c.rounds.expander _ _ c.rounds.invariant.names (c.rounds.invariant.rounds value)
+    c.read_items.new.expander c.in_ok-read_items.ensures.met c.in_ok-read_items.ensures.refuses
+    c.rounds.from _ c.rounds.invariant.place c.if-left-eq0.true c.past_cap.ensures
+
+pub returns-in_err-pending-clause-refuses : goal.returns-in_err-pending-clause-refuses
+returns-in_err-pending-clause-refuses c = λ value.
+    err_refuses _ _ _ c.from_residual-in_err-pending.ensures.1
+    (unmade_refused value (grammar_view c.args.grammar) c.requires _ _ _ c.rounds.expander _ _ c.rounds.invariant.names (c.rounds.invariant.rounds value)
+    c.read_items.new.expander c.in_ok-read_items.ensures.met c.in_ok-read_items.ensures.refuses
+    c.rounds.from (c.rounds.left - 1) _ c.rounds.invariant.place (omega arith) c.in_err-pending.ensures.refuses)
+
+pub rounds-preserved : goal.rounds-preserved
+rounds-preserved c =
+    let f = c.read_items.new.expander in
+    let long : c.len-met.result ≡ length (seen_of f) = omega (arith, length-map f.met.items symbol_view, f.met.ok.0, c.len-met.ensures) in
+    let round : suc (c.args.limit - c.rounds.left) ≡ c.args.limit - (c.rounds.left - 1) = omega (arith, c.rounds.invariant.bound) in
+    record {
+      grammar = c.rounds.invariant.grammar;
+      indexed = c.in_ok-read_items.ensures.met.indexed;
+      names = ap has_key c.in_ok-read_items.ensures.met.names ∙ c.rounds.invariant.names;
+      place = long;
+      bound = omega (arith, c.rounds.invariant.bound);
+      rounds = λ value.
+          subst (λ (k : ℕ). AtRound value (grammar_view c.args.grammar) c.args.limit (c.rounds.left - 1) k (seen_of f) (map item_view c.read_items.new.done.items) (map item_view c.in_ok-pending.pending.items)) round
+          (next_round value (grammar_view c.args.grammar) c.requires _ _ _ c.rounds.expander _ _ c.rounds.invariant.names (c.rounds.invariant.rounds value)
+          f c.in_ok-read_items.ensures.met c.in_ok-read_items.ensures.refuses
+          c.rounds.from (c.rounds.left - 1) _ _ c.rounds.invariant.place (omega arith) c.in_ok-read_items.ensures.value
+          c.in_ok-pending.ensures.refuses c.in_ok-pending.ensures.rules);
+    }
