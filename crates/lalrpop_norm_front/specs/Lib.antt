@@ -8,3 +8,4 @@ pub mod LevelFaults
 pub mod TypeFaults
 pub mod GrammarFaults
 pub mod Sides
+pub mod ExprSymbols

@@ -1,5 +1,5 @@
 -- F23: written types that hold the type of a symbol.
-use Rattle.std.specs.Prelude.{Bool, true, false, ◌||◌, List, Option, Some, None}
+use Rattle.std.specs.Prelude.{Bool, false, ◌||◌, Option, Some, None}
 use Rattle.std.specs.List.{list_any}
 use Rattle.lalrpop_norm_tree.specs.Types.{TypeData}
 use Rattle.lalrpop_norm_tree.specs.LoweredTypes.{holds_symbol}

@@ -10,4 +10,5 @@ mod session;
 mod tests;
 
 pub use lalrpop_norm_faults::{FaultKind, NormError, NormFailure, NormResult, refusal};
+pub use lalrpop_norm_names::resolve;
 pub use session::Session;

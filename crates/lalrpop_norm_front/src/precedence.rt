@@ -3,6 +3,9 @@ ghost use Rattle.std.specs.Prelude.{◌≡◌, option_map};
 ghost use Rattle.lalrpop_norm_model.specs.Levels.{side_named};
 ghost use Rattle.lalrpop_norm_front.specs.Sides.{side_view};
 
+use std::fmt;
+use std::str::FromStr;
+
 /// The attribute that states a level.
 pub const PREC_ATTR: &str = "precedence";
 /// Its argument.
@@ -19,6 +22,48 @@ pub enum Assoc {
     Right,
     NonAssoc,
     FullyAssoc,
+}
+
+impl Default for Assoc {
+    /// Every side.
+    fn default() -> Assoc
+        ensures { result ≡ Assoc.FullyAssoc }
+    {
+        Assoc::FullyAssoc
+    }
+}
+
+/// A text that names no side.
+#[derive(Clone, Copy, Debug, PartialEq, Eq)]
+pub struct ParseAssocError;
+
+impl fmt::Display for ParseAssocError {
+    ghost use Rattle.std.specs.Prelude.{Some, codes};
+
+    ghost output = { λ _. Some (codes "provided value was neither `left`, `right` nor `none`") };
+
+    fn fmt<W: fmt::Write>(&self, f: &mut fmt::Formatter<W>) -> fmt::Result {
+        f.write_str("provided value was neither `left`, `right` nor `none`")
+    }
+}
+
+/// The side of that name: `left`, `right`, `none` or `all`. It takes no memory.
+impl FromStr for Assoc {
+    type Err = ParseAssocError;
+
+    ghost use Rattle.std.specs.Prelude.{◌≡◌, option_map};
+    ghost use Rattle.std.specs.Result.{result_ok};
+    ghost use Rattle.lalrpop_norm_model.specs.Levels.{side_named};
+    ghost use Rattle.lalrpop_norm_front.specs.Sides.{side_view};
+
+    ghost from_str_gives = { λ text r. option_map side_view (result_ok r) ≡ side_named text };
+
+    fn from_str(name: &str) -> Result<Assoc, ParseAssocError> {
+        match side_named(name) {
+            Some(side) => Ok(side),
+            None => Err(ParseAssocError),
+        }
+    }
 }
 
 /// The side of that name: `left`, `right`, `none` or `all`.

@@ -1,6 +1,7 @@
 //! Where placeholders stand, what features leave, what is refused.
 mod checks;
 mod features;
+mod values;
 
 use crate::norm_util::{Presence, check_between_braces};
 use std::test::*;

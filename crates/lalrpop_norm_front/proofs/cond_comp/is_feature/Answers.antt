@@ -1,4 +1,3 @@
-use Rattle.std.proofs.Common.{◌∙◌}
 use Rattle.lalrpop_norm_front.proofs.EnabledLemmas.{found_in_set}
 use Rattle.lalrpop_norm_front.proofs.cond_comp.is_feature.Goals as goal
 

@@ -1,4 +1,4 @@
-use Rattle.std.proofs.Common.{◌≡◌, [], ◌++◌, append-nil, map, sym, ap, ◌∙◌}
+use Rattle.std.proofs.Common.{[], ◌++◌, append-nil, map, sym, ap, ◌∙◌}
 use Rattle.std.specs.List.{flat_map}
 use Rattle.lalrpop_norm_tree.specs.Items.{item_view}
 use Rattle.lalrpop_norm_faults.proofs.FaultLemmas.{exit_at}

@@ -1,4 +1,4 @@
-use Rattle.std.proofs.Common.{◌≡◌, arith, map, sym, ap, ◌∙◌}
+use Rattle.std.proofs.Common.{arith, map, sym, ◌∙◌}
 use Rattle.std.specs.List.{flat_map}
 use Rattle.std.proofs.lemmas.List.{at_drop_more}
 use Rattle.lalrpop_norm_tree.specs.Items.{alternative_view}
