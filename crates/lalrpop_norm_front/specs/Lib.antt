@@ -7,5 +7,4 @@ pub mod CfgFaults
 pub mod LevelFaults
 pub mod TypeFaults
 pub mod GrammarFaults
-pub mod Sides
 pub mod ExprSymbols

@@ -6,7 +6,7 @@ ghost use Rattle.lalrpop_norm_tree.specs.Items.{AlternativeData, alternative_vie
 ghost use Rattle.lalrpop_norm_faults.specs.Faults.{Refuses};
 ghost use Rattle.lalrpop_norm_model.specs.Levels.{first_named, value_under, number_of, stated_level, side_named, stated_side, has_level_attribute};
 ghost use Rattle.lalrpop_norm_front.specs.LevelFaults.{level_value_faults, side_value_faults, precedence_faults, assoc_faults, stated_faults, missing_faults, lesser_level, lowest, level_after, is_same_level, bars, barred_faults, side_faults, sides_faults, level_faults};
-ghost use Rattle.lalrpop_norm_front.specs.Sides.{side_view};
+ghost use Rattle.lalrpop_norm_levels.specs.Sides.{side_of};
 
 use crate::precedence::{Assoc, side_named};
 use lalrpop_norm_faults::{FaultKind, NormResult, refusal};
@@ -60,7 +60,7 @@ fn stated_level(attributes: &[Attribute]) -> Option<u32>
 }
 
 fn stated_side(attributes: &[Attribute]) -> Option<Assoc>
-    ensures { option_map side_view result ≡ stated_side (attributes_view attributes.now) }
+    ensures { option_map side_of result ≡ stated_side (attributes_view attributes.now) }
 {
     match first_named("assoc", attributes) {
         Some(attribute) => match value_under("side", attribute) {
@@ -217,7 +217,7 @@ fn is_same_level(a: Option<u32>, b: Option<u32>) -> bool
 }
 
 fn bars(level: Option<u32>, side: Option<Assoc>) -> bool
-    ensures { result ≡ bars level (option_map side_view side) }
+    ensures { result ≡ bars level (option_map side_of side) }
 {
     match level {
         Some(_) => true,

@@ -1,6 +1,5 @@
 //! Which symbols give the values of an alternative, and sides by their names.
 use crate::norm_util::{AlternativeAction, Symbols, analyze_action, analyze_expr};
-use crate::precedence::{Assoc, ParseAssocError};
 use lalrpop_norm_tree::grammar::parse_tree::{
     ActionKind, Alternative, ArgPattern, Atom, ExprSymbol, Name, Span, Symbol, SymbolKind,
 };
@@ -82,19 +81,5 @@ fn sources(rt: HostRuntime) -> Result<(), Fail> {
         AlternativeAction::User(_code) => {}
         AlternativeAction::Default(_symbols) => assert!(rt; false, "code"),
     }
-    Ok(())
-}
-
-#[test]
-fn sides(rt: HostRuntime) -> Result<(), Fail> {
-    assert!(rt; "left".parse::<Assoc>() == Ok(Assoc::Left));
-    assert!(rt; "none".parse::<Assoc>() == Ok(Assoc::NonAssoc));
-    assert!(rt; "both".parse::<Assoc>() == Err(ParseAssocError));
-    let error = ParseAssocError;
-    let text = format!(in rt.alloc(); "{error}")?;
-    assert_eq!(rt;
-        text.as_str(),
-        "provided value was neither `left`, `right` nor `none`"
-    );
     Ok(())
 }
