@@ -2,3 +2,5 @@
 #![tactic(auto)]
 
 pub mod precedence;
+#[cfg(test)]
+mod tests;

@@ -1,0 +1,414 @@
+//! Levels of small rules.
+use crate::precedence::{
+    Assoc, Direction, Substitution, expand_levels, expand_nonterm, has_prec_attr, read_levels,
+    replace_nonterm,
+};
+use lalrpop_norm_faults::{NormFailure, NormResult};
+use lalrpop_norm_tree::grammar::parse_tree::*;
+use std::alloc::Global;
+use std::test::*;
+
+// ---- small trees
+
+fn symbol(kind: SymbolKind) -> Symbol {
+    Symbol {
+        span: Span(92, 93),
+        kind,
+    }
+}
+
+fn name(alloc: Global, text: &str) -> Result<NonterminalString, NoMemory> {
+    Ok(NonterminalString(Atom::new(alloc, text)?))
+}
+
+fn reference(alloc: Global, text: &str) -> Result<Symbol, NoMemory> {
+    Ok(symbol(SymbolKind::Nonterminal(name(alloc, text)?)))
+}
+
+fn literal(alloc: Global, text: &str) -> Result<Symbol, NoMemory> {
+    let literal = TerminalLiteral::Quoted(Atom::new(alloc, text)?);
+    Ok(symbol(SymbolKind::Terminal(TerminalString::Literal(literal))))
+}
+
+fn argument(alloc: Global, key: &str, value: &str) -> Result<Attribute, NoMemory> {
+    Ok(Attribute {
+        id_span: Span(71, 76),
+        id: Atom::new(alloc, key)?,
+        arg: AttributeArg::Equal(String::from_str(alloc, value)?),
+    })
+}
+
+fn attribute(
+    alloc: Global,
+    span: Span,
+    id: &str,
+    key: &str,
+    value: &str,
+) -> Result<Attribute, NoMemory> {
+    let first = argument(alloc, key, value)?;
+    Ok(Attribute {
+        id_span: span,
+        id: Atom::new(alloc, id)?,
+        arg: AttributeArg::Paren(vec![in alloc; first]?),
+    })
+}
+
+fn level(alloc: Global, text: &str) -> Result<Attribute, NoMemory> {
+    attribute(alloc, Span(60, 70), "precedence", "level", text)
+}
+
+fn side(alloc: Global, text: &str) -> Result<Attribute, NoMemory> {
+    attribute(alloc, Span(105, 110), "assoc", "side", text)
+}
+
+fn alternative(span: Span, symbols: Vec<Symbol>, attributes: Vec<Attribute>) -> Alternative {
+    Alternative {
+        span,
+        expr: ExprSymbol { symbols },
+        condition: None,
+        action: None,
+        attributes,
+    }
+}
+
+/// `E = { .. }`.
+fn rule(alloc: Global, alternatives: Vec<Alternative>) -> Result<NonterminalData, NoMemory> {
+    Ok(NonterminalData {
+        visibility: Visibility::Priv,
+        name: name(alloc, "E")?,
+        attributes: Vec::new(alloc),
+        span: Span(9, 10),
+        args: Vec::new(alloc),
+        type_decl: None,
+        alternatives,
+    })
+}
+
+/// An alternative `"n"` with attributes.
+fn leaf(alloc: Global, attributes: Vec<Attribute>) -> Result<Alternative, NoMemory> {
+    Ok(alternative(
+        Span(40, 43),
+        vec![in alloc; literal(alloc, "n")?]?,
+        attributes,
+    ))
+}
+
+/// `E = { #[precedence(level="..")] "n" }`.
+fn leveled(alloc: Global, text: &str) -> Result<NonterminalData, NoMemory> {
+    let first = leaf(alloc, vec![in alloc; level(alloc, text)?]?)?;
+    rule(alloc, vec![in alloc; first]?)
+}
+
+/// An alternative `E "?" E ":" E` with attributes.
+fn choice(alloc: Global, attributes: Vec<Attribute>) -> Result<Alternative, NoMemory> {
+    let mut symbols = Vec::new(alloc);
+    symbols.push(reference(alloc, "E")?)?;
+    symbols.push(literal(alloc, "?")?)?;
+    symbols.push(reference(alloc, "E")?)?;
+    symbols.push(literal(alloc, ":")?)?;
+    symbols.push(reference(alloc, "E")?)?;
+    Ok(alternative(Span(92, 105), symbols, attributes))
+}
+
+/// `E = { #[precedence(level="1")] "n", .. E "?" E ":" E }`.
+fn choices(alloc: Global, attributes: Vec<Attribute>) -> Result<NonterminalData, NoMemory> {
+    let first = leaf(alloc, vec![in alloc; level(alloc, "1")?]?)?;
+    let second = choice(alloc, attributes)?;
+    rule(alloc, vec![in alloc; first, second]?)
+}
+
+/// A rule of level 1 and a choice of level 2 with that side.
+fn choices_by(alloc: Global, text: &str) -> Result<NonterminalData, NoMemory> {
+    choices(
+        alloc,
+        vec![in alloc; level(alloc, "2")?, side(alloc, text)?]?,
+    )
+}
+
+// ---- what is told of them
+
+fn push_symbols(alloc: Global, text: &mut String, symbols: &[Symbol]) -> Result<(), NoMemory> {
+    for symbol in symbols {
+        text.push_str(" ")?;
+        text.push_str(symbol.canonical_form(alloc)?.as_str())?;
+    }
+    Ok(())
+}
+
+/// `E1: "n" 40..43;` and a line feed: each alternative with its span, and an `#` for each attribute.
+fn push_rule(alloc: Global, text: &mut String, rule: &NonterminalData) -> Result<(), NoMemory> {
+    text.push_str(rule.name.0.as_str())?;
+    text.push_str(":")?;
+    for alternative in &rule.alternatives {
+        push_symbols(alloc, text, &alternative.expr.symbols)?;
+        for _ in &alternative.attributes {
+            text.push_str(" #")?;
+        }
+        let span = format!(in alloc; " {}..{};", alternative.span.0, alternative.span.1)?;
+        text.push_str(&span)?;
+    }
+    text.push_str("\n")?;
+    Ok(())
+}
+
+fn fault_text(alloc: Global, failure: NormFailure) -> Result<String, NoMemory> {
+    match failure {
+        NormFailure::Refused(error) => Ok(format!(in alloc;
+            "{} {}..{}",
+            error.fault.code(),
+            error.span.0,
+            error.span.1
+        )?),
+        NormFailure::Memory => Err(NoMemory),
+    }
+}
+
+fn rules_text(alloc: Global, rules: NormResult<Vec<NonterminalData>>) -> Result<String, NoMemory> {
+    match rules {
+        Ok(rules) => {
+            let mut text = String::new(alloc);
+            for rule in &rules {
+                push_rule(alloc, &mut text, rule)?;
+            }
+            Ok(text)
+        }
+        Err(failure) => fault_text(alloc, failure),
+    }
+}
+
+fn expanded(alloc: Global, rule: NonterminalData) -> Result<String, NoMemory> {
+    rules_text(alloc, expand_nonterm(alloc, rule))
+}
+
+/// The number that a level is read as.
+fn read_number(alloc: Global, text: &str) -> Result<String, NoMemory> {
+    let rule = leveled(alloc, text)?;
+    match read_levels(alloc, &rule) {
+        Ok(levels) => match levels.first() {
+            Some(first) => Ok(format!(in alloc; "{}", first.level)?),
+            None => Err(NoMemory),
+        },
+        Err(failure) => fault_text(alloc, failure),
+    }
+}
+
+// ---- runs
+
+#[test]
+fn sides(rt: HostRuntime) {
+    assert!(rt; "left".parse::<Assoc>() == Ok(Assoc::Left));
+    assert!(rt; "right".parse::<Assoc>() == Ok(Assoc::Right));
+    assert!(rt; "none".parse::<Assoc>() == Ok(Assoc::NonAssoc));
+    assert!(rt; "all".parse::<Assoc>() == Ok(Assoc::FullyAssoc));
+    for text in ["", "Left", "left ", "both"] {
+        assert!(rt; text.parse::<Assoc>().is_err(), "{text}");
+    }
+    assert!(rt; Assoc::default() == Assoc::FullyAssoc);
+}
+
+#[test]
+fn no_side(rt: HostRuntime) -> Result<(), Fail> {
+    match "both".parse::<Assoc>() {
+        Ok(_) => assert!(rt; false),
+        Err(error) => {
+            let text = format!(in rt.alloc(); "{error}")?;
+            assert_eq!(rt;
+                text.as_str(),
+                "provided value was neither `left`, `right` nor `none`"
+            );
+        }
+    }
+    Ok(())
+}
+
+#[test]
+fn numbers(rt: HostRuntime) -> Result<(), Fail> {
+    let rows = [
+        ("4294967295", "4294967295"),
+        ("+0", "0"),
+        ("10", "10"),
+        ("+02", "2"),
+        ("4294967296", "F12c 60..70"),
+        ("-0", "F12c 60..70"),
+        ("+", "F12c 60..70"),
+        ("", "F12c 60..70"),
+    ];
+    for (text, want) in rows {
+        let number = read_number(rt.alloc(), text)?;
+        assert_eq!(rt; number.as_str(), want, "{text}");
+    }
+    Ok(())
+}
+
+#[test]
+fn left_and_right(rt: HostRuntime) -> Result<(), Fail> {
+    let alloc = rt.alloc();
+    let left = expanded(alloc, choices_by(alloc, "left")?)?;
+    assert_eq!(rt;
+        left.as_str(),
+        "E1: \"n\" 40..43;\nE: E \"?\" E1 \":\" E1 92..105; E1 9..10;\n"
+    );
+    let right = expanded(alloc, choices_by(alloc, "right")?)?;
+    assert_eq!(rt;
+        right.as_str(),
+        "E1: \"n\" 40..43;\nE: E1 \"?\" E1 \":\" E 92..105; E1 9..10;\n"
+    );
+    Ok(())
+}
+
+#[test]
+fn none_and_all(rt: HostRuntime) -> Result<(), Fail> {
+    let alloc = rt.alloc();
+    let none = expanded(alloc, choices_by(alloc, "none")?)?;
+    assert_eq!(rt;
+        none.as_str(),
+        "E1: \"n\" 40..43;\nE: E1 \"?\" E1 \":\" E1 92..105; E1 9..10;\n"
+    );
+    let all = expanded(alloc, choices_by(alloc, "all")?)?;
+    assert_eq!(rt;
+        all.as_str(),
+        "E1: \"n\" 40..43;\nE: E \"?\" E \":\" E 92..105; E1 9..10;\n"
+    );
+    let absent = expanded(alloc, choices(alloc, vec![in alloc; level(alloc, "2")?]?)?)?;
+    assert_eq!(rt; absent.as_str(), all.as_str());
+    Ok(())
+}
+
+#[test]
+fn levels_by_number(rt: HostRuntime) -> Result<(), Fail> {
+    let alloc = rt.alloc();
+    let first = leaf(alloc, vec![in alloc; level(alloc, "10")?]?)?;
+    let second = alternative(
+        Span(77, 80),
+        vec![in alloc; literal(alloc, "m")?]?,
+        vec![in alloc; level(alloc, "+02")?]?,
+    );
+    let text = expanded(alloc, rule(alloc, vec![in alloc; first, second]?)?)?;
+    assert_eq!(rt;
+        text.as_str(),
+        "E2: \"m\" 77..80;\nE: \"n\" 40..43; E2 9..10;\n"
+    );
+    Ok(())
+}
+
+#[test]
+fn first_alternatives(rt: HostRuntime) -> Result<(), Fail> {
+    let alloc = rt.alloc();
+    assert!(rt; has_prec_attr(&leveled(alloc, "1")?));
+    let first = alternative(
+        Span(144, 147),
+        vec![in alloc; literal(alloc, "m")?]?,
+        vec![in alloc; side(alloc, "all")?]?,
+    );
+    let only = rule(alloc, vec![in alloc; first]?)?;
+    assert!(rt; has_prec_attr(&only));
+    assert_eq!(rt; expanded(alloc, only)?.as_str(), "F12a 144..147");
+    let plain = rule(alloc, vec![in alloc; leaf(alloc, Vec::new(alloc))?]?)?;
+    assert!(rt; !has_prec_attr(&plain));
+    assert_eq!(rt; expanded(alloc, plain)?.as_str(), "E: \"n\" 40..43;\n");
+    Ok(())
+}
+
+/// What is refused where the second alternative has that attribute.
+fn refused(alloc: Global, second: Attribute) -> Result<String, NoMemory> {
+    expanded(alloc, choices(alloc, vec![in alloc; second]?)?)
+}
+
+#[test]
+fn faults(rt: HostRuntime) -> Result<(), Fail> {
+    let alloc = rt.alloc();
+    let span = Span(75, 85);
+    let no_level = refused(alloc, attribute(alloc, span, "precedence", "side", "1")?)?;
+    assert_eq!(rt; no_level.as_str(), "F12b 75..85");
+    let no_side = refused(alloc, attribute(alloc, span, "assoc", "level", "left")?)?;
+    assert_eq!(rt; no_side.as_str(), "F12d 75..85");
+    let other = refused(alloc, side(alloc, "both")?)?;
+    assert_eq!(rt; other.as_str(), "F12e 105..110");
+    let lowest = refused(alloc, side(alloc, "left")?)?;
+    assert_eq!(rt; lowest.as_str(), "F12f 105..110");
+    Ok(())
+}
+
+/// `"x" M<E, E> E`.
+fn call_symbols(alloc: Global) -> Result<Vec<Symbol>, NoMemory> {
+    let args = vec![in alloc; reference(alloc, "E")?, reference(alloc, "E")?]?;
+    let call = symbol(SymbolKind::Macro(MacroSymbol {
+        name: name(alloc, "E")?,
+        args,
+    }));
+    Ok(vec![in alloc; literal(alloc, "x")?, call, reference(alloc, "E")?]?)
+}
+
+fn replaced(alloc: Global, direction: Direction) -> Result<String, NoMemory> {
+    let mut symbols = call_symbols(alloc)?;
+    let current = SymbolKind::Nonterminal(name(alloc, "C")?);
+    let below = SymbolKind::Nonterminal(name(alloc, "B")?);
+    replace_nonterm(
+        &name(alloc, "E")?,
+        Substitution::OneThen(&current, &below),
+        direction,
+        &mut symbols,
+    )?;
+    let mut text = String::new(alloc);
+    push_symbols(alloc, &mut text, &symbols)?;
+    Ok(text)
+}
+
+#[test]
+fn directions(rt: HostRuntime) -> Result<(), Fail> {
+    let forward = replaced(rt.alloc(), Direction::Forward)?;
+    assert_eq!(rt; forward.as_str(), " \"x\" E<C, B> B");
+    let backward = replaced(rt.alloc(), Direction::Backward)?;
+    assert_eq!(rt; backward.as_str(), " \"x\" E<B, B> C");
+    Ok(())
+}
+
+/// A grammar of a rule with levels and two uses around it.
+fn grammar(alloc: Global) -> Result<Grammar, NoMemory> {
+    let before = GrammarItem::Use(String::from_str(alloc, "std::fmt")?);
+    let rule = GrammarItem::Nonterminal(choices_by(alloc, "left")?);
+    let after = GrammarItem::Use(String::from_str(alloc, "std::str")?);
+    Ok(Grammar {
+        prefix: String::from_str(alloc, "__")?,
+        span: Span(0, 7),
+        type_parameters: Vec::new(alloc),
+        parameters: Vec::new(alloc),
+        where_clauses: Vec::new(alloc),
+        items: vec![in alloc; before, rule, after]?,
+        attributes: Vec::new(alloc),
+        module_attributes: Vec::new(alloc),
+    })
+}
+
+fn grammar_text(alloc: Global, grammar: &Grammar) -> Result<String, NoMemory> {
+    let mut text = String::new(alloc);
+    for item in &grammar.items {
+        match item {
+            GrammarItem::Nonterminal(rule) => push_rule(alloc, &mut text, rule)?,
+            GrammarItem::Use(path) => {
+                text.push_str(path)?;
+                text.push_str("\n")?;
+            }
+            GrammarItem::MatchToken(_)
+            | GrammarItem::ExternToken(_)
+            | GrammarItem::InternToken(_) => {}
+        }
+    }
+    Ok(text)
+}
+
+#[test]
+fn rules_in_their_places(rt: HostRuntime) -> Result<(), Fail> {
+    let alloc = rt.alloc();
+    match expand_levels(alloc, grammar(alloc)?) {
+        Ok(leveled) => {
+            let text = grammar_text(alloc, &leveled)?;
+            assert_eq!(rt;
+                text.as_str(),
+                "std::fmt\nE1: \"n\" 40..43;\nE: E \"?\" E1 \":\" E1 92..105; E1 9..10;\nstd::str\n"
+            );
+        }
+        Err(_) => assert!(rt; false),
+    }
+    Ok(())
+}
