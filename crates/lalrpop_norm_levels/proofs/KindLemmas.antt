@@ -1,5 +1,5 @@
 -- Kinds by sides, and attributes taken away.
-use Rattle.std.proofs.Common.{◌≡◌, ℕ, zero, suc, ◌+◌, List, [], ◌∷◌, map, cond, bytes_eq, ◌&&◌, Bool, true, false, Option, Some, None, refl, sym, ap, ap₂, ◌∙◌, arith}
+use Rattle.std.proofs.Common.{◌≡◌, ℕ, zero, suc, ◌+◌, List, [], ◌∷◌, cond, bytes_eq, ◌&&◌, Bool, true, false, Option, refl, sym, ap, ap₂, ◌∙◌, arith}
 use Rattle.std.specs.Prelude.{unwrap_or, if◌then◌else◌}
 use Rattle.lalrpop_norm_tree.specs.declared.attribute.Attribute.{Attribute}
 use Rattle.lalrpop_norm_tree.specs.Attributes.{attribute_view, attributes_view, attribute_and}
@@ -9,8 +9,8 @@ use Rattle.lalrpop_norm_model.specs.Levels.{Side, left, right, neither, every, i
 use Rattle.lalrpop_norm_model.specs.Occurrences.{count_part, count_parts, bound_at, own_bound}
 use Rattle.lalrpop_norm_model.specs.Grammars.{is_nil}
 use Rattle.lalrpop_norm_model.specs.LevelRules.{without_first, leveled_kind, leveled_part, leveled_parts, is_own}
-use Rattle.lalrpop_norm_levels.specs.declared.precedence.replace.Direction.TheVariants.{Forward, Backward}
-use Rattle.lalrpop_norm_levels.specs.Substituted.{is_name, Plan, substituted_kind, substituted_part, substituted_parts, occurrence, met_kind}
+use Rattle.lalrpop_norm_levels.specs.declared.precedence.replace.Direction.TheVariants.{Forward}
+use Rattle.lalrpop_norm_levels.specs.Substituted.{is_name, substituted_kind, substituted_part, substituted_parts, occurrence, met_kind}
 use Rattle.lalrpop_norm_levels.specs.Made.{kind_by_side, less_first}
 use Rattle.lalrpop_norm_levels.proofs.WalkLemmas.{parts_shift}
 

@@ -1,13 +1,12 @@
 -- The rules that are made are the rules of the levels.
-use Rattle.std.proofs.Common.{◌≡◌, ◌⊎◌, inl, inr, ℕ, zero, suc, ◌+◌, ◌<◌, ◌≤◌, List, [], ◌∷◌, ◌++◌, length, map, cond, Option, Some, None, Bool, true, false, Decides, refl, sym, ap, ap₂, ◌∙◌, subst, arith, append_assoc, append-nil}
-use Rattle.std.specs.Prelude.{nat_eq, nat_lt, unwrap_or, option_map, if◌then◌else◌}
+use Rattle.std.proofs.Common.{◌≡◌, inl, inr, ℕ, suc, ◌<◌, ◌≤◌, List, [], ◌∷◌, ◌++◌, length, map, cond, Option, Some, None, Bool, true, false, Decides, refl, sym, ap, ap₂, ◌∙◌, subst, arith, append_assoc}
+use Rattle.std.specs.Prelude.{nat_eq, nat_lt, unwrap_or, if◌then◌else◌}
 use Rattle.std.proofs.lemmas.Bool.Decides.{Decides-eqb, Decides-ltb}
 use Rattle.std.proofs.lemmas.List.{length-map}
 use Rattle.lalrpop_norm_theory.specs.Rounds.{In}
-use Rattle.lalrpop_norm_tree.specs.Symbols.{nonterminal}
 use Rattle.lalrpop_norm_tree.specs.Items.{AlternativeData, RuleData, alternative_view}
 use Rattle.lalrpop_norm_model.specs.Enabled.{all_places, present}
-use Rattle.lalrpop_norm_model.specs.Levels.{Side, every, Leveled, rising, greatest, greater, below, has_levels, with_levels, levels_of, highest_level, previous_level}
+use Rattle.lalrpop_norm_model.specs.Levels.{Side, every, Leveled, greatest, greater, below, has_levels, with_levels, levels_of, highest_level, previous_level}
 use Rattle.lalrpop_norm_model.specs.Stated.{IsRising, level_after, side_after, handed_on}
 use Rattle.lalrpop_norm_model.specs.Occurrences.{own_bound}
 use Rattle.lalrpop_norm_model.specs.ClosedTexts.{level_name}

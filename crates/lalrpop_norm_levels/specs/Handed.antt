@@ -1,5 +1,5 @@
 -- Levels and sides handed on from alternative to alternative, as they are read.
-use Rattle.std.specs.Prelude.{ℕ, List, [], ◌∷◌, ◌++◌, Option, Some, None, option_map, unwrap_or}
+use Rattle.std.specs.Prelude.{ℕ, List, [], ◌∷◌, ◌++◌, Option, Some, unwrap_or}
 use Rattle.lalrpop_norm_tree.specs.Items.{AlternativeData}
 use Rattle.lalrpop_norm_faults.specs.Faults.{Fault}
 use Rattle.lalrpop_norm_model.specs.Levels.{Side, every}

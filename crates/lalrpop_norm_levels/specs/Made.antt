@@ -1,13 +1,12 @@
 -- The rules of levels as they are made, one after another.
-use Rattle.std.specs.Prelude.{ℕ, zero, suc, Bool, true, false, List, [], ◌∷◌, ◌++◌, map, Option, Some, None, unwrap_or, codes, if◌then◌else◌}
+use Rattle.std.specs.Prelude.{ℕ, false, List, [], ◌∷◌, ◌++◌, map, Option, Some, None, unwrap_or, codes, if◌then◌else◌}
 use Rattle.lalrpop_norm_tree.specs.declared.attribute.Attribute.{Attribute}
 use Rattle.lalrpop_norm_tree.specs.Attributes.{Attributes, attribute_view}
 use Rattle.lalrpop_norm_tree.specs.Symbols.{Kind, nonterminal}
 use Rattle.lalrpop_norm_tree.specs.Items.{AlternativeData, RuleData}
 use Rattle.lalrpop_norm_model.specs.Levels.{Side, left, right, neither, every, Leveled, is_named, greatest}
-use Rattle.lalrpop_norm_model.specs.Occurrences.{own_bound}
 use Rattle.lalrpop_norm_model.specs.ClosedTexts.{level_name}
-use Rattle.lalrpop_norm_model.specs.LevelRules.{without_first, leveled_parts, is_own, step_alternative}
+use Rattle.lalrpop_norm_model.specs.LevelRules.{without_first, is_own, step_alternative}
 use Rattle.lalrpop_norm_levels.specs.Substituted.{occurrence, substituted_parts}
 use Rattle.lalrpop_norm_levels.specs.Grouped.{LevelGroup}
 

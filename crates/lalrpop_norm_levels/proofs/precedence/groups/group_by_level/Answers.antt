@@ -1,5 +1,4 @@
-use Rattle.std.proofs.Common.{◌≡◌, ◌<◌, ◌∙◌, inl, inr, ℕ, length, List, [], ◌∷◌, map, Some, ap, sym, refl, arith}
-use Rattle.std.specs.Prelude.{slice_get}
+use Rattle.std.proofs.Common.{◌≡◌, ◌<◌, ◌∙◌, inl, inr, ℕ, length, List, [], ◌∷◌, map, ap, sym, refl, arith}
 use Rattle.lalrpop_norm_theory.specs.Rounds.{In}
 use Rattle.lalrpop_norm_model.specs.Levels.{Leveled, rising}
 use Rattle.lalrpop_norm_levels.specs.Grouped.{LevelGroup, marked_view, group_view, filled, grouped}

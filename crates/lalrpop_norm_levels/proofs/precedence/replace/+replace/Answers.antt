@@ -1,4 +1,4 @@
-use Rattle.std.proofs.Common.{◌≡◌, ◌<◌, ◌+◌, ◌-◌, ◌≤◌, length, get_or, arith, rules, map, sym, ap, ◌∙◌}
+use Rattle.std.proofs.Common.{◌≡◌, ◌<◌, ◌+◌, ◌-◌, length, get_or, arith, rules, map, sym, ap, ◌∙◌}
 use Rattle.std.proofs.lemmas.List.{get_or_default}
 use Rattle.lalrpop_norm_tree.specs.Symbols.{kind_view, symbol_view}
 use Rattle.lalrpop_norm_levels.specs.declared.precedence.replace.Direction.TheVariants.{Forward, Backward}

@@ -1,4 +1,4 @@
-use Rattle.std.proofs.Common.{◌≡◌, ◌∙◌, length, List, [], map, Some, true, ap, ap₂, sym, refl, arith}
+use Rattle.std.proofs.Common.{◌≡◌, ◌∙◌, length, [], map, Some, true, ap, ap₂, sym, refl, arith}
 use Rattle.lalrpop_norm_tree.specs.Items.{alternative_view, rule_view}
 use Rattle.lalrpop_norm_model.specs.Enabled.{all_places}
 use Rattle.lalrpop_norm_model.specs.Levels.{has_levels}
