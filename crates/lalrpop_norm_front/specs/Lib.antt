@@ -8,3 +8,5 @@ pub mod LevelFaults
 pub mod TypeFaults
 pub mod GrammarFaults
 pub mod ExprSymbols
+pub mod PrecedenceFaults
+pub mod MacroLevels

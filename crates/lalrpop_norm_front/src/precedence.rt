@@ -1,11 +1,15 @@
-//! Precedence levels: the words of their attributes, sides, and the rules of levels, given again.
+//! Precedence levels: the pass over a grammar, and what the levels of one rule are, given again.
 ghost use Rattle.std.specs.Prelude.{◌≡◌, option_map};
 ghost use Rattle.lalrpop_norm_model.specs.Levels.{side_named};
 ghost use Rattle.lalrpop_norm_levels.specs.Sides.{side_of};
 
+mod expand;
+
+pub use expand::expand_precedence;
 pub use lalrpop_norm_levels::precedence::{
     ASSOC_ATTR, AlternativeLevel, Assoc, Direction, LVL_ARG, PREC_ATTR, ParseAssocError, SIDE_ARG,
-    Substitution, expand_levels, expand_nonterm, has_prec_attr, read_levels, replace_nonterm,
+    Substitution, expand_levels, expand_nonterm, has_prec_attr, has_several_levels, read_levels,
+    replace_nonterm,
 };
 
 /// The side of that name: `left`, `right`, `none` or `all`.

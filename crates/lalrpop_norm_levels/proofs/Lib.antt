@@ -4,3 +4,4 @@ mod WalkLemmas
 mod GroupLemmas
 mod KindLemmas
 mod RuleLemmas
+mod SeveralLemmas

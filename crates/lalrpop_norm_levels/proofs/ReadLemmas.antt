@@ -32,11 +32,11 @@ levels_read r =
     ap (λ ps. map (λ (a : Leveled). (a.level, a.side)) (present ps)) (levels_are_handed_on (all_places r))
     ∙ levels_handed None None r.alternatives
 
-first_of_pairs : (xs : List Leveled) → map (λ (p : ℕ × Side). p.0) (map (λ (a : Leveled). (a.level, a.side)) xs) ≡ map (λ (a : Leveled). a.level) xs
+pub first_of_pairs : (xs : List Leveled) → map (λ (p : ℕ × Side). p.0) (map (λ (a : Leveled). (a.level, a.side)) xs) ≡ map (λ (a : Leveled). a.level) xs
 first_of_pairs [] = refl
 first_of_pairs (x ∷ xs) = ap (λ ls. x.level ∷ ls) (first_of_pairs xs)
 
-first_of_views : (xs : List AlternativeLevel) → map (λ (l : AlternativeLevel). (alternative_level_view l).0) xs ≡ map (λ (p : ℕ × Side). p.0) (map alternative_level_view xs)
+pub first_of_views : (xs : List AlternativeLevel) → map (λ (l : AlternativeLevel). (alternative_level_view l).0) xs ≡ map (λ (p : ℕ × Side). p.0) (map alternative_level_view xs)
 first_of_views [] = refl
 first_of_views (x ∷ xs) = ap (λ ls. x.level ∷ ls) (first_of_views xs)
 

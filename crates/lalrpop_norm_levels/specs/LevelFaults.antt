@@ -1,12 +1,12 @@
 -- Faults of the levels of a rule, in the order of looking. Disabled alternatives are not in the rule that is looked at.
-use Rattle.std.specs.Prelude.{ℕ, ◌^◌, Bool, true, false, ◌&&◌, ◌||◌, List, [], ◌∷◌, ◌++◌, map, flat_map, Option, Some, None, unwrap_or, is_some, is_none, nat_lt, nat_eq, codes, if◌then◌else◌}
+use Rattle.std.specs.Prelude.{ℕ, ◌^◌, Bool, true, false, ◌&&◌, ◌||◌, List, [], ◌∷◌, ◌++◌, length, map, flat_map, Option, Some, None, unwrap_or, is_some, is_none, nat_lt, nat_eq, codes, if◌then◌else◌}
 use Rattle.lalrpop_norm_tree.specs.declared.names.Span.{Span}
 use Rattle.lalrpop_norm_tree.specs.Attributes.{AttributeData, attribute}
 use Rattle.lalrpop_norm_tree.specs.Items.{AlternativeData, RuleData, ItemData, GrammarData, match_item, extern_item, intern_item, rule_item, use_item}
 use Rattle.lalrpop_norm_faults.specs.declared.kind.FaultKind.TheVariants.{MissingLevel, LevelArgument, LevelNumber, SideArgument, Side, SideOnLowest}
 use Rattle.lalrpop_norm_faults.specs.Faults.{Fault, fault_if}
 use Rattle.lalrpop_norm_model.specs.Enabled.{all_places, present}
-use Rattle.lalrpop_norm_model.specs.Levels.{left, right, neither, every, Leveled, first_named, value_under, number_of, side_named, stated_level, stated_side, has_levels, with_levels}
+use Rattle.lalrpop_norm_model.specs.Levels.{left, right, neither, every, Leveled, first_named, value_under, number_of, side_named, stated_level, stated_side, has_levels, with_levels, levels_of}
 use Rattle.lalrpop_norm_model.specs.Levels as levels
 
 -- where the name of an attribute stands
@@ -86,6 +86,10 @@ level_faults r = first_faults r.alternatives ++ flat_map attribute_faults r.alte
 -- the level and the side of each alternative
 abbrev pub levels_and_sides : RuleData → List (ℕ × levels.Side)
 levels_and_sides r = map (λ (a : Leveled). (a.level, a.side)) (present (with_levels (all_places r)))
+
+-- a rule with two levels or more
+abbrev pub has_several_levels : RuleData → Bool
+has_several_levels r = has_levels (all_places r) && nat_lt 1 (length (levels_of (with_levels (all_places r))))
 
 -- ---- the grammar
 

@@ -15,7 +15,7 @@ pub use assoc::{Assoc, ParseAssocError};
 use attributes::has_level_attribute;
 pub use grammar::expand_levels;
 use lalrpop_norm_tree::grammar::parse_tree::NonterminalData;
-pub use read::{AlternativeLevel, read_levels};
+pub use read::{AlternativeLevel, has_several_levels, read_levels};
 pub use replace::{Direction, Substitution, replace_nonterm};
 pub use rules::expand_nonterm;
 

@@ -9,15 +9,15 @@ use Rattle.lalrpop_norm_model.specs.Scopes.{a_rule, a_macro, a_terminal, Global,
 use Rattle.lalrpop_norm_model.proofs.ResolvedLemmas.{same_globals}
 use Rattle.lalrpop_norm_names.specs.NameFaults.{repeated_faults, argument_faults, condition_faults, id_faults, nonterminal_faults, macro_faults, parts_count, kind_faults, part_faults, parts_faults, alternative_faults, item_faults, resolve_faults}
 
-left_none : (xs ys : List Fault) → xs ++ ys ≡ [] → xs ≡ []
+pub left_none : (xs ys : List Fault) → xs ++ ys ≡ [] → xs ≡ []
 left_none [] ys h = refl
 left_none (x ∷ xs) ys h = cc
 
-right_none : (xs ys : List Fault) → xs ++ ys ≡ [] → ys ≡ []
+pub right_none : (xs ys : List Fault) → xs ++ ys ≡ [] → ys ≡ []
 right_none [] ys h = h
 right_none (x ∷ xs) ys h = cc
 
-both_none : (xs ys : List Fault) → xs ≡ [] → ys ≡ [] → xs ++ ys ≡ []
+pub both_none : (xs ys : List Fault) → xs ≡ [] → ys ≡ [] → xs ++ ys ≡ []
 both_none xs ys h k = rw h k
 
 module _ (sense : List ℕ → Option Sense) where

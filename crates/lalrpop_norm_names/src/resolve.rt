@@ -5,8 +5,8 @@
 ghost use Rattle.std.specs.Prelude.{◌≡◌, [], OnOk, IfOk, map};
 ghost use Rattle.lalrpop_norm_tree.specs.Items.{grammar_view, item_view};
 ghost use Rattle.lalrpop_norm_faults.specs.Faults.{Refuses, RefusesOr};
-ghost use Rattle.lalrpop_norm_model.specs.Scopes.{resolved_item, resolved_grammar};
-ghost use Rattle.lalrpop_norm_names.specs.NameFaults.{resolve_faults};
+ghost use Rattle.lalrpop_norm_model.specs.Scopes.{globals, resolved_item, resolved_grammar};
+ghost use Rattle.lalrpop_norm_names.specs.NameFaults.{repeated_faults, resolve_faults};
 ghost use Rattle.lalrpop_norm_names.specs.NameTables.{items_globals, names_faults};
 
 mod globals;
@@ -55,6 +55,17 @@ pub fn resolve(alloc: Global, grammar: Grammar) -> NormResult<Grammar>
 {
     let grammar = resolve_names(alloc, grammar)?;
     Ok(grammar)
+}
+
+/// Looks for a name that is defined twice among the global ones (F25), and refuses it at the later definition.
+///
+/// The other error is want of memory.
+#[tactic(auto, using(crate::proofs::GlobalLemmas::faults_listed))]
+pub fn check_globals(alloc: Global, grammar: &Grammar) -> NormResult<()>
+    ensures { Refuses result (repeated_faults [] (globals (grammar_view grammar.now))) }
+{
+    let _globals = globals_of(alloc, &grammar.items)?;
+    Ok(())
 }
 
 fn resolve_names(alloc: Global, mut grammar: Grammar) -> NormResult<Grammar>

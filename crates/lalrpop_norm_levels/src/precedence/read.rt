@@ -1,13 +1,14 @@
 //! Levels and sides as a rule's alternatives state them.
-ghost use Rattle.std.specs.Prelude.{◌≡◌, ◌^◌, None, Some, IfOk, is_some, option_map, map, flat_map, codes, if◌then◌else◌};
+ghost use Rattle.std.specs.Prelude.{◌≡◌, ◌^◌, None, Some, IfOk, is_some, option_map, map, flat_map, codes, nat_eq, not, if◌then◌else◌};
+ghost use Rattle.std.specs.List.{list_any};
 ghost use Rattle.lalrpop_norm_tree.specs.Accessors.{or_else};
 ghost use Rattle.lalrpop_norm_tree.specs.Attributes.{attribute_view, attributes_view};
 ghost use Rattle.lalrpop_norm_tree.specs.Items.{alternative_view, rule_view};
 ghost use Rattle.lalrpop_norm_faults.specs.Faults.{Refuses, RefusesOr};
 ghost use Rattle.lalrpop_norm_model.specs.Levels.{first_named, value_under, number_of, side_named, stated_level, stated_side, has_levels};
 ghost use Rattle.lalrpop_norm_levels.specs.Sides.{side_of};
-ghost use Rattle.lalrpop_norm_levels.specs.LevelFaults.{first_faults, level_argument_faults, side_argument_faults, attribute_faults, lesser, least, is_narrow, is_barred, barred_faults, lowest_faults, level_faults, levels_and_sides};
-ghost use Rattle.lalrpop_norm_levels.specs.Handed.{alternative_level_view, handed_levels, handed_faults};
+ghost use Rattle.lalrpop_norm_levels.specs.LevelFaults.{first_faults, level_argument_faults, side_argument_faults, attribute_faults, lesser, least, is_narrow, is_barred, barred_faults, lowest_faults, level_faults, levels_and_sides, has_several_levels};
+ghost use Rattle.lalrpop_norm_levels.specs.Handed.{alternative_level_view, handed_levels, handed_faults, differ};
 
 use super::attributes::{first_named, has_level_attribute};
 use super::{ASSOC_ATTR, Assoc, LVL_ARG, PREC_ATTR, SIDE_ARG};
@@ -40,6 +41,42 @@ pub fn read_levels(alloc: Global, rule: &NonterminalData) -> NormResult<Vec<Alte
     let lowest = least(&levels).unwrap_or(0);
     check_lowest(alloc, lowest, &rule.alternatives)?;
     Ok(levels)
+}
+
+/// Whether alternatives of a rule state two different levels or more. All alternatives count; those that are not
+/// enabled are to be taken out before.
+///
+/// The only error is want of memory.
+#[tactic(auto, using(crate::proofs::SeveralLemmas::several_read))]
+pub fn has_several_levels(alloc: Global, rule: &NonterminalData) -> Result<bool, AllocError>
+    ensures { IfOk result (λ several. several ≡ has_several_levels (rule_view rule.now)) }
+{
+    if !has_levels(&rule.alternatives) {
+        return Ok(false);
+    }
+    let levels = hand_on(alloc, &rule.alternatives)?;
+    Ok(differ(&levels))
+}
+
+/// Whether some level is another than the first.
+fn differ(levels: &[AlternativeLevel]) -> bool
+    ensures { result ≡ differ (map (λ l. (alternative_level_view l).0) levels.now) }
+{
+    match levels.first() {
+        Some(first) => any_other(first.level, levels),
+        None => false,
+    }
+}
+
+fn any_other(first: u32, levels: &[AlternativeLevel]) -> bool
+    ensures { result ≡ list_any (λ l. not (nat_eq l first)) (map (λ l. (alternative_level_view l).0) levels.now) }
+{
+    for level in levels {
+        if level.level != first {
+            return true;
+        }
+    }
+    false
 }
 
 // ---- what an alternative states

@@ -1,0 +1,47 @@
+use Rattle.std.proofs.Common.{◌≡◌, [], map, subst, sym, ap, ◌∙◌}
+use Rattle.std.specs.List.{flat_map}
+use Rattle.lalrpop_norm_tree.specs.Items.{GrammarData, item_view, grammar_view}
+use Rattle.lalrpop_norm_faults.specs.Faults.{first, Refuses}
+use Rattle.lalrpop_norm_model.specs.Scopes.{globals, resolved_grammar}
+use Rattle.lalrpop_norm_model.specs.LevelRules.{leveled_grammar}
+use Rattle.lalrpop_norm_names.specs.NameFaults.{repeated_faults, resolve_faults}
+use Rattle.lalrpop_norm_levels.specs.LevelFaults.{grammar_level_faults}
+use Rattle.lalrpop_norm_front.specs.MacroLevels.{macro_item_faults}
+use Rattle.lalrpop_norm_front.specs.PrecedenceFaults.{precedence_faults}
+use Rattle.lalrpop_norm_front.proofs.SettledLemmas.{levels_settled}
+use Rattle.lalrpop_norm_front.proofs.PrecedenceLemmas.{none_first, last_faults, exit_first}
+use Rattle.lalrpop_norm_front.proofs.precedence.expand.expand_precedence.Goals as goal
+
+pub returns-in_err-macros-clause-expands : goal.returns-in_err-macros-clause-expands
+returns-in_err-macros-clause-expands c =
+    let g = grammar_view c.args.grammar in
+    let resolved = c.in_ok-resolved.ensures.resolves in
+    let leveled = c.in_ok-leveled.ensures in
+    let levels : grammar_level_faults (resolved_grammar g) ≡ [] = sym (ap grammar_level_faults resolved.1) ∙ leveled.0 in
+    let same : grammar_view c.in_ok-leveled.leveled ≡ leveled_grammar (resolved_grammar g) = leveled.1 ∙ ap leveled_grammar resolved.1 in
+    let once : repeated_faults [] (globals (leveled_grammar (resolved_grammar g))) ≡ [] =
+    sym (ap (λ (h : GrammarData). repeated_faults [] (globals h)) same) ∙ c.in_ok-check_globals.ensures in
+    exit_first _ _ (flat_map macro_item_faults (map item_view c.deref.result.now)) _ _ c.from_residual-in_err-macros.ensures.1 c.in_err-macros.ensures
+    (last_faults g resolved.0 levels once
+    ∙ sym (ap (λ xs. first (flat_map macro_item_faults (map item_view xs))) c.deref.ensures.value ∙ ap (λ (h : GrammarData). first (flat_map macro_item_faults h.items)) resolved.1))
+
+pub returns-clause-expands : goal.returns-clause-expands
+returns-clause-expands c =
+    let g = grammar_view c.args.grammar in
+    let resolved = c.in_ok-resolved.ensures.resolves in
+    let leveled = c.in_ok-leveled.ensures in
+    let levels : grammar_level_faults (resolved_grammar g) ≡ [] = sym (ap grammar_level_faults resolved.1) ∙ leveled.0 in
+    let same : grammar_view c.in_ok-leveled.leveled ≡ leveled_grammar (resolved_grammar g) = leveled.1 ∙ ap leveled_grammar resolved.1 in
+    let once : repeated_faults [] (globals (leveled_grammar (resolved_grammar g))) ≡ [] =
+    sym (ap (λ (h : GrammarData). repeated_faults [] (globals h)) same) ∙ c.in_ok-check_globals.ensures in
+    let macros : flat_map macro_item_faults (resolved_grammar g).items ≡ [] =
+    sym (ap (λ xs. flat_map macro_item_faults (map item_view xs)) c.deref.ensures.value ∙ ap (λ (h : GrammarData). flat_map macro_item_faults h.items) resolved.1)
+    ∙ c.in_ok-macros.ensures in
+    (none_first (precedence_faults g) (last_faults g resolved.0 levels once ∙ ap first macros), same)
+
+pub returns-clause-resolved : goal.returns-clause-resolved
+returns-clause-resolved c =
+    let g = grammar_view c.args.grammar in
+    let resolved = c.in_ok-resolved.ensures.resolves in
+    let P : GrammarData → Type 0 = λ h. resolved_grammar h ≡ h in
+    subst P (sym (c.in_ok-leveled.ensures.1 ∙ ap leveled_grammar resolved.1)) (levels_settled g resolved.0)
