@@ -1,5 +1,5 @@
 -- The headline: what a lowered grammar owes the written one.
-use Rattle.std.specs.Prelude.{◌≡◌, ℕ, [], ◌++◌, length, map, Some, option_map, codes, string_bytes, ◌↔◌}
+use Rattle.std.specs.Prelude.{◌≡◌, ℕ, [], ◌++◌, length, Some, codes, ◌↔◌}
 use Rattle.lalrpop_norm_tree.specs.declared.names.NonterminalString.{NonterminalString}
 use Rattle.lalrpop_norm_tree.specs.declared.names.TerminalString.{TerminalString}
 use Rattle.lalrpop_norm_tree.specs.Items.{RuleData, GrammarData}
@@ -23,7 +23,6 @@ use Rattle.lalrpop_norm_model.specs.TerminalTypes.{location_type, declared_under
 use Rattle.lalrpop_norm_model.specs.Lexers.{Lexer}
 use Rattle.lalrpop_norm_model.specs.CheckedTokens.{IsChecked}
 use Rattle.lalrpop_norm_model.specs.TypeRelation.{IsRule, Has}
-use Rattle.lalrpop_norm_front.specs.declared.session.Session.{Session}
 use Rattle.lalrpop_norm_repr.specs.Lowered.{LoweredGrammar}
 use Rattle.lalrpop_norm_repr.specs.Tables.{TypeTable, type_of, listed_type, new_table}
 use Rattle.lalrpop_norm_repr.specs.Closed.{IsClosed}
@@ -83,10 +82,6 @@ no_lexer = record {
 }
 
 -- ---- the whole
-
--- the features of a session
-abbrev pub features_of : {L : Type 0} → Session L → Features
-features_of s = option_map (λ f. map string_bytes f.keys) s.features
 
 -- the grammar with levels, each enabled rule and macro in its place
 abbrev pub grammar_with_levels : Features → GrammarData → GrammarData

@@ -2,40 +2,50 @@
 ghost use Rattle.std.specs.Prelude.{IfOk, IfErr};
 ghost use Rattle.lalrpop_norm_faults.specs.Faults.{Refuses};
 ghost use Rattle.lalrpop_norm_tree.specs.Items as written;
+ghost use Rattle.lalrpop_norm_front.specs.Sessions.{features_view};
 ghost use Rattle.lalrpop_norm_repr.specs.Lowered as lowered;
 ghost use Rattle.lalrpop_norm_repr.specs.Closed.{IsClosed};
-ghost use Rattle.lalrpop_norm_late.specs.Plain.{IsLowered};
-ghost use Rattle.lalrpop_norm.specs.Faithful.{IsFaithful, no_lexer, features_of};
+ghost use Rattle.lalrpop_norm.specs.Faithful.{IsFaithful, no_lexer};
 ghost use Rattle.lalrpop_norm.specs.Later.{later_parts};
 ghost use Rattle.lalrpop_norm.specs.LaterWords.{NamesFirst};
-ghost use Rattle.lalrpop_norm.specs.Normalize.{normalize_faults};
+ghost use Rattle.lalrpop_norm.specs.Normalize.{normalize_faults, IsNormalized};
 
 use crate::later::refuse_later_parts;
+use lalrpop_norm_expand::macro_expand::expand_macros;
+use lalrpop_norm_front::cond_comp::remove_disabled_decls;
+use lalrpop_norm_front::precedence::expand_precedence;
+use lalrpop_norm_front::prevalidate::validate;
 use lalrpop_norm_front::{NormResult, Session};
-use lalrpop_norm_late::lower_plain;
+use lalrpop_norm_late::lower::lower;
 use lalrpop_norm_repr::grammar::repr;
 use lalrpop_norm_tree::grammar::parse_tree;
+use lalrpop_norm_types::tyinfer::infer_types;
 use std::alloc::Global;
 
 /// Normalizes a written grammar: the lowered grammar with its numbered productions, action functions, terminals and
-/// types. The grammar is consumed, also where it is refused.
+/// types. The grammar is consumed, also where it is refused. The session tells which features are on, and how many rounds of
+/// expansion may make rules.
 ///
-/// In this stage of the library only plain grammars are taken. Errors: F0 (`NotYet`) at the grammar's span where it holds
-/// something that a later stage brings; F56 (`TooManyActions`) at the alternative or rule whose action would have a
-/// number past the greatest; `Memory`. The session changes nothing yet.
+/// Errors: F0 (`NotYet`) at the grammar's span where it holds something that a later stage of this library brings; each
+/// listed fault from F1 on at its place, in the order of the passes; `Memory`.
 pub fn normalize<L>(
     alloc: Global,
     session: &Session<L>,
     grammar: parse_tree::Grammar,
 ) -> NormResult<repr::Grammar>
-    // Ok exactly where no such fault stands, and a refusal names the first one, memory aside.
-    ensures refuses { Refuses result (normalize_faults (written.grammar_view grammar)) }
+    // Ok exactly where no fault stands, and a refusal names the first one, memory aside.
+    ensures refuses { Refuses result (normalize_faults (features_view session.now.features) session.now.macro_recursion_limit (written.grammar_view grammar)) }
     // F0 names the first part of a later stage.
-    ensures named { IfErr result (NamesFirst (later_parts (written.grammar_view grammar))) }
-    ensures lowered { IfOk result (λ l. IsLowered (written.grammar_view grammar) (lowered.grammar_view l)) }
+    ensures named { IfErr result (NamesFirst (later_parts (features_view session.now.features) (written.grammar_view grammar))) }
+    ensures normalized { IfOk result (λ l. IsNormalized (features_view session.now.features) session.now.macro_recursion_limit (written.grammar_view grammar) (lowered.grammar_view l)) }
     ensures closed { IfOk result (λ l. IsClosed (lowered.grammar_view l)) }
-    ensures faithful { IfOk result (λ l. IsFaithful no_lexer (features_of session.now) (written.grammar_view grammar) (lowered.grammar_view l)) }
+    ensures faithful { IfOk result (λ l. IsFaithful no_lexer (features_view session.now.features) (written.grammar_view grammar) (lowered.grammar_view l)) }
 {
-    refuse_later_parts(alloc, &grammar)?;
-    lower_plain(alloc, &grammar)
+    refuse_later_parts(alloc, session, &grammar)?;
+    validate(alloc, &grammar)?;
+    let enabled = remove_disabled_decls(session, grammar)?;
+    let leveled = expand_precedence(alloc, enabled)?;
+    let plain = expand_macros(alloc, leveled, session.macro_recursion_limit)?;
+    let types = infer_types(alloc, &plain)?;
+    lower(alloc, session, &plain, types)
 }

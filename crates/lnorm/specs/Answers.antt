@@ -10,8 +10,7 @@ use Rattle.lalrpop_norm_json.specs.ItemForms.{grammar_form}
 use Rattle.lalrpop_norm_json.specs.Shapes as shape
 use Rattle.lalrpop_norm_json.specs.Shapes.{is}
 use Rattle.lnorm.specs.Settings.{Settings}
-use Rattle.lalrpop_norm.specs.Normalize.{normalize_faults}
-use Rattle.lalrpop_norm_late.specs.Plain.{IsLowered}
+use Rattle.lalrpop_norm.specs.Normalize.{normalize_faults, IsNormalized}
 use Rattle.lalrpop_norm_repr.specs.Lowered.{LoweredGrammar}
 use Rattle.lnorm.specs.Lines.{lines}
 
@@ -29,13 +28,13 @@ pub record IsFormOf (g : GrammarData) (bytes : List ℕ) : Type 0 where
   pub is_read : read bytes ≡ Some value
   pub is_form : grammar_form g ≡ Some value
 
--- the lowered grammar of a tree; in this stage no setting changes it
+-- the lowered grammar of a tree
 abbrev pub Lowers : Settings → GrammarData → LoweredGrammar → Type 0
-Lowers s g l = IsLowered g l
+Lowers s g l = IsNormalized s.features s.limit g l
 
 -- the faults of a tree in their order
 abbrev pub faults_of : Settings → GrammarData → List Fault
-faults_of s g = normalize_faults g
+faults_of s g = normalize_faults s.features s.limit g
 
 -- the text is the lines of a lowered grammar of the tree that the input is
 pub record IsAnswer (s : Settings) (bytes text : List ℕ) : Type 0 where

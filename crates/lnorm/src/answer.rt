@@ -18,7 +18,7 @@ use lalrpop_norm_json::{TreeError, read_tree};
 use lalrpop_norm_tree::grammar::parse_tree::Grammar;
 use std::alloc::Global;
 
-/// What the passes make of the tree. In this stage no setting changes it.
+/// What the passes make of the tree.
 fn normalized(alloc: Global, session: &Session<()>, grammar: Grammar) -> NormResult<repr::Grammar>
     ensures ok { IfOk result (λ l. Lowers (settings_view session.now) (grammar_view grammar) (lowered_view l)) }
     ensures err { IfErr result (IsFirst (faults_of (settings_view session.now) (grammar_view grammar))) }
