@@ -29,13 +29,13 @@ pub fn normalize<L>(
     grammar: parse_tree::Grammar,
 ) -> NormResult<repr::Grammar>
     // Ok exactly where no such fault stands, and a refusal names the first one, memory aside.
-    ensures refuses { Refuses result (normalize_faults (written.grammar_view grammar)) }
+    ensures refuses { Refuses result (normalize_faults (features_of session.now) (written.grammar_view grammar)) }
     // F0 names the first part of a later stage.
-    ensures named { IfErr result (NamesFirst (later_parts (written.grammar_view grammar))) }
+    ensures named { IfErr result (NamesFirst (later_parts (features_of session.now) (written.grammar_view grammar))) }
     ensures lowered { IfOk result (λ l. IsLowered (written.grammar_view grammar) (lowered.grammar_view l)) }
     ensures closed { IfOk result (λ l. IsClosed (lowered.grammar_view l)) }
     ensures faithful { IfOk result (λ l. IsFaithful no_lexer (features_of session.now) (written.grammar_view grammar) (lowered.grammar_view l)) }
 {
-    refuse_later_parts(alloc, &grammar)?;
+    refuse_later_parts(alloc, session, &grammar)?;
     lower_plain(alloc, &grammar)
 }
