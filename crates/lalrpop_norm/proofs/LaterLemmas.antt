@@ -1,6 +1,6 @@
--- A grammar that holds no part of a later stage is plain.
+-- A grammar that holds no part of a later stage is taken.
 use Rattle.std.proofs.Common.{◌≡◌, ℕ, suc, Bool, true, false, not, ◌||◌, ◌&&◌, List, [], ◌∷◌, ◌++◌, Option, Some, None, refl, sym, ap, ◌∙◌, arith, bytes_eq}
-use Rattle.std.specs.Prelude.{All, Contains}
+use Rattle.std.specs.Prelude.{All, Contains, IsSome}
 use Rattle.std.specs.List.{flat_map, list_any, AllByRecursion, IsDistinct}
 use Rattle.std.proofs.lemmas.List.Elements.{All-nil, All-cons}
 use Rattle.std.proofs.lemmas.Slice.Eq.{bytes_eq-Decides}
@@ -8,17 +8,18 @@ use Rattle.lalrpop_norm_tree.specs.declared.names.TerminalString.{TerminalString
 use Rattle.lalrpop_norm_tree.specs.declared.names.TerminalString.TheVariants.{Literal, Bare, Error}
 use Rattle.lalrpop_norm_tree.specs.Attributes.{Attributes, no_attributes, attribute_and}
 use Rattle.lalrpop_norm_tree.specs.Items.{Action, user_code, fallible_code, lookahead_code, lookbehind_code, AlternativeData, RuleData, ConversionData, EnumTokenData, ExternTokenData, ItemData, match_item, extern_item, intern_item, rule_item, use_item, GrammarData}
-use Rattle.lalrpop_norm_tree.specs.Symbols.{Kind, group, ambiguous_id, terminal, nonterminal, call, repeated, chosen, named, tupled, lookahead, lookbehind, error_terminal, at, Parts, no_parts, part_and}
+use Rattle.lalrpop_norm_tree.specs.Patterns as pattern
+use Rattle.lalrpop_norm_tree.specs.Symbols.{Kind, group, ambiguous_id, terminal, nonterminal, call, repeated, chosen, named, tupled, lookahead, lookbehind, error_terminal, Part, at, Parts, no_parts, part_and}
 use Rattle.lalrpop_norm_tree.specs.Types.{TypeData}
-use Rattle.lalrpop_norm_front.specs.Braces.{presence, is_in_braces}
+use Rattle.lalrpop_norm_model.specs.Features.{Features}
+use Rattle.lalrpop_norm_faults.specs.declared.kind.FaultKind.TheVariants.{NotYet}
 use Rattle.lalrpop_norm_repr.proofs.TableLemmas.{terminals_same}
 use Rattle.lalrpop_norm.specs.declared.later.LaterPart.{LaterPart}
 use Rattle.lalrpop_norm.specs.declared.later.LaterPart.TheVariants as later
-use Rattle.lalrpop_norm.specs.Grammars.{rules_of, externs_of, names_of, enum_in, conversions_of, terminals_of, listed, terminal_listed, same_terminal, has_repeated}
-use Rattle.lalrpop_norm.specs.Later.{part_if, part_of_any, part_of_some, part_of_none, attribute_parts, type_parts, terminal_parts, kind_parts, symbols_parts, has_several_slots, action_parts, alternative_parts, declared_parts, rule_parts, pattern_parts, conversion_parts, enum_parts, extern_parts, item_parts, head_parts, second_parts, kind_lacks, symbols_lack, alternative_lacks, rule_lacks, start_parts, has_rule, has_conversion, together_parts, later_parts}
-use Rattle.lalrpop_norm_tree.specs.LoweredTypes.{holds_symbol}
-use Rattle.lalrpop_norm_late.specs.Lowerable.{IsDeclared, IsRuleOrExtern}
-use Rattle.lalrpop_norm.specs.PlainGrammars.{IsLiteral, IsPlainKind, ArePlainSymbols, IsPlainAction, IsPlainAlternative, IsPlainRule, IsPlainConversion, HasOneEnum, IsPlainGrammar}
+use Rattle.lalrpop_norm.specs.Grammars.{rules_of, externs_of, names_of, enum_in, conversions_in, conversions_of, active_conversions, terminals_of, listed, terminal_listed, same_terminal, has_repeated}
+use Rattle.lalrpop_norm.specs.Later.{part_if, part_of_any, part_of_some, part_of_none, attribute_parts, terminal_parts, kind_parts, symbol_parts, symbols_parts, has_several_slots, action_parts, alternative_parts, rule_parts, start_parts, pattern_kind_parts, pattern_parts, patterns_parts, conversion_parts, enum_parts, extern_parts, token_parts, head_parts, item_parts, has_rule, has_conversion, later_parts, later_faults}
+use Rattle.lalrpop_norm.specs.TakenGrammars.{IsConverted, IsTakenKind, IsTakenSymbol, AreTakenSymbols, HasAtMostOneSlot, IsTakenAlternative, IsTakenRule, IsTakenPatternKind, IsTakenPattern, AreTakenPatterns, HasTakenPattern, IsTakenExtern, IsNoMatchBlock, IsTaken}
+use Rattle.lalrpop_norm.proofs.WalkLemmas.{map_none}
 
 -- ---- empty lists
 
@@ -59,139 +60,139 @@ attributes_none : (p : LaterPart) (as_written : Attributes) → attribute_parts 
 attributes_none p no_attributes h = refl
 attributes_none p (attribute_and a rest) h = cc
 
+there_none : {X : Type 0} (p : LaterPart) (o : Option X) → part_of_none p o ≡ [] → IsSome o
+there_none p None h = cc
+there_none p (Some x) h = refl
+
+-- ---- symbols
+
+converted_none : (converts : TerminalString → Bool) (t : TerminalString) → terminal_parts converts t ≡ [] → IsConverted converts t
+converted_none converts (Literal l) h = if_not_none (converts (Literal l)) later.MissingConversion h
+converted_none converts (Bare a) h = if_not_none (converts (Bare a)) later.MissingConversion h
+converted_none converts Error h = tt
+
+mutual
+  pub taken_kind : (converts : TerminalString → Bool) (k : Kind) → kind_parts converts k ≡ [] → IsTakenKind converts k
+  taken_kind converts (group ps) h = taken_symbols converts ps h
+  taken_kind converts (ambiguous_id a) h = tt
+  taken_kind converts (terminal t) h = converted_none converts t h
+  taken_kind converts (nonterminal n) h = tt
+  taken_kind converts (call m ps) h = cc
+  taken_kind converts (repeated op p) h = taken_symbol converts p h
+  taken_kind converts (chosen p) h = taken_symbol converts p h
+  taken_kind converts (named n p) h = taken_symbol converts p h
+  taken_kind converts (tupled ps p) h = cc
+  taken_kind converts lookahead h = cc
+  taken_kind converts lookbehind h = cc
+  taken_kind converts error_terminal h = cc
+
+  pub taken_symbol : (converts : TerminalString → Bool) (p : Part) → symbol_parts converts p ≡ [] → IsTakenSymbol converts p
+  taken_symbol converts (at s k) h = taken_kind converts k h
+
+  pub taken_symbols : (converts : TerminalString → Bool) (ps : Parts) → symbols_parts converts ps ≡ [] → AreTakenSymbols converts ps
+  taken_symbols converts no_parts h = tt
+  taken_symbols converts (part_and p ps) h = (
+    taken_symbol converts p (left_none (symbol_parts converts p) (symbols_parts converts ps) h),
+    taken_symbols converts ps (right_none (symbol_parts converts p) (symbols_parts converts ps) h),
+  )
+
 -- ---- rules
 
-literal_none : (t : TerminalString) → terminal_parts t ≡ [] → IsLiteral t
-literal_none (Literal l) h = tt
-literal_none (Bare a) h = cc
-literal_none Error h = cc
+taken_action : (action : Option Action) → action_parts action ≡ [] → HasAtMostOneSlot action
+taken_action None h = tt
+taken_action (Some (user_code code)) h = if_none (has_several_slots code) later.SeveralPlaceholders h
+taken_action (Some (fallible_code code)) h = if_none (has_several_slots code) later.SeveralPlaceholders h
+taken_action (Some lookahead_code) h = tt
+taken_action (Some lookbehind_code) h = tt
 
-pub plain_kind : (names : List ℕ → Bool) (converts : TerminalString → Bool) (k : Kind) → kind_parts k ≡ [] → kind_lacks names converts k ≡ [] → IsPlainKind names converts k
-plain_kind names converts (group ps) h lack = cc
-plain_kind names converts (ambiguous_id a) h lack = cc
-plain_kind names converts (terminal t) h lack = (literal_none t h, if_not_none (converts t) later.MissingConversion lack)
-plain_kind names converts (nonterminal n) h lack = if_not_none (names n) later.MissingRule lack
-plain_kind names converts (call m ps) h lack = cc
-plain_kind names converts (repeated op p) h lack = cc
-plain_kind names converts (chosen (at s k)) h lack = plain_kind names converts k h lack
-plain_kind names converts (named n p) h lack = cc
-plain_kind names converts (tupled ps p) h lack = cc
-plain_kind names converts lookahead h lack = cc
-plain_kind names converts lookbehind h lack = cc
-plain_kind names converts error_terminal h lack = cc
-
-pub plain_symbols : (names : List ℕ → Bool) (converts : TerminalString → Bool) (ps : Parts) → symbols_parts ps ≡ [] → symbols_lack names converts ps ≡ [] → ArePlainSymbols names converts ps
-plain_symbols names converts no_parts h lack = tt
-plain_symbols names converts (part_and (at s k) ps) h lack = (
-  plain_kind names converts k (left_none (kind_parts k) (symbols_parts ps) h) (left_none (kind_lacks names converts k) (symbols_lack names converts ps) lack),
-  plain_symbols names converts ps (right_none (kind_parts k) (symbols_parts ps) h) (right_none (kind_lacks names converts k) (symbols_lack names converts ps) lack),
-)
-
-pub plain_action : (action : Option Action) → action_parts action ≡ [] → IsPlainAction action
-plain_action None h = tt
-plain_action (Some (user_code code)) h =
-    let braces = part_if (is_in_braces (presence code)) later.PlaceholderInBraces in
-    let several = part_if (has_several_slots code) later.SeveralPlaceholders in
-    (if_none (is_in_braces (presence code)) later.PlaceholderInBraces (left_none braces several h), if_none (has_several_slots code) later.SeveralPlaceholders (right_none braces several h))
-plain_action (Some (fallible_code code)) h = cc
-plain_action (Some lookahead_code) h = cc
-plain_action (Some lookbehind_code) h = cc
-
-pub plain_alternative : (names : List ℕ → Bool) (converts : TerminalString → Bool) (a : AlternativeData) → alternative_parts a ≡ [] → alternative_lacks names converts a ≡ [] → IsPlainAlternative names converts a
-plain_alternative names converts a h lack =
-    let symbols = symbols_parts a.parts in
+taken_alternative : (converts : TerminalString → Bool) (a : AlternativeData) → alternative_parts converts a ≡ [] → IsTakenAlternative converts a
+taken_alternative converts a h =
+    let symbols = symbols_parts converts a.parts in
     let condition = part_of_some later.Condition a.condition in
     let action = action_parts a.action in
-    let attributes = attribute_parts later.Attribute a.attributes in
-    let behind_symbols : condition ++ (action ++ attributes) ≡ [] = right_none symbols (condition ++ (action ++ attributes)) h in
-    let behind_condition : action ++ attributes ≡ [] = right_none condition (action ++ attributes) behind_symbols in
+    let behind : condition ++ action ≡ [] = right_none symbols (condition ++ action) h in
     record {
-      symbols = plain_symbols names converts a.parts (left_none symbols (condition ++ (action ++ attributes)) h) lack;
-      condition = some_none later.Condition a.condition (left_none condition (action ++ attributes) behind_symbols);
-      action = plain_action a.action (left_none action attributes behind_condition);
-      attributes = attributes_none later.Attribute a.attributes (right_none action attributes behind_condition);
+      symbols = taken_symbols converts a.parts (left_none symbols (condition ++ action) h);
+      condition = some_none later.Condition a.condition (left_none condition action behind);
+      action = taken_action a.action (right_none condition action behind);
     }
 
-pub declared_none : (d : Option TypeData) → declared_parts d ≡ [] → IsDeclared d
-declared_none None h = cc
-declared_none (Some t) h = if_none (holds_symbol t) later.TypeOfSymbol h
-
-pub plain_rule : (names : List ℕ → Bool) (converts : TerminalString → Bool) (r : RuleData) → rule_parts r ≡ [] → rule_lacks names converts r ≡ [] → IsPlainRule names converts r
-plain_rule names converts r h lack =
-    let attributes = attribute_parts later.Attribute r.attributes in
+taken_rule : (converts : TerminalString → Bool) (r : RuleData) → rule_parts converts r ≡ [] → IsTakenRule converts r
+taken_rule converts r h =
     let arguments = part_of_any later.MacroDefinition r.args in
-    let declared = declared_parts r.type_decl in
-    let alternatives = flat_map alternative_parts r.alternatives in
-    let behind_attributes : arguments ++ (declared ++ alternatives) ≡ [] = right_none attributes (arguments ++ (declared ++ alternatives)) h in
-    let behind_arguments : declared ++ alternatives ≡ [] = right_none arguments (declared ++ alternatives) behind_attributes in
-    let each = each_none alternative_parts r.alternatives (right_none declared alternatives behind_arguments) in
-    let each_lack = each_none (alternative_lacks names converts) r.alternatives lack in
+    let declared = part_of_none later.UndeclaredType r.type_decl in
+    let alternatives = flat_map (alternative_parts converts) r.alternatives in
+    let behind : declared ++ alternatives ≡ [] = right_none arguments (declared ++ alternatives) h in
+    let each = each_none (alternative_parts converts) r.alternatives (right_none declared alternatives behind) in
     record {
-      attributes = attributes_none later.Attribute r.attributes (left_none attributes (arguments ++ (declared ++ alternatives)) h);
-      arguments = any_none later.MacroDefinition r.args (left_none arguments (declared ++ alternatives) behind_attributes);
-      declared = declared_none r.type_decl (left_none declared alternatives behind_arguments);
-      alternatives = λ k d lt. plain_alternative names converts _ (each k d lt) (each_lack k d lt);
+      arguments = any_none later.MacroDefinition r.args (left_none arguments (declared ++ alternatives) h);
+      declared = there_none later.UndeclaredType r.type_decl (left_none declared alternatives behind);
+      alternatives = λ k d lt. taken_alternative converts _ (each k d lt);
+    }
+
+-- ---- tokens
+
+mutual
+  taken_pattern_kind : (k : pattern.PatternKindData TypeData) → pattern_kind_parts k ≡ [] → IsTakenPatternKind k
+  taken_pattern_kind (pattern.enumerated p ps) h = taken_patterns ps h
+  taken_pattern_kind (pattern.structured p fs b) h = cc
+  taken_pattern_kind (pattern.path p) h = tt
+  taken_pattern_kind (pattern.tuple ps) h = cc
+  taken_pattern_kind (pattern.tuple_struct p ps) h = cc
+  taken_pattern_kind (pattern.number n) h = cc
+  taken_pattern_kind pattern.underscore h = tt
+  taken_pattern_kind pattern.dot_dot h = tt
+  taken_pattern_kind (pattern.chosen t) h = cc
+  taken_pattern_kind (pattern.character a) h = cc
+  taken_pattern_kind (pattern.text s) h = cc
+
+  taken_pattern : (p : pattern.PatternData TypeData) → pattern_parts p ≡ [] → IsTakenPattern p
+  taken_pattern (pattern.pattern_at s k) h = taken_pattern_kind k h
+
+  taken_patterns : (ps : pattern.Patterns TypeData) → patterns_parts ps ≡ [] → AreTakenPatterns ps
+  taken_patterns pattern.no_patterns h = tt
+  taken_patterns (pattern.pattern_and p ps) h = (
+    taken_pattern p (left_none (pattern_parts p) (patterns_parts ps) h),
+    taken_patterns ps (right_none (pattern_parts p) (patterns_parts ps) h),
+  )
+
+taken_conversions : (o : Option EnumTokenData) → enum_parts o ≡ [] → All HasTakenPattern (conversions_in o)
+taken_conversions None h = All-nil HasTakenPattern
+taken_conversions (Some e) h = λ k d lt. taken_pattern _ (each_none conversion_parts e.conversions h k d lt)
+
+taken_extern : (t : ExternTokenData) → extern_parts t ≡ [] → IsTakenExtern t
+taken_extern t h =
+    let associated = part_of_any later.AssociatedType t.associated_types in
+    record {
+      associated_types = any_none later.AssociatedType t.associated_types (left_none associated (enum_parts t.enum_token) h);
+      patterns = taken_conversions t.enum_token (right_none associated (enum_parts t.enum_token) h);
     }
 
 -- ---- items
 
-pub rules_none : (items : List ItemData) → flat_map item_parts items ≡ [] → All (λ r. rule_parts r ≡ []) (rules_of items)
-rules_none [] h = All-nil (λ r. rule_parts r ≡ [])
-rules_none (match_item m ∷ items) h = cc
-rules_none (extern_item t ∷ items) h = rules_none items (right_none (extern_parts t) (flat_map item_parts items) h)
-rules_none (intern_item t ∷ items) h = cc
-rules_none (rule_item r ∷ items) h = All-cons (λ s. rule_parts s ≡ []) r (rules_of items) (left_none (rule_parts r) (flat_map item_parts items) h) (rules_none items (right_none (rule_parts r) (flat_map item_parts items) h))
-rules_none (use_item s ∷ items) h = cc
+module _ (converts : TerminalString → Bool) where
+  rules_none : (items : List ItemData) → flat_map (item_parts converts) items ≡ [] → All (λ r. rule_parts converts r ≡ []) (rules_of items)
+  rules_none [] h = All-nil (λ r. rule_parts converts r ≡ [])
+  rules_none (match_item m ∷ items) h = cc
+  rules_none (extern_item t ∷ items) h = rules_none items (right_none (extern_parts t) (flat_map (item_parts converts) items) h)
+  rules_none (intern_item t ∷ items) h = rules_none items h
+  rules_none (rule_item r ∷ items) h = All-cons (λ s. rule_parts converts s ≡ []) r (rules_of items) (left_none (rule_parts converts r) (flat_map (item_parts converts) items) h) (rules_none items (right_none (rule_parts converts r) (flat_map (item_parts converts) items) h))
+  rules_none (use_item s ∷ items) h = rules_none items h
 
-pub externs_none : (items : List ItemData) → flat_map item_parts items ≡ [] → All (λ t. extern_parts t ≡ []) (externs_of items)
-externs_none [] h = All-nil (λ t. extern_parts t ≡ [])
-externs_none (match_item m ∷ items) h = cc
-externs_none (extern_item t ∷ items) h = All-cons (λ u. extern_parts u ≡ []) t (externs_of items) (left_none (extern_parts t) (flat_map item_parts items) h) (externs_none items (right_none (extern_parts t) (flat_map item_parts items) h))
-externs_none (intern_item t ∷ items) h = cc
-externs_none (rule_item r ∷ items) h = externs_none items (right_none (rule_parts r) (flat_map item_parts items) h)
-externs_none (use_item s ∷ items) h = cc
+  externs_none : (items : List ItemData) → flat_map (item_parts converts) items ≡ [] → All (λ t. extern_parts t ≡ []) (externs_of items)
+  externs_none [] h = All-nil (λ t. extern_parts t ≡ [])
+  externs_none (match_item m ∷ items) h = cc
+  externs_none (extern_item t ∷ items) h = All-cons (λ u. extern_parts u ≡ []) t (externs_of items) (left_none (extern_parts t) (flat_map (item_parts converts) items) h) (externs_none items (right_none (extern_parts t) (flat_map (item_parts converts) items) h))
+  externs_none (intern_item t ∷ items) h = externs_none items h
+  externs_none (rule_item r ∷ items) h = externs_none items (right_none (rule_parts converts r) (flat_map (item_parts converts) items) h)
+  externs_none (use_item s ∷ items) h = externs_none items h
 
-item_none : (i : ItemData) → item_parts i ≡ [] → IsRuleOrExtern i
-item_none (match_item m) h = cc
-item_none (extern_item t) h = tt
-item_none (intern_item t) h = cc
-item_none (rule_item r) h = tt
-item_none (use_item s) h = cc
-
-plain_conversion : (c : ConversionData) → conversion_parts c ≡ [] → IsPlainConversion c
-plain_conversion c h =
-    let attributes = attribute_parts later.Attribute c.attributes in
-    let from = terminal_parts c.from in
-    let to = pattern_parts c.to in
-    let behind : from ++ to ≡ [] = right_none attributes (from ++ to) h in
-    record {
-      attributes = attributes_none later.Attribute c.attributes (left_none attributes (from ++ to) h);
-      literal = literal_none c.from (left_none from to behind);
-      pattern = right_none from to behind;
-    }
-
-enum_there : (o : Option EnumTokenData) → part_of_none later.NoExternEnum o ≡ [] → (e : EnumTokenData) × (o ≡ Some e)
-enum_there None h = cc
-enum_there (Some e) h = (e, refl)
-
-one_of_enum : (items : List ItemData) (t : ExternTokenData) (e : EnumTokenData) → externs_of items ≡ t ∷ [] → t.enum_token ≡ Some e → extern_parts t ≡ [] → HasOneEnum items t e
-one_of_enum items t e one is h =
-    let associated = part_of_any later.AssociatedType t.associated_types in
-    let there : enum_parts (Some e) ≡ [] = ap enum_parts (sym is) ∙ right_none associated (enum_parts t.enum_token) h in
-    record {
-      one_block = one;
-      associated_types = any_none later.AssociatedType t.associated_types (left_none associated (enum_parts t.enum_token) h);
-      enum_token = is;
-      type_name = if_none (holds_symbol e.type_name) later.TypeOfSymbol (left_none (type_parts e.type_name) (flat_map conversion_parts e.conversions) there);
-      conversions = λ k d lt. plain_conversion _ (each_none conversion_parts e.conversions (right_none (type_parts e.type_name) (flat_map conversion_parts e.conversions) there) k d lt);
-    }
-
-one_enum : (items : List ItemData) (ts : List ExternTokenData) → externs_of items ≡ ts → second_parts ts ≡ [] → part_of_none later.NoExternEnum (enum_in ts) ≡ [] → All (λ t. extern_parts t ≡ []) ts → (block : ExternTokenData) × (tokens : EnumTokenData) × HasOneEnum items block tokens
-one_enum items [] same second none each = cc
-one_enum items (t ∷ []) same second none each =
-    let there = enum_there t.enum_token none in
-    (t, there.0, one_of_enum items t there.0 same there.1 (each 0 t (omega arith)))
-one_enum items (t ∷ u ∷ ts) same second none each = cc
+  no_match_block : (i : ItemData) → item_parts converts i ≡ [] → IsNoMatchBlock i
+  no_match_block (match_item m) h = cc
+  no_match_block (extern_item t) h = tt
+  no_match_block (intern_item t) h = tt
+  no_match_block (rule_item r) h = tt
+  no_match_block (use_item s) h = tt
 
 -- ---- names
 
@@ -239,46 +240,63 @@ found_conversion t (c ∷ rest) h = by_test (same_terminal t c.from) refl h (fou
 
 -- ---- grammars
 
--- a grammar without parts of later stages is plain
-pub plain_grammar : (g : GrammarData) → later_parts g ≡ [] → IsPlainGrammar g
-plain_grammar g h =
-    let items = flat_map item_parts g.items in
-    let together = together_parts g.prefix g.items in
-    let head_none = left_none (head_parts g) (items ++ together) h in
-    let behind_head : items ++ together ≡ [] = right_none (head_parts g) (items ++ together) h in
-    let items_none : items ≡ [] = left_none items together behind_head in
-    let together_none : together ≡ [] = right_none items together behind_head in
-    let second = second_parts (externs_of g.items) in
-    let no_enum = part_of_none later.NoExternEnum (enum_in (externs_of g.items)) in
-    let names = part_if (has_repeated bytes_eq (names_of (rules_of g.items))) later.RepeatedRule in
-    let terminals = part_if (has_repeated same_terminal (terminals_of (conversions_of g.items))) later.RepeatedConversion in
-    let lacks = flat_map (rule_lacks (has_rule g.items) (has_conversion g.items)) (rules_of g.items) in
+-- a grammar without parts of later stages is taken
+pub taken_of : (fs : Features) (g : GrammarData) → later_parts fs g ≡ [] → IsTaken fs g
+taken_of fs g h =
+    let converts = has_conversion fs g.items in
+    let tokens = token_parts fs g.items in
+    let items = flat_map (item_parts converts) g.items in
     let starts = flat_map (start_parts g.prefix (has_rule g.items)) (rules_of g.items) in
-    let externs_right : second ++ no_enum ≡ [] = left_none (second ++ no_enum) ((names ++ terminals) ++ (lacks ++ starts)) together_none in
-    let behind_externs : (names ++ terminals) ++ (lacks ++ starts) ≡ [] = right_none (second ++ no_enum) ((names ++ terminals) ++ (lacks ++ starts)) together_none in
-    let repeated_none : names ++ terminals ≡ [] = left_none (names ++ terminals) (lacks ++ starts) behind_externs in
-    let rules_right : lacks ++ starts ≡ [] = right_none (names ++ terminals) (lacks ++ starts) behind_externs in
+    let head_none = left_none (head_parts g) (tokens ++ (items ++ starts)) h in
+    let behind_head : tokens ++ (items ++ starts) ≡ [] = right_none (head_parts g) (tokens ++ (items ++ starts)) h in
+    let tokens_none : tokens ≡ [] = left_none tokens (items ++ starts) behind_head in
+    let behind_tokens : items ++ starts ≡ [] = right_none tokens (items ++ starts) behind_head in
+    let items_none : items ≡ [] = left_none items starts behind_tokens in
     let type_parameters = part_of_any later.TypeParameter g.type_parameters in
     let parameters = part_of_any later.Parameter g.parameters in
     let where_clauses = part_of_any later.WhereClause g.where_clauses in
     let attributes = attribute_parts later.GrammarAttribute g.attributes in
-    let module_attributes = part_of_any later.ModuleAttribute g.module_attributes in
-    let head_1 : parameters ++ (where_clauses ++ (attributes ++ module_attributes)) ≡ [] = right_none type_parameters _ head_none in
-    let head_2 : where_clauses ++ (attributes ++ module_attributes) ≡ [] = right_none parameters _ head_1 in
-    let head_3 : attributes ++ module_attributes ≡ [] = right_none where_clauses _ head_2 in
-    let each = rules_none g.items items_none in
-    let each_lack = each_none (rule_lacks (has_rule g.items) (has_conversion g.items)) (rules_of g.items) (left_none lacks starts rules_right) in
-    let each_start = each_none (start_parts g.prefix (has_rule g.items)) (rules_of g.items) (right_none lacks starts rules_right) in
+    let head_1 : parameters ++ (where_clauses ++ attributes) ≡ [] = right_none type_parameters (parameters ++ (where_clauses ++ attributes)) head_none in
+    let head_2 : where_clauses ++ attributes ≡ [] = right_none parameters (where_clauses ++ attributes) head_1 in
+    let no_enum = part_of_none later.NoExternEnum (enum_in (externs_of g.items)) in
+    let terminals = terminals_of (active_conversions fs (conversions_of g.items)) in
+    let twice = part_if (has_repeated same_terminal terminals) later.RepeatedConversion in
+    let each_extern = externs_none converts g.items items_none in
+    let each_rule = rules_none converts g.items items_none in
+    let each_start = each_none (start_parts g.prefix (has_rule g.items)) (rules_of g.items) (right_none items starts behind_tokens) in
     record {
-      type_parameters = any_none later.TypeParameter g.type_parameters (left_none type_parameters (parameters ++ (where_clauses ++ (attributes ++ module_attributes))) head_none);
-      parameters = any_none later.Parameter g.parameters (left_none parameters (where_clauses ++ (attributes ++ module_attributes)) head_1);
-      where_clauses = any_none later.WhereClause g.where_clauses (left_none where_clauses (attributes ++ module_attributes) head_2);
-      attributes = attributes_none later.GrammarAttribute g.attributes (left_none attributes module_attributes head_3);
-      module_attributes = any_none later.ModuleAttribute g.module_attributes (right_none attributes module_attributes head_3);
-      items = λ k d lt. item_none _ (each_none item_parts g.items items_none k d lt);
-      tokens = one_enum g.items (externs_of g.items) refl (left_none second no_enum externs_right) (right_none second no_enum externs_right) (externs_none g.items items_none);
-      rules = λ k d lt. plain_rule (has_rule g.items) (has_conversion g.items) _ (each k d lt) (each_lack k d lt);
-      names = distinct_of bytes_eq (names_of (rules_of g.items)) (if_none (has_repeated bytes_eq (names_of (rules_of g.items))) later.RepeatedRule (left_none names terminals repeated_none));
-      terminals = distinct_of same_terminal (terminals_of (conversions_of g.items)) (if_none (has_repeated same_terminal (terminals_of (conversions_of g.items))) later.RepeatedConversion (right_none names terminals repeated_none));
+      type_parameters = any_none later.TypeParameter g.type_parameters (left_none type_parameters (parameters ++ (where_clauses ++ attributes)) head_none);
+      parameters = any_none later.Parameter g.parameters (left_none parameters (where_clauses ++ attributes) head_1);
+      where_clauses = any_none later.WhereClause g.where_clauses (left_none where_clauses attributes head_2);
+      attributes = attributes_none later.GrammarAttribute g.attributes (right_none where_clauses attributes head_2);
+      no_match = λ k d lt. no_match_block converts _ (each_none (item_parts converts) g.items items_none k d lt);
+      enum_token = there_none later.NoExternEnum (enum_in (externs_of g.items)) (left_none no_enum twice tokens_none);
+      externs = λ k d lt. taken_extern _ (each_extern k d lt);
+      terminals = distinct_of same_terminal terminals (if_none (has_repeated same_terminal terminals) later.RepeatedConversion (right_none no_enum twice tokens_none));
+      rules = λ k d lt. taken_rule converts _ (each_rule k d lt);
       starts = λ k d lt. if_both_none _ _ later.StartTaken (each_start k d lt);
     }
+
+-- a grammar that is not refused is taken
+pub taken_where_not_refused : (fs : Features) (g : GrammarData) → later_faults fs g ≡ [] → IsTaken fs g
+taken_where_not_refused fs g h = taken_of fs g (map_none (λ p. (NotYet, g.span)) (later_parts fs g) h)
+
+-- ---- the order of looking
+
+after_none : (ps qs : List LaterPart) → ps ≡ [] → ps ++ qs ≡ qs
+after_none ps qs h = rw h refl
+
+-- what is left where nothing stands before the items
+pub from_items : (fs : Features) (g : GrammarData) (converts : TerminalString → Bool) → head_parts g ≡ [] → token_parts fs g.items ≡ [] → converts ≡ has_conversion fs g.items →
+    later_parts fs g ≡ flat_map (item_parts converts) g.items ++ flat_map (start_parts g.prefix (has_rule g.items)) (rules_of g.items)
+from_items fs g converts head tokens same =
+    let starts = flat_map (start_parts g.prefix (has_rule g.items)) (rules_of g.items) in
+    let items = flat_map (item_parts (has_conversion fs g.items)) g.items in
+    after_none (head_parts g) (token_parts fs g.items ++ (items ++ starts)) head
+    ∙ after_none (token_parts fs g.items) (items ++ starts) tokens
+    ∙ ap (λ (f : TerminalString → Bool). flat_map (item_parts f) g.items ++ starts) (sym same)
+
+-- and where the items hold nothing by themselves
+pub from_starts : (g : GrammarData) (converts : TerminalString → Bool) → flat_map (item_parts converts) g.items ≡ [] →
+    flat_map (item_parts converts) g.items ++ flat_map (start_parts g.prefix (has_rule g.items)) (rules_of g.items) ≡ flat_map (start_parts g.prefix (has_rule g.items)) (rules_of g.items)
+from_starts g converts none = after_none (flat_map (item_parts converts) g.items) (flat_map (start_parts g.prefix (has_rule g.items)) (rules_of g.items)) none

@@ -1,6 +1,7 @@
 -- The rules and the tokens of a grammar. Words of the crates below are passed on.
 pub use Rattle.lalrpop_norm_tree.specs.Accessors.{rule_of, extern_token_of, is_public}
 pub use Rattle.lalrpop_norm_repr.specs.Tables.{same_literal, same_terminal}
+pub use Rattle.lalrpop_norm_front.specs.EnabledItems.{active_conversions}
 pub use Rattle.lalrpop_norm_late.specs.Lowering.{rules_of}
 pub use Rattle.lalrpop_norm_late.specs.Conversions.{conversions_in, terminals_of}
 pub use Rattle.lalrpop_norm_late.specs.Lowerable.{externs_of, names_of, listed}

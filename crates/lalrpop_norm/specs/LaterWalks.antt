@@ -9,7 +9,6 @@ use Rattle.std.specs.BTreeMap.{is_at}
 use Rattle.std.specs.BTreeSet.{insert_key}
 use Rattle.lalrpop_norm_late.specs.Conversions.{terminal_cmp}
 use Rattle.lalrpop_norm.specs.declared.later.LaterPart.{LaterPart}
-use Rattle.lalrpop_norm.specs.declared.later.lacks.Known.{Known}
 use Rattle.lalrpop_norm.specs.declared.later.Stop.{Stop}
 use Rattle.lalrpop_norm.specs.declared.later.Stop.TheVariants.{Found, Memory}
 
@@ -45,8 +44,9 @@ abbrev pub repeats : {K : Type 0} → (K → K → Ordering) → List K → List
 repeats cmp keys [] = false
 repeats cmp keys (k ∷ ks) = has_key cmp keys k || repeats cmp (insert_key cmp keys k) ks
 
-abbrev pub rule_in : Known → List ℕ → Bool
-rule_in known = has_key (slice_cmp nat_cmp) known.rules.keys
+-- whether a set of names, or of terminals, with these keys has it
+abbrev pub name_in : List (List ℕ) → List ℕ → Bool
+name_in keys = has_key (slice_cmp nat_cmp) keys
 
-abbrev pub conversion_in : Known → TerminalString → Bool
-conversion_in known = has_key terminal_cmp known.terminals.keys
+abbrev pub terminal_in : List TerminalString → TerminalString → Bool
+terminal_in keys = has_key terminal_cmp keys

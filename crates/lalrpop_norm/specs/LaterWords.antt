@@ -6,23 +6,6 @@ use Rattle.lalrpop_norm.specs.declared.later.LaterPart.{LaterPart}
 use Rattle.lalrpop_norm.specs.declared.later.LaterPart.TheVariants as later
 
 abbrev pub words_of : LaterPart → List ℕ
-words_of later.Group = codes "a group"
-words_of later.Repeat = codes "a repeat"
-words_of later.NamedSymbol = codes "a named symbol"
-words_of later.AmbiguousName = codes "a name that is not resolved"
-words_of later.BareTerminal = codes "a terminal without quotes"
-words_of later.UseItem = codes "a use item"
-words_of later.WrittenTokenizer = codes "a written tokenizer"
-words_of later.SecondExtern = codes "a second extern block"
-words_of later.Attribute = codes "an attribute"
-words_of later.ModuleAttribute = codes "a module attribute"
-words_of later.FallibleCode = codes "code that may fail"
-words_of later.LookaroundCode = codes "the action of a lookaround"
-words_of later.ErrorTerminal = codes "the error terminal"
-words_of later.TypeOfSymbol = codes "the type of a symbol"
-words_of later.RepeatedRule = codes "a second rule of one name"
-words_of later.MissingRule = codes "a nonterminal without a rule"
-words_of later.PlaceholderInBraces = codes "a `<>` just between braces"
 words_of later.MacroDefinition = codes "a macro"
 words_of later.MacroCall = codes "a macro call"
 words_of later.Condition = codes "a condition"

@@ -2,7 +2,7 @@ pub mod Grammars
 pub mod Later
 pub mod LaterWalks
 pub mod LaterWords
-pub mod PlainGrammars
+pub mod TakenGrammars
 pub mod Normalize
 pub mod Derivations
 pub mod Faithful

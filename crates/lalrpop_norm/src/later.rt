@@ -1,62 +1,33 @@
 //! What a later stage of this library brings. Until then a grammar that holds such a part is refused.
-ghost use Rattle.std.specs.Prelude.{◌≡◌, Some, IfErr};
+ghost use Rattle.std.specs.Prelude.{◌≡◌, Some, IfErr, OnOk};
 ghost use Rattle.lalrpop_norm_tree.specs.Items.{grammar_view};
+ghost use Rattle.lalrpop_norm_front.specs.Sessions.{features_view};
 ghost use Rattle.lalrpop_norm_faults.specs.Faults.{Refuses};
 ghost use Rattle.lalrpop_norm.specs.Later.{later_parts, later_faults};
 ghost use Rattle.lalrpop_norm.specs.LaterWalks.{Stops};
 ghost use Rattle.lalrpop_norm.specs.LaterWords.{words_of, NamesFirst};
+ghost use Rattle.lalrpop_norm.specs.TakenGrammars.{IsTaken};
 
 mod items;
-mod lacks;
 mod names;
 mod rules;
+mod starts;
 mod symbols;
 mod terminals;
-mod together;
 mod tokens;
 
 use items::{find_in_head, find_in_items};
-use lalrpop_norm_front::{FaultKind, NormFailure, NormResult, refusal};
+use lalrpop_norm_front::{FaultKind, NormFailure, NormResult, Session, refusal};
 use lalrpop_norm_tree::grammar::parse_tree::{Grammar, NoMemory};
+use names::rule_names;
+use starts::find_taken_starts;
 use std::alloc::{AllocError, AllocFailed, Global};
 use std::fmt;
-use together::find_together;
+use terminals::known_terminals;
 
 /// A part of a grammar that a later stage brings.
 #[derive(Clone, Copy, Debug, PartialEq, Eq)]
 pub(crate) enum LaterPart {
-    /// `(X Y)`.
-    Group,
-    /// `X*`, `X+`, `X?`.
-    Repeat,
-    /// `<x:X>`.
-    NamedSymbol,
-    /// A name that is not resolved.
-    AmbiguousName,
-    /// A terminal without quotes, as a symbol or in a conversion.
-    BareTerminal,
-    UseItem,
-    /// A tokenizer that no pass made.
-    WrittenTokenizer,
-    /// An extern block behind another one.
-    SecondExtern,
-    /// An attribute of a rule, an alternative or a conversion.
-    Attribute,
-    ModuleAttribute,
-    /// Code that may fail.
-    FallibleCode,
-    /// The action of a lookaround.
-    LookaroundCode,
-    /// The error terminal, as a symbol or in a conversion.
-    ErrorTerminal,
-    /// The type of a symbol, in a written type.
-    TypeOfSymbol,
-    /// Two rules of one name.
-    RepeatedRule,
-    /// A nonterminal that names no rule.
-    MissingRule,
-    /// Code whose first `<>` stands just between braces.
-    PlaceholderInBraces,
     /// A rule with arguments.
     MacroDefinition,
     MacroCall,
@@ -67,9 +38,9 @@ pub(crate) enum LaterPart {
     MatchBlock,
     /// `!`.
     ErrorSymbol,
-    /// A terminal without a conversion.
+    /// A terminal without an active conversion.
     MissingConversion,
-    /// Two conversions of one terminal.
+    /// Two active conversions of one terminal.
     RepeatedConversion,
     /// A pattern of a conversion that is no enum's, no path, no `..`, no `_` and nothing chosen.
     PatternKind,
@@ -99,23 +70,6 @@ impl LaterPart {
         ensures { result.now ≡ words_of self }
     {
         match self {
-            LaterPart::Group => "a group",
-            LaterPart::Repeat => "a repeat",
-            LaterPart::NamedSymbol => "a named symbol",
-            LaterPart::AmbiguousName => "a name that is not resolved",
-            LaterPart::BareTerminal => "a terminal without quotes",
-            LaterPart::UseItem => "a use item",
-            LaterPart::WrittenTokenizer => "a written tokenizer",
-            LaterPart::SecondExtern => "a second extern block",
-            LaterPart::Attribute => "an attribute",
-            LaterPart::ModuleAttribute => "a module attribute",
-            LaterPart::FallibleCode => "code that may fail",
-            LaterPart::LookaroundCode => "the action of a lookaround",
-            LaterPart::ErrorTerminal => "the error terminal",
-            LaterPart::TypeOfSymbol => "the type of a symbol",
-            LaterPart::RepeatedRule => "a second rule of one name",
-            LaterPart::MissingRule => "a nonterminal without a rule",
-            LaterPart::PlaceholderInBraces => "a `<>` just between braces",
             LaterPart::MacroDefinition => "a macro",
             LaterPart::MacroCall => "a macro call",
             LaterPart::Condition => "a condition",
@@ -196,12 +150,18 @@ impl<T: Drop> From<AllocFailed<T>> for Stop {
 }
 
 /// Refuses a grammar that holds a part of a later stage, with the fault F0 at the grammar's span. The message names
-/// the first such part.
-pub(crate) fn refuse_later_parts(alloc: Global, grammar: &Grammar) -> NormResult<()>
-    ensures refuses { Refuses result (later_faults (grammar_view grammar.now)) }
-    ensures named { IfErr result (NamesFirst (later_parts (grammar_view grammar.now))) }
+/// the first such part. Of conversions those count that the features of the session leave active.
+pub(crate) fn refuse_later_parts<L>(
+    alloc: Global,
+    session: &Session<L>,
+    grammar: &Grammar,
+) -> NormResult<()>
+    ensures refuses { Refuses result (later_faults (features_view session.now.features) (grammar_view grammar.now)) }
+    ensures named { IfErr result (NamesFirst (later_parts (features_view session.now.features) (grammar_view grammar.now))) }
+    // What is not refused looks so.
+    ensures taken { OnOk result (IsTaken (features_view session.now.features) (grammar_view grammar.now)) }
 {
-    match find(alloc, grammar) {
+    match find(alloc, session, grammar) {
         Ok(()) => Ok(()),
         Err(Stop::Found(part)) => Err(refusal(
             FaultKind::NotYet,
@@ -212,11 +172,12 @@ pub(crate) fn refuse_later_parts(alloc: Global, grammar: &Grammar) -> NormResult
     }
 }
 
-fn find(alloc: Global, grammar: &Grammar) -> Result<(), Stop>
-    ensures { Stops result (later_parts (grammar_view grammar.now)) }
+fn find<L>(alloc: Global, session: &Session<L>, grammar: &Grammar) -> Result<(), Stop>
+    ensures { Stops result (later_parts (features_view session.now.features) (grammar_view grammar.now)) }
 {
     find_in_head(grammar)?;
-    find_in_items(&grammar.items)?;
-    find_together(alloc, grammar.prefix.as_str(), &grammar.items)?;
-    Ok(())
+    let terminals = known_terminals(alloc, session, &grammar.items)?;
+    find_in_items(&terminals, &grammar.items)?;
+    let names = rule_names(alloc, &grammar.items)?;
+    find_taken_starts(alloc, grammar.prefix.as_str(), &names, &grammar.items)
 }

@@ -1,14 +1,14 @@
-//! Names and terminals among the items.
-ghost use Rattle.std.specs.Prelude.{◌≡◌, map, option_map, OnOk, IfOk, bytes_eq};
+//! Rules, extern blocks and names among the items.
+ghost use Rattle.std.specs.Prelude.{◌≡◌, [], map, option_map, OnOk, IfOk};
 ghost use Rattle.std.specs.BTreeSet.{insert_key};
 ghost use Rattle.std.specs.Ordering.{nat_cmp};
 ghost use Rattle.std.specs.Cmp.Lexicographic.{slice_cmp};
 ghost use Rattle.lalrpop_norm_tree.specs.Items.{item_view, rule_view, extern_token_view, enum_token_view};
-ghost use Rattle.lalrpop_norm.specs.Grammars.{rule_of, extern_token_of, rules_of, externs_of, names_of, enum_in, has_repeated};
-ghost use Rattle.lalrpop_norm.specs.Later.{part_if, part_of_any, part_of_none, second_parts, has_rule};
-ghost use Rattle.lalrpop_norm.specs.LaterWalks.{Finds, Stops, has_key, with_keys, repeats};
+ghost use Rattle.lalrpop_norm.specs.Grammars.{rule_of, extern_token_of, rules_of, externs_of, names_of, enum_in};
+ghost use Rattle.lalrpop_norm.specs.Later.{has_rule};
+ghost use Rattle.lalrpop_norm.specs.LaterWalks.{Stops, with_keys, name_in};
 
-use super::{LaterPart, Stop};
+use super::Stop;
 use lalrpop_norm_tree::grammar::parse_tree::{
     Atom, EnumToken, ExternToken, GrammarItem, NonterminalData,
 };
@@ -41,28 +41,6 @@ fn extern_of(item: &GrammarItem) -> Option<&ExternToken>
 
 // ---- extern blocks
 
-fn find_extern(items: &[GrammarItem]) -> Result<(), LaterPart>
-    ensures { Finds result (part_of_any LaterPart.SecondExtern (externs_of (map item_view items.now))) }
-{
-    for item in items {
-        if let Some(_) = extern_of(item) {
-            return Err(LaterPart::SecondExtern);
-        }
-    }
-    Ok(())
-}
-
-pub(super) fn find_second_extern(items: &[GrammarItem]) -> Result<(), LaterPart>
-    ensures { Finds result (second_parts (externs_of (map item_view items.now))) }
-{
-    for (i, item) in items.iter().enumerate() {
-        if let Some(_) = extern_of(item) {
-            return find_extern(&items[i + 1..]);
-        }
-    }
-    Ok(())
-}
-
 fn enum_of(block: &ExternToken) -> Option<&EnumToken>
     ensures { option_map (λ e. enum_token_view e.now) result ≡ (extern_token_view block.now).enum_token }
 {
@@ -84,31 +62,18 @@ pub(super) fn first_enum(items: &[GrammarItem]) -> Option<&EnumToken>
     None
 }
 
-pub(super) fn find_no_enum(items: &[GrammarItem]) -> Result<(), LaterPart>
-    ensures { Finds result (part_of_none LaterPart.NoExternEnum (enum_in (externs_of (map item_view items.now)))) }
-{
-    match first_enum(items) {
-        Some(_) => Ok(()),
-        None => Err(LaterPart::NoExternEnum),
-    }
-}
-
 // ---- names of rules
 
 fn add_name(names: &mut BTreeSet<Atom>, name: &Atom) -> Result<(), Stop>
-    ensures finds { Stops result (part_if (has_key (slice_cmp nat_cmp) names.old.keys name.now) LaterPart.RepeatedRule) }
+    ensures memory { Stops result [] }
     ensures adds { OnOk result (names.new.keys ≡ insert_key (slice_cmp nat_cmp) names.old.keys name.now) }
 {
-    let is_new = names.insert(name.clone()?)?;
-    if is_new {
-        Ok(())
-    } else {
-        Err(Stop::Found(LaterPart::RepeatedRule))
-    }
+    names.insert(name.clone()?)?;
+    Ok(())
 }
 
 fn add_names(names: &mut BTreeSet<Atom>, items: &[GrammarItem]) -> Result<(), Stop>
-    ensures finds { Stops result (part_if (repeats (slice_cmp nat_cmp) names.old.keys (names_of (rules_of (map item_view items.now)))) LaterPart.RepeatedRule) }
+    ensures memory { Stops result [] }
     ensures adds { OnOk result (names.new.keys ≡ with_keys (slice_cmp nat_cmp) names.old.keys (names_of (rules_of (map item_view items.now)))) }
 {
     for item in items {
@@ -119,10 +84,10 @@ fn add_names(names: &mut BTreeSet<Atom>, items: &[GrammarItem]) -> Result<(), St
     Ok(())
 }
 
-/// The names of the rules, where no two are the same.
+/// The names of the rules.
 pub(super) fn rule_names(alloc: Global, items: &[GrammarItem]) -> Result<BTreeSet<Atom>, Stop>
-    ensures finds { Stops result (part_if (has_repeated bytes_eq (names_of (rules_of (map item_view items.now)))) LaterPart.RepeatedRule) }
-    ensures has { IfOk result (λ s. has_key (slice_cmp nat_cmp) s.keys ≡ has_rule (map item_view items.now)) }
+    ensures memory { Stops result [] }
+    ensures has { IfOk result (λ s. name_in s.keys ≡ has_rule (map item_view items.now)) }
 {
     let mut names = BTreeSet::new(alloc);
     add_names(&mut names, items)?;

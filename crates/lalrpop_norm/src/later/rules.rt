@@ -3,16 +3,16 @@ ghost use Rattle.std.specs.Prelude.{◌≡◌, map, option_map};
 ghost use Rattle.std.specs.List.{flat_map};
 ghost use Rattle.lalrpop_norm_tree.specs.Items.{action_view, alternative_view, rule_view};
 ghost use Rattle.lalrpop_norm_tree.specs.Types.{type_view};
-ghost use Rattle.lalrpop_norm.specs.Later.{part_of_some, after_slot, has_several_slots, code_parts, action_parts, alternative_parts, declared_parts, rule_parts};
-ghost use Rattle.lalrpop_norm.specs.LaterWalks.{Finds};
+ghost use Rattle.lalrpop_norm.specs.Later.{part_of_some, part_of_none, after_slot, has_several_slots, code_parts, action_parts, alternative_parts, rule_parts};
+ghost use Rattle.lalrpop_norm.specs.LaterWalks.{Finds, terminal_in};
 
 use super::LaterPart;
 use super::symbols::find_in_symbols;
-use super::tokens::{find_any, find_attribute, find_in_type};
-use lalrpop_norm_front::norm_util::check_between_braces;
+use super::tokens::find_any;
 use lalrpop_norm_tree::grammar::parse_tree::{
-    ActionKind, Alternative, Condition, NonterminalData, TypeRef,
+    ActionKind, Alternative, Condition, NonterminalData, TerminalString, TypeRef,
 };
+use std::collections::BTreeSet;
 
 /// The code behind its first `<>`.
 fn after_slot(code: &str) -> Option<&str>
@@ -36,9 +36,6 @@ fn has_several_slots(code: &str) -> bool
 fn find_in_code(code: &str) -> Result<(), LaterPart>
     ensures { Finds result (code_parts code.now) }
 {
-    if check_between_braces(code).is_in_curly_brackets() {
-        return Err(LaterPart::PlaceholderInBraces);
-    }
     if has_several_slots(code) {
         return Err(LaterPart::SeveralPlaceholders);
     }
@@ -49,12 +46,10 @@ fn find_in_action(action: &Option<ActionKind>) -> Result<(), LaterPart>
     ensures { Finds result (action_parts (option_map action_view action.now)) }
 {
     match action {
-        None => Ok(()),
-        Some(ActionKind::User(code)) => find_in_code(code.as_str()),
-        Some(ActionKind::Fallible(_)) => Err(LaterPart::FallibleCode),
-        Some(ActionKind::Lookahead) | Some(ActionKind::Lookbehind) => {
-            Err(LaterPart::LookaroundCode)
+        Some(ActionKind::User(code)) | Some(ActionKind::Fallible(code)) => {
+            find_in_code(code.as_str())
         }
+        None | Some(ActionKind::Lookahead) | Some(ActionKind::Lookbehind) => Ok(()),
     }
 }
 
@@ -67,38 +62,45 @@ fn find_condition(condition: &Option<Condition>) -> Result<(), LaterPart>
     }
 }
 
-fn find_in_alternative(alternative: &Alternative) -> Result<(), LaterPart>
-    ensures { Finds result (alternative_parts (alternative_view alternative.now)) }
+fn find_in_alternative(
+    converted: &BTreeSet<TerminalString>,
+    alternative: &Alternative,
+) -> Result<(), LaterPart>
+    ensures { Finds result (alternative_parts (terminal_in converted.now.keys) (alternative_view alternative.now)) }
 {
-    find_in_symbols(&alternative.expr.symbols)?;
+    find_in_symbols(converted, &alternative.expr.symbols)?;
     find_condition(&alternative.condition)?;
-    find_in_action(&alternative.action)?;
-    find_attribute(LaterPart::Attribute, &alternative.attributes)
+    find_in_action(&alternative.action)
 }
 
-fn find_in_alternatives(alternatives: &[Alternative]) -> Result<(), LaterPart>
-    ensures { Finds result (flat_map alternative_parts (map alternative_view alternatives.now)) }
+fn find_in_alternatives(
+    converted: &BTreeSet<TerminalString>,
+    alternatives: &[Alternative],
+) -> Result<(), LaterPart>
+    ensures { Finds result (flat_map (alternative_parts (terminal_in converted.now.keys)) (map alternative_view alternatives.now)) }
 {
     for alternative in alternatives {
-        find_in_alternative(alternative)?;
+        find_in_alternative(converted, alternative)?;
     }
     Ok(())
 }
 
-fn find_in_declared(declared: &Option<TypeRef>) -> Result<(), LaterPart>
-    ensures { Finds result (declared_parts (option_map type_view declared.now)) }
+fn find_undeclared(declared: &Option<TypeRef>) -> Result<(), LaterPart>
+    ensures { Finds result (part_of_none LaterPart.UndeclaredType (option_map type_view declared.now)) }
 {
     match declared {
-        Some(written) => find_in_type(written),
+        Some(_) => Ok(()),
         None => Err(LaterPart::UndeclaredType),
     }
 }
 
-pub(super) fn find_in_rule(rule: &NonterminalData) -> Result<(), LaterPart>
-    ensures { Finds result (rule_parts (rule_view rule.now)) }
+pub(super) fn find_in_rule(
+    converted: &BTreeSet<TerminalString>,
+    rule: &NonterminalData,
+) -> Result<(), LaterPart>
+    ensures { Finds result (rule_parts (terminal_in converted.now.keys) (rule_view rule.now)) }
 {
-    find_attribute(LaterPart::Attribute, &rule.attributes)?;
     find_any(LaterPart::MacroDefinition, &rule.args)?;
-    find_in_declared(&rule.type_decl)?;
-    find_in_alternatives(&rule.alternatives)
+    find_undeclared(&rule.type_decl)?;
+    find_in_alternatives(converted, &rule.alternatives)
 }

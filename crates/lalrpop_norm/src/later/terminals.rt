@@ -1,14 +1,18 @@
 //! Terminals of conversions.
 ghost use Rattle.std.specs.Prelude.{◌≡◌, map, OnOk, IfOk};
 ghost use Rattle.std.specs.BTreeSet.{insert_key};
-ghost use Rattle.lalrpop_norm_tree.specs.Items.{conversion_view};
-ghost use Rattle.lalrpop_norm.specs.Grammars.{terminals_of, has_repeated, same_terminal};
-ghost use Rattle.lalrpop_norm.specs.Later.{part_if, names_terminal};
-ghost use Rattle.lalrpop_norm.specs.LaterWalks.{Stops, has_key, with_keys, repeats};
+ghost use Rattle.lalrpop_norm_tree.specs.Items.{conversion_view, item_view};
+ghost use Rattle.lalrpop_norm_front.specs.Sessions.{features_view};
+ghost use Rattle.lalrpop_norm.specs.Grammars.{active_conversions, terminals_of, has_repeated, same_terminal};
+ghost use Rattle.lalrpop_norm.specs.Later.{part_if, names_terminal, token_parts, has_conversion};
+ghost use Rattle.lalrpop_norm.specs.LaterWalks.{Stops, has_key, with_keys, repeats, terminal_in};
 ghost use Rattle.lalrpop_norm_late.specs.Conversions.{terminal_cmp};
 
+use super::names::first_enum;
 use super::{LaterPart, Stop};
-use lalrpop_norm_tree::grammar::parse_tree::{Conversion, TerminalString};
+use lalrpop_norm_front::Session;
+use lalrpop_norm_front::cond_comp::cfg_active;
+use lalrpop_norm_tree::grammar::parse_tree::{Conversion, GrammarItem, TerminalString};
 use std::alloc::Global;
 use std::collections::BTreeSet;
 
@@ -27,28 +31,47 @@ fn add_terminal(
     }
 }
 
-fn add_terminals(
+fn add_terminals<L>(
+    session: &Session<L>,
     terminals: &mut BTreeSet<TerminalString>,
     conversions: &[Conversion],
 ) -> Result<(), Stop>
-    ensures finds { Stops result (part_if (repeats terminal_cmp terminals.old.keys (terminals_of (map conversion_view conversions.now))) LaterPart.RepeatedConversion) }
-    ensures adds { OnOk result (terminals.new.keys ≡ with_keys terminal_cmp terminals.old.keys (terminals_of (map conversion_view conversions.now))) }
+    ensures finds { Stops result (part_if (repeats terminal_cmp terminals.old.keys (terminals_of (active_conversions (features_view session.now.features) (map conversion_view conversions.now)))) LaterPart.RepeatedConversion) }
+    ensures adds { OnOk result (terminals.new.keys ≡ with_keys terminal_cmp terminals.old.keys (terminals_of (active_conversions (features_view session.now.features) (map conversion_view conversions.now)))) }
 {
     for conversion in conversions {
-        add_terminal(terminals, &conversion.from)?;
+        if cfg_active(session, &conversion.attributes) {
+            add_terminal(terminals, &conversion.from)?;
+        }
     }
     Ok(())
 }
 
-/// The terminals of conversions, where no two are the same.
-pub(super) fn converted_terminals(
+/// The terminals of the active conversions, where no two are the same.
+fn converted_terminals<L>(
     alloc: Global,
+    session: &Session<L>,
     conversions: &[Conversion],
 ) -> Result<BTreeSet<TerminalString>, Stop>
-    ensures finds { Stops result (part_if (has_repeated same_terminal (terminals_of (map conversion_view conversions.now))) LaterPart.RepeatedConversion) }
-    ensures has { IfOk result (λ s. has_key terminal_cmp s.keys ≡ names_terminal (map conversion_view conversions.now)) }
+    ensures finds { Stops result (part_if (has_repeated same_terminal (terminals_of (active_conversions (features_view session.now.features) (map conversion_view conversions.now)))) LaterPart.RepeatedConversion) }
+    ensures has { IfOk result (λ s. terminal_in s.keys ≡ names_terminal (active_conversions (features_view session.now.features) (map conversion_view conversions.now))) }
 {
     let mut terminals = BTreeSet::new(alloc);
-    add_terminals(&mut terminals, conversions)?;
+    add_terminals(session, &mut terminals, conversions)?;
     Ok(terminals)
+}
+
+/// The terminals that have an active conversion in the first extern block, where it has an enum and none has two.
+pub(super) fn known_terminals<L>(
+    alloc: Global,
+    session: &Session<L>,
+    items: &[GrammarItem],
+) -> Result<BTreeSet<TerminalString>, Stop>
+    ensures finds { Stops result (token_parts (features_view session.now.features) (map item_view items.now)) }
+    ensures has { IfOk result (λ s. terminal_in s.keys ≡ has_conversion (features_view session.now.features) (map item_view items.now)) }
+{
+    match first_enum(items) {
+        Some(tokens) => converted_terminals(alloc, session, &tokens.conversions),
+        None => Err(Stop::Found(LaterPart::NoExternEnum)),
+    }
 }

@@ -1,16 +1,14 @@
-//! Types and extern blocks.
-ghost use Rattle.std.specs.Prelude.{◌≡◌, map, option_map};
+//! Attributes and extern blocks.
+ghost use Rattle.std.specs.Prelude.{map, option_map};
 ghost use Rattle.std.specs.List.{flat_map};
 ghost use Rattle.lalrpop_norm_tree.specs.Attributes.{attributes_view};
 ghost use Rattle.lalrpop_norm_tree.specs.Items.{conversion_view, enum_token_view, extern_token_view};
 ghost use Rattle.lalrpop_norm_tree.specs.Patterns.{pattern_kind_view, pattern_view, patterns_view};
-ghost use Rattle.lalrpop_norm_tree.specs.Types.{type_view, types_view, maybe_of};
-ghost use Rattle.lalrpop_norm.specs.Later.{part_of_any, attribute_parts, type_parts, pattern_kind_parts, pattern_parts, patterns_parts, conversion_parts, enum_parts, extern_parts};
+ghost use Rattle.lalrpop_norm_tree.specs.Types.{type_view};
+ghost use Rattle.lalrpop_norm.specs.Later.{part_of_any, attribute_parts, pattern_kind_parts, pattern_parts, patterns_parts, conversion_parts, enum_parts, extern_parts};
 ghost use Rattle.lalrpop_norm.specs.LaterWalks.{Finds};
-ghost use Rattle.lalrpop_norm_tree.specs.LoweredTypes.{holds_symbol, any_holds_symbol, result_holds_symbol};
 
 use super::LaterPart;
-use super::symbols::find_in_terminal;
 use lalrpop_norm_tree::grammar::parse_tree::{
     Attribute, Conversion, EnumToken, ExternToken, TypeRef,
 };
@@ -34,64 +32,6 @@ pub(super) fn find_attribute(part: LaterPart, attributes: &[Attribute]) -> Resul
         Some(_) => Err(part),
         None => Ok(()),
     }
-}
-
-// ---- types
-
-#[cycle(types)]
-fn holds_symbol(written: &TypeRef) -> bool
-    ensures { result ≡ holds_symbol (type_view written.now) }
-{
-    match written {
-        TypeRef::Tuple(types) => any_holds_symbol(types),
-        TypeRef::Slice(inner) => holds_symbol(inner),
-        TypeRef::Nominal { path: _, types } => any_holds_symbol(types),
-        TypeRef::Ref {
-            lifetime: _,
-            mutable: _,
-            referent,
-        } => holds_symbol(referent),
-        TypeRef::TraitObject { path: _, types } => any_holds_symbol(types),
-        TypeRef::Lifetime(_) | TypeRef::Id(_) => false,
-        TypeRef::OfSymbol(_) => true,
-        TypeRef::Fn {
-            forall: _,
-            path: _,
-            parameters,
-            ret,
-        } => any_holds_symbol(parameters) || result_holds_symbol(ret),
-    }
-}
-
-#[cycle(types)]
-fn any_holds_symbol(types: &[TypeRef]) -> bool
-    ensures { result ≡ any_holds_symbol (types_view types.now) }
-{
-    for written in types {
-        if holds_symbol(written) {
-            return true;
-        }
-    }
-    false
-}
-
-#[cycle(types)]
-fn result_holds_symbol(ret: &Option<Box<TypeRef>>) -> bool
-    ensures { result ≡ result_holds_symbol (maybe_of (option_map (λ b. type_view b.value) ret.now)) }
-{
-    match ret {
-        Some(written) => holds_symbol(written),
-        None => false,
-    }
-}
-
-pub(super) fn find_in_type(written: &TypeRef) -> Result<(), LaterPart>
-    ensures { Finds result (type_parts (type_view written.now)) }
-{
-    if holds_symbol(written) {
-        return Err(LaterPart::TypeOfSymbol);
-    }
-    Ok(())
 }
 
 // ---- patterns of conversions
@@ -132,19 +72,11 @@ fn find_in_pattern_kind(kind: &PatternKind<TypeRef>) -> Result<(), LaterPart>
 
 // ---- extern blocks
 
-fn find_in_conversion(conversion: &Conversion) -> Result<(), LaterPart>
-    ensures { Finds result (conversion_parts (conversion_view conversion.now)) }
-{
-    find_attribute(LaterPart::Attribute, &conversion.attributes)?;
-    find_in_terminal(&conversion.from)?;
-    find_in_pattern(&conversion.to)
-}
-
 fn find_in_conversions(conversions: &[Conversion]) -> Result<(), LaterPart>
     ensures { Finds result (flat_map conversion_parts (map conversion_view conversions.now)) }
 {
     for conversion in conversions {
-        find_in_conversion(conversion)?;
+        find_in_pattern(&conversion.to)?;
     }
     Ok(())
 }
@@ -153,10 +85,7 @@ fn find_in_enum(tokens: &Option<EnumToken>) -> Result<(), LaterPart>
     ensures { Finds result (enum_parts (option_map enum_token_view tokens.now)) }
 {
     match tokens {
-        Some(tokens) => {
-            find_in_type(&tokens.type_name)?;
-            find_in_conversions(&tokens.conversions)
-        }
+        Some(tokens) => find_in_conversions(&tokens.conversions),
         None => Ok(()),
     }
 }

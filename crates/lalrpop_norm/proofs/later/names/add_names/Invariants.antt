@@ -2,11 +2,10 @@ use Rattle.std.proofs.Common.{◌≡◌, drop, map, nat_cmp}
 use Rattle.std.specs.Cmp.Lexicographic.{slice_cmp}
 use Rattle.lalrpop_norm_tree.specs.Items.{item_view}
 use Rattle.lalrpop_norm.specs.Grammars.{rules_of, names_of}
-use Rattle.lalrpop_norm.specs.LaterWalks.{with_keys, repeats}
+use Rattle.lalrpop_norm.specs.LaterWalks.{with_keys}
 use Rattle.lalrpop_norm.proofs.later.names.add_names.Given as goal
 
 abbrev pub invariant-loop-item : goal.invariant-loop-item
-invariant-loop-item l = record {
-  finds : repeats (slice_cmp nat_cmp) l.names.keys (names_of (rules_of (map item_view (drop l.item-index l.items)))) ≡ repeats (slice_cmp nat_cmp) l.initial.names.keys (names_of (rules_of (map item_view l.items)));
-  adds : with_keys (slice_cmp nat_cmp) l.names.keys (names_of (rules_of (map item_view (drop l.item-index l.items)))) ≡ with_keys (slice_cmp nat_cmp) l.initial.names.keys (names_of (rules_of (map item_view l.items)));
-}
+invariant-loop-item l =
+    with_keys (slice_cmp nat_cmp) l.names.keys (names_of (rules_of (map item_view (drop l.item-index l.items))))
+    ≡ with_keys (slice_cmp nat_cmp) l.initial.names.keys (names_of (rules_of (map item_view l.items)))
