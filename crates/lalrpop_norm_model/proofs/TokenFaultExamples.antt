@@ -58,13 +58,17 @@ declared_inside = refl
 declared_outside : token_faults (with_input (of_rules (tok_tokens [] ∷ []) [])) ≡ []
 declared_outside = refl
 
--- ---- with the spans of their texts
+-- beside an enum a bare terminal without a conversion is told as any other
+bare_without_conversion : token_faults (of_rules (tok_tokens (codes "a" ∷ []) ∷ []) (uses 7 (terminal (Bare (codes "x"))) ∷ [])) ≡ (NoPattern, place 7) ∷ []
+bare_without_conversion = refl
+
+-- ---- with spans of texts, `grammar;` and a blank before each
 
 abbrev of_quoted : Span → List ℕ → RuleData
 of_quoted s text = a_rule (codes "S") None (plain (chosen (at s (terminal (quoted text))) ∷ []) ∷ [])
 
 -- `match { "a" => "x" } else { "b" => "x" } S: () = "x";`
-named_twice : token_faults (of_rules (match_tokens ((Mapped (Quoted (codes "a")) (Terminal (quoted (codes "x"))) (span 17 27) ∷ []) ∷ (Mapped (Quoted (codes "b")) (Terminal (quoted (codes "x"))) (span 37 48) ∷ []) ∷ []) ∷ [])
+named_twice : token_faults (of_rules (match_tokens ((Mapped (Quoted (codes "a")) (Terminal (quoted (codes "x"))) (span 17 28) ∷ []) ∷ (Mapped (Quoted (codes "b")) (Terminal (quoted (codes "x"))) (span 37 48) ∷ []) ∷ []) ∷ [])
     (of_quoted (span 58 61) (codes "x") ∷ []))
     ≡ (TerminalTwice, span 37 48) ∷ []
 named_twice = refl
@@ -84,12 +88,12 @@ converted_twice = refl
 -- with the second one under `#[cfg(feature = "f")]`, which drops it where f is no feature
 abbrev twice_with_cfg : GrammarData
 twice_with_cfg = of_rules (extern_tokens [] (conversion_at (span 29 41) (codes "a")
-    ∷ record (conversion_at (span 62 75) (codes "a")) { attributes = attributes_of (if_f ∷ []) } ∷ []) ∷ []) (of_quoted (span 87 90) (codes "a") ∷ [])
+    ∷ record (conversion_at (span 63 76) (codes "a")) { attributes = attributes_of (if_f ∷ []) } ∷ []) ∷ []) (of_quoted (span 88 91) (codes "a") ∷ [])
 
 converted_under_cfg : token_faults (enabled_grammar without_f twice_with_cfg) ≡ []
 converted_under_cfg = refl
 
-converted_with_f : token_faults (enabled_grammar with_f twice_with_cfg) ≡ (TerminalTwice, span 62 75) ∷ []
+converted_with_f : token_faults (enabled_grammar with_f twice_with_cfg) ≡ (TerminalTwice, span 63 76) ∷ []
 converted_with_f = refl
 
 -- and with one conversion nothing is wrong

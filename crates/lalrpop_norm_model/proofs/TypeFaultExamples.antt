@@ -7,11 +7,11 @@ use Rattle.lalrpop_norm_tree.specs.Reprs as lowered
 use Rattle.lalrpop_norm_tree.specs.Reprs.{ReprData, named_repr}
 use Rattle.lalrpop_norm_tree.specs.Symbols.{ArgumentPattern, ArgumentPatterns, one_name, several, no_arguments, argument_and, nonterminal, tupled}
 use Rattle.lalrpop_norm_tree.specs.Types.{id, tuple, nominal, of_symbol, types_of, no_types}
-use Rattle.lalrpop_norm_faults.specs.declared.kind.FaultKind.TheVariants.{TupleLength}
+use Rattle.lalrpop_norm_faults.specs.declared.kind.FaultKind.TheVariants.{TupleLength, Disagreement}
 use Rattle.lalrpop_norm_model.specs.TerminalTypes.{unit_type}
 use Rattle.lalrpop_norm_model.specs.TypeRelation.{Has, IsFunctional, IsTotal}
 use Rattle.lalrpop_norm_model.specs.TuplePatterns.{fits, PatternsFit, pattern_misfits}
-use Rattle.lalrpop_norm_model.specs.InferenceFaults.{disagreeing as disagreeing_alternatives, untyped_rules, inferred_table}
+use Rattle.lalrpop_norm_model.specs.InferenceFaults.{inference_faults, disagreeing as disagreeing_alternatives, untyped_rules, inferred_table}
 use Rattle.lalrpop_norm_model.specs.TypeRounds.{Row, table_of}
 use Rattle.lalrpop_norm_model.proofs.TypeLemmas.{none_had}
 use Rattle.lalrpop_norm_model.proofs.TableTests.{AllHad, had_by, Typing, typing, stuck_by_rules}
@@ -103,7 +103,8 @@ circle_none n = none_had circle (table_of [])
 circle_partial : IsTotal circle → ⊥
 circle_partial total = let a = total _ (inl refl) in circle_none _ a.0 a.1
 
--- A lookaround gives no type where no location is declared: `L = {@L}` has none, `X = {@L, "x"}` that of `"x"`.
+-- The alternative of a lookaround gives no type where no location is declared: a rule L of that one has none, a rule X of it and `"x"`
+-- that of `"x"`.
 abbrev nowhere_located : GrammarData
 nowhere_located = of_rules (tok_tokens (codes "x" ∷ []) ∷ [])
     (a_rule (codes "L") None (with_code (Some lookahead_code) [] ∷ [])
@@ -194,6 +195,9 @@ disagreeing_place = refl
 
 levels_place : disagreeing_alternatives levels ≡ plain (nonterminal (codes "E") ∷ literal (codes "+") ∷ nonterminal (codes "E1") ∷ []) ∷ []
 levels_place = refl
+
+levels_faults : inference_faults levels ≡ (Disagreement, nowhere) ∷ []
+levels_faults = refl
 
 -- declared types are compared with nothing
 declared_places : disagreeing_alternatives declared_levels ≡ []
