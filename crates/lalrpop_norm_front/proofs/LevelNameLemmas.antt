@@ -1,5 +1,5 @@
 -- Each name that means something in a grammar means the same in the grammar with levels, where no name is defined twice there.
-use Rattle.std.proofs.Common.{◌≡◌, ◌⊎◌, inl, inr, ℕ, suc, length, List, [], ◌∷◌, ◌++◌, Option, Some, None, Bool, true, false, map, append_assoc, refl, sym, ap, ap₂, ◌∙◌, subst}
+use Rattle.std.proofs.Common.{◌≡◌, inl, inr, ℕ, length, List, [], ◌∷◌, ◌++◌, Option, Some, None, Bool, true, false, map, append_assoc, refl, sym, ap, ap₂, ◌∙◌, subst}
 use Rattle.std.specs.Prelude.{flat_map, is_some, bytes_eq, if◌then◌else◌}
 use Rattle.std.proofs.lemmas.Slice.Eq.{bytes_eq-Decides}
 use Rattle.lalrpop_norm_tree.specs.declared.names.NonterminalString.{NonterminalString}
@@ -17,7 +17,7 @@ use Rattle.lalrpop_norm_model.proofs.LevelLemmas.{in_map, place_has_level, level
 use Rattle.lalrpop_norm_model.proofs.WrittenLemmas.{in_numbered}
 use Rattle.lalrpop_norm_model.proofs.LevelRuleLemmas.{name_highest}
 use Rattle.lalrpop_norm_names.specs.NameFaults.{repeated_faults}
-use Rattle.lalrpop_norm_names.proofs.ResolvedFaults.{left_none, right_none}
+use Rattle.lalrpop_norm_names.proofs.ResolvedFaults.{right_none}
 
 -- ---- definitions in a list
 

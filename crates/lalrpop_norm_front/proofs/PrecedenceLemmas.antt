@@ -1,7 +1,6 @@
 -- Where no name is defined twice in the grammar with levels, its first fault is that of the first macro with several levels.
-use Rattle.std.proofs.Common.{◌≡◌, ◌⊎◌, inl, inr, ℕ, zero, suc, ◌+◌, ◌<◌, length, List, [], ◌∷◌, ◌++◌, Option, Some, None, Bool, true, false, ◌&&◌, map, refl, sym, ap, ap₂, ◌∙◌, subst, arith}
-use Rattle.std.specs.Prelude.{flat_map, nat_eq, nat_lt, not, unwrap_or, if◌then◌else◌}
-use Rattle.lalrpop_norm_tree.specs.declared.names.Span.{Span}
+use Rattle.std.proofs.Common.{◌≡◌, ◌⊎◌, inl, inr, ℕ, zero, suc, ◌<◌, length, List, [], ◌∷◌, ◌++◌, Option, Some, None, Bool, true, false, ◌&&◌, map, refl, sym, ap, ap₂, ◌∙◌, subst, arith}
+use Rattle.std.specs.Prelude.{flat_map, nat_lt, not, unwrap_or, if◌then◌else◌}
 use Rattle.lalrpop_norm_tree.specs.declared.names.NonterminalString.{NonterminalString}
 use Rattle.lalrpop_norm_tree.specs.Accessors.{is_macro}
 use Rattle.lalrpop_norm_tree.specs.Symbols.{Parts}
@@ -24,11 +23,11 @@ use Rattle.std.proofs.lemmas.Bool.{and_parts}
 use Rattle.std.proofs.lemmas.Bool.Decides.{Decides-ltb}
 use Rattle.lalrpop_norm_model.proofs.ReadingLemmas.{parts_kept}
 use Rattle.lalrpop_norm_model.proofs.LevelLemmas.{of_map, of_present, place_has_level, previous_is, has_previous, rising_rises}
-use Rattle.lalrpop_norm_names.specs.NameFaults.{repeated_faults, argument_faults, condition_faults, nonterminal_faults, parts_faults, alternative_faults, rule_faults, item_faults, resolve_faults}
+use Rattle.lalrpop_norm_names.specs.NameFaults.{repeated_faults, argument_faults, condition_faults, nonterminal_faults, parts_faults, alternative_faults, rule_faults, resolve_faults}
 use Rattle.lalrpop_norm_names.proofs.ResolvedFaults.{left_none, right_none, both_none, faults_gone}
-use Rattle.lalrpop_norm_levels.specs.LevelFaults.{has_several_levels, grammar_level_faults}
-use Rattle.lalrpop_norm_front.specs.MacroLevels.{macro_faults, macro_item_faults}
-use Rattle.lalrpop_norm_front.specs.PrecedenceFaults.{unstepped_rule, step_faults, level_rule_faults, level_rules_faults, level_items_faults, leveled_faults, precedence_faults}
+use Rattle.lalrpop_norm_levels.specs.LevelFaults.{grammar_level_faults}
+use Rattle.lalrpop_norm_front.specs.MacroLevels.{macro_item_faults}
+use Rattle.lalrpop_norm_front.specs.PrecedenceFaults.{unstepped_rule, step_faults, level_rule_faults, level_items_faults, leveled_faults, precedence_faults}
 use Rattle.lalrpop_norm_front.proofs.LevelNameLemmas.{sense_kept, level_sense}
 use Rattle.lalrpop_norm_front.proofs.LevelFaultLemmas.{condition_none, parts_none}
 use Rattle.lalrpop_norm_front.proofs.SettledLemmas.{each_none, of_level_in, leveled_from, rule_none}

@@ -1,5 +1,5 @@
 -- In the grammar with levels nothing is left to resolve.
-use Rattle.std.proofs.Common.{◌≡◌, ◌⊎◌, inl, inr, ℕ, List, [], ◌∷◌, ◌++◌, Option, Some, None, Bool, true, false, map, refl, sym, ap, ap₂, ◌∙◌, subst}
+use Rattle.std.proofs.Common.{◌≡◌, inl, inr, ℕ, List, [], ◌∷◌, ◌++◌, Option, Some, None, Bool, true, false, map, refl, sym, ap, ap₂, ◌∙◌, subst}
 use Rattle.std.specs.Prelude.{flat_map, nat_eq, if◌then◌else◌}
 use Rattle.std.proofs.lemmas.List.{map-append}
 use Rattle.lalrpop_norm_tree.specs.Symbols.{Parts}
@@ -15,7 +15,7 @@ use Rattle.lalrpop_norm_model.proofs.LevelLemmas.{of_map, of_present}
 use Rattle.lalrpop_norm_model.proofs.WrittenLemmas.{of_numbered}
 use Rattle.lalrpop_norm_model.proofs.ReadingLemmas.{parts_kept}
 use Rattle.lalrpop_norm_names.specs.NameFaults.{condition_faults, parts_faults, alternative_faults, argument_faults, item_faults, repeated_faults, resolve_faults}
-use Rattle.lalrpop_norm_names.proofs.ResolvedFaults.{left_none, right_none}
+use Rattle.lalrpop_norm_names.proofs.ResolvedFaults.{right_none}
 use Rattle.lalrpop_norm_front.proofs.LevelNameLemmas.{has_level_rules, no_level_rules}
 use Rattle.lalrpop_norm_front.proofs.LevelFaultLemmas.{parts_settled}
 

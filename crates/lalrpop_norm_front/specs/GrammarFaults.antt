@@ -1,5 +1,6 @@
 -- The faults of a grammar that need no names, in the order in which they are looked for. Disabled parts count like all others.
-use Rattle.std.specs.Prelude.{ℕ, Bool, true, false, ◌||◌, ◌&&◌, not, List, [], ◌∷◌, ◌++◌, flat_map, Option, Some, None, is_some, is_none, bytes_eq, codes, if◌then◌else◌}
+use Rattle.std.specs.Prelude.{ℕ, Bool, true, false, ◌||◌, ◌&&◌, not, List, [], ◌∷◌, ◌++◌, map, flat_map, Option, Some, None, is_some, is_none, bytes_eq, codes, if◌then◌else◌}
+use Rattle.std.specs.List.{list_any}
 use Rattle.lalrpop_norm_tree.specs.declared.names.Span.{Span}
 use Rattle.lalrpop_norm_tree.specs.declared.items.MatchItem.{MatchItem}
 use Rattle.lalrpop_norm_tree.specs.declared.items.MatchItem.TheVariants.{CatchAll, Unmapped, Mapped}
@@ -13,12 +14,13 @@ use Rattle.lalrpop_norm_tree.specs.Types.{TypeData, ParameterData}
 use Rattle.lalrpop_norm_faults.specs.declared.kind.FaultKind.TheVariants.{GrammarAttribute, SecondMatch, MatchWithExtern, SecondExtern, UnknownAssociatedType, RepeatedAssociatedType, PublicMacro, UnknownRuleAttribute, RepeatedRuleAttribute, InlineOnPublic, WrittenIntern, WrittenOfSymbol}
 use Rattle.lalrpop_norm_faults.specs.Faults.{Fault, fault_if}
 use Rattle.lalrpop_norm_model.specs.Features.{is_one_of}
+use Rattle.lalrpop_norm_model.specs.TokenFaults.{each_after}
 use Rattle.lalrpop_norm_front.specs.declared.prevalidate.Place.{Place}
 use Rattle.lalrpop_norm_front.specs.declared.prevalidate.Blocks.{Blocks}
 use Rattle.lalrpop_norm_front.specs.SymbolFaults.{terminal_faults}
 use Rattle.lalrpop_norm_front.specs.AlternativeFaults.{alternative_faults}
 use Rattle.lalrpop_norm_front.specs.CfgFaults.{cfg_faults}
-use Rattle.lalrpop_norm_front.specs.LevelFaults.{level_faults}
+use Rattle.lalrpop_norm_levels.specs.LevelFaults.{level_faults}
 use Rattle.lalrpop_norm_front.specs.TypeFaults.{some_holds, clause_holds, pattern_holds}
 
 -- ---- rules
@@ -37,17 +39,21 @@ attribute_faults public before (attribute s name x) =
 abbrev pub attribute_name : AttributeData → List ℕ
 attribute_name (attribute s name x) = name
 
-abbrev pub attributes_faults : Bool → List (List ℕ) → Attributes → List Fault
-attributes_faults public before no_attributes = []
-attributes_faults public before (attribute_and a rest) = attribute_faults public before a ++ attributes_faults public (before ++ attribute_name a ∷ []) rest
+abbrev pub attribute_list : Attributes → List AttributeData
+attribute_list no_attributes = []
+attribute_list (attribute_and a rest) = a ∷ attribute_list rest
+
+-- each attribute after those before it
+abbrev pub attributes_faults : Bool → Attributes → List Fault
+attributes_faults public xs = each_after (λ before a. attribute_faults public (map attribute_name before) a) [] (attribute_list xs)
 
 -- F7, F23, then attributes, levels, alternatives
 unfoldable pub rule_faults : Place → RuleData → List Fault
 rule_faults c r =
     fault_if (is_public r.visibility && is_macro r) (PublicMacro, r.span)
     ++ (fault_if (some_holds r.type_decl) (WrittenOfSymbol, r.span)
-    ++ (attributes_faults (is_public r.visibility) [] r.attributes
-    ++ (level_faults r.alternatives ++ flat_map (alternative_faults c) r.alternatives)))
+    ++ (attributes_faults (is_public r.visibility) r.attributes
+    ++ (level_faults r ++ flat_map (alternative_faults c) r.alternatives)))
 
 -- ---- tokens
 
@@ -77,9 +83,10 @@ associated_faults before t =
     ++ (fault_if (is_one_of t.type_name before) (RepeatedAssociatedType, t.type_span)
     ++ fault_if (holds_symbol t.type_ref) (WrittenOfSymbol, t.type_span))
 
-abbrev pub types_faults : List (List ℕ) → List AssociatedTypeData → List Fault
-types_faults before [] = []
-types_faults before (t ∷ ts) = associated_faults before t ++ types_faults (before ++ t.type_name ∷ []) ts
+-- each associated type after those before it
+abbrev pub types_faults : List AssociatedTypeData → List Fault
+types_faults ts =
+    each_after (λ (before : List AssociatedTypeData) t. associated_faults (map (λ (b : AssociatedTypeData). b.type_name) before) t) [] ts
 
 -- F22, F23
 unfoldable pub conversion_faults : ConversionData → List Fault
@@ -94,7 +101,7 @@ unfoldable pub extern_faults : Blocks → Bool → ExternTokenData → List Faul
 extern_faults b seen t =
     fault_if seen (SecondExtern, t.span)
     ++ ((if is_some t.enum_token then beside_faults b.first_match else [])
-    ++ (types_faults [] t.associated_types ++ enum_faults t.enum_token))
+    ++ (types_faults t.associated_types ++ enum_faults t.enum_token))
 
 -- ---- items
 
@@ -112,9 +119,9 @@ item_faults c b s m e (intern_item t) = (WrittenIntern, s) ∷ []
 item_faults c b s m e (rule_item r) = rule_faults c r
 item_faults c b s m e (use_item u) = []
 
-abbrev pub items_faults : Place → Blocks → Span → Bool → Bool → List ItemData → List Fault
-items_faults c b s m e [] = []
-items_faults c b s m e (i ∷ is) = item_faults c b s m e i ++ items_faults c b s (m || is_match i) (e || is_extern i) is
+-- each item by the blocks that stand before it
+abbrev pub items_faults : Place → Blocks → Span → List ItemData → List Fault
+items_faults c b s is = each_after (λ before i. item_faults c b s (list_any is_match before) (list_any is_extern before) i) [] is
 
 -- ---- what the first blocks and the grammar's attributes say
 
@@ -172,4 +179,4 @@ validate_faults g =
     unknown_faults g.attributes
     ++ (flat_map (parameter_faults g.span) g.parameters
     ++ (flat_map (clause_faults g.span) g.where_clauses
-    ++ items_faults (place_in g) (blocks_in g) g.span false false g.items))
+    ++ items_faults (place_in g) (blocks_in g) g.span g.items))

@@ -4,9 +4,9 @@ pub mod EnabledItems
 pub mod SymbolFaults
 pub mod AlternativeFaults
 pub mod CfgFaults
-pub mod LevelFaults
 pub mod TypeFaults
 pub mod GrammarFaults
 pub mod ExprSymbols
 pub mod PrecedenceFaults
 pub mod MacroLevels
+pub mod Walks

@@ -1,5 +1,5 @@
 -- Macros with several levels.
-use Rattle.std.specs.Prelude.{◌&&◌, List, [], ◌∷◌, flat_map}
+use Rattle.std.specs.Prelude.{◌&&◌, List, []}
 use Rattle.lalrpop_norm_tree.specs.Items.{RuleData, ItemData, match_item, extern_item, intern_item, rule_item, use_item}
 use Rattle.lalrpop_norm_faults.specs.declared.kind.FaultKind.TheVariants.{NotNonterminal}
 use Rattle.lalrpop_norm_faults.specs.Faults.{Fault, fault_if}

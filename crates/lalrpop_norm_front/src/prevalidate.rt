@@ -10,7 +10,6 @@ ghost use Rattle.lalrpop_norm_front.specs.GrammarFaults.{is_match, is_extern, it
 
 mod alternatives;
 mod cfg;
-mod levels;
 mod rules;
 mod symbols;
 mod tokens;
@@ -208,6 +207,7 @@ fn validate_item(
     }
 }
 
+#[tactic(auto, using(crate::proofs::PlaceLemmas::items_placed))]
 fn validate_items(
     alloc: Global,
     place: Place,
@@ -215,7 +215,7 @@ fn validate_items(
     span: Span,
     items: &[GrammarItem],
 ) -> NormResult<()>
-    ensures { Refuses result (items_faults place blocks span false false (map item_view items.now)) }
+    ensures { Refuses result (items_faults place blocks span (map item_view items.now)) }
 {
     let mut seen_match = false;
     let mut seen_extern = false;

@@ -4,4 +4,5 @@ mod WalkLemmas
 mod GroupLemmas
 mod KindLemmas
 mod RuleLemmas
+mod FirstLemmas
 mod SeveralLemmas

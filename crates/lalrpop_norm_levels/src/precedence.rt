@@ -1,7 +1,10 @@
 //! Levels of precedence: the attributes that state them, and the rules that they become.
-ghost use Rattle.std.specs.Prelude.{◌≡◌};
+ghost use Rattle.std.specs.Prelude.{◌≡◌, []};
 ghost use Rattle.lalrpop_norm_tree.specs.Items.{rule_view};
+ghost use Rattle.lalrpop_norm_model.specs.Enabled.{all_places};
+ghost use Rattle.lalrpop_norm_model.specs.Levels.{has_levels};
 ghost use Rattle.lalrpop_norm_levels.specs.Attributes.{first_has_level_attribute};
+ghost use Rattle.lalrpop_norm_levels.specs.LevelFaults.{level_faults};
 
 mod assoc;
 mod attributes;
@@ -30,8 +33,12 @@ pub const SIDE_ARG: &str = "side";
 
 /// Whether the first alternative of a rule has a `precedence` or an `assoc`. Whether a rule has levels is another
 /// question: there each alternative counts.
+///
+/// Where a rule has no fault of levels, the first alternative tells whether the rule has levels.
+#[tactic(auto, using(crate::proofs::FirstLemmas::first_tells))]
 pub fn has_prec_attr(non_term: &NonterminalData) -> bool
-    ensures { result ≡ first_has_level_attribute (rule_view non_term.now).alternatives }
+    ensures first { result ≡ first_has_level_attribute (rule_view non_term.now).alternatives }
+    ensures levels { level_faults (rule_view non_term.now) ≡ [] → result ≡ has_levels (all_places (rule_view non_term.now)) }
 {
     match non_term.alternatives.first() {
         Some(first) => has_level_attribute(&first.attributes),

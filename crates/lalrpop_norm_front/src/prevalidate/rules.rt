@@ -6,13 +6,14 @@ ghost use Rattle.lalrpop_norm_faults.specs.Faults.{Refuses, fault_if};
 ghost use Rattle.lalrpop_norm_model.specs.Features.{is_one_of};
 ghost use Rattle.lalrpop_norm_front.specs.AlternativeFaults.{alternative_faults};
 ghost use Rattle.lalrpop_norm_front.specs.GrammarFaults.{is_known_on_rule, attribute_faults, attributes_faults, rule_faults};
+ghost use Rattle.lalrpop_norm_levels.specs.LevelFaults.{level_faults};
 
 use super::Place;
 use super::alternatives::validate_alternative;
 use super::cfg::validate_cfg;
-use super::levels::validate_levels;
 use super::types::some_holds;
 use lalrpop_norm_faults::{FaultKind, NormResult, refusal};
+use lalrpop_norm_levels::precedence::read_levels;
 use lalrpop_norm_tree::grammar::parse_tree::{Alternative, Atom, Attribute, NonterminalData, Span};
 use std::alloc::Global;
 
@@ -94,8 +95,9 @@ fn validate_attribute(
     Ok(())
 }
 
+#[tactic(auto, using(crate::proofs::PlaceLemmas::attributes_placed))]
 fn validate_attributes(alloc: Global, public: bool, attributes: &[Attribute]) -> NormResult<()>
-    ensures { Refuses result (attributes_faults public [] (attributes_view attributes.now)) }
+    ensures { Refuses result (attributes_faults public (attributes_view attributes.now)) }
 {
     for (i, attribute) in attributes.iter().enumerate() {
         validate_attribute(alloc, public, &attributes[..i], attribute)?;
@@ -113,6 +115,14 @@ fn validate_alternatives(
     for alternative in alternatives {
         validate_alternative(alloc, place, alternative)?;
     }
+    Ok(())
+}
+
+/// The levels and sides of all written alternatives.
+fn validate_levels(alloc: Global, rule: &NonterminalData) -> NormResult<()>
+    ensures { Refuses result (level_faults (rule_view rule.now)) }
+{
+    let _levels = read_levels(alloc, rule)?;
     Ok(())
 }
 
@@ -151,7 +161,7 @@ pub(super) fn validate_rule(alloc: Global, place: Place, rule: &NonterminalData)
     check_public(alloc, public && rule.is_macro_def(), rule.span)?;
     check_type(alloc, some_holds(&rule.type_decl), rule.span)?;
     validate_attributes(alloc, public, &rule.attributes)?;
-    validate_levels(alloc, &rule.alternatives)?;
+    validate_levels(alloc, rule)?;
     validate_alternatives(alloc, place, &rule.alternatives)?;
     Ok(())
 }

@@ -170,8 +170,9 @@ fn validate_associated(
     Ok(())
 }
 
+#[tactic(auto, using(crate::proofs::PlaceLemmas::types_placed))]
 fn validate_types(alloc: Global, types: &[AssociatedType]) -> NormResult<()>
-    ensures { Refuses result (types_faults [] (map associated_type_view types.now)) }
+    ensures { Refuses result (types_faults (map associated_type_view types.now)) }
 {
     for (i, ty) in types.iter().enumerate() {
         validate_associated(alloc, &types[..i], ty)?;

@@ -146,20 +146,16 @@ fn replace_kind(
             Ok(left)
         }
         SymbolKind::Repeat(repeat) => {
-            let left = replace_repeat(repeat, target, first, others, direction, is_met)?;
-            Ok(left)
+            replace_repeat(repeat, target, first, others, direction, is_met)
         }
         SymbolKind::Choose(symbol) => {
-            let left = replace_boxed(symbol, target, first, others, direction, is_met)?;
-            Ok(left)
+            replace_boxed(symbol, target, first, others, direction, is_met)
         }
         SymbolKind::Name(_, symbol) => {
-            let left = replace_boxed(symbol, target, first, others, direction, is_met)?;
-            Ok(left)
+            replace_boxed(symbol, target, first, others, direction, is_met)
         }
         SymbolKind::Tuple(_, symbol) => {
-            let left = replace_boxed(symbol, target, first, others, direction, is_met)?;
-            Ok(left)
+            replace_boxed(symbol, target, first, others, direction, is_met)
         }
         SymbolKind::AmbiguousId(_)
         | SymbolKind::Terminal(_)

@@ -1,10 +1,10 @@
 use Rattle.std.proofs.Common.{◌≡◌, [], map, subst, sym, ap, ◌∙◌}
 use Rattle.std.specs.List.{flat_map}
 use Rattle.lalrpop_norm_tree.specs.Items.{GrammarData, item_view, grammar_view}
-use Rattle.lalrpop_norm_faults.specs.Faults.{first, Refuses}
+use Rattle.lalrpop_norm_faults.specs.Faults.{first}
 use Rattle.lalrpop_norm_model.specs.Scopes.{globals, resolved_grammar}
 use Rattle.lalrpop_norm_model.specs.LevelRules.{leveled_grammar}
-use Rattle.lalrpop_norm_names.specs.NameFaults.{repeated_faults, resolve_faults}
+use Rattle.lalrpop_norm_names.specs.NameFaults.{repeated_faults}
 use Rattle.lalrpop_norm_levels.specs.LevelFaults.{grammar_level_faults}
 use Rattle.lalrpop_norm_front.specs.MacroLevels.{macro_item_faults}
 use Rattle.lalrpop_norm_front.specs.PrecedenceFaults.{precedence_faults}
