@@ -20,10 +20,7 @@ pub(super) fn find_in_head(grammar: &Grammar) -> Result<(), LaterPart>
     find_attribute(LaterPart::GrammarAttribute, &grammar.attributes)
 }
 
-fn find_in_item(
-    converted: &BTreeSet<TerminalString>,
-    item: &GrammarItem,
-) -> Result<(), LaterPart>
+fn find_in_item(converted: &BTreeSet<TerminalString>, item: &GrammarItem) -> Result<(), LaterPart>
     ensures { Finds result (item_parts (terminal_in converted.now.keys) (item_view item.now)) }
 {
     match item {

@@ -49,20 +49,14 @@ pub(super) fn find_in_symbols(
 }
 
 #[cycle(symbols)]
-fn find_in_symbol(
-    converted: &BTreeSet<TerminalString>,
-    symbol: &Symbol,
-) -> Result<(), LaterPart>
+fn find_in_symbol(converted: &BTreeSet<TerminalString>, symbol: &Symbol) -> Result<(), LaterPart>
     ensures { Finds result (symbol_parts (terminal_in converted.now.keys) (symbol_view symbol.now)) }
 {
     find_in_kind(converted, &symbol.kind)
 }
 
 #[cycle(symbols)]
-fn find_in_kind(
-    converted: &BTreeSet<TerminalString>,
-    kind: &SymbolKind,
-) -> Result<(), LaterPart>
+fn find_in_kind(converted: &BTreeSet<TerminalString>, kind: &SymbolKind) -> Result<(), LaterPart>
     ensures { Finds result (kind_parts (terminal_in converted.now.keys) (kind_view kind.now)) }
 {
     match kind {

@@ -1,4 +1,4 @@
-use Rattle.std.proofs.Common.{◌≡◌, [], ◌∙◌, map, sym, subst}
+use Rattle.std.proofs.Common.{◌≡◌, [], ◌∙◌, sym, subst}
 use Rattle.std.specs.List.{flat_map}
 use Rattle.lalrpop_norm_tree.specs.Items.{grammar_view}
 use Rattle.lalrpop_norm_front.specs.Sessions.{features_view}
