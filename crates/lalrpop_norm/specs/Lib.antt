@@ -6,3 +6,4 @@ pub mod PlainGrammars
 pub mod Normalize
 pub mod Derivations
 pub mod Faithful
+pub mod Laws
