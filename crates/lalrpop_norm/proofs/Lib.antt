@@ -5,3 +5,9 @@ pub mod PlainLemmas
 pub mod ShapeTrees
 pub mod SimpleFaithful
 pub mod FaithfulLemmas
+pub mod ScopedLemmas
+pub mod PlainShape
+pub mod TreesRounds
+pub mod TreesLeveled
+pub mod TreesWritten
+pub mod TreesFaithful

@@ -5,6 +5,7 @@
 
 pub mod grammar;
 mod later;
+pub mod laws;
 mod passes;
 
 pub use lalrpop_norm_front::{FaultKind, NormError, NormFailure, NormResult, Session};
