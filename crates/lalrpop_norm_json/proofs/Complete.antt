@@ -4,13 +4,20 @@ use Rattle.serde_json.specs.Data.{Data, null, boolean, number, string, array, ob
 use Rattle.lalrpop_norm_tree.specs.declared.names.Span.{Span}
 use Rattle.lalrpop_norm_tree.specs.declared.names.TerminalLiteral.{TerminalLiteral}
 use Rattle.lalrpop_norm_tree.specs.declared.names.TerminalLiteral.TheVariants.{Quoted, Regex}
+use Rattle.lalrpop_norm_tree.specs.declared.names.TerminalString.{TerminalString}
+use Rattle.lalrpop_norm_tree.specs.declared.names.TerminalString.TheVariants.{Literal, Bare, Error}
 use Rattle.lalrpop_norm_tree.specs.declared.names.TypeParameter.{TypeParameter}
 use Rattle.lalrpop_norm_tree.specs.declared.names.TypeParameter.TheVariants as parameter
+use Rattle.lalrpop_norm_tree.specs.declared.symbol.RepeatOp.{RepeatOp}
+use Rattle.lalrpop_norm_tree.specs.declared.symbol.RepeatOp.TheVariants.{Star, Plus, Question}
+use Rattle.lalrpop_norm_tree.specs.declared.symbol.Name.{Name as SymbolName}
 use Rattle.lalrpop_norm_tree.specs.Paths.{PathData}
-use Rattle.lalrpop_norm_tree.specs.Items.{VisibilityData, everywhere, within, private}
+use Rattle.lalrpop_norm_tree.specs.Attributes.{Argument, empty, paren, equal, AttributeData, attribute, Attributes, no_attributes, attribute_and}
+use Rattle.lalrpop_norm_tree.specs.Items.{Action, user_code, fallible_code, lookahead_code, lookbehind_code, VisibilityData, everywhere, within, private}
 use Rattle.lalrpop_norm_json.specs.Json.{maybe_form, list_form}
-use Rattle.lalrpop_norm_json.specs.Forms.{span_form, literal_form, type_parameter_form, path_form}
-use Rattle.lalrpop_norm_json.specs.ItemForms.{visibility_form}
+use Rattle.lalrpop_norm_json.specs.Forms.{span_form, literal_form, terminal_form, type_parameter_form, path_form, argument_form, attribute_form, attributes_form}
+use Rattle.lalrpop_norm_json.specs.SymbolForms.{op_form, name_form}
+use Rattle.lalrpop_norm_json.specs.ItemForms.{action_form, visibility_form}
 use Rattle.lalrpop_norm_json.specs.Shapes as shape
 use Rattle.lalrpop_norm_json.specs.Shapes.{Shape, fits, each, optional, arrayed, Name, is}
 
@@ -23,6 +30,38 @@ text_fits s = refl
 pub literal_fits : (l : TerminalLiteral) → is shape.literal (literal_form l) ≡ true
 literal_fits (Quoted a) = refl
 literal_fits (Regex a) = refl
+
+pub terminal_fits : (t : TerminalString) → is shape.terminal (terminal_form t) ≡ true
+terminal_fits (Literal l) = literal_fits l
+terminal_fits (Bare a) = refl
+terminal_fits Error = refl
+
+pub operator_fits : (o : RepeatOp) → is shape.repeat_operator (op_form o) ≡ true
+operator_fits Star = refl
+operator_fits Plus = refl
+operator_fits Question = refl
+
+pub name_fits : (n : SymbolName) → is shape.symbol_name (name_form n) ≡ true
+name_fits n = refl
+
+pub action_fits : (a : Action) → is shape.action (action_form a) ≡ true
+action_fits (user_code s) = refl
+action_fits (fallible_code s) = refl
+action_fits lookahead_code = refl
+action_fits lookbehind_code = refl
+
+mutual
+  pub argument_fits : (g : Argument) → is shape.attribute_argument (argument_form g) ≡ true
+  argument_fits empty = refl
+  argument_fits (paren xs) = attributes_fit xs
+  argument_fits (equal s) = refl
+
+  pub attribute_fits : (a : AttributeData) → is shape.attribute (attribute_form a) ≡ true
+  attribute_fits (attribute s a g) = rw (argument_fits g) refl
+
+  pub attributes_fit : (xs : Attributes) → fits (arrayed (each shape.attribute)) (array (attributes_form xs)) ≡ true
+  attributes_fit no_attributes = refl
+  attributes_fit (attribute_and a xs) = rw (attribute_fits a) (attributes_fit xs)
 
 pub type_parameter_fits : (p : TypeParameter) → is shape.type_parameter (type_parameter_form p) ≡ true
 type_parameter_fits (parameter.Lifetime l) = refl

@@ -3,12 +3,15 @@ use Rattle.std.proofs.Common.{◌≡◌, List, [], ◌∷◌, map, Option, Some,
 use Rattle.serde_json.specs.Data.{Data, item, array}
 use Rattle.serde_json.specs.View.{items_of}
 use Rattle.lalrpop_norm_tree.specs.declared.symbol.Symbol.{Symbol}
+use Rattle.lalrpop_norm_tree.specs.declared.attribute.Attribute.{Attribute}
 use Rattle.lalrpop_norm_tree.specs.declared.types.TypeRef.{TypeRef}
 use Rattle.lalrpop_norm_tree.specs.declared.pattern.Pattern.{Pattern}
 use Rattle.lalrpop_norm_tree.specs.Symbols.{symbol_view, parts_view}
+use Rattle.lalrpop_norm_tree.specs.Attributes.{attribute_view, attributes_view}
 use Rattle.lalrpop_norm_tree.specs.Types.{type_view, types_view}
 use Rattle.lalrpop_norm_tree.specs.Patterns.{pattern_view, patterns_view}
 use Rattle.lalrpop_norm_json.specs.Json.{maybe_form, list_form}
+use Rattle.lalrpop_norm_json.specs.Forms.{attribute_form, attributes_form}
 use Rattle.lalrpop_norm_json.specs.SymbolForms.{part_form, parts_form}
 use Rattle.lalrpop_norm_json.specs.TypeForms.{type_form, types_form}
 use Rattle.lalrpop_norm_json.specs.PatternForms.{pattern_form, patterns_form}
@@ -16,6 +19,10 @@ use Rattle.lalrpop_norm_json.specs.PatternForms.{pattern_form, patterns_form}
 pub parts_items : (ss : List Symbol) → items_of (map (λ s. part_form (symbol_view s)) ss) ≡ parts_form (parts_view ss)
 parts_items [] = refl
 parts_items (s ∷ ss) = ap (item (part_form (symbol_view s))) (parts_items ss)
+
+pub attributes_items : (xs : List Attribute) → items_of (map (λ a. attribute_form (attribute_view a)) xs) ≡ attributes_form (attributes_view xs)
+attributes_items [] = refl
+attributes_items (a ∷ xs) = ap (item (attribute_form (attribute_view a))) (attributes_items xs)
 
 pub types_items : (ts : List TypeRef) → items_of (map (λ t. type_form (type_view t)) ts) ≡ types_form (types_view ts)
 types_items [] = refl

@@ -95,8 +95,10 @@ fn items(rt: HostRuntime) -> Result<(), Fail> {
     let rows = [
         ("[]", true),
         ("null", false),
-        ("[{\"Use\":\"a::b\"}]", false),
+        ("[{\"Use\":\"a::b\"}]", true),
+        ("[{\"Use\":null}]", false),
         ("[\"InternToken\"]", false),
+        ("[{\"MatchToken\":{\"contents\":[],\"span\":[0,1]}}]", false),
         (
             "[{\"ExternToken\":{\"span\":[0,1],\"associated_types\":[],\"enum_token\":null}}]",
             true,
@@ -126,7 +128,7 @@ fn with_type(alloc: Global, form: &str) -> Result<String, AllocError> {
 }
 
 /// Each variant of a type that is read, with its text, and some that are not.
-const TYPES: [(&str, Option<&str>); 11] = [
+const TYPES: [(&str, Option<&str>); 12] = [
     ("{\"Id\":\"T\"}", Some("T")),
     ("{\"Lifetime\":\"'a\"}", Some("'a")),
     (
@@ -153,6 +155,7 @@ const TYPES: [(&str, Option<&str>); 11] = [
         "{\"Ref\":{\"mutable\":true,\"lifetime\":null,\"referent\":null}}",
         None,
     ),
+    ("{\"OfSymbol\":{\"AmbiguousId\":\"x\"}}", Some("`x`")),
     ("{\"OfSymbol\":\"Lookahead\"}", None),
     ("\"Tuple\"", None),
     ("{\"Id\":\"T\",\"Lifetime\":\"'a\"}", None),
@@ -177,6 +180,185 @@ fn types(rt: HostRuntime) -> Result<(), Fail> {
             Err(TreeError::NotATree) => assert_eq!(rt; None, want, "{form}"),
             Err(TreeError::Memory) => assert!(rt; false),
         }
+    }
+    Ok(())
+}
+
+/// The only alternative that is read of a rule with that symbol, code and attributes; none where that is no tree.
+fn alternative_of(
+    alloc: Global,
+    kind: &str,
+    code: &str,
+    attributes: &str,
+) -> Result<Option<Alternative>, AllocError> {
+    let symbol = format!(in alloc; "{{\"span\":[0,1],\"kind\":{kind}}}")?;
+    let alternative = format!(in alloc;
+        "{{\"span\":[0,1],\"expr\":{{\"symbols\":[{symbol}]}},\"condition\":null,\"action\":{code},\"attributes\":{attributes}}}"
+    )?;
+    let rule = format!(in alloc;
+        "{{\"visibility\":\"Priv\",\"name\":\"S\",\"attributes\":[],\"span\":[0,1],\"args\":[],\"alternatives\":[{alternative}],\"type_decl\":null}}"
+    )?;
+    let text = format!(in alloc; "{BARE}\"span\":[0,0],\"items\":[{{\"Nonterminal\":{rule}}}]}}")?;
+    match read_tree(alloc, text.as_str()) {
+        Ok(mut grammar) => match grammar.items.pop() {
+            Some(GrammarItem::Nonterminal(mut rule)) => Ok(rule.alternatives.pop()),
+            _ => Ok(None),
+        },
+        Err(_) => Ok(None),
+    }
+}
+
+const KIND: &str = r#"{"Nonterminal":"N"}"#;
+
+/// Symbols that are read, with their texts, and some that are not.
+const SYMBOLS: [(&str, Option<&str>); 14] = [
+    (
+        r#"{"Expr":{"symbols":[{"span":[0,1],"kind":{"AmbiguousId":"x"}},{"span":[1,2],"kind":{"Terminal":"Error"}}]}}"#,
+        Some("(x error)"),
+    ),
+    (
+        r#"{"Repeat":{"op":"Star","symbol":{"span":[0,1],"kind":{"Terminal":{"Bare":"B"}}}}}"#,
+        Some("B*"),
+    ),
+    (
+        r#"{"Repeat":{"op":"Plus","symbol":{"span":[0,1],"kind":{"Nonterminal":"N"}}}}"#,
+        Some("N+"),
+    ),
+    (
+        r#"{"Repeat":{"op":"Question","symbol":{"span":[0,1],"kind":{"Nonterminal":"N"}}}}"#,
+        Some("N?"),
+    ),
+    (
+        r#"{"Name":[{"mutable":true,"name":"x"},{"span":[0,1],"kind":{"Nonterminal":"N"}}]}"#,
+        Some("mut x:N"),
+    ),
+    (
+        r#"{"Name":[{"mutable":false,"name":"x"},{"span":[0,1],"kind":{"Nonterminal":"N"}}]}"#,
+        Some("x:N"),
+    ),
+    (
+        r#"{"Name":[{"mutable":false,"name":"x"},{"span":[0,1],"kind":{"Nonterminal":"N"}},0]}"#,
+        None,
+    ),
+    (
+        r#"{"Name":[{"name":"x"},{"span":[0,1],"kind":{"Nonterminal":"N"}}]}"#,
+        None,
+    ),
+    (
+        r#"{"Repeat":{"op":{"Times":2},"symbol":{"span":[0,1],"kind":{"Nonterminal":"N"}}}}"#,
+        None,
+    ),
+    (
+        r#"{"Tuple":[{"tuples":[]},{"span":[0,1],"kind":{"Nonterminal":"N"}}]}"#,
+        None,
+    ),
+    (r#"{"Macro":{"name":"M","args":[]}}"#, None),
+    (r#"{"Expr":[]}"#, None),
+    (r#""Error""#, None),
+    (r#""Lookahead""#, None),
+];
+
+#[test]
+fn symbols(rt: HostRuntime) -> Result<(), Fail> {
+    let alloc = rt.alloc();
+    for (form, want) in SYMBOLS {
+        match alternative_of(alloc, form, "null", "[]")? {
+            Some(alternative) => match alternative.expr.symbols.first() {
+                Some(symbol) => {
+                    let shown = symbol.to_string(alloc)?;
+                    assert_eq!(rt; Some(shown.as_str()), want, "{form}");
+                }
+                None => assert!(rt; false, "{form}"),
+            },
+            None => assert_eq!(rt; None, want, "{form}"),
+        }
+    }
+    Ok(())
+}
+
+/// Symbols of one text are told apart.
+#[test]
+fn names_and_terminals(rt: HostRuntime) -> Result<(), Fail> {
+    let alloc = rt.alloc();
+    let rows = [
+        (
+            r#"{"AmbiguousId":"x"}"#,
+            SymbolKind::AmbiguousId(Atom::new(alloc, "x")?),
+        ),
+        (
+            r#"{"Terminal":{"Bare":"x"}}"#,
+            SymbolKind::Terminal(TerminalString::Bare(Atom::new(alloc, "x")?)),
+        ),
+        (
+            r#"{"Terminal":"Error"}"#,
+            SymbolKind::Terminal(TerminalString::Error),
+        ),
+    ];
+    for (form, want) in &rows {
+        match alternative_of(alloc, form, "null", "[]")? {
+            Some(alternative) => match alternative.expr.symbols.first() {
+                Some(symbol) => assert!(rt; symbol.kind == *want, "{form}"),
+                None => assert!(rt; false, "{form}"),
+            },
+            None => assert!(rt; false, "{form}"),
+        }
+    }
+    Ok(())
+}
+
+#[test]
+fn code(rt: HostRuntime) -> Result<(), Fail> {
+    let alloc = rt.alloc();
+    let rows = [
+        ("null", None),
+        (
+            r#"{"User":"f(<>)"}"#,
+            Some(ActionKind::User(String::from_str(alloc, "f(<>)")?)),
+        ),
+        (
+            r#"{"Fallible":"f(<>)"}"#,
+            Some(ActionKind::Fallible(String::from_str(alloc, "f(<>)")?)),
+        ),
+        (r#""Lookahead""#, Some(ActionKind::Lookahead)),
+        (r#""Lookbehind""#, Some(ActionKind::Lookbehind)),
+    ];
+    for (form, want) in &rows {
+        match alternative_of(alloc, KIND, form, "[]")? {
+            Some(alternative) => assert!(rt; alternative.action == *want, "{form}"),
+            None => assert!(rt; false, "{form}"),
+        }
+    }
+    assert!(rt; alternative_of(alloc, KIND, r#""User""#, "[]")?.is_none());
+    Ok(())
+}
+
+/// `cfg(feature = "f")`, `inline`.
+const ATTRIBUTES: &str =
+    r#"[{"id_span":[1,2],"id":"cfg","arg":{"Paren":[{"id_span":[3,4],"id":"feature","arg":{"Equal":"f"}}]}},{"id_span":[5,6],"id":"inline","arg":"Empty"}]"#;
+
+#[test]
+fn attributes(rt: HostRuntime) -> Result<(), Fail> {
+    let alloc = rt.alloc();
+    let feature = Attribute {
+        id_span: Span(3, 4),
+        id: Atom::new(alloc, "feature")?,
+        arg: AttributeArg::Equal(String::from_str(alloc, "f")?),
+    };
+    let cfg = Attribute {
+        id_span: Span(1, 2),
+        id: Atom::new(alloc, "cfg")?,
+        arg: AttributeArg::Paren(vec![in alloc; feature]?),
+    };
+    let inline = Attribute {
+        id_span: Span(5, 6),
+        id: Atom::new(alloc, "inline")?,
+        arg: AttributeArg::Empty,
+    };
+    match alternative_of(alloc, KIND, "null", ATTRIBUTES)? {
+        Some(alternative) => {
+            assert!(rt; alternative.attributes == vec![in alloc; cfg, inline]?);
+        }
+        None => assert!(rt; false),
     }
     Ok(())
 }

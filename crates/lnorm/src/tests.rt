@@ -1,4 +1,6 @@
 //! Runs over whole inputs, and over streams that fail.
+mod rows;
+
 use crate::run::run;
 use std::alloc::{AllocError, Global};
 use std::io::{self, Error, ErrorKind, Read, Write};
@@ -17,6 +19,8 @@ const OTHER_RULE: &str =
     r#"{"Nonterminal":{"visibility":{"Pub":null},"name":"T","attributes":[],"span":[54,59],"args":[],"type_decl":{"Tuple":[]},"alternatives":[{"span":[62,63],"expr":{"symbols":[{"span":[62,63],"kind":{"Nonterminal":"S"}}]},"condition":null,"action":null,"attributes":[]}]}}"#;
 
 const USE: &str = r#"{"Use":"a::b"}"#;
+
+const MATCH: &str = r#"{"MatchToken":{"contents":[],"span":[0,0]}}"#;
 
 const LINES: &str =
     "S = \"a\" => ActionFn(1);\n__S = S => ActionFn(0);\ntype S: ()\ntype __S: ()\nstart S = __S\n";
@@ -77,6 +81,10 @@ fn prints_lines(rt: HostRuntime) -> Result<(), Fail> {
     assert_eq!(rt; result.status, 0);
     assert_eq!(rt; result.output.as_slice(), LINES.as_bytes());
     assert!(rt; result.faults.is_empty());
+    let with_use = tree(alloc, &[TOKENS, USE, RULE])?;
+    let result = run_on(alloc, &[], with_use.as_str())?;
+    assert_eq!(rt; result.status, 0);
+    assert_eq!(rt; result.output.as_slice(), LINES.as_bytes());
     let two = tree(alloc, &[TOKENS, RULE, OTHER_RULE])?;
     let result = run_on(alloc, &[], two.as_str())?;
     assert_eq!(rt; result.status, 0);
@@ -90,25 +98,28 @@ fn prints_lines(rt: HostRuntime) -> Result<(), Fail> {
 fn names_a_fault(rt: HostRuntime) -> Result<(), Fail> {
     let alloc = rt.alloc();
     let twice = tree(alloc, &[TOKENS, RULE, RULE])?;
-    let result = run_on(alloc, &[], twice.as_str())?;
-    assert_eq!(rt; result.status, 1);
-    assert!(rt; result.faults.starts_with("F0 0..0: ".as_bytes()));
-    assert_eq!(rt; result.faults.last(), Some(&b'\n'));
-    assert!(rt; result.output.is_empty());
+    let without_tokens = tree(alloc, &[RULE])?;
+    for (input, want) in [(twice, "F25 41..46: "), (without_tokens, "F0 0..0: ")] {
+        let result = run_on(alloc, &[], input.as_str())?;
+        assert_eq!(rt; result.status, 1);
+        assert!(rt; result.faults.starts_with(want.as_bytes()));
+        assert_eq!(rt; result.faults.last(), Some(&b'\n'));
+        assert!(rt; result.output.is_empty());
+    }
     Ok(())
 }
 
 #[test]
 fn refuses_what_is_no_tree(rt: HostRuntime) -> Result<(), Fail> {
     let alloc = rt.alloc();
-    let with_use = tree(alloc, &[TOKENS, USE, RULE])?;
+    let with_match = tree(alloc, &[TOKENS, MATCH, RULE])?;
     let one = tree(alloc, &[TOKENS, RULE])?;
     let further = format!(in alloc; "{one} x")?;
     for input in [
         "",
         "{\"prefix\":",
         "null",
-        with_use.as_str(),
+        with_match.as_str(),
         further.as_str(),
     ] {
         let result = run_on(alloc, &[], input)?;

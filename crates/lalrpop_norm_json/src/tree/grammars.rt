@@ -6,9 +6,10 @@ ghost use Rattle.lalrpop_norm_json.specs.Shapes as shape;
 ghost use Rattle.lalrpop_norm_json.specs.Shapes.{is, fits, place, many};
 ghost use Rattle.lalrpop_norm_json.specs.ItemForms.{item_form, items_form, grammar_form};
 
+use super::attributes::attributes;
 use super::names::{span, string};
 use super::parts::list;
-use super::rules::{attributes, rule};
+use super::rules::rule;
 use super::tokens::extern_token;
 use super::types::{parameters, where_clauses};
 use crate::json::{Case, TreeError, case_of, end, field, items, members_of};
@@ -26,6 +27,7 @@ fn grammar_item(alloc: Global, value: &Value) -> Result<GrammarItem, TreeError>
         Case::Of(variant, held) => match variant {
             "ExternToken" => Ok(GrammarItem::ExternToken(extern_token(alloc, held)?)),
             "Nonterminal" => Ok(GrammarItem::Nonterminal(rule(alloc, held)?)),
+            "Use" => Ok(GrammarItem::Use(string(alloc, held)?)),
             _ => Err(TreeError::NotATree),
         },
     }

@@ -63,9 +63,13 @@ pub(super) fn terminal(alloc: Global, value: &Value) -> Result<TerminalString, T
     ensures err { IsErrOf result TreeError.NotATree → is shape.terminal (view value.now) ≡ false }
 {
     match case_of(value)? {
-        Case::Bare(_) => Err(TreeError::NotATree),
+        Case::Bare(variant) => match variant {
+            "Error" => Ok(TerminalString::Error),
+            _ => Err(TreeError::NotATree),
+        },
         Case::Of(variant, held) => match variant {
             "Literal" => Ok(TerminalString::Literal(literal(alloc, held)?)),
+            "Bare" => Ok(TerminalString::Bare(atom(alloc, held)?)),
             _ => Err(TreeError::NotATree),
         },
     }

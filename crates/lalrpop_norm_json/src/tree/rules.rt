@@ -1,33 +1,22 @@
 //! Rules and their alternatives.
 ghost use Rattle.std.specs.Prelude.{◌≡◌, IfOk, IsErrOf, false};
-ghost use Rattle.serde_json.specs.Data.{array};
 ghost use Rattle.serde_json.specs.View.{view};
-ghost use Rattle.lalrpop_norm_tree.specs.Attributes.{attributes_view};
 ghost use Rattle.lalrpop_norm_tree.specs.Items.{alternative_view, rule_view};
 ghost use Rattle.lalrpop_norm_json.specs.Shapes as shape;
 ghost use Rattle.lalrpop_norm_json.specs.Shapes.{is};
 ghost use Rattle.lalrpop_norm_json.specs.Json.{maybe_form};
-ghost use Rattle.lalrpop_norm_json.specs.Forms.{attributes_form};
 ghost use Rattle.lalrpop_norm_json.specs.ItemForms.{condition_form, alternative_form, rule_form};
 
+use super::attributes::attributes;
 use super::names::{atom, path, span, string};
 use super::parts::{FromValue, list, maybe};
 use super::symbols::group;
-use crate::json::{Case, TreeError, absent, case_of, end, field, members_of, nothing};
+use crate::json::{Case, TreeError, absent, case_of, end, field, members_of};
 use lalrpop_norm_tree::grammar::parse_tree::{
-    ActionKind, Alternative, Attribute, Condition, NonterminalData, NonterminalString, Visibility,
+    ActionKind, Alternative, Condition, NonterminalData, NonterminalString, Visibility,
 };
 use serde_json::Value;
 use std::alloc::Global;
-
-/// No attributes: none are read yet.
-pub(super) fn attributes(alloc: Global, value: &Value) -> Result<Vec<Attribute>, TreeError>
-    ensures ok { IfOk result (λ xs. view value.now ≡ array (attributes_form (attributes_view xs.items))) }
-    ensures err { IsErrOf result TreeError.NotATree → is shape.empty (view value.now) ≡ false }
-{
-    nothing(value)?;
-    Ok(Vec::new(alloc))
-}
 
 /// No condition: none is read yet.
 fn condition(value: &Value) -> Result<Option<Condition>, TreeError>
@@ -50,9 +39,14 @@ impl FromValue for ActionKind {
     #[tactic(auto, using(crate::proofs::Refusals::refusals))]
     fn from_value(alloc: Global, value: &Value) -> Result<ActionKind, TreeError> {
         match case_of(value)? {
-            Case::Bare(_) => Err(TreeError::NotATree),
+            Case::Bare(variant) => match variant {
+                "Lookahead" => Ok(ActionKind::Lookahead),
+                "Lookbehind" => Ok(ActionKind::Lookbehind),
+                _ => Err(TreeError::NotATree),
+            },
             Case::Of(variant, held) => match variant {
                 "User" => Ok(ActionKind::User(string(alloc, held)?)),
+                "Fallible" => Ok(ActionKind::Fallible(string(alloc, held)?)),
                 _ => Err(TreeError::NotATree),
             },
         }

@@ -7,10 +7,10 @@ ghost use Rattle.lalrpop_norm_json.specs.Shapes.{is};
 ghost use Rattle.lalrpop_norm_json.specs.Json.{list_form};
 ghost use Rattle.lalrpop_norm_json.specs.ItemForms.{associated_type_form, enum_token_form, extern_token_form};
 
+use super::attributes::attributes;
 use super::names::{span, terminal};
 use super::parts::{FromValue, list, maybe};
 use super::patterns::pattern;
-use super::rules::attributes;
 use super::types::type_ref;
 use crate::json::{TreeError, end, field, members_of, nothing};
 use lalrpop_norm_tree::grammar::parse_tree::{AssociatedType, Conversion, EnumToken, ExternToken};

@@ -13,6 +13,7 @@ ghost use Rattle.lalrpop_norm_json.specs.TypeForms.{type_form, types_form, maybe
 
 use super::names::{atom, path};
 use super::parts::{FromValue, list, maybe};
+use super::symbols::kind;
 use crate::json::{
     Case, TreeError, case_of, end, field, items, members_of, nothing, present, truth,
 };
@@ -56,6 +57,7 @@ pub(super) fn type_ref(alloc: Global, value: &Value) -> Result<TypeRef, TreeErro
             }
             "Lifetime" => Ok(TypeRef::Lifetime(Lifetime(atom(alloc, held)?))),
             "Id" => Ok(TypeRef::Id(atom(alloc, held)?)),
+            "OfSymbol" => Ok(TypeRef::OfSymbol(kind(alloc, held)?)),
             "Fn" => function_type(alloc, held),
             _ => Err(TreeError::NotATree),
         },

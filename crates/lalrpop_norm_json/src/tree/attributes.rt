@@ -1,0 +1,62 @@
+//! Attributes.
+ghost use Rattle.std.specs.Prelude.{◌≡◌, IfOk, IsErrOf, false};
+ghost use Rattle.serde_json.specs.Data.{array};
+ghost use Rattle.serde_json.specs.View.{view};
+ghost use Rattle.lalrpop_norm_tree.specs.Attributes.{argument_view, attribute_view, attributes_view};
+ghost use Rattle.lalrpop_norm_json.specs.Shapes as shape;
+ghost use Rattle.lalrpop_norm_json.specs.Shapes.{is, fits, place, many};
+ghost use Rattle.lalrpop_norm_json.specs.Forms.{argument_form, attribute_form, attributes_form};
+
+use super::names::{atom, span, string};
+use crate::json::{Case, TreeError, case_of, end, field, items, members_of};
+use lalrpop_norm_tree::grammar::parse_tree::{Attribute, AttributeArg};
+use serde_json::Value;
+use std::alloc::Global;
+
+/// What stands behind an attribute's name.
+#[cycle(attributes)]
+#[tactic(auto, using(crate::proofs::Refusals::refusals))]
+fn argument(alloc: Global, value: &Value) -> Result<AttributeArg, TreeError>
+    ensures ok { IfOk result (λ g. view value.now ≡ argument_form (argument_view g)) }
+    ensures err { IsErrOf result TreeError.NotATree → is shape.attribute_argument (view value.now) ≡ false }
+{
+    match case_of(value)? {
+        Case::Bare(variant) => match variant {
+            "Empty" => Ok(AttributeArg::Empty),
+            _ => Err(TreeError::NotATree),
+        },
+        Case::Of(variant, held) => match variant {
+            "Paren" => Ok(AttributeArg::Paren(attributes(alloc, held)?)),
+            "Equal" => Ok(AttributeArg::Equal(string(alloc, held)?)),
+            _ => Err(TreeError::NotATree),
+        },
+    }
+}
+
+#[cycle(attributes)]
+#[tactic(auto, using(crate::proofs::Refusals::refusals))]
+fn attribute(alloc: Global, value: &Value) -> Result<Attribute, TreeError>
+    ensures ok { IfOk result (λ a. view value.now ≡ attribute_form (attribute_view a)) }
+    ensures err { IsErrOf result TreeError.NotATree → is shape.attribute (view value.now) ≡ false }
+{
+    let mut members = members_of(value)?;
+    let arg = argument(alloc, field(&mut members, "arg")?)?;
+    let id = atom(alloc, field(&mut members, "id")?)?;
+    let id_span = span(field(&mut members, "id_span")?)?;
+    end(members)?;
+    Ok(Attribute { id_span, id, arg })
+}
+
+#[cycle(attributes)]
+#[tactic(auto, using(crate::proofs::Refusals::refusals))]
+pub(super) fn attributes(alloc: Global, value: &Value) -> Result<Vec<Attribute>, TreeError>
+    ensures ok { IfOk result (λ xs. view value.now ≡ array (attributes_form (attributes_view xs.items))) }
+    ensures err { IsErrOf result TreeError.NotATree → fits (place (many shape.attribute)) (view value.now) ≡ false }
+{
+    let values = items(value)?;
+    let mut attributes = Vec::new(alloc);
+    for value in values {
+        attributes.push(attribute(alloc, value)?)?;
+    }
+    Ok(attributes)
+}
