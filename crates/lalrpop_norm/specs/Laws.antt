@@ -1,13 +1,15 @@
 -- What is proved of the whole way, each statement in one piece. The functions of the module `laws` carry them.
-use Rattle.std.specs.Prelude.{◌≡◌, ◌++◌, ℕ, [], false}
+use Rattle.std.specs.Prelude.{◌≡◌, ℕ, [], false}
 use Rattle.lalrpop_norm_tree.specs.Items.{RuleData, GrammarData}
 use Rattle.lalrpop_norm_theory.specs.Rounds.{In, IsDistinct}
 use Rattle.lalrpop_norm_conditions.specs.Conditions.{comparison}
 use Rattle.lalrpop_norm_model.specs.Features.{Features}
 use Rattle.lalrpop_norm_model.specs.Enabled.{all_places, enabled_grammar}
-use Rattle.lalrpop_norm_model.specs.Levels.{with_levels}
+use Rattle.lalrpop_norm_model.specs.Levels.{with_levels, levels_of}
+use Rattle.lalrpop_norm_model.specs.Scopes.{is_argument, resolved_grammar}
 use Rattle.lalrpop_norm_model.specs.Stated.{HasLevel}
 use Rattle.lalrpop_norm_model.specs.Grammars.{is_nil}
+use Rattle.lalrpop_norm_model.specs.LevelRules.{level_of_rule, leveled_grammar}
 use Rattle.lalrpop_norm_model.specs.PlainRules.{all_rules, IsWhole}
 use Rattle.lalrpop_norm_model.specs.Renumbered.{prepared_grammar}
 use Rattle.lalrpop_norm_model.specs.Expanded.{rule_names}
@@ -22,6 +24,15 @@ use Rattle.lalrpop_norm.specs.Faithful.{HasFaithfulTrees, grammar_with_levels, g
 abbrev pub HasFlatMacros : GrammarData → Type 0
 HasFlatMacros g = (d : RuleData) → In d (all_rules g) → is_nil d.args ≡ false → (l m : ℕ) →
     HasLevel (with_levels (all_places d)) l → HasLevel (with_levels (all_places d)) m → l ≡ m
+
+-- no level of a macro has the name of one of the macro's arguments
+abbrev pub HasOwnLevels : GrammarData → Type 0
+HasOwnLevels g = (d : RuleData) → In d (all_rules g) → is_nil d.args ≡ false → (l : ℕ) → In l (levels_of (with_levels (all_places d))) →
+    is_argument d.args (level_of_rule d (with_levels (all_places d)) l) ≡ false
+
+-- Where no fault of names stands in the grammar with levels, a macro has no two levels, if no argument hides the name of a level.
+abbrev pub MacrosHaveOneLevel : Type 0
+MacrosHaveOneLevel = (g : GrammarData) → resolved_grammar g ≡ g → resolve_faults (leveled_grammar g) ≡ [] → HasOwnLevels g → HasFlatMacros g
 
 -- names stand once, and no start symbol has the name of a rule
 pub record HasOwnNames (g : GrammarData) : Type 0 where
