@@ -1,0 +1,9 @@
+mod ClauseLemmas
+mod FilledLemmas
+mod LoopLemmas
+mod MisfitLemmas
+mod ReadLemmas
+mod SameLemmas
+mod TokenLemmas
+mod ValueLemmas
+mod VisitLemmas

@@ -1,0 +1,64 @@
+-- Rounds of visits over rules with their clauses, and what they do to a type table.
+use Rattle.std.specs.Prelude.{◌≡◌, ℕ, zero, suc, Bool, false, List, [], ◌∷◌, Option, map}
+use Rattle.lalrpop_norm_tree.specs.declared.names.TypeParameter.{TypeParameter}
+use Rattle.lalrpop_norm_tree.specs.Items.{RuleData, GrammarData, rule_view}
+use Rattle.lalrpop_norm_tree.specs.Reprs.{ReprData}
+use Rattle.lalrpop_norm_repr.specs.Tables.{TypeTable}
+use Rattle.lalrpop_norm_model.specs.TypeRelation.{Clause, clauses}
+use Rattle.lalrpop_norm_model.specs.TypeRounds.{Row, table_of, first_value, taken}
+use Rattle.lalrpop_norm_types.specs.declared.tyinfer.rounds.PlainRule.{PlainRule}
+use Rattle.lalrpop_norm_types.specs.Clauses.{clause_view}
+use Rattle.lalrpop_norm_types.specs.TableValues.{names_in}
+use Rattle.lalrpop_norm_types.specs.TokenTypes.{HasTokens}
+
+-- ---- rules with their clauses
+
+abbrev pub Seen : Type 0
+Seen = RuleData × List Clause
+
+abbrev pub rule_seen : PlainRule → Seen
+rule_seen r = (rule_view r.data.now, map clause_view r.clauses.items)
+
+abbrev pub with_clauses : RuleData → Seen
+with_clauses r = (r, clauses r)
+
+-- ---- visits
+
+abbrev pub visit_seen : GrammarData → List Row → Seen → List Row
+visit_seen g rows s = taken rows s.0.name.0 (table_of rows s.0.name.0) (first_value g (table_of rows) s.1)
+
+abbrev pub visits_seen : GrammarData → List Row → List Seen → List Row
+visits_seen g rows [] = rows
+visits_seen g rows (s ∷ ss) = visits_seen g (visit_seen g rows s) ss
+
+abbrev pub rounds_seen : GrammarData → List Seen → ℕ → List Row
+rounds_seen g ss zero = []
+rounds_seen g ss (suc k) = visits_seen g (rounds_seen g ss k) ss
+
+-- ---- the type table
+
+-- the table gives names the types of the rows
+abbrev pub HasRows : TypeTable → List Row → Type 0
+HasRows tt rows = (n : List ℕ) → names_in tt n ≡ table_of rows n
+
+-- the grammar has these type parameters, and the table the types that it needs beside those of names
+pub record IsReadBy (g : GrammarData) (ps : List TypeParameter) (tt : TypeTable) : Type 0 where
+  pub parameters : g.type_parameters ≡ ps
+  pub tokens : HasTokens g tt
+
+-- the visit of a rule of that name that may take that type, and whether it does
+pub record Takes (before after : TypeTable) (n : List ℕ) (v : Option ReprData) (added : Bool) : Type 0 where
+  pub table : (rows : List Row) → HasRows before rows → HasRows after (taken rows n (table_of rows n) v)
+  pub quiet : added ≡ false → (rows : List Row) → HasRows before rows → taken rows n (table_of rows n) v ≡ rows
+  pub rest : after ≡ record before { nonterminals = after.nonterminals }
+
+-- the visits of some rules, and whether one of them takes a type
+pub record Passes (ps : List TypeParameter) (before after : TypeTable) (ss : List Seen) (added : Bool) : Type 0 where
+  pub table : (g : GrammarData) → IsReadBy g ps before → (rows : List Row) → HasRows before rows → HasRows after (visits_seen g rows ss)
+  pub quiet : added ≡ false → (g : GrammarData) → IsReadBy g ps before → (rows : List Row) → HasRows before rows → visits_seen g rows ss ≡ rows
+  pub rest : after ≡ record before { nonterminals = after.nonterminals }
+
+-- so many rounds of visits
+pub record EndsRounds (ps : List TypeParameter) (before after : TypeTable) (ss : List Seen) (count : ℕ) : Type 0 where
+  pub table : (g : GrammarData) → IsReadBy g ps before → HasRows before [] → HasRows after (rounds_seen g ss count)
+  pub rest : after ≡ record before { nonterminals = after.nonterminals }
