@@ -1,16 +1,16 @@
 -- The clause of an alternative.
-use Rattle.std.proofs.Common.{◌≡◌, ℕ, suc, Bool, true, false, not, ◌&&◌, ◌||◌, List, [], ◌∷◌, ◌++◌, map, Option, Some, None, cond, refl, sym, ap, ◌∙◌}
-use Rattle.std.specs.Prelude.{option_map, option_to_list, if◌then◌else◌}
+use Rattle.std.proofs.Common.{◌≡◌, ℕ, suc, Bool, true, false, ◌||◌, List, [], ◌∷◌, ◌++◌, map, Some, None, refl, sym, ap, ◌∙◌}
+use Rattle.std.specs.Prelude.{option_map, option_to_list}
 use Rattle.lalrpop_norm_tree.specs.declared.names.Span.{Span}
 use Rattle.lalrpop_norm_tree.specs.declared.names.TypeParameter.{TypeParameter}
 use Rattle.lalrpop_norm_tree.specs.Items.{AlternativeData}
 use Rattle.lalrpop_norm_tree.specs.Reprs.{repr_and, tuple}
-use Rattle.lalrpop_norm_tree.specs.Symbols.{Kind, Part, Parts, group, ambiguous_id, terminal, nonterminal, call, repeated, chosen, named, tupled, lookahead, lookbehind, error_terminal, at, no_parts, part_and}
+use Rattle.lalrpop_norm_tree.specs.Symbols.{Kind, Parts, group, ambiguous_id, terminal, nonterminal, call, repeated, chosen, named, tupled, lookahead, lookbehind, error_terminal, at, no_parts, part_and}
 use Rattle.lalrpop_norm_tree.specs.Types.{of_symbol, types_of}
 use Rattle.lalrpop_norm_repr.specs.Tables.{TypeTable}
 use Rattle.lalrpop_norm_model.specs.MadeRules.{kind_of, all_kinds, if_any, bare_or_tuple, names_value, some_name_value}
-use Rattle.lalrpop_norm_model.specs.Sources.{Source, named_sources, chosen_sources, all_sources, sources, is_default, default_type, is_lookaround}
-use Rattle.lalrpop_norm_model.specs.TypeRelation.{Clause, makes, locates, alternative_clause}
+use Rattle.lalrpop_norm_model.specs.Sources.{Source, named_sources, chosen_sources, all_sources, sources, default_type}
+use Rattle.lalrpop_norm_model.specs.TypeRelation.{makes, alternative_clause}
 use Rattle.lalrpop_norm_model.specs.TypeTables.{both}
 use Rattle.lalrpop_norm_types.specs.Clauses.{chosen_in, chosen_parts, source_kinds, type_of_sources, default_clause, kinds_in, sources_in}
 use Rattle.lalrpop_norm_types.specs.TableValues.{kind_in, type_in, types_in}

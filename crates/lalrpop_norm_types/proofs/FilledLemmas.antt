@@ -1,28 +1,24 @@
 -- The filled table, its faults, and the types that rules have.
-use Rattle.std.proofs.Common.{◌≡◌, ◌↔◌, ℕ, Bool, true, false, cond, List, [], ◌∷◌, ◌++◌, length, filter, map, Option, Some, None, append_assoc, refl, sym, ap, ap₂, subst, ◌∙◌}
+use Rattle.std.proofs.Common.{◌≡◌, ℕ, Bool, true, false, cond, List, [], ◌∷◌, ◌++◌, length, filter, map, Option, Some, None, append_assoc, refl, sym, ap, ap₂, subst, ◌∙◌}
 use Rattle.std.specs.Prelude.{is_none}
 use Rattle.std.specs.List.{flat_map}
 use Rattle.std.proofs.lemmas.List.{map-append, length-map}
-use Rattle.lalrpop_norm_tree.specs.declared.names.NonterminalString.{NonterminalString}
-use Rattle.lalrpop_norm_tree.specs.declared.names.TypeParameter.{TypeParameter}
 use Rattle.lalrpop_norm_tree.specs.Items.{AlternativeData, RuleData, GrammarData}
-use Rattle.lalrpop_norm_tree.specs.Reprs.{ReprData}
 use Rattle.lalrpop_norm_faults.specs.Faults.{Fault, fault_if}
 use Rattle.lalrpop_norm_faults.specs.declared.kind.FaultKind.TheVariants.{NotGrounded, Disagreement}
-use Rattle.lalrpop_norm_repr.specs.Tables.{TypeTable, found, type_of}
+use Rattle.lalrpop_norm_repr.specs.Tables.{TypeTable, found}
 use Rattle.lalrpop_norm_theory.specs.Rounds.{IsDistinct}
 use Rattle.lalrpop_norm_model.specs.Expanded.{rule_names}
 use Rattle.lalrpop_norm_model.specs.PlainRules.{all_rules}
 use Rattle.lalrpop_norm_model.specs.InferenceFaults.{is_undeclared, undeclared, lacking, inferred_table, untyped_rules, is_other, clause_disagrees, disagreeing_in, disagreeing, inference_faults}
 use Rattle.lalrpop_norm_model.specs.TerminalTypes.{rows_with, extern_enum}
 use Rattle.lalrpop_norm_model.specs.TuplePatterns.{rule_misfits, pattern_misfits}
-use Rattle.lalrpop_norm_model.specs.TypeRelation.{Clause, clauses, alternative_clause, Has}
-use Rattle.lalrpop_norm_model.specs.TypeRounds.{inferred, rounds, table_of}
-use Rattle.lalrpop_norm_model.specs.TypeTables.{Table, clause_value}
+use Rattle.lalrpop_norm_model.specs.TypeRelation.{Clause, alternative_clause}
+use Rattle.lalrpop_norm_model.specs.TypeRounds.{inferred, rounds}
+use Rattle.lalrpop_norm_model.specs.TypeTables.{clause_value}
 use Rattle.lalrpop_norm_model.proofs.InferenceLemmas.{inferred_types}
 use Rattle.lalrpop_norm_model.proofs.TypableLemmas.{typable_exactly}
 use Rattle.lalrpop_norm_types.specs.declared.tyinfer.rounds.PlainRule.{PlainRule}
-use Rattle.lalrpop_norm_types.specs.Clauses.{clause_in}
 use Rattle.lalrpop_norm_types.specs.Filled.{IsFilled, table_faults}
 use Rattle.lalrpop_norm_types.specs.Inferred.{IsInferred}
 use Rattle.lalrpop_norm_types.specs.TableFaults.{lacking_seen, untyped_in, disagrees_in, other_in, others_in}

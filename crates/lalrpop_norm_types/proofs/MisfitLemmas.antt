@@ -1,5 +1,5 @@
 -- Tuple symbols and their patterns.
-use Rattle.std.proofs.Common.{◌≡◌, ◌≢◌, ◌<◌, ◌+◌, ℕ, suc, Bool, true, false, List, [], ◌∷◌, ◌++◌, length, drop, get_or, map, refl, sym, ap, ◌∙◌, arith}
+use Rattle.std.proofs.Common.{◌≡◌, ◌<◌, ◌+◌, ℕ, suc, true, false, List, [], ◌∷◌, ◌++◌, length, drop, get_or, refl, sym, ap, ◌∙◌, arith}
 use Rattle.std.specs.List.{flat_map}
 use Rattle.std.proofs.lemmas.List.{map-append, at_drop_more}
 use Rattle.lalrpop_norm_tree.specs.declared.names.Span.{Span}
@@ -9,7 +9,7 @@ use Rattle.lalrpop_norm_tree.specs.declared.symbol.ArgPattern.TheFolds.{fold_out
 use Rattle.lalrpop_norm_tree.specs.declared.symbol.Symbol.{Symbol}
 use Rattle.lalrpop_norm_tree.specs.declared.symbol.Tuple.{Tuple}
 use Rattle.lalrpop_norm_tree.specs.declared.symbol.SymbolKind.TheFolds.{fold_out-Symbol}
-use Rattle.lalrpop_norm_tree.specs.Reprs.{Reprs, reprs_view, repr_view}
+use Rattle.lalrpop_norm_tree.specs.Reprs.{reprs_view, repr_view}
 use Rattle.lalrpop_norm_tree.specs.Symbols.{ArgumentPattern, ArgumentPatterns, argument_pattern_step, tuple_step, tuple_view, Call, Again, kind_step, expr_step, macro_step, repeat_step, symbol_step, kind_view, parts_view, Kind, Part, Parts, group, ambiguous_id, terminal, nonterminal, call, repeated, chosen, named, tupled, lookahead, lookbehind, error_terminal, at, no_parts, part_and, argument_pattern_view, argument_patterns_view}
 use Rattle.lalrpop_norm_faults.specs.Faults.{Fault}
 use Rattle.lalrpop_norm_model.specs.TuplePatterns.{tuple_symbols, symbol_misfits, misfits, misfits_of, as_many}
@@ -46,23 +46,17 @@ tuple_is t = fold_out-Tuple ArgumentPattern ArgumentPatterns argument_pattern_st
 
 -- ---- lengths
 
-many : (ps : List ArgPattern) (ts : List TypeRepr) → length ps ≡ length ts → as_many (argument_patterns_view ps) (reprs_view ts) ≡ true
-many [] [] e = refl
-many [] (t ∷ ts) e = absurd (omega arith)
-many (p ∷ ps) [] e = absurd (omega arith)
-many (p ∷ ps) (t ∷ ts) e = many ps ts (omega arith)
-
-not_many : (ps : List ArgPattern) (ts : List TypeRepr) → (length ps ≡ length ts → ⊥) → as_many (argument_patterns_view ps) (reprs_view ts) ≡ false
-not_many [] [] e = absurd (e refl)
-not_many [] (t ∷ ts) e = refl
-not_many (p ∷ ps) [] e = refl
-not_many (p ∷ ps) (t ∷ ts) e = not_many ps ts (λ same. e (ap suc same))
-
 pub as_many_is : (ps : List ArgPattern) (ts : List TypeRepr) → length ps ≡ length ts → as_many (argument_patterns_view ps) (reprs_view ts) ≡ true
-as_many_is = many
+as_many_is [] [] e = refl
+as_many_is [] (t ∷ ts) e = absurd (omega arith)
+as_many_is (p ∷ ps) [] e = absurd (omega arith)
+as_many_is (p ∷ ps) (t ∷ ts) e = as_many_is ps ts (omega arith)
 
 pub not_as_many : (ps : List ArgPattern) (ts : List TypeRepr) → (length ps ≡ length ts → ⊥) → as_many (argument_patterns_view ps) (reprs_view ts) ≡ false
-not_as_many = not_many
+not_as_many [] [] e = absurd (e refl)
+not_as_many [] (t ∷ ts) e = refl
+not_as_many (p ∷ ps) [] e = refl
+not_as_many (p ∷ ps) (t ∷ ts) e = not_as_many ps ts (λ same. e (ap suc same))
 
 -- ---- a loop over patterns and types
 

@@ -1,5 +1,5 @@
 -- What a type table means is what the table of its names means to a grammar that reads it.
-use Rattle.std.proofs.Common.{◌≡◌, ℕ, List, [], ◌∷◌, Option, Some, None, refl, sym, ap, ap₂, ◌∙◌, subst}
+use Rattle.std.proofs.Common.{◌≡◌, List, [], ◌∷◌, Some, refl, sym, ap, ap₂, ◌∙◌}
 use Rattle.std.specs.Prelude.{option_map, unwrap_or}
 use Rattle.std.proofs.Math.Path.{fun_ext}
 use Rattle.lalrpop_norm_tree.specs.declared.names.NonterminalString.{NonterminalString}
@@ -12,14 +12,14 @@ use Rattle.lalrpop_norm_tree.specs.Reprs as lowered
 use Rattle.lalrpop_norm_tree.specs.Reprs.{ReprData}
 use Rattle.lalrpop_norm_tree.specs.Symbols.{Kind, group, ambiguous_id, terminal, nonterminal, call, repeated, chosen, named, tupled, lookahead, lookbehind, error_terminal, at}
 use Rattle.lalrpop_norm_tree.specs.Types.{TypeData, TypesData, MaybeType, tuple, slice, nominal, reference, trait_object, of_lifetime, id, of_symbol, function, no_types, type_and, no_type, returns}
-use Rattle.lalrpop_norm_repr.specs.Tables.{TypeTable, listed_type, found_terminal, type_of_terminal}
-use Rattle.lalrpop_norm_model.specs.TerminalTypes.{terminal_type, recovery_type, location_type, token_type, terminal_rows, row_of}
+use Rattle.lalrpop_norm_repr.specs.Tables.{TypeTable, found_terminal, type_of_terminal}
+use Rattle.lalrpop_norm_model.specs.TerminalTypes.{terminal_type, recovery_type, location_type, token_type}
 use Rattle.lalrpop_norm_model.specs.TypeRelation.{associated_in, associated_of, Clause, makes, locates}
 use Rattle.lalrpop_norm_model.specs.TypeTables.{kind_value, path_value, both, type_value, types_value, return_value, clause_value}
 use Rattle.lalrpop_norm_model.specs.TypeRounds.{Row, table_of, first_value}
 use Rattle.lalrpop_norm_types.specs.Clauses.{clause_in, first_in}
 use Rattle.lalrpop_norm_types.specs.TableValues.{names_in, kind_in, type_in, types_in, return_in}
-use Rattle.lalrpop_norm_types.specs.TokenTypes.{base_table, HasTokens}
+use Rattle.lalrpop_norm_types.specs.TokenTypes.{base_table}
 use Rattle.lalrpop_norm_types.specs.Visits.{HasRows, IsReadBy}
 
 module _ (g : GrammarData) (ps : List TypeParameter) (tt : TypeTable) (read : IsReadBy g ps tt) where

@@ -9,11 +9,11 @@ use Rattle.lalrpop_norm_tree.specs.Items.{RuleData, GrammarData}
 use Rattle.lalrpop_norm_tree.specs.Reprs.{ReprData}
 use Rattle.lalrpop_norm_repr.specs.Tables.{TypeTable, type_of}
 use Rattle.lalrpop_norm_model.specs.PlainRules.{all_rules}
-use Rattle.lalrpop_norm_model.specs.TypeRounds.{Row, table_of, first_value, taken, visit, visits, rounds}
+use Rattle.lalrpop_norm_model.specs.TypeRounds.{Row, table_of, taken, visit, visits, rounds}
 use Rattle.lalrpop_norm_types.specs.declared.tyinfer.rounds.PlainRule.{PlainRule}
 use Rattle.lalrpop_norm_types.specs.Clauses.{first_in}
 use Rattle.lalrpop_norm_types.specs.TableValues.{named_by, names_in}
-use Rattle.lalrpop_norm_types.specs.Visits.{Seen, rule_seen, with_clauses, visit_seen, visits_seen, rounds_seen, HasRows, IsReadBy, Takes, Passes, EndsRounds}
+use Rattle.lalrpop_norm_types.specs.Visits.{Seen, rule_seen, with_clauses, visit_seen, visits_seen, rounds_seen, HasRows, Takes, Passes, EndsRounds}
 use Rattle.lalrpop_norm_types.proofs.ReadLemmas.{first_at, kept_read, rest_after}
 
 -- ---- a visit

@@ -1,5 +1,5 @@
 -- The types that need no inference, in a type table.
-use Rattle.std.specs.Prelude.{◌≡◌, List, [], map, codes}
+use Rattle.std.specs.Prelude.{◌≡◌, List, map, codes}
 use Rattle.lalrpop_norm_tree.specs.declared.lowered.TypeRepr.{TypeRepr}
 use Rattle.lalrpop_norm_tree.specs.declared.names.TerminalString.{TerminalString}
 use Rattle.lalrpop_norm_tree.specs.Accessors.{or_else}

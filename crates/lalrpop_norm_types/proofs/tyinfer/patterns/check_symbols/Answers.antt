@@ -1,4 +1,4 @@
-use Rattle.std.proofs.Common.{◌∷◌, drop, List, sym, ◌∙◌, ◌+◌, arith}
+use Rattle.std.proofs.Common.{drop, List, sym, ◌∙◌, ◌+◌, arith}
 use Rattle.lalrpop_norm_tree.specs.declared.symbol.Symbol.{Symbol}
 use Rattle.lalrpop_norm_tree.specs.Symbols.{kind_view, parts_view}
 use Rattle.lalrpop_norm_repr.specs.Tables.{type_table}

@@ -1,4 +1,3 @@
-use Rattle.std.proofs.Common.{map, refl}
 use Rattle.lalrpop_norm_tree.specs.Reprs.{repr_view}
 use Rattle.lalrpop_norm_repr.specs.Tables.{type_table}
 use Rattle.lalrpop_norm_types.proofs.VisitLemmas.{taken_new, taken_none}

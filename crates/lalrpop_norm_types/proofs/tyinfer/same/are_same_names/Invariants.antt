@@ -1,5 +1,5 @@
 use Rattle.std.proofs.Common.{◌≡◌, bytes_eq, drop}
-use Rattle.lalrpop_norm_model.specs.SameTypes.{all_same, same_parameter}
+use Rattle.lalrpop_norm_model.specs.SameTypes.{all_same}
 use Rattle.lalrpop_norm_types.proofs.tyinfer.same.are_same_names.Given as goal
 
 abbrev pub invariant-loop-i : goal.invariant-loop-i

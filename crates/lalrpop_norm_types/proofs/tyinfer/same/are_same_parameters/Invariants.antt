@@ -1,4 +1,4 @@
-use Rattle.std.proofs.Common.{◌≡◌, bytes_eq, drop}
+use Rattle.std.proofs.Common.{◌≡◌, drop}
 use Rattle.lalrpop_norm_model.specs.SameTypes.{all_same, same_parameter}
 use Rattle.lalrpop_norm_types.proofs.tyinfer.same.are_same_parameters.Given as goal
 
