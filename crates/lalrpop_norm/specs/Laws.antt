@@ -13,6 +13,7 @@ use Rattle.lalrpop_norm_model.specs.LevelRules.{level_of_rule, leveled_grammar}
 use Rattle.lalrpop_norm_model.specs.PlainRules.{all_rules, IsWhole}
 use Rattle.lalrpop_norm_model.specs.Renumbered.{prepared_grammar}
 use Rattle.lalrpop_norm_model.specs.Expanded.{rule_names}
+use Rattle.lalrpop_norm_model.specs.CheckedTokens.{IsEntered}
 use Rattle.lalrpop_norm_names.specs.NameFaults.{resolve_faults}
 use Rattle.lalrpop_norm_repr.specs.Lowered.{LoweredGrammar}
 use Rattle.lalrpop_norm_repr.specs.Tables.{TypeTable}
@@ -40,10 +41,10 @@ pub record HasOwnNames (g : GrammarData) : Type 0 where
   pub starts : (r : RuleData) → In r (public_rules (all_rules g)) → In (start_name g.prefix r.name).0 (rule_names g) → ⊥
 
 -- Where no fault of names stands in the enabled grammar and in the one with levels, and so many rounds make all plain rules, what
--- these are lowered to has trees one to one with the written ones.
+-- these are lowered to, once they have their tokens, has trees one to one with the written ones.
 abbrev pub LoweredTreesAreFaithful : Type 0
 LoweredTreesAreFaithful = (fs : Features) (g : GrammarData) → resolve_faults (enabled_grammar fs g) ≡ [] → HasFlatMacros (prepared_grammar fs g) →
     resolve_faults (grammar_with_levels fs g) ≡ [] → (rounds : ℕ) → IsWhole comparison (grammar_with_levels fs g) rounds →
-    HasOwnNames (grammar_of_plain_rules fs g rounds) → (types : TypeTable) (l : LoweredGrammar) →
-    IsLoweringOf (grammar_of_plain_rules fs g rounds) (all_rules (grammar_of_plain_rules fs g rounds)) types l →
+    HasOwnNames (grammar_of_plain_rules fs g rounds) → (plain : GrammarData) → IsEntered (grammar_of_plain_rules fs g rounds) plain →
+    (types : TypeTable) (l : LoweredGrammar) → IsLoweringOf plain (all_rules plain) types l →
     HasFaithfulTrees fs g (grammar_of_plain_rules fs g rounds) rounds l
