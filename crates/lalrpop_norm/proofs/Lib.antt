@@ -5,3 +5,14 @@ pub mod PlainLemmas
 pub mod ShapeTrees
 pub mod SimpleFaithful
 pub mod FaithfulLemmas
+pub mod ExpandedParts
+pub mod ExpandedSymbols
+pub mod ExpandedRounds
+pub mod ExpandedScopes
+pub mod ExpandedTokens
+pub mod ExpandedPlain
+pub mod ExpandedSteps
+pub mod ExpandedWritten
+pub mod TypedPlain
+pub mod GroundedTypes
+pub mod ComposedFaithful

@@ -6,3 +6,4 @@ pub mod TakenGrammars
 pub mod Normalize
 pub mod Derivations
 pub mod Faithful
+pub mod PlainLaws

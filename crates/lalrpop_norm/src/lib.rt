@@ -6,6 +6,7 @@
 pub mod grammar;
 mod later;
 mod passes;
+pub mod plain_laws;
 
 pub use lalrpop_norm_front::{FaultKind, NormError, NormFailure, NormResult, Session};
 pub use passes::normalize;
