@@ -101,9 +101,6 @@ module _ {K : Type 0} (cmp : K → K → Ordering) (exact : CmpEqualImpliesEq cm
 pub added_names : (ns : List (List ℕ)) → has_key (slice_cmp nat_cmp) (with_keys (slice_cmp nat_cmp) [] ns) ≡ (λ q. list_any (bytes_eq q) ns)
 added_names ns = added_keys (slice_cmp nat_cmp) exact_bytes bytes_eq is_eq-slice_cmp nat_list_eq_equiv.symm ns
 
-pub repeated_names : (ns : List (List ℕ)) → repeats (slice_cmp nat_cmp) [] ns ≡ has_repeated bytes_eq ns
-repeated_names ns = repeats_none (slice_cmp nat_cmp) exact_bytes bytes_eq is_eq-slice_cmp nat_list_eq_equiv.symm ns
-
 -- ---- terminals
 
 agree_literals : (a b : TerminalLiteral) → is_eq (literal_cmp a b) ≡ same_literal a b

@@ -1,5 +1,5 @@
 -- A grammar that holds no part of a later stage is taken.
-use Rattle.std.proofs.Common.{◌≡◌, ℕ, suc, Bool, true, false, not, ◌||◌, ◌&&◌, List, [], ◌∷◌, ◌++◌, Option, Some, None, refl, sym, arith, bytes_eq}
+use Rattle.std.proofs.Common.{◌≡◌, ℕ, suc, Bool, true, false, not, ◌||◌, ◌&&◌, List, [], ◌∷◌, ◌++◌, Option, Some, None, refl, sym, ap, ◌∙◌, arith, bytes_eq}
 use Rattle.std.specs.Prelude.{All, Contains, IsSome}
 use Rattle.std.specs.List.{flat_map, list_any, AllByRecursion, IsDistinct}
 use Rattle.std.proofs.lemmas.List.Elements.{All-nil, All-cons}
@@ -62,7 +62,7 @@ attributes_none p (attribute_and a rest) h = cc
 
 there_none : {X : Type 0} (p : LaterPart) (o : Option X) → part_of_none p o ≡ [] → IsSome o
 there_none p None h = cc
-there_none p (Some x) h = tt
+there_none p (Some x) h = refl
 
 -- ---- symbols
 
@@ -280,3 +280,23 @@ taken_of fs g h =
 -- a grammar that is not refused is taken
 pub taken_where_not_refused : (fs : Features) (g : GrammarData) → later_faults fs g ≡ [] → IsTaken fs g
 taken_where_not_refused fs g h = taken_of fs g (map_none (λ p. (NotYet, g.span)) (later_parts fs g) h)
+
+-- ---- the order of looking
+
+after_none : (ps qs : List LaterPart) → ps ≡ [] → ps ++ qs ≡ qs
+after_none ps qs h = rw h refl
+
+-- what is left where nothing stands before the items
+pub from_items : (fs : Features) (g : GrammarData) (converts : TerminalString → Bool) → head_parts g ≡ [] → token_parts fs g.items ≡ [] → converts ≡ has_conversion fs g.items →
+    later_parts fs g ≡ flat_map (item_parts converts) g.items ++ flat_map (start_parts g.prefix (has_rule g.items)) (rules_of g.items)
+from_items fs g converts head tokens same =
+    let starts = flat_map (start_parts g.prefix (has_rule g.items)) (rules_of g.items) in
+    let items = flat_map (item_parts (has_conversion fs g.items)) g.items in
+    after_none (head_parts g) (token_parts fs g.items ++ (items ++ starts)) head
+    ∙ after_none (token_parts fs g.items) (items ++ starts) tokens
+    ∙ ap (λ (f : TerminalString → Bool). flat_map (item_parts f) g.items ++ starts) (sym same)
+
+-- and where the items hold nothing by themselves
+pub from_starts : (g : GrammarData) (converts : TerminalString → Bool) → flat_map (item_parts converts) g.items ≡ [] →
+    flat_map (item_parts converts) g.items ++ flat_map (start_parts g.prefix (has_rule g.items)) (rules_of g.items) ≡ flat_map (start_parts g.prefix (has_rule g.items)) (rules_of g.items)
+from_starts g converts none = after_none (flat_map (item_parts converts) g.items) (flat_map (start_parts g.prefix (has_rule g.items)) (rules_of g.items)) none

@@ -1,4 +1,4 @@
-use Rattle.std.proofs.Common.{◌≡◌, map, nat_cmp, ap, ◌∙◌}
+use Rattle.std.proofs.Common.{map, nat_cmp, ap, ◌∙◌}
 use Rattle.std.specs.Cmp.Lexicographic.{slice_cmp}
 use Rattle.lalrpop_norm_tree.specs.Items.{item_view}
 use Rattle.lalrpop_norm.specs.Grammars.{rules_of, names_of}

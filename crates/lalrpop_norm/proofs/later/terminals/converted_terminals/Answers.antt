@@ -15,16 +15,16 @@ from_none : (keys ns : List TerminalString) → keys ≡ [] → part_if (repeats
 from_none keys ns none = rw none (ap (λ b. part_if b RepeatedConversion) (repeated_terminals ns))
 
 pub returns-in_err-add_terminals-clause-finds : goal.returns-in_err-add_terminals-clause-finds
-returns-in_err-add_terminals-clause-finds c =
+returns-in_err-add_terminals-clause-finds g c =
     let ns = terminals_of (active_conversions (features_view c.args.session.now.features) (map conversion_view c.args.conversions.now)) in
     stops_same _ _ _ _ c.from_residual.ensures.1 c.in_err-add_terminals.ensures.finds (from_none c.new-terminals.result.keys ns c.new-terminals.ensures.empty)
 
 pub returns-clause-finds : goal.returns-clause-finds
-returns-clause-finds c =
+returns-clause-finds g c =
     let ns = terminals_of (active_conversions (features_view c.args.session.now.features) (map conversion_view c.args.conversions.now)) in
     sym (from_none c.new-terminals.result.keys ns c.new-terminals.ensures.empty) ∙ c.in_ok-add_terminals.ensures.finds
 
 pub returns-clause-has : goal.returns-clause-has
-returns-clause-has c =
+returns-clause-has g c =
     let ns = terminals_of (active_conversions (features_view c.args.session.now.features) (map conversion_view c.args.conversions.now)) in
     ap terminal_in (c.in_ok-add_terminals.ensures.adds ∙ ap (λ keys. with_keys terminal_cmp keys ns) c.new-terminals.ensures.empty) ∙ added_terminals ns
