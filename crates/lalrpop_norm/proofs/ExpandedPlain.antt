@@ -1,24 +1,21 @@
 -- The grammar of plain rules is expanded.
-use Rattle.std.proofs.Common.{◌≡◌, ◌⊎◌, inl, inr, ℕ, zero, suc, ◌≤◌, ◌<◌, Bool, true, false, List, [], ◌∷◌, ◌++◌, length, map, Option, Some, None, refl, ap, sym, subst, ◌∙◌, arith}
+use Rattle.std.proofs.Common.{◌≡◌, ◌⊎◌, inl, inr, ℕ, ◌≤◌, true, List, [], ◌∷◌, length, map, None, refl, ap, sym, subst, ◌∙◌, arith}
 use Rattle.std.specs.Prelude.{flat_map}
-use Rattle.lalrpop_norm_tree.specs.declared.names.NonterminalString.{NonterminalString}
 use Rattle.lalrpop_norm_tree.specs.declared.names.TerminalString.{TerminalString}
-use Rattle.lalrpop_norm_tree.specs.declared.names.TerminalString.TheVariants.{Literal, Bare, Error}
-use Rattle.lalrpop_norm_tree.specs.declared.symbol.RepeatOp.{RepeatOp}
+use Rattle.lalrpop_norm_tree.specs.declared.names.TerminalString.TheVariants.{Error}
 use Rattle.lalrpop_norm_tree.specs.declared.symbol.RepeatOp.TheVariants.{Star, Plus, Question}
-use Rattle.lalrpop_norm_tree.specs.Symbols.{Kind, Part, Parts, group, ambiguous_id, terminal, nonterminal, call, repeated, chosen, named, tupled, lookahead, lookbehind, error_terminal, at, no_parts, part_and}
+use Rattle.lalrpop_norm_tree.specs.Symbols.{Kind, Part, group, ambiguous_id, terminal, nonterminal, call, repeated, chosen, named, tupled, lookahead, lookbehind, error_terminal, at}
 use Rattle.lalrpop_norm_tree.specs.Items.{AlternativeData, RuleData, EnumTokenData, MatchTokenData, InternTokenData, GrammarData, lookahead_code, lookbehind_code}
 use Rattle.lalrpop_norm_theory.specs.Rounds.{In, IsDistinct}
-use Rattle.lalrpop_norm_theory.proofs.RoundsLemmas.{in_left, in_right, in_cases, in_flat, of_flat}
+use Rattle.lalrpop_norm_theory.proofs.RoundsLemmas.{in_cases, in_flat, of_flat}
 use Rattle.lalrpop_norm_model.specs.Entries.{group_entries, user_names}
 use Rattle.lalrpop_norm_model.specs.Grammars.{is_nil, ConditionValue}
 use Rattle.lalrpop_norm_model.specs.MadeRules.{made_rules, group_rule, star_rule, plus_rule, question_rule, location_rule}
-use Rattle.lalrpop_norm_model.specs.PlainRules.{all_met, met_in_rule, met_by_made, all_rules, rules_of, macros_of, same_apart_from_spans, made_symbols, made_in, replaced_alternative, replaced_rule, plain_rules, plain_grammar, IsWhole}
+use Rattle.lalrpop_norm_model.specs.PlainRules.{all_met, met_in_rule, met_by_made, all_rules, rules_of, macros_of, same_apart_from_spans, made_symbols, made_in, replaced_alternative, replaced_rule, plain_grammar, IsWhole}
 use Rattle.lalrpop_norm_model.specs.PlainTables.{IsSettled}
-use Rattle.lalrpop_norm_model.specs.Replaced.{all_replaced}
 use Rattle.lalrpop_norm_model.specs.Terminals.{terminals_in_parts, terminals_in_rule, terminals_used}
 use Rattle.lalrpop_norm_model.specs.TypeRelation.{IsRule}
-use Rattle.lalrpop_norm_model.specs.Expanded.{is_plain_terminal, is_plain_kind, are_plain, names_in_kind, names_in_parts, declared_symbols, rule_names, names_used_by, names_used, enums, match_blocks, interns, terminals_converted, converted, mapped, IsAlternative, IsExpanded}
+use Rattle.lalrpop_norm_model.specs.Expanded.{is_plain_terminal, is_plain_kind, are_plain, names_in_kind, names_in_parts, declared_symbols, rule_names, names_used_by, names_used, enums, match_blocks, interns, terminals_converted, converted, mapped, IsExpanded}
 use Rattle.lalrpop_norm_model.proofs.LevelLemmas.{of_map}
 use Rattle.lalrpop_norm_model.proofs.InferenceLemmas.{in_filtered}
 use Rattle.lalrpop_norm_model.proofs.FaithfulLemmas.{plain_grammars_hold_plain_rules}
@@ -237,8 +234,10 @@ module _ (P : TerminalString → Type 0) (plain : (t : TerminalString) → P t �
 
   none_mapped : mapped p ≡ []
   none_mapped =
-      rw (ap (flat_map (λ (m : MatchTokenData). user_names (group_entries m.contents))) tokens.no_match,
-      ap (flat_map (λ (t : InternTokenData). user_names t.match_entries)) tokens.no_intern) refl
+      rw (
+        ap (flat_map (λ (m : MatchTokenData). user_names (group_entries m.contents))) tokens.no_match,
+        ap (flat_map (λ (t : InternTokenData). user_names t.match_entries)) tokens.no_intern,
+      ) refl
 
   at_most : {A : Type 0} (xs : List A) → xs ≡ [] → length xs ≤ 1
   at_most xs e = subst (λ ys. length ys ≤ 1) (sym e) (omega arith)

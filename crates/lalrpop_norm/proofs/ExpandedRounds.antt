@@ -1,5 +1,5 @@
 -- What is met in a whole expansion has a rule of its text; and what holds of all that is met holds of all that is made.
-use Rattle.std.proofs.Common.{◌≡◌, ◌⊎◌, inl, inr, ℕ, zero, suc, Bool, true, false, List, [], ◌∷◌, ◌++◌, map, reverse, refl, ap, sym, subst, ◌∙◌}
+use Rattle.std.proofs.Common.{◌≡◌, inl, inr, ℕ, zero, suc, Bool, true, false, List, [], ◌∷◌, ◌++◌, map, reverse, refl, ap, sym, subst, ◌∙◌}
 use Rattle.std.specs.Prelude.{flat_map, if◌then◌else◌}
 use Rattle.lalrpop_norm_tree.specs.Symbols.{Part}
 use Rattle.lalrpop_norm_tree.specs.Texts.{part_text}
@@ -10,7 +10,6 @@ use Rattle.lalrpop_norm_theory.specs.Met.{rule_meets, expanded_symbols}
 use Rattle.lalrpop_norm_theory.specs.Laws.{IsWhole}
 use Rattle.lalrpop_norm_theory.proofs.RoundsLemmas.{in_left, in_right, in_cases, in_flat, of_flat, of_reverse}
 use Rattle.lalrpop_norm_theory.proofs.Expansion.{nothing_new_whole}
-use Rattle.lalrpop_norm_model.specs.WrittenRules.{flat_rules}
 use Rattle.lalrpop_norm_model.specs.ClosedTexts.{closed_text}
 use Rattle.lalrpop_norm_model.specs.Grammars.{ConditionValue}
 use Rattle.lalrpop_norm_model.specs.MadeRules.{made_rules}

@@ -1,19 +1,19 @@
 -- In a grammar whose names are resolved and which has no macros, symbols are ready: their names are those of rules.
-use Rattle.std.proofs.Common.{◌≡◌, ◌⊎◌, inl, inr, ℕ, Bool, true, false, not, ◌&&◌, List, [], ◌∷◌, ◌++◌, map, Option, Some, None, refl, ap, sym, subst, ◌∙◌}
-use Rattle.std.specs.Prelude.{flat_map, filter}
+use Rattle.std.proofs.Common.{◌≡◌, inl, inr, ℕ, Bool, true, false, not, List, [], ◌∷◌, map, Option, Some, None, refl, ap, sym, subst, ◌∙◌}
+use Rattle.std.specs.Prelude.{filter}
 use Rattle.std.proofs.lemmas.Bool.{and_parts}
 use Rattle.lalrpop_norm_tree.specs.declared.names.NonterminalString.{NonterminalString}
 use Rattle.lalrpop_norm_tree.specs.declared.names.TerminalString.{TerminalString}
 use Rattle.lalrpop_norm_tree.specs.Symbols.{Kind, Part, Parts, group, ambiguous_id, terminal, nonterminal, call, repeated, chosen, named, tupled, lookahead, lookbehind, error_terminal, at, no_parts, part_and}
 use Rattle.lalrpop_norm_tree.specs.Items.{AlternativeData, RuleData, GrammarData}
 use Rattle.lalrpop_norm_theory.specs.Rounds.{In}
-use Rattle.lalrpop_norm_model.specs.Levels.{Leveled, every, without_levels}
+use Rattle.lalrpop_norm_model.specs.Levels.{every, without_levels}
 use Rattle.lalrpop_norm_model.specs.WrittenRules.{WrittenRule, flat_rules, rule_named}
 use Rattle.lalrpop_norm_model.specs.Grammars.{is_nil, is_macro}
 use Rattle.lalrpop_norm_model.specs.Scoped.{is_rule, is_macro_for, is_scoped_kind, is_scoped, are_scoped}
 use Rattle.lalrpop_norm_model.specs.PlainRules.{all_rules, rules_of, macros_of}
 use Rattle.lalrpop_norm_model.specs.PlainTables.{IsSettled}
-use Rattle.lalrpop_norm_model.proofs.GrammarLemmas.{as_flat, flat_from}
+use Rattle.lalrpop_norm_model.proofs.GrammarLemmas.{flat_from}
 use Rattle.lalrpop_norm_model.proofs.LevelLemmas.{in_map}
 use Rattle.lalrpop_norm_model.proofs.ScopeLemmas.{rule_found}
 use Rattle.lalrpop_norm_model.proofs.MadeReadLemmas.{flat_of, flat_rules_resolved}

@@ -1,7 +1,7 @@
 -- From the enabled grammar to the grammar with levels: rules keep their arguments and declared types, alternatives their conditions,
 -- and symbols their terminals, to which resolving adds bare ones with a conversion.
-use Rattle.std.proofs.Common.{◌≡◌, ◌⊎◌, inl, inr, ℕ, zero, suc, Bool, true, false, List, [], ◌∷◌, ◌++◌, length, map, Option, Some, None, refl, ap, sym, subst, ◌∙◌, arith}
-use Rattle.std.specs.Prelude.{flat_map, if◌then◌else◌, option_to_list, bytes_eq, nat_eq, option_map}
+use Rattle.std.proofs.Common.{◌≡◌, inl, inr, ℕ, zero, suc, Bool, true, false, List, [], ◌∷◌, ◌++◌, length, map, Option, Some, None, refl, ap, sym, subst, ◌∙◌, arith}
+use Rattle.std.specs.Prelude.{flat_map, if◌then◌else◌, option_to_list, bytes_eq, nat_eq}
 use Rattle.lalrpop_norm_tree.specs.declared.names.NonterminalString.{NonterminalString}
 use Rattle.lalrpop_norm_tree.specs.declared.names.Span.{Span}
 use Rattle.lalrpop_norm_tree.specs.declared.names.TerminalString.{TerminalString}
@@ -12,12 +12,12 @@ use Rattle.lalrpop_norm_theory.specs.Rounds.{In}
 use Rattle.lalrpop_norm_theory.proofs.RoundsLemmas.{in_left, in_right, in_cases, of_flat}
 use Rattle.lalrpop_norm_theory.proofs.SameLemmas.{text_sound}
 use Rattle.lalrpop_norm_model.specs.Features.{Features, is_active}
-use Rattle.lalrpop_norm_model.specs.Enabled.{Places, present, if_active, enabled_places, all_places, enabled_rule, enabled_item, enabled_grammar}
-use Rattle.lalrpop_norm_model.specs.Scopes.{Definition, a_rule, a_macro, a_terminal, Global, rule_definition, bare_global, conversions_in, rule_globals, conversion_globals, match_globals, globals, definition_of, Sense, an_argument, a_global, is_argument, global_sense, sense_of, by_sense, resolved_kind, resolved_part, resolved_parts, resolved_alternative, resolved_rule, resolved_item, resolved_grammar}
+use Rattle.lalrpop_norm_model.specs.Enabled.{Places, present, if_active, all_places, enabled_rule, enabled_item, enabled_grammar}
+use Rattle.lalrpop_norm_model.specs.Scopes.{Definition, a_rule, a_macro, a_terminal, Global, rule_definition, bare_global, conversions_in, rule_globals, conversion_globals, match_globals, globals, definition_of, Sense, an_argument, a_global, global_sense, sense_of, by_sense, resolved_kind, resolved_part, resolved_parts, resolved_alternative, resolved_rule, resolved_item, resolved_grammar}
 use Rattle.lalrpop_norm_model.specs.Levels.{Leveled, with_levels, leveled_at, map_numbered, levels_of, previous_level, has_levels}
 use Rattle.lalrpop_norm_model.specs.LevelRules.{leveled_kind, leveled_part, leveled_parts, is_own, level_alternative, step_alternatives, of_level, level_rule, level_rules, leveled_grammar}
 use Rattle.lalrpop_norm_model.specs.PlainRules.{rule_of_item, all_rules}
-use Rattle.lalrpop_norm_model.specs.Expanded.{enum_in, match_in, enums, match_blocks, terminals_converted, declared_symbols}
+use Rattle.lalrpop_norm_model.specs.Expanded.{enum_in, match_in, enums, terminals_converted, declared_symbols}
 use Rattle.lalrpop_norm_model.proofs.LevelLemmas.{of_map}
 use Rattle.lalrpop_norm_model.proofs.GrammarLemmas.{all_level_rules}
 use Rattle.lalrpop_norm.proofs.ExpandedScopes.{IsOverKind, IsOver, AreOver}

@@ -1,10 +1,9 @@
 -- The tokens of a grammar with one extern enum and nothing else that gives tokens, along the steps that change rules alone.
-use Rattle.std.proofs.Common.{◌≡◌, ◌⊎◌, inl, inr, ℕ, ◌≤◌, ◌<◌, Bool, true, false, List, [], ◌∷◌, ◌++◌, length, map, Option, Some, None, refl, ap, ap₂, sym, subst, ◌∙◌, arith}
+use Rattle.std.proofs.Common.{◌≡◌, ℕ, Bool, true, false, List, [], ◌∷◌, ◌++◌, map, Option, Some, None, refl, ap, sym, subst, ◌∙◌}
 use Rattle.std.specs.Prelude.{flat_map, if◌then◌else◌, option_to_list}
-use Rattle.lalrpop_norm_tree.specs.declared.names.TerminalString.{TerminalString}
 use Rattle.lalrpop_norm_tree.specs.declared.names.TerminalString.TheVariants.{Error}
 use Rattle.lalrpop_norm_tree.specs.Accessors.{first_of, or_else, enum_token_of}
-use Rattle.lalrpop_norm_tree.specs.Items.{RuleData, EnumTokenData, ExternTokenData, MatchTokenData, InternTokenData, ItemData, GrammarData, match_item, extern_item, intern_item, rule_item, use_item}
+use Rattle.lalrpop_norm_tree.specs.Items.{RuleData, EnumTokenData, ItemData, GrammarData, match_item, extern_item, intern_item, rule_item, use_item}
 use Rattle.lalrpop_norm_tree.specs.LoweredTypes.{holds_symbol}
 use Rattle.lalrpop_norm_tree.specs.Types.{TypeData, ParameterData}
 use Rattle.lalrpop_norm_theory.specs.Rounds.{In}
@@ -13,7 +12,7 @@ use Rattle.lalrpop_norm_model.specs.LevelRules.{level_items, level_rules, levele
 use Rattle.lalrpop_norm_model.specs.Grammars.{is_nil, ConditionValue}
 use Rattle.lalrpop_norm_model.specs.PlainRules.{replaced_rule, plain_item, plain_grammar, made_in}
 use Rattle.lalrpop_norm_model.specs.TerminalTypes.{extern_enum}
-use Rattle.lalrpop_norm_model.specs.Expanded.{enum_in, match_in, intern_in, enums, match_blocks, interns, terminals_converted, converted, mapped, types_in_clause, types_in_extern, types_beside_rules, all_known}
+use Rattle.lalrpop_norm_model.specs.Expanded.{enum_in, match_in, intern_in, enums, match_blocks, interns, terminals_converted, types_in_clause, types_in_extern, types_beside_rules, all_known}
 
 -- ---- tokens
 
@@ -57,7 +56,7 @@ module _ {X : Type 0} (f : ItemData → List X) (none : (r : RuleData) → f (ru
   made_none [] = refl
   made_none (r ∷ rs) = after_none (replaced_rule r) (flat_map f (map (λ s. rule_item (replaced_rule s)) rs)) ∙ made_none rs
 
-  resolved_kept : (ds : List Global) (items : List ItemData) → flat_map f (map (resolved_item ds) items) ≡ flat_map f items
+  pub resolved_kept : (ds : List Global) (items : List ItemData) → flat_map f (map (resolved_item ds) items) ≡ flat_map f items
   resolved_kept ds [] = refl
   resolved_kept ds (rule_item r ∷ items) =
       after_none _ (flat_map f (map (resolved_item ds) items)) ∙ resolved_kept ds items ∙ sym (after_none r (flat_map f items))
@@ -66,7 +65,7 @@ module _ {X : Type 0} (f : ItemData → List X) (none : (r : RuleData) → f (ru
   resolved_kept ds (intern_item t ∷ items) = ap (λ xs. f (intern_item t) ++ xs) (resolved_kept ds items)
   resolved_kept ds (use_item u ∷ items) = ap (λ xs. f (use_item u) ++ xs) (resolved_kept ds items)
 
-  level_kept : (items : List ItemData) → flat_map f (flat_map level_items items) ≡ flat_map f items
+  pub level_kept : (items : List ItemData) → flat_map f (flat_map level_items items) ≡ flat_map f items
   level_kept [] = refl
   level_kept (rule_item r ∷ items) =
       rules_none (level_rules r) (flat_map level_items items) ∙ level_kept items ∙ sym (after_none r (flat_map f items))
@@ -75,7 +74,7 @@ module _ {X : Type 0} (f : ItemData → List X) (none : (r : RuleData) → f (ru
   level_kept (intern_item t ∷ items) = ap (λ xs. f (intern_item t) ++ xs) (level_kept items)
   level_kept (use_item u ∷ items) = ap (λ xs. f (use_item u) ++ xs) (level_kept items)
 
-  plain_kept : (rs : List RuleData) (items : List ItemData) →
+  pub plain_kept : (rs : List RuleData) (items : List ItemData) →
       flat_map f (flat_map plain_item items ++ map (λ r. rule_item (replaced_rule r)) rs) ≡ flat_map f items
   plain_kept rs [] = made_none rs
   plain_kept rs (rule_item r ∷ items) = by (is_nil r.args) (plain_kept rs items)

@@ -1,15 +1,13 @@
 -- What a written grammar without a later part and without faults says of its enabled grammar: one extern enum, whose terminals are all
 -- that its symbols use, and rules without arguments and conditions, in whose types no symbol stands.
-use Rattle.std.proofs.Common.{◌≡◌, ◌⊎◌, inl, inr, ℕ, Bool, true, false, not, ◌||◌, List, [], ◌∷◌, ◌++◌, map, Option, Some, None, IsSome, refl, ap, ap₂, sym, subst, ◌∙◌}
-use Rattle.std.specs.Prelude.{flat_map, filter, filter_map, option_map, option_to_list, is_some, All, if◌then◌else◌}
+use Rattle.std.proofs.Common.{◌≡◌, inl, inr, ℕ, Bool, true, false, not, ◌||◌, List, [], ◌∷◌, ◌++◌, map, Option, Some, None, IsSome, refl, ap, sym, subst, ◌∙◌}
+use Rattle.std.specs.Prelude.{flat_map, filter, option_map, option_to_list, is_some, All, if◌then◌else◌}
 use Rattle.std.specs.List as list
 use Rattle.std.specs.List.{AllByRecursion, list_any}
 use Rattle.std.proofs.lemmas.List.Elements.{All-head, All-tail}
 use Rattle.lalrpop_norm_tree.specs.declared.names.Span.{Span}
 use Rattle.lalrpop_norm_tree.specs.declared.names.TerminalString.{TerminalString}
 use Rattle.lalrpop_norm_tree.specs.declared.names.TerminalString.TheVariants.{Literal, Bare, Error}
-use Rattle.lalrpop_norm_tree.specs.Accessors.{extern_token_of, rule_of, is_public}
-use Rattle.lalrpop_norm_tree.specs.Attributes.{no_attributes}
 use Rattle.lalrpop_norm_tree.specs.Bounds.{WhereClauseData}
 use Rattle.lalrpop_norm_tree.specs.Items.{AlternativeData, RuleData, AssociatedTypeData, ConversionData, EnumTokenData, ExternTokenData, ItemData, GrammarData, match_item, extern_item, intern_item, rule_item, use_item}
 use Rattle.lalrpop_norm_tree.specs.LoweredTypes.{holds_symbol, any_holds_symbol, result_holds_symbol}
@@ -17,7 +15,7 @@ use Rattle.lalrpop_norm_tree.specs.Patterns as pattern
 use Rattle.lalrpop_norm_tree.specs.Symbols.{Kind, Part, Parts, group, ambiguous_id, terminal, nonterminal, call, repeated, chosen, named, tupled, lookahead, lookbehind, error_terminal, at, no_parts, part_and}
 use Rattle.lalrpop_norm_tree.specs.Types.{TypeData, TypesData, MaybeType, ParameterData, tuple, slice, nominal, reference, trait_object, of_lifetime, id, of_symbol, function, no_types, type_and, no_type, returns}
 use Rattle.lalrpop_norm_theory.specs.Rounds.{In, IsDistinct}
-use Rattle.lalrpop_norm_theory.proofs.RoundsLemmas.{in_left, in_right, in_cases, of_flat}
+use Rattle.lalrpop_norm_theory.proofs.RoundsLemmas.{in_cases, of_flat}
 use Rattle.lalrpop_norm_faults.specs.Faults.{Fault, fault_if}
 use Rattle.lalrpop_norm_faults.specs.declared.kind.FaultKind.TheVariants.{UnknownAssociatedType, RepeatedAssociatedType, WrittenOfSymbol}
 use Rattle.lalrpop_norm_model.specs.Features.{Features, is_active, is_one_of}
@@ -34,18 +32,13 @@ use Rattle.lalrpop_norm_front.specs.TypeFaults.{some_holds, kind_holds, pattern_
 use Rattle.lalrpop_norm_front.specs.SymbolFaults.{terminal_faults, kind_faults, part_faults, parts_faults, beside_faults, list_faults}
 use Rattle.lalrpop_norm_front.specs.AlternativeFaults.{alternative_faults}
 use Rattle.lalrpop_norm_front.specs.GrammarFaults.{rule_faults, associated_faults, types_faults, conversion_faults, enum_faults, extern_faults, is_known_type, unknown_faults, parameter_faults, clause_faults, is_match, is_extern, item_faults, items_faults, place_in, blocks_in, validate_faults}
-use Rattle.lalrpop_norm_repr.specs.Tables.{same_terminal}
-use Rattle.lalrpop_norm_late.specs.Conversions.{conversions_in, terminals_of}
-use Rattle.lalrpop_norm_late.specs.Lowerable.{externs_of}
-use Rattle.lalrpop_norm_late.specs.Lowering.{rules_of}
-use Rattle.lalrpop_norm_late.proofs.KeyLaws.{terminal_itself, terminals_decide}
-use Rattle.lalrpop_norm.specs.Grammars.{enum_in, conversions_of, terminal_listed}
-use Rattle.lalrpop_norm.specs.Later.{names_terminal, has_conversion}
+use Rattle.lalrpop_norm_late.proofs.KeyLaws.{terminals_decide}
+use Rattle.lalrpop_norm.specs.Grammars.{rules_of, externs_of, enum_in, conversions_in, conversions_of, terminals_of, terminal_listed, same_terminal}
+use Rattle.lalrpop_norm.specs.Later.{has_conversion}
 use Rattle.lalrpop_norm.specs.TakenGrammars.{IsConverted, IsTakenKind, IsTakenSymbol, AreTakenSymbols, IsTakenAlternative, IsTakenRule, IsNoMatchBlock, IsTaken}
-use Rattle.lalrpop_norm.proofs.SimpleFaithful.{rules_agree}
 use Rattle.lalrpop_norm.proofs.ExpandedScopes.{IsOverKind, IsOver, AreOver}
 use Rattle.lalrpop_norm.proofs.ExpandedTokens.{HasOneEnum}
-use Rattle.lalrpop_norm.proofs.ExpandedSteps.{IsFitRule, AreFitRules, IsTokenOf, enabled_rules_fit}
+use Rattle.lalrpop_norm.proofs.ExpandedSteps.{AreFitRules, IsTokenOf, enabled_rules_fit}
 
 -- ---- lists
 
@@ -344,6 +337,15 @@ module _ (fs : Features) where
 
 -- ---- items that are taken
 
+-- the two words for the rules of a grammar say the same
+rules_same : (items : List ItemData) → rules_of items ≡ flat_map rule_of_item items
+rules_same [] = refl
+rules_same (rule_item r ∷ items) = ap (λ rs. r ∷ rs) (rules_same items)
+rules_same (match_item m ∷ items) = rules_same items
+rules_same (extern_item t ∷ items) = rules_same items
+rules_same (intern_item t ∷ items) = rules_same items
+rules_same (use_item u ∷ items) = rules_same items
+
 no_matches : (items : List ItemData) → ((i : ItemData) → In i items → IsNoMatchBlock i) → flat_map match_in items ≡ []
 no_matches [] h = refl
 no_matches (match_item m ∷ items) h = absurd (h (match_item m) (inl refl))
@@ -487,7 +489,7 @@ module _ (fs : Features) (g : GrammarData) (h : IsTaken fs g) (f : validate_faul
 
     taken_rule : (r : RuleData) → In r (all_rules g) → IsTakenRule (has_conversion fs g.items) r
     taken_rule r i =
-        each_of (IsTakenRule (has_conversion fs g.items)) (rules_of g.items) h.rules r (subst (λ (rs : List RuleData). In r rs) (sym (rules_agree g.items)) i)
+        each_of (IsTakenRule (has_conversion fs g.items)) (rules_of g.items) h.rules r (subst (λ (rs : List RuleData). In r rs) (sym (rules_same g.items)) i)
 
     taken_alternative : (r : RuleData) → In r (all_rules g) → (a : AlternativeData) → In a r.alternatives → IsTakenAlternative (has_conversion fs g.items) a
     taken_alternative r i = each_of (IsTakenAlternative (has_conversion fs g.items)) r.alternatives (taken_rule r i).alternatives

@@ -1,12 +1,11 @@
 -- Where no fault stands in inference and lowering, each nonterminal of the lowered grammar has its only grounded type, and the start
 -- names are no rules' names.
 use Rattle.std.proofs.Common.{◌≡◌, ◌⊎◌, inl, inr, ℕ, ◌+◌, Bool, true, false, not, List, [], ◌∷◌, ◌++◌, map, Option, Some, None, IsSome, refl, ap, ap₂, sym, subst, ◌∙◌, arith}
-use Rattle.std.specs.Prelude.{flat_map, filter, is_none, bytes_eq, option_and_then, if◌then◌else◌}
+use Rattle.std.specs.Prelude.{flat_map, filter, bytes_eq, option_and_then, if◌then◌else◌}
 use Rattle.std.specs.List.{enumerate_from}
 use Rattle.std.proofs.lemmas.Bool.{cases_Bool}
-use Rattle.lalrpop_norm_tree.specs.declared.names.NonterminalString.{NonterminalString}
 use Rattle.lalrpop_norm_tree.specs.Accessors.{is_public, or_else}
-use Rattle.lalrpop_norm_tree.specs.Items.{AlternativeData, RuleData, GrammarData}
+use Rattle.lalrpop_norm_tree.specs.Items.{RuleData, GrammarData}
 use Rattle.lalrpop_norm_tree.specs.Reprs.{ReprData}
 use Rattle.lalrpop_norm_theory.specs.Symbols.{Name}
 use Rattle.lalrpop_norm_theory.specs.Rounds.{In, IsDistinct}

@@ -14,5 +14,7 @@ pub mod ExpandedPlain
 pub mod ExpandedSteps
 pub mod ExpandedWritten
 pub mod TypedPlain
+pub mod ExpandedActive
+pub mod ExpandedWhole
 pub mod GroundedTypes
 pub mod ComposedFaithful

@@ -1,5 +1,5 @@
 -- The grammar of plain rules is typed by a table in which each of its rules has a type; its conversions are all active.
-use Rattle.std.proofs.Common.{◌≡◌, ℕ, Bool, true, false, List, [], ◌∷◌, map, Option, Some, None, IsSome, refl, ap, sym, subst, ◌∙◌}
+use Rattle.std.proofs.Common.{◌≡◌, ℕ, Bool, true, false, List, [], ◌∷◌, Option, IsSome, refl, ap, sym, subst, ◌∙◌}
 use Rattle.std.specs.Prelude.{filter, if◌then◌else◌}
 use Rattle.lalrpop_norm_tree.specs.declared.names.TerminalString.{TerminalString}
 use Rattle.lalrpop_norm_tree.specs.Items.{RuleData, ConversionData, EnumTokenData, GrammarData}
@@ -10,7 +10,6 @@ use Rattle.lalrpop_norm_model.specs.Enabled.{enabled_enum}
 use Rattle.lalrpop_norm_model.specs.Lexers.{Lexer}
 use Rattle.lalrpop_norm_model.specs.CheckedTokens.{IsCheckedWith, IsChecked}
 use Rattle.lalrpop_norm_model.specs.Terminals.{terminals_used}
-use Rattle.lalrpop_norm_model.specs.TerminalTypes.{extern_enum}
 use Rattle.lalrpop_norm_model.specs.TypeRelation.{IsRule}
 use Rattle.lalrpop_norm_model.specs.Expanded.{terminals_converted, terminals_with, terminals_of, IsTyped}
 use Rattle.lalrpop_norm.proofs.ExpandedTokens.{HasOneEnum, the_enum}

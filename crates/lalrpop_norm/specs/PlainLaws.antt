@@ -2,16 +2,17 @@
 -- headline.
 use Rattle.std.specs.Prelude.{◌≡◌, ℕ, ◌++◌, List, [], Option, IsSome}
 use Rattle.lalrpop_norm_tree.specs.declared.names.NonterminalString.{NonterminalString}
-use Rattle.lalrpop_norm_tree.specs.Items.{RuleData, GrammarData}
+use Rattle.lalrpop_norm_tree.specs.Items.{RuleData, ExternTokenData, GrammarData, extern_item}
 use Rattle.lalrpop_norm_tree.specs.Reprs.{ReprData}
 use Rattle.lalrpop_norm_theory.specs.Rounds.{In}
 use Rattle.lalrpop_norm_conditions.specs.Conditions.{comparison}
 use Rattle.lalrpop_norm_model.specs.CheckedTokens.{IsChecked}
+use Rattle.lalrpop_norm_model.specs.Enabled.{enabled_extern}
 use Rattle.lalrpop_norm_model.specs.Expanded.{rule_names, IsExpanded, IsTyped}
 use Rattle.lalrpop_norm_model.specs.Features.{Features}
 use Rattle.lalrpop_norm_model.specs.InferenceFaults.{inference_faults}
 use Rattle.lalrpop_norm_model.specs.LoweringFaults.{lowering_faults}
-use Rattle.lalrpop_norm_model.specs.PlainRules.{all_rules, IsWhole}
+use Rattle.lalrpop_norm_model.specs.PlainRules.{all_rules}
 use Rattle.lalrpop_norm_model.specs.PlainTables.{IsSettled}
 use Rattle.lalrpop_norm_model.specs.TypeRelation.{IsRule}
 use Rattle.lalrpop_norm_front.specs.GrammarFaults.{validate_faults}
@@ -30,13 +31,12 @@ types_listed table n = let name : NonterminalString = record { 0 = n } in type_o
 
 -- ---- what passes find
 
--- The passes up to the expansion find nothing wrong with a written grammar, and after so many rounds the expansion is whole.
+-- The passes up to the expansion, which makes so many rounds, find nothing wrong with a written grammar.
 pub record PassesExpansion (fs : Features) (g : GrammarData) (limit : ℕ) : Type 0 where
   pub taken : IsTaken fs g
   pub valid : validate_faults g ≡ []
   pub settled : IsSettled (grammar_with_levels fs g)
   pub expanded : expansion_faults comparison (grammar_with_levels fs g) limit ≡ []
-  pub whole : IsWhole comparison (grammar_with_levels fs g) limit
 
 -- Nor do inference, which infers that table, and lowering.
 pub record PassesLowering (fs : Features) (g : GrammarData) (limit : ℕ) (table : TypeTable) : Type 0 where
@@ -60,6 +60,11 @@ PlainGrammarsAreTyped = (fs : Features) (g : GrammarData) (limit : ℕ) → Pass
 abbrev pub PlainGrammarsHaveTokens : Type 0
 PlainGrammarsHaveTokens = (fs : Features) (g : GrammarData) (limit : ℕ) → PassesExpansion fs g limit →
     IsChecked no_lexer (grammar_of_plain_rules fs g limit) (grammar_of_plain_rules fs g limit)
+
+-- Of its conversions each is active.
+abbrev pub PlainConversionsAreActive : Type 0
+PlainConversionsAreActive = (fs : Features) (g : GrammarData) (limit : ℕ) (t : ExternTokenData) →
+    In (extern_item t) (grammar_of_plain_rules fs g limit).items → enabled_extern fs t ≡ t
 
 -- ---- types
 

@@ -1,7 +1,7 @@
 //! What is proved of the definitions. Each function here is a law: it does nothing, and its contract is a theorem, whose statement
 //! stands in `specs/PlainLaws.antt`.
-ghost use Rattle.lalrpop_norm.specs.PlainLaws.{PlainGrammarsAreExpanded, PlainGrammarsAreTyped, PlainGrammarsHaveTokens, InferredTypesAreTotal};
-ghost use Rattle.lalrpop_norm.specs.PlainLaws.{StartNamesAreFree, LoweredTypesAreGrounded, LoweredGrammarsAreFaithful};
+ghost use Rattle.lalrpop_norm.specs.PlainLaws.{PlainGrammarsAreExpanded, PlainGrammarsAreTyped, PlainGrammarsHaveTokens, PlainConversionsAreActive};
+ghost use Rattle.lalrpop_norm.specs.PlainLaws.{InferredTypesAreTotal, StartNamesAreFree, LoweredTypesAreGrounded, LoweredGrammarsAreFaithful};
 
 /// The grammar of plain rules is expanded, where the passes up to the expansion find nothing wrong.
 pub fn plain_grammars_are_expanded()
@@ -18,6 +18,11 @@ pub fn plain_grammars_are_typed()
 /// With its extern enum it has the tokens that it needs.
 pub fn plain_grammars_have_tokens()
     ensures { PlainGrammarsHaveTokens }
+{}
+
+/// Of its conversions each is active.
+pub fn plain_conversions_are_active()
+    ensures { PlainConversionsAreActive }
 {}
 
 /// The table that is inferred for it, where inference finds nothing wrong, has a type for each of its rules.

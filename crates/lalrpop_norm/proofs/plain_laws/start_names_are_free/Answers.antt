@@ -2,4 +2,5 @@ use Rattle.lalrpop_norm.proofs.ComposedFaithful.{starts_free}
 use Rattle.lalrpop_norm.proofs.plain_laws.start_names_are_free.Goals as goal
 
 pub returns : goal.returns
-returns c = λ fs g limit table h. starts_free fs g h.before.taken h.before.valid h.before.settled limit h.before.whole c.names_stay_distinct.ensures h.before.expanded h.typable table h.inferred h.lowerable
+returns c = λ fs g limit table h.
+    starts_free fs g h.before.taken h.before.valid h.before.settled limit h.before.expanded c.names_stay_distinct.ensures h.typable table h.inferred h.lowerable
