@@ -18,3 +18,9 @@ pub mod ExpandedActive
 pub mod ExpandedWhole
 pub mod GroundedTypes
 pub mod ComposedFaithful
+pub mod ScopedLemmas
+pub mod PlainShape
+pub mod TreesRounds
+pub mod TreesLeveled
+pub mod TreesWritten
+pub mod TreesFaithful

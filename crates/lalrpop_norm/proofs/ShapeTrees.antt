@@ -54,7 +54,7 @@ tree_parts : (ps : Parts) → AreSimple ps → map tree_symbol (lowered_symbols 
 tree_parts no_parts h = refl
 tree_parts (part_and p ps) h = ap₂ (λ x xs. x ∷ xs) (tree_part p h.0) (tree_parts ps h.1)
 
-abbrev tree_symbols : AlternativeData → List LoweredSymbol
+abbrev pub tree_symbols : AlternativeData → List LoweredSymbol
 tree_symbols a = map tree_symbol (lowered_symbols a.parts)
 
 productions_same : (n : Name) (k : ℕ) (alternatives : List AlternativeData) → AreSimpleAlternatives alternatives →
@@ -66,21 +66,21 @@ productions_same n k (a ∷ rest) h =
 
 -- ---- productions of a name
 
-traced_each : (origins : List Origin) (n : Name) (es : List (ℕ × Named)) →
+pub traced_each : (origins : List Origin) (n : Name) (es : List (ℕ × Named)) →
     map (traced origins) (map (λ (e : ℕ × Named). production_of (record { 0 = n }) e.0 e.1.1) es) ≡ map (traced_entry origins tree_symbols) es
 traced_each origins n [] = refl
 traced_each origins n (e ∷ es) = ap₂ (λ x xs. x ∷ xs) refl (traced_each origins n es)
 
 -- ---- origins
 
-abbrev starts : List ℕ → List RuleData → List Named
+abbrev pub starts : List ℕ → List RuleData → List Named
 starts prefix rules = map (start_clause prefix) (public_rules rules)
 
-starts_total : (prefix : List ℕ) (rules : List RuleData) → length {A = Named} (map (start_clause prefix) rules) ≡ length rules
+pub starts_total : (prefix : List ℕ) (rules : List RuleData) → length {A = Named} (map (start_clause prefix) rules) ≡ length rules
 starts_total prefix [] = refl
 starts_total prefix (r ∷ rules) = ap suc (starts_total prefix rules)
 
-replicated : {A : Type 0} (k : ℕ) (x : A) → length (replicate k x) ≡ k
+pub replicated : {A : Type 0} (k : ℕ) (x : A) → length (replicate k x) ≡ k
 replicated zero x = refl
 replicated (suc k) x = ap suc (replicated k x)
 
@@ -160,7 +160,7 @@ no_start_row prefix rules [] cs h r i = tt
 no_start_row prefix rules (s ∷ some) cs h r i =
     (turned (prefix ++ s.name.0) r.name.0 (none_in (prefix ++ s.name.0) rules h.0 r i), no_start_row prefix rules some cs h.1 r i)
 
-no_start_name : (prefix : List ℕ) (rules some : List RuleData) → AreFree prefix rules some → (r : RuleData) → In r rules →
+pub no_start_name : (prefix : List ℕ) (rules some : List RuleData) → AreFree prefix rules some → (r : RuleData) → In r rules →
     HaveOtherNames r.name.0 (map (start_clause prefix) some)
 no_start_name prefix rules [] h r i = tt
 no_start_name prefix rules (s ∷ some) h r i =
@@ -180,7 +180,7 @@ rule_row cs (s ∷ rules) r e = elim (cases_Bool (bytes_eq s.name.0 r.name.0)) [
 
 module _ (g : GrammarData) (rules : List RuleData) (types : TypeTable) (l : LoweredGrammar) (shape : IsLoweringOf g rules types l)
     (distinct : HaveDistinctNames rules) (free : AreFree g.prefix rules (public_rules rules)) where
-  productions_at : (r : RuleData) → In r rules → productions_of r.name l ≡ productions_named r.name (clauses_of g.prefix rules)
+  pub productions_at : (r : RuleData) → In r rules → productions_of r.name l ≡ productions_named r.name (clauses_of g.prefix rules)
   productions_at r i =
       let cs = clauses_of g.prefix rules in
       let looked : found r.name l.nonterminals ≡ Some (rule_entry_of cs r).1 =

@@ -7,3 +7,4 @@ pub mod Normalize
 pub mod Derivations
 pub mod Faithful
 pub mod PlainLaws
+pub mod Laws

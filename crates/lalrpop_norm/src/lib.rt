@@ -5,6 +5,7 @@
 
 pub mod grammar;
 mod later;
+pub mod laws;
 mod passes;
 pub mod plain_laws;
 

@@ -1,0 +1,178 @@
+-- The derivation trees of what a grammar is lowered to stand one to one with the written trees.
+use Rattle.std.proofs.Common.{◌≡◌, inl, inr, ℕ, Bool, true, false, List, [], ◌∷◌, ◌++◌, map, length, sym, ap, ◌∙◌, subst}
+use Rattle.std.specs.Prelude.{flat_map, None, if◌then◌else◌}
+use Rattle.lalrpop_norm_tree.specs.Items.{RuleData, GrammarData}
+use Rattle.lalrpop_norm_theory.specs.Symbols.{Name, ClosedSymbol, terminal, error, reference, wrapped}
+use Rattle.lalrpop_norm_theory.specs.Meaning.{Meaning}
+use Rattle.lalrpop_norm_theory.specs.LoweredTrees as theory
+use Rattle.lalrpop_norm_theory.specs.Clauses.{IsNonterminal}
+use Rattle.lalrpop_norm_theory.specs.Rounds.{In, IsDistinct}
+use Rattle.lalrpop_norm_theory.specs.Met.{expanded_symbols, IsKnown}
+use Rattle.lalrpop_norm_theory.specs.Tables.{Realizes, Stands, table, rule_of}
+use Rattle.lalrpop_norm_theory.specs.Laws.{OneToOne}
+use Rattle.lalrpop_norm_theory.proofs.RoundsLemmas.{in_left, in_right, in_cases}
+use Rattle.lalrpop_norm_theory.proofs.TableLemmas.{rules_realize}
+use Rattle.lalrpop_norm_theory.proofs.Trees.{trees_one_to_one}
+use Rattle.lalrpop_norm_conditions.specs.Conditions.{comparison}
+use Rattle.lalrpop_norm_names.specs.NameFaults.{resolve_faults}
+use Rattle.lalrpop_norm_names.proofs.ResolvedFaults.{faults_gone}
+use Rattle.lalrpop_norm_repr.specs.Lowered.{LoweredGrammar}
+use Rattle.lalrpop_norm_repr.specs.Tables.{TypeTable}
+use Rattle.lalrpop_norm_late.specs.Lowering.{public_rules}
+use Rattle.lalrpop_norm_late.specs.Shape.{IsLoweringOf}
+use Rattle.lalrpop_norm_model.specs.Features.{Features}
+use Rattle.lalrpop_norm_model.specs.Enabled.{enabled_grammar}
+use Rattle.lalrpop_norm_model.specs.WrittenRules.{WrittenRule, written_rules}
+use Rattle.lalrpop_norm_model.specs.Grammars.{ConditionValue, is_macro, meaning, references, rule_roots, roots}
+use Rattle.lalrpop_norm_model.specs.ClosedTexts.{text_in}
+use Rattle.lalrpop_norm_model.specs.LevelRules.{leveled_grammar}
+use Rattle.lalrpop_norm_model.specs.PlainRules.{all_rules, plain_grammar, plain_rules, IsWhole}
+use Rattle.lalrpop_norm_model.specs.Origins.{plain_symbols, plain_origins, action_origins}
+use Rattle.lalrpop_norm_model.specs.PlainTables.{IsSettled, rules_from}
+use Rattle.lalrpop_norm_model.specs.LevelNames.{HasLevelNames}
+use Rattle.lalrpop_norm_model.specs.Renumbered.{prepared_grammar}
+use Rattle.lalrpop_norm_model.specs.Expanded.{rule_names}
+use Rattle.lalrpop_norm_model.proofs.ResolvedLemmas.{resolved_once}
+use Rattle.lalrpop_norm_model.proofs.LevelLemmas.{in_map, of_map}
+use Rattle.lalrpop_norm_model.proofs.MeaningLemmas.{meaning_has_counts, meaning_has_levels}
+use Rattle.lalrpop_norm_model.proofs.GrammarLemmas.{of_flat}
+use Rattle.lalrpop_norm_model.proofs.PlainReadLemmas.{rules_read, origins_counted}
+use Rattle.lalrpop_norm_model.proofs.FaithfulLemmas.{plain_grammars_hold_plain_rules}
+use Rattle.lalrpop_norm.specs.Derivations.{derivations}
+use Rattle.lalrpop_norm.specs.Laws.{HasFlatMacros, LoweredTreesAreFaithful}
+use Rattle.lalrpop_norm.proofs.ScopedLemmas.{names_once, leveled_scoped, settled, levels_resolved}
+use Rattle.lalrpop_norm.proofs.PlainShape.{distinct_listed, free_listed, shape_derivations}
+use Rattle.lalrpop_norm.proofs.TreesWritten.{reference_of, written_whole, written_fit, written_names, written_stands}
+
+-- a rule taken by itself is by a reference
+root_of : (rs : List WrittenRule) (s : ClosedSymbol) → In s (roots rs) → (n : Name) × (s ≡ reference n None)
+root_of rs s h =
+    let (w, i, j) = of_flat rule_roots s rs h in by w (is_macro w) j
+  where
+    by : (w : WrittenRule) (x : Bool) → In s (if x then [] else reference w.name None ∷ []) → (n : Name) × (s ≡ reference n None)
+    by w true i = absurd i
+    by w false (inl e) = (w.name, e)
+    by w false (inr i) = absurd i
+
+module _ (value : ConditionValue) (fs : Features) (g : GrammarData) (N : HasLevelNames (prepared_grammar fs g))
+    (S : IsSettled (leveled_grammar (prepared_grammar fs g))) (n : ℕ) (whole : IsWhole value (leveled_grammar (prepared_grammar fs g)) n)
+    (D : IsDistinct (rule_names (plain_grammar value (leveled_grammar (prepared_grammar fs g)) n))) where
+  abbrev ws : List WrittenRule
+  ws = written_rules fs g
+
+  abbrev M : Meaning
+  M = meaning value (written_rules fs g)
+
+  abbrev plain : GrammarData
+  plain = plain_grammar value (leveled_grammar (prepared_grammar fs g)) n
+
+  abbrev met : List ClosedSymbol
+  met = expanded_symbols M (references ws) n
+
+  abbrev name : ClosedSymbol → Name
+  name = text_in ws
+
+  stands : Stands M name (roots ws) (references ws) met
+  stands = written_stands value fs g N S n whole D
+
+  -- ---- each known symbol has a plain rule
+
+  abbrev HasRule : ClosedSymbol → Type 0
+  HasRule s = (r : RuleData) × In r (all_rules plain) × (r.name.0 ≡ name s)
+
+  symbol_rule : (s : ClosedSymbol) → In s (plain_symbols M (references ws) n) → HasRule s
+  symbol_rule s i =
+      let (r, j, e) = of_map (λ (r : RuleData). r.name.0) (name s) (all_rules plain)
+      (subst (λ (ns : List Name). In (name s) ns) (sym (written_names value fs g N S n)) (in_map name s (plain_symbols M (references ws) n) i)) in
+      (r, j, sym e)
+
+  reference_rule : (s : ClosedSymbol) → In s (roots ws ++ references ws) → HasRule s
+  reference_rule s i = elim (in_cases s (roots ws) (references ws) i) [
+    | inl j ↦ (let (h, k, same, alike) = stands.shared s j in
+        let (r, p, e) = symbol_rule h (in_left h (references ws) met k) in (r, p, e ∙ sym same))
+    | inr j ↦ symbol_rule s (in_left s (references ws) met j)
+  ]
+
+  known_rule : (s : ClosedSymbol) → IsNonterminal s → IsKnown (roots ws ++ references ws) met s → HasRule s
+  known_rule (terminal a) h k = absurd h
+  known_rule error h k = absurd h
+  known_rule (wrapped w s) h k = absurd h
+  known_rule (reference m b) h k = reference_rule (reference m b) k
+  known_rule s h k = symbol_rule s (in_right s (references ws) met k)
+
+  -- ---- a lowered grammar that has the plain rules
+
+  module _ (P : theory.LoweredGrammar)
+      (held : (r : RuleData) → In r (all_rules plain) → P r.name.0 ≡ table (rules_from (plain_origins M (references ws) n) (all_rules plain)) r.name.0) where
+    rules_same : rules_from (plain_origins M (references ws) n) (all_rules plain) ≡ map (rule_of M name) (plain_symbols M (references ws) n)
+    rules_same =
+        ap (rules_from (plain_origins M (references ws) n)) (plain_grammars_hold_plain_rules value (leveled_grammar (prepared_grammar fs g)) n)
+        ∙ rules_read M name (plain_rules value (leveled_grammar (prepared_grammar fs g)) n) (plain_symbols M (references ws) n) (written_fit value fs g N S n)
+
+    realized : Realizes M name (table (map (rule_of M name) (references ws ++ met))) (IsKnown (roots ws ++ references ws) met)
+    realized = rules_realize M name (roots ws) (references ws) met stands
+
+    realizes : Realizes M name P (IsKnown (roots ws ++ references ws) met)
+    realizes = record {
+      productions = λ s h k.
+          (let (r, i, e) = known_rule s h k in
+          subst (λ (m : Name). P m ≡ table (rules_from (plain_origins M (references ws) n) (all_rules plain)) m) e (held r i))
+          ∙ ap (λ rs. table rs (name s)) rules_same
+          ∙ realized.productions s h k;
+      inner = realized.inner;
+      parts_known = realized.parts_known;
+    }
+
+    root_known : (s : ClosedSymbol) → In s (roots ws ++ references ws) → IsKnown (roots ws ++ references ws) met s
+    root_known s i = elim (in_cases s (roots ws) (references ws) i) [
+      | inl j ↦ (let (m, e) = root_of ws s j in
+          subst (IsKnown (roots ws ++ references ws) met) (sym e) (subst (λ (x : ClosedSymbol). In x (roots ws ++ references ws)) e i))
+      | inr j ↦ (let (m, b, e) = reference_of ws s j in
+          subst (IsKnown (roots ws ++ references ws) met) (sym e) (subst (λ (x : ClosedSymbol). In x (roots ws ++ references ws)) e i))
+    ]
+
+    pub held_trees : (s : ClosedSymbol) → In s (roots ws ++ references ws) → OneToOne M name P s
+    held_trees s i =
+        trees_one_to_one M (meaning_has_counts value ws) (meaning_has_levels value ws) name P (roots ws ++ references ws) met realizes s (root_known s i)
+
+  -- ---- what the plain rules are lowered to
+
+  module _ (free : (r : RuleData) → In r (public_rules (all_rules plain)) → In (plain.prefix ++ r.name.0) (rule_names plain) → ⊥)
+      (types : TypeTable) (l : LoweredGrammar) (shape : IsLoweringOf plain (all_rules plain) types l) where
+    counted : length (plain_origins M (references ws) n) ≡ length (flat_map (λ (r : RuleData). r.alternatives) (all_rules plain))
+    counted =
+        origins_counted M name (plain_rules value (leveled_grammar (prepared_grammar fs g)) n) (plain_symbols M (references ws) n) (written_fit value fs g N S n)
+        ∙ ap (λ (rs : List RuleData). length (flat_map (λ (r : RuleData). r.alternatives) rs))
+        (sym (plain_grammars_hold_plain_rules value (leveled_grammar (prepared_grammar fs g)) n))
+
+    pub lowered_trees : (s : ClosedSymbol) → In s (roots ws ++ references ws) →
+        OneToOne M name (derivations (action_origins (length (public_rules (all_rules plain))) M (references ws) n) l) s
+    lowered_trees s i =
+        held_trees (derivations (action_origins (length (public_rules (all_rules plain))) M (references ws) n) l)
+        (shape_derivations plain (all_rules plain) types l shape (distinct_listed (all_rules plain) D)
+        (free_listed plain.prefix (all_rules plain) (public_rules (all_rules plain)) free) (plain_origins M (references ws) n) counted)
+        s i
+
+-- ---- from the absence of faults
+
+module _ (fs : Features) (g : GrammarData) (faults : resolve_faults (enabled_grammar fs g) ≡ []) (macros : HasFlatMacros (prepared_grammar fs g))
+    (level_faults : resolve_faults (leveled_grammar (prepared_grammar fs g)) ≡ []) where
+  pub level_names_found : HasLevelNames (prepared_grammar fs g)
+  level_names_found = record {
+    resolved = resolved_once (enabled_grammar fs g);
+    names = leveled_scoped (prepared_grammar fs g) (faults_gone (enabled_grammar fs g) faults) (resolved_once (enabled_grammar fs g));
+    no_clash = names_once (leveled_grammar (prepared_grammar fs g)) level_faults;
+    macros = macros;
+  }
+
+  pub levels_settled : IsSettled (leveled_grammar (prepared_grammar fs g))
+  levels_settled = settled (leveled_grammar (prepared_grammar fs g)) level_faults (levels_resolved (prepared_grammar fs g) level_names_found)
+
+pub lowered_trees_faithful : LoweredTreesAreFaithful
+lowered_trees_faithful fs g faults macros level_faults rounds whole names types l shape =
+    let N = level_names_found fs g faults macros level_faults in
+    let S = levels_settled fs g faults macros level_faults in
+    record {
+      whole = written_whole comparison fs g N S rounds whole;
+      one_to_one = lowered_trees comparison fs g N S rounds whole names.once names.starts types l shape;
+    }

@@ -1,0 +1,234 @@
+-- What an expansion makes of a grammar, and of its grammar with levels: the same symbols in the same order, each bounded reference as the
+-- name of its level.
+use Rattle.std.proofs.Common.{◌≡◌, ◌≤◌, ◌<◌, ◌+◌, inl, inr, ℕ, zero, suc, List, [], ◌∷◌, ◌++◌, length, map, refl, sym, ap, ap₂, ◌∙◌, subst, arith, append-nil}
+use Rattle.std.specs.Prelude.{flat_map, slice_get, Option, Some, None, option_map}
+use Rattle.std.proofs.lemmas.List.{map-append}
+use Rattle.std.proofs.lemmas.Option.{slice_get_cases}
+use Rattle.lalrpop_norm_theory.specs.Symbols.{Name, ClosedSymbol, ClosedSymbols, terminal, error, reference, call, group, star, plus, question, wrapped, lookahead, lookbehind, no_symbols, symbol_and}
+use Rattle.lalrpop_norm_theory.specs.Meaning.{Meaning, HasCounts, HasLevels}
+use Rattle.lalrpop_norm_theory.specs.LoweredTrees.{Origin}
+use Rattle.lalrpop_norm_theory.specs.Clauses.{Clause, clause_and, clauses, numbered, own_clauses, symbols_of}
+use Rattle.lalrpop_norm_theory.specs.Rounds.{In, rounds, all_rules_made}
+use Rattle.lalrpop_norm_theory.specs.Same.{same_symbol}
+use Rattle.lalrpop_norm_theory.specs.Met.{meets, meets_all, clauses_meet, rule_meets, expansion, expanded_symbols, IsResolvedIn, IsResolved}
+use Rattle.lalrpop_norm_theory.specs.Leveled.{level_reference, leveled_symbol, leveled_symbols, IsLeveled}
+use Rattle.lalrpop_norm_theory.specs.Laws.{level_named}
+use Rattle.lalrpop_norm_theory.proofs.RoundsLemmas.{of_flat}
+use Rattle.lalrpop_norm_theory.proofs.SameLemmas.{symbol_test}
+use Rattle.lalrpop_norm_theory.proofs.ResolvedLemmas.{rule_met_resolved}
+use Rattle.lalrpop_norm_theory.proofs.LeveledLemmas.{symbol_named}
+use Rattle.lalrpop_norm_theory.proofs.ViewedLemmas.{same_view}
+use Rattle.lalrpop_norm_tree.specs.Items.{RuleData}
+use Rattle.lalrpop_norm_model.proofs.RoundReadLemmas.{rounds_viewed, made_viewed, made_within}
+use Rattle.lalrpop_norm_model.proofs.PlainReadLemmas.{AllFit}
+use Rattle.lalrpop_norm.proofs.TreesRounds.{rounds_alike, made_alike, symbol_alike}
+
+-- the parts of a clause, as they are and with the names of levels
+abbrev pub parts_of : Clause → ClosedSymbols
+parts_of c = c.parts
+
+abbrev pub leveled_parts : (Name → ℕ → Name) → Clause → ClosedSymbols
+leveled_parts l c = leveled_symbols l c.parts
+
+-- ---- clauses
+
+shifted : (k j : ℕ) → k + suc j ≡ suc k + j
+shifted k j = omega arith
+
+-- the alternatives of a level's rule are the clauses in their places
+numbered_read : (n : Name) (l : Name → ℕ → Name) (f : ℕ → Option ClosedSymbols) (k left : ℕ) (cs : List Clause) →
+    length cs ≤ left → ((j : ℕ) → f (k + j) ≡ option_map (leveled_parts l) (slice_get cs j)) →
+    map parts_of (numbered n f k left) ≡ map (leveled_parts l) cs
+numbered_read n l f k zero [] b h = refl
+numbered_read n l f k zero (c ∷ cs) b h = absurd (omega arith)
+numbered_read n l f k (suc left) [] b h =
+    let z : k + 0 ≡ k = omega arith in
+    let here = rw z at (h 0) in
+    rw here (numbered_read n l f (suc k) left [] (omega arith) (λ j. rw (← shifted k j) (h (suc j))))
+numbered_read n l f k (suc left) (c ∷ cs) b h =
+    let z : k + 0 ≡ k = omega arith in
+    let here = rw z at (h 0) in
+    rw here
+    (ap (λ r. leveled_parts l c ∷ r) (numbered_read n l f (suc k) left cs (omega arith) (λ j. rw (← shifted k j) (h (suc j)))))
+
+-- the alternatives of a macro keep their numbers
+calls_read : (n : Name) (l : Name → ℕ → Name) (f h : ℕ → Option ClosedSymbols) (k left : ℕ) →
+    ((j : ℕ) → f j ≡ option_map (leveled_symbols l) (h j)) →
+    map parts_of (numbered n f k left) ≡ map (leveled_parts l) (numbered n h k left)
+calls_read n l f h k zero e = refl
+calls_read n l f h k (suc left) e = rw (e k) (at (h k) (calls_read n l f h (suc k) left e))
+  where
+    at : (r : Option ClosedSymbols) → map parts_of (numbered n f (suc k) left) ≡ map (leveled_parts l) (numbered n h (suc k) left) →
+        map parts_of (clause_and n k (option_map (leveled_symbols l) r) (numbered n f (suc k) left)) ≡
+        map (leveled_parts l) (clause_and n k r (numbered n h (suc k) left))
+    at None ih = ih
+    at (Some parts) ih = ap (λ b. leveled_symbols l parts ∷ b) ih
+
+module _ (M L : Meaning) (l : Name → ℕ → Name) (origin : Name → ℕ → Origin) (declared : List ClosedSymbol)
+    (I : IsLeveled M L l origin declared) (C : HasCounts L) (V : HasLevels L) where
+  -- a rule without levels has all its alternatives on its one level
+  own_is_all : (n : Name) (k : ℕ) (o : Option ClosedSymbols) → L.reference_parts n None k ≡ o → L.own_parts n None k ≡ o
+  own_is_all n k (Some parts) e = elim (V.split n None k parts e) [
+    | inl own ↦ own
+    | inr r ↦ let flat = I.flat n in absurd (let below = r.2 in none_some (sym flat ∙ below))
+  ]
+    where
+      none_some : {A : Type 0} {x : A} → None ≡ Some x → ⊥
+      none_some h = grind arith
+  own_is_all n k None e = at (L.own_parts n None k) refl
+    where
+      at : (o : Option ClosedSymbols) → L.own_parts n None k ≡ o → L.own_parts n None k ≡ None
+      at None q = q
+      at (Some parts) q = let some = V.own n None k parts q in absurd (let both : None ≡ Some parts = sym e ∙ some in grind arith)
+
+  enough_numbers : (n : Name) (cs : List Clause) → ((j : ℕ) → L.own_parts n None j ≡ option_map (leveled_parts l) (slice_get cs j)) →
+      length cs ≤ L.reference_count n
+  enough_numbers n cs h = elim (slice_get_cases cs (L.reference_count n)).1 [
+    | inl r ↦
+        let (c, within, is, same) = r in
+        let parts = rw is at (h (L.reference_count n)) in
+        absurd (let less : L.reference_count n < L.reference_count n = C.of_rules n None (L.reference_count n) (leveled_parts l c) parts in omega arith)
+    | inr r ↦ r.0
+  ]
+
+  rule_read : (n : Name) (b : Option ℕ) → In (reference n b) declared →
+      map parts_of (clauses L (reference (level_reference l n b) None)) ≡ map (leveled_parts l) (clauses M (reference n b))
+  rule_read n b r =
+      let own = (λ (j : ℕ). own_is_all (level_reference l n b) j _ (I.rules n b j r)) in
+      rw (I.flat (level_reference l n b), append-nil (own_clauses L (level_reference l n b) None))
+      (numbered_read (level_reference l n b) l (L.own_parts (level_reference l n b) None) 0 (L.reference_count (level_reference l n b))
+      (clauses M (reference n b)) (enough_numbers (level_reference l n b) (clauses M (reference n b)) own)
+      (λ j. let z : 0 + j ≡ j = omega arith in rw z (own j)))
+
+  -- the rule of a symbol in the grammar with levels is its rule in the written one
+  pub leveled_read : (g : ClosedSymbol) → IsResolvedIn declared g → map parts_of (clauses L (leveled_symbol l g)) ≡ map (leveled_parts l) (clauses M g)
+  leveled_read (terminal a) r = refl
+  leveled_read error r = refl
+  leveled_read (wrapped w g) r = refl
+  leveled_read (reference m b) r = rule_read m b r
+  leveled_read (call m args) r =
+      rw (I.macro_counts m) (calls_read m l (L.call_parts m (leveled_symbols l args)) (M.call_parts m args) 0 (M.call_count m) (λ j. I.macros m args j))
+  leveled_read (group gs) r = refl
+  leveled_read (star x) r = refl
+  leveled_read (plus x) r = refl
+  leveled_read (question x) r = refl
+  leveled_read lookahead r = refl
+  leveled_read lookbehind r = refl
+
+-- ---- what is met
+
+module _ (l : Name → ℕ → Name) where
+  mutual
+    meets_leveled : (g : ClosedSymbol) → map (leveled_symbol l) (meets g) ≡ meets (leveled_symbol l g)
+    meets_leveled (terminal a) = refl
+    meets_leveled error = refl
+    meets_leveled (reference n b) = refl
+    meets_leveled (call n args) =
+        map-append (leveled_symbol l) (meets_all args) (call n args ∷ []) ∙ ap (λ gs. gs ++ call n (leveled_symbols l args) ∷ []) (all_leveled args)
+    meets_leveled (group gs) =
+        map-append (leveled_symbol l) (meets_all gs) (group gs ∷ []) ∙ ap (λ hs. hs ++ group (leveled_symbols l gs) ∷ []) (all_leveled gs)
+    meets_leveled (star x) = map-append (leveled_symbol l) (meets x) (star x ∷ []) ∙ ap (λ hs. hs ++ star (leveled_symbol l x) ∷ []) (meets_leveled x)
+    meets_leveled (plus x) = map-append (leveled_symbol l) (meets x) (plus x ∷ []) ∙ ap (λ hs. hs ++ plus (leveled_symbol l x) ∷ []) (meets_leveled x)
+    meets_leveled (question x) =
+        map-append (leveled_symbol l) (meets x) (question x ∷ []) ∙ ap (λ hs. hs ++ question (leveled_symbol l x) ∷ []) (meets_leveled x)
+    meets_leveled (wrapped w g) = meets_leveled g
+    meets_leveled lookahead = refl
+    meets_leveled lookbehind = refl
+
+    all_leveled : (gs : ClosedSymbols) → map (leveled_symbol l) (meets_all gs) ≡ meets_all (leveled_symbols l gs)
+    all_leveled no_symbols = refl
+    all_leveled (symbol_and g gs) = map-append (leveled_symbol l) (meets g) (meets_all gs) ∙ ap₂ ◌++◌ (meets_leveled g) (all_leveled gs)
+
+  clauses_leveled : (cs ds : List Clause) → map parts_of ds ≡ map (leveled_parts l) cs → map (leveled_symbol l) (clauses_meet cs) ≡ clauses_meet ds
+  clauses_leveled [] [] e = refl
+  clauses_leveled [] (d ∷ ds) e = absurd (cc e)
+  clauses_leveled (c ∷ cs) [] e = absurd (cc e)
+  clauses_leveled (c ∷ cs) (d ∷ ds) e =
+      let here : d.parts ≡ leveled_symbols l c.parts = cc e in
+      map-append (leveled_symbol l) (meets_all c.parts) (clauses_meet cs)
+      ∙ ap₂ ◌++◌ (all_leveled c.parts ∙ ap meets_all (sym here)) (clauses_leveled cs ds (cc e))
+
+-- ---- rounds
+
+-- M is a grammar of which each resolved symbol has in L the same clauses by the names of levels, where distinct references have distinct names
+module _ (M L : Meaning) (l : Name → ℕ → Name) (declared low : List ClosedSymbol) (D : IsResolved M declared) (V : HasLevels M)
+    (own : (g : ClosedSymbol) → In g declared → IsResolvedIn declared g)
+    (once : (g h : ClosedSymbol) → In g declared → In h declared → leveled_symbol l g ≡ leveled_symbol l h → g ≡ h)
+    (lower : map (leveled_symbol l) declared ≡ low)
+    (read : (g : ClosedSymbol) → IsResolvedIn declared g → map parts_of (clauses L (leveled_symbol l g)) ≡ map (leveled_parts l) (clauses M g)) where
+  agree : (g : ClosedSymbol) → IsResolvedIn declared g → map (leveled_symbol l) (rule_meets M g) ≡ rule_meets L (leveled_symbol l g)
+  agree g r = clauses_leveled l (clauses M g) (clauses L (leveled_symbol l g)) (read g r)
+
+  within : (g : ClosedSymbol) → IsResolvedIn declared g → (h : ClosedSymbol) → In h (rule_meets M g) → IsResolvedIn declared h
+  within g r h i = rule_met_resolved M declared D V g h r i
+
+  begins : (g : ClosedSymbol) → In g (flat_map (rule_meets M) declared) → IsResolvedIn declared g
+  begins g i = let (h, there, j) = of_flat (rule_meets M) g declared i in within h (own h there) g j
+
+  start_leveled : (gs : List ClosedSymbol) → ((g : ClosedSymbol) → In g gs → IsResolvedIn declared g) →
+      map (leveled_symbol l) (flat_map (rule_meets M) gs) ≡ flat_map (rule_meets L) (map (leveled_symbol l) gs)
+  start_leveled [] h = refl
+  start_leveled (g ∷ gs) h =
+      map-append (leveled_symbol l) (rule_meets M g) (flat_map (rule_meets M) gs)
+      ∙ ap₂ ◌++◌ (agree g (h g (inl refl))) (start_leveled gs (λ x i. h x (inr i)))
+
+  start_low : map (leveled_symbol l) (flat_map (rule_meets M) declared) ≡ flat_map (rule_meets L) low
+  start_low = start_leveled declared own ∙ ap (flat_map (rule_meets L)) lower
+
+  same : (g h : ClosedSymbol) → IsResolvedIn declared g → IsResolvedIn declared h → same_view (leveled_symbol l) same_symbol g h ≡ same_symbol g h
+  same g h r s = symbol_alike l declared once g h r s
+
+  -- what is new in each round is the same
+  pub fresh_leveled : (n : ℕ) → map (leveled_symbol l) (expansion M declared n).fresh ≡ (expansion L low n).fresh
+  fresh_leveled n =
+      ap (λ r. map (leveled_symbol l) r.fresh)
+      (sym (rounds_alike (same_view (leveled_symbol l) same_symbol) same_symbol symbol_test (IsResolvedIn declared) same (rule_meets M) within
+      (flat_map (rule_meets M) declared) begins n))
+      ∙ (rounds_viewed (leveled_symbol l) same_symbol (rule_meets M) (rule_meets L) (IsResolvedIn declared) agree within (flat_map (rule_meets M) declared) begins n).1
+      ∙ ap (λ start. (rounds same_symbol (rule_meets L) start n).fresh) start_low
+
+  -- the symbols of the rules that are made are the same
+  pub made_leveled : (n : ℕ) → map (leveled_symbol l) (expanded_symbols M declared n) ≡ expanded_symbols L low n
+  made_leveled n =
+      ap (map (leveled_symbol l))
+      (sym (made_alike (same_view (leveled_symbol l) same_symbol) same_symbol symbol_test (IsResolvedIn declared) same (rule_meets M) within
+      (flat_map (rule_meets M) declared) begins n))
+      ∙ made_viewed (leveled_symbol l) same_symbol (rule_meets M) (rule_meets L) (IsResolvedIn declared) agree within (flat_map (rule_meets M) declared) begins n
+      ∙ ap (λ start. all_rules_made same_symbol (rule_meets L) start n) start_low
+
+  pub made_resolved : (n : ℕ) (g : ClosedSymbol) → In g (expanded_symbols M declared n) → IsResolvedIn declared g
+  made_resolved n g i =
+      made_within (leveled_symbol l) same_symbol (rule_meets M) (rule_meets L) (IsResolvedIn declared) agree within (flat_map (rule_meets M) declared) begins n g
+      (subst (λ (gs : List ClosedSymbol). In g gs)
+      (sym (made_alike (same_view (leveled_symbol l) same_symbol) same_symbol symbol_test (IsResolvedIn declared) same (rule_meets M) within
+      (flat_map (rule_meets M) declared) begins n)) i)
+
+  -- ---- plain rules
+
+  module _ (name : ClosedSymbol → Name) where
+    symbols_named : (gs : ClosedSymbols) → symbols_of name (leveled_symbols l gs) ≡ symbols_of (level_named l name) gs
+    symbols_named no_symbols = refl
+    symbols_named (symbol_and g gs) = ap₂ ◌∷◌ (sym (symbol_named l name g)) (symbols_named gs)
+
+    clauses_named : (cs ds : List Clause) → map parts_of ds ≡ map (leveled_parts l) cs →
+        map (λ (c : Clause). symbols_of name c.parts) ds ≡ map (λ (c : Clause). symbols_of (level_named l name) c.parts) cs
+    clauses_named [] [] e = refl
+    clauses_named [] (d ∷ ds) e = absurd (cc e)
+    clauses_named (c ∷ cs) [] e = absurd (cc e)
+    clauses_named (c ∷ cs) (d ∷ ds) e =
+        let here : d.parts ≡ leveled_symbols l c.parts = cc e in
+        ap₂ ◌∷◌ (ap (symbols_of name) here ∙ symbols_named c.parts) (clauses_named cs ds (cc e))
+
+    -- rules of the grammar with levels are those of the written symbols
+    pub fits_leveled : (rs : List RuleData) (gs : List ClosedSymbol) → ((g : ClosedSymbol) → In g gs → IsResolvedIn declared g) →
+        AllFit L name rs (map (leveled_symbol l) gs) → AllFit M (level_named l name) rs gs
+    fits_leveled [] [] r f = tt
+    fits_leveled [] (g ∷ gs) r f = absurd f
+    fits_leveled (d ∷ rs) [] r f = absurd f
+    fits_leveled (d ∷ rs) (g ∷ gs) r f = (
+      record {
+        named = f.0.named;
+        lowered = f.0.lowered ∙ clauses_named (clauses M g) (clauses L (leveled_symbol l g)) (read g (r g (inl refl)));
+      },
+      fits_leveled rs gs (λ x i. r x (inr i)) f.1,
+    )
