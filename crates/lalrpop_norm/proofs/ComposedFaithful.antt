@@ -1,5 +1,6 @@
 -- From what the early passes promise to what the late ones ask, and to the headline.
-use Rattle.std.proofs.Common.{◌≡◌, ℕ, true, List, [], ◌++◌, Option, IsSome, refl}
+use Rattle.std.proofs.Common.{◌≡◌, ℕ, true, List, [], ◌++◌, Option, IsSome, refl, ap}
+use Rattle.lalrpop_norm_tree.specs.declared.names.NonterminalString.{NonterminalString}
 use Rattle.lalrpop_norm_tree.specs.declared.names.TerminalString.{TerminalString}
 use Rattle.lalrpop_norm_tree.specs.declared.names.TerminalString.TheVariants.{Literal, Bare, Error}
 use Rattle.lalrpop_norm_tree.specs.Items.{RuleData, EnumTokenData, GrammarData}
@@ -17,6 +18,9 @@ use Rattle.lalrpop_norm_model.specs.InferenceFaults.{inference_faults}
 use Rattle.lalrpop_norm_model.specs.LoweringFaults.{lowering_faults}
 use Rattle.lalrpop_norm_model.specs.Lexers.{Lexer}
 use Rattle.lalrpop_norm_model.specs.CheckedTokens.{IsChecked}
+use Rattle.lalrpop_norm_model.specs.Grammars.{is_nil}
+use Rattle.lalrpop_norm_model.specs.Renumbered.{prepared_grammar}
+use Rattle.lalrpop_norm_names.specs.NameFaults.{resolve_faults}
 use Rattle.lalrpop_norm_front.specs.GrammarFaults.{validate_faults}
 use Rattle.lalrpop_norm_expand.specs.Expansion.{expansion_faults}
 use Rattle.lalrpop_norm_expand.specs.Laws.{NamesStayDistinct}
@@ -25,7 +29,8 @@ use Rattle.lalrpop_norm_repr.specs.Lowered.{LoweredGrammar}
 use Rattle.lalrpop_norm_repr.specs.Tables.{TypeTable}
 use Rattle.lalrpop_norm_late.specs.Lowering.{public_rules}
 use Rattle.lalrpop_norm_late.specs.Shape.{HasStartTypes, IsLoweringOf}
-use Rattle.lalrpop_norm.specs.Faithful.{HasFaithfulTrees, HasGroundedTypes, IsInferred, IsFaithful, no_lexer, grammar_with_levels, grammar_of_plain_rules}
+use Rattle.lalrpop_norm.specs.Faithful.{HasGroundedTypes, IsInferred, IsFaithful, no_lexer, grammar_with_levels, grammar_of_plain_rules}
+use Rattle.lalrpop_norm.specs.Laws.{HasFlatMacros, HasOwnNames}
 use Rattle.lalrpop_norm.specs.PlainLaws.{types_listed}
 use Rattle.lalrpop_norm.specs.TakenGrammars.{IsTaken}
 use Rattle.lalrpop_norm.proofs.ExpandedScopes.{HasNoMacros}
@@ -33,6 +38,7 @@ use Rattle.lalrpop_norm.proofs.ExpandedTokens.{HasOneEnum, resolved_tokens, leve
 use Rattle.lalrpop_norm.proofs.ExpandedSteps.{AreFitRules, IsTokenOf, resolved_rules_fit, leveled_rules_fit}
 use Rattle.lalrpop_norm.proofs.ExpandedPlain.{IsPrepared, plain_expanded, plain_terminals, tokens}
 use Rattle.lalrpop_norm.proofs.ExpandedWritten.{written_enum, enabled_tokens, distinct_tokens, enabled_fit}
+use Rattle.lalrpop_norm.proofs.TreesFaithful.{levels_settled, lowered_trees_faithful}
 use Rattle.lalrpop_norm.proofs.ExpandedWhole.{expansion_whole}
 use Rattle.lalrpop_norm.proofs.TypedPlain.{enabled_active, typed_by, enum_checked}
 use Rattle.lalrpop_norm.proofs.GroundedTypes.{rule_typed, start_is_free, types_are_grounded}
@@ -68,7 +74,15 @@ module _ (fs : Features) (g : GrammarData) (taken : IsTaken fs g) (valid : valid
   plain : (t : TerminalString) → IsTokenOf u t → is_plain_terminal t ≡ true
   plain = token_plain u of_enabled.no_error
 
-  module _ (settled : IsSettled (grammar_with_levels fs g)) where
+  -- so none of them has two levels
+  flat : HasFlatMacros (prepared_grammar fs g)
+  flat d i some l m a b =
+      absurd (let none : is_nil d.args ≡ true = ap (λ (args : List NonterminalString). is_nil args) (no_macros_before d i) in cc (none, some))
+
+  module _ (resolved : resolve_faults (enabled_grammar fs g) ≡ []) (leveled : resolve_faults (grammar_with_levels fs g) ≡ []) where
+    settled : IsSettled (grammar_with_levels fs g)
+    settled = levels_settled fs g resolved flat leveled
+
     -- what the expansion needs
     pub prepared : IsPrepared (IsTokenOf (enabled_enum fs (written_enum fs g taken valid).0)) (enabled_enum fs (written_enum fs g taken valid).0) (grammar_with_levels fs g)
     prepared = record {
@@ -128,12 +142,15 @@ module _ (fs : Features) (g : GrammarData) (taken : IsTaken fs g) (valid : valid
                 HasGroundedTypes (grammar_of_plain_rules fs g limit) types
             grounded = types_are_grounded p table inferred distinct_plain typable lowerable
 
-            -- What is lowered from the plain rules is faithful, where its trees are.
-            pub lowered_faithful : (l : LoweredGrammar) → HasFaithfulTrees fs g (grammar_of_plain_rules fs g limit) limit l →
+            own_names : HasOwnNames (grammar_of_plain_rules fs g limit)
+            own_names = record { once = distinct_plain; starts = starts_free }
+
+            -- What is lowered from the plain rules is faithful.
+            pub lowered_faithful : (l : LoweredGrammar) →
                 IsLoweringOf (grammar_of_plain_rules fs g limit) (all_rules (grammar_of_plain_rules fs g limit)) table l → IsClosed l → IsFaithful no_lexer fs g l
-            lowered_faithful l trees shape closed = record {
+            lowered_faithful l shape closed = record {
               rounds = limit;
-              trees = trees;
+              trees = lowered_trees_faithful fs g resolved flat leveled limit whole own_names table l shape;
               plain = p;
               tokens = plain_is_checked no_lexer;
               types = grounded l.types shape.types;

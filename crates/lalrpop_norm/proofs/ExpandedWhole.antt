@@ -1,5 +1,5 @@
 -- An expansion without faults is whole: after its last round nothing is new.
-use Rattle.std.proofs.Common.{◌≡◌, ℕ, zero, suc, ◌+◌, List, [], ◌∷◌, refl, sym, subst, arith}
+use Rattle.std.proofs.Common.{◌≡◌, ℕ, zero, suc, ◌+◌, List, [], ◌∷◌, refl, subst, arith}
 use Rattle.lalrpop_norm_tree.specs.Symbols.{Part}
 use Rattle.lalrpop_norm_tree.specs.Items.{GrammarData}
 use Rattle.lalrpop_norm_model.specs.Grammars.{ConditionValue}

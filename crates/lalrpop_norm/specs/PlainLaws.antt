@@ -7,14 +7,14 @@ use Rattle.lalrpop_norm_tree.specs.Reprs.{ReprData}
 use Rattle.lalrpop_norm_theory.specs.Rounds.{In}
 use Rattle.lalrpop_norm_conditions.specs.Conditions.{comparison}
 use Rattle.lalrpop_norm_model.specs.CheckedTokens.{IsChecked}
-use Rattle.lalrpop_norm_model.specs.Enabled.{enabled_extern}
+use Rattle.lalrpop_norm_model.specs.Enabled.{enabled_extern, enabled_grammar}
 use Rattle.lalrpop_norm_model.specs.Expanded.{rule_names, IsExpanded, IsTyped}
 use Rattle.lalrpop_norm_model.specs.Features.{Features}
 use Rattle.lalrpop_norm_model.specs.InferenceFaults.{inference_faults}
 use Rattle.lalrpop_norm_model.specs.LoweringFaults.{lowering_faults}
 use Rattle.lalrpop_norm_model.specs.PlainRules.{all_rules}
-use Rattle.lalrpop_norm_model.specs.PlainTables.{IsSettled}
 use Rattle.lalrpop_norm_model.specs.TypeRelation.{IsRule}
+use Rattle.lalrpop_norm_names.specs.NameFaults.{resolve_faults}
 use Rattle.lalrpop_norm_front.specs.GrammarFaults.{validate_faults}
 use Rattle.lalrpop_norm_expand.specs.Expansion.{expansion_faults}
 use Rattle.lalrpop_norm_repr.specs.Closed.{IsClosed}
@@ -23,7 +23,7 @@ use Rattle.lalrpop_norm_repr.specs.Tables.{TypeTable, type_of}
 use Rattle.lalrpop_norm_late.specs.Lowering.{public_rules}
 use Rattle.lalrpop_norm_late.specs.Shape.{HasStartTypes, IsLoweringOf}
 use Rattle.lalrpop_norm.specs.TakenGrammars.{IsTaken}
-use Rattle.lalrpop_norm.specs.Faithful.{HasFaithfulTrees, HasGroundedTypes, IsInferred, IsFaithful, no_lexer, grammar_with_levels, grammar_of_plain_rules}
+use Rattle.lalrpop_norm.specs.Faithful.{HasGroundedTypes, IsInferred, IsFaithful, no_lexer, grammar_with_levels, grammar_of_plain_rules}
 
 -- the types that a table lists, by the bytes of names
 abbrev pub types_listed : TypeTable → List ℕ → Option ReprData
@@ -35,7 +35,8 @@ types_listed table n = let name : NonterminalString = record { 0 = n } in type_o
 pub record PassesExpansion (fs : Features) (g : GrammarData) (limit : ℕ) : Type 0 where
   pub taken : IsTaken fs g
   pub valid : validate_faults g ≡ []
-  pub settled : IsSettled (grammar_with_levels fs g)
+  pub resolved : resolve_faults (enabled_grammar fs g) ≡ []
+  pub leveled : resolve_faults (grammar_with_levels fs g) ≡ []
   pub expanded : expansion_faults comparison (grammar_with_levels fs g) limit ≡ []
 
 -- Nor do inference, which infers that table, and lowering.
@@ -88,8 +89,7 @@ LoweredTypesAreGrounded = (fs : Features) (g : GrammarData) (limit : ℕ) (table
 
 -- ---- the whole
 
--- What is lowered from the plain rules is faithful, where its trees are.
+-- What is lowered from the plain rules, with nothing left open, is faithful.
 abbrev pub LoweredGrammarsAreFaithful : Type 0
 LoweredGrammarsAreFaithful = (fs : Features) (g : GrammarData) (limit : ℕ) (table : TypeTable) (l : LoweredGrammar) → PassesLowering fs g limit table →
-    HasFaithfulTrees fs g (grammar_of_plain_rules fs g limit) limit l →
     IsLoweringOf (grammar_of_plain_rules fs g limit) (all_rules (grammar_of_plain_rules fs g limit)) table l → IsClosed l → IsFaithful no_lexer fs g l

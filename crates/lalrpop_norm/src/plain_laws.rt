@@ -46,7 +46,7 @@ pub fn lowered_types_are_grounded()
     lalrpop_norm_expand::names_stay_distinct();
 }
 
-/// What is lowered from the plain rules is faithful to the written grammar, where its trees are.
+/// What is lowered from the plain rules, with nothing left open, is faithful to the written grammar.
 pub fn lowered_grammars_are_faithful()
     ensures { LoweredGrammarsAreFaithful }
 {
