@@ -6,4 +6,5 @@ pub mod TakenGrammars
 pub mod Normalize
 pub mod Derivations
 pub mod Faithful
+pub mod PlainLaws
 pub mod Laws

@@ -7,6 +7,7 @@ pub mod grammar;
 mod later;
 pub mod laws;
 mod passes;
+pub mod plain_laws;
 
 pub use lalrpop_norm_front::{FaultKind, NormError, NormFailure, NormResult, Session};
 pub use passes::normalize;

@@ -1,0 +1,161 @@
+-- From what the early passes promise to what the late ones ask, and to the headline.
+use Rattle.std.proofs.Common.{◌≡◌, ℕ, true, List, [], ◌++◌, Option, IsSome, refl, ap}
+use Rattle.lalrpop_norm_tree.specs.declared.names.NonterminalString.{NonterminalString}
+use Rattle.lalrpop_norm_tree.specs.declared.names.TerminalString.{TerminalString}
+use Rattle.lalrpop_norm_tree.specs.declared.names.TerminalString.TheVariants.{Literal, Bare, Error}
+use Rattle.lalrpop_norm_tree.specs.Items.{RuleData, EnumTokenData, GrammarData}
+use Rattle.lalrpop_norm_tree.specs.Reprs.{ReprData}
+use Rattle.lalrpop_norm_theory.specs.Rounds.{In, IsDistinct}
+use Rattle.lalrpop_norm_conditions.specs.Conditions.{comparison}
+use Rattle.lalrpop_norm_model.specs.Features.{Features}
+use Rattle.lalrpop_norm_model.specs.Enabled.{enabled_enum, enabled_grammar}
+use Rattle.lalrpop_norm_model.specs.Scopes.{resolved_grammar}
+use Rattle.lalrpop_norm_model.specs.PlainRules.{all_rules, IsWhole}
+use Rattle.lalrpop_norm_model.specs.PlainTables.{IsSettled}
+use Rattle.lalrpop_norm_model.specs.TypeRelation.{IsRule}
+use Rattle.lalrpop_norm_model.specs.Expanded.{is_plain_terminal, terminals_converted, rule_names, IsExpanded, IsTyped}
+use Rattle.lalrpop_norm_model.specs.InferenceFaults.{inference_faults}
+use Rattle.lalrpop_norm_model.specs.LoweringFaults.{lowering_faults}
+use Rattle.lalrpop_norm_model.specs.Lexers.{Lexer}
+use Rattle.lalrpop_norm_model.specs.CheckedTokens.{IsChecked}
+use Rattle.lalrpop_norm_model.specs.Grammars.{is_nil}
+use Rattle.lalrpop_norm_model.specs.Renumbered.{prepared_grammar}
+use Rattle.lalrpop_norm_names.specs.NameFaults.{resolve_faults}
+use Rattle.lalrpop_norm_front.specs.GrammarFaults.{validate_faults}
+use Rattle.lalrpop_norm_expand.specs.Expansion.{expansion_faults}
+use Rattle.lalrpop_norm_expand.specs.Laws.{NamesStayDistinct}
+use Rattle.lalrpop_norm_repr.specs.Closed.{IsClosed}
+use Rattle.lalrpop_norm_repr.specs.Lowered.{LoweredGrammar}
+use Rattle.lalrpop_norm_repr.specs.Tables.{TypeTable}
+use Rattle.lalrpop_norm_late.specs.Lowering.{public_rules}
+use Rattle.lalrpop_norm_late.specs.Shape.{HasStartTypes, IsLoweringOf}
+use Rattle.lalrpop_norm.specs.Faithful.{HasGroundedTypes, IsInferred, IsFaithful, no_lexer, grammar_with_levels, grammar_of_plain_rules}
+use Rattle.lalrpop_norm.specs.Laws.{HasFlatMacros, HasOwnNames}
+use Rattle.lalrpop_norm.specs.PlainLaws.{types_listed}
+use Rattle.lalrpop_norm.specs.TakenGrammars.{IsTaken}
+use Rattle.lalrpop_norm.proofs.ExpandedScopes.{HasNoMacros}
+use Rattle.lalrpop_norm.proofs.ExpandedTokens.{HasOneEnum, resolved_tokens, leveled_tokens}
+use Rattle.lalrpop_norm.proofs.ExpandedSteps.{AreFitRules, IsTokenOf, resolved_rules_fit, leveled_rules_fit}
+use Rattle.lalrpop_norm.proofs.ExpandedPlain.{IsPrepared, plain_expanded, plain_terminals, tokens}
+use Rattle.lalrpop_norm.proofs.ExpandedWritten.{written_enum, enabled_tokens, distinct_tokens, enabled_fit}
+use Rattle.lalrpop_norm.proofs.TreesFaithful.{levels_settled, lowered_trees_faithful}
+use Rattle.lalrpop_norm.proofs.ExpandedWhole.{expansion_whole}
+use Rattle.lalrpop_norm.proofs.TypedPlain.{enabled_active, typed_by, enum_checked}
+use Rattle.lalrpop_norm.proofs.GroundedTypes.{rule_typed, start_is_free, types_are_grounded}
+
+-- a terminal of an enum that does not name the error terminal is plain
+token_plain : (u : EnumTokenData) → (In Error (terminals_converted u.conversions) → ⊥) → (t : TerminalString) → IsTokenOf u t → is_plain_terminal t ≡ true
+token_plain u none (Literal l) i = refl
+token_plain u none (Bare a) i = refl
+token_plain u none Error i = absurd (none i)
+
+module _ (fs : Features) (g : GrammarData) (taken : IsTaken fs g) (valid : validate_faults g ≡ []) where
+  abbrev h : GrammarData
+  h = grammar_with_levels fs g
+
+  abbrev u : EnumTokenData
+  u = enabled_enum fs (written_enum fs g taken valid).0
+
+  of_enabled : HasOneEnum u (enabled_grammar fs g)
+  of_enabled = enabled_tokens fs g taken valid (written_enum fs g taken valid).0 (written_enum fs g taken valid).1
+
+  fit_before : AreFitRules (IsTokenOf u) (resolved_grammar (enabled_grammar fs g))
+  fit_before =
+      resolved_rules_fit u (enabled_grammar fs g) of_enabled
+      (enabled_fit fs g taken valid (written_enum fs g taken valid).0 (written_enum fs g taken valid).1)
+
+  fit : AreFitRules (IsTokenOf u) (grammar_with_levels fs g)
+  fit = leveled_rules_fit (IsTokenOf u) (resolved_grammar (enabled_grammar fs g)) fit_before
+
+  -- there are no macros, before levels are rules either
+  pub no_macros_before : HasNoMacros (resolved_grammar (enabled_grammar fs g))
+  no_macros_before r i = (fit_before r i).arguments
+
+  plain : (t : TerminalString) → IsTokenOf u t → is_plain_terminal t ≡ true
+  plain = token_plain u of_enabled.no_error
+
+  -- so none of them has two levels
+  flat : HasFlatMacros (prepared_grammar fs g)
+  flat d i some l m a b =
+      absurd (let none : is_nil d.args ≡ true = ap (λ (args : List NonterminalString). is_nil args) (no_macros_before d i) in cc (none, some))
+
+  module _ (resolved : resolve_faults (enabled_grammar fs g) ≡ []) (leveled : resolve_faults (grammar_with_levels fs g) ≡ []) where
+    settled : IsSettled (grammar_with_levels fs g)
+    settled = levels_settled fs g resolved flat leveled
+
+    -- what the expansion needs
+    pub prepared : IsPrepared (IsTokenOf (enabled_enum fs (written_enum fs g taken valid).0)) (enabled_enum fs (written_enum fs g taken valid).0) (grammar_with_levels fs g)
+    prepared = record {
+      settled = settled;
+      no_macros = λ r i. (fit r i).arguments;
+      no_conditions = λ r i. (fit r i).conditions;
+      over = λ r i. (fit r i).over;
+      bare_types = λ r i. (fit r i).bare_type;
+      tokens = leveled_tokens u (resolved_grammar (enabled_grammar fs g)) (resolved_tokens u (enabled_grammar fs g) of_enabled);
+    }
+
+    module _ (limit : ℕ) (none : expansion_faults comparison (grammar_with_levels fs g) limit ≡ []) where
+      abbrev p : GrammarData
+      p = grammar_of_plain_rules fs g limit
+
+      whole : IsWhole comparison (grammar_with_levels fs g) limit
+      whole = expansion_whole comparison h limit none
+
+      of_plain : HasOneEnum u (grammar_of_plain_rules fs g limit)
+      of_plain = tokens (IsTokenOf u) plain u comparison h prepared limit whole
+
+      -- It is typed by a table in which each of its rules has a type.
+      pub plain_is_typed : (table : List ℕ → Option ReprData) → ((r : RuleData) → IsRule (grammar_of_plain_rules fs g limit) r → IsSome (table r.name.0)) →
+          IsTyped fs (grammar_of_plain_rules fs g limit) table
+      plain_is_typed table some =
+          typed_by fs u p table (enabled_active fs (written_enum fs g taken valid).0) of_plain
+          (distinct_tokens fs g taken valid (written_enum fs g taken valid).0 (written_enum fs g taken valid).1)
+          (plain_terminals (IsTokenOf u) plain u comparison h prepared limit whole) some
+
+      -- Its tokens stay as they are.
+      pub plain_is_checked : {R : Type 0} (lexer : Lexer R) → IsChecked lexer (grammar_of_plain_rules fs g limit) (grammar_of_plain_rules fs g limit)
+      plain_is_checked lexer = enum_checked lexer u p of_plain
+
+      module _ (stay : NamesStayDistinct) where
+        pub distinct_plain : IsDistinct (rule_names (grammar_of_plain_rules fs g limit))
+        distinct_plain = stay comparison h limit none settled.once
+
+        -- The grammar of plain rules is expanded.
+        pub plain_is_expanded : IsExpanded (grammar_of_plain_rules fs g limit)
+        plain_is_expanded = plain_expanded (IsTokenOf u) plain u comparison h prepared limit whole distinct_plain
+
+        module _ (typable : inference_faults (grammar_of_plain_rules fs g limit) ≡ []) (table : TypeTable)
+            (inferred : IsInferred (grammar_of_plain_rules fs g limit) table) where
+          -- each rule has a type in the table of inference
+          pub inferred_total : (r : RuleData) → IsRule (grammar_of_plain_rules fs g limit) r → IsSome (types_listed table r.name.0)
+          inferred_total = rule_typed p table inferred distinct_plain typable
+
+          module _ (lowerable : lowering_faults (grammar_of_plain_rules fs g limit) (types_listed table) ≡ []) where
+            -- the start names are no rules' names
+            pub starts_free : (r : RuleData) → In r (public_rules (all_rules (grammar_of_plain_rules fs g limit))) →
+                In ((grammar_of_plain_rules fs g limit).prefix ++ r.name.0) (rule_names (grammar_of_plain_rules fs g limit)) → ⊥
+            starts_free = start_is_free p table inferred distinct_plain typable lowerable
+
+            -- each nonterminal has its only grounded type
+            pub grounded : (types : TypeTable) →
+                HasStartTypes (grammar_of_plain_rules fs g limit).prefix (all_rules (grammar_of_plain_rules fs g limit)) table types →
+                HasGroundedTypes (grammar_of_plain_rules fs g limit) types
+            grounded = types_are_grounded p table inferred distinct_plain typable lowerable
+
+            own_names : HasOwnNames (grammar_of_plain_rules fs g limit)
+            own_names = record { once = distinct_plain; starts = starts_free }
+
+            -- What is lowered from the plain rules is faithful.
+            pub lowered_faithful : (l : LoweredGrammar) →
+                IsLoweringOf (grammar_of_plain_rules fs g limit) (all_rules (grammar_of_plain_rules fs g limit)) table l → IsClosed l → IsFaithful no_lexer fs g l
+            lowered_faithful l shape closed = record {
+              rounds = limit;
+              trees = lowered_trees_faithful fs g resolved flat leveled limit whole own_names table l shape;
+              plain = p;
+              tokens = plain_is_checked no_lexer;
+              types = grounded l.types shape.types;
+              table = table;
+              inferred = inferred;
+              shape = shape;
+              closed = closed;
+            }

@@ -1,0 +1,160 @@
+-- Symbols whose terminals and names are among given ones, and in which no call and no open identifier stands: of such symbols plain
+-- ones are made, and rules whose symbols are such again.
+use Rattle.std.proofs.Common.{◌≡◌, inl, inr, ℕ, true, ◌&&◌, List, [], ◌∷◌, ◌++◌, refl, ap₂, sym, subst}
+use Rattle.lalrpop_norm_tree.specs.declared.names.TerminalString.{TerminalString}
+use Rattle.lalrpop_norm_tree.specs.declared.symbol.RepeatOp.TheVariants.{Star, Plus, Question}
+use Rattle.lalrpop_norm_tree.specs.Symbols.{Kind, Part, Parts, group, ambiguous_id, terminal, nonterminal, call, repeated, chosen, named, tupled, lookahead, lookbehind, error_terminal, at, no_parts, part_and}
+use Rattle.lalrpop_norm_tree.specs.Items.{AlternativeData, RuleData, lookahead_code, lookbehind_code}
+use Rattle.lalrpop_norm_theory.specs.Rounds.{In}
+use Rattle.lalrpop_norm_theory.proofs.RoundsLemmas.{in_cases}
+use Rattle.lalrpop_norm_model.specs.Grammars.{ConditionValue}
+use Rattle.lalrpop_norm_model.specs.MadeRules.{group_rule, star_rule, plus_rule, question_rule, location_rule, made_rules}
+use Rattle.lalrpop_norm_model.specs.Replaced.{replaced_kind, replaced, all_replaced}
+use Rattle.lalrpop_norm_model.specs.PlainRules.{met, all_met}
+use Rattle.lalrpop_norm_model.specs.Terminals.{terminals_in, terminals_in_kind, terminals_in_parts}
+use Rattle.lalrpop_norm_model.specs.Expanded.{is_plain_terminal, is_plain_kind, is_plain, are_plain}
+
+-- ---- the predicate
+
+-- At every depth a terminal is one of P, a name one of N; no call and no open identifier stands there.
+module _ (P : TerminalString → Type 0) (N : List ℕ → Type 0) where
+  abbrev mutual
+    pub IsReadyKind : Kind → Type 0
+    IsReadyKind (terminal t) = P t
+    IsReadyKind (nonterminal n) = N n
+    IsReadyKind (ambiguous_id a) = ⊥
+    IsReadyKind (call n ps) = ⊥
+    IsReadyKind (group ps) = AreReady ps
+    IsReadyKind (repeated op p) = IsReady p
+    IsReadyKind (chosen p) = IsReady p
+    IsReadyKind (named n p) = IsReady p
+    IsReadyKind (tupled ns p) = IsReady p
+    IsReadyKind lookahead = Unit {0}
+    IsReadyKind lookbehind = Unit {0}
+    IsReadyKind error_terminal = Unit {0}
+
+    pub IsReady : Part → Type 0
+    IsReady (at s k) = IsReadyKind k
+
+    pub AreReady : Parts → Type 0
+    AreReady no_parts = Unit {0}
+    AreReady (part_and p ps) = IsReady p × AreReady ps
+
+  -- ---- what is met
+
+  itself : (x q : Part) → IsReady x → In q (x ∷ []) → IsReady q
+  itself x q h (inl e) = subst IsReady (sym e) h
+  itself x q h (inr i) = absurd i
+
+  then_itself : (ms : List Part) (x q : Part) → IsReady x → (In q ms → IsReady q) → In q (ms ++ x ∷ []) → IsReady q
+  then_itself ms x q h f i = elim (in_cases q ms (x ∷ []) i) [ inl j ↦ f j | inr j ↦ itself x q h j ]
+
+  mutual
+    pub met_ready : (p : Part) → IsReady p → (q : Part) → In q (met p) → IsReady q
+    met_ready (at s (group ps)) h q i = then_itself (all_met ps) (at s (group ps)) q h (λ j. all_met_ready ps h q j) i
+    met_ready (at s (call n ps)) h q i = absurd h
+    met_ready (at s (repeated op p)) h q i = then_itself (met p) (at s (repeated op p)) q h (λ j. met_ready p h q j) i
+    met_ready (at s (chosen p)) h q i = met_ready p h q i
+    met_ready (at s (named n p)) h q i = met_ready p h q i
+    met_ready (at s (tupled ns p)) h q i = met_ready p h q i
+    met_ready (at s lookahead) h q i = itself (at s lookahead) q tt i
+    met_ready (at s lookbehind) h q i = itself (at s lookbehind) q tt i
+    met_ready (at s (ambiguous_id a)) h q i = absurd i
+    met_ready (at s (terminal t)) h q i = absurd i
+    met_ready (at s (nonterminal n)) h q i = absurd i
+    met_ready (at s error_terminal) h q i = absurd i
+
+    pub all_met_ready : (ps : Parts) → AreReady ps → (q : Part) → In q (all_met ps) → IsReady q
+    all_met_ready no_parts h q i = absurd i
+    all_met_ready (part_and p ps) h q i = elim (in_cases q (met p) (all_met ps) i) [
+      | inl j ↦ met_ready p h.0 q j
+      | inr j ↦ all_met_ready ps h.1 q j
+    ]
+
+  -- ---- plain symbols
+
+  module _ (plain : (t : TerminalString) → P t → is_plain_terminal t ≡ true) where
+    mutual
+      pub kind_plain : (k : Kind) → IsReadyKind k → is_plain_kind (replaced_kind k) ≡ true
+      kind_plain (terminal t) h = plain t h
+      kind_plain (nonterminal n) h = refl
+      kind_plain (ambiguous_id a) h = absurd h
+      kind_plain (call n ps) h = refl
+      kind_plain (group ps) h = refl
+      kind_plain (repeated op p) h = refl
+      kind_plain (chosen p) h = part_plain p h
+      kind_plain (named n p) h = part_plain p h
+      kind_plain (tupled ns p) h = part_plain p h
+      kind_plain lookahead h = refl
+      kind_plain lookbehind h = refl
+      kind_plain error_terminal h = refl
+
+      pub part_plain : (p : Part) → IsReady p → is_plain (replaced p) ≡ true
+      part_plain (at s k) h = kind_plain k h
+
+    pub parts_plain : (ps : Parts) → AreReady ps → are_plain (all_replaced ps) ≡ true
+    parts_plain no_parts h = refl
+    parts_plain (part_and p ps) h = ap₂ ◌&&◌ (part_plain p h.0) (parts_plain ps h.1)
+
+  -- ---- their terminals
+
+  only_terminal : (t u : TerminalString) → P u → In t (u ∷ []) → P t
+  only_terminal t u h (inl e) = subst P (sym e) h
+  only_terminal t u h (inr i) = absurd i
+
+  mutual
+    kind_terminals : (k : Kind) → IsReadyKind k → (t : TerminalString) → In t (terminals_in_kind (replaced_kind k)) → P t
+    kind_terminals (terminal u) h t i = only_terminal t u h i
+    kind_terminals (nonterminal n) h t i = absurd i
+    kind_terminals (ambiguous_id a) h t i = absurd i
+    kind_terminals (call n ps) h t i = absurd i
+    kind_terminals (group ps) h t i = absurd i
+    kind_terminals (repeated op p) h t i = absurd i
+    kind_terminals (chosen p) h t i = part_terminals p h t i
+    kind_terminals (named n p) h t i = part_terminals p h t i
+    kind_terminals (tupled ns p) h t i = part_terminals p h t i
+    kind_terminals lookahead h t i = absurd i
+    kind_terminals lookbehind h t i = absurd i
+    kind_terminals error_terminal h t i = absurd i
+
+    part_terminals : (p : Part) → IsReady p → (t : TerminalString) → In t (terminals_in (replaced p)) → P t
+    part_terminals (at s k) h t i = kind_terminals k h t i
+
+  pub parts_terminals : (ps : Parts) → AreReady ps → (t : TerminalString) → In t (terminals_in_parts (all_replaced ps)) → P t
+  parts_terminals no_parts h t i = absurd i
+  parts_terminals (part_and p ps) h t i = elim (in_cases t (terminals_in (replaced p)) (terminals_in_parts (all_replaced ps)) i) [
+    | inl j ↦ part_terminals p h.0 t j
+    | inr j ↦ parts_terminals ps h.1 t j
+  ]
+
+  -- ---- what rules are made of them
+
+  -- the symbols of alternatives
+  abbrev pub AllReady : List AlternativeData → Type 0
+  AllReady [] = Unit {0}
+  AllReady (a ∷ rest) = AreReady a.parts × AllReady rest
+
+  pub ready_in : (xs : List AlternativeData) → AllReady xs → (a : AlternativeData) → In a xs → AreReady a.parts
+  ready_in [] h a i = absurd i
+  ready_in (x ∷ xs) h a (inl e) = subst (λ (y : AlternativeData). AreReady y.parts) (sym e) h.0
+  ready_in (x ∷ xs) h a (inr i) = ready_in xs h.1 a i
+
+  only_rule : (d r : RuleData) → AllReady d.alternatives → In r (d ∷ []) → AllReady r.alternatives
+  only_rule d r h (inl e) = subst (λ (x : RuleData). AllReady x.alternatives) (sym e) h
+  only_rule d r h (inr i) = absurd i
+
+  pub made_ready : (value : ConditionValue) (p : Part) → IsReady p → (r : RuleData) → In r (made_rules value [] p) → AllReady r.alternatives
+  made_ready value (at s (group ps)) h r i = only_rule (group_rule s ps) r (h, tt) i
+  made_ready value (at s (call n ps)) h r i = absurd h
+  made_ready value (at s (repeated Star p)) h r i = only_rule (star_rule s p) r (tt, ((h, tt), tt)) i
+  made_ready value (at s (repeated Plus p)) h r i = only_rule (plus_rule s p) r ((h, tt), ((h, (h, tt)), tt)) i
+  made_ready value (at s (repeated Question p)) h r i = only_rule (question_rule s p) r ((h, tt), (tt, tt)) i
+  made_ready value (at s lookahead) h r i = only_rule (location_rule s lookahead lookahead_code) r (tt, tt) i
+  made_ready value (at s lookbehind) h r i = only_rule (location_rule s lookbehind lookbehind_code) r (tt, tt) i
+  made_ready value (at s (ambiguous_id a)) h r i = absurd i
+  made_ready value (at s (terminal t)) h r i = absurd i
+  made_ready value (at s (nonterminal n)) h r i = absurd i
+  made_ready value (at s (chosen p)) h r i = absurd i
+  made_ready value (at s (named n p)) h r i = absurd i
+  made_ready value (at s (tupled ns p)) h r i = absurd i
+  made_ready value (at s error_terminal) h r i = absurd i

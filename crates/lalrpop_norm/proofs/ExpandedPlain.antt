@@ -1,0 +1,273 @@
+-- The grammar of plain rules is expanded.
+use Rattle.std.proofs.Common.{◌≡◌, ◌⊎◌, inl, inr, ℕ, ◌≤◌, true, List, [], ◌∷◌, length, map, None, refl, ap, sym, subst, ◌∙◌, arith}
+use Rattle.std.specs.Prelude.{flat_map}
+use Rattle.lalrpop_norm_tree.specs.declared.names.TerminalString.{TerminalString}
+use Rattle.lalrpop_norm_tree.specs.declared.names.TerminalString.TheVariants.{Error}
+use Rattle.lalrpop_norm_tree.specs.declared.symbol.RepeatOp.TheVariants.{Star, Plus, Question}
+use Rattle.lalrpop_norm_tree.specs.Symbols.{Kind, Part, group, ambiguous_id, terminal, nonterminal, call, repeated, chosen, named, tupled, lookahead, lookbehind, error_terminal, at}
+use Rattle.lalrpop_norm_tree.specs.Items.{AlternativeData, RuleData, EnumTokenData, MatchTokenData, InternTokenData, GrammarData, lookahead_code, lookbehind_code}
+use Rattle.lalrpop_norm_theory.specs.Rounds.{In, IsDistinct}
+use Rattle.lalrpop_norm_theory.proofs.RoundsLemmas.{in_cases, in_flat, of_flat}
+use Rattle.lalrpop_norm_model.specs.Entries.{group_entries, user_names}
+use Rattle.lalrpop_norm_model.specs.Grammars.{is_nil, ConditionValue}
+use Rattle.lalrpop_norm_model.specs.MadeRules.{made_rules, group_rule, star_rule, plus_rule, question_rule, location_rule}
+use Rattle.lalrpop_norm_model.specs.PlainRules.{all_met, met_in_rule, met_by_made, all_rules, rules_of, macros_of, same_apart_from_spans, made_symbols, made_in, replaced_alternative, replaced_rule, plain_grammar, IsWhole}
+use Rattle.lalrpop_norm_model.specs.PlainTables.{IsSettled}
+use Rattle.lalrpop_norm_model.specs.Terminals.{terminals_in_parts, terminals_in_rule, terminals_used}
+use Rattle.lalrpop_norm_model.specs.TypeRelation.{IsRule}
+use Rattle.lalrpop_norm_model.specs.Expanded.{is_plain_terminal, is_plain_kind, are_plain, names_in_kind, names_in_parts, declared_symbols, rule_names, names_used_by, names_used, enums, match_blocks, interns, terminals_converted, converted, mapped, IsExpanded}
+use Rattle.lalrpop_norm_model.proofs.LevelLemmas.{of_map}
+use Rattle.lalrpop_norm_model.proofs.InferenceLemmas.{in_filtered}
+use Rattle.lalrpop_norm_model.proofs.FaithfulLemmas.{plain_grammars_hold_plain_rules}
+use Rattle.lalrpop_norm.proofs.ExpandedParts.{IsReady, AreReady, all_met_ready, parts_plain, parts_terminals, ready_in, made_ready}
+use Rattle.lalrpop_norm.proofs.ExpandedSymbols.{Covered, parts_named, made_settled}
+use Rattle.lalrpop_norm.proofs.ExpandedRounds.{made_within, written_named, start_covered, made_covered}
+use Rattle.lalrpop_norm.proofs.ExpandedScopes.{AreOver, HasNoMacros, no_macros_of, all_plain, alternative_ready}
+use Rattle.lalrpop_norm.proofs.ExpandedTokens.{HasOneEnum, plain_tokens}
+
+-- ---- made rules
+
+abbrev HasNoConditions : List AlternativeData → Type 0
+HasNoConditions [] = Unit {0}
+HasNoConditions (a ∷ rest) = (a.condition ≡ None) × HasNoConditions rest
+
+none_in : (xs : List AlternativeData) → HasNoConditions xs → (a : AlternativeData) → In a xs → a.condition ≡ None
+none_in [] h a i = absurd i
+none_in (x ∷ xs) h a (inl e) = ap (λ (y : AlternativeData). y.condition) e ∙ h.0
+none_in (x ∷ xs) h a (inr i) = none_in xs h.1 a i
+
+-- neither arguments nor conditions
+abbrev IsBareRule : RuleData → Type 0
+IsBareRule r = (r.args ≡ []) × HasNoConditions r.alternatives
+
+only_bare : (d r : RuleData) → IsBareRule d → In r (d ∷ []) → IsBareRule r
+only_bare d r h (inl e) = subst IsBareRule (sym e) h
+only_bare d r h (inr i) = absurd i
+
+made_bare : (value : ConditionValue) (p : Part) (r : RuleData) → In r (made_rules value [] p) → IsBareRule r
+made_bare value (at s (group ps)) r i = only_bare (group_rule s ps) r (refl, (refl, tt)) i
+made_bare value (at s (call n ps)) r i = absurd i
+made_bare value (at s (repeated Star p)) r i = only_bare (star_rule s p) r (refl, (refl, (refl, tt))) i
+made_bare value (at s (repeated Plus p)) r i = only_bare (plus_rule s p) r (refl, (refl, (refl, tt))) i
+made_bare value (at s (repeated Question p)) r i = only_bare (question_rule s p) r (refl, (refl, (refl, tt))) i
+made_bare value (at s lookahead) r i = only_bare (location_rule s lookahead lookahead_code) r (refl, (refl, tt)) i
+made_bare value (at s lookbehind) r i = only_bare (location_rule s lookbehind lookbehind_code) r (refl, (refl, tt)) i
+made_bare value (at s (ambiguous_id a)) r i = absurd i
+made_bare value (at s (terminal t)) r i = absurd i
+made_bare value (at s (nonterminal n)) r i = absurd i
+made_bare value (at s (chosen p)) r i = absurd i
+made_bare value (at s (named n p)) r i = absurd i
+made_bare value (at s (tupled ns p)) r i = absurd i
+made_bare value (at s error_terminal) r i = absurd i
+
+-- ---- the grammar
+
+-- What the expansion needs of a grammar: its names are resolved, it has no macros, conditions or symbols in types, its terminals are
+-- among those of P, and its tokens are of one enum.
+pub record IsPrepared (P : TerminalString → Type 0) (u : EnumTokenData) (g : GrammarData) : Type 0 where
+  pub settled : IsSettled g
+  pub no_macros : HasNoMacros g
+  pub no_conditions : (d : RuleData) → In d (all_rules g) → (a : AlternativeData) → In a d.alternatives → a.condition ≡ None
+  pub over : (d : RuleData) → In d (all_rules g) → (a : AlternativeData) → In a d.alternatives → AreOver P a.parts
+  pub bare_types : (d : RuleData) → In d (all_rules g) → declared_symbols d ≡ []
+  pub tokens : HasOneEnum u g
+
+-- where a list is empty
+none_of : {A : Type 0} (xs : List A) (x : A) → xs ≡ [] → In x xs → ⊥
+none_of xs x e i = subst (λ ys. In x ys) e i
+
+module _ (P : TerminalString → Type 0) (plain : (t : TerminalString) → P t → is_plain_terminal t ≡ true)
+    (u : EnumTokenData) (value : ConditionValue) (g : GrammarData) (h : IsPrepared P u g) (n : ℕ) (whole : IsWhole value g n) where
+  abbrev p : GrammarData
+  p = plain_grammar value g n
+
+  abbrev Named : List ℕ → Type 0
+  Named m = In m (rule_names (plain_grammar value g n))
+
+  no_macro : macros_of g ≡ []
+  no_macro = no_macros_of g h.no_macros
+
+  from_written : (d : RuleData) → In d (rules_of g) → In d (all_rules g)
+  from_written d i = (in_filtered (λ (r : RuleData). is_nil r.args) (all_rules g) d i).0
+
+  written_ready : (d : RuleData) → In d (all_rules g) → (a : AlternativeData) → In a d.alternatives → AreReady P Named a.parts
+  written_ready d i a j =
+      alternative_ready g h.settled h.no_macros P Named (λ r k. written_named value g h.settled n whole r (all_plain g h.no_macros r k)) d i a j (h.over d i a j)
+
+  -- what rules meet is ready
+  met_by_rules : (ds : List RuleData) → ((d : RuleData) → In d ds → (a : AlternativeData) → In a d.alternatives → AreReady P Named a.parts) →
+      (q : Part) → In q (flat_map met_in_rule ds) → IsReady P Named q
+  met_by_rules ds f q i =
+      let (d, j, k) = of_flat met_in_rule q ds i in
+      let (a, l, m) = of_flat (λ (x : AlternativeData). all_met x.parts) q d.alternatives k in
+      all_met_ready P Named a.parts (f d j a l) q m
+
+  made_symbol_ready : (q : Part) → In q (made_symbols value g n) → IsReady P Named q
+  made_symbol_ready =
+      made_within same_apart_from_spans (met_by_made value (macros_of g)) (flat_map met_in_rule (rules_of g)) (IsReady P Named)
+      (met_by_rules (rules_of g) (λ d i a j. written_ready d (from_written d i) a j))
+      (λ x r q i.
+      met_by_rules (made_rules value [] x) (λ d j a k. ready_in P Named d.alternatives (made_ready P Named value x r d j) a k) q
+      (subst (λ (ms : List RuleData). In q (met_by_made value ms x)) no_macro i)) n
+
+  -- where a made rule comes from
+  made_from : (d : RuleData) → In d (made_in value g n) → (q : Part) × In q (made_symbols value g n) × In d (made_rules value [] q)
+  made_from d i =
+      let (q, j, k) = of_flat (made_rules value (macros_of g)) d (made_symbols value g n) i in
+      (q, j, subst (λ (ms : List RuleData). In d (made_rules value ms q)) no_macro k)
+
+  -- ---- rules one by one
+
+  -- a plain rule is made of a written one, or of one that a symbol is made into
+  abbrev From : RuleData → Type 0
+  From r =
+      ((d : RuleData) × In d (rules_of g) × (r ≡ replaced_rule d))
+      ⊎ ((q : Part) × In q (made_symbols value g n) × ((d : RuleData) × In d (made_rules value [] q) × (r ≡ replaced_rule d)))
+
+  from : (r : RuleData) → IsRule p r → From r
+  from r i =
+      elim (in_cases r (map replaced_rule (rules_of g)) (map replaced_rule (made_in value g n))
+      (subst (λ (rs : List RuleData). In r rs) (plain_grammars_hold_plain_rules value g n) i)) [
+        | inl j ↦ inl (of_map replaced_rule r (rules_of g) j)
+        | inr j ↦
+            let (d, k, e) = of_map replaced_rule r (made_in value g n) j in
+            let (q, l, m) = made_from d k in
+            inr (q, l, (d, m, e))
+      ]
+
+  -- what holds of a written rule and of a made one, once replaced, holds of each
+  by_cases : (Q : RuleData → Type 0) → ((d : RuleData) → In d (rules_of g) → Q (replaced_rule d)) →
+      ((q : Part) → In q (made_symbols value g n) → (d : RuleData) → In d (made_rules value [] q) → Q (replaced_rule d)) →
+      (r : RuleData) → IsRule p r → Q r
+  by_cases Q f e r i = elim (from r i) [
+    | inl w ↦ subst Q (sym w.2) (f w.0 w.1)
+    | inr m ↦ subst Q (sym m.2.2) (e m.0 m.1 m.2.0 m.2.1)
+  ]
+
+  -- what holds of the alternatives of a rule before they are replaced
+  alternatives_by : (d : RuleData) (Q : AlternativeData → Type 0) → ((a : AlternativeData) → In a d.alternatives → Q (replaced_alternative a)) →
+      (a : AlternativeData) → In a (replaced_rule d).alternatives → Q a
+  alternatives_by d Q f a i = let (b, j, e) = of_map replaced_alternative a d.alternatives i in subst Q (sym e) (f b j)
+
+  each_alternative : (Q : AlternativeData → Type 0) →
+      ((d : RuleData) → In d (rules_of g) → (a : AlternativeData) → In a d.alternatives → Q (replaced_alternative a)) →
+      ((q : Part) → In q (made_symbols value g n) → (d : RuleData) → In d (made_rules value [] q) → (a : AlternativeData) → In a d.alternatives → Q (replaced_alternative a)) →
+      (r : RuleData) → IsRule p r → (a : AlternativeData) → In a r.alternatives → Q a
+  each_alternative Q f e =
+      by_cases (λ r. (a : AlternativeData) → In a r.alternatives → Q a)
+      (λ d i. alternatives_by d Q (f d i)) (λ q i d j. alternatives_by d Q (e q i d j))
+
+  made_alternative_ready : (q : Part) → In q (made_symbols value g n) → (d : RuleData) → In d (made_rules value [] q) →
+      (a : AlternativeData) → In a d.alternatives → AreReady P Named a.parts
+  made_alternative_ready q i d j a k = ready_in P Named d.alternatives (made_ready P Named value q (made_symbol_ready q i) d j) a k
+
+  no_arguments : (r : RuleData) → IsRule p r → r.args ≡ []
+  no_arguments = by_cases (λ r. r.args ≡ []) (λ d i. h.no_macros d (from_written d i)) (λ q i d j. (made_bare value q d j).0)
+
+  no_conditions : (r : RuleData) → IsRule p r → (a : AlternativeData) → In a r.alternatives → a.condition ≡ None
+  no_conditions =
+      each_alternative (λ a. a.condition ≡ None) (λ d i a j. h.no_conditions d (from_written d i) a j)
+      (λ q i d j a k. none_in d.alternatives (made_bare value q d j).1 a k)
+
+  plain_symbols : (r : RuleData) → IsRule p r → (a : AlternativeData) → In a r.alternatives → are_plain a.parts ≡ true
+  plain_symbols =
+      each_alternative (λ a. are_plain a.parts ≡ true)
+      (λ d i a j. parts_plain P Named plain a.parts (written_ready d (from_written d i) a j))
+      (λ q i d j a k. parts_plain P Named plain a.parts (made_alternative_ready q i d j a k))
+
+  -- the terminals of alternatives are among those of P
+  each_terminal : (r : RuleData) → IsRule p r → (a : AlternativeData) → In a r.alternatives → (t : TerminalString) → In t (terminals_in_parts a.parts) → P t
+  each_terminal =
+      each_alternative (λ a. (t : TerminalString) → In t (terminals_in_parts a.parts) → P t)
+      (λ d i a j. parts_terminals P Named a.parts (written_ready d (from_written d i) a j))
+      (λ q i d j a k. parts_terminals P Named a.parts (made_alternative_ready q i d j a k))
+
+  -- ---- names
+
+  written_covered : (d : RuleData) → In d (rules_of g) → (a : AlternativeData) → In a d.alternatives → Covered P plain (rule_names p) (all_met a.parts)
+  written_covered d i a j q k =
+      start_covered value g h.settled n whole q
+      (in_flat met_in_rule q d (rules_of g) i (in_flat (λ (x : AlternativeData). all_met x.parts) q a d.alternatives j k))
+
+  symbol_covered : (q : Part) → In q (made_symbols value g n) → Covered P plain (rule_names p) (met_by_made value [] q)
+  symbol_covered q i x j = made_covered value g h.settled n whole q i x (subst (λ (ms : List RuleData). In x (met_by_made value ms q)) (sym no_macro) j)
+
+  rule_covered : (q : Part) → In q (made_symbols value g n) → (d : RuleData) → In d (made_rules value [] q) →
+      (a : AlternativeData) → In a d.alternatives → Covered P plain (rule_names p) (all_met a.parts)
+  rule_covered q i d j a k x l =
+      symbol_covered q i x (in_flat met_in_rule x d (made_rules value [] q) j (in_flat (λ (y : AlternativeData). all_met y.parts) x a d.alternatives k l))
+
+  names_named : (r : RuleData) → IsRule p r → (a : AlternativeData) → In a r.alternatives → (m : List ℕ) → In m (names_in_parts a.parts) → Named m
+  names_named =
+      each_alternative (λ a. (m : List ℕ) → In m (names_in_parts a.parts) → Named m)
+      (λ d i a j. parts_named P plain (rule_names p) a.parts (written_ready d (from_written d i) a j) (written_covered d i a j))
+      (λ q i d j a k. parts_named P plain (rule_names p) a.parts (made_alternative_ready q i d j a k) (rule_covered q i d j a k))
+
+  -- the symbols in declared types are plain, and their names have rules
+  types_settled : (r : RuleData) → IsRule p r → (k : Kind) → In k (declared_symbols r) →
+      (is_plain_kind k ≡ true) × ((m : List ℕ) → In m (names_in_kind k) → Named m)
+  types_settled =
+      by_cases (λ r. (k : Kind) → In k (declared_symbols r) → (is_plain_kind k ≡ true) × ((m : List ℕ) → In m (names_in_kind k) → Named m))
+      (λ d i k j. absurd (none_of (declared_symbols d) k (h.bare_types d (from_written d i)) j))
+      (λ q i d j. made_settled P plain (rule_names p) value q (made_symbol_ready q i) (symbol_covered q i) d j)
+
+  name_used : (m : List ℕ) → In m (names_used p) → Named m
+  name_used m i =
+      let (r, j, k) = of_flat names_used_by m (all_rules p) i in
+      elim (in_cases m (flat_map (λ (a : AlternativeData). names_in_parts a.parts) r.alternatives) (flat_map names_in_kind (declared_symbols r)) k) [
+        | inl l ↦ (let (a, x, y) = of_flat (λ (a : AlternativeData). names_in_parts a.parts) m r.alternatives l in names_named r j a x m y)
+        | inr l ↦ (let (s, x, y) = of_flat names_in_kind m (declared_symbols r) l in (types_settled r j s x).1 m y)
+      ]
+
+  -- ---- tokens
+
+  pub tokens : HasOneEnum u (plain_grammar value g n)
+  tokens = plain_tokens u value g n h.tokens
+
+  no_error_converted : In Error (converted p) → ⊥
+  no_error_converted i =
+      elim (in_cases Error (terminals_converted u.conversions) []
+      (subst (λ (es : List EnumTokenData). In Error (flat_map (λ (e : EnumTokenData). terminals_converted e.conversions) es)) tokens.one_enum i)) [
+        | inl j ↦ tokens.no_error j
+        | inr j ↦ j
+      ]
+
+  none_mapped : mapped p ≡ []
+  none_mapped =
+      rw (
+        ap (flat_map (λ (m : MatchTokenData). user_names (group_entries m.contents))) tokens.no_match,
+        ap (flat_map (λ (t : InternTokenData). user_names t.match_entries)) tokens.no_intern,
+      ) refl
+
+  at_most : {A : Type 0} (xs : List A) → xs ≡ [] → length xs ≤ 1
+  at_most xs e = subst (λ ys. length ys ≤ 1) (sym e) (omega arith)
+
+  just_one : length (enums p) ≤ 1
+  just_one = subst (λ (es : List EnumTokenData). length es ≤ 1) (sym tokens.one_enum) (omega arith)
+
+  -- The grammar of plain rules is expanded, where its names are distinct.
+  pub plain_expanded : IsDistinct (rule_names (plain_grammar value g n)) → IsExpanded (plain_grammar value g n)
+  plain_expanded distinct = record {
+    no_macros = no_arguments;
+    no_conditions = λ a i. no_conditions i.0 i.1 a i.2;
+    plain_symbols = λ a i. plain_symbols i.0 i.1 a i.2;
+    distinct_names = distinct;
+    names_have_rules = name_used;
+    no_error_converted = no_error_converted;
+    no_error_mapped = λ i. none_of (mapped p) Error none_mapped i;
+    one_enum = just_one;
+    one_match = at_most (match_blocks p) tokens.no_match;
+    one_intern = at_most (interns p) tokens.no_intern;
+    enum_without_match = λ some. tokens.no_match;
+    enum_without_intern = λ some. tokens.no_intern;
+    symbols_declared_only = tokens.bare_types;
+    plain_in_types = λ r k i j. (types_settled r i k j).0;
+    known_attributes = tokens.known;
+  }
+
+  -- its terminals are among those of P
+  pub plain_terminals : (t : TerminalString) → In t (terminals_used (plain_grammar value g n)) → P t
+  plain_terminals t i =
+      let (r, j, k) = of_flat terminals_in_rule t (all_rules p) i in
+      let (a, l, m) = of_flat (λ (x : AlternativeData). terminals_in_parts x.parts) t r.alternatives k in
+      each_terminal r j a l t m

@@ -1,0 +1,130 @@
+-- In a grammar whose names are resolved and which has no macros, symbols are ready: their names are those of rules.
+use Rattle.std.proofs.Common.{◌≡◌, inl, inr, ℕ, Bool, true, false, not, List, [], ◌∷◌, map, Option, Some, None, refl, ap, sym, subst, ◌∙◌}
+use Rattle.std.specs.Prelude.{filter}
+use Rattle.std.proofs.lemmas.Bool.{and_parts}
+use Rattle.lalrpop_norm_tree.specs.declared.names.NonterminalString.{NonterminalString}
+use Rattle.lalrpop_norm_tree.specs.declared.names.TerminalString.{TerminalString}
+use Rattle.lalrpop_norm_tree.specs.Symbols.{Kind, Part, Parts, group, ambiguous_id, terminal, nonterminal, call, repeated, chosen, named, tupled, lookahead, lookbehind, error_terminal, at, no_parts, part_and}
+use Rattle.lalrpop_norm_tree.specs.Items.{AlternativeData, RuleData, GrammarData}
+use Rattle.lalrpop_norm_theory.specs.Rounds.{In}
+use Rattle.lalrpop_norm_model.specs.Levels.{every, without_levels}
+use Rattle.lalrpop_norm_model.specs.WrittenRules.{WrittenRule, flat_rules, rule_named}
+use Rattle.lalrpop_norm_model.specs.Grammars.{is_nil, is_macro}
+use Rattle.lalrpop_norm_model.specs.Scoped.{is_rule, is_macro_for, is_scoped_kind, is_scoped, are_scoped}
+use Rattle.lalrpop_norm_model.specs.PlainRules.{all_rules, rules_of, macros_of}
+use Rattle.lalrpop_norm_model.specs.PlainTables.{IsSettled}
+use Rattle.lalrpop_norm_model.proofs.GrammarLemmas.{flat_from}
+use Rattle.lalrpop_norm_model.proofs.LevelLemmas.{in_map}
+use Rattle.lalrpop_norm_model.proofs.ScopeLemmas.{rule_found}
+use Rattle.lalrpop_norm_model.proofs.MadeReadLemmas.{flat_of, flat_rules_resolved}
+use Rattle.lalrpop_norm.proofs.ExpandedParts.{IsReadyKind, IsReady, AreReady}
+
+-- ---- terminals
+
+-- at every depth a terminal is one of P
+module _ (P : TerminalString → Type 0) where
+  abbrev mutual
+    pub IsOverKind : Kind → Type 0
+    IsOverKind (terminal t) = P t
+    IsOverKind (group ps) = AreOver ps
+    IsOverKind (call n ps) = AreOver ps
+    IsOverKind (repeated op p) = IsOver p
+    IsOverKind (chosen p) = IsOver p
+    IsOverKind (named n p) = IsOver p
+    IsOverKind (tupled ns p) = IsOver p
+    IsOverKind (nonterminal n) = Unit {0}
+    IsOverKind (ambiguous_id a) = Unit {0}
+    IsOverKind lookahead = Unit {0}
+    IsOverKind lookbehind = Unit {0}
+    IsOverKind error_terminal = Unit {0}
+
+    pub IsOver : Part → Type 0
+    IsOver (at s k) = IsOverKind k
+
+    pub AreOver : Parts → Type 0
+    AreOver no_parts = Unit {0}
+    AreOver (part_and p ps) = IsOver p × AreOver ps
+
+-- ---- lists
+
+pub filtered : {A : Type 0} (p : A → Bool) (xs : List A) → ((x : A) → In x xs → p x ≡ true) → (x : A) → In x xs → In x (filter p xs)
+filtered p [] h x i = absurd i
+filtered p (y ∷ xs) h x (inl e) = rw (h y (inl refl)) (inl e)
+filtered p (y ∷ xs) h x (inr i) = rw (h y (inl refl)) (inr (filtered p xs (λ z j. h z (inr j)) x i))
+
+none_filtered : {A : Type 0} (p : A → Bool) (xs : List A) → ((x : A) → In x xs → p x ≡ false) → filter p xs ≡ []
+none_filtered p [] h = refl
+none_filtered p (y ∷ xs) h = rw (h y (inl refl)) (none_filtered p xs (λ z j. h z (inr j)))
+
+placed : (a : AlternativeData) (xs : List AlternativeData) → In a xs →
+    In (Some (record { level = 0; side = every; alternative = a })) (without_levels (map Some xs))
+placed a [] h = absurd h
+placed a (x ∷ xs) (inl e) = inl (ap (λ b. Some (record { level = 0; side = every; alternative = b })) e)
+placed a (x ∷ xs) (inr h) = inr (placed a xs h)
+
+-- ---- symbols
+
+-- no rule has arguments
+abbrev pub HasNoMacros : GrammarData → Type 0
+HasNoMacros g = (r : RuleData) → In r (all_rules g) → r.args ≡ []
+
+pub no_macros_of : (g : GrammarData) → HasNoMacros g → macros_of g ≡ []
+no_macros_of g h = none_filtered (λ (r : RuleData). not (is_nil r.args)) (all_rules g) (λ r i. ap (λ (args : List NonterminalString). not (is_nil args)) (h r i))
+
+pub all_plain : (g : GrammarData) → HasNoMacros g → (r : RuleData) → In r (all_rules g) → In r (rules_of g)
+all_plain g h = filtered (λ (r : RuleData). is_nil r.args) (all_rules g) (λ r i. ap (λ (args : List NonterminalString). is_nil args) (h r i))
+
+module _ (g : GrammarData) (S : IsSettled g) (none : HasNoMacros g) (P : TerminalString → Type 0) (N : List ℕ → Type 0)
+    (names : (r : RuleData) → In r (all_rules g) → N r.name.0) where
+  rule_is : (n : List ℕ) (o : Option WrittenRule) → rule_named (flat_rules g) n ≡ o → is_rule o ≡ true → N n
+  rule_is n None e h = absurd (cc h)
+  rule_is n (Some s) e h =
+      let f = rule_found (flat_rules g) n s e in
+      let (d, i, is) = flat_from g s f.0 in
+      let name : d.name.0 ≡ n = ap (λ (w : WrittenRule). w.name) (sym is) ∙ f.1 in
+      subst N name (names d i)
+
+  no_call : (n : List ℕ) (ps : Parts) (o : Option WrittenRule) → rule_named (flat_rules g) n ≡ o → is_macro_for ps o ≡ true → ⊥
+  no_call n ps None e h = cc h
+  no_call n ps (Some s) e h =
+      let f = rule_found (flat_rules g) n s e in
+      let (d, i, is) = flat_from g s f.0 in
+      let bare : s.args ≡ [] = ap (λ (w : WrittenRule). w.args) is ∙ none d i in
+      let no : is_macro s ≡ false = ap (λ (args : List NonterminalString). not (is_nil args)) bare in
+      let b = and_parts (is_macro s) _ h in
+      cc (no, b.0)
+
+  mutual
+    kind_ready : (k : Kind) → is_scoped_kind (flat_rules g) [] k ≡ true → IsOverKind P k → IsReadyKind P N k
+    kind_ready (terminal t) h o = o
+    kind_ready (nonterminal n) h o = rule_is n (rule_named (flat_rules g) n) refl h
+    kind_ready (ambiguous_id a) h o = absurd (cc h)
+    kind_ready (call n ps) h o = no_call n ps (rule_named (flat_rules g) n) refl (and_parts (is_macro_for ps (rule_named (flat_rules g) n)) (are_scoped (flat_rules g) [] ps) h).0
+    kind_ready (group ps) h o = parts_ready ps h o
+    kind_ready (repeated op p) h o = part_ready p h o
+    kind_ready (chosen p) h o = part_ready p h o
+    kind_ready (named n p) h o = part_ready p h o
+    kind_ready (tupled ns p) h o = part_ready p h o
+    kind_ready lookahead h o = tt
+    kind_ready lookbehind h o = tt
+    kind_ready error_terminal h o = tt
+
+    part_ready : (p : Part) → is_scoped (flat_rules g) [] p ≡ true → IsOver P p → IsReady P N p
+    part_ready (at s k) h o = kind_ready k h o
+
+    pub parts_ready : (ps : Parts) → are_scoped (flat_rules g) [] ps ≡ true → AreOver P ps → AreReady P N ps
+    parts_ready no_parts h o = tt
+    parts_ready (part_and p ps) h o =
+        let b = and_parts (is_scoped (flat_rules g) [] p) (are_scoped (flat_rules g) [] ps) h in
+        (part_ready p b.0 o.0, parts_ready ps b.1 o.1)
+
+  scoped : (d : RuleData) → In d (all_rules g) → (a : AlternativeData) → In a d.alternatives → are_scoped (flat_rules g) [] a.parts ≡ true
+  scoped d i a j =
+      let there : In (flat_of d) (flat_rules g) =
+      subst (λ (ws : List WrittenRule). In (flat_of d) ws) (sym (flat_rules_resolved g S.resolved)) (in_map flat_of d (all_rules g) i) in
+      subst (λ (args : List NonterminalString). are_scoped (flat_rules g) args a.parts ≡ true) (none d i)
+      (S.scoped.names (flat_of d) (record { level = 0; side = every; alternative = a }) there (placed a d.alternatives j))
+
+  -- the symbols of each alternative are ready
+  pub alternative_ready : (d : RuleData) → In d (all_rules g) → (a : AlternativeData) → In a d.alternatives → AreOver P a.parts → AreReady P N a.parts
+  alternative_ready d i a j o = parts_ready a.parts (scoped d i a j) o

@@ -1,0 +1,320 @@
+-- From the enabled grammar to the grammar with levels: rules keep their arguments and declared types, alternatives their conditions,
+-- and symbols their terminals, to which resolving adds bare ones with a conversion.
+use Rattle.std.proofs.Common.{◌≡◌, inl, inr, ℕ, zero, suc, Bool, true, false, List, [], ◌∷◌, ◌++◌, length, map, Option, Some, None, refl, ap, sym, subst, ◌∙◌, arith}
+use Rattle.std.specs.Prelude.{flat_map, if◌then◌else◌, option_to_list, bytes_eq, nat_eq}
+use Rattle.lalrpop_norm_tree.specs.declared.names.NonterminalString.{NonterminalString}
+use Rattle.lalrpop_norm_tree.specs.declared.names.Span.{Span}
+use Rattle.lalrpop_norm_tree.specs.declared.names.TerminalString.{TerminalString}
+use Rattle.lalrpop_norm_tree.specs.declared.names.TerminalString.TheVariants.{Literal, Bare, Error}
+use Rattle.lalrpop_norm_tree.specs.Symbols.{Kind, Part, Parts, group, ambiguous_id, terminal, nonterminal, call, repeated, chosen, named, tupled, lookahead, lookbehind, error_terminal, at, no_parts, part_and}
+use Rattle.lalrpop_norm_tree.specs.Items.{AlternativeData, RuleData, ConversionData, EnumTokenData, ItemData, GrammarData, match_item, extern_item, intern_item, rule_item, use_item}
+use Rattle.lalrpop_norm_theory.specs.Rounds.{In}
+use Rattle.lalrpop_norm_theory.proofs.RoundsLemmas.{in_left, in_right, in_cases, of_flat}
+use Rattle.lalrpop_norm_theory.proofs.SameLemmas.{text_sound}
+use Rattle.lalrpop_norm_model.specs.Features.{Features, is_active}
+use Rattle.lalrpop_norm_model.specs.Enabled.{Places, present, if_active, all_places, enabled_rule, enabled_item, enabled_grammar}
+use Rattle.lalrpop_norm_model.specs.Scopes.{Definition, a_rule, a_macro, a_terminal, Global, rule_definition, bare_global, conversions_in, rule_globals, conversion_globals, match_globals, globals, definition_of, Sense, an_argument, a_global, global_sense, sense_of, by_sense, resolved_kind, resolved_part, resolved_parts, resolved_alternative, resolved_rule, resolved_item, resolved_grammar}
+use Rattle.lalrpop_norm_model.specs.Levels.{Leveled, with_levels, leveled_at, map_numbered, levels_of, previous_level, has_levels}
+use Rattle.lalrpop_norm_model.specs.LevelRules.{leveled_kind, leveled_part, leveled_parts, is_own, level_alternative, step_alternatives, of_level, level_rule, level_rules, leveled_grammar}
+use Rattle.lalrpop_norm_model.specs.PlainRules.{rule_of_item, all_rules}
+use Rattle.lalrpop_norm_model.specs.Expanded.{enum_in, match_in, enums, terminals_converted, declared_symbols}
+use Rattle.lalrpop_norm_model.proofs.LevelLemmas.{of_map}
+use Rattle.lalrpop_norm_model.proofs.GrammarLemmas.{all_level_rules}
+use Rattle.lalrpop_norm.proofs.ExpandedScopes.{IsOverKind, IsOver, AreOver}
+use Rattle.lalrpop_norm.proofs.ExpandedTokens.{HasOneEnum}
+
+-- a rule without arguments and conditions, no symbol in its type, whose terminals are among those of P
+pub record IsFitRule (P : TerminalString → Type 0) (r : RuleData) : Type 0 where
+  pub arguments : r.args ≡ []
+  pub bare_type : declared_symbols r ≡ []
+  pub conditions : (a : AlternativeData) → In a r.alternatives → a.condition ≡ None
+  pub over : (a : AlternativeData) → In a r.alternatives → AreOver P a.parts
+
+abbrev pub AreFitRules : (TerminalString → Type 0) → GrammarData → Type 0
+AreFitRules P g = (r : RuleData) → In r (all_rules g) → IsFitRule P r
+
+-- ---- enabled
+
+enabled_from : (fs : Features) (xs : List AlternativeData) (a : AlternativeData) → In a (present (map (if_active fs) xs)) → In a xs
+enabled_from fs [] a i = absurd i
+enabled_from fs (x ∷ xs) a i = by (is_active fs x.attributes) (enabled_from fs xs a) i
+  where
+    by : (b : Bool) → (In a (present (map (if_active fs) xs)) → In a xs) → In a (present ((if b then Some x else None) ∷ map (if_active fs) xs)) → In a (x ∷ xs)
+    by true f (inl e) = inl e
+    by true f (inr j) = inr (f j)
+    by false f j = inr (f j)
+
+pub enabled_fit : (fs : Features) (P : TerminalString → Type 0) (r : RuleData) → IsFitRule P r → IsFitRule P (enabled_rule fs r)
+enabled_fit fs P r h = record {
+  arguments = h.arguments;
+  bare_type = h.bare_type;
+  conditions = λ a i. h.conditions a (enabled_from fs r.alternatives a i);
+  over = λ a i. h.over a (enabled_from fs r.alternatives a i);
+}
+
+-- an enabled rule is one of the written grammar, trimmed
+pub enabled_rule_from : (fs : Features) (items : List ItemData) (r : RuleData) → In r (flat_map rule_of_item (flat_map (enabled_item fs) items)) →
+    (d : RuleData) × In d (flat_map rule_of_item items) × (r ≡ enabled_rule fs d)
+enabled_rule_from fs [] r i = absurd i
+enabled_rule_from fs (match_item m ∷ items) r i = enabled_rule_from fs items r i
+enabled_rule_from fs (extern_item t ∷ items) r i = enabled_rule_from fs items r i
+enabled_rule_from fs (intern_item t ∷ items) r i = enabled_rule_from fs items r i
+enabled_rule_from fs (use_item u ∷ items) r i = enabled_rule_from fs items r i
+enabled_rule_from fs (rule_item d ∷ items) r i = by (is_active fs d.attributes) (enabled_rule_from fs items r) i
+  where
+    by : (b : Bool) → (In r (flat_map rule_of_item (flat_map (enabled_item fs) items)) → (e : RuleData) × In e (flat_map rule_of_item items) × (r ≡ enabled_rule fs e)) →
+        In r (flat_map rule_of_item ((if b then rule_item (enabled_rule fs d) ∷ [] else []) ++ flat_map (enabled_item fs) items)) →
+        (e : RuleData) × In e (d ∷ flat_map rule_of_item items) × (r ≡ enabled_rule fs e)
+    by true f (inl e) = (d, inl refl, e)
+    by true f (inr j) = let x = f j in (x.0, inr x.1, x.2)
+    by false f j = let x = f j in (x.0, inr x.1, x.2)
+
+pub enabled_rules_fit : (fs : Features) (P : TerminalString → Type 0) (g : GrammarData) → AreFitRules P g → AreFitRules P (enabled_grammar fs g)
+enabled_rules_fit fs P g h r i =
+    let (d, j, e) = enabled_rule_from fs g.items r i in
+    subst (λ (x : RuleData). IsFitRule P x) (sym e) (enabled_fit fs P d (h d j))
+
+-- ---- resolved
+
+module _ (P : TerminalString → Type 0) (sense : List ℕ → Option Sense) (bare : (a : List ℕ) → sense a ≡ Some (a_global a_terminal) → P (Bare a)) where
+  name_over : (a : List ℕ) (o : Option Sense) → sense a ≡ o → IsOverKind P (by_sense o a)
+  name_over a None e = tt
+  name_over a (Some an_argument) e = tt
+  name_over a (Some (a_global a_rule)) e = tt
+  name_over a (Some (a_global a_terminal)) e = bare a e
+  name_over a (Some (a_global (a_macro n))) e = tt
+
+  mutual
+    resolved_kind_over : (k : Kind) → IsOverKind P k → IsOverKind P (resolved_kind sense k)
+    resolved_kind_over (ambiguous_id a) h = name_over a (sense a) refl
+    resolved_kind_over (terminal t) h = h
+    resolved_kind_over (nonterminal n) h = tt
+    resolved_kind_over (group ps) h = resolved_over ps h
+    resolved_kind_over (call n ps) h = resolved_over ps h
+    resolved_kind_over (repeated op p) h = resolved_part_over p h
+    resolved_kind_over (chosen p) h = resolved_part_over p h
+    resolved_kind_over (named n p) h = resolved_part_over p h
+    resolved_kind_over (tupled ns p) h = resolved_part_over p h
+    resolved_kind_over lookahead h = tt
+    resolved_kind_over lookbehind h = tt
+    resolved_kind_over error_terminal h = tt
+
+    resolved_part_over : (p : Part) → IsOver P p → IsOver P (resolved_part sense p)
+    resolved_part_over (at s k) h = resolved_kind_over k h
+
+    resolved_over : (ps : Parts) → AreOver P ps → AreOver P (resolved_parts sense ps)
+    resolved_over no_parts h = tt
+    resolved_over (part_and p ps) h = (resolved_part_over p h.0, resolved_over ps h.1)
+
+-- a name that is a terminal's is one of the definitions
+defined_in : (ds : List Global) (a : List ℕ) (x : Definition) → definition_of ds a ≡ Some x → (d : Global) × In d ds × (d.name ≡ a) × (d.definition ≡ x)
+defined_in [] a x h = absurd (grind arith)
+defined_in (d ∷ ds) a x h = by (bytes_eq d.name a) refl (defined_in ds a x) h
+  where
+    by : (b : Bool) → bytes_eq d.name a ≡ b → (definition_of ds a ≡ Some x → (e : Global) × In e ds × (e.name ≡ a) × (e.definition ≡ x)) →
+        (if b then Some d.definition else definition_of ds a) ≡ Some x → (e : Global) × In e (d ∷ ds) × (e.name ≡ a) × (e.definition ≡ x)
+    by true e f i = (d, inl refl, text_sound d.name a e, cc i)
+    by false e f i = let y = f i in (y.0, inr y.1, y.2, y.3)
+
+rule_no_terminal : (n : ℕ) → rule_definition n ≡ a_terminal → ⊥
+rule_no_terminal zero e = cc e
+rule_no_terminal (suc n) e = cc e
+
+-- definitions of rules are none of terminals
+no_rule_defines : (items : List ItemData) (d : Global) → In d (flat_map rule_globals items) → d.definition ≡ a_terminal → ⊥
+no_rule_defines [] d i e = i
+no_rule_defines (rule_item r ∷ items) d (inl same) e = rule_no_terminal (length r.args) (ap (λ (x : Global). x.definition) (sym same) ∙ e)
+no_rule_defines (rule_item r ∷ items) d (inr i) e = no_rule_defines items d i e
+no_rule_defines (match_item m ∷ items) d i e = no_rule_defines items d i e
+no_rule_defines (extern_item t ∷ items) d i e = no_rule_defines items d i e
+no_rule_defines (intern_item t ∷ items) d i e = no_rule_defines items d i e
+no_rule_defines (use_item u ∷ items) d i e = no_rule_defines items d i e
+
+-- without a match block nothing is defined in one
+no_match_defines : (items : List ItemData) → flat_map match_in items ≡ [] → flat_map match_globals items ≡ []
+no_match_defines [] e = refl
+no_match_defines (rule_item r ∷ items) e = no_match_defines items e
+no_match_defines (match_item m ∷ items) e = absurd (cc e)
+no_match_defines (extern_item t ∷ items) e = no_match_defines items e
+no_match_defines (intern_item t ∷ items) e = no_match_defines items e
+no_match_defines (use_item u ∷ items) e = no_match_defines items e
+
+-- a bare name that a conversion gives is its terminal
+bare_from : (t : TerminalString) (s : Span) (d : Global) → In d (bare_global t s) → t ≡ Bare d.name
+bare_from (Bare a) s d (inl e) = ap (λ (x : Global). Bare x.name) (sym e)
+bare_from (Bare a) s d (inr i) = absurd i
+bare_from (Literal l) s d i = absurd i
+bare_from Error s d i = absurd i
+
+converted_from : (cs : List ConversionData) (d : Global) → In d (flat_map (λ (c : ConversionData). bare_global c.from c.span) cs) → In (Bare d.name) (terminals_converted cs)
+converted_from [] d i = absurd i
+converted_from (c ∷ cs) d i = elim (in_cases d (bare_global c.from c.span) (flat_map (λ (x : ConversionData). bare_global x.from x.span) cs) i) [
+  | inl j ↦ inl (sym (bare_from c.from c.span d j))
+  | inr j ↦ inr (converted_from cs d j)
+]
+
+abbrev of_enums : List EnumTokenData → List TerminalString
+of_enums es = flat_map (λ (e : EnumTokenData). terminals_converted e.conversions) es
+
+enum_from : (o : Option EnumTokenData) (es : List EnumTokenData) (d : Global) → In d (flat_map (λ (c : ConversionData). bare_global c.from c.span) (conversions_in o)) →
+    In (Bare d.name) (of_enums (option_to_list o ++ es))
+enum_from None es d i = absurd i
+enum_from (Some e) es d i = in_left (Bare d.name) (terminals_converted e.conversions) (of_enums es) (converted_from e.conversions d i)
+
+more_enums : (o : Option EnumTokenData) (es : List EnumTokenData) (t : TerminalString) → In t (of_enums es) → In t (of_enums (option_to_list o ++ es))
+more_enums None es t i = i
+more_enums (Some e) es t i = in_right t (terminals_converted e.conversions) (of_enums es) i
+
+conversion_defines : (items : List ItemData) (d : Global) → In d (flat_map conversion_globals items) → In (Bare d.name) (of_enums (flat_map enum_in items))
+conversion_defines [] d i = absurd i
+conversion_defines (rule_item r ∷ items) d i = conversion_defines items d i
+conversion_defines (match_item m ∷ items) d i = conversion_defines items d i
+conversion_defines (intern_item t ∷ items) d i = conversion_defines items d i
+conversion_defines (use_item u ∷ items) d i = conversion_defines items d i
+conversion_defines (extern_item t ∷ items) d i =
+    elim (in_cases d (flat_map (λ (c : ConversionData). bare_global c.from c.span) (conversions_in t.enum_token)) (flat_map conversion_globals items) i) [
+      | inl j ↦ enum_from t.enum_token (flat_map enum_in items) d j
+      | inr j ↦ more_enums t.enum_token (flat_map enum_in items) (Bare d.name) (conversion_defines items d j)
+    ]
+
+-- a terminal of an enum
+abbrev pub IsTokenOf : EnumTokenData → TerminalString → Type 0
+IsTokenOf u t = In t (terminals_converted u.conversions)
+
+no_more : {A : Type 0} (x : A) (xs : List A) → In x (xs ++ []) → In x xs
+no_more x xs i = elim (in_cases x xs [] i) [ inl j ↦ j | inr j ↦ absurd j ]
+
+module _ (u : EnumTokenData) (g : GrammarData) (h : HasOneEnum u g) where
+  bare_token : (a : List ℕ) → definition_of (globals g) a ≡ Some a_terminal → IsTokenOf u (Bare a)
+  bare_token a e =
+      let (d, i, name, is) = defined_in (globals g) a a_terminal e in
+      elim (in_cases d (flat_map rule_globals g.items) (flat_map conversion_globals g.items ++ flat_map match_globals g.items) i) [
+        | inl j ↦ absurd (no_rule_defines g.items d j is)
+        | inr j ↦ elim (in_cases d (flat_map conversion_globals g.items) (flat_map match_globals g.items) j) [
+          | inl k ↦ by_conversion d name k
+          | inr k ↦ absurd (subst (λ (ds : List Global). In d ds) (no_match_defines g.items h.no_match) k)
+        ]
+      ]
+    where
+      by_conversion : (d : Global) → d.name ≡ a → In d (flat_map conversion_globals g.items) → IsTokenOf u (Bare a)
+      by_conversion d name k =
+          no_more (Bare a) (terminals_converted u.conversions)
+          (subst (λ (es : List EnumTokenData). In (Bare a) (of_enums es)) h.one_enum
+          (subst (λ m. In (Bare m) (of_enums (enums g))) name (conversion_defines g.items d k)))
+
+  sensed_token : (args : List NonterminalString) (a : List ℕ) → args ≡ [] → sense_of (globals g) args a ≡ Some (a_global a_terminal) → IsTokenOf u (Bare a)
+  sensed_token args a none e =
+      by (definition_of (globals g) a) refl (subst (λ (xs : List NonterminalString). sense_of (globals g) xs a ≡ Some (a_global a_terminal)) none e)
+    where
+      by : (o : Option Definition) → definition_of (globals g) a ≡ o → global_sense o ≡ Some (a_global a_terminal) → IsTokenOf u (Bare a)
+      by None is i = absurd (grind arith)
+      by (Some x) is i = let same : x ≡ a_terminal = cc i in bare_token a (is ∙ ap Some same)
+
+  resolved_fit : (r : RuleData) → IsFitRule (IsTokenOf u) r → IsFitRule (IsTokenOf u) (resolved_rule (globals g) r)
+  resolved_fit r f = record {
+    arguments = f.arguments;
+    bare_type = f.bare_type;
+    conditions = λ a i.
+        let (b, j, e) = of_map (resolved_alternative (sense_of (globals g) r.args)) a r.alternatives i in
+        ap (λ (x : AlternativeData). x.condition) e ∙ f.conditions b j;
+    over = λ a i.
+        let (b, j, e) = of_map (resolved_alternative (sense_of (globals g) r.args)) a r.alternatives i in
+        subst (λ (x : AlternativeData). AreOver (IsTokenOf u) x.parts) (sym e)
+        (resolved_over (IsTokenOf u) (sense_of (globals g) r.args) (λ n is. sensed_token r.args n f.arguments is) b.parts (f.over b j));
+  }
+
+  resolved_rule_from : (ds : List Global) (items : List ItemData) (r : RuleData) → In r (flat_map rule_of_item (map (resolved_item ds) items)) →
+      (d : RuleData) × In d (flat_map rule_of_item items) × (r ≡ resolved_rule ds d)
+  resolved_rule_from ds [] r i = absurd i
+  resolved_rule_from ds (rule_item d ∷ items) r (inl e) = (d, inl refl, e)
+  resolved_rule_from ds (rule_item d ∷ items) r (inr i) = let x = resolved_rule_from ds items r i in (x.0, inr x.1, x.2)
+  resolved_rule_from ds (match_item m ∷ items) r i = resolved_rule_from ds items r i
+  resolved_rule_from ds (extern_item t ∷ items) r i = resolved_rule_from ds items r i
+  resolved_rule_from ds (intern_item t ∷ items) r i = resolved_rule_from ds items r i
+  resolved_rule_from ds (use_item u ∷ items) r i = resolved_rule_from ds items r i
+
+  pub resolved_rules_fit : AreFitRules (IsTokenOf u) g → AreFitRules (IsTokenOf u) (resolved_grammar g)
+  resolved_rules_fit f r i =
+      let (d, j, e) = resolved_rule_from (globals g) g.items r i in
+      subst (λ (x : RuleData). IsFitRule (IsTokenOf u) x) (sym e) (resolved_fit d (f d j))
+
+-- ---- with levels
+
+module _ (P : TerminalString → Type 0) (own : List ℕ → Bool) (level : ℕ → ℕ → List ℕ) where
+  mutual
+    leveled_kind_over : (before after : ℕ) (k : Kind) → IsOverKind P k → IsOverKind P (leveled_kind own level before after k)
+    leveled_kind_over before after (nonterminal n) h = tt
+    leveled_kind_over before after (ambiguous_id a) h = tt
+    leveled_kind_over before after (terminal t) h = h
+    leveled_kind_over before after (group ps) h = leveled_over before after ps h
+    leveled_kind_over before after (call n ps) h = leveled_over before after ps h
+    leveled_kind_over before after (repeated op p) h = leveled_part_over before after p h
+    leveled_kind_over before after (chosen p) h = leveled_part_over before after p h
+    leveled_kind_over before after (named n p) h = leveled_part_over before after p h
+    leveled_kind_over before after (tupled ns p) h = leveled_part_over before after p h
+    leveled_kind_over before after lookahead h = tt
+    leveled_kind_over before after lookbehind h = tt
+    leveled_kind_over before after error_terminal h = tt
+
+    leveled_part_over : (before after : ℕ) (p : Part) → IsOver P p → IsOver P (leveled_part own level before after p)
+    leveled_part_over before after (at s k) h = leveled_kind_over before after k h
+
+    leveled_over : (before after : ℕ) (ps : Parts) → AreOver P ps → AreOver P (leveled_parts own level before after ps)
+    leveled_over before after no_parts h = tt
+    leveled_over before after (part_and p ps) h = (leveled_part_over before _ p h.0, leveled_over _ after ps h.1)
+
+of_level_in : (l : ℕ) (xs : List Leveled) (a : Leveled) → In a (of_level l xs) → In a xs
+of_level_in l [] a h = h
+of_level_in l (x ∷ xs) a h = by (nat_eq x.level l) (of_level_in l xs a) h
+  where
+    by : (b : Bool) → (In a (of_level l xs) → In a xs) → In a (if b then x ∷ of_level l xs else of_level l xs) → In a (x ∷ xs)
+    by true f (inl e) = inl e
+    by true f (inr i) = inr (f i)
+    by false f i = inr (f i)
+
+-- what is leveled at a place is an alternative that stands there
+numbered_from : (ps : Places) (k : ℕ) (xs : List AlternativeData) (a : Leveled) → In a (present (map_numbered (leveled_at ps) k (map Some xs))) → In a.alternative xs
+numbered_from ps k [] a i = absurd i
+numbered_from ps k (x ∷ xs) a (inl e) = inl (ap (λ (y : Leveled). y.alternative) e)
+numbered_from ps k (x ∷ xs) a (inr i) = inr (numbered_from ps (suc k) xs a i)
+
+module _ (P : TerminalString → Type 0) (d : RuleData) (f : IsFitRule P d) where
+  abbrev ps : List (Option Leveled)
+  ps = with_levels (all_places d)
+
+  -- no condition, and terminals among those of P
+  abbrev IsFit : AlternativeData → Type 0
+  IsFit a = (a.condition ≡ None) × AreOver P a.parts
+
+  level_alternative_fit : (a : Leveled) → In a.alternative d.alternatives → IsFit (level_alternative d ps a)
+  level_alternative_fit a i = (f.conditions a.alternative i, leveled_over P (is_own d) _ 0 0 a.alternative.parts (f.over a.alternative i))
+
+  step_fit : (o : Option ℕ) (a : AlternativeData) → In a (step_alternatives d ps o) → IsFit a
+  step_fit None a i = absurd i
+  step_fit (Some l) a (inl e) = subst IsFit (sym e) (refl, (tt, tt))
+  step_fit (Some l) a (inr i) = absurd i
+
+  level_fit : (l : ℕ) → IsFitRule P (level_rule d ps l)
+  level_fit l = record {
+    arguments = f.arguments;
+    bare_type = f.bare_type;
+    conditions = λ a i. (both a i).0;
+    over = λ a i. (both a i).1;
+  }
+    where
+      both : (a : AlternativeData) → In a (level_rule d ps l).alternatives → IsFit a
+      both a i = elim (in_cases a (map (level_alternative d ps) (of_level l (present ps))) (step_alternatives d ps (previous_level ps l)) i) [
+        | inl j ↦ (let (b, k, e) = of_map (level_alternative d ps) a (of_level l (present ps)) j in
+            subst IsFit (sym e) (level_alternative_fit b (numbered_from (all_places d) 0 d.alternatives b (of_level_in l (present ps) b k))))
+        | inr j ↦ step_fit (previous_level ps l) a j
+      ]
+
+  levels_fit : (b : Bool) (r : RuleData) → In r (if b then map (level_rule d ps) (levels_of ps) else d ∷ []) → IsFitRule P r
+  levels_fit true r i = let (l, j, e) = of_map (level_rule d ps) r (levels_of ps) i in subst (λ (x : RuleData). IsFitRule P x) (sym e) (level_fit l)
+  levels_fit false r (inl e) = subst (λ (x : RuleData). IsFitRule P x) (sym e) f
+  levels_fit false r (inr i) = absurd i
+
+pub leveled_rules_fit : (P : TerminalString → Type 0) (g : GrammarData) → AreFitRules P g → AreFitRules P (leveled_grammar g)
+leveled_rules_fit P g f r i =
+    let (d, j, k) = of_flat level_rules r (all_rules g) (subst (λ (ds : List RuleData). In r ds) (all_level_rules g) i) in
+    levels_fit P d (f d j) (has_levels (all_places d)) r k
