@@ -17,7 +17,7 @@ use Rattle.lalrpop_norm_model.specs.Expanded.{is_plain_terminal, terminals_conve
 use Rattle.lalrpop_norm_model.specs.InferenceFaults.{inference_faults}
 use Rattle.lalrpop_norm_model.specs.LoweringFaults.{lowering_faults}
 use Rattle.lalrpop_norm_model.specs.Lexers.{Lexer}
-use Rattle.lalrpop_norm_model.specs.CheckedTokens.{IsChecked}
+use Rattle.lalrpop_norm_model.specs.CheckedTokens.{IsChecked, IsEntered}
 use Rattle.lalrpop_norm_model.specs.Grammars.{is_nil}
 use Rattle.lalrpop_norm_model.specs.Renumbered.{prepared_grammar}
 use Rattle.lalrpop_norm_names.specs.NameFaults.{resolve_faults}
@@ -40,7 +40,7 @@ use Rattle.lalrpop_norm.proofs.ExpandedPlain.{IsPrepared, plain_expanded, plain_
 use Rattle.lalrpop_norm.proofs.ExpandedWritten.{written_enum, enabled_tokens, distinct_tokens, enabled_fit}
 use Rattle.lalrpop_norm.proofs.TreesFaithful.{levels_settled, lowered_trees_faithful}
 use Rattle.lalrpop_norm.proofs.ExpandedWhole.{expansion_whole}
-use Rattle.lalrpop_norm.proofs.TypedPlain.{enabled_active, typed_by, enum_checked}
+use Rattle.lalrpop_norm.proofs.TypedPlain.{enabled_active, typed_by, enum_checked, enum_entered}
 use Rattle.lalrpop_norm.proofs.GroundedTypes.{rule_typed, start_is_free, types_are_grounded}
 
 -- a terminal of an enum that does not name the error terminal is plain
@@ -116,6 +116,9 @@ module _ (fs : Features) (g : GrammarData) (taken : IsTaken fs g) (valid : valid
       pub plain_is_checked : {R : Type 0} (lexer : Lexer R) → IsChecked lexer (grammar_of_plain_rules fs g limit) (grammar_of_plain_rules fs g limit)
       plain_is_checked lexer = enum_checked lexer u p of_plain
 
+      plain_is_entered : IsEntered (grammar_of_plain_rules fs g limit) (grammar_of_plain_rules fs g limit)
+      plain_is_entered = enum_entered u p of_plain
+
       module _ (stay : NamesStayDistinct) where
         pub distinct_plain : IsDistinct (rule_names (grammar_of_plain_rules fs g limit))
         distinct_plain = stay comparison h limit none settled.once
@@ -150,7 +153,7 @@ module _ (fs : Features) (g : GrammarData) (taken : IsTaken fs g) (valid : valid
                 IsLoweringOf (grammar_of_plain_rules fs g limit) (all_rules (grammar_of_plain_rules fs g limit)) table l → IsClosed l → IsFaithful no_lexer fs g l
             lowered_faithful l shape closed = record {
               rounds = limit;
-              trees = lowered_trees_faithful fs g resolved flat leveled limit whole own_names table l shape;
+              trees = lowered_trees_faithful fs g resolved flat leveled limit whole own_names p plain_is_entered table l shape;
               plain = p;
               tokens = plain_is_checked no_lexer;
               types = grounded l.types shape.types;

@@ -1,10 +1,8 @@
 pub mod WalkLemmas
 pub mod KeyLemmas
 pub mod LaterLemmas
-pub mod PlainLemmas
 pub mod ShapeTrees
-pub mod SimpleFaithful
-pub mod FaithfulLemmas
+pub mod PassLemmas
 pub mod ExpandedParts
 pub mod ExpandedSymbols
 pub mod ExpandedRounds

@@ -4,6 +4,7 @@ pub mod LaterWalks
 pub mod LaterWords
 pub mod TakenGrammars
 pub mod Normalize
+pub mod Passed
 pub mod Derivations
 pub mod Faithful
 pub mod PlainLaws

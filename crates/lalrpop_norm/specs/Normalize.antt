@@ -22,16 +22,18 @@ use Rattle.lalrpop_norm.specs.Later.{later_faults}
 abbrev pub late_faults : GrammarData → List Fault
 late_faults plain = inference_faults plain ++ lowering_faults plain (inferred_table plain)
 
--- Where a grammar is refused, in the order of looking: what a later stage brings; what no grammar may look like; of what is
--- enabled, names, levels, and names once more; of the grammar with levels, its expansion in so many rounds; of the plain rules,
--- types and numbers.
-abbrev pub normalize_faults : Features → ℕ → GrammarData → List Fault
-normalize_faults fs limit g =
-    later_faults fs g
-    ++ (validate_faults g
+-- Where the passes refuse a grammar, in their order: what no grammar may look like; of what is enabled, names, levels, and names
+-- once more; of the grammar with levels, its expansion in so many rounds; of the plain rules, types and numbers.
+abbrev pub pass_faults : Features → ℕ → GrammarData → List Fault
+pass_faults fs limit g =
+    validate_faults g
     ++ (precedence_faults (enabled_grammar fs g)
     ++ (expansion_faults comparison (grammar_with_levels fs g) limit
-    ++ late_faults (grammar_of_plain_rules fs g limit))))
+    ++ late_faults (grammar_of_plain_rules fs g limit)))
+
+-- Where a grammar is refused: what a later stage brings, and then what the passes refuse.
+abbrev pub normalize_faults : Features → ℕ → GrammarData → List Fault
+normalize_faults fs limit g = later_faults fs g ++ pass_faults fs limit g
 
 -- What a written grammar is lowered to: the rules made in so many rounds have the inferred types, and over their table the grammar
 -- of plain rules is lowered.

@@ -8,7 +8,10 @@ ghost use Rattle.lalrpop_norm_repr.specs.Closed.{IsClosed};
 ghost use Rattle.lalrpop_norm.specs.Faithful.{IsFaithful, no_lexer};
 ghost use Rattle.lalrpop_norm.specs.Later.{later_parts};
 ghost use Rattle.lalrpop_norm.specs.LaterWords.{NamesFirst};
-ghost use Rattle.lalrpop_norm.specs.Normalize.{normalize_faults, IsNormalized};
+ghost use Rattle.lalrpop_norm_model.specs.Expanded.{IsExpanded};
+ghost use Rattle.lalrpop_norm.specs.Normalize.{normalize_faults, pass_faults, late_faults, IsNormalized};
+ghost use Rattle.lalrpop_norm.specs.Passed.{IsPassed, IsTypedLowering, IsTypedByInference};
+ghost use Rattle.lalrpop_norm.specs.TakenGrammars.{IsTaken};
 
 use crate::later::refuse_later_parts;
 use lalrpop_norm_expand::macro_expand::expand_macros;
@@ -16,7 +19,7 @@ use lalrpop_norm_front::cond_comp::remove_disabled_decls;
 use lalrpop_norm_front::precedence::expand_precedence;
 use lalrpop_norm_front::prevalidate::validate;
 use lalrpop_norm_front::{NormResult, Session};
-use lalrpop_norm_late::lower::lower;
+use lalrpop_norm_late::lower;
 use lalrpop_norm_repr::grammar::repr;
 use lalrpop_norm_tree::grammar::parse_tree;
 use lalrpop_norm_types::tyinfer::infer_types;
@@ -42,10 +45,37 @@ pub fn normalize<L>(
     ensures faithful { IfOk result (λ l. IsFaithful no_lexer (features_view session.now.features) (written.grammar_view grammar) (lowered.grammar_view l)) }
 {
     refuse_later_parts(alloc, session, &grammar)?;
+    run_passes(alloc, session, grammar)
+}
+
+/// Runs the passes over a grammar that this stage takes.
+fn run_passes<L>(
+    alloc: Global,
+    session: &Session<L>,
+    grammar: parse_tree::Grammar,
+) -> NormResult<repr::Grammar>
+    requires taken { IsTaken (features_view session.now.features) (written.grammar_view grammar) }
+    ensures refuses { Refuses result (pass_faults (features_view session.now.features) session.now.macro_recursion_limit (written.grammar_view grammar)) }
+    ensures lowered { IfOk result (λ l. IsPassed (features_view session.now.features) session.now.macro_recursion_limit (written.grammar_view grammar) (lowered.grammar_view l)) }
+{
     validate(alloc, &grammar)?;
     let enabled = remove_disabled_decls(session, grammar)?;
     let leveled = expand_precedence(alloc, enabled)?;
     let plain = expand_macros(alloc, leveled, session.macro_recursion_limit)?;
-    let types = infer_types(alloc, &plain)?;
-    lower(alloc, session, &plain, types)
+    type_and_lower(alloc, session, &plain)
+}
+
+/// Infers the types of plain rules, and lowers them.
+fn type_and_lower<L>(
+    alloc: Global,
+    session: &Session<L>,
+    plain: &parse_tree::Grammar,
+) -> NormResult<repr::Grammar>
+    requires expanded { IsExpanded (written.grammar_view plain.now) }
+    requires typed { IsTypedByInference (features_view session.now.features) (written.grammar_view plain.now) }
+    ensures refuses { Refuses result (late_faults (written.grammar_view plain.now)) }
+    ensures lowered { IfOk result (λ l. IsTypedLowering (features_view session.now.features) (written.grammar_view plain.now) (lowered.grammar_view l)) }
+{
+    let types = infer_types(alloc, plain)?;
+    lower(alloc, session, plain, types)
 }

@@ -1,7 +1,7 @@
 mod SameLemmas
 mod ApartLemmas
 mod BackLemmas
-mod DistinctLemmas
+pub mod DistinctLemmas
 mod FreshLemmas
 mod InPlace
 mod IndexLemmas
