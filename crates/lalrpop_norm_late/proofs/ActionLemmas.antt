@@ -15,7 +15,7 @@ use Rattle.lalrpop_norm_late.specs.Code.{sources_code, absent_code, written_code
 use Rattle.lalrpop_norm_late.specs.Lowerable.{IsLowerableAction}
 use Rattle.lalrpop_norm_late.specs.Lowering.{start_name, start_alternative, lowered_symbols, type_or_unit, rule_type, action_of, action_kind, user_kind, start_actions, alternative_actions}
 use Rattle.lalrpop_norm_late.specs.Shape.{start_clause, rule_clauses, IsCodeOf, IsKindOf, IsActionOf}
-use Rattle.lalrpop_norm_late.specs.Sources.{source_names}
+use Rattle.lalrpop_norm_late.specs.Naming.{source_names}
 use Rattle.lalrpop_norm_late.proofs.ArgumentLemmas.{patterns_counted, names_counted}
 use Rattle.lalrpop_norm_late.proofs.CodeLemmas.{filled_once}
 
@@ -68,7 +68,7 @@ written_once type ns (Some lookbehind_code) h = absurd h
 abbrev pub HasTypes : TypeTable → TypeTable → List Symbol → Type 0
 HasTypes types new ss = AllByRecursion (λ s. symbol_type s new ≡ Some (type_or_unit types s)) ss
 
-zip_types : (types new : TypeTable) (ss : List Symbol) → HasTypes types new ss → AllZip (λ s t. symbol_type s new ≡ Some t) ss (map (type_or_unit types) ss)
+pub zip_types : (types new : TypeTable) (ss : List Symbol) → HasTypes types new ss → AllZip (λ s t. symbol_type s new ≡ Some t) ss (map (type_or_unit types) ss)
 zip_types types new [] h = tt
 zip_types types new (s ∷ ss) h = (h.0, zip_types types new ss h.1)
 
@@ -79,10 +79,10 @@ module _ (prefix : List ℕ) (types new : TypeTable) (type : ReprData) (a : Alte
       record {
         argument_types = map (type_or_unit types) (lowered_symbols a.parts);
         code = code_of type (source_names prefix a.parts) a.action;
-        is = ap (λ ps. user ps (map (type_or_unit types) (lowered_symbols a.parts)) (code_of type (source_names prefix a.parts) a.action)) (patterns_counted prefix a.parts unnamed);
+        is = ap (λ ps. user ps (map (type_or_unit types) (lowered_symbols a.parts)) (code_of type (source_names prefix a.parts) a.action)) (patterns_counted prefix a.parts);
         typed = zip_types types new (lowered_symbols a.parts) typed;
         filled = subst (λ b. IsFilled b ns (written_code type ns a.action) (code_of type (source_names prefix a.parts) a.action)) (sym unnamed)
-            (subst (λ (ms : List (List ℕ)). IsFilled false ns (written_code type ns a.action) (code_of type ms a.action)) (sym (names_counted prefix a.parts unnamed))
+            (subst (λ (ms : List (List ℕ)). IsFilled false ns (written_code type ns a.action) (code_of type ms a.action)) (sym (names_counted prefix a.parts))
             (filled_once ns (written_code type ns a.action) (written_once type ns a.action once)));
       }
 
@@ -109,7 +109,7 @@ action_made prefix types new type n a known ready = record {
 
 -- ---- all actions
 
-zip_append : {A B : Type 0} (R : A → B → Type 0) (xs us : List A) (ys vs : List B) → AllZip R xs ys → AllZip R us vs → AllZip R (xs ++ us) (ys ++ vs)
+pub zip_append : {A B : Type 0} (R : A → B → Type 0) (xs us : List A) (ys vs : List B) → AllZip R xs ys → AllZip R us vs → AllZip R (xs ++ us) (ys ++ vs)
 zip_append R [] us [] vs h i = i
 zip_append R [] us (y ∷ ys) vs h i = absurd h
 zip_append R (x ∷ xs) us [] vs h i = absurd h

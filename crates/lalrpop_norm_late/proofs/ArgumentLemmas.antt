@@ -1,32 +1,39 @@
 -- The names and patterns of sources: counted along the symbols, and by their places.
-use Rattle.std.proofs.Common.{◌≡◌, ◌∙◌, ℕ, ◌+◌, Bool, true, false, cond, ◌||◌, List, [], ◌∷◌, ◌++◌, length, map, take, Option, Some, None, refl, sym, ap, arith, codes}
-use Rattle.std.specs.Prelude.{filter, is_some, unwrap_or}
+use Rattle.std.proofs.Common.{◌≡◌, ◌∙◌, ℕ, ◌+◌, Bool, true, false, cond, ◌||◌, List, [], ◌∷◌, ◌++◌, length, map, take, refl, sym, ap, arith, codes}
+use Rattle.std.specs.Prelude.{filter, unwrap_or}
 use Rattle.std.specs.List.{list_any, enumerate_from}
 use Rattle.std.proofs.lemmas.List.{append_assoc, length-append, take_at}
 use Rattle.std.proofs.lemmas.List.Elements.{filter-append, filter_agree}
-use Rattle.lalrpop_norm_tree.specs.Symbols.{ArgumentPattern, Part, Parts, no_parts, part_and}
-use Rattle.lalrpop_norm_late.specs.Sources.{is_chosen, has_chosen, is_source, source_name, plain_name, names_from, source_names, patterns_from, argument_patterns}
+use Rattle.lalrpop_norm_tree.specs.Symbols.{ArgumentPattern, Kind, group, ambiguous_id, terminal, nonterminal, call, repeated, chosen, named, tupled, lookahead, lookbehind, error_terminal, Part, at, Parts, no_parts, part_and}
+use Rattle.lalrpop_norm_model.specs.MadeRules.{names_value, some_name_value}
+use Rattle.lalrpop_norm_late.specs.Sources.{is_chosen, source_name, plain_name}
+use Rattle.lalrpop_norm_late.specs.Naming.{has_chosen, is_source, source_pattern, names_from, source_names, patterns_from, argument_patterns}
 use Rattle.lalrpop_norm_late.specs.Arguments.{part_list, has_pattern, written_pattern, is_source_of, sources_before, pattern_at_place, patterns, name_given, names}
 
 chosen_listed : (ps : Parts) → list_any is_chosen (part_list ps) ≡ has_chosen ps
 chosen_listed no_parts = refl
 chosen_listed (part_and p ps) = ap (λ b. is_chosen p || b) (chosen_listed ps)
 
-or_false_left : (a b : Bool) → (a || b) ≡ false → a ≡ false
-or_false_left true b h = cc
-or_false_left false b h = refl
+pub names_shown : (p : Part) → names_value p ≡ has_pattern p
+names_shown (at s (group ps)) = refl
+names_shown (at s (ambiguous_id a)) = refl
+names_shown (at s (terminal t)) = refl
+names_shown (at s (nonterminal n)) = refl
+names_shown (at s (call n ps)) = refl
+names_shown (at s (repeated o p)) = refl
+names_shown (at s (chosen p)) = refl
+names_shown (at s (named n p)) = refl
+names_shown (at s (tupled ns p)) = refl
+names_shown (at s lookahead) = refl
+names_shown (at s lookbehind) = refl
+names_shown (at s error_terminal) = refl
 
-or_false_right : (a b : Bool) → (a || b) ≡ false → b ≡ false
-or_false_right true b h = cc
-or_false_right false b h = h
+pub named_listed : (ps : Parts) → list_any has_pattern (part_list ps) ≡ some_name_value ps
+named_listed no_parts = refl
+named_listed (part_and p ps) = ap (λ b. has_pattern p || b) (named_listed ps) ∙ ap (λ b. b || some_name_value ps) (sym (names_shown p))
 
-no_pattern : (o : Option ArgumentPattern) (d : ArgumentPattern) → is_some o ≡ false → unwrap_or o d ≡ d
-no_pattern None d h = refl
-no_pattern (Some p) d h = cc
-
--- without named symbols
-source_as_counted : (ps : Parts) → list_any has_pattern (part_list ps) ≡ false → (p : Part) → is_source_of (part_list ps) p ≡ is_source (has_chosen ps) p
-source_as_counted ps h p = rw (h, chosen_listed ps) refl
+source_as_counted : (ps : Parts) (p : Part) → is_source_of (part_list ps) p ≡ is_source (some_name_value ps) (has_chosen ps) p
+source_as_counted ps p = rw (named_listed ps, chosen_listed ps) refl
 
 -- one more element of a filtered list
 count_more : (test : Part → Bool) (done : List Part) (p : Part) → length (filter test (done ++ p ∷ [])) ≡ cond (test p) (length (filter test done) + 1) (length (filter test done))
@@ -44,63 +51,63 @@ split_keep : {A : Type 0} (t : Bool) (a : A) (f : ℕ → List A) (m n : ℕ) �
 split_keep true a f m n = refl
 split_keep false a f m n = refl
 
-module _ (prefix : List ℕ) (some_chosen : Bool) (whole : List Part) (as_counted : (p : Part) → is_source_of whole p ≡ is_source some_chosen p) where
-  places_before : (done rest : List Part) → done ++ rest ≡ whole → sources_before whole (length done) ≡ length (filter (is_source some_chosen) done)
+module _ (prefix : List ℕ) (some_named some_chosen : Bool) (whole : List Part) (as_counted : (p : Part) → is_source_of whole p ≡ is_source some_named some_chosen p) where
+  places_before : (done rest : List Part) → done ++ rest ≡ whole → sources_before whole (length done) ≡ length (filter (is_source some_named some_chosen) done)
   places_before done rest e =
-      ap length (filter_agree (is_source_of whole) (is_source some_chosen) as_counted (take (length done) whole))
-      ∙ ap (λ (ps : List Part). length (filter (is_source some_chosen) ps)) (ap (take (length done)) (sym e) ∙ take_at done rest (length done) refl)
+      ap length (filter_agree (is_source_of whole) (is_source some_named some_chosen) as_counted (take (length done) whole))
+      ∙ ap (λ (ps : List Part). length (filter (is_source some_named some_chosen) ps)) (ap (take (length done)) (sym e) ∙ take_at done rest (length done) refl)
 
-  pattern_here : (done rest : List Part) (p : Part) → done ++ rest ≡ whole → has_pattern p ≡ false
-      → pattern_at_place prefix whole (length done) p ≡ cond (is_source some_chosen p) (plain_name (source_name prefix (length (filter (is_source some_chosen) done)))) (plain_name (codes "_"))
-  pattern_here done rest p e none =
+  pattern_here : (done rest : List Part) (p : Part) → done ++ rest ≡ whole
+      → pattern_at_place prefix whole (length done) p ≡ cond (is_source some_named some_chosen p) (source_pattern prefix (length (filter (is_source some_named some_chosen) done)) p) (plain_name (codes "_"))
+  pattern_here done rest p e =
       ap (λ b. cond b (unwrap_or (written_pattern p) (plain_name (source_name prefix (sources_before whole (length done))))) (plain_name (codes "_"))) (as_counted p)
-      ∙ ap (λ q. cond (is_source some_chosen p) q (plain_name (codes "_")))
-      (no_pattern (written_pattern p) (plain_name (source_name prefix (sources_before whole (length done)))) none ∙ ap (λ n. plain_name (source_name prefix n)) (places_before done rest e))
+      ∙ ap (λ n. cond (is_source some_named some_chosen p) (source_pattern prefix n p) (plain_name (codes "_"))) (places_before done rest e)
 
-  patterns_by_place : (done : List Part) (rest : Parts) → done ++ part_list rest ≡ whole → list_any has_pattern (part_list rest) ≡ false
-      → patterns_from prefix some_chosen (length (filter (is_source some_chosen) done)) rest ≡ map (λ e. pattern_at_place prefix whole e.0 e.1) (enumerate_from (length done) (part_list rest))
-  patterns_by_place done no_parts e none = refl
-  patterns_by_place done (part_and p ps) e none =
-      let test : Part → Bool = is_source some_chosen in
+  patterns_by_place : (done : List Part) (rest : Parts) → done ++ part_list rest ≡ whole
+      → patterns_from prefix some_named some_chosen (length (filter (is_source some_named some_chosen) done)) rest ≡ map (λ e. pattern_at_place prefix whole e.0 e.1) (enumerate_from (length done) (part_list rest))
+  patterns_by_place done no_parts e = refl
+  patterns_by_place done (part_and p ps) e =
+      let test : Part → Bool = is_source some_named some_chosen in
       let n : ℕ = length (filter test done) in
-      let deeper = patterns_by_place (done ++ p ∷ []) ps (append_assoc done (p ∷ []) (part_list ps) ∙ e) (or_false_right (has_pattern p) (list_any has_pattern (part_list ps)) none) in
+      let deeper = patterns_by_place (done ++ p ∷ []) ps (append_assoc done (p ∷ []) (part_list ps) ∙ e) in
       let counted = count_more test done p in
-      split_cons (test p) (plain_name (source_name prefix n)) (plain_name (codes "_")) (λ j. patterns_from prefix some_chosen j ps) (n + 1) n
-      ∙ ap (λ q. q ∷ patterns_from prefix some_chosen (cond (test p) (n + 1) n) ps) (sym (pattern_here done (p ∷ part_list ps) p e (or_false_left (has_pattern p) (list_any has_pattern (part_list ps)) none)))
+      split_cons (test p) (source_pattern prefix n p) (plain_name (codes "_")) (λ j. patterns_from prefix some_named some_chosen j ps) (n + 1) n
+      ∙ ap (λ q. q ∷ patterns_from prefix some_named some_chosen (cond (test p) (n + 1) n) ps) (sym (pattern_here done (p ∷ part_list ps) p e))
       ∙ ap (λ (qs : List ArgumentPattern). pattern_at_place prefix whole (length done) p ∷ qs)
-      (ap (λ j. patterns_from prefix some_chosen j ps) (sym counted) ∙ deeper
+      (ap (λ j. patterns_from prefix some_named some_chosen j ps) (sym counted) ∙ deeper
       ∙ ap (λ k. map (λ e. pattern_at_place prefix whole e.0 e.1) (enumerate_from k (part_list ps))) (length-append done (p ∷ [])))
 
-  name_here : (t : Bool) (done rest : List Part) (p : Part) → is_source some_chosen p ≡ t → done ++ rest ≡ whole → has_pattern p ≡ false → (ns : List (List ℕ)) (es : List (ℕ × Part))
-      → cond t (source_name prefix (length (filter (is_source some_chosen) done)) ∷ ns) ns ≡ cond t (name_given (pattern_at_place prefix whole (length done) p) ∷ ns) ns
-  name_here false done rest p is e none ns es = refl
-  name_here true done rest p is e none ns es =
-      ap (λ (q : List ℕ). q ∷ ns) (sym (ap name_given (pattern_here done rest p e none ∙ ap (λ b. cond b (plain_name (source_name prefix (length (filter (is_source some_chosen) done)))) (plain_name (codes "_"))) is)))
+  name_here : (t : Bool) (done rest : List Part) (p : Part) → is_source some_named some_chosen p ≡ t → done ++ rest ≡ whole → (ns : List (List ℕ))
+      → cond t (name_given (source_pattern prefix (length (filter (is_source some_named some_chosen) done)) p) ∷ ns) ns ≡ cond t (name_given (pattern_at_place prefix whole (length done) p) ∷ ns) ns
+  name_here false done rest p is e ns = refl
+  name_here true done rest p is e ns =
+      ap (λ (q : List ℕ). q ∷ ns)
+      (sym (ap name_given (pattern_here done rest p e ∙ ap (λ b. cond b (source_pattern prefix (length (filter (is_source some_named some_chosen) done)) p) (plain_name (codes "_"))) is)))
 
   map_kept : (t : Bool) (f : ℕ × Part → List ℕ) (x : ℕ × Part) (xs : List (ℕ × Part)) → cond t (f x ∷ map f xs) (map f xs) ≡ map f (cond t (x ∷ xs) xs)
   map_kept true f x xs = refl
   map_kept false f x xs = refl
 
-  names_by_place : (done : List Part) (rest : Parts) → done ++ part_list rest ≡ whole → list_any has_pattern (part_list rest) ≡ false
-      → names_from prefix some_chosen (length (filter (is_source some_chosen) done)) rest ≡ map (λ e. name_given (pattern_at_place prefix whole e.0 e.1)) (filter (λ e. is_source_of whole e.1) (enumerate_from (length done) (part_list rest)))
-  names_by_place done no_parts e none = refl
-  names_by_place done (part_and p ps) e none =
-      let test : Part → Bool = is_source some_chosen in
+  names_by_place : (done : List Part) (rest : Parts) → done ++ part_list rest ≡ whole
+      → names_from prefix some_named some_chosen (length (filter (is_source some_named some_chosen) done)) rest ≡ map (λ e. name_given (pattern_at_place prefix whole e.0 e.1)) (filter (λ e. is_source_of whole e.1) (enumerate_from (length done) (part_list rest)))
+  names_by_place done no_parts e = refl
+  names_by_place done (part_and p ps) e =
+      let test : Part → Bool = is_source some_named some_chosen in
       let n : ℕ = length (filter test done) in
       let place : ℕ → List (ℕ × Part) = λ k. filter (λ (x : ℕ × Part). is_source_of whole x.1) (enumerate_from k (part_list ps)) in
       let name : ℕ × Part → List ℕ = λ (x : ℕ × Part). name_given (pattern_at_place prefix whole x.0 x.1) in
-      let deeper = names_by_place (done ++ p ∷ []) ps (append_assoc done (p ∷ []) (part_list ps) ∙ e) (or_false_right (has_pattern p) (list_any has_pattern (part_list ps)) none) in
-      let same : names_from prefix some_chosen (cond (test p) (n + 1) n) ps ≡ map name (place (length done + 1)) =
-      ap (λ j. names_from prefix some_chosen j ps) (sym (count_more test done p)) ∙ deeper ∙ ap (λ k. map name (place k)) (length-append done (p ∷ [])) in
-      split_keep (test p) (source_name prefix n) (λ j. names_from prefix some_chosen j ps) (n + 1) n
-      ∙ name_here (test p) done (p ∷ part_list ps) p refl e (or_false_left (has_pattern p) (list_any has_pattern (part_list ps)) none) (names_from prefix some_chosen (cond (test p) (n + 1) n) ps) []
+      let deeper = names_by_place (done ++ p ∷ []) ps (append_assoc done (p ∷ []) (part_list ps) ∙ e) in
+      let same : names_from prefix some_named some_chosen (cond (test p) (n + 1) n) ps ≡ map name (place (length done + 1)) =
+      ap (λ j. names_from prefix some_named some_chosen j ps) (sym (count_more test done p)) ∙ deeper ∙ ap (λ k. map name (place k)) (length-append done (p ∷ [])) in
+      split_keep (test p) (name_given (source_pattern prefix n p)) (λ j. names_from prefix some_named some_chosen j ps) (n + 1) n
+      ∙ name_here (test p) done (p ∷ part_list ps) p refl e (names_from prefix some_named some_chosen (cond (test p) (n + 1) n) ps)
       ∙ ap (λ (ns : List (List ℕ)). cond (test p) (name (length done, p) ∷ ns) ns) same
       ∙ map_kept (test p) name (length done, p) (place (length done + 1))
       ∙ ap (λ b. map name (cond b ((length done, p) ∷ place (length done + 1)) (place (length done + 1)))) (sym (as_counted p))
 
--- the counted patterns and names are those by places, where no symbol is named
-pub patterns_counted : (prefix : List ℕ) (ps : Parts) → list_any has_pattern (part_list ps) ≡ false → argument_patterns prefix ps ≡ patterns prefix (part_list ps)
-patterns_counted prefix ps none = patterns_by_place prefix (has_chosen ps) (part_list ps) (source_as_counted ps none) [] ps refl none
+-- the counted patterns and names are those by places
+pub patterns_counted : (prefix : List ℕ) (ps : Parts) → argument_patterns prefix ps ≡ patterns prefix (part_list ps)
+patterns_counted prefix ps = patterns_by_place prefix (some_name_value ps) (has_chosen ps) (part_list ps) (source_as_counted ps) [] ps refl
 
-pub names_counted : (prefix : List ℕ) (ps : Parts) → list_any has_pattern (part_list ps) ≡ false → source_names prefix ps ≡ names prefix (part_list ps)
-names_counted prefix ps none = names_by_place prefix (has_chosen ps) (part_list ps) (source_as_counted ps none) [] ps refl none
+pub names_counted : (prefix : List ℕ) (ps : Parts) → source_names prefix ps ≡ names prefix (part_list ps)
+names_counted prefix ps = names_by_place prefix (some_name_value ps) (has_chosen ps) (part_list ps) (source_as_counted ps) [] ps refl

@@ -15,7 +15,7 @@ use Rattle.lalrpop_norm_repr.specs.Productions.{ProductionData, EntryData}
 use Rattle.lalrpop_norm_late.specs.Lowering.{start_name, start_alternative, production_of, productions_from, start_rows, rule_rows, number_faults, numbers_faults, starts_faults, rules_faults}
 use Rattle.lalrpop_norm_late.specs.Shape.{Clause, start_clause, rule_clauses, number_faults_of, productions_named, start_entry_of, rule_entry_of}
 
-enumerate_append : {A : Type 0} (k : ℕ) (xs ys : List A) → enumerate_from k (xs ++ ys) ≡ enumerate_from k xs ++ enumerate_from (k + length xs) ys
+pub enumerate_append : {A : Type 0} (k : ℕ) (xs ys : List A) → enumerate_from k (xs ++ ys) ≡ enumerate_from k xs ++ enumerate_from (k + length xs) ys
 enumerate_append k [] ys = ap (λ n. enumerate_from n ys) (omega arith)
 enumerate_append k (x ∷ xs) ys =
     let n : k + 1 + length xs ≡ k + length (x ∷ xs) = omega arith in

@@ -39,15 +39,15 @@ use Rattle.lalrpop_norm_late.proofs.ShapeLemmas.{declared_some, alternatives_ok,
 
 -- ---- lists
 
-join_all : {X : Type 0} (P : X → Type 0) (xs ys : List X) → AllByRecursion P xs → AllByRecursion P ys → AllByRecursion P (xs ++ ys)
+pub join_all : {X : Type 0} (P : X → Type 0) (xs ys : List X) → AllByRecursion P xs → AllByRecursion P ys → AllByRecursion P (xs ++ ys)
 join_all P [] ys h i = i
 join_all P (x ∷ xs) ys h i = (h.0, join_all P xs ys h.1 i)
 
-map_all : {X Y : Type 0} (P : Y → Type 0) (f : X → Y) (xs : List X) → AllByRecursion (λ x. P (f x)) xs → AllByRecursion P (map f xs)
+pub map_all : {X Y : Type 0} (P : Y → Type 0) (f : X → Y) (xs : List X) → AllByRecursion (λ x. P (f x)) xs → AllByRecursion P (map f xs)
 map_all P f [] h = tt
 map_all P f (x ∷ xs) h = (h.0, map_all P f xs h.1)
 
-flat_all : {X Y : Type 0} (P : Y → Type 0) (f : X → List Y) (xs : List X) → AllByRecursion (λ x. AllByRecursion P (f x)) xs → AllByRecursion P (flat_map f xs)
+pub flat_all : {X Y : Type 0} (P : Y → Type 0) (f : X → List Y) (xs : List X) → AllByRecursion (λ x. AllByRecursion P (f x)) xs → AllByRecursion P (flat_map f xs)
 flat_all P f [] h = tt
 flat_all P f (x ∷ xs) h = join_all P (f x) (flat_map f xs) h.0 (flat_all P f xs h.1)
 
@@ -76,7 +76,7 @@ kind_arguments prefix types type a kind (Some lookbehind_code) h = subst (HasArg
 
 -- ---- productions of a name
 
-abbrev IsDefinedClause : LoweredGrammar → Clause → Type 0
+abbrev pub IsDefinedClause : LoweredGrammar → Clause → Type 0
 IsDefinedClause l c = AllByRecursion (IsDefined l) (lowered_symbols c.1.parts)
 
 module _ (prefix : List ℕ) (l : LoweredGrammar) (n : NonterminalString) where
@@ -90,7 +90,7 @@ module _ (prefix : List ℕ) (l : LoweredGrammar) (n : NonterminalString) where
     arguments = kind_arguments prefix l.types d.ret_type c.1 d.kind c.1.action h.kind;
   }
 
-  closed_from : (k : ℕ) (cs : List Clause) (ds : List ActionData) → ((i : ℕ) (d : ActionData) → slice_get ds i ≡ Some d → slice_get l.actions (k + i) ≡ Some d) → AllZip (IsActionOf prefix l.types) cs ds → AllByRecursion (IsDefinedClause l) cs
+  pub closed_from : (k : ℕ) (cs : List Clause) (ds : List ActionData) → ((i : ℕ) (d : ActionData) → slice_get ds i ≡ Some d → slice_get l.actions (k + i) ≡ Some d) → AllZip (IsActionOf prefix l.types) cs ds → AllByRecursion (IsDefinedClause l) cs
       → AllByRecursion (IsClosedProduction l n) (named_from n k cs)
   closed_from k [] ds stand h defined = tt
   closed_from k (c ∷ cs) [] stand h defined = absurd h
@@ -110,10 +110,10 @@ module _ (prefix : List ℕ) (l : LoweredGrammar) (n : NonterminalString) where
 
 -- ---- looking up
 
-abbrev HoldsNamed : List Clause → NonterminalString × EntryData → Type 0
+abbrev pub HoldsNamed : List Clause → NonterminalString × EntryData → Type 0
 HoldsNamed clauses r = r.1.productions ≡ productions_named r.0 clauses
 
-all_hold : (prefix : List ℕ) (rules : List RuleData) → AllByRecursion (HoldsNamed (clauses_of prefix rules)) (entries_of prefix rules)
+pub all_hold : (prefix : List ℕ) (rules : List RuleData) → AllByRecursion (HoldsNamed (clauses_of prefix rules)) (entries_of prefix rules)
 all_hold prefix rules =
     let clauses : List Clause = clauses_of prefix rules in
     join_all (HoldsNamed clauses) (map (start_entry_of prefix clauses) (public_rules rules)) (map (rule_entry_of clauses) rules) (starts (public_rules rules)) (each rules)
@@ -126,11 +126,11 @@ all_hold prefix rules =
     each [] = tt
     each (r ∷ rs) = (refl, each rs)
 
-some_inner : {A : Type 0} (x y : A) → Some x ≡ Some y → x ≡ y
+pub some_inner : {A : Type 0} (x y : A) → Some x ≡ Some y → x ≡ y
 some_inner x y h = cc
 
 -- what is found has the productions of that name
-found_holds : (clauses : List Clause) (n : NonterminalString) (e : EntryData) (rows : List (NonterminalString × EntryData)) → AllByRecursion (HoldsNamed clauses) rows → found n rows ≡ Some e → e.productions ≡ productions_named n clauses
+pub found_holds : (clauses : List Clause) (n : NonterminalString) (e : EntryData) (rows : List (NonterminalString × EntryData)) → AllByRecursion (HoldsNamed clauses) rows → found n rows ≡ Some e → e.productions ≡ productions_named n clauses
 found_holds clauses n e [] h is = cc
 found_holds clauses n e (r ∷ rows) h is = by (bytes_eq n.0 r.0.0) refl is (found_holds clauses n e rows h.1)
   where
@@ -142,13 +142,13 @@ tests_agree : {V : Type 0} (p q : NonterminalString → Bool) → ((x : Nontermi
 tests_agree p q same [] = refl
 tests_agree p q same (r ∷ rows) = ap (λ b. cond b (Some r.1) (lookup p rows)) (same r.0) ∙ ap (λ o. cond (q r.0) (Some r.1) o) (tests_agree p q same rows)
 
-found_at_place : {V : Type 0} (rows : List (NonterminalString × V)) → IsStrictlySortedBy name_cmp (keys_of rows) → (i : ℕ) (r : NonterminalString × V) → slice_get rows i ≡ Some r → found r.0 rows ≡ Some r.1
+pub found_at_place : {V : Type 0} (rows : List (NonterminalString × V)) → IsStrictlySortedBy name_cmp (keys_of rows) → (i : ℕ) (r : NonterminalString × V) → slice_get rows i ≡ Some r → found r.0 rows ≡ Some r.1
 found_at_place rows sorted i r at =
     found_is r.0 rows
     ∙ tests_agree (same_name r.0) (eq_by_cmp name_cmp r.0) (λ x. sym (is_eq-slice_cmp r.0.0 x.0)) rows
     ∙ lookup_from_place (eq_by_cmp_equiv names_total) rows i r.0 r.1 (IsDistinct-from_sorted name_cmp (keys_of rows) sorted) at
 
-entry_some : (clauses : List Clause) (n : NonterminalString) (rs : List RuleData) → IsNamedIn rs n → IsSome (found n (map (rule_entry_of clauses) rs))
+pub entry_some : (clauses : List Clause) (n : NonterminalString) (rs : List RuleData) → IsNamedIn rs n → IsSome (found n (map (rule_entry_of clauses) rs))
 entry_some clauses n [] h = cc
 entry_some clauses n (r ∷ rs) h = by (bytes_eq n.0 r.name.0) h (entry_some clauses n rs)
   where
@@ -156,7 +156,7 @@ entry_some clauses n (r ∷ rs) h = by (bytes_eq n.0 r.name.0) h (entry_some cla
     by true i deeper = refl
     by false i deeper = deeper i
 
-behind_some : {V : Type 0} (n : NonterminalString) (xs ys : List (NonterminalString × V)) → IsSome (found n ys) → IsSome (found n (xs ++ ys))
+pub behind_some : {V : Type 0} (n : NonterminalString) (xs ys : List (NonterminalString × V)) → IsSome (found n ys) → IsSome (found n (xs ++ ys))
 behind_some n [] ys h = h
 behind_some n (x ∷ xs) ys h = by (bytes_eq n.0 x.0.0) (behind_some n xs ys h)
   where
@@ -164,7 +164,7 @@ behind_some n (x ∷ xs) ys h = by (bytes_eq n.0 x.0.0) (behind_some n xs ys h)
     by true i = refl
     by false i = i
 
-else_some : {A : Type 0} (o p : Option A) → IsSome o → IsSome (or_else o p)
+pub else_some : {A : Type 0} (o p : Option A) → IsSome o → IsSome (or_else o p)
 else_some None p h = cc
 else_some (Some x) p h = refl
 

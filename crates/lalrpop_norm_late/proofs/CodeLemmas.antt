@@ -17,7 +17,7 @@ some_inner : {A : Type 0} (x y : A) → Some x ≡ Some y → x ≡ y
 some_inner x y h = cc
 
 -- a slot at the front
-slot_front : (s : List ℕ) → is_slot s ≡ true → s ≡ codes "<>" ++ drop 2 s
+pub slot_front : (s : List ℕ) → is_slot s ≡ true → s ≡ codes "<>" ++ drop 2 s
 slot_front [] h = cc
 slot_front (a ∷ []) h = cc
 slot_front (a ∷ b ∷ rest) h =
@@ -26,7 +26,7 @@ slot_front (a ∷ b ∷ rest) h =
     let second : b ≡ 62 = (Decides-eqb b 62).0 hs.1 in
     cc
 
-not_in_front : (b : ℕ) (q rest : List ℕ) → is_slot (b ∷ (q ++ rest)) ≡ false → is_slot (b ∷ q) ≡ false
+pub not_in_front : (b : ℕ) (q rest : List ℕ) → is_slot (b ∷ (q ++ rest)) ≡ false → is_slot (b ∷ q) ≡ false
 not_in_front b [] rest h = refl
 not_in_front b (c ∷ q) rest h = h
 

@@ -13,3 +13,13 @@ pub mod ShapeLemmas
 pub mod ClosedLemmas
 pub mod ArgumentExamples
 pub mod ShapeExamples
+pub mod SlotLemmas
+pub mod SourceLemmas
+pub mod FaultCounts
+pub mod BodyLemmas
+pub mod TypeLemmas
+pub mod TokenCounts
+pub mod SymbolCases
+pub mod MadeLemmas
+pub mod RowLemmas
+pub mod ActiveLemmas

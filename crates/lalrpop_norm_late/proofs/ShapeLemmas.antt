@@ -36,7 +36,7 @@ use Rattle.lalrpop_norm_late.proofs.TypingLemmas.{AreTyped, declared_types, star
 
 -- ---- types
 
-some_back : (o : Option ReprData) → IsSome o → o ≡ Some (unwrap_or o unit_type)
+pub some_back : (o : Option ReprData) → IsSome o → o ≡ Some (unwrap_or o unit_type)
 some_back None h = cc
 some_back (Some t) h = refl
 

@@ -1,5 +1,7 @@
 pub mod Sources
 pub mod Arguments
+pub mod Naming
+pub mod Slots
 pub mod Code
 pub mod Lowering
 pub mod Typing
@@ -9,3 +11,5 @@ pub mod Carried
 pub mod Shape
 pub mod Lowerable
 pub mod Plain
+pub mod Made
+pub mod Active

@@ -21,7 +21,7 @@ use Rattle.lalrpop_norm_repr.specs.Actions.{ActionData, ActionKindData, user, lo
 use Rattle.lalrpop_norm_repr.specs.Productions.{ProductionData, EntryData}
 use Rattle.lalrpop_norm_repr.specs.Tables.{TypeTable, type_of, type_of_terminal, unit_type}
 use Rattle.lalrpop_norm_late.specs.Code.{code_of}
-use Rattle.lalrpop_norm_late.specs.Sources.{argument_patterns, source_names}
+use Rattle.lalrpop_norm_late.specs.Naming.{argument_patterns, source_names}
 
 -- ---- rules
 

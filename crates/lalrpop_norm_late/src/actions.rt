@@ -68,7 +68,7 @@ pub(crate) fn action_of(
     })
 }
 
-fn is_fallible(action: &Option<ActionKind>) -> bool
+pub(crate) fn is_fallible(action: &Option<ActionKind>) -> bool
     ensures { result ≡ is_fallible (option_map action_view action.now) }
 {
     match action {
@@ -128,7 +128,11 @@ fn user_kind(
     }))
 }
 
-fn symbol_types(alloc: Global, types: &Types, symbols: &[Symbol]) -> Result<Vec<TypeRepr>, NoMemory>
+pub(crate) fn symbol_types(
+    alloc: Global,
+    types: &Types,
+    symbols: &[Symbol],
+) -> Result<Vec<TypeRepr>, NoMemory>
     ensures { IfOk result (λ ts. map repr_view ts.items ≡ map (type_or_unit (type_table types.now)) symbols.now) }
 {
     let mut found = Vec::new(alloc);

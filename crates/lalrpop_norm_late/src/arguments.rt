@@ -1,7 +1,10 @@
 //! The arguments of an action: which symbols its code gets, and their names.
 ghost use Rattle.std.specs.Prelude.{◌≡◌, ◌++◌, IfOk, map, string_bytes};
 ghost use Rattle.lalrpop_norm_tree.specs.Symbols.{symbol_view, parts_view, argument_pattern_view};
-ghost use Rattle.lalrpop_norm_late.specs.Sources.{is_chosen, has_chosen, is_source, source_name, plain_name, argument_patterns, source_names};
+ghost use Rattle.lalrpop_norm_model.specs.MadeRules.{names_value, some_name_value};
+ghost use Rattle.lalrpop_norm_late.specs.Arguments.{has_pattern, name_given};
+ghost use Rattle.lalrpop_norm_late.specs.Sources.{is_chosen, source_name, plain_name};
+ghost use Rattle.lalrpop_norm_late.specs.Naming.{has_chosen, is_source, source_pattern, argument_patterns, source_names};
 
 use lalrpop_norm_tree::grammar::parse_tree::{
     ArgPattern, Atom, Name, NoMemory, Symbol, SymbolKind,
@@ -17,7 +20,8 @@ pub(crate) struct Arguments {
     pub(crate) names: Vec<Atom>,
 }
 
-/// The arguments of an alternative: source j is named by its number behind the prefix, all else is `_`.
+/// The arguments of an alternative. A named or tuple symbol has its own pattern, any other source j the name of its number
+/// behind the prefix, and what is no source `_`.
 pub(crate) fn arguments_of(
     alloc: Global,
     prefix: &str,
@@ -27,13 +31,15 @@ pub(crate) fn arguments_of(
         map argument_pattern_view a.patterns.items ≡ argument_patterns prefix.now (parts_view symbols.now)) }
     ensures names { IfOk result (λ a. a.names.items ≡ source_names prefix.now (parts_view symbols.now)) }
 {
+    let some_named = has_names(symbols);
     let some_chosen = has_chosen(symbols);
     let mut patterns = Vec::new(alloc);
     let mut names = Vec::new(alloc);
     for symbol in symbols {
-        if is_source(some_chosen, symbol) {
-            let name = source_name(alloc, prefix, names.len())?;
-            patterns.push(plain_name(name.clone()?))?;
+        if is_source(some_named, some_chosen, symbol) {
+            let pattern = source_pattern(alloc, prefix, names.len(), symbol)?;
+            let name = name_given(alloc, &pattern)?;
+            patterns.push(pattern)?;
             names.push(name)?;
         } else {
             let name = Atom::new(alloc, "_")?;
@@ -41,6 +47,39 @@ pub(crate) fn arguments_of(
         }
     }
     Ok(Arguments { patterns, names })
+}
+
+/// The pattern of the source of that number: its own, or its number behind the prefix.
+fn source_pattern(
+    alloc: Global,
+    prefix: &str,
+    number: usize,
+    symbol: &Symbol,
+) -> Result<ArgPattern, NoMemory>
+    ensures { IfOk result (λ p. argument_pattern_view p ≡ source_pattern prefix.now number (symbol_view symbol.now)) }
+{
+    match &symbol.kind {
+        SymbolKind::Name(name, _) => Ok(ArgPattern::Name(name.clone()?)),
+        SymbolKind::Tuple(names, _) => Ok(ArgPattern::Tuple(names.clone()?)),
+        SymbolKind::Expr(_)
+        | SymbolKind::AmbiguousId(_)
+        | SymbolKind::Terminal(_)
+        | SymbolKind::Nonterminal(_)
+        | SymbolKind::Macro(_)
+        | SymbolKind::Repeat(_)
+        | SymbolKind::Choose(_)
+        | SymbolKind::Lookahead
+        | SymbolKind::Lookbehind
+        | SymbolKind::Error => Ok(plain_name(source_name(alloc, prefix, number)?)),
+    }
+}
+
+/// The name that a pattern gives: without `mut`, and the text of a tuple.
+fn name_given(alloc: Global, pattern: &ArgPattern) -> Result<Atom, NoMemory>
+    ensures { IfOk result (λ n. n ≡ name_given (argument_pattern_view pattern.now)) }
+{
+    let text = pattern.name(alloc)?;
+    Atom::new(alloc, text.as_str())
 }
 
 fn plain_name(name: Atom) -> ArgPattern
@@ -59,10 +98,47 @@ fn source_name(alloc: Global, prefix: &str, number: usize) -> Result<Atom, NoMem
     Atom::new(alloc, text.as_str())
 }
 
-fn is_source(some_chosen: bool, symbol: &Symbol) -> bool
-    ensures { result ≡ is_source some_chosen (symbol_view symbol.now) }
+fn is_source(some_named: bool, some_chosen: bool, symbol: &Symbol) -> bool
+    ensures { result ≡ is_source some_named some_chosen (symbol_view symbol.now) }
 {
-    if some_chosen { is_chosen(symbol) } else { true }
+    if some_named {
+        has_pattern(symbol)
+    } else if some_chosen {
+        is_chosen(symbol)
+    } else {
+        true
+    }
+}
+
+/// Whether a named or tuple symbol stands among the symbols.
+pub(crate) fn has_names(symbols: &[Symbol]) -> bool
+    ensures { result ≡ some_name_value (parts_view symbols.now) }
+{
+    for symbol in symbols {
+        if has_pattern(symbol) {
+            return true;
+        }
+    }
+    false
+}
+
+fn has_pattern(symbol: &Symbol) -> bool
+    ensures shown { result ≡ has_pattern (symbol_view symbol.now) }
+    ensures named { result ≡ names_value (symbol_view symbol.now) }
+{
+    match &symbol.kind {
+        SymbolKind::Name(_, _) | SymbolKind::Tuple(_, _) => true,
+        SymbolKind::Expr(_)
+        | SymbolKind::AmbiguousId(_)
+        | SymbolKind::Terminal(_)
+        | SymbolKind::Nonterminal(_)
+        | SymbolKind::Macro(_)
+        | SymbolKind::Repeat(_)
+        | SymbolKind::Choose(_)
+        | SymbolKind::Lookahead
+        | SymbolKind::Lookbehind
+        | SymbolKind::Error => false,
+    }
 }
 
 fn has_chosen(symbols: &[Symbol]) -> bool

@@ -24,7 +24,11 @@ pub(crate) fn code_of(
     code_with(alloc, names, written_code(ty, names, action))
 }
 
-fn written_code<'a>(ty: &TypeRepr, names: &[Atom], action: &'a Option<ActionKind>) -> &'a str
+pub(crate) fn written_code<'a>(
+    ty: &TypeRepr,
+    names: &[Atom],
+    action: &'a Option<ActionKind>,
+) -> &'a str
     ensures { result.now ≡ written_code (repr_view ty.now) names.now (option_map action_view action.now) }
 {
     match action {
@@ -61,7 +65,7 @@ fn code_with(alloc: Global, names: &[Atom], code: &str) -> Result<String, NoMemo
 }
 
 /// What stands before the first `<>` and after it.
-fn split_at_slot(code: &str) -> Option<(&str, &str)>
+pub(crate) fn split_at_slot(code: &str) -> Option<(&str, &str)>
     ensures { option_map (λ p. (p.0.now, p.1.now)) result ≡ around_slot code.now }
 {
     match code.split_once("<>") {

@@ -2,15 +2,25 @@
 #![tactic(auto)]
 
 mod actions;
+mod alternatives;
 mod arguments;
+mod bodies;
+mod clauses;
 mod code;
-mod lower;
+mod head;
+mod nonterminals;
 mod patterns;
+mod placeholders;
+mod plain;
 mod productions;
+mod recovery;
 mod rules;
 mod starts;
 mod symbols;
 mod terminals;
+mod tokens;
 mod typing;
+mod whole;
 
-pub use lower::lower_plain;
+pub use plain::lower_plain;
+pub use whole::lower;

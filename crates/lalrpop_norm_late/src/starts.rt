@@ -47,7 +47,10 @@ pub(crate) fn start_name(
 }
 
 /// The one alternative of a start symbol: the rule's name.
-fn start_alternative(alloc: Global, rule: &pt::NonterminalData) -> Result<Alternative, NoMemory>
+pub(crate) fn start_alternative(
+    alloc: Global,
+    rule: &pt::NonterminalData,
+) -> Result<Alternative, NoMemory>
     ensures { IfOk result (λ a. alternative_view a ≡ start_alternative (rule_view rule.now)) }
 {
     let expr = named(alloc, rule.span, &rule.name)?;
@@ -143,7 +146,10 @@ fn lower_rule(
 }
 
 /// A copy of each attribute.
-fn copy_attributes(alloc: Global, attributes: &[Attribute]) -> Result<Vec<Attribute>, NoMemory>
+pub(crate) fn copy_attributes(
+    alloc: Global,
+    attributes: &[Attribute],
+) -> Result<Vec<Attribute>, NoMemory>
     ensures { IfOk result (λ copies. map attribute_view copies.items ≡ map attribute_view attributes.now) }
 {
     let mut copies = Vec::new(alloc);
@@ -155,7 +161,7 @@ fn copy_attributes(alloc: Global, attributes: &[Attribute]) -> Result<Vec<Attrib
 
 /// Puts a nonterminal into the table.
 #[tactic(auto, using(lalrpop_norm_repr::proofs::RowOrder::rows_inserted))]
-fn insert(
+pub(crate) fn insert(
     nonterminals: &mut BTreeMap<NonterminalString, NonterminalData>,
     name: NonterminalString,
     entry: NonterminalData,

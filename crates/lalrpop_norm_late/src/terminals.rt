@@ -37,7 +37,7 @@ fn terminals_of(alloc: Global, conversions: &[Conversion]) -> Result<Vec<Termina
     Ok(terminals)
 }
 
-fn numbers_of(
+pub(crate) fn numbers_of(
     alloc: Global,
     terminals: &[TerminalString],
 ) -> Result<BTreeMap<TerminalString, usize>, NoMemory>
@@ -80,7 +80,7 @@ pub(crate) fn lowered_conversions(
 }
 
 #[tactic(auto, using(lalrpop_norm_repr::proofs::RowOrder::rows_inserted))]
-fn insert(
+pub(crate) fn insert(
     patterns: &mut BTreeMap<TerminalString, Pattern<TypeRepr>>,
     terminal: TerminalString,
     pattern: Pattern<TypeRepr>,

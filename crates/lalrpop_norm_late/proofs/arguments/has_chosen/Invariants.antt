@@ -1,6 +1,6 @@
 use Rattle.std.proofs.Common.{◌≡◌, drop}
 use Rattle.lalrpop_norm_tree.specs.Symbols.{parts_view}
-use Rattle.lalrpop_norm_late.specs.Sources.{has_chosen}
+use Rattle.lalrpop_norm_late.specs.Naming.{has_chosen}
 use Rattle.lalrpop_norm_late.proofs.arguments.has_chosen.Given as goal
 
 abbrev pub invariant-loop-symbol : goal.invariant-loop-symbol

@@ -8,7 +8,7 @@ use Rattle.lalrpop_norm_late.specs.Counted.{IsCounted}
 use Rattle.lalrpop_norm_late.specs.Plain.{IsLowered}
 use Rattle.lalrpop_norm_late.proofs.ShapeLemmas.{counted_is_lowered, faults_as_counted}
 use Rattle.lalrpop_norm_late.proofs.ClosedLemmas.{is_closed}
-use Rattle.lalrpop_norm_late.proofs.lower.lower_plain.Goals as goal
+use Rattle.lalrpop_norm_late.proofs.plain.lower_plain.Goals as goal
 
 pub returns-clause-refuses : goal.returns-clause-refuses
 returns-clause-refuses c = subst (λ fs. Refuses c.lower_over.result fs) (faults_as_counted (written.grammar_view c.args.grammar.now)) c.lower_over.ensures.refuses

@@ -6,7 +6,7 @@ use Rattle.lalrpop_norm_repr.specs.Tables.{type_table}
 use Rattle.lalrpop_norm_late.specs.Counted.{IsCounted, token_type}
 use Rattle.lalrpop_norm_late.specs.Conversions.{enum_of, conversions_in}
 use Rattle.lalrpop_norm_late.proofs.Assembly.{whole}
-use Rattle.lalrpop_norm_late.proofs.lower.lower_over.Goals as goal
+use Rattle.lalrpop_norm_late.proofs.plain.lower_over.Goals as goal
 
 pub returns-clause-lowered : goal.returns-clause-lowered
 returns-clause-lowered c =

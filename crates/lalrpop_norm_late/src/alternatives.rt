@@ -1,0 +1,75 @@
+//! The productions of alternatives, and their actions.
+ghost use Rattle.std.specs.Prelude.{◌≡◌, ◌+◌, ◌++◌, [], ◌∷◌, length, IfOk, OnOk, map, vec_len};
+ghost use Rattle.lalrpop_norm_faults.specs.Faults.{Refuses};
+ghost use Rattle.lalrpop_norm_tree.specs.Items.{alternative_view};
+ghost use Rattle.lalrpop_norm_tree.specs.Reprs.{repr_view};
+ghost use Rattle.lalrpop_norm_model.specs.LoweringFaults.{code_faults, number_faults};
+ghost use Rattle.lalrpop_norm_repr.specs.Actions.{action_defn_view};
+ghost use Rattle.lalrpop_norm_repr.specs.Productions.{production_view};
+ghost use Rattle.lalrpop_norm_repr.specs.Tables.{type_table};
+ghost use Rattle.lalrpop_norm_late.specs.Lowering.{production_of, productions_from};
+ghost use Rattle.lalrpop_norm_late.specs.Made.{alternatives_faults, made_action};
+
+use crate::actions::add_action;
+use crate::bodies::made_action;
+use crate::placeholders::check_code;
+use crate::symbols::lowered_symbols;
+use lalrpop_norm_front::NormResult;
+use lalrpop_norm_repr::grammar::repr::{ActionFnDefn, Production, TypeRepr, Types};
+use lalrpop_norm_tree::grammar::parse_tree::{Alternative, NonterminalString};
+use std::alloc::Global;
+
+/// The production of an alternative of a rule of that type. Its action is added.
+pub(crate) fn lower_alternative(
+    alloc: Global,
+    prefix: &str,
+    types: &Types,
+    name: &NonterminalString,
+    ty: &TypeRepr,
+    alternative: &Alternative,
+    actions: &mut Vec<ActionFnDefn>,
+) -> NormResult<Production>
+    ensures refuses { Refuses result (code_faults (alternative_view alternative.now) ++ number_faults (vec_len actions.old) alternative.now.span) }
+    ensures lowered { IfOk result (λ p.
+        production_view p ≡ production_of name.now (vec_len actions.old) (alternative_view alternative.now)) }
+    ensures adds { OnOk result (map action_defn_view actions.new.items
+        ≡ map action_defn_view actions.old.items ++ made_action prefix.now (type_table types.now) (repr_view ty.now) (alternative_view alternative.now) ∷ []) }
+    ensures count { OnOk result (vec_len actions.new ≡ vec_len actions.old + 1) }
+{
+    check_code(alloc, alternative)?;
+    let symbols = lowered_symbols(alloc, &alternative.expr.symbols)?;
+    let defn = made_action(alloc, prefix, types, ty, alternative, &symbols)?;
+    let nonterminal = name.clone()?;
+    let action = add_action(alloc, actions, alternative.span, defn)?;
+    Ok(Production {
+        nonterminal,
+        symbols,
+        action,
+        span: alternative.span,
+    })
+}
+
+/// The productions of a rule's alternatives, in order.
+pub(crate) fn lower_alternatives(
+    alloc: Global,
+    prefix: &str,
+    types: &Types,
+    name: &NonterminalString,
+    ty: &TypeRepr,
+    alternatives: &[Alternative],
+    actions: &mut Vec<ActionFnDefn>,
+) -> NormResult<Vec<Production>>
+    ensures refuses { Refuses result (alternatives_faults (vec_len actions.old) (map alternative_view alternatives.now)) }
+    ensures lowered { IfOk result (λ ps. map production_view ps.items
+        ≡ productions_from name.now (vec_len actions.old) (map alternative_view alternatives.now)) }
+    ensures adds { OnOk result (map action_defn_view actions.new.items
+        ≡ map action_defn_view actions.old.items ++ map (made_action prefix.now (type_table types.now) (repr_view ty.now)) (map alternative_view alternatives.now)) }
+    ensures count { OnOk result (vec_len actions.new ≡ vec_len actions.old + length alternatives.now) }
+{
+    let mut productions = Vec::new(alloc);
+    for alternative in alternatives {
+        let production = lower_alternative(alloc, prefix, types, name, ty, alternative, actions)?;
+        productions.push(production)?;
+    }
+    Ok(productions)
+}

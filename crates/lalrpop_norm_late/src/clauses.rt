@@ -1,0 +1,193 @@
+//! Where clauses, one for each bound.
+ghost use Rattle.std.specs.Prelude.{◌≡◌, ◌++◌, [], ◌∷◌, IfOk, OnOk, flat_map, map, option_map};
+ghost use Rattle.lalrpop_norm_tree.specs.Bounds.{bound_parameter_view, bound_view, lifetime_bound, where_clause_view};
+ghost use Rattle.lalrpop_norm_tree.specs.Reprs.{repr_view, lowered_where_clause_view, of_lifetime, has_bound};
+ghost use Rattle.lalrpop_norm_tree.specs.Types.{type_view};
+ghost use Rattle.lalrpop_norm_late.specs.Carried.{under};
+ghost use Rattle.lalrpop_norm_late.specs.Made.{made_bound, made_bound_parameter, made_clauses};
+ghost use Rattle.lalrpop_norm_late.specs.Typing.{lowered_type};
+
+use crate::head::copy_type_parameters;
+use crate::typing::lowered_type;
+use lalrpop_norm_repr::grammar::repr::{TypeRepr, WhereClause};
+use lalrpop_norm_tree::grammar::parse_tree as pt;
+use lalrpop_norm_tree::grammar::parse_tree::{
+    Lifetime, NoMemory, TypeBound, TypeBoundParameter, TypeParameter, TypeRef,
+};
+use std::alloc::Global;
+
+/// A clause for each bound of each where clause, its types lowered.
+pub(crate) fn lowered_clauses(
+    alloc: Global,
+    clauses: &[pt::WhereClause<TypeRef>],
+) -> Result<Vec<WhereClause>, NoMemory>
+    ensures { IfOk result (λ cs. map lowered_where_clause_view cs.items ≡ flat_map made_clauses (map (where_clause_view type_view) clauses.now)) }
+{
+    let mut lowered = Vec::new(alloc);
+    for clause in clauses {
+        add_clauses(alloc, clause, &mut lowered)?;
+    }
+    Ok(lowered)
+}
+
+fn add_clauses(
+    alloc: Global,
+    clause: &pt::WhereClause<TypeRef>,
+    lowered: &mut Vec<WhereClause>,
+) -> Result<(), NoMemory>
+    ensures { OnOk result (map lowered_where_clause_view lowered.new.items
+        ≡ map lowered_where_clause_view lowered.old.items ++ made_clauses (where_clause_view type_view clause.now)) }
+{
+    match clause {
+        pt::WhereClause::Lifetime { lifetime, bounds } => add_lifetimes(lifetime, bounds, lowered),
+        pt::WhereClause::OfType { forall, ty, bounds } => {
+            add_bounds(alloc, forall, ty, bounds, lowered)
+        }
+    }
+}
+
+fn add_lifetimes(
+    lifetime: &Lifetime,
+    bounds: &[Lifetime],
+    lowered: &mut Vec<WhereClause>,
+) -> Result<(), NoMemory>
+    ensures { OnOk result (map lowered_where_clause_view lowered.new.items
+        ≡ map lowered_where_clause_view lowered.old.items ++ map (λ m. has_bound (of_lifetime lifetime.now) (lifetime_bound m)) bounds.now) }
+{
+    for bound in bounds {
+        let subject = TypeRepr::Lifetime(lifetime.clone()?);
+        let bound = TypeBound::Lifetime(bound.clone()?);
+        lowered.push(WhereClause::Bound { subject, bound })?;
+    }
+    Ok(())
+}
+
+fn add_bounds(
+    alloc: Global,
+    forall: &Vec<TypeParameter>,
+    ty: &TypeRef,
+    bounds: &[TypeBound<TypeRef>],
+    lowered: &mut Vec<WhereClause>,
+) -> Result<(), NoMemory>
+    ensures { OnOk result (map lowered_where_clause_view lowered.new.items
+        ≡ map lowered_where_clause_view lowered.old.items
+        ++ map (λ b. under forall.now.items (has_bound (lowered_type (type_view ty.now)) (made_bound b))) (map (bound_view type_view) bounds.now)) }
+{
+    for bound in bounds {
+        lowered.push(clause_under(alloc, forall, ty, bound)?)?;
+    }
+    Ok(())
+}
+
+/// The clause of one bound, under its `for<..>` if there is one.
+fn clause_under(
+    alloc: Global,
+    forall: &Vec<TypeParameter>,
+    ty: &TypeRef,
+    bound: &TypeBound<TypeRef>,
+) -> Result<WhereClause, NoMemory>
+    ensures { IfOk result (λ c. lowered_where_clause_view c
+        ≡ under forall.now.items (has_bound (lowered_type (type_view ty.now)) (made_bound (bound_view type_view bound.now)))) }
+{
+    let subject = lowered_type(alloc, ty)?;
+    let bound = lowered_bound(alloc, bound)?;
+    let clause = WhereClause::Bound { subject, bound };
+    if forall.is_empty() {
+        return Ok(clause);
+    }
+    let binder = copy_type_parameters(forall)?;
+    let clause = Box::new(alloc, clause)?;
+    Ok(WhereClause::Forall { binder, clause })
+}
+
+fn lowered_bound(alloc: Global, bound: &TypeBound<TypeRef>) -> Result<TypeBound<TypeRepr>, NoMemory>
+    ensures { IfOk result (λ b. bound_view repr_view b ≡ made_bound (bound_view type_view bound.now)) }
+{
+    match bound {
+        TypeBound::Lifetime(lifetime) => Ok(TypeBound::Lifetime(lifetime.clone()?)),
+        TypeBound::Fn {
+            forall,
+            path,
+            parameters,
+            ret,
+        } => {
+            let forall = copy_type_parameters(forall)?;
+            let path = path.clone()?;
+            let parameters = lowered_types(alloc, parameters)?;
+            let ret = lowered_return(alloc, ret)?;
+            Ok(TypeBound::Fn {
+                forall,
+                path,
+                parameters,
+                ret,
+            })
+        }
+        TypeBound::Trait {
+            forall,
+            path,
+            parameters,
+        } => {
+            let forall = copy_type_parameters(forall)?;
+            let path = path.clone()?;
+            let parameters = lowered_parameters(alloc, parameters)?;
+            Ok(TypeBound::Trait {
+                forall,
+                path,
+                parameters,
+            })
+        }
+    }
+}
+
+fn lowered_types(alloc: Global, types: &[TypeRef]) -> Result<Vec<TypeRepr>, NoMemory>
+    ensures { IfOk result (λ ts. map repr_view ts.items ≡ map lowered_type (map type_view types.now)) }
+{
+    let mut lowered = Vec::new(alloc);
+    for ty in types {
+        lowered.push(lowered_type(alloc, ty)?)?;
+    }
+    Ok(lowered)
+}
+
+fn lowered_return(alloc: Global, ret: &Option<TypeRef>) -> Result<Option<TypeRepr>, NoMemory>
+    ensures { IfOk result (λ t. option_map repr_view t ≡ option_map lowered_type (option_map type_view ret.now)) }
+{
+    match ret {
+        None => Ok(None),
+        Some(ty) => Ok(Some(lowered_type(alloc, ty)?)),
+    }
+}
+
+fn lowered_parameters(
+    alloc: Global,
+    parameters: &[TypeBoundParameter<TypeRef>],
+) -> Result<Vec<TypeBoundParameter<TypeRepr>>, NoMemory>
+    ensures { IfOk result (λ ps. map (bound_parameter_view repr_view) ps.items
+        ≡ map made_bound_parameter (map (bound_parameter_view type_view) parameters.now)) }
+{
+    let mut lowered = Vec::new(alloc);
+    for parameter in parameters {
+        lowered.push(lowered_parameter(alloc, parameter)?)?;
+    }
+    Ok(lowered)
+}
+
+fn lowered_parameter(
+    alloc: Global,
+    parameter: &TypeBoundParameter<TypeRef>,
+) -> Result<TypeBoundParameter<TypeRepr>, NoMemory>
+    ensures { IfOk result (λ p. bound_parameter_view repr_view p ≡ made_bound_parameter (bound_parameter_view type_view parameter.now)) }
+{
+    match parameter {
+        TypeBoundParameter::Lifetime(lifetime) => {
+            Ok(TypeBoundParameter::Lifetime(lifetime.clone()?))
+        }
+        TypeBoundParameter::TypeParameter(ty) => {
+            Ok(TypeBoundParameter::TypeParameter(lowered_type(alloc, ty)?))
+        }
+        TypeBoundParameter::Associated(name, ty) => {
+            let name = name.clone()?;
+            Ok(TypeBoundParameter::Associated(name, lowered_type(alloc, ty)?))
+        }
+    }
+}

@@ -1,0 +1,104 @@
+//! What stands at the head of a lowered grammar.
+ghost use Rattle.std.specs.Prelude.{◌≡◌, IfOk, IsTrue, All, flat_map, filter_map, map, option_map, string_bytes, true};
+ghost use Rattle.lalrpop_norm_tree.specs.Accessors.{first_of, intern_token_of};
+ghost use Rattle.lalrpop_norm_tree.specs.Attributes.{attributes_view};
+ghost use Rattle.lalrpop_norm_tree.specs.Items.{intern_token_view, item_view};
+ghost use Rattle.lalrpop_norm_tree.specs.Types.{parameter_view};
+ghost use Rattle.lalrpop_norm_model.specs.Expanded.{all_known};
+ghost use Rattle.lalrpop_norm_repr.specs.Lowered.{lowered_parameter_view};
+ghost use Rattle.lalrpop_norm_late.specs.Carried.{use_of, asks_lalr, asked_code};
+ghost use Rattle.lalrpop_norm_late.specs.Made.{made_parameter};
+
+use crate::typing::lowered_type;
+use lalrpop_norm_repr::grammar::repr::{Algorithm, Parameter};
+use lalrpop_norm_tree::grammar::parse_tree as pt;
+use lalrpop_norm_tree::grammar::parse_tree::{
+    Attribute, GrammarItem, InternToken, NoMemory, TypeParameter, read_algorithm,
+};
+use std::alloc::Global;
+
+/// The algorithm that the attributes ask for.
+pub(crate) fn algorithm_of(attributes: &[Attribute]) -> Algorithm
+    requires { all_known (attributes_view attributes.now) ≡ true }
+    ensures lalr { result.lalr ≡ asks_lalr (attributes_view attributes.now) }
+    ensures codegen { result.codegen ≡ asked_code (attributes_view attributes.now) }
+{
+    let mut algorithm = Algorithm::default();
+    read_algorithm(attributes, &mut algorithm);
+    algorithm
+}
+
+/// The texts of `use` items.
+pub(crate) fn uses_of(alloc: Global, items: &[GrammarItem]) -> Result<Vec<String>, NoMemory>
+    ensures { IfOk result (λ us. map string_bytes us.items ≡ filter_map use_of (map item_view items.now)) }
+{
+    let mut uses = Vec::new(alloc);
+    for item in items {
+        match item {
+            GrammarItem::Use(text) => uses.push(text.clone()?)?,
+            GrammarItem::MatchToken(_)
+            | GrammarItem::ExternToken(_)
+            | GrammarItem::InternToken(_)
+            | GrammarItem::Nonterminal(_) => {}
+        }
+    }
+    Ok(uses)
+}
+
+/// The first tokenizer among the items.
+pub(crate) fn intern_token_of(items: &[GrammarItem]) -> Result<Option<InternToken>, NoMemory>
+    ensures { IfOk result (λ t. option_map intern_token_view t ≡ first_of intern_token_of (map item_view items.now)) }
+{
+    for item in items {
+        match item {
+            GrammarItem::InternToken(token) => return Ok(Some(token.clone()?)),
+            GrammarItem::MatchToken(_)
+            | GrammarItem::ExternToken(_)
+            | GrammarItem::Nonterminal(_)
+            | GrammarItem::Use(_) => {}
+        }
+    }
+    Ok(None)
+}
+
+/// The parameters with their types lowered.
+pub(crate) fn lowered_parameters(
+    alloc: Global,
+    parameters: &[pt::Parameter],
+) -> Result<Vec<Parameter>, NoMemory>
+    ensures { IfOk result (λ ps. map lowered_parameter_view ps.items ≡ map made_parameter (map parameter_view parameters.now)) }
+{
+    let mut lowered = Vec::new(alloc);
+    for parameter in parameters {
+        lowered.push(lowered_parameter(alloc, parameter)?)?;
+    }
+    Ok(lowered)
+}
+
+fn lowered_parameter(alloc: Global, parameter: &pt::Parameter) -> Result<Parameter, NoMemory>
+    ensures { IfOk result (λ p. lowered_parameter_view p ≡ made_parameter (parameter_view parameter.now)) }
+{
+    let name = parameter.name.clone()?;
+    let ty = lowered_type(alloc, &parameter.ty)?;
+    Ok(Parameter { name, ty })
+}
+
+#[tactic(auto, using(std::proofs::lemmas::List::Elements::same_from_all_zip))]
+pub(crate) fn copy_type_parameters(
+    parameters: &Vec<TypeParameter>,
+) -> Result<Vec<TypeParameter>, NoMemory>
+    ensures { IfOk result (λ copies. copies.items ≡ parameters.now.items) }
+{
+    Ok(parameters.clone()?)
+}
+
+/// A copy of each text.
+pub(crate) fn copy_texts(alloc: Global, texts: &[String]) -> Result<Vec<String>, NoMemory>
+    ensures { IfOk result (λ copies. map string_bytes copies.items ≡ map string_bytes texts.now) }
+{
+    let mut copies = Vec::new(alloc);
+    for text in texts {
+        copies.push(text.clone()?)?;
+    }
+    Ok(copies)
+}

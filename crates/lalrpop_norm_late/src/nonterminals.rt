@@ -1,0 +1,153 @@
+//! The nonterminals of a lowered grammar: start symbols first, then the rules.
+ghost use Rattle.std.specs.Prelude.{◌≡◌, ◌+◌, ◌++◌, [], ◌∷◌, length, IfOk, OnOk, map, vec_len};
+ghost use Rattle.lalrpop_norm_faults.specs.Faults.{Refuses};
+ghost use Rattle.lalrpop_norm_tree.specs.Items.{rule_view};
+ghost use Rattle.lalrpop_norm_model.specs.LoweringFaults.{start_faults, number_faults};
+ghost use Rattle.lalrpop_norm_repr.specs.Actions.{action_defn_view};
+ghost use Rattle.lalrpop_norm_repr.specs.Productions.{nonterminal_data_view};
+ghost use Rattle.lalrpop_norm_repr.specs.Tables.{type_table, rows};
+ghost use Rattle.lalrpop_norm_late.specs.Lowering.{rule_type, rule_entry, rule_rows, start_entry, start_rows, start_name, start_alternative, sorted_onto};
+ghost use Rattle.lalrpop_norm_late.specs.Made.{type_in, alternatives_faults, made_starts_faults, made_rules_faults, made_action, made_starts, made_actions};
+
+use crate::alternatives::{lower_alternative, lower_alternatives};
+use crate::starts::{copy_attributes, insert, rule_type, start_alternative, start_name};
+use lalrpop_norm_front::{FaultKind, NormResult, refusal};
+use lalrpop_norm_repr::grammar::repr::{ActionFnDefn, NonterminalData, Types};
+use lalrpop_norm_tree::grammar::parse_tree as pt;
+use lalrpop_norm_tree::grammar::parse_tree::NonterminalString;
+use std::alloc::Global;
+use std::collections::BTreeMap;
+
+/// Refuses a start symbol whose name has a type already.
+fn check_start(
+    alloc: Global,
+    prefix: &str,
+    types: &Types,
+    rule: &pt::NonterminalData,
+    name: &NonterminalString,
+) -> NormResult<()>
+    requires { name.now ≡ start_name prefix.now rule.now.name }
+    ensures { Refuses result (start_faults prefix.now (type_in (type_table types.now)) (rule_view rule.now)) }
+{
+    if types.lookup_nonterminal_type(name).is_none() {
+        return Ok(());
+    }
+    Err(refusal(
+        FaultKind::StartTaken,
+        rule.span,
+        format!(in alloc; "`{name}`, the name of a start symbol, is taken"),
+    ))
+}
+
+/// The start symbol of a rule.
+fn lower_start(
+    alloc: Global,
+    prefix: &str,
+    types: &Types,
+    rule: &pt::NonterminalData,
+    name: &NonterminalString,
+    actions: &mut Vec<ActionFnDefn>,
+) -> NormResult<NonterminalData>
+    requires { name.now ≡ start_name prefix.now rule.now.name }
+    ensures refuses { Refuses result (start_faults prefix.now (type_in (type_table types.now)) (rule_view rule.now) ++ number_faults (vec_len actions.old) rule.now.span) }
+    ensures lowered { IfOk result (λ n.
+        nonterminal_data_view n ≡ start_entry prefix.now (vec_len actions.old) (rule_view rule.now)) }
+    ensures adds { OnOk result (map action_defn_view actions.new.items ≡ map action_defn_view actions.old.items
+        ++ made_action prefix.now (type_table types.now) (rule_type (type_table types.now) (rule_view rule.now)) (start_alternative (rule_view rule.now)) ∷ []) }
+    ensures count { OnOk result (vec_len actions.new ≡ vec_len actions.old + 1) }
+{
+    check_start(alloc, prefix, types, rule, name)?;
+    let ty = rule_type(alloc, types, rule)?;
+    let alternative = start_alternative(alloc, rule)?;
+    let visibility = rule.visibility.clone()?;
+    let production = lower_alternative(alloc, prefix, types, name, &ty, &alternative, actions)?;
+    let mut productions = Vec::new(alloc);
+    productions.push(production)?;
+    Ok(NonterminalData {
+        visibility,
+        span: rule.span,
+        attributes: Vec::new(alloc),
+        productions,
+    })
+}
+
+/// The nonterminal of a rule.
+fn lower_rule(
+    alloc: Global,
+    prefix: &str,
+    types: &Types,
+    rule: &pt::NonterminalData,
+    actions: &mut Vec<ActionFnDefn>,
+) -> NormResult<NonterminalData>
+    ensures refuses { Refuses result (alternatives_faults (vec_len actions.old) (rule_view rule.now).alternatives) }
+    ensures lowered { IfOk result (λ n. nonterminal_data_view n ≡ rule_entry (vec_len actions.old) (rule_view rule.now)) }
+    ensures adds { OnOk result (map action_defn_view actions.new.items ≡ map action_defn_view actions.old.items
+        ++ map (made_action prefix.now (type_table types.now) (rule_type (type_table types.now) (rule_view rule.now))) (rule_view rule.now).alternatives) }
+    ensures count { OnOk result (vec_len actions.new ≡ vec_len actions.old + length (rule_view rule.now).alternatives) }
+{
+    let ty = rule_type(alloc, types, rule)?;
+    let visibility = rule.visibility.clone()?;
+    let attributes = copy_attributes(alloc, &rule.attributes)?;
+    let productions = lower_alternatives(
+        alloc,
+        prefix,
+        types,
+        &rule.name,
+        &ty,
+        &rule.alternatives,
+        actions,
+    )?;
+    Ok(NonterminalData {
+        visibility,
+        span: rule.span,
+        attributes,
+        productions,
+    })
+}
+
+/// The start symbols of the public rules.
+pub(crate) fn lower_starts(
+    alloc: Global,
+    prefix: &str,
+    types: &Types,
+    rules: &[&pt::NonterminalData],
+    actions: &mut Vec<ActionFnDefn>,
+    nonterminals: &mut BTreeMap<NonterminalString, NonterminalData>,
+) -> NormResult<()>
+    ensures refuses { Refuses result (made_starts_faults prefix.now (type_table types.now) (vec_len actions.old) (map (λ r. rule_view r.now) rules.now)) }
+    ensures table { OnOk result (rows nonterminal_data_view nonterminals.new
+        ≡ sorted_onto (rows nonterminal_data_view nonterminals.old) (start_rows prefix.now (vec_len actions.old) (map (λ r. rule_view r.now) rules.now))) }
+    ensures adds { OnOk result (map action_defn_view actions.new.items
+        ≡ map action_defn_view actions.old.items ++ made_starts prefix.now (type_table types.now) (map (λ r. rule_view r.now) rules.now)) }
+    ensures count { OnOk result (vec_len actions.new ≡ vec_len actions.old + length rules.now) }
+{
+    for rule in rules {
+        let name = start_name(alloc, prefix, &rule.name)?;
+        let data = lower_start(alloc, prefix, types, rule, &name, actions)?;
+        insert(nonterminals, name, data)?;
+    }
+    Ok(())
+}
+
+/// The nonterminals of the rules.
+pub(crate) fn lower_rules(
+    alloc: Global,
+    prefix: &str,
+    types: &Types,
+    rules: &[&pt::NonterminalData],
+    actions: &mut Vec<ActionFnDefn>,
+    nonterminals: &mut BTreeMap<NonterminalString, NonterminalData>,
+) -> NormResult<()>
+    ensures refuses { Refuses result (made_rules_faults (vec_len actions.old) (map (λ r. rule_view r.now) rules.now)) }
+    ensures table { OnOk result (rows nonterminal_data_view nonterminals.new
+        ≡ sorted_onto (rows nonterminal_data_view nonterminals.old) (rule_rows (vec_len actions.old) (map (λ r. rule_view r.now) rules.now))) }
+    ensures adds { OnOk result (map action_defn_view actions.new.items
+        ≡ map action_defn_view actions.old.items ++ made_actions prefix.now (type_table types.now) (map (λ r. rule_view r.now) rules.now)) }
+{
+    for rule in rules {
+        let name = rule.name.clone()?;
+        let data = lower_rule(alloc, prefix, types, rule, actions)?;
+        insert(nonterminals, name, data)?;
+    }
+    Ok(())
+}

@@ -1,0 +1,207 @@
+//! The `<>` of codes: how many there are, and what takes their places.
+ghost use Rattle.std.specs.Prelude.{◌≡◌, ◌+◌, ◌||◌, nat_le, ◌++◌, IfOk, OnOk, codes, length, map, option_map, string_bytes, flat_map, zip};
+ghost use Rattle.lalrpop_norm_faults.specs.Faults.{Refuses};
+ghost use Rattle.lalrpop_norm_tree.specs.Items.{action_view, alternative_view};
+ghost use Rattle.lalrpop_norm_tree.specs.Symbols.{symbol_view};
+ghost use Rattle.lalrpop_norm_tree.specs.Texts.{joined};
+ghost use Rattle.lalrpop_norm_model.specs.LoweringFaults.{slots, code_in, code_faults, span_over};
+ghost use Rattle.lalrpop_norm_late.specs.Arguments.{in_slots};
+ghost use Rattle.lalrpop_norm_late.specs.Slots.{pieces, in_order, filled, count_faults, end_of};
+
+use crate::code::split_at_slot;
+use lalrpop_norm_front::norm_util::{Symbols, analyze_expr};
+use lalrpop_norm_front::{FaultKind, NormResult, refusal};
+use lalrpop_norm_tree::grammar::parse_tree::{
+    ActionKind, Alternative, Atom, NoMemory, Span, Symbol,
+};
+use std::alloc::Global;
+
+/// Refuses an alternative without named symbols whose code has several `<>`, not as many as it has sources.
+pub(crate) fn check_code(alloc: Global, alternative: &Alternative) -> NormResult<()>
+    ensures { Refuses result (code_faults (alternative_view alternative.now)) }
+{
+    let count = slots(alloc, code_in(&alternative.action))?;
+    if count < 2 {
+        return Ok(());
+    }
+    match analyze_expr(alloc, &alternative.expr)? {
+        Symbols::Named(_) => Ok(()),
+        Symbols::Anon(sources) => check_count(alloc, alternative.span, count, &sources),
+    }
+}
+
+/// Refuses a number of `<>` that is not that of the sources.
+fn check_count(
+    alloc: Global,
+    span: Span,
+    count: usize,
+    sources: &[(usize, &Symbol)],
+) -> NormResult<()>
+    ensures { Refuses result (count_faults span count (map (λ t. record { place = t.0; symbol = symbol_view t.1.now }) sources.now)) }
+{
+    if sources.len() == count {
+        return Ok(());
+    }
+    Err(refusal(
+        FaultKind::Placeholders,
+        span_over(span, sources),
+        format!(in alloc; "{count} `<>`, but the number of values is another one"),
+    ))
+}
+
+/// From the start of the first source to the end of the last one.
+fn span_over(all: Span, sources: &[(usize, &Symbol)]) -> Span
+    ensures { result ≡ span_over all (map (λ t. record { place = t.0; symbol = symbol_view t.1.now }) sources.now) }
+{
+    match sources.split_first() {
+        None => all,
+        Some(((_, first), others)) => Span(first.span.0, end_of(first.span.1, others)),
+    }
+}
+
+/// The end of the last of the sources, or that end where there is none.
+fn end_of(before: usize, sources: &[(usize, &Symbol)]) -> usize
+    ensures { result ≡ end_of before (map (λ t. record { place = t.0; symbol = symbol_view t.1.now }) sources.now) }
+{
+    let mut end = before;
+    for (_, symbol) in sources {
+        end = symbol.span.1;
+    }
+    end
+}
+
+fn code_in(action: &Option<ActionKind>) -> &str
+    ensures { result.now ≡ code_in (option_map action_view action.now) }
+{
+    match action {
+        Some(ActionKind::User(code)) => code.as_str(),
+        Some(ActionKind::Fallible(code)) => code.as_str(),
+        Some(ActionKind::Lookahead) => "",
+        Some(ActionKind::Lookbehind) => "",
+        None => "",
+    }
+}
+
+/// How often `<>` stands in a code.
+#[tactic(auto, using(crate::proofs::SlotLemmas::one_more_piece))]
+fn slots(alloc: Global, code: &str) -> Result<usize, NoMemory>
+    ensures { IfOk result (λ n. n ≡ slots code.now) }
+{
+    let pieces = pieces(alloc, code)?;
+    Ok(pieces.len().saturating_sub(1))
+}
+
+/// The code with its `<>` replaced, all at once: by the names in order where symbols have none of their own and there are
+/// several, else each by all names.
+#[tactic(auto, using(crate::proofs::SlotLemmas::alike_filled, crate::proofs::SlotLemmas::in_order_filled, crate::proofs::SlotLemmas::names_enough))]
+pub(crate) fn filled(
+    alloc: Global,
+    is_named: bool,
+    names: &[Atom],
+    code: &str,
+) -> Result<String, NoMemory>
+    requires { length (in_slots is_named names.now (slots code.now)) ≡ slots code.now }
+    ensures { IfOk result (λ s. string_bytes s ≡ filled is_named names.now code.now) }
+{
+    let pieces = pieces(alloc, code)?;
+    if is_alike(is_named, &pieces) {
+        filled_alike(alloc, names, &pieces)
+    } else {
+        filled_in_order(alloc, names, &pieces)
+    }
+}
+
+/// Whether each `<>` is replaced by all names: where symbols have names, and where there is at most one `<>`.
+fn is_alike(is_named: bool, pieces: &[&str]) -> bool
+    ensures { result ≡ (is_named || nat_le (length pieces.now) 2) }
+{
+    is_named || pieces.len() <= 2
+}
+
+fn filled_alike(alloc: Global, names: &[Atom], pieces: &[&str]) -> Result<String, NoMemory>
+    ensures { IfOk result (λ s. string_bytes s ≡ joined (joined (codes ", ") names.now) (map (λ p. p.now) pieces.now)) }
+{
+    let all = joined(alloc, names)?;
+    let mut text = String::new(alloc);
+    push_joined(&mut text, pieces, all.as_str())?;
+    Ok(text)
+}
+
+fn filled_in_order(alloc: Global, names: &[Atom], pieces: &[&str]) -> Result<String, NoMemory>
+    requires { length pieces.now ≡ length names.now + 1 }
+    ensures { IfOk result (λ s. string_bytes s ≡ in_order names.now (map (λ p. p.now) pieces.now)) }
+{
+    let mut text = String::new(alloc);
+    if let Some((first, others)) = pieces.split_first() {
+        text.push_str(first)?;
+        push_with_names(&mut text, names, others)?;
+    }
+    Ok(text)
+}
+
+/// What stands between the `<>` of a code, before the first and behind the last.
+fn pieces(alloc: Global, code: &str) -> Result<Vec<&str>, NoMemory>
+    ensures { IfOk result (λ ps. map (λ p. p.now) ps.items ≡ pieces code.now) }
+{
+    let mut pieces = Vec::new(alloc);
+    add_pieces(code, &mut pieces)?;
+    Ok(pieces)
+}
+
+/// Adds the pieces of a code.
+fn add_pieces<'a>(code: &'a str, found: &mut Vec<&'a str>) -> Result<(), NoMemory>
+    ensures { OnOk result (map (λ p. p.now) found.new.items ≡ map (λ p. p.now) found.old.items ++ pieces code.now) }
+{
+    match split_at_slot(code) {
+        None => {
+            found.push(code)?;
+            Ok(())
+        }
+        Some((before, after)) => {
+            found.push(before)?;
+            add_pieces(after, found)?;
+            Ok(())
+        }
+    }
+}
+
+/// The names with `, ` between each two.
+fn joined(alloc: Global, names: &[Atom]) -> Result<String, NoMemory>
+    ensures { IfOk result (λ s. string_bytes s ≡ joined (codes ", ") names.now) }
+{
+    let mut text = String::new(alloc);
+    if let Some((first, others)) = names.split_first() {
+        text.push_str(first.as_str())?;
+        for other in others {
+            text.push_str(", ")?;
+            text.push_str(other.as_str())?;
+        }
+    }
+    Ok(text)
+}
+
+/// Adds the pieces with that text between each two.
+fn push_joined(text: &mut String, pieces: &[&str], between: &str) -> Result<(), NoMemory>
+    ensures { OnOk result (string_bytes text.new ≡ string_bytes text.old ++ joined between.now (map (λ p. p.now) pieces.now)) }
+{
+    if let Some((first, others)) = pieces.split_first() {
+        text.push_str(first)?;
+        for other in others {
+            text.push_str(between)?;
+            text.push_str(other)?;
+        }
+    }
+    Ok(())
+}
+
+/// Adds the pieces, each with its name before it.
+fn push_with_names(text: &mut String, names: &[Atom], pieces: &[&str]) -> Result<(), NoMemory>
+    requires { length names.now ≡ length pieces.now }
+    ensures { OnOk result (string_bytes text.new ≡ string_bytes text.old ++ flat_map (λ e. e.0 ++ e.1) (zip names.now (map (λ p. p.now) pieces.now))) }
+{
+    for index in 0..pieces.len() {
+        text.push_str(names[index].as_str())?;
+        text.push_str(pieces[index])?;
+    }
+    Ok(())
+}

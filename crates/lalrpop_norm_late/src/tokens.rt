@@ -1,0 +1,216 @@
+//! The terminals of a grammar, and the patterns of their tokens.
+ghost use Rattle.std.specs.Prelude.{◌≡◌, ◌+◌, ◌++◌, [], ◌∷◌, IfOk, OnOk, codes, flat_map, map, if◌then◌else◌};
+ghost use Rattle.std.specs.BTreeMap.{insert_entry};
+ghost use Rattle.std.specs.Map.{keys_of};
+ghost use Rattle.lalrpop_norm_tree.specs.Items.{conversion_view, item_view};
+ghost use Rattle.lalrpop_norm_tree.specs.LoweredTypes.{named_path};
+ghost use Rattle.lalrpop_norm_tree.specs.Paths.{path_view};
+ghost use Rattle.lalrpop_norm_tree.specs.Patterns.{pattern_view, pattern_at, number, chosen};
+ghost use Rattle.lalrpop_norm_tree.specs.Reprs.{repr_view};
+ghost use Rattle.lalrpop_norm_front.specs.Sessions.{features_view};
+ghost use Rattle.lalrpop_norm_repr.specs.Tables.{rows};
+ghost use Rattle.lalrpop_norm_late.specs.Carried.{input_type, internal_pattern};
+ghost use Rattle.lalrpop_norm_late.specs.Conversions.{sorted_terminals, numbered, terminal_cmp};
+ghost use Rattle.lalrpop_norm_late.specs.Made.{conversion_rows, row_of_entry, entry_rows_from, token_rows};
+
+use crate::patterns::lowered_pattern;
+use crate::terminals::{insert, numbers_of};
+use lalrpop_norm_front::Session;
+use lalrpop_norm_front::cond_comp::cfg_active;
+use lalrpop_norm_repr::grammar::repr::{TerminalSet, TerminalString, TypeRepr};
+use lalrpop_norm_tree::grammar::parse_tree::{
+    Atom, Conversion, GrammarItem, Lifetime, MatchEntry, MatchMapping, NoMemory, Path, Span,
+};
+use lalrpop_norm_tree::grammar::pattern::{Pattern, PatternKind};
+use std::alloc::Global;
+use std::collections::BTreeMap;
+
+/// The terminals with tokens.
+#[derive(Drop)]
+pub(crate) struct Tokens {
+    /// In the order of their numbers.
+    pub(crate) all: Vec<TerminalString>,
+    /// The pattern of each one's tokens.
+    pub(crate) patterns: BTreeMap<TerminalString, Pattern<TypeRepr>>,
+}
+
+/// The terminals of the active conversions and of the entries of tokenizers, in order.
+pub(crate) fn tokens_of<L>(
+    alloc: Global,
+    session: &Session<L>,
+    span: Span,
+    items: &[GrammarItem],
+) -> Result<Tokens, NoMemory>
+    ensures all { IfOk result (λ t. t.all.items ≡ keys_of (flat_map (token_rows (features_view session.now.features) span) (map item_view items.now))) }
+    ensures patterns { IfOk result (λ t. rows (pattern_view repr_view) t.patterns
+        ≡ sorted_terminals [] (flat_map (token_rows (features_view session.now.features) span) (map item_view items.now))) }
+{
+    let mut tokens = Tokens {
+        all: Vec::new(alloc),
+        patterns: BTreeMap::new(alloc),
+    };
+    for item in items {
+        add_item(alloc, session, span, item, &mut tokens)?;
+    }
+    Ok(tokens)
+}
+
+fn add_item<L>(
+    alloc: Global,
+    session: &Session<L>,
+    span: Span,
+    item: &GrammarItem,
+    tokens: &mut Tokens,
+) -> Result<(), NoMemory>
+    ensures all { OnOk result (tokens.new.all.items ≡ tokens.old.all.items ++ keys_of (token_rows (features_view session.now.features) span (item_view item.now))) }
+    ensures patterns { OnOk result (rows (pattern_view repr_view) tokens.new.patterns
+        ≡ sorted_terminals (rows (pattern_view repr_view) tokens.old.patterns) (token_rows (features_view session.now.features) span (item_view item.now))) }
+{
+    match item {
+        GrammarItem::ExternToken(token) => match &token.enum_token {
+            Some(token) => add_conversions(alloc, session, &token.conversions, tokens),
+            None => Ok(()),
+        },
+        GrammarItem::InternToken(token) => add_entries(alloc, span, &token.match_entries, tokens),
+        GrammarItem::MatchToken(_) => Ok(()),
+        GrammarItem::Nonterminal(_) => Ok(()),
+        GrammarItem::Use(_) => Ok(()),
+    }
+}
+
+/// Adds the active conversions.
+fn add_conversions<L>(
+    alloc: Global,
+    session: &Session<L>,
+    conversions: &[Conversion],
+    tokens: &mut Tokens,
+) -> Result<(), NoMemory>
+    ensures all { OnOk result (tokens.new.all.items ≡ tokens.old.all.items ++ keys_of (conversion_rows (features_view session.now.features) (map conversion_view conversions.now))) }
+    ensures patterns { OnOk result (rows (pattern_view repr_view) tokens.new.patterns
+        ≡ sorted_terminals (rows (pattern_view repr_view) tokens.old.patterns) (conversion_rows (features_view session.now.features) (map conversion_view conversions.now))) }
+{
+    for conversion in conversions {
+        if cfg_active(session, &conversion.attributes) {
+            let pattern = lowered_pattern(alloc, &conversion.to)?;
+            add_token(tokens, &conversion.from, pattern)?;
+        }
+    }
+    Ok(())
+}
+
+/// Adds the entries that name a terminal, each by its place.
+fn add_entries(
+    alloc: Global,
+    span: Span,
+    entries: &[MatchEntry],
+    tokens: &mut Tokens,
+) -> Result<(), NoMemory>
+    ensures all { OnOk result (tokens.new.all.items ≡ tokens.old.all.items ++ keys_of (entry_rows_from span 0 entries.now)) }
+    ensures patterns { OnOk result (rows (pattern_view repr_view) tokens.new.patterns
+        ≡ sorted_terminals (rows (pattern_view repr_view) tokens.old.patterns) (entry_rows_from span 0 entries.now)) }
+{
+    for index in 0..entries.len() {
+        add_entry(alloc, span, index, &entries[index], tokens)?;
+    }
+    Ok(())
+}
+
+fn add_entry(
+    alloc: Global,
+    span: Span,
+    index: usize,
+    entry: &MatchEntry,
+    tokens: &mut Tokens,
+) -> Result<(), NoMemory>
+    ensures all { OnOk result (tokens.new.all.items ≡ tokens.old.all.items ++ keys_of (row_of_entry span index entry.now)) }
+    ensures patterns { OnOk result (rows (pattern_view repr_view) tokens.new.patterns
+        ≡ sorted_terminals (rows (pattern_view repr_view) tokens.old.patterns) (row_of_entry span index entry.now)) }
+{
+    match &entry.user_name {
+        MatchMapping::Terminal(terminal) => {
+            let pattern = internal_pattern(alloc, span, index)?;
+            add_token(tokens, terminal, pattern)
+        }
+        MatchMapping::Skip => Ok(()),
+    }
+}
+
+fn add_token(
+    tokens: &mut Tokens,
+    terminal: &TerminalString,
+    pattern: Pattern<TypeRepr>,
+) -> Result<(), NoMemory>
+    ensures all { OnOk result (tokens.new.all.items ≡ tokens.old.all.items ++ terminal.now ∷ []) }
+    ensures patterns { OnOk result (rows (pattern_view repr_view) tokens.new.patterns
+        ≡ insert_entry terminal_cmp (rows (pattern_view repr_view) tokens.old.patterns) terminal.now (pattern_view repr_view pattern)) }
+{
+    let in_order = terminal.clone()?;
+    let key = terminal.clone()?;
+    tokens.all.push(in_order)?;
+    insert(&mut tokens.patterns, key, pattern)?;
+    Ok(())
+}
+
+/// `Token(i, <&'input str>)`.
+fn internal_pattern(alloc: Global, span: Span, index: usize) -> Result<Pattern<TypeRepr>, NoMemory>
+    ensures { IfOk result (λ p. pattern_view repr_view p ≡ internal_pattern span index) }
+{
+    let path = token_path(alloc)?;
+    let text = input_type(alloc)?;
+    let mut inner = Vec::new(alloc);
+    inner.push(at(span, PatternKind::Usize(index)))?;
+    inner.push(at(span, PatternKind::Choose(text)))?;
+    Ok(Pattern {
+        span,
+        kind: PatternKind::TupleStruct(path, inner),
+    })
+}
+
+fn at(span: Span, kind: PatternKind<TypeRepr>) -> Pattern<TypeRepr>
+    ensures { result ≡ record { span = span; kind = kind } }
+{
+    Pattern { span, kind }
+}
+
+/// The path `Token`.
+fn token_path(alloc: Global) -> Result<Path, NoMemory>
+    ensures { IfOk result (λ p. path_view p ≡ named_path (codes "Token")) }
+{
+    let name = Atom::new(alloc, "Token")?;
+    let mut ids = Vec::new(alloc);
+    ids.push(name)?;
+    Ok(Path {
+        absolute: false,
+        ids,
+    })
+}
+
+/// `&'input str`.
+fn input_type(alloc: Global) -> Result<TypeRepr, NoMemory>
+    ensures { IfOk result (λ t. repr_view t ≡ input_type) }
+{
+    let lifetime = Lifetime(Atom::new(alloc, "'input")?);
+    let text = TypeRepr::str(alloc)?;
+    let referent = Box::new(alloc, text)?;
+    Ok(TypeRepr::Ref {
+        lifetime: Some(lifetime),
+        mutable: false,
+        referent,
+    })
+}
+
+/// The terminals with their numbers: those given, then the error terminal where it is used.
+pub(crate) fn terminal_set(
+    alloc: Global,
+    mut all: Vec<TerminalString>,
+    recovers: bool,
+) -> Result<TerminalSet, NoMemory>
+    ensures all { IfOk result (λ s. s.all.items ≡ all.items ++ (if recovers then TerminalString.Error ∷ [] else [])) }
+    ensures bits { IfOk result (λ s. s.bits.entries ≡ sorted_terminals [] (numbered 0 s.all.items)) }
+{
+    if recovers {
+        all.push(TerminalString::Error)?;
+    }
+    let bits = numbers_of(alloc, &all)?;
+    Ok(TerminalSet { all, bits })
+}

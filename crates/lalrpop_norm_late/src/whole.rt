@@ -1,0 +1,144 @@
+//! A grammar of plain rules, lowered whole.
+ghost use Rattle.std.specs.Prelude.{◌≡◌, ◌++◌, IfOk, OnOk, [], flat_map, filter_map, length, map, option_map, string_bytes, true};
+ghost use Rattle.std.specs.Map.{keys_of};
+ghost use Rattle.lalrpop_norm_faults.specs.Faults.{Refuses};
+ghost use Rattle.lalrpop_norm_tree.specs.Items as written;
+ghost use Rattle.lalrpop_norm_front.specs.Sessions.{features_view};
+ghost use Rattle.lalrpop_norm_model.specs.Expanded.{IsExpanded, IsTyped, all_known};
+ghost use Rattle.lalrpop_norm_model.specs.LoweringFaults.{lowering_faults};
+ghost use Rattle.lalrpop_norm_model.specs.PlainRules.{all_rules};
+ghost use Rattle.lalrpop_norm_repr.specs.Lowered as lowered;
+ghost use Rattle.lalrpop_norm_repr.specs.Actions.{action_defn_view};
+ghost use Rattle.lalrpop_norm_repr.specs.Productions.{nonterminal_data_view};
+ghost use Rattle.lalrpop_norm_repr.specs.Closed.{IsClosed};
+ghost use Rattle.lalrpop_norm_repr.specs.Tables.{type_table, rows};
+ghost use Rattle.lalrpop_norm_late.specs.Active.{active_grammar};
+ghost use Rattle.lalrpop_norm_late.specs.Lowering.{rules_of, public_rules, start_rows, rule_rows, sorted_onto};
+ghost use Rattle.lalrpop_norm_late.specs.Made.{type_in, made_faults, made_starts_faults, made_rules_faults, made_starts, made_actions, IsMade};
+ghost use Rattle.lalrpop_norm_late.specs.Shape.{IsLoweringOf};
+
+use crate::clauses::lowered_clauses;
+use crate::head::{
+    algorithm_of, copy_texts, copy_type_parameters, intern_token_of, lowered_parameters, uses_of,
+};
+use crate::nonterminals::{lower_rules, lower_starts};
+use crate::recovery::uses_recovery;
+use crate::rules::{public_rules, rules_of};
+use crate::starts::start_table;
+use crate::tokens::{terminal_set, tokens_of};
+use crate::typing::add_start_types;
+use lalrpop_norm_front::{NormResult, Session};
+use lalrpop_norm_repr::grammar::repr::{
+    ActionFnDefn, Grammar, NonterminalData, NonterminalString, Types,
+};
+use lalrpop_norm_tree::grammar::parse_tree as pt;
+use std::alloc::Global;
+use std::collections::BTreeMap;
+
+/// Lowers an expanded grammar over the types of its rules.
+///
+/// Action k is that of the k-th of the start symbols of public rules, then of the alternatives in item order. Terminals are
+/// numbered in the order of the active conversions, or of the tokenizer's entries, the error terminal last where `!` stands. Each
+/// start symbol gets its rule's type.
+///
+/// Errors: F55 (`StartTaken`) at a public rule, if the name of its start symbol has a type already; F54 (`Placeholders`) at the
+/// sources of an alternative without named symbols whose code has several `<>`, not as many as there are sources; F56
+/// (`TooManyActions`) at the rule or alternative whose action would have a number past the greatest; `Memory`.
+pub fn lower<L>(
+    alloc: Global,
+    session: &Session<L>,
+    grammar: &pt::Grammar,
+    types: Types,
+) -> NormResult<Grammar>
+    requires expanded { IsExpanded (written.grammar_view grammar.now) }
+    requires typed { IsTyped (features_view session.now.features) (written.grammar_view grammar.now) (type_in (type_table types)) }
+    ensures refuses { Refuses result (lowering_faults (written.grammar_view grammar.now) (type_in (type_table types))) }
+    ensures lowered { IfOk result (λ l. IsLoweringOf (active_grammar (features_view session.now.features) (written.grammar_view grammar.now))
+        (all_rules (written.grammar_view grammar.now)) (type_table types) (lowered.grammar_view l)) }
+    ensures closed { IfOk result (λ l. IsClosed (lowered.grammar_view l)) }
+{
+    let rules = rules_of(alloc, &grammar.items)?;
+    let public = public_rules(alloc, &rules)?;
+    lower_over(alloc, session, grammar, types, &rules, &public)
+}
+
+/// The same, with the grammar's rules and the public ones among them.
+fn lower_over<L>(
+    alloc: Global,
+    session: &Session<L>,
+    grammar: &pt::Grammar,
+    mut types: Types,
+    rules: &[&pt::NonterminalData],
+    public: &[&pt::NonterminalData],
+) -> NormResult<Grammar>
+    requires known { all_known (written.grammar_view grammar.now).attributes ≡ true }
+    requires rules { map (λ r. written.rule_view r.now) rules.now ≡ rules_of (written.grammar_view grammar.now).items }
+    requires public { map (λ r. written.rule_view r.now) public.now ≡ public_rules (rules_of (written.grammar_view grammar.now).items) }
+    ensures refuses { Refuses result (made_faults (written.grammar_view grammar.now).prefix (type_table types) (rules_of (written.grammar_view grammar.now).items)) }
+    ensures lowered { IfOk result (λ l. IsMade (features_view session.now.features) (written.grammar_view grammar.now) (type_table types) (lowered.grammar_view l)) }
+{
+    let prefix = grammar.prefix.as_str();
+    let produced = produce(alloc, prefix, &types, rules, public)?;
+    let starts = start_table(alloc, prefix, public)?;
+    add_start_types(alloc, prefix, public, &mut types)?;
+    let tokens = tokens_of(alloc, session, grammar.span, &grammar.items)?;
+    let recovers = uses_recovery(rules);
+    let terminals = terminal_set(alloc, tokens.all, recovers)?;
+    Ok(Grammar {
+        prefix: String::from_str(alloc, prefix)?,
+        algorithm: algorithm_of(&grammar.attributes),
+        uses_error_recovery: recovers,
+        start_nonterminals: starts,
+        uses: uses_of(alloc, &grammar.items)?,
+        type_parameters: copy_type_parameters(&grammar.type_parameters)?,
+        parameters: lowered_parameters(alloc, &grammar.parameters)?,
+        where_clauses: lowered_clauses(alloc, &grammar.where_clauses)?,
+        intern_token: intern_token_of(&grammar.items)?,
+        action_fn_defns: produced.actions,
+        terminals,
+        nonterminals: produced.nonterminals,
+        conversions: tokens.patterns,
+        types,
+        module_attributes: copy_texts(alloc, &grammar.module_attributes)?,
+    })
+}
+
+/// The nonterminals with their productions, and the actions by their numbers.
+#[derive(Drop)]
+struct Produced {
+    actions: Vec<ActionFnDefn>,
+    nonterminals: BTreeMap<NonterminalString, NonterminalData>,
+}
+
+fn produce(
+    alloc: Global,
+    prefix: &str,
+    types: &Types,
+    rules: &[&pt::NonterminalData],
+    public: &[&pt::NonterminalData],
+) -> NormResult<Produced>
+    ensures refuses { Refuses result (made_starts_faults prefix.now (type_table types.now) 0 (map (λ r. written.rule_view r.now) public.now)
+        ++ made_rules_faults (length (map (λ r. written.rule_view r.now) public.now)) (map (λ r. written.rule_view r.now) rules.now)) }
+    ensures actions { IfOk result (λ p. map action_defn_view p.actions.items
+        ≡ made_starts prefix.now (type_table types.now) (map (λ r. written.rule_view r.now) public.now)
+        ++ made_actions prefix.now (type_table types.now) (map (λ r. written.rule_view r.now) rules.now)) }
+    ensures nonterminals { IfOk result (λ p. rows nonterminal_data_view p.nonterminals
+        ≡ sorted_onto (sorted_onto [] (start_rows prefix.now 0 (map (λ r. written.rule_view r.now) public.now)))
+        (rule_rows (length (map (λ r. written.rule_view r.now) public.now)) (map (λ r. written.rule_view r.now) rules.now))) }
+{
+    let mut actions = Vec::new(alloc);
+    let mut nonterminals = BTreeMap::new(alloc);
+    lower_starts(
+        alloc,
+        prefix,
+        types,
+        public,
+        &mut actions,
+        &mut nonterminals,
+    )?;
+    lower_rules(alloc, prefix, types, rules, &mut actions, &mut nonterminals)?;
+    Ok(Produced {
+        actions,
+        nonterminals,
+    })
+}
