@@ -42,7 +42,8 @@ use Rattle.lalrpop_norm_model.proofs.SimpleGrammars.{AreSimpleItems, enabled_sam
 use Rattle.lalrpop_norm_model.proofs.SimpleTypes.{AreDeclared, declared_in, declared_has, declared_only}
 use Rattle.lalrpop_norm_model.proofs.NumberedNames.{NoneNamed, HaveDistinctNames}
 use Rattle.lalrpop_norm.specs.Derivations.{derivations}
-use Rattle.lalrpop_norm.specs.Faithful.{HasFaithfulTrees, HasOnlyType, HasGroundedTypes, IsInferred, grammar_of_plain_rules, IsFaithful}
+use Rattle.lalrpop_norm.specs.Faithful.{HasFaithfulTrees, HasOnlyType, HasGroundedTypes, grammar_of_plain_rules, IsFaithful}
+use Rattle.lalrpop_norm_types.specs.Inferred.{IsInferred}
 use Rattle.lalrpop_norm.proofs.ShapeTrees.{distinct_found, AreFree, turned, has_productions}
 
 -- a grammar of simple rules with declared types, over an extern enum

@@ -1,7 +1,5 @@
 -- The headline: what a lowered grammar owes the written one.
-use Rattle.std.specs.Prelude.{◌≡◌, ℕ, [], ◌++◌, length, map, Some, option_map, codes, string_bytes, ◌↔◌}
-use Rattle.lalrpop_norm_tree.specs.declared.names.NonterminalString.{NonterminalString}
-use Rattle.lalrpop_norm_tree.specs.declared.names.TerminalString.{TerminalString}
+use Rattle.std.specs.Prelude.{◌≡◌, ℕ, [], ◌++◌, length, map, Some, option_map, string_bytes}
 use Rattle.lalrpop_norm_tree.specs.Items.{RuleData, GrammarData}
 use Rattle.lalrpop_norm_tree.specs.Reprs.{ReprData}
 use Rattle.lalrpop_norm_theory.specs.Symbols.{ClosedSymbol}
@@ -19,16 +17,16 @@ use Rattle.lalrpop_norm_model.specs.ClosedTexts.{text_in}
 use Rattle.lalrpop_norm_model.specs.LevelRules.{leveled_grammar}
 use Rattle.lalrpop_norm_model.specs.PlainRules.{plain_grammar, all_rules}
 use Rattle.lalrpop_norm_model.specs.Origins.{action_origins}
-use Rattle.lalrpop_norm_model.specs.TerminalTypes.{location_type, declared_under, token_type, terminal_rows, row_of}
 use Rattle.lalrpop_norm_model.specs.Lexers.{Lexer}
 use Rattle.lalrpop_norm_model.specs.CheckedTokens.{IsChecked}
 use Rattle.lalrpop_norm_model.specs.TypeRelation.{IsRule, Has}
 use Rattle.lalrpop_norm_front.specs.declared.session.Session.{Session}
 use Rattle.lalrpop_norm_repr.specs.Lowered.{LoweredGrammar}
-use Rattle.lalrpop_norm_repr.specs.Tables.{TypeTable, type_of, listed_type, new_table}
+use Rattle.lalrpop_norm_repr.specs.Tables.{TypeTable, type_of}
 use Rattle.lalrpop_norm_repr.specs.Closed.{IsClosed}
 use Rattle.lalrpop_norm_late.specs.Lowering.{public_rules, start_name}
 use Rattle.lalrpop_norm_late.specs.Shape.{IsLoweringOf}
+use Rattle.lalrpop_norm_types.specs.Inferred.{IsInferred}
 use Rattle.lalrpop_norm.specs.Derivations.{derivations}
 
 -- ---- trees
@@ -47,16 +45,6 @@ pub record HasFaithfulTrees (fs : Features) (g : GrammarData) (plain : GrammarDa
       (derivations (action_origins (length (public_rules (all_rules plain))) (written_meaning fs g) (references (written_rules fs g)) rounds) l) s
 
 -- ---- types
-
--- The table of types: each name has there the type that it has and no other name is listed; the terminals with a type of their
--- own have it; all else is what needs no inference.
-pub record IsInferred (plain : GrammarData) (types : TypeTable) : Type 0 where
-  pub names : (n : NonterminalString) (x : ReprData) → (type_of n types ≡ Some x) ↔ Has plain n.0 x
-  pub terminals : (t : TerminalString) → listed_type t types ≡ row_of t (terminal_rows plain)
-  pub rest : types ≡ record (new_table plain.prefix (location_type plain) (declared_under (codes "Error") plain) (token_type plain)) {
-    terminals = types.terminals;
-    nonterminals = types.nonterminals;
-  }
 
 -- a type that a name has, and no other, stands in the table
 pub record HasOnlyType (plain : GrammarData) (types : TypeTable) (r : RuleData) : Type 0 where
