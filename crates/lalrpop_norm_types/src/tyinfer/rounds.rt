@@ -22,11 +22,14 @@ pub(crate) struct PlainRule<'g> {
     pub(crate) clauses: Vec<Clause<'g>>,
 }
 
-fn plain_rule(alloc: Global, data: &NonterminalData) -> Result<PlainRule<'_>, NoMemory>
-    ensures { IfOk result (λ r. rule_seen r ≡ with_clauses (rule_view data.now)) }
+fn plain_rule(alloc: Global, rule: &NonterminalData) -> Result<PlainRule<'_>, NoMemory>
+    ensures { IfOk result (λ r. rule_seen r ≡ with_clauses (rule_view rule.now)) }
 {
-    let clauses = rule_clauses(alloc, data)?;
-    Ok(PlainRule { data, clauses })
+    let clauses = rule_clauses(alloc, rule)?;
+    Ok(PlainRule {
+        data: rule,
+        clauses,
+    })
 }
 
 /// The rules among the items, with their clauses.
