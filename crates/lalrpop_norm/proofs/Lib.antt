@@ -12,3 +12,4 @@ pub mod TreesLeveled
 pub mod TreesWritten
 pub mod TreesFaithful
 pub mod TreesMacros
+pub mod TreesStarts
