@@ -23,3 +23,4 @@ pub mod TreesLeveled
 pub mod TreesWritten
 pub mod TreesFaithful
 pub mod TreesMacros
+pub mod TreesStarts

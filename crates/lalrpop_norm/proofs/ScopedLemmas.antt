@@ -52,7 +52,7 @@ none_of f [] x h i = absurd i
 none_of {A} f (y ∷ xs) x h (inl e) = subst (λ (z : A). f z ≡ []) (sym e) (left_none (f y) (flat_map f xs) h)
 none_of f (y ∷ xs) x h (inr i) = none_of f xs x (right_none (f y) (flat_map f xs) h) i
 
-not_fault : (b : Bool) (f : Fault) → fault_if b f ≡ [] → b ≡ false
+pub not_fault : (b : Bool) (f : Fault) → fault_if b f ≡ [] → b ≡ false
 not_fault true f h = absurd (cc h)
 not_fault false f h = refl
 

@@ -1,6 +1,8 @@
 -- What is proved of the whole way, each statement in one piece. The functions of the module `laws` carry them.
-use Rattle.std.specs.Prelude.{◌≡◌, ℕ, [], false}
+use Rattle.std.specs.Prelude.{◌≡◌, ℕ, [], Some, false}
 use Rattle.lalrpop_norm_tree.specs.Items.{RuleData, GrammarData}
+use Rattle.lalrpop_norm_tree.specs.Reprs.{ReprData}
+use Rattle.lalrpop_norm_theory.specs.Symbols.{Name}
 use Rattle.lalrpop_norm_theory.specs.Rounds.{In, IsDistinct}
 use Rattle.lalrpop_norm_conditions.specs.Conditions.{comparison}
 use Rattle.lalrpop_norm_model.specs.Features.{Features}
@@ -13,6 +15,8 @@ use Rattle.lalrpop_norm_model.specs.LevelRules.{level_of_rule, leveled_grammar}
 use Rattle.lalrpop_norm_model.specs.PlainRules.{all_rules, IsWhole}
 use Rattle.lalrpop_norm_model.specs.Renumbered.{prepared_grammar}
 use Rattle.lalrpop_norm_model.specs.Expanded.{rule_names}
+use Rattle.lalrpop_norm_model.specs.TypeTables.{Table}
+use Rattle.lalrpop_norm_model.specs.LoweringFaults.{lowering_faults}
 use Rattle.lalrpop_norm_model.specs.CheckedTokens.{IsEntered}
 use Rattle.lalrpop_norm_names.specs.NameFaults.{resolve_faults}
 use Rattle.lalrpop_norm_repr.specs.Lowered.{LoweredGrammar}
@@ -39,6 +43,11 @@ MacrosHaveOneLevel = (g : GrammarData) → resolved_grammar g ≡ g → resolve_
 pub record HasOwnNames (g : GrammarData) : Type 0 where
   pub once : IsDistinct (rule_names g)
   pub starts : (r : RuleData) → In r (public_rules (all_rules g)) → In (start_name g.prefix r.name).0 (rule_names g) → ⊥
+
+-- Names that stand once are a grammar's own where lowering has no fault and each rule has a type.
+abbrev pub NamesAreOwn : Type 0
+NamesAreOwn = (g : GrammarData) (types : Table) → IsDistinct (rule_names g) → lowering_faults g types ≡ [] →
+    ((n : Name) → In n (rule_names g) → (t : ReprData) × (types n ≡ Some t)) → HasOwnNames g
 
 -- Where no fault of names stands in the enabled grammar and in the one with levels, and so many rounds make all plain rules, what
 -- these are lowered to, once they have their tokens, has trees one to one with the written ones.

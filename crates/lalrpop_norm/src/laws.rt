@@ -1,6 +1,6 @@
 //! What is proved of the definitions alone. Each function here is a law: it does nothing, and its contract is a theorem, whose
 //! statement stands in `specs/Laws.antt`.
-ghost use Rattle.lalrpop_norm.specs.Laws.{LoweredTreesAreFaithful, MacrosHaveOneLevel};
+ghost use Rattle.lalrpop_norm.specs.Laws.{LoweredTreesAreFaithful, MacrosHaveOneLevel, NamesAreOwn};
 
 /// The trees of what a grammar's plain rules are lowered to, once they have their tokens, stand one to one with the written trees,
 /// with the same words and the same written alternatives, for each rule by itself and within each of its levels.
@@ -16,4 +16,10 @@ pub fn lowered_trees_are_faithful()
 /// from a level to the one below names a macro as if it were a rule. No argument may hide the name of a level.
 pub fn macros_have_one_level()
     ensures { MacrosHaveOneLevel }
+{}
+
+/// The names of rules that stand once are a grammar's own where lowering has no fault and each rule has a type: no start symbol
+/// has the name of a rule.
+pub fn names_are_own()
+    ensures { NamesAreOwn }
 {}
