@@ -104,7 +104,7 @@ module _ (fs : Features) (g : GrammarData) (taken : IsTaken fs g) (valid : valid
       of_plain : HasOneEnum u (grammar_of_plain_rules fs g limit)
       of_plain = tokens (IsTokenOf u) plain u comparison h prepared limit whole
 
-      -- It is typed by a table in which each of its rules has a type.
+      -- The grammar of plain rules is typed by a table in which each of its rules has a type.
       pub plain_is_typed : (table : List ℕ → Option ReprData) → ((r : RuleData) → IsRule (grammar_of_plain_rules fs g limit) r → IsSome (table r.name.0)) →
           IsTyped fs (grammar_of_plain_rules fs g limit) table
       plain_is_typed table some =
@@ -112,7 +112,7 @@ module _ (fs : Features) (g : GrammarData) (taken : IsTaken fs g) (valid : valid
           (distinct_tokens fs g taken valid (written_enum fs g taken valid).0 (written_enum fs g taken valid).1)
           (plain_terminals (IsTokenOf u) plain u comparison h prepared limit whole) some
 
-      -- Its tokens stay as they are.
+      -- its tokens stay as they are
       pub plain_is_checked : {R : Type 0} (lexer : Lexer R) → IsChecked lexer (grammar_of_plain_rules fs g limit) (grammar_of_plain_rules fs g limit)
       plain_is_checked lexer = enum_checked lexer u p of_plain
 
@@ -120,7 +120,7 @@ module _ (fs : Features) (g : GrammarData) (taken : IsTaken fs g) (valid : valid
         pub distinct_plain : IsDistinct (rule_names (grammar_of_plain_rules fs g limit))
         distinct_plain = stay comparison h limit none settled.once
 
-        -- The grammar of plain rules is expanded.
+        -- it is expanded
         pub plain_is_expanded : IsExpanded (grammar_of_plain_rules fs g limit)
         plain_is_expanded = plain_expanded (IsTokenOf u) plain u comparison h prepared limit whole distinct_plain
 
