@@ -38,7 +38,7 @@ use Rattle.lalrpop_norm.proofs.ExpandedTokens.{HasOneEnum, resolved_tokens, leve
 use Rattle.lalrpop_norm.proofs.ExpandedSteps.{AreFitRules, IsTokenOf, resolved_rules_fit, leveled_rules_fit}
 use Rattle.lalrpop_norm.proofs.ExpandedPlain.{IsPrepared, plain_expanded, plain_terminals, tokens}
 use Rattle.lalrpop_norm.proofs.ExpandedWritten.{written_enum, enabled_tokens, distinct_tokens, enabled_fit}
-use Rattle.lalrpop_norm.proofs.TreesFaithful.{levels_settled, lowered_trees_faithful}
+use Rattle.lalrpop_norm.proofs.TreesFaithful.{checked_entered, levels_settled, lowered_trees_faithful}
 use Rattle.lalrpop_norm.proofs.ExpandedWhole.{expansion_whole}
 use Rattle.lalrpop_norm.proofs.TypedPlain.{enabled_active, typed_by, enum_checked}
 use Rattle.lalrpop_norm.proofs.GroundedTypes.{rule_typed, start_is_free, types_are_grounded}
@@ -150,7 +150,7 @@ module _ (fs : Features) (g : GrammarData) (taken : IsTaken fs g) (valid : valid
                 IsLoweringOf (grammar_of_plain_rules fs g limit) (all_rules (grammar_of_plain_rules fs g limit)) table l → IsClosed l → IsFaithful no_lexer fs g l
             lowered_faithful l shape closed = record {
               rounds = limit;
-              trees = lowered_trees_faithful fs g resolved flat leveled limit whole own_names table l shape;
+              trees = lowered_trees_faithful fs g resolved flat leveled limit whole own_names p (checked_entered no_lexer p p (plain_is_checked no_lexer)) table l shape;
               plain = p;
               tokens = plain_is_checked no_lexer;
               types = grounded l.types shape.types;

@@ -24,3 +24,4 @@ pub mod TreesRounds
 pub mod TreesLeveled
 pub mod TreesWritten
 pub mod TreesFaithful
+pub mod TreesMacros

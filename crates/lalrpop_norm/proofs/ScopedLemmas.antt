@@ -39,15 +39,15 @@ use Rattle.lalrpop_norm_names.specs.NameFaults.{repeated_faults, argument_faults
 
 -- ---- faults
 
-left_none : (xs ys : List Fault) → xs ++ ys ≡ [] → xs ≡ []
+pub left_none : (xs ys : List Fault) → xs ++ ys ≡ [] → xs ≡ []
 left_none [] ys h = refl
 left_none (x ∷ xs) ys h = absurd (cc h)
 
-right_none : (xs ys : List Fault) → xs ++ ys ≡ [] → ys ≡ []
+pub right_none : (xs ys : List Fault) → xs ++ ys ≡ [] → ys ≡ []
 right_none [] ys h = h
 right_none (x ∷ xs) ys h = absurd (cc h)
 
-none_of : {A : Type 0} (f : A → List Fault) (xs : List A) (x : A) → flat_map f xs ≡ [] → In x xs → f x ≡ []
+pub none_of : {A : Type 0} (f : A → List Fault) (xs : List A) (x : A) → flat_map f xs ≡ [] → In x xs → f x ≡ []
 none_of f [] x h i = absurd i
 none_of {A} f (y ∷ xs) x h (inl e) = subst (λ (z : A). f z ≡ []) (sym e) (left_none (f y) (flat_map f xs) h)
 none_of f (y ∷ xs) x h (inr i) = none_of f xs x (right_none (f y) (flat_map f xs) h) i
@@ -110,7 +110,7 @@ rule_globals_named (extern_item t ∷ items) = rule_globals_named items
 rule_globals_named (intern_item t ∷ items) = rule_globals_named items
 rule_globals_named (use_item u ∷ items) = rule_globals_named items
 
-abbrev terminal_globals : GrammarData → List Global
+abbrev pub terminal_globals : GrammarData → List Global
 terminal_globals g = flat_map conversion_globals g.items ++ flat_map match_globals g.items
 
 -- no two rules share a name
@@ -171,12 +171,12 @@ definition_listed (d ∷ ds) n x h = by (bytes_eq d.name n) (definition_listed d
     by false f e = (let (c, i, s) = f e in (c, inr i, s))
 
 -- the definition of a rule of that name, else another
-abbrev defined_as : Option WrittenRule → Option Definition → Option Definition
+abbrev pub defined_as : Option WrittenRule → Option Definition → Option Definition
 defined_as None other = other
 defined_as (Some w) other = Some (rule_definition (length w.args))
 
 module _ (f : RuleData → WrittenRule) (named : (d : RuleData) → (f d).name ≡ d.name.0) (argued : (d : RuleData) → (f d).args ≡ d.args) where
-  rules_defined : (more : List Global) (n : Name) (items : List ItemData) →
+  pub rules_defined : (more : List Global) (n : Name) (items : List ItemData) →
       definition_of (flat_map rule_globals items ++ more) n ≡ defined_as (rule_named (rules_through (λ d. f d ∷ []) items) n) (definition_of more n)
   rules_defined more n [] = refl
   rules_defined more n (rule_item d ∷ items) =

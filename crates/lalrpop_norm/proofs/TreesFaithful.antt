@@ -1,7 +1,8 @@
 -- The derivation trees of what a grammar is lowered to stand one to one with the written trees.
-use Rattle.std.proofs.Common.{◌≡◌, inl, inr, ℕ, Bool, true, false, List, [], ◌∷◌, ◌++◌, map, length, sym, ap, ◌∙◌, subst}
-use Rattle.std.specs.Prelude.{flat_map, None, if◌then◌else◌}
-use Rattle.lalrpop_norm_tree.specs.Items.{RuleData, GrammarData}
+use Rattle.std.proofs.Common.{append-nil, ◌≡◌, inl, inr, ℕ, Bool, true, false, List, [], ◌∷◌, ◌++◌, map, length, sym, ap, ◌∙◌, subst}
+use Rattle.std.specs.Prelude.{flat_map, Option, Some, None, if◌then◌else◌}
+use Rattle.std.proofs.lemmas.Grind.{flat_map-append}
+use Rattle.lalrpop_norm_tree.specs.Items.{RuleData, EnumTokenData, GrammarData, intern_item}
 use Rattle.lalrpop_norm_theory.specs.Symbols.{Name, ClosedSymbol, terminal, error, reference, wrapped}
 use Rattle.lalrpop_norm_theory.specs.Meaning.{Meaning}
 use Rattle.lalrpop_norm_theory.specs.LoweredTrees as theory
@@ -26,12 +27,15 @@ use Rattle.lalrpop_norm_model.specs.WrittenRules.{WrittenRule, written_rules}
 use Rattle.lalrpop_norm_model.specs.Grammars.{ConditionValue, is_macro, meaning, references, rule_roots, roots}
 use Rattle.lalrpop_norm_model.specs.ClosedTexts.{text_in}
 use Rattle.lalrpop_norm_model.specs.LevelRules.{leveled_grammar}
-use Rattle.lalrpop_norm_model.specs.PlainRules.{all_rules, plain_grammar, plain_rules, IsWhole}
+use Rattle.lalrpop_norm_model.specs.PlainRules.{rule_of_item, all_rules, plain_grammar, plain_rules, IsWhole}
 use Rattle.lalrpop_norm_model.specs.Origins.{plain_symbols, plain_origins, action_origins}
 use Rattle.lalrpop_norm_model.specs.PlainTables.{IsSettled, rules_from}
 use Rattle.lalrpop_norm_model.specs.LevelNames.{HasLevelNames}
 use Rattle.lalrpop_norm_model.specs.Renumbered.{prepared_grammar}
 use Rattle.lalrpop_norm_model.specs.Expanded.{rule_names}
+use Rattle.lalrpop_norm_model.specs.TerminalTypes.{extern_enum}
+use Rattle.lalrpop_norm_model.specs.CheckedTokens.{IsEnteredWith, IsEntered, IsCheckedWith, IsChecked}
+use Rattle.lalrpop_norm_model.specs.Lexers.{Lexer}
 use Rattle.lalrpop_norm_model.proofs.ResolvedLemmas.{resolved_once}
 use Rattle.lalrpop_norm_model.proofs.LevelLemmas.{in_map, of_map}
 use Rattle.lalrpop_norm_model.proofs.MeaningLemmas.{meaning_has_counts, meaning_has_levels}
@@ -41,6 +45,7 @@ use Rattle.lalrpop_norm_model.proofs.FaithfulLemmas.{plain_grammars_hold_plain_r
 use Rattle.lalrpop_norm.specs.Derivations.{derivations}
 use Rattle.lalrpop_norm.specs.Laws.{HasFlatMacros, LoweredTreesAreFaithful}
 use Rattle.lalrpop_norm.proofs.ScopedLemmas.{names_once, leveled_scoped, settled, levels_resolved}
+use Rattle.lalrpop_norm.proofs.ShapeTrees.{AreFree}
 use Rattle.lalrpop_norm.proofs.PlainShape.{distinct_listed, free_listed, shape_derivations}
 use Rattle.lalrpop_norm.proofs.TreesWritten.{reference_of, written_whole, written_fit, written_names, written_stands}
 
@@ -53,6 +58,25 @@ root_of rs s h =
     by w true i = absurd i
     by w false (inl e) = (w.name, e)
     by w false (inr i) = absurd i
+
+-- tokens change no rules
+entered_same : (g h : GrammarData) → IsEntered g h → (all_rules h ≡ all_rules g) × (h.prefix ≡ g.prefix)
+entered_same g h = by (extern_enum g)
+  where
+    by : (o : Option EnumTokenData) → IsEnteredWith o g h → (all_rules h ≡ all_rules g) × (h.prefix ≡ g.prefix)
+    by (Some e) same = (ap all_rules same, ap (λ (x : GrammarData). x.prefix) same)
+    by None (t, entries) = (
+      ap all_rules entries.grammar ∙ flat_map-append rule_of_item g.items (intern_item t ∷ []) ∙ append-nil (all_rules g),
+      ap (λ (x : GrammarData). x.prefix) entries.grammar,
+    )
+
+-- what is checked has its entries
+pub checked_entered : {R : Type 0} (lexer : Lexer R) (g h : GrammarData) → IsChecked lexer g h → IsEntered g h
+checked_entered lexer g h = by (extern_enum g)
+  where
+    by : (o : Option EnumTokenData) → IsCheckedWith o lexer g h → IsEnteredWith o g h
+    by (Some e) same = same
+    by None (t, entries, automaton) = (t, entries)
 
 module _ (value : ConditionValue) (fs : Features) (g : GrammarData) (N : HasLevelNames (prepared_grammar fs g))
     (S : IsSettled (leveled_grammar (prepared_grammar fs g))) (n : ℕ) (whole : IsWhole value (leveled_grammar (prepared_grammar fs g)) n)
@@ -138,7 +162,8 @@ module _ (value : ConditionValue) (fs : Features) (g : GrammarData) (N : HasLeve
   -- ---- what the plain rules are lowered to
 
   module _ (free : (r : RuleData) → In r (public_rules (all_rules plain)) → In (plain.prefix ++ r.name.0) (rule_names plain) → ⊥)
-      (types : TypeTable) (l : LoweredGrammar) (shape : IsLoweringOf plain (all_rules plain) types l) where
+      (checked : GrammarData) (entered : IsEntered plain checked) (types : TypeTable) (l : LoweredGrammar)
+      (shape : IsLoweringOf checked (all_rules checked) types l) where
     counted : length (plain_origins M (references ws) n) ≡ length (flat_map (λ (r : RuleData). r.alternatives) (all_rules plain))
     counted =
         origins_counted M name (plain_rules value (leveled_grammar (prepared_grammar fs g)) n) (plain_symbols M (references ws) n) (written_fit value fs g N S n)
@@ -149,8 +174,12 @@ module _ (value : ConditionValue) (fs : Features) (g : GrammarData) (N : HasLeve
         OneToOne M name (derivations (action_origins (length (public_rules (all_rules plain))) M (references ws) n) l) s
     lowered_trees s i =
         held_trees (derivations (action_origins (length (public_rules (all_rules plain))) M (references ws) n) l)
-        (shape_derivations plain (all_rules plain) types l shape (distinct_listed (all_rules plain) D)
-        (free_listed plain.prefix (all_rules plain) (public_rules (all_rules plain)) free) (plain_origins M (references ws) n) counted)
+        (shape_derivations checked (all_rules plain) types l
+        (subst (λ (rs : List RuleData). IsLoweringOf checked rs types l) (entered_same plain checked entered).0 shape)
+        (distinct_listed (all_rules plain) D)
+        (subst (λ (prefix : Name). AreFree prefix (all_rules plain) (public_rules (all_rules plain))) (sym (entered_same plain checked entered).1)
+        (free_listed plain.prefix (all_rules plain) (public_rules (all_rules plain)) free))
+        (plain_origins M (references ws) n) counted)
         s i
 
 -- ---- from the absence of faults
@@ -169,10 +198,10 @@ module _ (fs : Features) (g : GrammarData) (faults : resolve_faults (enabled_gra
   levels_settled = settled (leveled_grammar (prepared_grammar fs g)) level_faults (levels_resolved (prepared_grammar fs g) level_names_found)
 
 pub lowered_trees_faithful : LoweredTreesAreFaithful
-lowered_trees_faithful fs g faults macros level_faults rounds whole names types l shape =
+lowered_trees_faithful fs g faults macros level_faults rounds whole names checked entered types l shape =
     let N = level_names_found fs g faults macros level_faults in
     let S = levels_settled fs g faults macros level_faults in
     record {
       whole = written_whole comparison fs g N S rounds whole;
-      one_to_one = lowered_trees comparison fs g N S rounds whole names.once names.starts types l shape;
+      one_to_one = lowered_trees comparison fs g N S rounds whole names.once names.starts checked entered types l shape;
     }

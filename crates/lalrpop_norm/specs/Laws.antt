@@ -1,16 +1,19 @@
 -- What is proved of the whole way, each statement in one piece. The functions of the module `laws` carry them.
-use Rattle.std.specs.Prelude.{◌≡◌, ◌++◌, ℕ, [], false}
+use Rattle.std.specs.Prelude.{◌≡◌, ℕ, [], false}
 use Rattle.lalrpop_norm_tree.specs.Items.{RuleData, GrammarData}
 use Rattle.lalrpop_norm_theory.specs.Rounds.{In, IsDistinct}
 use Rattle.lalrpop_norm_conditions.specs.Conditions.{comparison}
 use Rattle.lalrpop_norm_model.specs.Features.{Features}
 use Rattle.lalrpop_norm_model.specs.Enabled.{all_places, enabled_grammar}
-use Rattle.lalrpop_norm_model.specs.Levels.{with_levels}
+use Rattle.lalrpop_norm_model.specs.Levels.{with_levels, levels_of}
+use Rattle.lalrpop_norm_model.specs.Scopes.{is_argument, resolved_grammar}
 use Rattle.lalrpop_norm_model.specs.Stated.{HasLevel}
 use Rattle.lalrpop_norm_model.specs.Grammars.{is_nil}
+use Rattle.lalrpop_norm_model.specs.LevelRules.{level_of_rule, leveled_grammar}
 use Rattle.lalrpop_norm_model.specs.PlainRules.{all_rules, IsWhole}
 use Rattle.lalrpop_norm_model.specs.Renumbered.{prepared_grammar}
 use Rattle.lalrpop_norm_model.specs.Expanded.{rule_names}
+use Rattle.lalrpop_norm_model.specs.CheckedTokens.{IsEntered}
 use Rattle.lalrpop_norm_names.specs.NameFaults.{resolve_faults}
 use Rattle.lalrpop_norm_repr.specs.Lowered.{LoweredGrammar}
 use Rattle.lalrpop_norm_repr.specs.Tables.{TypeTable}
@@ -23,16 +26,25 @@ abbrev pub HasFlatMacros : GrammarData → Type 0
 HasFlatMacros g = (d : RuleData) → In d (all_rules g) → is_nil d.args ≡ false → (l m : ℕ) →
     HasLevel (with_levels (all_places d)) l → HasLevel (with_levels (all_places d)) m → l ≡ m
 
+-- no level of a macro has the name of one of the macro's arguments
+abbrev pub HasOwnLevels : GrammarData → Type 0
+HasOwnLevels g = (d : RuleData) → In d (all_rules g) → is_nil d.args ≡ false → (l : ℕ) → In l (levels_of (with_levels (all_places d))) →
+    is_argument d.args (level_of_rule d (with_levels (all_places d)) l) ≡ false
+
+-- Where no fault of names stands in the grammar with levels, a macro has no two levels, if no argument hides the name of a level.
+abbrev pub MacrosHaveOneLevel : Type 0
+MacrosHaveOneLevel = (g : GrammarData) → resolved_grammar g ≡ g → resolve_faults (leveled_grammar g) ≡ [] → HasOwnLevels g → HasFlatMacros g
+
 -- names stand once, and no start symbol has the name of a rule
 pub record HasOwnNames (g : GrammarData) : Type 0 where
   pub once : IsDistinct (rule_names g)
   pub starts : (r : RuleData) → In r (public_rules (all_rules g)) → In (start_name g.prefix r.name).0 (rule_names g) → ⊥
 
 -- Where no fault of names stands in the enabled grammar and in the one with levels, and so many rounds make all plain rules, what
--- these are lowered to has trees one to one with the written ones.
+-- these are lowered to, once they have their tokens, has trees one to one with the written ones.
 abbrev pub LoweredTreesAreFaithful : Type 0
 LoweredTreesAreFaithful = (fs : Features) (g : GrammarData) → resolve_faults (enabled_grammar fs g) ≡ [] → HasFlatMacros (prepared_grammar fs g) →
     resolve_faults (grammar_with_levels fs g) ≡ [] → (rounds : ℕ) → IsWhole comparison (grammar_with_levels fs g) rounds →
-    HasOwnNames (grammar_of_plain_rules fs g rounds) → (types : TypeTable) (l : LoweredGrammar) →
-    IsLoweringOf (grammar_of_plain_rules fs g rounds) (all_rules (grammar_of_plain_rules fs g rounds)) types l →
+    HasOwnNames (grammar_of_plain_rules fs g rounds) → (plain : GrammarData) → IsEntered (grammar_of_plain_rules fs g rounds) plain →
+    (types : TypeTable) (l : LoweredGrammar) → IsLoweringOf plain (all_rules plain) types l →
     HasFaithfulTrees fs g (grammar_of_plain_rules fs g rounds) rounds l

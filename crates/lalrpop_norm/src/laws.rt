@@ -1,12 +1,19 @@
 //! What is proved of the definitions alone. Each function here is a law: it does nothing, and its contract is a theorem, whose
 //! statement stands in `specs/Laws.antt`.
-ghost use Rattle.lalrpop_norm.specs.Laws.{LoweredTreesAreFaithful};
+ghost use Rattle.lalrpop_norm.specs.Laws.{LoweredTreesAreFaithful, MacrosHaveOneLevel};
 
-/// The trees of what a grammar's plain rules are lowered to stand one to one with the written trees, with the same words and the
-/// same written alternatives, for each rule by itself and within each of its levels.
+/// The trees of what a grammar's plain rules are lowered to, once they have their tokens, stand one to one with the written trees,
+/// with the same words and the same written alternatives, for each rule by itself and within each of its levels.
 ///
 /// It asks what the passes find out: that no fault of names stands in the enabled grammar and in its grammar with levels, that the
-/// expansion has ended, that the names of the plain rules are distinct, and that none is that of a start symbol. No macro may have two levels.
+/// expansion has ended, that the names of the plain rules are distinct, and that none is that of a start symbol. No macro may have
+/// two levels.
 pub fn lowered_trees_are_faithful()
     ensures { LoweredTreesAreFaithful }
+{}
+
+/// A macro of a resolved grammar has no two levels where no fault of names stands in its grammar with levels, since the step
+/// from a level to the one below names a macro as if it were a rule. No argument may hide the name of a level.
+pub fn macros_have_one_level()
+    ensures { MacrosHaveOneLevel }
 {}
