@@ -17,7 +17,7 @@ use Rattle.lalrpop_norm_model.specs.Expanded.{is_plain_terminal, terminals_conve
 use Rattle.lalrpop_norm_model.specs.InferenceFaults.{inference_faults}
 use Rattle.lalrpop_norm_model.specs.LoweringFaults.{lowering_faults}
 use Rattle.lalrpop_norm_model.specs.Lexers.{Lexer}
-use Rattle.lalrpop_norm_model.specs.CheckedTokens.{IsChecked, IsEntered}
+use Rattle.lalrpop_norm_model.specs.CheckedTokens.{IsChecked}
 use Rattle.lalrpop_norm_model.specs.Grammars.{is_nil}
 use Rattle.lalrpop_norm_model.specs.Renumbered.{prepared_grammar}
 use Rattle.lalrpop_norm_names.specs.NameFaults.{resolve_faults}
@@ -38,9 +38,9 @@ use Rattle.lalrpop_norm.proofs.ExpandedTokens.{HasOneEnum, resolved_tokens, leve
 use Rattle.lalrpop_norm.proofs.ExpandedSteps.{AreFitRules, IsTokenOf, resolved_rules_fit, leveled_rules_fit}
 use Rattle.lalrpop_norm.proofs.ExpandedPlain.{IsPrepared, plain_expanded, plain_terminals, tokens}
 use Rattle.lalrpop_norm.proofs.ExpandedWritten.{written_enum, enabled_tokens, distinct_tokens, enabled_fit}
-use Rattle.lalrpop_norm.proofs.TreesFaithful.{levels_settled, lowered_trees_faithful}
+use Rattle.lalrpop_norm.proofs.TreesFaithful.{checked_entered, levels_settled, lowered_trees_faithful}
 use Rattle.lalrpop_norm.proofs.ExpandedWhole.{expansion_whole}
-use Rattle.lalrpop_norm.proofs.TypedPlain.{enabled_active, typed_by, enum_checked, enum_entered}
+use Rattle.lalrpop_norm.proofs.TypedPlain.{enabled_active, typed_by, enum_checked}
 use Rattle.lalrpop_norm.proofs.GroundedTypes.{rule_typed, start_is_free, types_are_grounded}
 
 -- a terminal of an enum that does not name the error terminal is plain
@@ -104,7 +104,7 @@ module _ (fs : Features) (g : GrammarData) (taken : IsTaken fs g) (valid : valid
       of_plain : HasOneEnum u (grammar_of_plain_rules fs g limit)
       of_plain = tokens (IsTokenOf u) plain u comparison h prepared limit whole
 
-      -- It is typed by a table in which each of its rules has a type.
+      -- The grammar of plain rules is typed by a table in which each of its rules has a type.
       pub plain_is_typed : (table : List ℕ → Option ReprData) → ((r : RuleData) → IsRule (grammar_of_plain_rules fs g limit) r → IsSome (table r.name.0)) →
           IsTyped fs (grammar_of_plain_rules fs g limit) table
       plain_is_typed table some =
@@ -112,18 +112,15 @@ module _ (fs : Features) (g : GrammarData) (taken : IsTaken fs g) (valid : valid
           (distinct_tokens fs g taken valid (written_enum fs g taken valid).0 (written_enum fs g taken valid).1)
           (plain_terminals (IsTokenOf u) plain u comparison h prepared limit whole) some
 
-      -- Its tokens stay as they are.
+      -- its tokens stay as they are
       pub plain_is_checked : {R : Type 0} (lexer : Lexer R) → IsChecked lexer (grammar_of_plain_rules fs g limit) (grammar_of_plain_rules fs g limit)
       plain_is_checked lexer = enum_checked lexer u p of_plain
-
-      plain_is_entered : IsEntered (grammar_of_plain_rules fs g limit) (grammar_of_plain_rules fs g limit)
-      plain_is_entered = enum_entered u p of_plain
 
       module _ (stay : NamesStayDistinct) where
         pub distinct_plain : IsDistinct (rule_names (grammar_of_plain_rules fs g limit))
         distinct_plain = stay comparison h limit none settled.once
 
-        -- The grammar of plain rules is expanded.
+        -- it is expanded
         pub plain_is_expanded : IsExpanded (grammar_of_plain_rules fs g limit)
         plain_is_expanded = plain_expanded (IsTokenOf u) plain u comparison h prepared limit whole distinct_plain
 
@@ -153,7 +150,7 @@ module _ (fs : Features) (g : GrammarData) (taken : IsTaken fs g) (valid : valid
                 IsLoweringOf (grammar_of_plain_rules fs g limit) (all_rules (grammar_of_plain_rules fs g limit)) table l → IsClosed l → IsFaithful no_lexer fs g l
             lowered_faithful l shape closed = record {
               rounds = limit;
-              trees = lowered_trees_faithful fs g resolved flat leveled limit whole own_names p plain_is_entered table l shape;
+              trees = lowered_trees_faithful fs g resolved flat leveled limit whole own_names p (checked_entered no_lexer p p (plain_is_checked no_lexer)) table l shape;
               plain = p;
               tokens = plain_is_checked no_lexer;
               types = grounded l.types shape.types;

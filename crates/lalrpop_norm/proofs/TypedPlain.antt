@@ -8,7 +8,7 @@ use Rattle.lalrpop_norm_theory.specs.Rounds.{In, IsDistinct}
 use Rattle.lalrpop_norm_model.specs.Features.{Features, is_active}
 use Rattle.lalrpop_norm_model.specs.Enabled.{enabled_enum}
 use Rattle.lalrpop_norm_model.specs.Lexers.{Lexer}
-use Rattle.lalrpop_norm_model.specs.CheckedTokens.{IsCheckedWith, IsChecked, IsEntered, IsEnteredWith}
+use Rattle.lalrpop_norm_model.specs.CheckedTokens.{IsCheckedWith, IsChecked}
 use Rattle.lalrpop_norm_model.specs.Terminals.{terminals_used}
 use Rattle.lalrpop_norm_model.specs.TypeRelation.{IsRule}
 use Rattle.lalrpop_norm_model.specs.Expanded.{terminals_converted, terminals_with, terminals_of, IsTyped}
@@ -48,6 +48,3 @@ typed_by fs u g table a h distinct used some = record {
 -- With an extern enum there is nothing to make of the tokens.
 pub enum_checked : {R : Type 0} (lexer : Lexer R) (u : EnumTokenData) (g : GrammarData) → HasOneEnum u g → IsChecked lexer g g
 enum_checked lexer u g h = subst (λ (o : Option EnumTokenData). IsCheckedWith o lexer g g) (sym (the_enum u g h)) refl
-
-pub enum_entered : (u : EnumTokenData) (g : GrammarData) → HasOneEnum u g → IsEntered g g
-enum_entered u g h = subst (λ (o : Option EnumTokenData). IsEnteredWith o g g) (sym (the_enum u g h)) refl
