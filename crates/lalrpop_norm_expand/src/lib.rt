@@ -4,8 +4,6 @@
 ghost use Rattle.lalrpop_norm_expand.specs.Laws.{NamesStayDistinct};
 
 pub mod macro_expand;
-#[cfg(test)]
-mod tests;
 
 /// Where no fault stands in the expansion of a grammar whose rules have distinct names, the plain rules have distinct names:
 /// those of its rules, and the text of each symbol that is made into a rule.

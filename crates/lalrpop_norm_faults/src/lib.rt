@@ -4,8 +4,6 @@
 
 mod failure;
 mod kind;
-#[cfg(test)]
-mod tests;
 
 pub use failure::{NormError, NormFailure, NormResult, refusal};
 pub use kind::FaultKind;

@@ -6,8 +6,6 @@ pub mod norm_util;
 pub mod precedence;
 pub mod prevalidate;
 mod session;
-#[cfg(test)]
-mod tests;
 
 pub use lalrpop_norm_faults::{FaultKind, NormError, NormFailure, NormResult, refusal};
 pub use lalrpop_norm_names::resolve;

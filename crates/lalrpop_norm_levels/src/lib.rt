@@ -2,5 +2,3 @@
 #![tactic(auto)]
 
 pub mod precedence;
-#[cfg(test)]
-mod tests;

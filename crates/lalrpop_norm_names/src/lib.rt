@@ -2,5 +2,3 @@
 #![tactic(auto)]
 
 pub mod resolve;
-#[cfg(test)]
-mod tests;

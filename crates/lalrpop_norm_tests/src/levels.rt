@@ -1,127 +1,78 @@
 //! Levels of small rules.
-use crate::precedence::{
+use crate::parts::{
+    alternative, fault_text, level, macro_call, quoted, reference, rule, side, stated,
+};
+use crate::small::{grammar, nonterminal};
+use lalrpop_norm_faults::NormResult;
+use lalrpop_norm_levels::precedence::{
     Assoc, Direction, Substitution, expand_levels, expand_nonterm, has_prec_attr, read_levels,
     replace_nonterm,
 };
-use lalrpop_norm_faults::{NormFailure, NormResult};
 use lalrpop_norm_tree::grammar::parse_tree::*;
 use std::alloc::Global;
 use std::test::*;
 
 // ---- small trees
 
-fn symbol(kind: SymbolKind) -> Symbol {
-    Symbol {
-        span: Span(92, 93),
-        kind,
-    }
-}
+/// Where a `precedence` stands.
+const LEVEL: Span = Span(60, 70);
+/// Where an `assoc` stands.
+const SIDE: Span = Span(105, 110);
+/// Where a symbol stands.
+const SYMBOL: Span = Span(92, 93);
 
-fn name(alloc: Global, text: &str) -> Result<NonterminalString, NoMemory> {
-    Ok(NonterminalString(Atom::new(alloc, text)?))
-}
-
-fn reference(alloc: Global, text: &str) -> Result<Symbol, NoMemory> {
-    Ok(symbol(SymbolKind::Nonterminal(name(alloc, text)?)))
-}
-
-fn literal(alloc: Global, text: &str) -> Result<Symbol, NoMemory> {
-    let literal = TerminalLiteral::Quoted(Atom::new(alloc, text)?);
-    Ok(symbol(SymbolKind::Terminal(TerminalString::Literal(literal))))
-}
-
-fn argument(alloc: Global, key: &str, value: &str) -> Result<Attribute, NoMemory> {
-    Ok(Attribute {
-        id_span: Span(71, 76),
-        id: Atom::new(alloc, key)?,
-        arg: AttributeArg::Equal(String::from_str(alloc, value)?),
-    })
-}
-
-fn attribute(
+fn with_attributes(
     alloc: Global,
-    span: Span,
-    id: &str,
-    key: &str,
-    value: &str,
-) -> Result<Attribute, NoMemory> {
-    let first = argument(alloc, key, value)?;
-    Ok(Attribute {
-        id_span: span,
-        id: Atom::new(alloc, id)?,
-        arg: AttributeArg::Paren(vec![in alloc; first]?),
-    })
-}
-
-fn level(alloc: Global, text: &str) -> Result<Attribute, NoMemory> {
-    attribute(alloc, Span(60, 70), "precedence", "level", text)
-}
-
-fn side(alloc: Global, text: &str) -> Result<Attribute, NoMemory> {
-    attribute(alloc, Span(105, 110), "assoc", "side", text)
-}
-
-fn alternative(span: Span, symbols: Vec<Symbol>, attributes: Vec<Attribute>) -> Alternative {
+    at: Span,
+    symbols: Vec<Symbol>,
+    attributes: Vec<Attribute>,
+) -> Alternative {
     Alternative {
-        span,
-        expr: ExprSymbol { symbols },
-        condition: None,
-        action: None,
         attributes,
+        ..alternative(alloc, at, symbols)
     }
 }
 
 /// `E = { .. }`.
-fn rule(alloc: Global, alternatives: Vec<Alternative>) -> Result<NonterminalData, NoMemory> {
-    Ok(NonterminalData {
-        visibility: Visibility::Priv,
-        name: name(alloc, "E")?,
-        attributes: Vec::new(alloc),
-        span: Span(9, 10),
-        args: Vec::new(alloc),
-        type_decl: None,
-        alternatives,
-    })
+fn rule_e(alloc: Global, alternatives: Vec<Alternative>) -> Result<NonterminalData, NoMemory> {
+    rule(alloc, Span(9, 10), "E", alternatives)
 }
 
 /// An alternative `"n"` with attributes.
 fn leaf(alloc: Global, attributes: Vec<Attribute>) -> Result<Alternative, NoMemory> {
-    Ok(alternative(
-        Span(40, 43),
-        vec![in alloc; literal(alloc, "n")?]?,
-        attributes,
-    ))
+    let symbols = vec![in alloc; quoted(alloc, SYMBOL, "n")?]?;
+    Ok(with_attributes(alloc, Span(40, 43), symbols, attributes))
 }
 
 /// `E = { #[precedence(level="..")] "n" }`.
 fn leveled(alloc: Global, text: &str) -> Result<NonterminalData, NoMemory> {
-    let first = leaf(alloc, vec![in alloc; level(alloc, text)?]?)?;
-    rule(alloc, vec![in alloc; first]?)
+    let first = leaf(alloc, vec![in alloc; level(alloc, LEVEL, text)?]?)?;
+    rule_e(alloc, vec![in alloc; first]?)
 }
 
 /// An alternative `E "?" E ":" E` with attributes.
 fn choice(alloc: Global, attributes: Vec<Attribute>) -> Result<Alternative, NoMemory> {
     let mut symbols = Vec::new(alloc);
-    symbols.push(reference(alloc, "E")?)?;
-    symbols.push(literal(alloc, "?")?)?;
-    symbols.push(reference(alloc, "E")?)?;
-    symbols.push(literal(alloc, ":")?)?;
-    symbols.push(reference(alloc, "E")?)?;
-    Ok(alternative(Span(92, 105), symbols, attributes))
+    symbols.push(reference(alloc, SYMBOL, "E")?)?;
+    symbols.push(quoted(alloc, SYMBOL, "?")?)?;
+    symbols.push(reference(alloc, SYMBOL, "E")?)?;
+    symbols.push(quoted(alloc, SYMBOL, ":")?)?;
+    symbols.push(reference(alloc, SYMBOL, "E")?)?;
+    Ok(with_attributes(alloc, Span(92, 105), symbols, attributes))
 }
 
 /// `E = { #[precedence(level="1")] "n", .. E "?" E ":" E }`.
 fn choices(alloc: Global, attributes: Vec<Attribute>) -> Result<NonterminalData, NoMemory> {
-    let first = leaf(alloc, vec![in alloc; level(alloc, "1")?]?)?;
+    let first = leaf(alloc, vec![in alloc; level(alloc, LEVEL, "1")?]?)?;
     let second = choice(alloc, attributes)?;
-    rule(alloc, vec![in alloc; first, second]?)
+    rule_e(alloc, vec![in alloc; first, second]?)
 }
 
 /// A rule of level 1 and a choice of level 2 with that side.
 fn choices_by(alloc: Global, text: &str) -> Result<NonterminalData, NoMemory> {
     choices(
         alloc,
-        vec![in alloc; level(alloc, "2")?, side(alloc, text)?]?,
+        vec![in alloc; level(alloc, LEVEL, "2")?, side(alloc, SIDE, text)?]?,
     )
 }
 
@@ -149,18 +100,6 @@ fn push_rule(alloc: Global, text: &mut String, rule: &NonterminalData) -> Result
     }
     text.push_str("\n")?;
     Ok(())
-}
-
-fn fault_text(alloc: Global, failure: NormFailure) -> Result<String, NoMemory> {
-    match failure {
-        NormFailure::Refused(error) => Ok(format!(in alloc;
-            "{} {}..{}",
-            error.fault.code(),
-            error.span.0,
-            error.span.1
-        )?),
-        NormFailure::Memory => Err(NoMemory),
-    }
 }
 
 fn rules_text(alloc: Global, rules: NormResult<Vec<NonterminalData>>) -> Result<String, NoMemory> {
@@ -269,21 +208,65 @@ fn none_and_all(rt: HostRuntime) -> Result<(), Fail> {
         all.as_str(),
         "E1: \"n\" 40..43;\nE: E \"?\" E \":\" E 92..105; E1 9..10;\n"
     );
-    let absent = expanded(alloc, choices(alloc, vec![in alloc; level(alloc, "2")?]?)?)?;
+    let absent = expanded(
+        alloc,
+        choices(alloc, vec![in alloc; level(alloc, LEVEL, "2")?]?)?,
+    )?;
     assert_eq!(rt; absent.as_str(), all.as_str());
+    Ok(())
+}
+
+/// `E = { #[precedence(level="1")] "n", #[precedence(level="2")] #[assoc(side="..")] E "+" E }`.
+fn sums_by(alloc: Global, text: &str) -> Result<NonterminalData, NoMemory> {
+    let first = leaf(alloc, vec![in alloc; level(alloc, LEVEL, "1")?]?)?;
+    let symbols = vec![in alloc;
+        reference(alloc, SYMBOL, "E")?,
+        quoted(alloc, SYMBOL, "+")?,
+        reference(alloc, SYMBOL, "E")?,
+    ]?;
+    let attributes = vec![in alloc; level(alloc, LEVEL, "2")?, side(alloc, SIDE, text)?]?;
+    let second = with_attributes(alloc, Span(92, 105), symbols, attributes);
+    rule_e(alloc, vec![in alloc; first, second]?)
+}
+
+#[test]
+fn two_occurrences(rt: HostRuntime) -> Result<(), Fail> {
+    let rows = [
+        (
+            "left",
+            "E1: \"n\" 40..43;\nE: E \"+\" E1 92..105; E1 9..10;\n",
+        ),
+        (
+            "right",
+            "E1: \"n\" 40..43;\nE: E1 \"+\" E 92..105; E1 9..10;\n",
+        ),
+        (
+            "none",
+            "E1: \"n\" 40..43;\nE: E1 \"+\" E1 92..105; E1 9..10;\n",
+        ),
+        (
+            "all",
+            "E1: \"n\" 40..43;\nE: E \"+\" E 92..105; E1 9..10;\n",
+        ),
+    ];
+    for (text, want) in rows {
+        let got = expanded(rt.alloc(), sums_by(rt.alloc(), text)?)?;
+        assert_eq!(rt; got.as_str(), want, "{text}");
+    }
     Ok(())
 }
 
 #[test]
 fn levels_by_number(rt: HostRuntime) -> Result<(), Fail> {
     let alloc = rt.alloc();
-    let first = leaf(alloc, vec![in alloc; level(alloc, "10")?]?)?;
-    let second = alternative(
+    let first = leaf(alloc, vec![in alloc; level(alloc, LEVEL, "10")?]?)?;
+    let second = with_attributes(
+        alloc,
         Span(77, 80),
-        vec![in alloc; literal(alloc, "m")?]?,
-        vec![in alloc; level(alloc, "+02")?]?,
+        vec![in alloc; quoted(alloc, SYMBOL, "m")?]?,
+        vec![in alloc; level(alloc, LEVEL, "+02")?]?,
     );
-    let text = expanded(alloc, rule(alloc, vec![in alloc; first, second]?)?)?;
+    let text = expanded(alloc, rule_e(alloc, vec![in alloc; first, second]?)?)?;
     assert_eq!(rt;
         text.as_str(),
         "E2: \"m\" 77..80;\nE: \"n\" 40..43; E2 9..10;\n"
@@ -295,15 +278,16 @@ fn levels_by_number(rt: HostRuntime) -> Result<(), Fail> {
 fn first_alternatives(rt: HostRuntime) -> Result<(), Fail> {
     let alloc = rt.alloc();
     assert!(rt; has_prec_attr(&leveled(alloc, "1")?));
-    let first = alternative(
+    let first = with_attributes(
+        alloc,
         Span(144, 147),
-        vec![in alloc; literal(alloc, "m")?]?,
-        vec![in alloc; side(alloc, "all")?]?,
+        vec![in alloc; quoted(alloc, SYMBOL, "m")?]?,
+        vec![in alloc; side(alloc, SIDE, "all")?]?,
     );
-    let only = rule(alloc, vec![in alloc; first]?)?;
+    let only = rule_e(alloc, vec![in alloc; first]?)?;
     assert!(rt; has_prec_attr(&only));
     assert_eq!(rt; expanded(alloc, only)?.as_str(), "F12a 144..147");
-    let plain = rule(alloc, vec![in alloc; leaf(alloc, Vec::new(alloc))?]?)?;
+    let plain = rule_e(alloc, vec![in alloc; leaf(alloc, Vec::new(alloc))?]?)?;
     assert!(rt; !has_prec_attr(&plain));
     assert_eq!(rt; expanded(alloc, plain)?.as_str(), "E: \"n\" 40..43;\n");
     Ok(())
@@ -318,33 +302,37 @@ fn refused(alloc: Global, second: Attribute) -> Result<String, NoMemory> {
 fn faults(rt: HostRuntime) -> Result<(), Fail> {
     let alloc = rt.alloc();
     let span = Span(75, 85);
-    let no_level = refused(alloc, attribute(alloc, span, "precedence", "side", "1")?)?;
+    let no_level = refused(alloc, stated(alloc, span, "precedence", "side", "1")?)?;
     assert_eq!(rt; no_level.as_str(), "F12b 75..85");
-    let no_side = refused(alloc, attribute(alloc, span, "assoc", "level", "left")?)?;
+    let no_side = refused(alloc, stated(alloc, span, "assoc", "level", "left")?)?;
     assert_eq!(rt; no_side.as_str(), "F12d 75..85");
-    let other = refused(alloc, side(alloc, "both")?)?;
+    let other = refused(alloc, side(alloc, SIDE, "both")?)?;
     assert_eq!(rt; other.as_str(), "F12e 105..110");
-    let lowest = refused(alloc, side(alloc, "left")?)?;
+    let lowest = refused(alloc, side(alloc, SIDE, "left")?)?;
     assert_eq!(rt; lowest.as_str(), "F12f 105..110");
     Ok(())
 }
 
 /// `"x" M<E, E> E`.
 fn call_symbols(alloc: Global) -> Result<Vec<Symbol>, NoMemory> {
-    let args = vec![in alloc; reference(alloc, "E")?, reference(alloc, "E")?]?;
-    let call = symbol(SymbolKind::Macro(MacroSymbol {
-        name: name(alloc, "E")?,
-        args,
-    }));
-    Ok(vec![in alloc; literal(alloc, "x")?, call, reference(alloc, "E")?]?)
+    let args = vec![in alloc;
+        reference(alloc, SYMBOL, "E")?,
+        reference(alloc, SYMBOL, "E")?,
+    ]?;
+    let call = macro_call(alloc, SYMBOL, "E", args)?;
+    Ok(vec![in alloc;
+        quoted(alloc, SYMBOL, "x")?,
+        call,
+        reference(alloc, SYMBOL, "E")?,
+    ]?)
 }
 
 fn replaced(alloc: Global, direction: Direction) -> Result<String, NoMemory> {
     let mut symbols = call_symbols(alloc)?;
-    let current = SymbolKind::Nonterminal(name(alloc, "C")?);
-    let below = SymbolKind::Nonterminal(name(alloc, "B")?);
+    let current = SymbolKind::Nonterminal(nonterminal(alloc, "C")?);
+    let below = SymbolKind::Nonterminal(nonterminal(alloc, "B")?);
     replace_nonterm(
-        &name(alloc, "E")?,
+        &nonterminal(alloc, "E")?,
         Substitution::OneThen(&current, &below),
         direction,
         &mut symbols,
@@ -364,20 +352,11 @@ fn directions(rt: HostRuntime) -> Result<(), Fail> {
 }
 
 /// A grammar of a rule with levels and two uses around it.
-fn grammar(alloc: Global) -> Result<Grammar, NoMemory> {
+fn grammar_e(alloc: Global) -> Result<Grammar, NoMemory> {
     let before = GrammarItem::Use(String::from_str(alloc, "std::fmt")?);
     let rule = GrammarItem::Nonterminal(choices_by(alloc, "left")?);
     let after = GrammarItem::Use(String::from_str(alloc, "std::str")?);
-    Ok(Grammar {
-        prefix: String::from_str(alloc, "__")?,
-        span: Span(0, 7),
-        type_parameters: Vec::new(alloc),
-        parameters: Vec::new(alloc),
-        where_clauses: Vec::new(alloc),
-        items: vec![in alloc; before, rule, after]?,
-        attributes: Vec::new(alloc),
-        module_attributes: Vec::new(alloc),
-    })
+    grammar(alloc, Span(0, 7), vec![in alloc; before, rule, after]?)
 }
 
 fn grammar_text(alloc: Global, grammar: &Grammar) -> Result<String, NoMemory> {
@@ -400,7 +379,7 @@ fn grammar_text(alloc: Global, grammar: &Grammar) -> Result<String, NoMemory> {
 #[test]
 fn rules_in_their_places(rt: HostRuntime) -> Result<(), Fail> {
     let alloc = rt.alloc();
-    match expand_levels(alloc, grammar(alloc)?) {
+    match expand_levels(alloc, grammar_e(alloc)?) {
         Ok(leveled) => {
             let text = grammar_text(alloc, &leveled)?;
             assert_eq!(rt;

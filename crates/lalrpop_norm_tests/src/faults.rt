@@ -1,5 +1,5 @@
 //! Numbers of faults, and a refusal.
-use crate::{FaultKind, NormFailure, refusal};
+use lalrpop_norm_faults::{FaultKind, NormFailure, refusal};
 use lalrpop_norm_tree::grammar::parse_tree::Span;
 use std::alloc::AllocError;
 use std::test::*;

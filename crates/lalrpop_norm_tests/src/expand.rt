@@ -1,51 +1,29 @@
 //! Rounds, what is made in them, and what is refused.
-use crate::macro_expand::expand_macros;
+use crate::parts::{self, chosen, group, named, quoted, reference, word};
+use crate::small;
+use lalrpop_norm_expand::macro_expand::expand_macros;
 use lalrpop_norm_faults::{FaultKind, NormFailure, NormResult};
 use lalrpop_norm_tree::grammar::parse_tree::*;
 use std::alloc::Global;
 use std::test::*;
-
-fn quoted(alloc: Global, span: Span, text: &str) -> Result<Symbol, NoMemory> {
-    let literal = TerminalLiteral::Quoted(Atom::new(alloc, text)?);
-    Ok(Symbol::new(span, SymbolKind::Terminal(TerminalString::Literal(literal))))
-}
-
-fn rule_of(alloc: Global, span: Span, name: &str) -> Result<Symbol, NoMemory> {
-    let name = NonterminalString(Atom::new(alloc, name)?);
-    Ok(Symbol::new(span, SymbolKind::Nonterminal(name)))
-}
-
-fn group(span: Span, symbols: Vec<Symbol>) -> Symbol {
-    Symbol::new(span, SymbolKind::Expr(ExprSymbol { symbols }))
-}
 
 fn repeat(alloc: Global, span: Span, op: RepeatOp, symbol: Symbol) -> Result<Symbol, NoMemory> {
     let repeat = Box::new(alloc, RepeatSymbol { op, symbol })?;
     Ok(Symbol::new(span, SymbolKind::Repeat(repeat)))
 }
 
-fn chosen(alloc: Global, span: Span, symbol: Symbol) -> Result<Symbol, NoMemory> {
-    Ok(Symbol::new(span, SymbolKind::Choose(Box::new(alloc, symbol)?)))
-}
-
 /// An alternative with that code, none where it is empty.
 fn alternative(
     alloc: Global,
-    span: Span,
+    at: Span,
     symbols: Vec<Symbol>,
     code: &str,
 ) -> Result<Alternative, NoMemory> {
-    let mut action = None;
+    let mut written = parts::alternative(alloc, at, symbols);
     if !code.is_empty() {
-        action = Some(ActionKind::User(String::from_str(alloc, code)?));
+        written.action = Some(ActionKind::User(String::from_str(alloc, code)?));
     }
-    Ok(Alternative {
-        span,
-        expr: ExprSymbol { symbols },
-        condition: None,
-        action,
-        attributes: Vec::new(alloc),
-    })
+    Ok(written)
 }
 
 /// A public rule of unit type with one alternative.
@@ -57,12 +35,8 @@ fn unit_rule(
 ) -> Result<GrammarItem, NoMemory> {
     Ok(GrammarItem::Nonterminal(NonterminalData {
         visibility: Visibility::Pub(None),
-        name: NonterminalString(Atom::new(alloc, name)?),
-        attributes: Vec::new(alloc),
-        span: at,
-        args: Vec::new(alloc),
         type_decl: Some(TypeRef::Tuple(Vec::new(alloc))),
-        alternatives: vec![in alloc; alternative]?,
+        ..parts::rule(alloc, at, name, vec![in alloc; alternative]?)?
     }))
 }
 
@@ -77,34 +51,17 @@ fn made_rule(
 ) -> Result<GrammarItem, NoMemory> {
     let mut attributes = Vec::new(alloc);
     if is_inline {
-        attributes.push(Attribute {
-            id_span: at,
-            id: Atom::new(alloc, "inline")?,
-            arg: AttributeArg::Empty,
-        })?;
+        attributes.push(word(alloc, at, "inline")?)?;
     }
     Ok(GrammarItem::Nonterminal(NonterminalData {
-        visibility: Visibility::Priv,
-        name: NonterminalString(Atom::new(alloc, name)?),
         attributes,
-        span: at,
-        args: Vec::new(alloc),
         type_decl: Some(type_decl),
-        alternatives,
+        ..parts::rule(alloc, at, name, alternatives)?
     }))
 }
 
 fn grammar(alloc: Global, items: Vec<GrammarItem>) -> Result<Grammar, NoMemory> {
-    Ok(Grammar {
-        prefix: String::from_str(alloc, "__")?,
-        span: Span(0, 7),
-        type_parameters: Vec::new(alloc),
-        parameters: Vec::new(alloc),
-        where_clauses: Vec::new(alloc),
-        items,
-        attributes: Vec::new(alloc),
-        module_attributes: Vec::new(alloc),
-    })
+    small::grammar(alloc, Span(0, 7), items)
 }
 
 /// The fault and its span, none for an answer.
@@ -192,12 +149,12 @@ fn choices(rt: HostRuntime) -> Result<(), Fail> {
         vec![in alloc; unit_rule(alloc, "S", Span(67, 68), written)?]?,
     )?;
 
-    let name = rule_of(alloc, whole, "(\"a\" <\"b\">)?")?;
+    let name = reference(alloc, whole, "(\"a\" <\"b\">)?")?;
     let plain = alternative(alloc, whole, vec![in alloc; name]?, "")?;
-    let group_name = rule_of(alloc, inner, "(\"a\" <\"b\">)")?;
+    let group_name = reference(alloc, inner, "(\"a\" <\"b\">)")?;
     let of_option = TypeRef::Nominal {
         path: Path::option(alloc)?,
-        types: vec![in alloc; TypeRef::OfSymbol(rule_of(alloc, inner, "(\"a\" <\"b\">)")?.kind)]?,
+        types: vec![in alloc; TypeRef::OfSymbol(reference(alloc, inner, "(\"a\" <\"b\">)")?.kind)]?,
     };
     let some = alternative(alloc, whole, vec![in alloc; group_name]?, "Some(<>)")?;
     let none = alternative(alloc, whole, Vec::new(alloc), "None")?;
@@ -244,7 +201,7 @@ fn empty_group(rt: HostRuntime) -> Result<(), Fail> {
         vec![in alloc; unit_rule(alloc, "S", Span(39, 40), written)?]?,
     )?;
 
-    let plain = alternative(alloc, at, vec![in alloc; rule_of(alloc, at, "()")?]?, "")?;
+    let plain = alternative(alloc, at, vec![in alloc; reference(alloc, at, "()")?]?, "")?;
     let empty = alternative(alloc, at, Vec::new(alloc), "(<>)")?;
     let unit = TypeRef::Tuple(Vec::new(alloc));
     let items = vec![in alloc;
@@ -269,7 +226,7 @@ fn shared_texts(rt: HostRuntime) -> Result<(), Fail> {
     );
     let second = group(
         Span(66, 73),
-        vec![in alloc; rule_of(alloc, Span(67, 72), "\"a\"")?]?,
+        vec![in alloc; reference(alloc, Span(67, 72), "\"a\"")?]?,
     );
     let written = alternative(alloc, Span(60, 73), vec![in alloc; first, second]?, "")?;
     let symbols = vec![in alloc; quoted(alloc, Span(87, 90), "a")?]?;
@@ -287,8 +244,8 @@ fn shared_texts(rt: HostRuntime) -> Result<(), Fail> {
 #[test]
 fn declared_texts(rt: HostRuntime) -> Result<(), Fail> {
     let alloc = rt.alloc();
-    let x = rule_of(alloc, Span(61, 62), "X")?;
-    let y = rule_of(alloc, Span(63, 64), "Y")?;
+    let x = reference(alloc, Span(61, 62), "X")?;
+    let y = reference(alloc, Span(63, 64), "Y")?;
     let both = group(Span(60, 65), vec![in alloc; x, y]?);
     let written = alternative(alloc, Span(60, 65), vec![in alloc; both]?, "")?;
     let other = alternative(
@@ -310,9 +267,8 @@ fn declared_texts(rt: HostRuntime) -> Result<(), Fail> {
 #[test]
 fn named_in_group(rt: HostRuntime) -> Result<(), Fail> {
     let alloc = rt.alloc();
-    let name = Name::immut(Atom::new(alloc, "x")?);
-    let inner = Box::new(alloc, quoted(alloc, Span(13, 16), "a")?)?;
-    let named = Symbol::new(Span(11, 16), SymbolKind::Name(name, inner));
+    let inner = quoted(alloc, Span(13, 16), "a")?;
+    let named = named(alloc, Span(11, 16), "x", inner)?;
     let one = group(Span(10, 17), vec![in alloc; named]?);
     let star = repeat(alloc, Span(10, 18), RepeatOp::Star, one)?;
     let written = alternative(alloc, Span(10, 18), vec![in alloc; star]?, "")?;

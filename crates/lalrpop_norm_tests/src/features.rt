@@ -1,37 +1,21 @@
 //! Conditions of `cfg`, and the enabled grammar.
-use crate::Session;
-use crate::cond_comp::{cfg_active, remove_disabled_decls};
-use lalrpop_norm_tree::grammar::parse_tree::{
-    Alternative, Atom, Attribute, AttributeArg, Conversion, EnumToken, ExprSymbol, ExternToken,
-    Grammar, GrammarItem, NonterminalData, NonterminalString, Span, TerminalString, TypeRef,
-    Visibility,
-};
+use crate::parts::{self, call, equal, word};
+use crate::small;
+use lalrpop_norm_front::Session;
+use lalrpop_norm_front::cond_comp::{cfg_active, remove_disabled_decls};
+use lalrpop_norm_tree::grammar::parse_tree::*;
 use lalrpop_norm_tree::grammar::pattern::{Pattern, PatternKind};
 use std::alloc::Global;
 use std::collections::BTreeSet;
 use std::test::*;
 
-pub(super) fn attribute(alloc: Global, name: &str, arg: AttributeArg) -> Result<Attribute, Fail> {
-    Ok(Attribute {
-        id_span: Span(0, 0),
-        id: Atom::new(alloc, name)?,
-        arg,
-    })
-}
-
-pub(super) fn word(alloc: Global, name: &str) -> Result<Attribute, Fail> {
-    attribute(alloc, name, AttributeArg::Empty)
-}
-
-pub(super) fn call(alloc: Global, name: &str, inner: Vec<Attribute>) -> Result<Attribute, Fail> {
-    attribute(alloc, name, AttributeArg::Paren(inner))
-}
+/// Where an attribute stands.
+const AT: Span = Span(0, 0);
 
 /// `cfg(feature = "f")`.
-fn with_f(alloc: Global) -> Result<Vec<Attribute>, Fail> {
-    let name = String::from_str(alloc, "f")?;
-    let feature = attribute(alloc, "feature", AttributeArg::Equal(name))?;
-    let cfg = call(alloc, "cfg", vec![in alloc; feature]?)?;
+fn with_f(alloc: Global) -> Result<Vec<Attribute>, NoMemory> {
+    let feature = equal(alloc, "feature", "f")?;
+    let cfg = call(alloc, AT, "cfg", vec![in alloc; feature]?)?;
     Ok(vec![in alloc; cfg]?)
 }
 
@@ -43,64 +27,95 @@ fn session(features: Option<BTreeSet<String>>) -> Session<()> {
     }
 }
 
-fn only_f(alloc: Global) -> Result<Option<BTreeSet<String>>, Fail> {
+fn only_f(alloc: Global) -> Result<Option<BTreeSet<String>>, NoMemory> {
     let mut features = BTreeSet::new(alloc);
     features.insert(String::from_str(alloc, "f")?)?;
     Ok(Some(features))
 }
 
+/// `cfg(..)` of that condition, and whether it holds without features.
+fn holds(alloc: Global, condition: Attribute) -> Result<bool, NoMemory> {
+    let cfg = call(alloc, AT, "cfg", vec![in alloc; condition]?)?;
+    let attributes = vec![in alloc; cfg]?;
+    Ok(cfg_active(&session(None), &attributes))
+}
+
+/// `NAME(..)` of no condition.
+fn empty(alloc: Global, name: &str) -> Result<Attribute, NoMemory> {
+    call(alloc, AT, name, Vec::new(alloc))
+}
+
+/// `not(bogus)`, which holds.
+fn not_bogus(alloc: Global) -> Result<Attribute, NoMemory> {
+    let bogus = word(alloc, AT, "bogus")?;
+    call(alloc, AT, "not", vec![in alloc; bogus]?)
+}
+
 #[test]
 fn conditions(rt: HostRuntime) -> Result<(), Fail> {
+    let alloc = rt.alloc();
+    assert!(rt; holds(alloc, not_bogus(alloc)?)?, "not(bogus)");
+    assert!(rt; holds(alloc, empty(alloc, "all")?)?, "all()");
+    for name in ["any", "not", "feature", "bogus"] {
+        assert!(rt; !holds(alloc, empty(alloc, name)?)?, "{name}()");
+        assert!(rt; !holds(alloc, word(alloc, AT, name)?)?, "{name}");
+    }
+    for name in ["all", "not", "any"] {
+        assert!(rt; !holds(alloc, equal(alloc, name, "f")?)?, "{name} = \"f\"");
+    }
+    assert!(rt; !holds(alloc, word(alloc, AT, "all")?)?, "all");
+    let rows = [("not", false), ("all", false), ("any", true)];
+    for (name, want) in rows {
+        let inner = vec![in alloc; not_bogus(alloc)?, empty(alloc, "any")?]?;
+        let both = call(alloc, AT, name, inner)?;
+        assert_eq!(rt; holds(alloc, both)?, want, "{name}(not(bogus), any())");
+    }
+    Ok(())
+}
+
+#[test]
+fn attributes(rt: HostRuntime) -> Result<(), Fail> {
     let alloc = rt.alloc();
     let none = session(None);
     let no_attributes: Vec<Attribute> = Vec::new(alloc);
     assert!(rt; cfg_active(&none, &no_attributes));
-    let bogus = word(alloc, "bogus")?;
-    let not_bogus = call(alloc, "not", vec![in alloc; bogus]?)?;
-    let list = vec![in alloc; call(alloc, "cfg", vec![in alloc; not_bogus]?)?]?;
-    assert!(rt; cfg_active(&none, &list), "cfg(not(bogus))");
-    let all = call(alloc, "all", Vec::new(alloc))?;
-    let list = vec![in alloc; call(alloc, "cfg", vec![in alloc; all]?)?]?;
-    assert!(rt; cfg_active(&none, &list), "cfg(all())");
-    let any = call(alloc, "any", Vec::new(alloc))?;
-    let list = vec![in alloc; call(alloc, "cfg", vec![in alloc; any]?)?]?;
-    assert!(rt; !cfg_active(&none, &list), "cfg(any())");
-    let list = vec![in alloc; word(alloc, "cfg")?]?;
+    let list = vec![in alloc; word(alloc, AT, "cfg")?]?;
     assert!(rt; !cfg_active(&none, &list), "cfg");
+    let list = vec![in alloc; empty(alloc, "cfg")?]?;
+    assert!(rt; !cfg_active(&none, &list), "cfg()");
+    let list = vec![in alloc; word(alloc, AT, "inline")?]?;
+    assert!(rt; cfg_active(&none, &list), "inline");
+    let inner = vec![in alloc; not_bogus(alloc)?, empty(alloc, "any")?]?;
+    let list = vec![in alloc; call(alloc, AT, "cfg", inner)?]?;
+    assert!(rt; cfg_active(&none, &list), "cfg(not(bogus), any())");
+    let on = call(alloc, AT, "cfg", vec![in alloc; empty(alloc, "all")?]?)?;
+    let off = call(alloc, AT, "cfg", vec![in alloc; empty(alloc, "any")?]?)?;
+    let list = vec![in alloc; on, off]?;
+    assert!(rt; !cfg_active(&none, &list), "cfg(all()), cfg(any())");
     let list = with_f(alloc)?;
     assert!(rt; !cfg_active(&none, &list), "cfg(feature = \"f\")");
     assert!(rt; cfg_active(&session(only_f(alloc)?), &list), "with f");
-    let empty = session(Some(BTreeSet::new(alloc)));
-    assert!(rt; !cfg_active(&empty, &list), "no features");
+    let without = session(Some(BTreeSet::new(alloc)));
+    assert!(rt; !cfg_active(&without, &list), "no features");
     Ok(())
 }
 
-pub(super) fn alternative(span: Span, alloc: Global, attributes: Vec<Attribute>) -> Alternative {
+fn alternative(alloc: Global, at: Span, attributes: Vec<Attribute>) -> Alternative {
     Alternative {
-        span,
-        expr: ExprSymbol {
-            symbols: Vec::new(alloc),
-        },
-        condition: None,
-        action: None,
         attributes,
+        ..parts::alternative(alloc, at, Vec::new(alloc))
     }
 }
 
-pub(super) fn rule(
+fn rule(
     alloc: Global,
-    span: Span,
+    at: Span,
     attributes: Vec<Attribute>,
     alternatives: Vec<Alternative>,
-) -> Result<GrammarItem, Fail> {
+) -> Result<GrammarItem, NoMemory> {
     Ok(GrammarItem::Nonterminal(NonterminalData {
-        visibility: Visibility::Priv,
-        name: NonterminalString(Atom::new(alloc, "A")?),
         attributes,
-        span,
-        args: Vec::new(alloc),
-        type_decl: None,
-        alternatives,
+        ..parts::rule(alloc, at, "A", alternatives)?
     }))
 }
 
@@ -109,7 +124,7 @@ fn conversion(
     name: &str,
     span: Span,
     attributes: Vec<Attribute>,
-) -> Result<Conversion, Fail> {
+) -> Result<Conversion, NoMemory> {
     Ok(Conversion {
         span,
         attributes,
@@ -122,7 +137,7 @@ fn conversion(
 }
 
 /// `extern { enum T { #[cfg(feature = "f")] X => _, Y => _ } } #[cfg(feature = "f")] A = { }; A = { #[cfg(feature = "f")] , };`
-fn grammar(alloc: Global) -> Result<Grammar, Fail> {
+fn grammar(alloc: Global) -> Result<Grammar, NoMemory> {
     let conversions = vec![in alloc;
         conversion(alloc, "X", Span(1, 2), with_f(alloc)?)?,
         conversion(alloc, "Y", Span(2, 3), Vec::new(alloc))?,
@@ -138,20 +153,11 @@ fn grammar(alloc: Global) -> Result<Grammar, Fail> {
     });
     let off = rule(alloc, Span(5, 6), with_f(alloc)?, Vec::new(alloc))?;
     let alternatives = vec![in alloc;
-        alternative(Span(8, 9), alloc, with_f(alloc)?),
-        alternative(Span(9, 10), alloc, Vec::new(alloc)),
+        alternative(alloc, Span(8, 9), with_f(alloc)?),
+        alternative(alloc, Span(9, 10), Vec::new(alloc)),
     ]?;
     let on = rule(alloc, Span(7, 8), Vec::new(alloc), alternatives)?;
-    Ok(Grammar {
-        prefix: String::from_str(alloc, "__")?,
-        span: Span(0, 10),
-        type_parameters: Vec::new(alloc),
-        parameters: Vec::new(alloc),
-        where_clauses: Vec::new(alloc),
-        items: vec![in alloc; tokens, off, on]?,
-        attributes: Vec::new(alloc),
-        module_attributes: Vec::new(alloc),
-    })
+    small::grammar(alloc, Span(0, 10), vec![in alloc; tokens, off, on]?)
 }
 
 /// Where rules, alternatives and conversions stand, in order.
