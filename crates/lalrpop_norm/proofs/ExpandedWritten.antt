@@ -32,6 +32,8 @@ use Rattle.lalrpop_norm_front.specs.TypeFaults.{some_holds, kind_holds, pattern_
 use Rattle.lalrpop_norm_front.specs.SymbolFaults.{terminal_faults, kind_faults, part_faults, parts_faults, beside_faults, list_faults}
 use Rattle.lalrpop_norm_front.specs.AlternativeFaults.{alternative_faults}
 use Rattle.lalrpop_norm_front.specs.GrammarFaults.{rule_faults, associated_faults, types_faults, conversion_faults, enum_faults, extern_faults, is_known_type, unknown_faults, parameter_faults, clause_faults, is_match, is_extern, item_faults, items_faults, place_in, blocks_in, validate_faults}
+use Rattle.lalrpop_norm_front.specs.Walks.{types_along, items_along}
+use Rattle.lalrpop_norm_front.proofs.PlaceLemmas.{types_placed, items_placed}
 use Rattle.lalrpop_norm_late.proofs.KeyLaws.{terminals_decide}
 use Rattle.lalrpop_norm.specs.Grammars.{rules_of, externs_of, enum_in, conversions_in, conversions_of, terminals_of, terminal_listed, same_terminal}
 use Rattle.lalrpop_norm.specs.Later.{has_conversion}
@@ -132,13 +134,13 @@ module _ (g : GrammarData) where
   abbrev IsFree : ItemData → Type 0
   IsFree i = (m : Bool) × (e : Bool) × (item_faults (place_in g) (blocks_in g) g.span m e i ≡ [])
 
-  item_free : (m e : Bool) (items : List ItemData) → items_faults (place_in g) (blocks_in g) g.span m e items ≡ [] → (i : ItemData) → In i items → IsFree i
+  item_free : (m e : Bool) (items : List ItemData) → items_along (place_in g) (blocks_in g) g.span m e items ≡ [] → (i : ItemData) → In i items → IsFree i
   item_free m e [] h i j = absurd j
   item_free m e (k ∷ items) h i (inl same) =
       (m, e, subst (λ (x : ItemData). item_faults (place_in g) (blocks_in g) g.span m e x ≡ []) (sym same) (both_empty (item_faults (place_in g) (blocks_in g) g.span m e k) _ h).0)
   item_free m e (k ∷ items) h i (inr j) = item_free (m || is_match k) (e || is_extern k) items (both_empty (item_faults (place_in g) (blocks_in g) g.span m e k) _ h).1 i j
 
-  no_intern : (m e : Bool) (items : List ItemData) → items_faults (place_in g) (blocks_in g) g.span m e items ≡ [] → flat_map intern_in items ≡ []
+  no_intern : (m e : Bool) (items : List ItemData) → items_along (place_in g) (blocks_in g) g.span m e items ≡ [] → flat_map intern_in items ≡ []
   unfolding item_faults
   no_intern m e [] h = refl
   no_intern m e (intern_item t ∷ items) h = absurd (cc h)
@@ -148,7 +150,7 @@ module _ (g : GrammarData) where
   no_intern m e (use_item u ∷ items) h = no_intern _ _ items (both_empty (item_faults (place_in g) (blocks_in g) g.span m e (use_item u)) _ h).1
 
   -- after an extern block there is none
-  no_extern : (m : Bool) (items : List ItemData) → items_faults (place_in g) (blocks_in g) g.span m true items ≡ [] → externs_of items ≡ []
+  no_extern : (m : Bool) (items : List ItemData) → items_along (place_in g) (blocks_in g) g.span m true items ≡ [] → externs_of items ≡ []
   unfolding item_faults extern_faults
   no_extern m [] h = refl
   no_extern m (extern_item t ∷ items) h = absurd (cc h)
@@ -157,7 +159,7 @@ module _ (g : GrammarData) where
   no_extern m (rule_item r ∷ items) h = no_extern _ items (both_empty (item_faults (place_in g) (blocks_in g) g.span m true (rule_item r)) _ h).1
   no_extern m (use_item u ∷ items) h = no_extern _ items (both_empty (item_faults (place_in g) (blocks_in g) g.span m true (use_item u)) _ h).1
 
-  one_extern : (m : Bool) (items : List ItemData) → items_faults (place_in g) (blocks_in g) g.span m false items ≡ [] → (t : ExternTokenData) (rest : List ExternTokenData) →
+  one_extern : (m : Bool) (items : List ItemData) → items_along (place_in g) (blocks_in g) g.span m false items ≡ [] → (t : ExternTokenData) (rest : List ExternTokenData) →
       externs_of items ≡ t ∷ rest → rest ≡ []
   one_extern m [] h t rest e = absurd (cc e)
   one_extern m (extern_item u ∷ items) h t rest e =
@@ -171,11 +173,12 @@ module _ (g : GrammarData) where
   -- ---- extern blocks
 
   -- what is wrong with its associated types and with its enum
-  extern_free : (t : ExternTokenData) → IsFree (extern_item t) → (types_faults [] t.associated_types ≡ []) × (enum_faults t.enum_token ≡ [])
+  extern_free : (t : ExternTokenData) → IsFree (extern_item t) → (types_along [] t.associated_types ≡ []) × (enum_faults t.enum_token ≡ [])
   unfolding item_faults extern_faults
   extern_free t (m, e, h) =
       let behind = (both_empty (fault_if e _) _ h).1 in
-      both_empty (types_faults [] t.associated_types) (enum_faults t.enum_token) (both_empty (if is_some t.enum_token then _ else []) _ behind).1
+      let both = both_empty (types_faults t.associated_types) (enum_faults t.enum_token) (both_empty (if is_some t.enum_token then _ else []) _ behind).1 in
+      (types_placed t.associated_types ∙ both.0, both.1)
 
   -- ---- rules
 
@@ -192,7 +195,7 @@ module _ (g : GrammarData) where
   unfolding alternative_faults
   symbols_free a h = (both_empty (parts_faults (place_in g) a.parts) (beside_faults a.parts) (both_empty (list_faults (place_in g) a.parts) _ h).0).0
 
-associated_bare : (before : List (List ℕ)) (ts : List AssociatedTypeData) → types_faults before ts ≡ [] → (t : TypeData) →
+associated_bare : (before : List (List ℕ)) (ts : List AssociatedTypeData) → types_along before ts ≡ [] → (t : TypeData) →
     In t (map (λ (a : AssociatedTypeData). a.type_ref) ts) → holds_symbol t ≡ false
 unfolding associated_faults
 associated_bare before [] h t i = absurd i
@@ -310,14 +313,14 @@ module _ (fs : Features) where
   enums_bare None h t i = absurd i
   enums_bare (Some e) h t i = elim (in_cases t (types_in_enum (enabled_enum fs e)) [] i) [ inl j ↦ enum_bare e h t j | inr j ↦ absurd j ]
 
-  extern_bare : (x : ExternTokenData) → (types_faults [] x.associated_types ≡ []) × (enum_faults x.enum_token ≡ []) → (t : TypeData) →
+  extern_bare : (x : ExternTokenData) → (types_along [] x.associated_types ≡ []) × (enum_faults x.enum_token ≡ []) → (t : TypeData) →
       In t (types_in_extern (extern_item (enabled_extern fs x))) → holds_symbol t ≡ false
   extern_bare x h t i = elim (in_cases t (map (λ (a : AssociatedTypeData). a.type_ref) x.associated_types) _ i) [
     | inl j ↦ associated_bare [] x.associated_types h.0 t j
     | inr j ↦ enums_bare x.enum_token h.1 t j
   ]
 
-  externs_bare : (items : List ItemData) → ((x : ExternTokenData) → In (extern_item x) items → (types_faults [] x.associated_types ≡ []) × (enum_faults x.enum_token ≡ [])) →
+  externs_bare : (items : List ItemData) → ((x : ExternTokenData) → In (extern_item x) items → (types_along [] x.associated_types ≡ []) × (enum_faults x.enum_token ≡ [])) →
       (t : TypeData) → In t (flat_map types_in_extern (flat_map (enabled_item fs) items)) → holds_symbol t ≡ false
   externs_bare [] f t i = absurd i
   externs_bare (extern_item x ∷ items) f t i =
@@ -416,12 +419,13 @@ pub record HasWrittenEnum (g : GrammarData) (u : EnumTokenData) : Type 0 where
   pub enum : block.enum_token ≡ Some u
 
 module _ (fs : Features) (g : GrammarData) (h : IsTaken fs g) (f : validate_faults g ≡ []) where
-  items_free : items_faults (place_in g) (blocks_in g) g.span false false g.items ≡ []
+  items_free : items_along (place_in g) (blocks_in g) g.span false false g.items ≡ []
   items_free =
-      let items = items_faults (place_in g) (blocks_in g) g.span false false g.items in
+      let items = items_faults (place_in g) (blocks_in g) g.span g.items in
       let clauses = flat_map (clause_faults g.span) g.where_clauses in
       let parameters = flat_map (parameter_faults g.span) g.parameters in
-      (both_empty clauses items (both_empty parameters (clauses ++ items) (both_empty (unknown_faults g.attributes) (parameters ++ (clauses ++ items)) f).1).1).1
+      items_placed (place_in g) (blocks_in g) g.span g.items
+      ∙ (both_empty clauses items (both_empty parameters (clauses ++ items) (both_empty (unknown_faults g.attributes) (parameters ++ (clauses ++ items)) f).1).1).1
 
   each_free : (i : ItemData) → In i g.items → IsFree g i
   each_free = item_free g false false g.items items_free

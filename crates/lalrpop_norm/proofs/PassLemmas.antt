@@ -1,16 +1,52 @@
 -- From what the passes promise to what normalization promises.
-use Rattle.std.proofs.Common.{◌≡◌, ◌↔◌, ℕ, List, [], ◌∷◌, map, Option, Some, None, refl, ap, ap₂, sym, ◌∙◌, fun_ext}
+use Rattle.std.proofs.Common.{◌≡◌, ◌↔◌, inl, inr, ℕ, Bool, true, false, List, [], ◌∷◌, ◌++◌, map, Option, Some, None, Result, IsErrAnd, refl, ap, ap₂, sym, subst, ◌∙◌}
+use Rattle.std.specs.Prelude.{flat_map, IfOk, if◌then◌else◌}
+use Rattle.std.proofs.Math.Path.{fun_ext}
+use Rattle.std.proofs.lemmas.Grind.{flat_map-append}
+use Rattle.std.proofs.lemmas.List.{append-nil}
+use Rattle.std.proofs.lemmas.Result.{IfOk-weaker}
 use Rattle.lalrpop_norm_tree.specs.declared.names.NonterminalString.{NonterminalString}
-use Rattle.lalrpop_norm_tree.specs.Items.{ItemData, GrammarData, match_item, extern_item, intern_item, rule_item, use_item}
+use Rattle.lalrpop_norm_tree.specs.Items.{RuleData, ItemData, GrammarData, match_item, extern_item, intern_item, rule_item, use_item}
 use Rattle.lalrpop_norm_theory.specs.Rounds.{In, IsDistinct}
+use Rattle.lalrpop_norm_conditions.specs.Conditions.{comparison}
+use Rattle.lalrpop_norm_faults.specs.declared.failure.NormFailure.{NormFailure}
+use Rattle.lalrpop_norm_faults.specs.declared.kind.FaultKind.TheVariants.{NotYet}
+use Rattle.lalrpop_norm_faults.specs.Faults.{Fault, IsFirst, Refuses}
+use Rattle.lalrpop_norm_faults.proofs.FaultLemmas.{exit_at}
+use Rattle.lalrpop_norm_repr.specs.Lowered.{LoweredGrammar}
 use Rattle.lalrpop_norm_repr.specs.Tables.{TypeTable}
-use Rattle.lalrpop_norm_model.specs.Expanded.{rule_names}
+use Rattle.lalrpop_norm_model.specs.Enabled.{all_places, enabled_grammar}
+use Rattle.lalrpop_norm_model.specs.Expanded.{rule_names, IsExpanded, IsTyped}
+use Rattle.lalrpop_norm_model.specs.Features.{Features}
+use Rattle.lalrpop_norm_model.specs.Grammars.{is_nil}
 use Rattle.lalrpop_norm_model.specs.InferenceFaults.{inference_faults, inferred_table}
+use Rattle.lalrpop_norm_model.specs.LevelRules.{level_rule, level_items, leveled_grammar}
+use Rattle.lalrpop_norm_model.specs.Levels.{Leveled, has_levels, with_levels, levels_of, previous_level}
 use Rattle.lalrpop_norm_model.specs.LoweringFaults.{lowering_faults}
-use Rattle.lalrpop_norm_model.proofs.InferenceLemmas.{inferred_types}
+use Rattle.lalrpop_norm_model.specs.PlainRules.{rule_of_item, all_rules, plain_grammar}
+use Rattle.lalrpop_norm_model.specs.Scopes.{Global, globals, resolved_grammar}
+use Rattle.lalrpop_norm_model.proofs.InferenceLemmas.{both_empty, inferred_types}
 use Rattle.lalrpop_norm_model.proofs.TypableLemmas.{typable_exactly}
+use Rattle.lalrpop_norm_names.specs.NameFaults.{repeated_faults, rule_faults, item_faults, resolve_faults}
+use Rattle.lalrpop_norm_levels.specs.LevelFaults.{grammar_level_faults}
+use Rattle.lalrpop_norm_front.specs.GrammarFaults.{validate_faults}
+use Rattle.lalrpop_norm_front.specs.PrecedenceFaults.{unstepped_rule, step_faults, level_rule_faults, level_items_faults, leveled_faults, precedence_faults}
+use Rattle.lalrpop_norm_expand.specs.Expansion.{expansion_faults, macro_faults}
+use Rattle.lalrpop_norm_expand.proofs.DistinctLemmas.{names_stay_distinct}
 use Rattle.lalrpop_norm_types.specs.Inferred.{IsInferred}
+use Rattle.lalrpop_norm_late.specs.Active.{active_item, active_grammar}
 use Rattle.lalrpop_norm_late.specs.Made.{type_in}
+use Rattle.lalrpop_norm_late.specs.Shape.{IsLoweringOf}
+use Rattle.lalrpop_norm.specs.Faithful.{grammar_with_levels, grammar_of_plain_rules, IsFaithful, no_lexer}
+use Rattle.lalrpop_norm.specs.Normalize.{late_faults, pass_faults, IsNormalized}
+use Rattle.lalrpop_norm.specs.Passed.{IsTypedByInference, IsTypedLowering, IsPassed}
+use Rattle.lalrpop_norm.specs.PlainLaws.{PassesExpansion, PassesLowering}
+use Rattle.lalrpop_norm.specs.TakenGrammars.{IsTaken}
+use Rattle.lalrpop_norm.proofs.ComposedFaithful.{no_macros_before, prepared, plain_is_typed, plain_is_expanded, distinct_plain, inferred_total, lowered_faithful}
+use Rattle.lalrpop_norm.proofs.ExpandedActive.{plain_active, items_kept}
+use Rattle.lalrpop_norm.proofs.ExpandedScopes.{HasNoMacros, no_macros_of}
+
+-- ---- types
 
 same_option : {A : Type 0} (a b : Option A) → ((x : A) → (a ≡ Some x) ↔ (b ≡ Some x)) → a ≡ b
 same_option None None h = refl
@@ -18,7 +54,7 @@ same_option None (Some y) h = (h y).1 refl
 same_option (Some x) b h = sym ((h x).0 refl)
 
 -- the table that inference answers is the one where its rounds end
-pub types_are_inferred : (p : GrammarData) (types : TypeTable) → IsDistinct (rule_names p) → inference_faults p ≡ [] → IsInferred p types →
+types_are_inferred : (p : GrammarData) (types : TypeTable) → IsDistinct (rule_names p) → inference_faults p ≡ [] → IsInferred p types →
     type_in types ≡ inferred_table p
 types_are_inferred p types distinct none inferred =
     let typable = (typable_exactly p distinct).1 none in
@@ -28,6 +64,133 @@ types_are_inferred p types distinct none inferred =
       (λ e. (inferred.names (record { 0 = n }) x).1 ((table n x).0 e)),
     )))
 
-pub lowering_same : (p : GrammarData) (types : TypeTable) → IsDistinct (rule_names p) → inference_faults p ≡ [] → IsInferred p types →
-    lowering_faults p (type_in types) ≡ lowering_faults p (inferred_table p)
-lowering_same p types distinct none inferred = ap (lowering_faults p) (types_are_inferred p types distinct none inferred)
+-- where inference has no fault, those of lowering are all
+pub late_same : (p : GrammarData) (types : TypeTable) → IsDistinct (rule_names p) → inference_faults p ≡ [] → IsInferred p types →
+    lowering_faults p (type_in types) ≡ late_faults p
+late_same p types distinct none inferred =
+    ap (lowering_faults p) (types_are_inferred p types distinct none inferred)
+    ∙ sym (ap (λ fs. fs ++ lowering_faults p (inferred_table p)) none)
+
+-- ---- names of the grammar with levels
+
+module _ (ds : List Global) where
+  of_level : (r : RuleData) → r.args ≡ [] → (ps : List (Option Leveled)) (l : ℕ) → rule_faults ds (level_rule r ps l) ≡ level_rule_faults ds r ps l
+  of_level r e ps l =
+      sym (ap (λ (b : Bool). if b then rule_faults ds (level_rule r ps l) else (rule_faults ds (unstepped_rule r ps l) ++ step_faults r (previous_level ps l)))
+      (ap (λ (args : List NonterminalString). is_nil args) e))
+
+  of_levels : (r : RuleData) → r.args ≡ [] → (ps : List (Option Leveled)) (ls : List ℕ) →
+      flat_map (item_faults ds) (map rule_item (map (level_rule r ps) ls)) ≡ flat_map (level_rule_faults ds r ps) ls
+  of_levels r e ps [] = refl
+  of_levels r e ps (l ∷ ls) = ap₂ ◌++◌ (of_level r e ps l) (of_levels r e ps ls)
+
+  of_rule : (b : Bool) (r : RuleData) → r.args ≡ [] → (ps : List (Option Leveled)) (ls : List ℕ) →
+      flat_map (item_faults ds) (map rule_item (if b then map (level_rule r ps) ls else r ∷ []))
+      ≡ (if b then flat_map (level_rule_faults ds r ps) ls else rule_faults ds r)
+  of_rule true r e ps ls = of_levels r e ps ls
+  of_rule false r e ps ls = append-nil (rule_faults ds r)
+
+  of_items : (items : List ItemData) → ((r : RuleData) → In r (flat_map rule_of_item items) → r.args ≡ []) →
+      flat_map (item_faults ds) (flat_map level_items items) ≡ flat_map (level_items_faults ds) items
+  of_items [] h = refl
+  of_items (rule_item r ∷ items) h =
+      flat_map-append (item_faults ds) (level_items (rule_item r)) (flat_map level_items items)
+      ∙ ap₂ ◌++◌ (of_rule (has_levels (all_places r)) r (h r (inl refl)) (with_levels (all_places r)) (levels_of (with_levels (all_places r))))
+      (of_items items (λ s i. h s (inr i)))
+  of_items (match_item m ∷ items) h = of_items items h
+  of_items (extern_item t ∷ items) h = of_items items h
+  of_items (intern_item t ∷ items) h = of_items items h
+  of_items (use_item u ∷ items) h = of_items items h
+
+-- without macros the faults of names in the grammar with levels are those that the pass over levels looks for
+leveled_none : (g : GrammarData) → HasNoMacros g → leveled_faults g ≡ [] → resolve_faults (leveled_grammar g) ≡ []
+leveled_none g none free = ap (λ fs. repeated_faults [] (globals (leveled_grammar g)) ++ fs) (of_items (globals (leveled_grammar g)) g.items none) ∙ free
+
+-- ---- what the passes find
+
+module _ (fs : Features) (g : GrammarData) (taken : IsTaken fs g) (valid : validate_faults g ≡ []) (names : precedence_faults (enabled_grammar fs g) ≡ []) where
+  resolved : resolve_faults (enabled_grammar fs g) ≡ []
+  resolved = (both_empty (resolve_faults (enabled_grammar fs g)) _ names).0
+
+  leveled : resolve_faults (grammar_with_levels fs g) ≡ []
+  leveled =
+      leveled_none (resolved_grammar (enabled_grammar fs g)) (no_macros_before fs g taken valid)
+      (both_empty (grammar_level_faults (resolved_grammar (enabled_grammar fs g))) _ (both_empty (resolve_faults (enabled_grammar fs g)) _ names).1).1
+
+  -- no macro is left, which the expansion would refuse
+  no_macro_faults : macro_faults (grammar_with_levels fs g) ≡ []
+  no_macro_faults =
+      ap (map (λ (r : RuleData). (NotYet, r.span)))
+      (no_macros_of (grammar_with_levels fs g) (prepared fs g taken valid resolved leveled).no_macros)
+
+  -- what is refused in the expansion is what the passes refuse
+  pub expansion_exit : {T : Type 0} (limit : ℕ) (r : Result T NormFailure) (e : NormFailure) (h : GrammarData) → h ≡ grammar_with_levels fs g →
+      IsFirst (macro_faults h ++ expansion_faults comparison h limit) e → IsErrAnd r (λ x. x ≡ e) → Refuses r (pass_faults fs limit g)
+  expansion_exit limit r e h same first is =
+      let here = expansion_faults comparison (grammar_with_levels fs g) limit in
+      let late = late_faults (grammar_of_plain_rules fs g limit) in
+      let told : IsFirst (macro_faults (grammar_with_levels fs g) ++ here) e =
+      subst (λ (x : GrammarData). IsFirst (macro_faults x ++ expansion_faults comparison x limit) e) same first in
+      exit_at r e here late (pass_faults fs limit g) is (subst (λ ms. IsFirst (ms ++ here) e) no_macro_faults told)
+      (ap (λ vs. vs ++ (precedence_faults (enabled_grammar fs g) ++ (here ++ late))) valid ∙ ap (λ ns. ns ++ (here ++ late)) names)
+
+  module _ (limit : ℕ) (whole : macro_faults (grammar_with_levels fs g) ++ expansion_faults comparison (grammar_with_levels fs g) limit ≡ []) where
+    expanded : expansion_faults comparison (grammar_with_levels fs g) limit ≡ []
+    expanded = (both_empty (macro_faults (grammar_with_levels fs g)) _ whole).1
+
+    passes : PassesExpansion fs g limit
+    passes = record { taken = taken; valid = valid; resolved = resolved; leveled = leveled; expanded = expanded }
+
+    abbrev p : GrammarData
+    p = grammar_of_plain_rules fs g limit
+
+    -- what inference and lowering ask
+    pub is_expanded : IsExpanded (grammar_of_plain_rules fs g limit)
+    is_expanded = plain_is_expanded fs g taken valid resolved leveled limit expanded names_stay_distinct
+
+    pub is_typed : IsTypedByInference fs (grammar_of_plain_rules fs g limit)
+    is_typed types none inferred =
+        plain_is_typed fs g taken valid resolved leveled limit expanded (type_in types)
+        (inferred_total fs g taken valid resolved leveled limit expanded names_stay_distinct none types inferred)
+
+    -- what is refused after the expansion is what the passes refuse
+    pub late_exit : {T : Type 0} (r : Result T NormFailure) → Refuses r (late_faults (grammar_of_plain_rules fs g limit)) → Refuses r (pass_faults fs limit g)
+    late_exit r h =
+        let here = expansion_faults comparison (grammar_with_levels fs g) limit in
+        let late = late_faults p in
+        subst (Refuses r)
+        (sym (ap (λ vs. vs ++ (precedence_faults (enabled_grammar fs g) ++ (here ++ late))) valid ∙ ap (λ ns. ns ++ (here ++ late)) names ∙ ap (λ es. es ++ late) expanded))
+        h
+
+    all_active : active_grammar fs p ≡ p
+    all_active =
+        ap (λ (is : List ItemData). record p { items = is })
+        (items_kept (active_item fs) (λ m. refl) (λ t. refl) (λ r. refl) (λ u. refl) p.items (λ t i. ap extern_item (plain_active fs g limit t i)))
+
+    -- what is lowered from the plain rules has passed
+    pub passed : (l : LoweredGrammar) → IsTypedLowering fs (grammar_of_plain_rules fs g limit) l → IsPassed fs limit g l
+    passed l h = record {
+      types = h.types;
+      passes = record { before = passes; typable = h.typable; inferred = h.inferred; lowerable = h.lowerable };
+      shape = subst (λ (x : GrammarData). IsLoweringOf x (all_rules p) h.types l) all_active h.shape;
+      closed = h.closed;
+    }
+
+-- a fault of names or levels is what the passes refuse
+pub names_exit : {T : Type 0} (fs : Features) (limit : ℕ) (g h : GrammarData) → validate_faults g ≡ [] → h ≡ enabled_grammar fs g → (r : Result T NormFailure) (e : NormFailure) →
+    IsFirst (precedence_faults h) e → IsErrAnd r (λ x. x ≡ e) → Refuses r (pass_faults fs limit g)
+names_exit fs limit g h valid same r e first is =
+    let rest = expansion_faults comparison (grammar_with_levels fs g) limit ++ late_faults (grammar_of_plain_rules fs g limit) in
+    exit_at r e (precedence_faults (enabled_grammar fs g)) rest (pass_faults fs limit g) is
+    (subst (λ (x : GrammarData). IsFirst (precedence_faults x) e) same first)
+    (ap (λ vs. vs ++ (precedence_faults (enabled_grammar fs g) ++ rest)) valid)
+
+-- ---- the whole
+
+pub passed_normalized : (fs : Features) (limit : ℕ) (g : GrammarData) (l : LoweredGrammar) → IsPassed fs limit g l → IsNormalized fs limit g l
+passed_normalized fs limit g l h = record { types = h.types; inferred = h.passes.inferred; lowering = h.shape }
+
+pub passed_faithful : (fs : Features) (limit : ℕ) (g : GrammarData) (l : LoweredGrammar) → IsPassed fs limit g l → IsFaithful no_lexer fs g l
+passed_faithful fs limit g l h =
+    let b = h.passes.before in
+    lowered_faithful fs g b.taken b.valid b.resolved b.leveled limit b.expanded names_stay_distinct h.passes.typable h.types h.passes.inferred h.passes.lowerable l h.shape h.closed
