@@ -351,20 +351,29 @@ fn conversions(rt: HostRuntime) -> Result<(), Fail> {
     Ok(())
 }
 
-#[test]
-fn disabled_conversions(rt: HostRuntime) -> Result<(), Fail> {
-    let alloc = rt.alloc();
+/// A conversion of `"a"` that no features turn on.
+fn disabled_conversion(alloc: Global) -> Result<Conversion, NoMemory> {
     let mut marked = conversion(alloc, PatternKind::Underscore)?;
     marked.attributes = vec![in alloc; disabled(alloc)?]?;
-    let marked = tokens(alloc, vec![in alloc; marked]?)?;
+    Ok(marked)
+}
+
+#[test]
+fn disabled_conversion_alone(rt: HostRuntime) -> Result<(), Fail> {
+    let alloc = rt.alloc();
+    let marked = tokens(alloc, vec![in alloc; disabled_conversion(alloc)?]?)?;
     assert_eq!(rt;
         told_of_tokens(alloc, marked)?.as_str(),
         "a terminal without a conversion is not taken yet"
     );
+    Ok(())
+}
+
+#[test]
+fn disabled_conversion_beside_another(rt: HostRuntime) -> Result<(), Fail> {
+    let alloc = rt.alloc();
     let first = conversion(alloc, small_pattern(alloc)?)?;
-    let mut again = conversion(alloc, PatternKind::Underscore)?;
-    again.attributes = vec![in alloc; disabled(alloc)?]?;
-    let once = tokens(alloc, vec![in alloc; first, again]?)?;
+    let once = tokens(alloc, vec![in alloc; first, disabled_conversion(alloc)?]?)?;
     assert_eq!(rt; told_of_tokens(alloc, once)?.as_str(), "");
     Ok(())
 }
