@@ -18,6 +18,7 @@ pub mod GroundedTypes
 pub mod ComposedFaithful
 pub mod ScopedLemmas
 pub mod PlainShape
+pub mod StartProductions
 pub mod TreesRounds
 pub mod TreesLeveled
 pub mod TreesWritten

@@ -52,15 +52,15 @@ others_of : (n : Name) (m : NonterminalString) (xs : List AlternativeData) → b
 others_of n m [] h = tt
 others_of n m (a ∷ xs) h = (h, others_of n m xs h)
 
-others_append : (n : Name) (cs ds : List Named) → HaveOtherNames n cs → HaveOtherNames n ds → HaveOtherNames n (cs ++ ds)
+pub others_append : (n : Name) (cs ds : List Named) → HaveOtherNames n cs → HaveOtherNames n ds → HaveOtherNames n (cs ++ ds)
 others_append n [] ds h i = i
 others_append n (c ∷ cs) ds h i = (h.0, others_append n cs ds h.1 i)
 
-none_among : (n : Name) (rules : List RuleData) → NoneNamed n rules → HaveOtherNames n (flat_map of_rule rules)
+pub none_among : (n : Name) (rules : List RuleData) → NoneNamed n rules → HaveOtherNames n (flat_map of_rule rules)
 none_among n [] h = tt
 none_among n (r ∷ rules) h = others_append n (of_rule r) (flat_map of_rule rules) (others_of n r.name r.alternatives h.0) (none_among n rules h.1)
 
-unlike : (m n : Name) (b : Bool) → bytes_eq m n ≡ b → (m ≡ n → ⊥) → b ≡ false
+pub unlike : (m n : Name) (b : Bool) → bytes_eq m n ≡ b → (m ≡ n → ⊥) → b ≡ false
 unlike m n true e h = absurd (h (text_sound m n e))
 unlike m n false e h = refl
 

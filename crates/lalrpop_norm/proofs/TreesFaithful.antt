@@ -1,12 +1,13 @@
 -- The derivation trees of what a grammar is lowered to stand one to one with the written trees.
-use Rattle.std.proofs.Common.{append-nil, ◌≡◌, inl, inr, ℕ, Bool, true, false, List, [], ◌∷◌, ◌++◌, map, length, sym, ap, ◌∙◌, subst}
+use Rattle.std.proofs.Common.{append-nil, ◌≡◌, inl, inr, ℕ, Bool, true, false, List, [], ◌∷◌, ◌++◌, map, length, refl, sym, ap, ◌∙◌, subst}
 use Rattle.std.specs.Prelude.{flat_map, Option, Some, None, if◌then◌else◌}
 use Rattle.std.proofs.lemmas.Grind.{flat_map-append}
 use Rattle.lalrpop_norm_tree.specs.Items.{RuleData, EnumTokenData, GrammarData, intern_item}
 use Rattle.lalrpop_norm_theory.specs.Symbols.{Name, ClosedSymbol, terminal, error, reference, wrapped}
 use Rattle.lalrpop_norm_theory.specs.Meaning.{Meaning}
 use Rattle.lalrpop_norm_theory.specs.LoweredTrees as theory
-use Rattle.lalrpop_norm_theory.specs.Clauses.{IsNonterminal}
+use Rattle.lalrpop_norm_theory.specs.LoweredTrees.{nonterminal_symbol}
+use Rattle.lalrpop_norm_theory.specs.Clauses.{IsNonterminal, symbol_of}
 use Rattle.lalrpop_norm_theory.specs.Rounds.{In, IsDistinct}
 use Rattle.lalrpop_norm_theory.specs.Met.{expanded_symbols, IsKnown}
 use Rattle.lalrpop_norm_theory.specs.Tables.{Realizes, Stands, table, rule_of}
@@ -43,10 +44,12 @@ use Rattle.lalrpop_norm_model.proofs.GrammarLemmas.{of_flat}
 use Rattle.lalrpop_norm_model.proofs.PlainReadLemmas.{rules_read, origins_counted}
 use Rattle.lalrpop_norm_model.proofs.FaithfulLemmas.{plain_grammars_hold_plain_rules}
 use Rattle.lalrpop_norm.specs.Derivations.{derivations}
+use Rattle.lalrpop_norm.specs.Faithful.{grammar_of_plain_rules, traced_derivations, written_meaning}
 use Rattle.lalrpop_norm.specs.Laws.{HasFlatMacros, LoweredTreesAreFaithful}
 use Rattle.lalrpop_norm.proofs.ScopedLemmas.{names_once, leveled_scoped, settled, levels_resolved}
 use Rattle.lalrpop_norm.proofs.ShapeTrees.{AreFree}
 use Rattle.lalrpop_norm.proofs.PlainShape.{distinct_listed, free_listed, shape_derivations}
+use Rattle.lalrpop_norm.proofs.StartProductions.{start_production, start_derivations, start_written}
 use Rattle.lalrpop_norm.proofs.TreesWritten.{reference_of, written_whole, written_fit, written_names, written_stands}
 
 -- a rule taken by itself is by a reference
@@ -58,6 +61,13 @@ root_of rs s h =
     by w true i = absurd i
     by w false (inl e) = (w.name, e)
     by w false (inr i) = absurd i
+
+-- the symbol of a rule is the nonterminal of its text
+rule_symbol : (rs : List WrittenRule) (s : ClosedSymbol) → In s (roots rs ++ references rs) → symbol_of (text_in rs) s ≡ nonterminal_symbol (text_in rs s)
+rule_symbol rs s i = elim (in_cases s (roots rs) (references rs) i) [
+  | inl j ↦ (let (m, e) = root_of rs s j in rw e refl)
+  | inr j ↦ (let (m, b, e) = reference_of rs s j in rw e refl)
+]
 
 -- tokens change no rules
 entered_same : (g h : GrammarData) → IsEntered g h → (all_rules h ≡ all_rules g) × (h.prefix ≡ g.prefix)
@@ -170,17 +180,28 @@ module _ (value : ConditionValue) (fs : Features) (g : GrammarData) (N : HasLeve
         ∙ ap (λ (rs : List RuleData). length (flat_map (λ (r : RuleData). r.alternatives) rs))
         (sym (plain_grammars_hold_plain_rules value (leveled_grammar (prepared_grammar fs g)) n))
 
+    shaped : IsLoweringOf checked (all_rules plain) types l
+    shaped = subst (λ (rs : List RuleData). IsLoweringOf checked rs types l) (entered_same plain checked entered).0 shape
+
+    free_names : AreFree checked.prefix (all_rules plain) (public_rules (all_rules plain))
+    free_names =
+        subst (λ (prefix : Name). AreFree prefix (all_rules plain) (public_rules (all_rules plain))) (sym (entered_same plain checked entered).1)
+        (free_listed plain.prefix (all_rules plain) (public_rules (all_rules plain)) free)
+
     pub lowered_trees : (s : ClosedSymbol) → In s (roots ws ++ references ws) →
         OneToOne M name (derivations (action_origins (length (public_rules (all_rules plain))) M (references ws) n) l) s
     lowered_trees s i =
         held_trees (derivations (action_origins (length (public_rules (all_rules plain))) M (references ws) n) l)
-        (shape_derivations checked (all_rules plain) types l
-        (subst (λ (rs : List RuleData). IsLoweringOf checked rs types l) (entered_same plain checked entered).0 shape)
-        (distinct_listed (all_rules plain) D)
-        (subst (λ (prefix : Name). AreFree prefix (all_rules plain) (public_rules (all_rules plain))) (sym (entered_same plain checked entered).1)
-        (free_listed plain.prefix (all_rules plain) (public_rules (all_rules plain)) free))
+        (shape_derivations checked (all_rules plain) types l shaped (distinct_listed (all_rules plain) D) free_names
         (plain_origins M (references ws) n) counted)
         s i
+
+    pub lowered_starts : (r : RuleData) → In r (public_rules (all_rules plain)) →
+        derivations (action_origins (length (public_rules (all_rules plain))) M (references ws) n) l (plain.prefix ++ r.name.0) ≡ start_production r ∷ []
+    lowered_starts r i =
+        ap (λ (prefix : Name). derivations (action_origins (length (public_rules (all_rules plain))) M (references ws) n) l (prefix ++ r.name.0))
+        (sym (entered_same plain checked entered).1)
+        ∙ start_derivations checked (all_rules plain) types l shaped (distinct_listed (all_rules plain) D) free_names (plain_origins M (references ws) n) r i
 
 -- ---- from the absence of faults
 
@@ -201,7 +222,12 @@ pub lowered_trees_faithful : LoweredTreesAreFaithful
 lowered_trees_faithful fs g faults macros level_faults rounds whole names checked entered types l shape =
     let N = level_names_found fs g faults macros level_faults in
     let S = levels_settled fs g faults macros level_faults in
+    let trees = lowered_trees comparison fs g N S rounds whole names.once names.starts checked entered types l shape in
+    let starts = lowered_starts comparison fs g N S rounds whole names.once names.starts checked entered types l shape in
     record {
       whole = written_whole comparison fs g N S rounds whole;
-      one_to_one = lowered_trees comparison fs g N S rounds whole names.once names.starts checked entered types l shape;
+      one_to_one = trees;
+      starts = starts;
+      words = λ s i r j. start_written (written_meaning fs g) (text_in (written_rules fs g)) (traced_derivations fs g (grammar_of_plain_rules fs g rounds) rounds l)
+          s (trees s i) (rule_symbol (written_rules fs g) s i) ((grammar_of_plain_rules fs g rounds).prefix ++ r.name.0) r (starts r j);
     }

@@ -1,12 +1,16 @@
--- The derivation trees of a lowered grammar: its productions, each with the origin of its action.
-use Rattle.std.specs.Prelude.{List, map, slice_get, unwrap_or}
+-- The derivation trees of a lowered grammar: its productions, each with the origin of its action. Words.
+use Rattle.std.specs.Prelude.{◌≡◌, List, map, slice_get, unwrap_or}
 use Rattle.lalrpop_norm_repr.specs.declared.symbol.Symbol.{Symbol}
 use Rattle.lalrpop_norm_repr.specs.declared.symbol.Symbol.TheVariants.{Nonterminal, Terminal}
 use Rattle.lalrpop_norm_repr.specs.Actions.{action_index}
 use Rattle.lalrpop_norm_repr.specs.Productions.{ProductionData}
 use Rattle.lalrpop_norm_repr.specs.Lowered as lowered
 use Rattle.lalrpop_norm_repr.specs.Lookups.{productions_of}
-use Rattle.lalrpop_norm_theory.specs.LoweredTrees.{LoweredSymbol, terminal_symbol, nonterminal_symbol, Origin, from_start, Production, LoweredGrammar}
+use Rattle.lalrpop_norm_theory.specs.Symbols as written
+use Rattle.lalrpop_norm_theory.specs.Symbols.{Name, ClosedSymbol}
+use Rattle.lalrpop_norm_theory.specs.Meaning.{Meaning}
+use Rattle.lalrpop_norm_theory.specs.WrittenTrees.{WrittenTree, IsTreeOf, yield}
+use Rattle.lalrpop_norm_theory.specs.LoweredTrees.{LoweredSymbol, terminal_symbol, nonterminal_symbol, Origin, from_start, Production, LoweredGrammar, LoweredTree, IsDerivation, lowered_yield}
 use Rattle.lalrpop_norm_model.specs.Reading.{terminal_of}
 
 -- a symbol as trees see it
@@ -21,3 +25,13 @@ traced origins p = record { origin = unwrap_or (slice_get origins (action_index 
 -- the lowered grammar as trees see it, where the origins of its actions are given in their order
 abbrev pub derivations : List Origin → lowered.LoweredGrammar → LoweredGrammar
 derivations origins l n = map (traced origins) (productions_of (record { 0 = n }) l)
+
+-- ---- words
+
+-- a word of a written symbol: the leaves of one of its trees
+abbrev pub IsWrittenWord : Meaning → ClosedSymbol → List written.Terminal → Type 0
+IsWrittenWord M s w = (t : WrittenTree) × IsTreeOf M t s × (yield t ≡ w)
+
+-- a word of a name: the leaves of one of its derivation trees
+abbrev pub IsWordOf : LoweredGrammar → Name → List written.Terminal → Type 0
+IsWordOf P n w = (u : LoweredTree) × IsDerivation P u (nonterminal_symbol n) × (lowered_yield u ≡ w)

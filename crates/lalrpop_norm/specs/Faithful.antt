@@ -1,9 +1,11 @@
 -- The headline: what a lowered grammar owes the written one.
-use Rattle.std.specs.Prelude.{◌≡◌, ℕ, [], ◌++◌, length, Some}
+use Rattle.std.specs.Prelude.{◌≡◌, ◌↔◌, ℕ, List, [], ◌∷◌, ◌++◌, length, Some}
 use Rattle.lalrpop_norm_tree.specs.Items.{RuleData, GrammarData}
 use Rattle.lalrpop_norm_tree.specs.Reprs.{ReprData}
-use Rattle.lalrpop_norm_theory.specs.Symbols.{ClosedSymbol}
+use Rattle.lalrpop_norm_theory.specs.Symbols.{ClosedSymbol, Terminal}
 use Rattle.lalrpop_norm_theory.specs.Meaning.{Meaning}
+use Rattle.lalrpop_norm_theory.specs.LoweredTrees as theory
+use Rattle.lalrpop_norm_theory.specs.LoweredTrees.{nonterminal_symbol, from_start}
 use Rattle.lalrpop_norm_theory.specs.Rounds.{In}
 use Rattle.lalrpop_norm_theory.specs.Met.{expansion}
 use Rattle.lalrpop_norm_theory.specs.Laws.{OneToOne}
@@ -26,7 +28,7 @@ use Rattle.lalrpop_norm_repr.specs.Closed.{IsClosed}
 pub use Rattle.lalrpop_norm_types.specs.Inferred.{IsInferred}
 use Rattle.lalrpop_norm_late.specs.Lowering.{public_rules, start_name}
 use Rattle.lalrpop_norm_late.specs.Shape.{IsLoweringOf}
-use Rattle.lalrpop_norm.specs.Derivations.{derivations}
+use Rattle.lalrpop_norm.specs.Derivations.{derivations, IsWrittenWord, IsWordOf}
 
 -- ---- trees
 
@@ -34,14 +36,24 @@ use Rattle.lalrpop_norm.specs.Derivations.{derivations}
 abbrev pub written_meaning : Features → GrammarData → Meaning
 written_meaning fs g = meaning comparison (written_rules fs g)
 
+-- the lowered grammar as trees see it, each production with its origin in the written grammar, or with that of start symbols
+abbrev pub traced_derivations : Features → GrammarData → GrammarData → ℕ → LoweredGrammar → theory.LoweredGrammar
+traced_derivations fs g plain rounds l =
+    derivations (action_origins (length (public_rules (all_rules plain))) (written_meaning fs g) (references (written_rules fs g)) rounds) l
+
 -- From each enabled written rule that is no macro, by itself and within each of its levels, the derivation trees of the lowered
 -- grammar stand one to one with the written ones, with the same terminals and the same alternatives. After so many rounds
--- nothing is new.
+-- nothing is new. The start symbol of a public rule has one production, which is that rule; so its words are those of the written
+-- rule, and where the rule is a level, those of the written rule within that level.
 pub record HasFaithfulTrees (fs : Features) (g : GrammarData) (plain : GrammarData) (rounds : ℕ) (l : LoweredGrammar) : Type 0 where
   pub whole : (expansion (written_meaning fs g) (references (written_rules fs g)) rounds).fresh ≡ []
   pub one_to_one : (s : ClosedSymbol) → In s (roots (written_rules fs g) ++ references (written_rules fs g)) →
-      OneToOne (written_meaning fs g) (text_in (written_rules fs g))
-      (derivations (action_origins (length (public_rules (all_rules plain))) (written_meaning fs g) (references (written_rules fs g)) rounds) l) s
+      OneToOne (written_meaning fs g) (text_in (written_rules fs g)) (traced_derivations fs g plain rounds l) s
+  pub starts : (r : RuleData) → In r (public_rules (all_rules plain)) →
+      traced_derivations fs g plain rounds l (start_name plain.prefix r.name).0 ≡ record { origin = from_start; symbols = nonterminal_symbol r.name.0 ∷ [] } ∷ []
+  pub words : (s : ClosedSymbol) → In s (roots (written_rules fs g) ++ references (written_rules fs g)) →
+      (r : RuleData) → In r (public_rules (all_rules plain)) → r.name.0 ≡ text_in (written_rules fs g) s → (w : List Terminal) →
+      IsWrittenWord (written_meaning fs g) s w ↔ IsWordOf (traced_derivations fs g plain rounds l) (start_name plain.prefix r.name).0 w
 
 -- ---- types
 

@@ -3,7 +3,8 @@
 ghost use Rattle.lalrpop_norm.specs.Laws.{LoweredTreesAreFaithful, MacrosHaveOneLevel, NamesAreOwn};
 
 /// The trees of what a grammar's plain rules are lowered to, once they have their tokens, stand one to one with the written trees,
-/// with the same words and the same written alternatives, for each rule by itself and within each of its levels.
+/// with the same words and the same written alternatives, for each rule by itself and within each of its levels. The start symbol of a
+/// public rule has that rule as its one production, so it has the words of the written rule, or of the level that the rule is.
 ///
 /// It asks what the passes find out: that no fault of names stands in the enabled grammar and in its grammar with levels, that the
 /// expansion has ended, that the names of the plain rules are distinct, and that none is that of a start symbol. No macro may have
