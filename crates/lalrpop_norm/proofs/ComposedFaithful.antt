@@ -28,10 +28,10 @@ use Rattle.lalrpop_norm_repr.specs.Closed.{IsClosed}
 use Rattle.lalrpop_norm_repr.specs.Lowered.{LoweredGrammar}
 use Rattle.lalrpop_norm_repr.specs.Tables.{TypeTable}
 use Rattle.lalrpop_norm_late.specs.Lowering.{public_rules}
+use Rattle.lalrpop_norm_late.specs.Made.{type_in}
 use Rattle.lalrpop_norm_late.specs.Shape.{HasStartTypes, IsLoweringOf}
 use Rattle.lalrpop_norm.specs.Faithful.{HasGroundedTypes, IsInferred, IsFaithful, no_lexer, grammar_with_levels, grammar_of_plain_rules}
 use Rattle.lalrpop_norm.specs.Laws.{HasFlatMacros, HasOwnNames}
-use Rattle.lalrpop_norm.specs.PlainLaws.{types_listed}
 use Rattle.lalrpop_norm.specs.TakenGrammars.{IsTaken}
 use Rattle.lalrpop_norm.proofs.ExpandedScopes.{HasNoMacros}
 use Rattle.lalrpop_norm.proofs.ExpandedTokens.{HasOneEnum, resolved_tokens, leveled_tokens}
@@ -127,10 +127,10 @@ module _ (fs : Features) (g : GrammarData) (taken : IsTaken fs g) (valid : valid
         module _ (typable : inference_faults (grammar_of_plain_rules fs g limit) ≡ []) (table : TypeTable)
             (inferred : IsInferred (grammar_of_plain_rules fs g limit) table) where
           -- each rule has a type in the table of inference
-          pub inferred_total : (r : RuleData) → IsRule (grammar_of_plain_rules fs g limit) r → IsSome (types_listed table r.name.0)
+          pub inferred_total : (r : RuleData) → IsRule (grammar_of_plain_rules fs g limit) r → IsSome (type_in table r.name.0)
           inferred_total = rule_typed p table inferred distinct_plain typable
 
-          module _ (lowerable : lowering_faults (grammar_of_plain_rules fs g limit) (types_listed table) ≡ []) where
+          module _ (lowerable : lowering_faults (grammar_of_plain_rules fs g limit) (type_in table) ≡ []) where
             -- the start names are no rules' names
             pub starts_free : (r : RuleData) → In r (public_rules (all_rules (grammar_of_plain_rules fs g limit))) →
                 In ((grammar_of_plain_rules fs g limit).prefix ++ r.name.0) (rule_names (grammar_of_plain_rules fs g limit)) → ⊥

@@ -23,7 +23,7 @@ use Rattle.lalrpop_norm_model.specs.Enabled.{enabled_rule, enabled_enum, enabled
 use Rattle.lalrpop_norm_model.specs.PlainRules.{rule_of_item, all_rules}
 use Rattle.lalrpop_norm_model.specs.TerminalTypes.{chosen_in, chosen_in_kind, chosen_in_all, chosen_in_fields}
 use Rattle.lalrpop_norm_model.specs.Expanded as expanded
-use Rattle.lalrpop_norm_model.specs.Expanded.{match_in, intern_in, terminals_converted, symbols_in, symbols_in_all, symbols_in_return, declared_symbols, types_in_clause, types_in_enum, types_in_extern, types_beside_rules, all_known}
+use Rattle.lalrpop_norm_model.specs.Expanded.{match_in, intern_in, terminals_converted, symbols_in, symbols_in_all, symbols_in_return, types_in_clause, types_in_enum, types_in_extern, types_beside_rules, all_known}
 use Rattle.lalrpop_norm_model.proofs.LevelLemmas.{of_map}
 use Rattle.lalrpop_norm_model.proofs.GrammarLemmas.{rule_item_of}
 use Rattle.lalrpop_norm_model.proofs.InferenceLemmas.{both_empty, none_made, in_filtered}
@@ -252,10 +252,6 @@ extern_listed (use_item u ∷ items) t i = inr (extern_listed items t i)
 -- ---- enabled items
 
 module _ (fs : Features) where
-  enabled_of : (o : Option EnumTokenData) → option_to_list (option_map (enabled_enum fs) o) ≡ map (enabled_enum fs) (option_to_list o)
-  enabled_of None = refl
-  enabled_of (Some e) = refl
-
   mapped_append : (o : Option EnumTokenData) (es : List EnumTokenData) →
       option_to_list (option_map (enabled_enum fs) o) ++ map (enabled_enum fs) es ≡ map (enabled_enum fs) (option_to_list o ++ es)
   mapped_append None es = refl

@@ -17,15 +17,15 @@ use Rattle.lalrpop_norm_model.specs.TuplePatterns.{IsTypable}
 use Rattle.lalrpop_norm_model.specs.Expanded.{rule_names}
 use Rattle.lalrpop_norm_model.specs.InferenceFaults.{inference_faults}
 use Rattle.lalrpop_norm_model.specs.LoweringFaults as lowering
-use Rattle.lalrpop_norm_model.specs.LoweringFaults.{start_faults, number_faults, code_faults, all_alternatives, lowering_faults}
+use Rattle.lalrpop_norm_model.specs.LoweringFaults.{start_faults, number_faults, lowering_faults}
 use Rattle.lalrpop_norm_model.proofs.LevelLemmas.{of_map}
 use Rattle.lalrpop_norm_model.proofs.InferenceLemmas.{both_empty, none_true}
 use Rattle.lalrpop_norm_model.proofs.TypableLemmas.{typable_exactly}
 use Rattle.lalrpop_norm_repr.specs.Tables.{TypeTable, found, type_of}
 use Rattle.lalrpop_norm_late.specs.Lowering.{public_rules, start_name}
+use Rattle.lalrpop_norm_late.specs.Made.{type_in}
 use Rattle.lalrpop_norm_late.specs.Shape.{HasStartTypes, rules_of_starts}
 use Rattle.lalrpop_norm.specs.Faithful.{HasOnlyType, IsInferred, HasGroundedTypes}
-use Rattle.lalrpop_norm.specs.PlainLaws.{types_listed}
 
 -- ---- public rules
 
@@ -99,20 +99,20 @@ module _ (g : GrammarData) (table : TypeTable) (inferred : IsInferred g table) (
   rule_listed : (r : RuleData) → IsRule g r → (x : ReprData) × Has g r.name.0 x × (type_of r.name table ≡ Some x)
   rule_listed r i = let t = one_type.total r i in (t.0, t.1, (inferred.names r.name t.0).1 t.1)
 
-  pub rule_typed : (r : RuleData) → IsRule g r → IsSome (types_listed table r.name.0)
-  rule_typed r i = by (types_listed table r.name.0) (rule_listed r i).0 (rule_listed r i).2
+  pub rule_typed : (r : RuleData) → IsRule g r → IsSome (type_in table r.name.0)
+  rule_typed r i = by (type_in table r.name.0) (rule_listed r i).0 (rule_listed r i).2
     where
       by : (o : Option ReprData) (x : ReprData) → o ≡ Some x → IsSome o
       by None x e = absurd (grind arith)
       by (Some y) x e = refl
 
-  module _ (lowerable : lowering_faults g (types_listed table) ≡ []) where
+  module _ (lowerable : lowering_faults g (type_in table) ≡ []) where
     -- the start name of a public rule is no rule's name
     pub start_is_free : (r : RuleData) → In r (public_rules (all_rules g)) → In (g.prefix ++ r.name.0) (rule_names g) → ⊥
     start_is_free r i j =
         let (d, k, e) = of_map (λ (s : RuleData). s.name.0) (g.prefix ++ r.name.0) (all_rules g) j in
-        let none : types_listed table d.name.0 ≡ None = subst (λ m. types_listed table m ≡ None) e (start_untyped g (types_listed table) lowerable r i) in
-        let some : types_listed table d.name.0 ≡ Some (rule_listed d k).0 = (rule_listed d k).2 in
+        let none : type_in table d.name.0 ≡ None = subst (λ m. type_in table m ≡ None) e (start_untyped g (type_in table) lowerable r i) in
+        let some : type_in table d.name.0 ≡ Some (rule_listed d k).0 = (rule_listed d k).2 in
         cc (none, some)
 
     module _ (types : TypeTable) (started : HasStartTypes g.prefix (all_rules g) table types) where
@@ -131,7 +131,7 @@ module _ (g : GrammarData) (table : TypeTable) (inferred : IsInferred g table) (
       start_type : (r : RuleData) → In r (public_rules (all_rules g)) → type_of (start_name g.prefix r.name) types ≡ type_of r.name types
       start_type r i =
           let own = rule_listed r (public_in (all_rules g) r i) in
-          let none : type_of (start_name g.prefix r.name) table ≡ None = start_untyped g (types_listed table) lowerable r i in
+          let none : type_of (start_name g.prefix r.name) table ≡ None = start_untyped g (type_in table) lowerable r i in
           started.names (start_name g.prefix r.name)
           ∙ ap₂ (λ o p. or_else o (option_and_then (λ m. type_of m table) p)) none (start_at g.prefix (public_rules (all_rules g)) r i)
           ∙ own.2 ∙ sym (kept_type r own.0 own.2)

@@ -1,25 +1,21 @@
 -- A grammar that holds no part of a later stage is taken.
-use Rattle.std.proofs.Common.{◌≡◌, ℕ, suc, Bool, true, false, not, ◌||◌, ◌&&◌, List, [], ◌∷◌, ◌++◌, Option, Some, None, refl, sym, ap, ◌∙◌, arith, bytes_eq}
-use Rattle.std.specs.Prelude.{All, Contains, IsSome}
+use Rattle.std.proofs.Common.{◌≡◌, Bool, true, false, not, ◌||◌, ◌&&◌, List, [], ◌∷◌, ◌++◌, Option, Some, None, refl, sym, ap, ◌∙◌}
+use Rattle.std.specs.Prelude.{All, IsSome}
 use Rattle.std.specs.List.{flat_map, list_any, AllByRecursion, IsDistinct}
 use Rattle.std.proofs.lemmas.List.Elements.{All-nil, All-cons}
-use Rattle.std.proofs.lemmas.Slice.Eq.{bytes_eq-Decides}
 use Rattle.lalrpop_norm_tree.specs.declared.names.TerminalString.{TerminalString}
 use Rattle.lalrpop_norm_tree.specs.declared.names.TerminalString.TheVariants.{Literal, Bare, Error}
 use Rattle.lalrpop_norm_tree.specs.Attributes.{Attributes, no_attributes, attribute_and}
-use Rattle.lalrpop_norm_tree.specs.Items.{Action, user_code, fallible_code, lookahead_code, lookbehind_code, AlternativeData, RuleData, ConversionData, EnumTokenData, ExternTokenData, ItemData, match_item, extern_item, intern_item, rule_item, use_item, GrammarData}
+use Rattle.lalrpop_norm_tree.specs.Items.{Action, user_code, fallible_code, lookahead_code, lookbehind_code, AlternativeData, RuleData, EnumTokenData, ExternTokenData, ItemData, match_item, extern_item, intern_item, rule_item, use_item, GrammarData}
 use Rattle.lalrpop_norm_tree.specs.Patterns as pattern
 use Rattle.lalrpop_norm_tree.specs.Symbols.{Kind, group, ambiguous_id, terminal, nonterminal, call, repeated, chosen, named, tupled, lookahead, lookbehind, error_terminal, Part, at, Parts, no_parts, part_and}
 use Rattle.lalrpop_norm_tree.specs.Types.{TypeData}
 use Rattle.lalrpop_norm_model.specs.Features.{Features}
-use Rattle.lalrpop_norm_faults.specs.declared.kind.FaultKind.TheVariants.{NotYet}
-use Rattle.lalrpop_norm_repr.proofs.TableLemmas.{terminals_same}
 use Rattle.lalrpop_norm.specs.declared.later.LaterPart.{LaterPart}
 use Rattle.lalrpop_norm.specs.declared.later.LaterPart.TheVariants as later
-use Rattle.lalrpop_norm.specs.Grammars.{rules_of, externs_of, names_of, enum_in, conversions_in, conversions_of, active_conversions, terminals_of, listed, terminal_listed, same_terminal, has_repeated}
-use Rattle.lalrpop_norm.specs.Later.{part_if, part_of_any, part_of_some, part_of_none, attribute_parts, terminal_parts, kind_parts, symbol_parts, symbols_parts, has_several_slots, action_parts, alternative_parts, rule_parts, start_parts, pattern_kind_parts, pattern_parts, patterns_parts, conversion_parts, enum_parts, extern_parts, token_parts, head_parts, item_parts, has_rule, has_conversion, later_parts, later_faults}
+use Rattle.lalrpop_norm.specs.Grammars.{rules_of, externs_of, enum_in, conversions_in, conversions_of, active_conversions, terminals_of, same_terminal, has_repeated}
+use Rattle.lalrpop_norm.specs.Later.{part_if, part_of_any, part_of_some, part_of_none, attribute_parts, terminal_parts, kind_parts, symbol_parts, symbols_parts, has_several_slots, action_parts, alternative_parts, rule_parts, start_parts, pattern_kind_parts, pattern_parts, patterns_parts, conversion_parts, enum_parts, extern_parts, token_parts, head_parts, item_parts, has_rule, has_conversion, later_parts}
 use Rattle.lalrpop_norm.specs.TakenGrammars.{IsConverted, IsTakenKind, IsTakenSymbol, AreTakenSymbols, HasAtMostOneSlot, IsTakenAlternative, IsTakenRule, IsTakenPatternKind, IsTakenPattern, AreTakenPatterns, HasTakenPattern, IsTakenExtern, IsNoMatchBlock, IsTaken}
-use Rattle.lalrpop_norm.proofs.WalkLemmas.{map_none}
 
 -- ---- empty lists
 
@@ -217,27 +213,6 @@ distinct_of same (x ∷ xs) h = (
   distinct_of same xs (or_none_right (list_any (same x) xs) (has_repeated same xs) h),
 )
 
-contains_more : {X : Type 0} (x y : X) (xs : List X) → Contains xs y → Contains (x ∷ xs) y
-contains_more x y xs c = (suc c.0, omega (arith, c.1), c.2)
-
--- a listed name is that of a rule
-pub found_rule : (name : List ℕ) (rules : List RuleData) → listed name (names_of rules) ≡ true → (r : RuleData) × Contains rules r × (r.name.0 ≡ name)
-found_rule name [] h = cc
-found_rule name (r ∷ rest) h = by_test (bytes_eq name r.name.0) refl h (found_rule name rest)
-  where
-    by_test : (b : Bool) → bytes_eq name r.name.0 ≡ b → (b || listed name (names_of rest)) ≡ true → (listed name (names_of rest) ≡ true → (s : RuleData) × Contains rest s × (s.name.0 ≡ name)) → (s : RuleData) × Contains (r ∷ rest) s × (s.name.0 ≡ name)
-    by_test true same h deeper = (r, (0, omega arith, refl), sym ((bytes_eq-Decides name r.name.0).0 same))
-    by_test false same h deeper = let there = deeper h in (there.0, contains_more r there.0 rest there.1, there.2)
-
--- a listed terminal is that of a conversion
-pub found_conversion : (t : TerminalString) (cs : List ConversionData) → terminal_listed t (terminals_of cs) ≡ true → (c : ConversionData) × Contains cs c × (c.from ≡ t)
-found_conversion t [] h = cc
-found_conversion t (c ∷ rest) h = by_test (same_terminal t c.from) refl h (found_conversion t rest)
-  where
-    by_test : (b : Bool) → same_terminal t c.from ≡ b → (b || terminal_listed t (terminals_of rest)) ≡ true → (terminal_listed t (terminals_of rest) ≡ true → (d : ConversionData) × Contains rest d × (d.from ≡ t)) → (d : ConversionData) × Contains (c ∷ rest) d × (d.from ≡ t)
-    by_test true same h deeper = (c, (0, omega arith, refl), sym (terminals_same t c.from same))
-    by_test false same h deeper = let there = deeper h in (there.0, contains_more c there.0 rest there.1, there.2)
-
 -- ---- grammars
 
 -- a grammar without parts of later stages is taken
@@ -276,10 +251,6 @@ taken_of fs g h =
       rules = λ k d lt. taken_rule converts _ (each_rule k d lt);
       starts = λ k d lt. if_both_none _ _ later.StartTaken (each_start k d lt);
     }
-
--- a grammar that is not refused is taken
-pub taken_where_not_refused : (fs : Features) (g : GrammarData) → later_faults fs g ≡ [] → IsTaken fs g
-taken_where_not_refused fs g h = taken_of fs g (map_none (λ p. (NotYet, g.span)) (later_parts fs g) h)
 
 -- ---- the order of looking
 

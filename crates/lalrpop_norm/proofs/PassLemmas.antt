@@ -1,29 +1,28 @@
 -- From what the passes promise to what normalization promises.
 use Rattle.std.proofs.Common.{◌≡◌, ◌↔◌, inl, inr, ℕ, Bool, true, false, List, [], ◌∷◌, ◌++◌, map, Option, Some, None, Result, IsErrAnd, refl, ap, ap₂, sym, subst, ◌∙◌}
-use Rattle.std.specs.Prelude.{flat_map, IfOk, if◌then◌else◌}
+use Rattle.std.specs.Prelude.{flat_map, if◌then◌else◌}
 use Rattle.std.proofs.Math.Path.{fun_ext}
 use Rattle.std.proofs.lemmas.Grind.{flat_map-append}
 use Rattle.std.proofs.lemmas.List.{append-nil}
-use Rattle.std.proofs.lemmas.Result.{IfOk-weaker}
 use Rattle.lalrpop_norm_tree.specs.declared.names.NonterminalString.{NonterminalString}
 use Rattle.lalrpop_norm_tree.specs.Items.{RuleData, ItemData, GrammarData, match_item, extern_item, intern_item, rule_item, use_item}
 use Rattle.lalrpop_norm_theory.specs.Rounds.{In, IsDistinct}
 use Rattle.lalrpop_norm_conditions.specs.Conditions.{comparison}
 use Rattle.lalrpop_norm_faults.specs.declared.failure.NormFailure.{NormFailure}
 use Rattle.lalrpop_norm_faults.specs.declared.kind.FaultKind.TheVariants.{NotYet}
-use Rattle.lalrpop_norm_faults.specs.Faults.{Fault, IsFirst, Refuses}
+use Rattle.lalrpop_norm_faults.specs.Faults.{IsFirst, Refuses}
 use Rattle.lalrpop_norm_faults.proofs.FaultLemmas.{exit_at}
 use Rattle.lalrpop_norm_repr.specs.Lowered.{LoweredGrammar}
 use Rattle.lalrpop_norm_repr.specs.Tables.{TypeTable}
 use Rattle.lalrpop_norm_model.specs.Enabled.{all_places, enabled_grammar}
-use Rattle.lalrpop_norm_model.specs.Expanded.{rule_names, IsExpanded, IsTyped}
+use Rattle.lalrpop_norm_model.specs.Expanded.{rule_names, IsExpanded}
 use Rattle.lalrpop_norm_model.specs.Features.{Features}
 use Rattle.lalrpop_norm_model.specs.Grammars.{is_nil}
 use Rattle.lalrpop_norm_model.specs.InferenceFaults.{inference_faults, inferred_table}
 use Rattle.lalrpop_norm_model.specs.LevelRules.{level_rule, level_items, leveled_grammar}
 use Rattle.lalrpop_norm_model.specs.Levels.{Leveled, has_levels, with_levels, levels_of, previous_level}
 use Rattle.lalrpop_norm_model.specs.LoweringFaults.{lowering_faults}
-use Rattle.lalrpop_norm_model.specs.PlainRules.{rule_of_item, all_rules, plain_grammar}
+use Rattle.lalrpop_norm_model.specs.PlainRules.{rule_of_item, all_rules}
 use Rattle.lalrpop_norm_model.specs.Scopes.{Global, globals, resolved_grammar}
 use Rattle.lalrpop_norm_model.proofs.InferenceLemmas.{both_empty, inferred_types}
 use Rattle.lalrpop_norm_model.proofs.TypableLemmas.{typable_exactly}
@@ -38,11 +37,11 @@ use Rattle.lalrpop_norm_late.specs.Active.{active_item, active_grammar}
 use Rattle.lalrpop_norm_late.specs.Made.{type_in}
 use Rattle.lalrpop_norm_late.specs.Shape.{IsLoweringOf}
 use Rattle.lalrpop_norm.specs.Faithful.{grammar_with_levels, grammar_of_plain_rules, IsFaithful, no_lexer}
-use Rattle.lalrpop_norm.specs.Normalize.{late_faults, pass_faults, IsNormalized}
+use Rattle.lalrpop_norm.specs.Normalize.{late_faults, pass_faults}
 use Rattle.lalrpop_norm.specs.Passed.{IsTypedByInference, IsTypedLowering, IsPassed}
-use Rattle.lalrpop_norm.specs.PlainLaws.{PassesExpansion, PassesLowering}
+use Rattle.lalrpop_norm.specs.PlainLaws.{PassesExpansion}
 use Rattle.lalrpop_norm.specs.TakenGrammars.{IsTaken}
-use Rattle.lalrpop_norm.proofs.ComposedFaithful.{no_macros_before, prepared, plain_is_typed, plain_is_expanded, distinct_plain, inferred_total, lowered_faithful}
+use Rattle.lalrpop_norm.proofs.ComposedFaithful.{no_macros_before, prepared, plain_is_typed, plain_is_expanded, inferred_total, lowered_faithful}
 use Rattle.lalrpop_norm.proofs.ExpandedActive.{plain_active, items_kept}
 use Rattle.lalrpop_norm.proofs.ExpandedScopes.{HasNoMacros, no_macros_of}
 
@@ -186,9 +185,6 @@ names_exit fs limit g h valid same r e first is =
     (ap (λ vs. vs ++ (precedence_faults (enabled_grammar fs g) ++ rest)) valid)
 
 -- ---- the whole
-
-pub passed_normalized : (fs : Features) (limit : ℕ) (g : GrammarData) (l : LoweredGrammar) → IsPassed fs limit g l → IsNormalized fs limit g l
-passed_normalized fs limit g l h = record { types = h.types; inferred = h.passes.inferred; lowering = h.shape }
 
 pub passed_faithful : (fs : Features) (limit : ℕ) (g : GrammarData) (l : LoweredGrammar) → IsPassed fs limit g l → IsFaithful no_lexer fs g l
 passed_faithful fs limit g l h =

@@ -1,21 +1,19 @@
 -- A macro has one level: the step to a lower level would name a macro as if it were a rule.
-use Rattle.std.proofs.Common.{◌≡◌, inl, inr, ℕ, suc, ◌<◌, ◌≤◌, List, [], ◌∷◌, ◌++◌, map, length, Bool, true, false, Option, Some, None, refl, sym, ap, ◌∙◌, subst, arith}
+use Rattle.std.proofs.Common.{◌≡◌, inl, inr, ℕ, suc, ◌<◌, ◌≤◌, List, [], ◌∷◌, length, Bool, true, false, Option, Some, None, refl, sym, ap, ◌∙◌, subst, arith}
 use Rattle.std.specs.Prelude.{flat_map, if◌then◌else◌}
 use Rattle.std.proofs.lemmas.Bool.{cases_lt}
 use Rattle.lalrpop_norm_tree.specs.declared.names.Span.{Span}
 use Rattle.lalrpop_norm_tree.specs.declared.names.NonterminalString.{NonterminalString}
-use Rattle.lalrpop_norm_tree.specs.Items.{AlternativeData, RuleData, ItemData, GrammarData, match_item, extern_item, intern_item, rule_item, use_item}
+use Rattle.lalrpop_norm_tree.specs.Items.{AlternativeData, RuleData, GrammarData, rule_item}
 use Rattle.lalrpop_norm_theory.specs.Symbols.{Name}
 use Rattle.lalrpop_norm_theory.specs.Rounds.{In}
-use Rattle.lalrpop_norm_model.specs.Features.{Features, is_active}
-use Rattle.lalrpop_norm_model.specs.Enabled.{all_places, enabled_rule, enabled_item, enabled_grammar}
-use Rattle.lalrpop_norm_model.specs.Scopes.{Definition, a_macro, Global, rule_definition, globals, definition_of, Sense, an_argument, global_sense, is_argument, sense_of, resolved_item, resolved_grammar}
+use Rattle.lalrpop_norm_model.specs.Enabled.{all_places}
+use Rattle.lalrpop_norm_model.specs.Scopes.{Definition, a_macro, rule_definition, globals, definition_of, Sense, an_argument, global_sense, is_argument, sense_of, resolved_grammar}
 use Rattle.lalrpop_norm_model.specs.Levels.{Leveled, has_levels, with_levels, levels_of, previous_level}
 use Rattle.lalrpop_norm_model.specs.WrittenRules.{flat_rule}
 use Rattle.lalrpop_norm_model.specs.Grammars.{is_nil}
 use Rattle.lalrpop_norm_model.specs.LevelRules.{level_of_rule, step_alternative, step_alternatives, level_rule, level_rules, leveled_grammar}
-use Rattle.lalrpop_norm_model.specs.PlainRules.{rule_of_item, all_rules}
-use Rattle.lalrpop_norm_model.specs.Renumbered.{prepared_grammar}
+use Rattle.lalrpop_norm_model.specs.PlainRules.{all_rules}
 use Rattle.lalrpop_norm_model.proofs.LevelLemmas.{in_map, had_level, previous_is, has_previous}
 use Rattle.lalrpop_norm_model.proofs.ScopeLemmas.{in_right, in_flat}
 use Rattle.lalrpop_norm_model.proofs.WrittenLemmas.{scoped_as_written}
@@ -115,28 +113,3 @@ module _ (g : GrammarData) (E : resolved_grammar g ≡ g) (F : resolve_faults (l
 
 pub macros_have_one_level : MacrosHaveOneLevel
 macros_have_one_level g E F own = flat_macros g E F own
-
--- ---- no macros
-
-kept_args : (fs : Features) (ds : List Global) (items : List ItemData) (d : RuleData) →
-    In d (flat_map rule_of_item (map (resolved_item ds) (flat_map (enabled_item fs) items))) → (c : RuleData) × In c (flat_map rule_of_item items) × (d.args ≡ c.args)
-kept_args fs ds [] d h = absurd h
-kept_args fs ds (rule_item r ∷ items) d h = by (is_active fs r.attributes) (kept_args fs ds items d) h
-  where
-    by : (b : Bool) → (In d (flat_map rule_of_item (map (resolved_item ds) (flat_map (enabled_item fs) items))) → (c : RuleData) × In c (flat_map rule_of_item items) × (d.args ≡ c.args)) →
-        In d (flat_map rule_of_item (map (resolved_item ds) ((if b then rule_item (enabled_rule fs r) ∷ [] else []) ++ flat_map (enabled_item fs) items))) →
-        (c : RuleData) × In c (r ∷ flat_map rule_of_item items) × (d.args ≡ c.args)
-    by true f (inl e) = (r, inl refl, ap (λ (x : RuleData). x.args) e)
-    by true f (inr i) = (let (c, j, s) = f i in (c, inr j, s))
-    by false f i = (let (c, j, s) = f i in (c, inr j, s))
-kept_args fs ds (match_item m ∷ items) d h = kept_args fs ds items d h
-kept_args fs ds (extern_item t ∷ items) d h = kept_args fs ds items d h
-kept_args fs ds (intern_item t ∷ items) d h = kept_args fs ds items d h
-kept_args fs ds (use_item u ∷ items) d h = kept_args fs ds items d h
-
--- where no rule has arguments there is no macro
-pub none_are_macros : (fs : Features) (g : GrammarData) → ((d : RuleData) → In d (all_rules g) → is_nil d.args ≡ true) → HasFlatMacros (prepared_grammar fs g)
-none_are_macros fs g none d i macro l m x y =
-    let (c, j, same) = kept_args fs (globals (enabled_grammar fs g)) g.items d i in
-    let plain : is_nil d.args ≡ true = ap is_nil same ∙ none c j in
-    absurd (cc (plain, macro))

@@ -1,6 +1,6 @@
 -- First parts of joined lists.
-use Rattle.std.proofs.Common.{◌≡◌, ℕ, Result, Ok, Err, Some, List, [], ◌∷◌, ◌++◌, map, codes, refl, sym, subst}
-use Rattle.std.specs.Prelude.{String, IfOk, IfErr, string_bytes}
+use Rattle.std.proofs.Common.{◌≡◌, ℕ, Result, Ok, Err, Some, List, [], ◌∷◌, ◌++◌, map, codes, sym, subst}
+use Rattle.std.specs.Prelude.{String, IfOk, string_bytes}
 use Rattle.std.specs.declared.alloc.AllocError.{AllocError}
 use Rattle.std.specs.declared.alloc.Global.{Global}
 use Rattle.std.specs.Result.{IsErrAnd}
@@ -52,12 +52,3 @@ first_named (q ∷ ps) p e h told =
 pub refusal_tells : (f : FaultKind) (s : Span) (m : Result (String Global) AllocError) (e : NormFailure) (text : List ℕ) → IsRefusal f s m e → IfOk m (λ x. string_bytes x ≡ text) → Tells text e
 refusal_tells f s (Ok m) e text is h = subst (Tells text) (sym is) h
 refusal_tells f s (Err x) e text is h = subst (Tells text) (sym is) tt
-
-pub map_none : {X Y : Type 0} (f : X → Y) (xs : List X) → map f xs ≡ [] → xs ≡ []
-map_none f [] h = refl
-map_none f (x ∷ xs) h = absurd (cc h)
-
--- where there is no part, none is named
-pub none_named : {T : Type 0} (r : Result T NormFailure) (ps : List LaterPart) → ps ≡ [] → IfErr r (NamesFirst ps)
-none_named (Ok x) ps h = tt
-none_named (Err e) ps h = subst (λ (qs : List LaterPart). NamesFirst qs e) (sym h) tt

@@ -3,12 +3,20 @@ pub use Rattle.lalrpop_norm_tree.specs.Accessors.{rule_of, extern_token_of, is_p
 pub use Rattle.lalrpop_norm_repr.specs.Tables.{same_literal, same_terminal}
 pub use Rattle.lalrpop_norm_front.specs.EnabledItems.{active_conversions}
 pub use Rattle.lalrpop_norm_late.specs.Lowering.{rules_of}
-pub use Rattle.lalrpop_norm_late.specs.Conversions.{conversions_in, terminals_of}
-pub use Rattle.lalrpop_norm_late.specs.Lowerable.{externs_of, names_of, listed}
-use Rattle.std.specs.Prelude.{Bool, false, ◌||◌, List, [], ◌∷◌, Option, None}
+pub use Rattle.lalrpop_norm_late.specs.Conversions.{conversions_in}
+use Rattle.std.specs.Prelude.{ℕ, Bool, false, ◌||◌, List, [], ◌∷◌, map, filter_map, Option, None, bytes_eq}
 use Rattle.std.specs.List.{list_any}
 use Rattle.lalrpop_norm_tree.specs.declared.names.TerminalString.{TerminalString}
-use Rattle.lalrpop_norm_tree.specs.Items.{ItemData, ExternTokenData, EnumTokenData, ConversionData}
+use Rattle.lalrpop_norm_tree.specs.Items.{ItemData, RuleData, ExternTokenData, EnumTokenData, ConversionData}
+
+abbrev pub externs_of : List ItemData → List ExternTokenData
+externs_of items = filter_map extern_token_of items
+
+abbrev pub names_of : List RuleData → List (List ℕ)
+names_of rules = map (λ r. r.name.0) rules
+
+abbrev pub listed : List ℕ → List (List ℕ) → Bool
+listed name ns = list_any (bytes_eq name) ns
 
 -- the enum of the first extern block
 abbrev pub enum_in : List ExternTokenData → Option EnumTokenData
@@ -18,6 +26,9 @@ enum_in (t ∷ ts) = t.enum_token
 -- the conversions of that enum
 abbrev pub conversions_of : List ItemData → List ConversionData
 conversions_of items = conversions_in (enum_in (externs_of items))
+
+abbrev pub terminals_of : List ConversionData → List TerminalString
+terminals_of cs = map (λ c. c.from) cs
 
 abbrev pub terminal_listed : TerminalString → List TerminalString → Bool
 terminal_listed t ts = list_any (same_terminal t) ts

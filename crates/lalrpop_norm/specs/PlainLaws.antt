@@ -1,7 +1,6 @@
 -- What is proved of the definitions: what the early passes promise is what the late ones ask, and with what these promise it is the
 -- headline.
 use Rattle.std.specs.Prelude.{◌≡◌, ℕ, ◌++◌, List, [], Option, IsSome}
-use Rattle.lalrpop_norm_tree.specs.declared.names.NonterminalString.{NonterminalString}
 use Rattle.lalrpop_norm_tree.specs.Items.{RuleData, ExternTokenData, GrammarData, extern_item}
 use Rattle.lalrpop_norm_tree.specs.Reprs.{ReprData}
 use Rattle.lalrpop_norm_theory.specs.Rounds.{In}
@@ -19,15 +18,12 @@ use Rattle.lalrpop_norm_front.specs.GrammarFaults.{validate_faults}
 use Rattle.lalrpop_norm_expand.specs.Expansion.{expansion_faults}
 use Rattle.lalrpop_norm_repr.specs.Closed.{IsClosed}
 use Rattle.lalrpop_norm_repr.specs.Lowered.{LoweredGrammar}
-use Rattle.lalrpop_norm_repr.specs.Tables.{TypeTable, type_of}
+use Rattle.lalrpop_norm_repr.specs.Tables.{TypeTable}
 use Rattle.lalrpop_norm_late.specs.Lowering.{public_rules}
+use Rattle.lalrpop_norm_late.specs.Made.{type_in}
 use Rattle.lalrpop_norm_late.specs.Shape.{HasStartTypes, IsLoweringOf}
 use Rattle.lalrpop_norm.specs.TakenGrammars.{IsTaken}
 use Rattle.lalrpop_norm.specs.Faithful.{HasGroundedTypes, IsInferred, IsFaithful, no_lexer, grammar_with_levels, grammar_of_plain_rules}
-
--- the types that a table lists, by the bytes of names
-abbrev pub types_listed : TypeTable → List ℕ → Option ReprData
-types_listed table n = let name : NonterminalString = record { 0 = n } in type_of name table
 
 -- ---- what passes find
 
@@ -44,7 +40,7 @@ pub record PassesLowering (fs : Features) (g : GrammarData) (limit : ℕ) (table
   pub before : PassesExpansion fs g limit
   pub typable : inference_faults (grammar_of_plain_rules fs g limit) ≡ []
   pub inferred : IsInferred (grammar_of_plain_rules fs g limit) table
-  pub lowerable : lowering_faults (grammar_of_plain_rules fs g limit) (types_listed table) ≡ []
+  pub lowerable : lowering_faults (grammar_of_plain_rules fs g limit) (type_in table) ≡ []
 
 -- ---- plain rules
 
@@ -73,7 +69,7 @@ PlainConversionsAreActive = (fs : Features) (g : GrammarData) (limit : ℕ) (t :
 abbrev pub InferredTypesAreTotal : Type 0
 InferredTypesAreTotal = (fs : Features) (g : GrammarData) (limit : ℕ) (table : TypeTable) → PassesExpansion fs g limit →
     inference_faults (grammar_of_plain_rules fs g limit) ≡ [] → IsInferred (grammar_of_plain_rules fs g limit) table →
-    (r : RuleData) → IsRule (grammar_of_plain_rules fs g limit) r → IsSome (types_listed table r.name.0)
+    (r : RuleData) → IsRule (grammar_of_plain_rules fs g limit) r → IsSome (type_in table r.name.0)
 
 -- The start name of a public rule is no rule's name.
 abbrev pub StartNamesAreFree : Type 0

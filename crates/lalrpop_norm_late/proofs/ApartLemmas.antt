@@ -11,10 +11,9 @@ use Rattle.lalrpop_norm_tree.specs.Accessors.{is_public}
 use Rattle.lalrpop_norm_tree.specs.Items.{RuleData}
 use Rattle.lalrpop_norm_repr.specs.Productions.{EntryData}
 use Rattle.lalrpop_norm_repr.specs.Tables.{found}
-use Rattle.lalrpop_norm_late.specs.Lowerable.{names_of, listed}
 use Rattle.lalrpop_norm_late.specs.Lowering.{public_rules, start_name, start_names, start_rows, rule_rows, sorted_onto}
 use Rattle.lalrpop_norm_late.specs.Shape.{Clause, start_clause, rule_clauses, clauses_of, start_entry_of, rule_entry_of, entries_of, starts_of, IsNameTable}
-use Rattle.lalrpop_norm_late.proofs.ClauseLemmas.{has_name, or_left, or_right, or_neither, append_same, AreApart, LackNames, LackStarts, AllApart, apart_all, rule_rows_named, start_rows_named}
+use Rattle.lalrpop_norm_late.proofs.ClauseLemmas.{has_name, or_neither, append_same, AreApart, LackNames, LackStarts, AllApart, apart_all, rule_rows_named, start_rows_named}
 use Rattle.lalrpop_norm_late.proofs.KeyLaws.{same_name, names_decide, name_table, sorted_joined}
 
 -- ---- lists
@@ -67,19 +66,6 @@ public_apart (r ∷ rs) h = by (is_public r.visibility) (public_apart rs h.1)
     by false rest = rest
 
 -- ---- names apart
-
-apart_names : (n : NonterminalString) (rs : List RuleData) → AllByRecursion (λ y. bytes_eq n.0 y ≡ false) (names_of rs) → AreApart n rs
-apart_names n [] h = tt
-apart_names n (r ∷ rs) h = (h.0, apart_names n rs h.1)
-
-pub distinct_apart : (rs : List RuleData) → IsDistinct bytes_eq (names_of rs) → AllApart rs
-unfolding IsDistinct
-distinct_apart [] h = tt
-distinct_apart (r ∷ rs) h = (apart_names r.name rs h.0, distinct_apart rs h.1)
-
-pub unlisted_apart : (n : NonterminalString) (rs : List RuleData) → listed n.0 (names_of rs) ≡ false → AreApart n rs
-unlisted_apart n [] h = tt
-unlisted_apart n (r ∷ rs) h = (or_left (bytes_eq n.0 r.name.0) (listed n.0 (names_of rs)) h, unlisted_apart n rs (or_right (bytes_eq n.0 r.name.0) (listed n.0 (names_of rs)) h))
 
 lack_nothing : (rs : List RuleData) → LackNames rs []
 lack_nothing [] = tt

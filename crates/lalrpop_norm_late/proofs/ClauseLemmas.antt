@@ -1,19 +1,17 @@
 -- Numbered alternatives: counted along the rules, and by their places in the one list.
 use Rattle.std.proofs.Common.{◌≡◌, ◌∙◌, ℕ, ◌+◌, Bool, true, false, cond, ◌||◌, ◌&&◌, List, [], ◌∷◌, ◌++◌, length, map, refl, sym, ap, arith, bytes_eq}
-use Rattle.std.specs.Prelude.{filter, flat_map, nat_le}
+use Rattle.std.specs.Prelude.{filter, flat_map}
 use Rattle.std.specs.List.{list_any, enumerate_from, AllByRecursion}
 use Rattle.std.specs.Cmp.{nat_eq_equiv}
 use Rattle.std.specs.Cmp.Lexicographic.{nat_list_eq_equiv}
 use Rattle.std.proofs.lemmas.List.{append_assoc, append-nil, length-append, length-map, map-append}
 use Rattle.std.proofs.lemmas.List.Elements.{filter-append}
-use Rattle.lalrpop_norm_faults.specs.Faults.{Fault, fault_if}
-use Rattle.lalrpop_norm_faults.specs.declared.kind.FaultKind.TheVariants.{TooManyActions}
 use Rattle.lalrpop_norm_tree.specs.declared.names.NonterminalString.{NonterminalString}
 use Rattle.lalrpop_norm_tree.specs.Attributes.{no_attributes}
 use Rattle.lalrpop_norm_tree.specs.Items.{AlternativeData, RuleData}
 use Rattle.lalrpop_norm_repr.specs.Productions.{ProductionData, EntryData}
-use Rattle.lalrpop_norm_late.specs.Lowering.{start_name, start_alternative, production_of, productions_from, start_rows, rule_rows, number_faults, numbers_faults, starts_faults, rules_faults}
-use Rattle.lalrpop_norm_late.specs.Shape.{Clause, start_clause, rule_clauses, number_faults_of, productions_named, start_entry_of, rule_entry_of}
+use Rattle.lalrpop_norm_late.specs.Lowering.{start_name, start_alternative, production_of, productions_from, start_rows, rule_rows}
+use Rattle.lalrpop_norm_late.specs.Shape.{Clause, start_clause, rule_clauses, productions_named, start_entry_of, rule_entry_of}
 
 pub enumerate_append : {A : Type 0} (k : ℕ) (xs ys : List A) → enumerate_from k (xs ++ ys) ≡ enumerate_from k xs ++ enumerate_from (k + length xs) ys
 enumerate_append k [] ys = ap (λ n. enumerate_from n ys) (omega arith)
@@ -166,48 +164,3 @@ module _ (prefix : List ℕ) where
       ∙ ap (λ ps. row ps ∷ start_rows prefix (length (before ++ one)) rs) (sym here)
       ∙ ap (λ rows. row (productions_named n clauses) ∷ rows)
       (start_rows_named (before ++ one) rs after clauses (append_assoc before one (map (start_clause prefix) rs ++ after) ∙ e) (lack_start r rs before apart.0 lack.1) lack_after.1 apart.1)
-
--- ---- faults
-
-abbrev faults_from : ℕ → List Clause → List Fault
-faults_from k cs = map (λ e. (TooManyActions, e.1.1.span)) (filter (λ e. nat_le 4294967296 e.0) (enumerate_from k cs))
-
-faults_append : (k : ℕ) (xs ys : List Clause) → faults_from k (xs ++ ys) ≡ faults_from k xs ++ faults_from (k + length xs) ys
-faults_append k xs ys =
-    let test : ℕ × Clause → Bool = λ (e : ℕ × Clause). nat_le 4294967296 e.0 in
-    let made : ℕ × Clause → Fault = λ (e : ℕ × Clause). (TooManyActions, e.1.1.span) in
-    ap (λ (es : List (ℕ × Clause)). map made (filter test es)) (enumerate_append k xs ys)
-    ∙ ap (map made) (filter-append test (enumerate_from k xs) (enumerate_from (k + length xs) ys))
-    ∙ map-append made (filter test (enumerate_from k xs)) (filter test (enumerate_from (k + length xs) ys))
-
-fault_kept : (b : Bool) (c : ℕ × Clause) (rest : List (ℕ × Clause)) → fault_if b (TooManyActions, c.1.1.span) ++ map (λ (e : ℕ × Clause). (TooManyActions, e.1.1.span)) rest ≡ map (λ (e : ℕ × Clause). (TooManyActions, e.1.1.span)) (cond b (c ∷ rest) rest)
-fault_kept true c rest = refl
-fault_kept false c rest = refl
-
-numbers_named : (n : NonterminalString) (k : ℕ) (alts : List AlternativeData) → numbers_faults k alts ≡ faults_from k (map (λ a. (n, a)) alts)
-numbers_named n k [] = refl
-numbers_named n k (a ∷ alts) =
-    ap (λ (fs : List Fault). number_faults k a.span ++ fs) (numbers_named n (k + 1) alts)
-    ∙ fault_kept (nat_le 4294967296 k) (k, (n, a)) (filter (λ (e : ℕ × Clause). nat_le 4294967296 e.0) (enumerate_from (k + 1) (map (λ (b : AlternativeData). (n, b)) alts)))
-
-starts_named : (prefix : List ℕ) (k : ℕ) (rs : List RuleData) → starts_faults k rs ≡ faults_from k (map (start_clause prefix) rs)
-starts_named prefix k [] = refl
-starts_named prefix k (r ∷ rs) =
-    ap (λ (fs : List Fault). number_faults k r.span ++ fs) (starts_named prefix (k + 1) rs)
-    ∙ fault_kept (nat_le 4294967296 k) (k, start_clause prefix r) (filter (λ (e : ℕ × Clause). nat_le 4294967296 e.0) (enumerate_from (k + 1) (map (start_clause prefix) rs)))
-
-rules_named : (k : ℕ) (rs : List RuleData) → rules_faults k rs ≡ faults_from k (flat_map rule_clauses rs)
-rules_named k [] = refl
-rules_named k (r ∷ rs) =
-    ap (λ (fs : List Fault). numbers_faults k r.alternatives ++ fs) (rules_named (k + length r.alternatives) rs)
-    ∙ ap (λ (fs : List Fault). fs ++ faults_from (k + length r.alternatives) (flat_map rule_clauses rs)) (numbers_named r.name k r.alternatives)
-    ∙ ap (λ n. faults_from k (rule_clauses r) ++ faults_from (k + n) (flat_map rule_clauses rs)) (sym (length-map r.alternatives (λ a. (r.name, a))))
-    ∙ sym (faults_append k (rule_clauses r) (flat_map rule_clauses rs))
-
--- the counted faults are those by places
-pub faults_counted : (prefix : List ℕ) (public rules : List RuleData) → starts_faults 0 public ++ rules_faults (length public) rules ≡ number_faults_of (map (start_clause prefix) public ++ flat_map rule_clauses rules)
-faults_counted prefix public rules =
-    ap (λ (fs : List Fault). fs ++ rules_faults (length public) rules) (starts_named prefix 0 public)
-    ∙ ap (λ (fs : List Fault). faults_from 0 (map (start_clause prefix) public) ++ fs) (rules_named (length public) rules)
-    ∙ ap (λ n. faults_from 0 (map (start_clause prefix) public) ++ faults_from n (flat_map rule_clauses rules)) (sym (length-map public (start_clause prefix)) ∙ omega arith)
-    ∙ sym (faults_append 0 (map (start_clause prefix) public) (flat_map rule_clauses rules))

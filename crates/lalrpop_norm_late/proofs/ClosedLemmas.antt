@@ -1,41 +1,33 @@
--- What a grammar that lowering takes is lowered to leaves nothing open.
-use Rattle.std.proofs.Common.{◌≡◌, ◌∙◌, ℕ, suc, ◌+◌, ◌<◌, Bool, true, false, cond, ◌||◌, List, [], ◌∷◌, ◌++◌, length, map, get_or, Option, Some, None, refl, sym, ap, subst, bytes_eq, arith}
-use Rattle.std.specs.Prelude.{All, Contains, IsSome, flat_map, filter, slice_get}
+-- Lowered grammars with nothing left open, part by part.
+use Rattle.std.proofs.Common.{◌≡◌, ◌∙◌, ℕ, suc, ◌+◌, Bool, true, false, cond, ◌||◌, List, [], ◌∷◌, ◌++◌, length, map, Option, Some, None, refl, sym, ap, subst, bytes_eq, arith}
+use Rattle.std.specs.Prelude.{IsSome, flat_map, filter, slice_get}
 use Rattle.std.specs.List.{list_any, AllByRecursion, AllZip, enumerate_from}
 use Rattle.std.specs.List.Sorted.{IsStrictlySortedBy}
 use Rattle.std.specs.Map.{keys_of, lookup}
 use Rattle.std.specs.Ordering.{eq_by_cmp}
 use Rattle.std.proofs.lemmas.Cmp.{eq_by_cmp_equiv}
-use Rattle.std.proofs.lemmas.List.{length-map, get_or-map}
-use Rattle.std.proofs.lemmas.List.Elements.{All-from_recursion, recursion_from_All}
+use Rattle.std.proofs.lemmas.List.{length-map}
+use Rattle.std.proofs.lemmas.List.Elements.{All-from_recursion}
 use Rattle.std.proofs.lemmas.List.FromFn.{length-enumerate_from}
 use Rattle.std.proofs.lemmas.Map.Entries.{lookup_from_place}
 use Rattle.std.proofs.lemmas.Map.Keys.{IsDistinct-from_sorted}
 use Rattle.std.proofs.lemmas.Map.Text.{is_eq-slice_cmp}
-use Rattle.std.proofs.lemmas.Option.{slice_get-get_or}
 use Rattle.lalrpop_norm_tree.specs.declared.names.NonterminalString.{NonterminalString}
-use Rattle.lalrpop_norm_tree.specs.declared.names.TerminalString.{TerminalString}
 use Rattle.lalrpop_norm_tree.specs.Accessors.{or_else}
-use Rattle.lalrpop_norm_tree.specs.Items.{Action, user_code, fallible_code, lookahead_code, lookbehind_code, RuleData, AlternativeData, ConversionData, GrammarData}
+use Rattle.lalrpop_norm_tree.specs.Items.{Action, user_code, fallible_code, lookahead_code, lookbehind_code, RuleData, AlternativeData}
 use Rattle.lalrpop_norm_tree.specs.Reprs.{ReprData}
 use Rattle.lalrpop_norm_tree.specs.Symbols.{Part, Parts, no_parts, part_and}
-use Rattle.lalrpop_norm_repr.specs.declared.symbol.Symbol.{Symbol}
-use Rattle.lalrpop_norm_repr.specs.declared.symbol.Symbol.TheVariants.{Nonterminal, Terminal}
 use Rattle.lalrpop_norm_repr.specs.Actions.{ActionData, ActionKindData}
-use Rattle.lalrpop_norm_repr.specs.Closed.{IsDefined, HasArguments, IsClosedProduction, IsClosedEntry, IsClosed}
+use Rattle.lalrpop_norm_repr.specs.Closed.{IsDefined, HasArguments, IsClosedProduction}
 use Rattle.lalrpop_norm_repr.specs.Lowered.{LoweredGrammar}
 use Rattle.lalrpop_norm_repr.specs.Productions.{EntryData}
 use Rattle.lalrpop_norm_repr.specs.Tables.{TypeTable, type_of, found}
 use Rattle.lalrpop_norm_late.specs.Arguments.{part_list, patterns, pattern_at_place}
-use Rattle.lalrpop_norm_late.specs.Conversions.{terminals_of}
-use Rattle.lalrpop_norm_late.specs.Lowerable.{IsKnown, IsLowerableAlternative, IsLowerable, conversions_of}
-use Rattle.lalrpop_norm_late.specs.Lowering.{rules_of, public_rules, lowered_symbol, lowered_symbols, production_of}
-use Rattle.lalrpop_norm_late.specs.Plain.{IsLowered}
-use Rattle.lalrpop_norm_late.specs.Shape.{Clause, start_clause, rule_clauses, clauses_of, IsCodeOf, IsKindOf, IsActionOf, productions_named, start_entry_of, rule_entry_of, entries_of, name_cmp}
-use Rattle.lalrpop_norm_late.proofs.ApartLemmas.{all_by, IsNamedIn, named_in, each_named, kept_public}
+use Rattle.lalrpop_norm_late.specs.Lowering.{public_rules, lowered_symbols, production_of}
+use Rattle.lalrpop_norm_late.specs.Shape.{Clause, clauses_of, IsCodeOf, IsKindOf, IsActionOf, productions_named, start_entry_of, rule_entry_of, entries_of, name_cmp}
+use Rattle.lalrpop_norm_late.proofs.ApartLemmas.{IsNamedIn}
 use Rattle.lalrpop_norm_late.proofs.ClauseLemmas.{named_from}
 use Rattle.lalrpop_norm_late.proofs.KeyLaws.{same_name, names_decide, names_total, found_is}
-use Rattle.lalrpop_norm_late.proofs.ShapeLemmas.{declared_some, alternatives_ok, declared_ok, terminals_ok}
 
 -- ---- lists
 
@@ -50,9 +42,6 @@ map_all P f (x ∷ xs) h = (h.0, map_all P f xs h.1)
 pub flat_all : {X Y : Type 0} (P : Y → Type 0) (f : X → List Y) (xs : List X) → AllByRecursion (λ x. AllByRecursion P (f x)) xs → AllByRecursion P (flat_map f xs)
 flat_all P f [] h = tt
 flat_all P f (x ∷ xs) h = join_all P (f x) (flat_map f xs) h.0 (flat_all P f xs h.1)
-
-mapped_within : {X Y : Type 0} (f : X → Y) (xs : List X) (x : X) → Contains xs x → Contains (map f xs) (f x)
-mapped_within f xs x c = (c.0, let same = length-map xs f in let lt : c.0 < length xs = c.1 in subst (λ n. c.0 < n) (sym same) lt, get_or-map f xs c.0 x (f x) c.1 ∙ ap f c.2)
 
 -- ---- the action of a clause has its arguments
 
@@ -167,56 +156,3 @@ behind_some n (x ∷ xs) ys h = by (bytes_eq n.0 x.0.0) (behind_some n xs ys h)
 pub else_some : {A : Type 0} (o p : Option A) → IsSome o → IsSome (or_else o p)
 else_some None p h = cc
 else_some (Some x) p h = refl
-
--- ---- the whole
-
-module _ (g : GrammarData) (ok : IsLowerable g) (l : LoweredGrammar) (lowered : IsLowered g l) where
-  name_defined : (n : NonterminalString) → IsNamedIn (rules_of g.items) n → IsDefined l (Nonterminal n)
-  name_defined n named =
-      let clauses : List Clause = clauses_of g.prefix (rules_of g.items) in (
-        subst IsSome (sym (lowered.lowering.nonterminals.holds n))
-            (behind_some n (map (start_entry_of g.prefix clauses) (public_rules (rules_of g.items))) (map (rule_entry_of clauses) (rules_of g.items)) (entry_some clauses n (rules_of g.items) named)),
-        subst IsSome (sym (lowered.lowering.types.names n))
-            (else_some (type_of n lowered.types) _ (subst IsSome (sym (lowered.declared.names n)) (declared_some n (rules_of g.items) (declared_ok g ok) named))),
-      )
-
-  symbol_defined : (s : Symbol) → IsKnown (rules_of g.items) (conversions_of g.items) s → IsDefined l s
-  symbol_defined (Nonterminal n) h = subst (λ (m : NonterminalString). IsDefined l (Nonterminal m)) h.2 (name_defined h.0.name (named_in (rules_of g.items) h.0 h.1))
-  symbol_defined (Terminal t) h =
-      let all : terminals_of (conversions_of g.items) ≡ l.terminals.all = terminals_ok g ok ∙ sym lowered.lowering.all_terminals in
-      subst (λ (ts : List TerminalString). Contains ts t) all
-      (subst (λ (u : TerminalString). Contains (terminals_of (conversions_of g.items)) u) h.2 (mapped_within (λ (c : ConversionData). c.from) (conversions_of g.items) h.0 h.1))
-
-  symbols_defined : (ps : Parts) → AllByRecursion (λ p. IsKnown (rules_of g.items) (conversions_of g.items) (lowered_symbol p)) (part_list ps) → AllByRecursion (IsDefined l) (lowered_symbols ps)
-  symbols_defined no_parts h = tt
-  symbols_defined (part_and p ps) h = (symbol_defined (lowered_symbol p) h.0, symbols_defined ps h.1)
-
-  clauses_defined : AllByRecursion (IsDefinedClause l) (clauses_of g.prefix (rules_of g.items))
-  clauses_defined =
-      let rules : List RuleData = rules_of g.items in
-      join_all (IsDefinedClause l) (map (start_clause g.prefix) (public_rules (rules_of g.items))) (flat_map rule_clauses (rules_of g.items))
-      (map_all (IsDefinedClause l) (start_clause g.prefix) (public_rules (rules_of g.items))
-      (kept_public (λ r. IsDefinedClause l (start_clause g.prefix r)) rules (all_by (λ r. IsNamedIn (rules_of g.items) r.name) (λ r. IsDefinedClause l (start_clause g.prefix r)) (λ r named. (name_defined r.name named, tt)) rules (each_named rules))))
-      (flat_all (IsDefinedClause l) rule_clauses rules
-      (all_by (λ r. AllByRecursion (IsLowerableAlternative (rules_of g.items) (conversions_of g.items)) r.alternatives) (λ r. AllByRecursion (IsDefinedClause l) (rule_clauses r))
-      (λ r h. map_all (IsDefinedClause l) (λ a. (r.name, a)) r.alternatives
-      (all_by (IsLowerableAlternative (rules_of g.items) (conversions_of g.items)) (λ a. IsDefinedClause l (r.name, a))
-      (λ a each. symbols_defined a.parts (recursion_from_All (λ p. IsKnown (rules_of g.items) (conversions_of g.items) (lowered_symbol p)) (part_list a.parts) each.known)) r.alternatives h))
-      rules (alternatives_ok g ok)))
-
-  entry_closed : (i : ℕ) (r : NonterminalString × EntryData) → slice_get l.nonterminals i ≡ Some r → IsClosedEntry l r
-  entry_closed i r at =
-      let clauses : List Clause = clauses_of g.prefix (rules_of g.items) in
-      let is : r.1.productions ≡ productions_named r.0 (clauses_of g.prefix (rules_of g.items)) =
-      found_holds clauses r.0 r.1 (entries_of g.prefix (rules_of g.items)) (all_hold g.prefix (rules_of g.items))
-      (sym (lowered.lowering.nonterminals.holds r.0) ∙ found_at_place l.nonterminals lowered.lowering.nonterminals.in_order i r at) in
-      subst (All (IsClosedProduction l r.0)) (sym is)
-      (All-from_recursion (IsClosedProduction l r.0) (productions_named r.0 clauses)
-      (closed_from g.prefix l r.0 0 clauses l.actions (λ j d there. ap (slice_get l.actions) (omega arith) ∙ there) lowered.lowering.actions clauses_defined))
-
-  pub is_closed : IsClosed l
-  is_closed = record {
-    productions = λ k d lt. entry_closed k (get_or l.nonterminals k d) (slice_get-get_or l.nonterminals k d lt);
-    numbers = λ t i at. (lowered.lowering.terminal_numbers.places t i).1 at;
-    distinct = λ t i j at there. some_inner i j (sym ((lowered.lowering.terminal_numbers.places t i).1 at) ∙ (lowered.lowering.terminal_numbers.places t j).1 there);
-  }

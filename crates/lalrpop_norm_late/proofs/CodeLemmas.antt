@@ -1,12 +1,7 @@
--- Codes with at most one `<>`.
+-- Codes and their first `<>`.
 use Rattle.std.proofs.Common.{◌≡◌, ◌∙◌, ℕ, Bool, true, false, cond, ◌&&◌, List, [], ◌∷◌, ◌++◌, drop, Option, Some, None, refl, sym, ap, codes, option_map, eqb, subst}
-use Rattle.std.proofs.lemmas.List.{append-nil, append_assoc}
-use Rattle.std.proofs.lemmas.List.Elements.{All-nil, All-cons}
 use Rattle.std.proofs.lemmas.Bool.Decides.{Decides-eqb}
-use Rattle.lalrpop_norm_tree.specs.Texts.{joined}
 use Rattle.lalrpop_norm_front.specs.Braces.{is_slot, around_slot}
-use Rattle.lalrpop_norm_late.specs.Arguments.{IsFilled}
-use Rattle.lalrpop_norm_late.specs.Code.{around, code_with}
 
 both : (a b : Bool) → (a && b) ≡ true → (a ≡ true) × (b ≡ true)
 both true true h = (refl, refl)
@@ -48,31 +43,3 @@ first_slot (b ∷ bs) p h = by_test (is_slot (b ∷ bs)) refl h (first_slot bs)
     by_test : (t : Bool) → is_slot (b ∷ bs) ≡ t → cond t (Some ([], drop 1 bs)) (option_map (λ p. (b ∷ p.0, p.1)) (around_slot bs)) ≡ Some p → ((q : List ℕ × List ℕ) → around_slot bs ≡ Some q → IsAround bs q) → IsAround (b ∷ bs) p
     by_test true e h deeper = subst (IsAround (b ∷ bs)) (some_inner ([], drop 1 bs) p h) (slot_front (b ∷ bs) e, refl)
     by_test false e h deeper = by_rest e (around_slot bs) refl h deeper
-
-abbrev Slotless : List ℕ → Type 0
-Slotless p = around_slot p ≡ None
-
--- code with at most one `<>` is filled by the names, joined
-pub filled_once : (ns : List (List ℕ)) (code : List ℕ) → ((p : List ℕ × List ℕ) → around_slot code ≡ Some p → around_slot p.1 ≡ None) → IsFilled false ns code (code_with ns code)
-filled_once ns code once = by_slot (around_slot code) refl
-  where
-    by_slot : (o : Option (List ℕ × List ℕ)) → around_slot code ≡ o → IsFilled false ns code (around ns code o)
-    by_slot None e = record {
-      first = code;
-      others = [];
-      pieces = record { whole = append-nil code; slotless = All-cons Slotless code [] e (All-nil Slotless) };
-      enough = refl;
-      is = sym (append-nil code);
-    }
-    by_slot (Some p) e =
-        let there = first_slot code p e in
-        record {
-          first = p.0;
-          others = p.1 ∷ [];
-          pieces = record {
-            whole = ap (λ (xs : List ℕ). p.0 ++ xs) (append-nil (codes "<>" ++ p.1)) ∙ sym there.0;
-            slotless = All-cons Slotless p.0 (p.1 ∷ []) there.1 (All-cons Slotless p.1 [] (once p e) (All-nil Slotless));
-          };
-          enough = refl;
-          is = append_assoc p.0 (joined (codes ", ") ns) p.1 ∙ ap (λ (xs : List ℕ). p.0 ++ xs) (sym (append-nil (joined (codes ", ") ns ++ p.1)));
-        }

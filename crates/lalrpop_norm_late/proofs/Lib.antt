@@ -1,5 +1,4 @@
 pub mod PatternLemmas
-pub mod Assembly
 pub mod ArgumentLemmas
 pub mod CodeLemmas
 pub mod TableLemmas
@@ -9,7 +8,6 @@ pub mod TypingLemmas
 pub mod TokenLemmas
 pub mod ActionLemmas
 pub mod ApartLemmas
-pub mod ShapeLemmas
 pub mod ClosedLemmas
 pub mod ArgumentExamples
 pub mod ShapeExamples

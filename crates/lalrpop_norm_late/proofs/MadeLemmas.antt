@@ -1,7 +1,7 @@
 -- What lowering makes is what the grammar is lowered to, and it is closed.
-use Rattle.std.proofs.Common.{◌≡◌, ◌∙◌, ℕ, suc, ◌+◌, ◌<◌, Bool, true, false, cond, List, [], ◌∷◌, ◌++◌, length, map, get_or, Option, Some, None, refl, sym, ap, subst, bytes_eq, option_map, inl, inr, arith}
-use Rattle.std.specs.Prelude.{All, Contains, IsSome, flat_map, filter, filter_map, unwrap_or, option_and_then, slice_get, Result, Ok, Err, IfOk}
-use Rattle.std.specs.List.{cons_option, AllByRecursion, AllZip}
+use Rattle.std.proofs.Common.{◌≡◌, ◌∙◌, ℕ, ◌+◌, Bool, true, false, cond, List, [], ◌∷◌, ◌++◌, map, get_or, Some, None, refl, sym, ap, subst, bytes_eq, inl, inr, arith}
+use Rattle.std.specs.Prelude.{All, Contains, IsSome, flat_map, filter_map, option_and_then, slice_get, Result, Ok, Err, IfOk}
+use Rattle.std.specs.List.{AllByRecursion, AllZip}
 use Rattle.std.specs.List as lists
 use Rattle.std.specs.Map.{keys_of}
 use Rattle.std.proofs.lemmas.List.Elements.{All-from_recursion}
@@ -11,42 +11,41 @@ use Rattle.lalrpop_norm_tree.specs.declared.names.NonterminalString.{Nonterminal
 use Rattle.lalrpop_norm_tree.specs.declared.names.TerminalString.{TerminalString}
 use Rattle.lalrpop_norm_tree.specs.declared.names.TerminalString.TheVariants as terminal_string
 use Rattle.lalrpop_norm_tree.specs.Accessors.{or_else, first_of, intern_token_of}
-use Rattle.lalrpop_norm_tree.specs.Items.{ItemData, match_item, extern_item, intern_item, rule_item, use_item, InternTokenData, AlternativeData, RuleData, GrammarData}
+use Rattle.lalrpop_norm_tree.specs.Items.{ItemData, match_item, extern_item, intern_item, rule_item, use_item, AlternativeData, RuleData, GrammarData}
 use Rattle.lalrpop_norm_tree.specs.Types.{ParameterData}
 use Rattle.lalrpop_norm_faults.specs.Faults.{Fault, Refuses}
 use Rattle.lalrpop_norm_faults.specs.declared.failure.NormFailure.{NormFailure}
 use Rattle.lalrpop_norm_theory.specs.Rounds.{In, IsDistinct}
 use Rattle.lalrpop_norm_theory.proofs.RoundsLemmas.{in_left, in_right, in_flat}
-use Rattle.lalrpop_norm_model.specs.Expanded.{rule_names, names_used, names_used_by, names_in_parts, types_beside_rules, types_in_clause, types_in_extern, declared_symbols, names_in_kind, terminals_of, IsAlternative, IsExpanded, IsTyped}
+use Rattle.lalrpop_norm_model.specs.Expanded.{names_used_by, names_in_parts, types_beside_rules, types_in_clause, types_in_extern, declared_symbols, names_in_kind, terminals_of, IsExpanded, IsTyped}
 use Rattle.lalrpop_norm_model.specs.Features.{Features}
 use Rattle.lalrpop_norm_model.specs.PlainRules.{all_rules}
-use Rattle.lalrpop_norm_model.specs.Terminals.{terminals_in_parts, terminals_in_rule, terminals_used}
+use Rattle.lalrpop_norm_model.specs.Terminals.{terminals_in_parts, terminals_in_rule}
 use Rattle.lalrpop_norm_repr.specs.declared.symbol.Symbol.{Symbol}
 use Rattle.lalrpop_norm_repr.specs.declared.symbol.Symbol.TheVariants.{Nonterminal, Terminal}
 use Rattle.lalrpop_norm_repr.specs.Closed.{IsDefined, IsClosedProduction, IsClosedEntry, IsClosed}
 use Rattle.lalrpop_norm_repr.specs.Lowered.{LoweredGrammar}
 use Rattle.lalrpop_norm_repr.specs.Productions.{EntryData}
 use Rattle.lalrpop_norm_repr.specs.SymbolTypes.{symbol_type}
-use Rattle.lalrpop_norm_repr.specs.Tables.{TypeTable, type_of, type_of_terminal, found, unit_type}
+use Rattle.lalrpop_norm_repr.specs.Tables.{TypeTable, type_of, type_of_terminal, found}
 use Rattle.lalrpop_norm_late.specs.Active.{active_item, active_grammar}
-use Rattle.lalrpop_norm_late.specs.Carried.{any_error, uses_recovery, use_of, lowered_parameter, lowered_clauses}
+use Rattle.lalrpop_norm_late.specs.Carried.{uses_recovery, use_of}
 use Rattle.lalrpop_norm_late.specs.Conversions.{sorted_terminals, numbered}
-use Rattle.lalrpop_norm_late.specs.Lowering.{rules_of, public_rules, start_name, lowered_symbols, type_or_unit, rule_type}
+use Rattle.lalrpop_norm_late.specs.Lowering.{rules_of, public_rules, start_name, type_or_unit, rule_type}
 use Rattle.lalrpop_norm_late.specs.Made.{type_in, made_faults, made_tokens, made_terminals, IsMade}
-use Rattle.lalrpop_norm_late.specs.Shape.{Clause, start_clause, rule_clauses, clauses_of, IsActionOf, productions_named, start_entry_of, rule_entry_of, starts_of, rules_of_starts, entries_of, terminals_in, IsNameTable, IsTerminalTable, AreNumbers, HasStartTypes, IsLoweringOf}
-use Rattle.lalrpop_norm_late.proofs.ActionLemmas.{HasTypes, IsStartReady}
+use Rattle.lalrpop_norm_late.specs.Shape.{Clause, start_clause, rule_clauses, clauses_of, IsActionOf, productions_named, start_entry_of, rule_entry_of, starts_of, rules_of_starts, entries_of, IsNameTable, IsTerminalTable, AreNumbers, HasStartTypes, IsLoweringOf}
+use Rattle.lalrpop_norm_late.proofs.ActionLemmas.{IsStartReady}
 use Rattle.lalrpop_norm_late.proofs.ApartLemmas.{all_with, all_by, IsNamedIn, each_named, kept_public, entries_distinct, entries_counted, starts_table, found_start}
 use Rattle.lalrpop_norm_late.proofs.BodyLemmas.{IsSound, IsSoundRule, all_made}
 use Rattle.lalrpop_norm_late.proofs.ClauseLemmas.{AreApart, AllApart}
 use Rattle.lalrpop_norm_late.proofs.ClosedLemmas.{join_all, map_all, flat_all, IsDefinedClause, closed_from, all_hold, found_holds, found_at_place, entry_some, behind_some, else_some, some_inner}
 use Rattle.lalrpop_norm_late.proofs.FaultCounts.{rules_listed, IsFree, IsCounted, none_taken, none_miscounted}
 use Rattle.lalrpop_norm_late.proofs.KeyLaws.{names_decide, name_table, terminal_table}
-use Rattle.lalrpop_norm_late.proofs.ShapeLemmas.{some_back}
 use Rattle.lalrpop_norm_late.proofs.SymbolCases.{or_first, or_second, parts_by, recovers}
 use Rattle.lalrpop_norm_late.proofs.TokenCounts.{tokens_read, terminals_same, error_is_none, all_distinct, tested, in_contains}
 use Rattle.lalrpop_norm_late.proofs.TokenLemmas.{numbers_of_places}
 use Rattle.lalrpop_norm_late.proofs.TypeLemmas.{AreRead, read_parameters, read_clauses}
-use Rattle.lalrpop_norm_late.proofs.TypingLemmas.{AreTyped, start_types_added, kept_type}
+use Rattle.lalrpop_norm_late.proofs.TypingLemmas.{AreTyped, some_back, start_types_added, kept_type}
 
 -- ---- lists
 
@@ -130,9 +129,6 @@ module _ (g : GrammarData) (rules : List RuleData) (types : TypeTable) (l : Lowe
 -- ---- the whole
 
 module _ (fs : Features) (g : GrammarData) (types : TypeTable) (ok : IsExpanded g) (typed : IsTyped fs g (type_in types)) (clean : made_faults g.prefix types (rules_of g.items) ≡ []) (l : LoweredGrammar) (made : IsMade fs g types l) where
-  listed : rules_of g.items ≡ all_rules g
-  listed = rules_listed g.items
-
   in_all : (r : RuleData) → In r (rules_of g.items) → In r (all_rules g)
   in_all r i = subst (In r) (rules_listed g.items) i
 

@@ -4,7 +4,7 @@ use Rattle.std.specs.Prelude.{slice_get}
 use Rattle.std.proofs.lemmas.List.Elements.{All-nil, All-cons}
 use Rattle.lalrpop_norm_tree.specs.declared.items.MatchEntry.{MatchEntry}
 use Rattle.lalrpop_norm_tree.specs.declared.items.MatchMapping.TheVariants as mapping
-use Rattle.lalrpop_norm_tree.specs.declared.lowered.LrCodeGeneration.TheVariants.{TestAll}
+use Rattle.lalrpop_norm_tree.specs.declared.lowered.LrCodeGeneration.TheVariants.{TableDriven, TestAll}
 use Rattle.lalrpop_norm_tree.specs.declared.names.NonterminalString.{NonterminalString}
 use Rattle.lalrpop_norm_tree.specs.declared.names.Span.{Span}
 use Rattle.lalrpop_norm_tree.specs.declared.names.TerminalLiteral.TheVariants.{Quoted}
@@ -25,9 +25,8 @@ use Rattle.lalrpop_norm_repr.specs.Lowered.{LoweredGrammar}
 use Rattle.lalrpop_norm_repr.specs.Productions.{ProductionData, EntryData}
 use Rattle.lalrpop_norm_repr.specs.Tables.{TypeTable, found_terminal, new_table}
 use Rattle.lalrpop_norm_late.specs.Carried.{entry_rows, internal_pattern, lowered_clauses, asks_lalr, asked_code}
-use Rattle.lalrpop_norm_late.specs.Counted.{default_algorithm}
 use Rattle.lalrpop_norm_late.specs.Lowering.{start_alternative}
-use Rattle.lalrpop_norm_late.specs.Shape.{clauses_of, productions_named, entries_of, number_faults_of}
+use Rattle.lalrpop_norm_late.specs.Shape.{clauses_of, productions_named, entries_of}
 use Rattle.lalrpop_norm_late.specs.Sources.{plain_name}
 
 -- ---- the rule and its clauses
@@ -72,11 +71,6 @@ start_productions : productions_named start (clauses_of (codes "__") (rule ∷ [
 unfolding rule start S start_production
 start_productions = refl
 
--- no number is past the greatest
-no_fault : number_faults_of (clauses_of (codes "__") (rule ∷ [])) ≡ []
-unfolding rule
-no_fault = refl
-
 -- ---- the lowered grammar
 
 start_entry : EntryData
@@ -104,7 +98,7 @@ body_action = record { fallible = false; ret_type = unit; kind = user (plain_nam
 abbrev with_actions : List ActionData → LoweredGrammar
 with_actions actions = record {
   prefix = codes "__";
-  algorithm = default_algorithm;
+  algorithm = record { lalr = false; codegen = TableDriven };
   uses_error_recovery = false;
   start_nonterminals = (S, start) ∷ [];
   uses = [];

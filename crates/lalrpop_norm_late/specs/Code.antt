@@ -1,9 +1,7 @@
 -- The code of an action.
-use Rattle.std.specs.Prelude.{ℕ, List, [], ◌∷◌, ◌++◌, Option, Some, None, codes}
-use Rattle.lalrpop_norm_front.specs.Braces.{around_slot}
+use Rattle.std.specs.Prelude.{ℕ, List, [], ◌∷◌, Option, Some, None, codes}
 use Rattle.lalrpop_norm_tree.specs.Items.{Action, user_code, fallible_code, lookahead_code, lookbehind_code}
 use Rattle.lalrpop_norm_tree.specs.Reprs.{ReprData, tuple, no_reprs}
-use Rattle.lalrpop_norm_tree.specs.Texts.{joined}
 
 -- `<>` for one source, else `(<>)`
 abbrev pub sources_code : List (List ℕ) → List ℕ
@@ -22,15 +20,3 @@ written_code type names (Some (user_code text)) = text
 written_code type names (Some (fallible_code text)) = text
 written_code type names (Some lookahead_code) = absent_code type names
 written_code type names (Some lookbehind_code) = absent_code type names
-
-abbrev pub around : List (List ℕ) → List ℕ → Option (List ℕ × List ℕ) → List ℕ
-around names code None = code
-around names code (Some p) = p.0 ++ joined (codes ", ") names ++ p.1
-
--- the code with the names of the sources, joined by `, `, in the place of its `<>`
-abbrev pub code_with : List (List ℕ) → List ℕ → List ℕ
-code_with names code = around names code (around_slot code)
-
--- the code of an alternative of a rule of that type
-abbrev pub code_of : ReprData → List (List ℕ) → Option Action → List ℕ
-code_of type names action = code_with names (written_code type names action)

@@ -1,5 +1,5 @@
 -- Terminals and their patterns.
-use Rattle.std.specs.Prelude.{ℕ, ◌+◌, List, [], ◌∷◌, map, Option, Some, None}
+use Rattle.std.specs.Prelude.{ℕ, ◌+◌, List, [], ◌∷◌, Option, Some, None}
 use Rattle.std.specs.BTreeMap.{insert_entry}
 use Rattle.std.specs.Cmp.Lexicographic.{slice_cmp}
 use Rattle.std.specs.declared.cmp.Ordering.{Ordering}
@@ -9,19 +9,8 @@ use Rattle.lalrpop_norm_tree.specs.declared.names.TerminalLiteral.{TerminalLiter
 use Rattle.lalrpop_norm_tree.specs.declared.names.TerminalLiteral.TheVariants.{Quoted, Regex}
 use Rattle.lalrpop_norm_tree.specs.declared.names.TerminalString.{TerminalString}
 use Rattle.lalrpop_norm_tree.specs.declared.names.TerminalString.TheVariants.{Literal, Bare, Error}
-use Rattle.lalrpop_norm_tree.specs.Items.{ItemData, match_item, extern_item, intern_item, rule_item, use_item, ConversionData, EnumTokenData}
+use Rattle.lalrpop_norm_tree.specs.Items.{ConversionData, EnumTokenData}
 use Rattle.lalrpop_norm_tree.specs.Patterns.{PatternKindData, enumerated, structured, path, tuple, tuple_struct, number, underscore, dot_dot, chosen, character, text, PatternData, pattern_at, Patterns, no_patterns, pattern_and, Fields, no_fields, field_and, FieldData}
-use Rattle.lalrpop_norm_tree.specs.Reprs.{ReprData}
-use Rattle.lalrpop_norm_late.specs.Typing.{lowered_type}
-
--- the enum of the first extern block
-abbrev pub enum_of : List ItemData → Option EnumTokenData
-enum_of [] = None
-enum_of (extern_item t ∷ items) = t.enum_token
-enum_of (match_item m ∷ items) = enum_of items
-enum_of (intern_item t ∷ items) = enum_of items
-enum_of (rule_item r ∷ items) = enum_of items
-enum_of (use_item u ∷ items) = enum_of items
 
 abbrev pub conversions_in : Option EnumTokenData → List ConversionData
 conversions_in None = []
@@ -79,15 +68,7 @@ abbrev pub sorted_terminals : {V : Type 0} → List (TerminalString × V) → Li
 sorted_terminals rows [] = rows
 sorted_terminals rows (r ∷ rs) = sorted_terminals (insert_entry terminal_cmp rows r.0 r.1) rs
 
-abbrev pub terminals_of : List ConversionData → List TerminalString
-terminals_of cs = map (λ c. c.from) cs
-
 -- the terminals with their numbers, from k on
 abbrev pub numbered : ℕ → List TerminalString → List (TerminalString × ℕ)
 numbered k [] = []
 numbered k (t ∷ ts) = (t, k) ∷ numbered (k + 1) ts
-
--- each terminal with its lowered pattern
-abbrev pub lowered_conversions : List ConversionData → List (TerminalString × PatternData ReprData)
-lowered_conversions [] = []
-lowered_conversions (c ∷ cs) = (c.from, mapped lowered_type c.to) ∷ lowered_conversions cs

@@ -6,10 +6,7 @@ pub mod Code
 pub mod Lowering
 pub mod Typing
 pub mod Conversions
-pub mod Counted
 pub mod Carried
 pub mod Shape
-pub mod Lowerable
-pub mod Plain
 pub mod Made
 pub mod Active

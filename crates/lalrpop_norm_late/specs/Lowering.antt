@@ -1,27 +1,20 @@
 -- What plain rules are lowered to: numbered productions, action functions, terminals.
-use Rattle.std.specs.Prelude.{ℕ, ◌+◌, Bool, true, false, List, [], ◌∷◌, ◌++◌, length, map, nat_le, Option, Some, None, unwrap_or, filter_map, if◌then◌else◌}
+use Rattle.std.specs.Prelude.{ℕ, ◌+◌, Bool, true, false, List, [], ◌∷◌, ◌++◌, length, Option, Some, None, unwrap_or, filter_map, if◌then◌else◌}
 use Rattle.std.specs.BTreeMap.{insert_entry}
 use Rattle.std.specs.Ordering.{nat_cmp}
 use Rattle.std.specs.Cmp.Lexicographic.{slice_cmp}
-use Rattle.lalrpop_norm_faults.specs.Faults.{Fault, fault_if}
-use Rattle.lalrpop_norm_faults.specs.declared.kind.FaultKind.TheVariants.{TooManyActions}
 use Rattle.lalrpop_norm_tree.specs.declared.names.NonterminalString.{NonterminalString}
-use Rattle.lalrpop_norm_tree.specs.declared.names.Span.{Span}
 use Rattle.lalrpop_norm_tree.specs.declared.names.TerminalString.TheVariants as terminal_string
 use Rattle.lalrpop_norm_tree.specs.Accessors.{rule_of, is_public}
 use Rattle.lalrpop_norm_tree.specs.Attributes.{no_attributes}
-use Rattle.lalrpop_norm_tree.specs.Items.{Action, fallible_code, lookahead_code, lookbehind_code, AlternativeData, RuleData, ItemData}
+use Rattle.lalrpop_norm_tree.specs.Items.{Action, fallible_code, AlternativeData, RuleData, ItemData}
 use Rattle.lalrpop_norm_tree.specs.Reprs.{ReprData}
 use Rattle.lalrpop_norm_tree.specs.Symbols.{Kind, group, ambiguous_id, terminal, nonterminal, call, repeated, chosen, named, tupled, lookahead, lookbehind, error_terminal, Part, at, Parts, no_parts, part_and}
 use Rattle.lalrpop_norm_tree.specs.Texts.{kind_text}
-use Rattle.lalrpop_norm_repr.specs.declared.action.LookaroundActionFnDefn.TheVariants.{Lookahead, Lookbehind}
 use Rattle.lalrpop_norm_repr.specs.declared.symbol.Symbol.{Symbol}
 use Rattle.lalrpop_norm_repr.specs.declared.symbol.Symbol.TheVariants.{Nonterminal, Terminal}
-use Rattle.lalrpop_norm_repr.specs.Actions.{ActionData, ActionKindData, user, lookaround}
 use Rattle.lalrpop_norm_repr.specs.Productions.{ProductionData, EntryData}
 use Rattle.lalrpop_norm_repr.specs.Tables.{TypeTable, type_of, type_of_terminal, unit_type}
-use Rattle.lalrpop_norm_late.specs.Code.{code_of}
-use Rattle.lalrpop_norm_late.specs.Naming.{argument_patterns, source_names}
 
 -- ---- rules
 
@@ -81,20 +74,6 @@ abbrev pub is_fallible : Option Action → Bool
 is_fallible (Some (fallible_code c)) = true
 is_fallible _ = false
 
--- code over one argument for each symbol
-abbrev pub user_kind : List ℕ → TypeTable → ReprData → AlternativeData → ActionKindData
-user_kind prefix types type a = user (argument_patterns prefix a.parts) (map (type_or_unit types) (lowered_symbols a.parts)) (code_of type (source_names prefix a.parts) a.action)
-
--- what the action of an alternative of a rule of that type does
-abbrev pub action_kind : List ℕ → TypeTable → ReprData → AlternativeData → Option Action → ActionKindData
-action_kind prefix types type a (Some lookahead_code) = lookaround Lookahead
-action_kind prefix types type a (Some lookbehind_code) = lookaround Lookbehind
-action_kind prefix types type a _ = user_kind prefix types type a
-
--- the action answers that type
-abbrev pub action_of : List ℕ → TypeTable → ReprData → AlternativeData → ActionData
-action_of prefix types type a = record { fallible = is_fallible a.action; ret_type = type; kind = action_kind prefix types type a a.action }
-
 -- the production of an alternative, with the action of that number
 abbrev pub production_of : NonterminalString → ℕ → AlternativeData → ProductionData
 production_of name k a = record { nonterminal = name; symbols = lowered_symbols a.parts; action = record { 0 = k }; span = a.span }
@@ -109,13 +88,6 @@ abbrev pub rule_type : TypeTable → RuleData → ReprData
 rule_type types r = unwrap_or (type_of r.name types) unit_type
 
 -- ---- start symbols first, then the alternatives in item order
-
-abbrev pub start_actions : List ℕ → TypeTable → List RuleData → List ActionData
-start_actions prefix types rs = map (λ r. action_of prefix types (rule_type types r) (start_alternative r)) rs
-
-abbrev pub alternative_actions : List ℕ → TypeTable → List RuleData → List ActionData
-alternative_actions prefix types [] = []
-alternative_actions prefix types (r ∷ rs) = map (action_of prefix types (rule_type types r)) r.alternatives ++ alternative_actions prefix types rs
 
 -- a row of the nonterminals
 abbrev pub Row : Type 0
@@ -151,20 +123,3 @@ sorted_onto rows [] = rows
 sorted_onto rows (r ∷ rs) = sorted_onto (with_row rows r) rs
 
 -- ---- faults
-
--- number k is past the greatest number of an action
-abbrev pub number_faults : ℕ → Span → List Fault
-number_faults k span = fault_if (nat_le 4294967296 k) (TooManyActions, span)
-
--- the numbers of the alternatives' actions, from k on
-abbrev pub numbers_faults : ℕ → List AlternativeData → List Fault
-numbers_faults k [] = []
-numbers_faults k (a ∷ rest) = number_faults k a.span ++ numbers_faults (k + 1) rest
-
-abbrev pub starts_faults : ℕ → List RuleData → List Fault
-starts_faults k [] = []
-starts_faults k (r ∷ rs) = number_faults k r.span ++ starts_faults (k + 1) rs
-
-abbrev pub rules_faults : ℕ → List RuleData → List Fault
-rules_faults k [] = []
-rules_faults k (r ∷ rs) = numbers_faults k r.alternatives ++ rules_faults (k + length r.alternatives) rs

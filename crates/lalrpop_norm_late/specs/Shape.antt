@@ -1,13 +1,11 @@
 -- What the rules of a grammar are lowered to: the shape of a lowered grammar, field by field, each by what is looked up in it.
-use Rattle.std.specs.Prelude.{◌≡◌, ℕ, ◌↔◌, List, [], ◌∷◌, ◌++◌, map, filter, flat_map, filter_map, nat_le, Option, Some, None, option_and_then, bytes_eq, slice_get, if◌then◌else◌}
+use Rattle.std.specs.Prelude.{◌≡◌, ℕ, ◌↔◌, List, [], ◌∷◌, ◌++◌, map, filter, flat_map, filter_map, Option, Some, None, option_and_then, bytes_eq, slice_get, if◌then◌else◌}
 use Rattle.std.specs.Cmp.Lexicographic.{slice_cmp}
 use Rattle.std.specs.declared.cmp.Ordering.{Ordering}
 use Rattle.std.specs.List.{list_any, enumerate_from, AllZip}
 use Rattle.std.specs.List.Sorted.{IsStrictlySortedBy}
 use Rattle.std.specs.Map.{keys_of}
 use Rattle.std.specs.Ordering.{nat_cmp}
-use Rattle.lalrpop_norm_faults.specs.Faults.{Fault}
-use Rattle.lalrpop_norm_faults.specs.declared.kind.FaultKind.TheVariants.{TooManyActions}
 use Rattle.lalrpop_norm_tree.specs.declared.names.NonterminalString.{NonterminalString}
 use Rattle.lalrpop_norm_tree.specs.declared.names.TerminalString.{TerminalString}
 use Rattle.lalrpop_norm_tree.specs.declared.names.TerminalString.TheVariants as terminal_string
@@ -42,10 +40,6 @@ rule_clauses r = map (λ a. (r.name, a)) r.alternatives
 -- for each public rule its start symbol, then for each rule its alternatives. Action k belongs to the k-th of them, from 0
 abbrev pub clauses_of : List ℕ → List RuleData → List Clause
 clauses_of prefix rules = map (start_clause prefix) (public_rules rules) ++ flat_map rule_clauses rules
-
--- F56 at each alternative whose number is past the greatest number of an action
-abbrev pub number_faults_of : List Clause → List Fault
-number_faults_of clauses = map (λ e. (TooManyActions, e.1.1.span)) (filter (λ e. nat_le 4294967296 e.0) (enumerate_from 0 clauses))
 
 -- ---- actions
 

@@ -1,5 +1,5 @@
--- The type table of plain rules.
-use Rattle.std.specs.Prelude.{◌≡◌, ℕ, List, [], ◌∷◌, Option, Some, None, if◌then◌else◌}
+-- Written types lowered, and the types of start symbols.
+use Rattle.std.specs.Prelude.{◌≡◌, ℕ, List, [], ◌∷◌, if◌then◌else◌}
 use Rattle.lalrpop_norm_tree.specs.declared.names.NonterminalString.{NonterminalString}
 use Rattle.lalrpop_norm_tree.specs.Accessors.{or_else}
 use Rattle.lalrpop_norm_tree.specs.Items.{RuleData}
@@ -12,15 +12,6 @@ use Rattle.lalrpop_norm_late.specs.Lowering.{start_name, rule_type}
 -- a written type lowered; one that holds a symbol, which no plain grammar has, counts as unit
 abbrev pub lowered_type : TypeData → ReprData
 lowered_type t = if holds_symbol t then unit_type else repr_of t
-
-abbrev pub lowered_declaration : Option TypeData → ReprData
-lowered_declaration None = unit_type
-lowered_declaration (Some t) = lowered_type t
-
--- each rule with its declared type
-abbrev pub declared_rows : List RuleData → List (NonterminalString × ReprData)
-declared_rows [] = []
-declared_rows (r ∷ rs) = (r.name, lowered_declaration r.type_decl) ∷ declared_rows rs
 
 -- each start symbol with its rule's type
 abbrev pub start_types : List ℕ → TypeTable → List RuleData → List (NonterminalString × ReprData)

@@ -11,8 +11,6 @@ mod head;
 mod nonterminals;
 mod patterns;
 mod placeholders;
-mod plain;
-mod productions;
 mod recovery;
 mod rules;
 mod starts;
@@ -22,5 +20,4 @@ mod tokens;
 mod typing;
 mod whole;
 
-pub use plain::lower_plain;
 pub use whole::lower;

@@ -1,13 +1,10 @@
 //! The rules of a grammar, in item order.
-ghost use Rattle.std.specs.Prelude.{◌≡◌, IfOk, map, option_map};
-ghost use Rattle.lalrpop_norm_tree.specs.Items.{rule_view, item_view, visibility_view, enum_token_view};
+ghost use Rattle.std.specs.Prelude.{◌≡◌, IfOk, map};
+ghost use Rattle.lalrpop_norm_tree.specs.Items.{rule_view, item_view, visibility_view};
 ghost use Rattle.lalrpop_norm_late.specs.Lowering.{rules_of, public_rules};
 ghost use Rattle.lalrpop_norm_tree.specs.Accessors.{is_public};
-ghost use Rattle.lalrpop_norm_late.specs.Conversions.{enum_of};
 
-use lalrpop_norm_tree::grammar::parse_tree::{
-    EnumToken, GrammarItem, NoMemory, NonterminalData, Visibility,
-};
+use lalrpop_norm_tree::grammar::parse_tree::{GrammarItem, NoMemory, NonterminalData, Visibility};
 use std::alloc::Global;
 
 /// The rules among the items.
@@ -54,20 +51,4 @@ fn is_public(visibility: &Visibility) -> bool
         Visibility::PubIn(_) => true,
         Visibility::Priv => false,
     }
-}
-
-/// The enum of the first extern block.
-pub(crate) fn enum_of(items: &[GrammarItem]) -> Option<&EnumToken>
-    ensures { option_map (λ e. enum_token_view e.now) result ≡ enum_of (map item_view items.now) }
-{
-    for item in items {
-        match item {
-            GrammarItem::ExternToken(token) => return token.enum_token.as_ref(),
-            GrammarItem::MatchToken(_)
-            | GrammarItem::Nonterminal(_)
-            | GrammarItem::InternToken(_)
-            | GrammarItem::Use(_) => {}
-        }
-    }
-    None
 }

@@ -1,18 +1,14 @@
-//! The nonterminals of a lowered grammar: start symbols first, then the rules.
-ghost use Rattle.std.specs.Prelude.{◌≡◌, ◌+◌, ◌++◌, [], ◌∷◌, length, IfOk, OnOk, map, vec_len};
-ghost use Rattle.lalrpop_norm_faults.specs.Faults.{Refuses};
+//! The parts of nonterminals: the types of rules, and the start symbols of public ones.
+ghost use Rattle.std.specs.Prelude.{◌≡◌, [], IfOk, OnOk, map};
 ghost use Rattle.lalrpop_norm_tree.specs.Attributes.{attribute_view};
 ghost use Rattle.lalrpop_norm_tree.specs.Items.{alternative_view, rule_view};
 ghost use Rattle.lalrpop_norm_tree.specs.Reprs.{repr_view};
 ghost use Rattle.lalrpop_norm_tree.specs.Symbols.{expr_view, symbol_view, nonterminal, at, part_and, no_parts};
-ghost use Rattle.lalrpop_norm_repr.specs.Actions.{action_defn_view};
 ghost use Rattle.lalrpop_norm_repr.specs.Productions.{nonterminal_data_view};
 ghost use Rattle.lalrpop_norm_repr.specs.Tables.{type_table, rows};
-ghost use Rattle.lalrpop_norm_late.specs.Lowering.{number_faults, numbers_faults, starts_faults, rules_faults, action_of, rule_type, rule_entry, rule_rows, start_entry, start_rows, start_name, start_names, start_alternative, start_actions, alternative_actions, with_row, sorted_onto};
+ghost use Rattle.lalrpop_norm_late.specs.Lowering.{rule_type, start_name, start_names, start_alternative, with_row, sorted_onto};
 
-use crate::productions::{lower_alternative, lower_alternatives};
-use lalrpop_norm_front::NormResult;
-use lalrpop_norm_repr::grammar::repr::{ActionFnDefn, NonterminalData, TypeRepr, Types};
+use lalrpop_norm_repr::grammar::repr::{NonterminalData, TypeRepr, Types};
 use lalrpop_norm_tree::grammar::parse_tree as pt;
 use lalrpop_norm_tree::grammar::parse_tree::{
     Alternative, Atom, Attribute, ExprSymbol, NoMemory, NonterminalString, Span, Symbol, SymbolKind,
@@ -80,71 +76,6 @@ fn named_symbol(span: Span, name: &NonterminalString) -> Result<Symbol, NoMemory
     Ok(Symbol { span, kind })
 }
 
-/// The start symbol of a rule.
-fn lower_start(
-    alloc: Global,
-    prefix: &str,
-    types: &Types,
-    rule: &pt::NonterminalData,
-    name: &NonterminalString,
-    actions: &mut Vec<ActionFnDefn>,
-) -> NormResult<NonterminalData>
-    requires { name.now ≡ start_name prefix.now rule.now.name }
-    ensures refuses { Refuses result (number_faults (vec_len actions.old) rule.now.span) }
-    ensures lowered { IfOk result (λ n.
-        nonterminal_data_view n ≡ start_entry prefix.now (vec_len actions.old) (rule_view rule.now)) }
-    ensures adds { OnOk result (map action_defn_view actions.new.items ≡ map action_defn_view actions.old.items
-        ++ action_of prefix.now (type_table types.now) (rule_type (type_table types.now) (rule_view rule.now)) (start_alternative (rule_view rule.now)) ∷ []) }
-    ensures count { OnOk result (vec_len actions.new ≡ vec_len actions.old + 1) }
-{
-    let ty = rule_type(alloc, types, rule)?;
-    let alternative = start_alternative(alloc, rule)?;
-    let visibility = rule.visibility.clone()?;
-    let production = lower_alternative(alloc, prefix, types, name, &ty, &alternative, actions)?;
-    let mut productions = Vec::new(alloc);
-    productions.push(production)?;
-    Ok(NonterminalData {
-        visibility,
-        span: rule.span,
-        attributes: Vec::new(alloc),
-        productions,
-    })
-}
-
-/// The nonterminal of a rule.
-fn lower_rule(
-    alloc: Global,
-    prefix: &str,
-    types: &Types,
-    rule: &pt::NonterminalData,
-    actions: &mut Vec<ActionFnDefn>,
-) -> NormResult<NonterminalData>
-    ensures refuses { Refuses result (numbers_faults (vec_len actions.old) (rule_view rule.now).alternatives) }
-    ensures lowered { IfOk result (λ n. nonterminal_data_view n ≡ rule_entry (vec_len actions.old) (rule_view rule.now)) }
-    ensures adds { OnOk result (map action_defn_view actions.new.items ≡ map action_defn_view actions.old.items
-        ++ map (action_of prefix.now (type_table types.now) (rule_type (type_table types.now) (rule_view rule.now))) (rule_view rule.now).alternatives) }
-    ensures count { OnOk result (vec_len actions.new ≡ vec_len actions.old + length (rule_view rule.now).alternatives) }
-{
-    let ty = rule_type(alloc, types, rule)?;
-    let visibility = rule.visibility.clone()?;
-    let attributes = copy_attributes(alloc, &rule.attributes)?;
-    let productions = lower_alternatives(
-        alloc,
-        prefix,
-        types,
-        &rule.name,
-        &ty,
-        &rule.alternatives,
-        actions,
-    )?;
-    Ok(NonterminalData {
-        visibility,
-        span: rule.span,
-        attributes,
-        productions,
-    })
-}
-
 /// A copy of each attribute.
 pub(crate) fn copy_attributes(
     alloc: Global,
@@ -170,53 +101,6 @@ pub(crate) fn insert(
         ≡ with_row (rows nonterminal_data_view nonterminals.old) (name, nonterminal_data_view entry)) }
 {
     nonterminals.insert(name, entry)?;
-    Ok(())
-}
-
-/// The start symbols of the public rules.
-pub(crate) fn lower_starts(
-    alloc: Global,
-    prefix: &str,
-    types: &Types,
-    rules: &[&pt::NonterminalData],
-    actions: &mut Vec<ActionFnDefn>,
-    nonterminals: &mut BTreeMap<NonterminalString, NonterminalData>,
-) -> NormResult<()>
-    ensures refuses { Refuses result (starts_faults (vec_len actions.old) (map (λ r. rule_view r.now) rules.now)) }
-    ensures table { OnOk result (rows nonterminal_data_view nonterminals.new
-        ≡ sorted_onto (rows nonterminal_data_view nonterminals.old) (start_rows prefix.now (vec_len actions.old) (map (λ r. rule_view r.now) rules.now))) }
-    ensures adds { OnOk result (map action_defn_view actions.new.items
-        ≡ map action_defn_view actions.old.items ++ start_actions prefix.now (type_table types.now) (map (λ r. rule_view r.now) rules.now)) }
-    ensures count { OnOk result (vec_len actions.new ≡ vec_len actions.old + length rules.now) }
-{
-    for rule in rules {
-        let name = start_name(alloc, prefix, &rule.name)?;
-        let data = lower_start(alloc, prefix, types, rule, &name, actions)?;
-        insert(nonterminals, name, data)?;
-    }
-    Ok(())
-}
-
-/// The nonterminals of the rules.
-pub(crate) fn lower_rules(
-    alloc: Global,
-    prefix: &str,
-    types: &Types,
-    rules: &[&pt::NonterminalData],
-    actions: &mut Vec<ActionFnDefn>,
-    nonterminals: &mut BTreeMap<NonterminalString, NonterminalData>,
-) -> NormResult<()>
-    ensures refuses { Refuses result (rules_faults (vec_len actions.old) (map (λ r. rule_view r.now) rules.now)) }
-    ensures table { OnOk result (rows nonterminal_data_view nonterminals.new
-        ≡ sorted_onto (rows nonterminal_data_view nonterminals.old) (rule_rows (vec_len actions.old) (map (λ r. rule_view r.now) rules.now))) }
-    ensures adds { OnOk result (map action_defn_view actions.new.items
-        ≡ map action_defn_view actions.old.items ++ alternative_actions prefix.now (type_table types.now) (map (λ r. rule_view r.now) rules.now)) }
-{
-    for rule in rules {
-        let name = rule.name.clone()?;
-        let data = lower_rule(alloc, prefix, types, rule, actions)?;
-        insert(nonterminals, name, data)?;
-    }
     Ok(())
 }
 

@@ -1,10 +1,10 @@
-//! The types of plain rules and start symbols.
-ghost use Rattle.std.specs.Prelude.{◌≡◌, [], ◌∷◌, None, IfOk, OnOk, map, option_map};
+//! The types of start symbols, and written types lowered.
+ghost use Rattle.std.specs.Prelude.{◌≡◌, [], ◌∷◌, IfOk, OnOk, map};
 ghost use Rattle.lalrpop_norm_tree.specs.Items.{rule_view};
 ghost use Rattle.lalrpop_norm_tree.specs.Reprs.{repr_view};
 ghost use Rattle.lalrpop_norm_tree.specs.Types.{type_view};
-ghost use Rattle.lalrpop_norm_repr.specs.Tables.{type_table, new_table, type_of, found};
-ghost use Rattle.lalrpop_norm_late.specs.Typing.{lowered_type, lowered_declaration, declared_rows, start_types, AddsTypes};
+ghost use Rattle.lalrpop_norm_repr.specs.Tables.{type_table};
+ghost use Rattle.lalrpop_norm_late.specs.Typing.{lowered_type, start_types, AddsTypes};
 
 use crate::starts::{rule_type, start_name};
 use lalrpop_norm_repr::grammar::repr::{TypeRepr, Types};
@@ -15,22 +15,6 @@ use std::alloc::Global;
 
 /// A nonterminal and its type.
 type Typed = (NonterminalString, TypeRepr);
-
-/// The table of the declared types, for tokens of that type.
-pub(crate) fn declared_types(
-    alloc: Global,
-    prefix: &str,
-    token: TypeRepr,
-    rules: &[&NonterminalData],
-) -> Result<Types, NoMemory>
-    ensures { IfOk result (λ t. AddsTypes (new_table prefix.now None None (repr_view token)) (type_table t)
-        (declared_rows (map (λ r. rule_view r.now) rules.now))) }
-{
-    let rows = declared_rows(alloc, rules)?;
-    let mut types = Types::new(alloc, prefix, None, None, token)?;
-    add_types(&mut types, &rows)?;
-    Ok(types)
-}
 
 /// Adds the start symbols, each with its rule's type.
 pub(crate) fn add_start_types(
@@ -63,28 +47,6 @@ fn start_types(
         rows.push((name, ty))?;
     }
     Ok(rows)
-}
-
-fn declared_rows(alloc: Global, rules: &[&NonterminalData]) -> Result<Vec<Typed>, NoMemory>
-    ensures { IfOk result (λ rs. map (λ r. (r.0, repr_view r.1)) rs.items
-        ≡ declared_rows (map (λ r. rule_view r.now) rules.now)) }
-{
-    let mut rows = Vec::new(alloc);
-    for rule in rules {
-        let name = rule.name.clone()?;
-        let ty = lowered_declaration(alloc, &rule.type_decl)?;
-        rows.push((name, ty))?;
-    }
-    Ok(rows)
-}
-
-fn lowered_declaration(alloc: Global, written: &Option<TypeRef>) -> Result<TypeRepr, NoMemory>
-    ensures { IfOk result (λ t. repr_view t ≡ lowered_declaration (option_map type_view written.now)) }
-{
-    match written {
-        None => Ok(TypeRepr::Tuple(Vec::new(alloc))),
-        Some(written) => lowered_type(alloc, written),
-    }
 }
 
 /// The lowered type. Only macro expansion makes a type that holds a symbol.

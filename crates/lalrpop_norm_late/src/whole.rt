@@ -1,6 +1,5 @@
 //! A grammar of plain rules, lowered whole.
-ghost use Rattle.std.specs.Prelude.{◌≡◌, ◌++◌, IfOk, OnOk, [], flat_map, filter_map, length, map, option_map, string_bytes, true};
-ghost use Rattle.std.specs.Map.{keys_of};
+ghost use Rattle.std.specs.Prelude.{◌≡◌, ◌++◌, IfOk, [], length, map, true};
 ghost use Rattle.lalrpop_norm_faults.specs.Faults.{Refuses};
 ghost use Rattle.lalrpop_norm_tree.specs.Items as written;
 ghost use Rattle.lalrpop_norm_front.specs.Sessions.{features_view};

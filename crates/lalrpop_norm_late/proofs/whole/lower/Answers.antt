@@ -1,4 +1,4 @@
-use Rattle.std.proofs.Common.{subst, sym, ◌∙◌}
+use Rattle.std.proofs.Common.{subst}
 use Rattle.lalrpop_norm_faults.specs.Faults.{Refuses}
 use Rattle.lalrpop_norm_tree.specs.Items as written
 use Rattle.lalrpop_norm_front.specs.Sessions.{features_view}

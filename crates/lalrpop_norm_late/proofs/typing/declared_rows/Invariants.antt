@@ -1,8 +1,0 @@
-use Rattle.std.proofs.Common.{◌≡◌, ◌++◌, drop, map}
-use Rattle.lalrpop_norm_tree.specs.Items.{rule_view}
-use Rattle.lalrpop_norm_tree.specs.Reprs.{repr_view}
-use Rattle.lalrpop_norm_late.specs.Typing.{declared_rows}
-use Rattle.lalrpop_norm_late.proofs.typing.declared_rows.Given as goal
-
-abbrev pub invariant-loop-rule : goal.invariant-loop-rule
-invariant-loop-rule l = map (λ r. (r.0, repr_view r.1)) l.rows.items ++ declared_rows (map (λ r. rule_view r.now) (drop l.rule-index l.rules)) ≡ declared_rows (map (λ r. rule_view r.now) l.rules)
