@@ -16,8 +16,6 @@ mod names;
 #[cfg(test)]
 mod parts;
 #[cfg(test)]
-mod prevalidate;
-#[cfg(test)]
 mod small;
 #[cfg(test)]
 mod values;
