@@ -103,7 +103,7 @@ pub enum FaultKind {
     BadRegex,
     /// F43: a regular expression with a feature that the lexer lacks.
     RegexFeature,
-    /// F44: two entries match one text.
+    /// F44: the lexer calls two entries ambiguous.
     Ambiguity,
     /// F45: the lifetime `'input` is taken.
     InputLifetime,
