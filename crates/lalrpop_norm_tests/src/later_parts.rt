@@ -1,7 +1,7 @@
 //! What a later stage brings: each such part is refused with F0 at the grammar's span, by its name.
 use crate::made::named_type;
 use crate::small::*;
-use lalrpop_norm::{FaultKind, NormFailure, Session, normalize};
+use lalrpop_norm::normalize::{FaultKind, NormFailure, Session, normalize};
 use lalrpop_norm_tree::grammar::parse_tree::*;
 use lalrpop_norm_tree::grammar::pattern::PatternKind;
 use std::alloc::Global;

@@ -1,6 +1,6 @@
 //! Small grammars from end to end: numbers, productions, actions, terminals, types and start symbols.
 use crate::small::*;
-use lalrpop_norm::{NormFailure, Session, normalize};
+use lalrpop_norm::normalize::{NormFailure, Session, normalize};
 use lalrpop_norm_repr::grammar::repr::{self, ActionFnDefnKind};
 use lalrpop_norm_tree::grammar::parse_tree::*;
 use std::alloc::Global;

@@ -13,7 +13,7 @@ ghost use Rattle.lnorm.specs.Settings.{Settings, settings_view};
 use crate::halt::Halt;
 use crate::lines::lines;
 use lalrpop_norm::grammar::repr;
-use lalrpop_norm::{NormFailure, NormResult, Session, normalize};
+use lalrpop_norm::normalize::{NormFailure, NormResult, Session, normalize};
 use lalrpop_norm_json::{TreeError, read_tree};
 use lalrpop_norm_tree::grammar::parse_tree::Grammar;
 use std::alloc::Global;
