@@ -148,7 +148,7 @@ module _ (fs : Features) (g : GrammarData) (types : TypeTable) (ok : IsExpanded 
   starts_ok = all_by (IsFree g.prefix types) (λ p. AreApart (start_name g.prefix p.name) (rules_of g.items)) (λ p none. free_apart types (start_name g.prefix p.name) none (rules_of g.items) typed_all) (public_rules (rules_of g.items)) free
 
   adds : HasStartTypes g.prefix (rules_of g.items) types l.types
-  adds = start_types_added g.prefix (rules_of g.items) types l.types typed_public made.start_symbol_types
+  adds = start_types_added g.prefix (rules_of g.items) types l.types typed_public made.start_symbol_types made.names_in_order
 
   start_typed : (r : RuleData) → IsFree g.prefix types r → IsNamedIn (public_rules (rules_of g.items)) r.name → IsTypedRule types r → type_of (start_name g.prefix r.name) l.types ≡ Some (rule_type types r)
   start_typed r none named has =

@@ -1,16 +1,10 @@
 -- Terminals and their patterns.
 use Rattle.std.specs.Prelude.{ℕ, ◌+◌, List, [], ◌∷◌, Option, Some, None}
 use Rattle.std.specs.BTreeMap.{insert_entry}
-use Rattle.std.specs.Cmp.Lexicographic.{slice_cmp}
-use Rattle.std.specs.declared.cmp.Ordering.{Ordering}
-use Rattle.std.specs.declared.cmp.Ordering.TheVariants.{Less, Equal, Greater}
-use Rattle.std.specs.Ordering.{nat_cmp}
-use Rattle.lalrpop_norm_tree.specs.declared.names.TerminalLiteral.{TerminalLiteral}
-use Rattle.lalrpop_norm_tree.specs.declared.names.TerminalLiteral.TheVariants.{Quoted, Regex}
 use Rattle.lalrpop_norm_tree.specs.declared.names.TerminalString.{TerminalString}
-use Rattle.lalrpop_norm_tree.specs.declared.names.TerminalString.TheVariants.{Literal, Bare, Error}
 use Rattle.lalrpop_norm_tree.specs.Items.{ConversionData, EnumTokenData}
 use Rattle.lalrpop_norm_tree.specs.Patterns.{PatternKindData, enumerated, structured, path, tuple, tuple_struct, number, underscore, dot_dot, chosen, character, text, PatternData, pattern_at, Patterns, no_patterns, pattern_and, Fields, no_fields, field_and, FieldData}
+pub use Rattle.lalrpop_norm_repr.specs.Orders.{literal_cmp, terminal_cmp}
 
 abbrev pub conversions_in : Option EnumTokenData → List ConversionData
 conversions_in None = []
@@ -44,24 +38,6 @@ abbrev mutual
 
 abbrev pub mapped_field : {T V : Type 0} → (T → V) → FieldData T → FieldData V
 mapped_field f d = record { span = d.span; name = d.name; pattern = mapped f d.pattern }
-
-abbrev pub literal_cmp : TerminalLiteral → TerminalLiteral → Ordering
-literal_cmp (Quoted a) (Quoted b) = slice_cmp nat_cmp a b
-literal_cmp (Quoted a) (Regex b) = Less
-literal_cmp (Regex a) (Quoted b) = Greater
-literal_cmp (Regex a) (Regex b) = slice_cmp nat_cmp a b
-
--- the order of terminals: literals, then bare names, then the error terminal
-abbrev pub terminal_cmp : TerminalString → TerminalString → Ordering
-terminal_cmp (Literal a) (Literal b) = literal_cmp a b
-terminal_cmp (Literal a) (Bare b) = Less
-terminal_cmp (Literal a) Error = Less
-terminal_cmp (Bare a) (Literal b) = Greater
-terminal_cmp (Bare a) (Bare b) = slice_cmp nat_cmp a b
-terminal_cmp (Bare a) Error = Less
-terminal_cmp Error (Literal b) = Greater
-terminal_cmp Error (Bare b) = Greater
-terminal_cmp Error Error = Equal
 
 -- the rows in the order of their terminals, a later one in the place of an earlier one of its terminal
 abbrev pub sorted_terminals : {V : Type 0} → List (TerminalString × V) → List (TerminalString × V) → List (TerminalString × V)

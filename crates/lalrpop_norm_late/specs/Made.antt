@@ -1,5 +1,6 @@
 -- What lowering makes, as it counts: the words of the code, from which the promises are proved.
 use Rattle.std.specs.Prelude.{◌≡◌, ℕ, ◌+◌, Bool, List, [], ◌∷◌, ◌++◌, length, map, filter_map, flat_map, Option, Some, None, option_map, if◌then◌else◌}
+use Rattle.std.specs.List.Sorted.{IsStrictlySortedBy}
 use Rattle.std.specs.Map.{keys_of}
 use Rattle.lalrpop_norm_tree.specs.declared.items.MatchEntry.{MatchEntry}
 use Rattle.lalrpop_norm_tree.specs.declared.names.NonterminalString.{NonterminalString}
@@ -20,6 +21,7 @@ use Rattle.lalrpop_norm_model.specs.TypeTables.{Table}
 use Rattle.lalrpop_norm_repr.specs.declared.action.LookaroundActionFnDefn.TheVariants.{Lookahead, Lookbehind}
 use Rattle.lalrpop_norm_repr.specs.Actions.{ActionData, ActionKindData, user, lookaround}
 use Rattle.lalrpop_norm_repr.specs.Lowered.{LoweredGrammar, LoweredParameter}
+use Rattle.lalrpop_norm_repr.specs.Orders.{name_cmp}
 use Rattle.lalrpop_norm_repr.specs.Tables.{TypeTable, type_of}
 use Rattle.lalrpop_norm_late.specs.Carried.{TokenRow, internal_pattern, terminal_named, under, uses_recovery, use_of, asks_lalr, asked_code}
 use Rattle.lalrpop_norm_late.specs.Code.{written_code}
@@ -138,6 +140,7 @@ pub record IsMade (fs : Features) (g : GrammarData) (types : TypeTable) (l : Low
   pub terminal_numbers : l.terminals.bits ≡ sorted_terminals [] (numbered 0 (made_terminals fs g))
   pub conversions : l.conversions ≡ sorted_terminals [] (made_tokens fs g)
   pub start_symbol_types : AddsTypes types l.types (start_types g.prefix types (public_rules (rules_of g.items)))
+  pub names_in_order : IsStrictlySortedBy name_cmp (keys_of l.types.nonterminals)
   pub prefix : l.prefix ≡ g.prefix
   pub lalr : l.algorithm.lalr ≡ asks_lalr g.attributes
   pub codegen : l.algorithm.codegen ≡ asked_code g.attributes

@@ -1,11 +1,8 @@
 -- What the rules of a grammar are lowered to: the shape of a lowered grammar, field by field, each by what is looked up in it.
 use Rattle.std.specs.Prelude.{◌≡◌, ℕ, ◌↔◌, List, [], ◌∷◌, ◌++◌, map, filter, flat_map, filter_map, Option, Some, None, option_and_then, bytes_eq, slice_get, if◌then◌else◌}
-use Rattle.std.specs.Cmp.Lexicographic.{slice_cmp}
-use Rattle.std.specs.declared.cmp.Ordering.{Ordering}
 use Rattle.std.specs.List.{list_any, enumerate_from, AllZip}
 use Rattle.std.specs.List.Sorted.{IsStrictlySortedBy}
 use Rattle.std.specs.Map.{keys_of}
-use Rattle.std.specs.Ordering.{nat_cmp}
 use Rattle.lalrpop_norm_tree.specs.declared.names.NonterminalString.{NonterminalString}
 use Rattle.lalrpop_norm_tree.specs.declared.names.TerminalString.{TerminalString}
 use Rattle.lalrpop_norm_tree.specs.declared.names.TerminalString.TheVariants as terminal_string
@@ -16,6 +13,7 @@ use Rattle.lalrpop_norm_tree.specs.Reprs.{ReprData}
 use Rattle.lalrpop_norm_repr.specs.declared.action.LookaroundActionFnDefn.TheVariants.{Lookahead, Lookbehind}
 use Rattle.lalrpop_norm_repr.specs.Actions.{ActionData, ActionKindData, user, lookaround}
 use Rattle.lalrpop_norm_repr.specs.Lowered.{LoweredGrammar}
+pub use Rattle.lalrpop_norm_repr.specs.Orders.{name_cmp}
 use Rattle.lalrpop_norm_repr.specs.Productions.{ProductionData, EntryData}
 use Rattle.lalrpop_norm_repr.specs.SymbolTypes.{symbol_type}
 use Rattle.lalrpop_norm_repr.specs.Tables.{TypeTable, type_of, found, found_terminal}
@@ -89,9 +87,6 @@ entries_of prefix rules =
 
 -- ---- tables
 
-abbrev pub name_cmp : NonterminalString → NonterminalString → Ordering
-name_cmp a b = slice_cmp nat_cmp a.0 b.0
-
 -- the table has what the rows say of each name and nothing else, in the order of names
 pub record IsNameTable {V : Type 0} (rows table : List (NonterminalString × V)) : Type 0 where
   pub holds : (n : NonterminalString) → found n table ≡ found n rows
@@ -119,9 +114,10 @@ starts_of prefix rules = map (λ r. (r.name, start_name prefix r.name)) (public_
 abbrev pub rules_of_starts : List ℕ → List RuleData → List (NonterminalString × NonterminalString)
 rules_of_starts prefix rules = map (λ r. (start_name prefix r.name, r.name)) (public_rules rules)
 
--- each name keeps its type, and each start symbol has its rule's
+-- each name keeps its type, and each start symbol has its rule's, in the order of names
 pub record HasStartTypes (prefix : List ℕ) (rules : List RuleData) (types new : TypeTable) : Type 0 where
   pub names : (n : NonterminalString) → type_of n new ≡ or_else (type_of n types) (option_and_then (λ m. type_of m types) (found n (rules_of_starts prefix rules)))
+  pub in_order : IsStrictlySortedBy name_cmp (keys_of new.nonterminals)
   pub rest : new ≡ record types { nonterminals = new.nonterminals }
 
 -- ---- the whole

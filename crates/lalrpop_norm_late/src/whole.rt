@@ -80,6 +80,7 @@ fn lower_over<L>(
     let produced = produce(alloc, prefix, &types, rules, public)?;
     let starts = start_table(alloc, prefix, public)?;
     add_start_types(alloc, prefix, public, &mut types)?;
+    types.rows_ascend();
     let tokens = tokens_of(alloc, session, grammar.span, &grammar.items)?;
     let recovers = uses_recovery(rules);
     let terminals = terminal_set(alloc, tokens.all, recovers)?;

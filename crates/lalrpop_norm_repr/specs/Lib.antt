@@ -6,3 +6,4 @@ pub mod Lowered
 pub mod ReprTexts
 pub mod Lookups
 pub mod Closed
+pub mod Orders

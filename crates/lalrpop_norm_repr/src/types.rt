@@ -7,6 +7,7 @@ ghost use Rattle.lalrpop_norm_repr.specs.Tables.{type_table, type_of, listed_typ
 
 mod copy;
 mod made;
+mod order;
 
 use lalrpop_norm_tree::grammar::parse_tree::{NoMemory, NonterminalString, TerminalString};
 use lalrpop_norm_tree::grammar::repr::TypeRepr;

@@ -2,10 +2,13 @@
 use Rattle.std.proofs.Common.{◌≡◌, ℕ, Bool, true, false, cond, List, [], ◌∷◌, ◌++◌, length, filter, map, Option, Some, None, append_assoc, refl, sym, ap, ap₂, subst, ◌∙◌}
 use Rattle.std.specs.Prelude.{is_none}
 use Rattle.std.specs.List.{flat_map}
+use Rattle.std.specs.List.Sorted.{IsStrictlySortedBy}
+use Rattle.std.specs.Map.{keys_of}
 use Rattle.std.proofs.lemmas.List.{map-append, length-map}
 use Rattle.lalrpop_norm_tree.specs.Items.{AlternativeData, RuleData, GrammarData}
 use Rattle.lalrpop_norm_faults.specs.Faults.{Fault, fault_if}
 use Rattle.lalrpop_norm_faults.specs.declared.kind.FaultKind.TheVariants.{NotGrounded, Disagreement}
+use Rattle.lalrpop_norm_repr.specs.Orders.{name_cmp, terminal_cmp}
 use Rattle.lalrpop_norm_repr.specs.Tables.{TypeTable, found}
 use Rattle.lalrpop_norm_theory.specs.Rounds.{IsDistinct}
 use Rattle.lalrpop_norm_model.specs.Expanded.{rule_names}
@@ -31,16 +34,19 @@ use Rattle.lalrpop_norm_types.proofs.VisitLemmas.{rounds_are}
 
 -- ---- the table
 
--- after as many rounds as there are rules the table is filled
+-- after as many rounds as there are rules the table is filled, if its rows stand in order
 pub filled : (g : GrammarData) (before types : TypeTable) (ss : List Seen) (n : ℕ) → AddsTerminals (base_table g) before (rows_with (extern_enum g) g) →
-    EndsRounds g.type_parameters before types ss n → ss ≡ map with_clauses (all_rules g) → length ss ≡ n → IsFilled g types
-filled g before types ss n added ends same long =
+    EndsRounds g.type_parameters before types ss n → ss ≡ map with_clauses (all_rules g) → length ss ≡ n →
+    IsStrictlySortedBy name_cmp (keys_of types.nonterminals) → IsStrictlySortedBy terminal_cmp (keys_of types.terminals) → IsFilled g types
+filled g before types ss n added ends same long names terminals =
     let read : IsReadBy g g.type_parameters before = record { parameters = refl; tokens = added_tokens g before added } in
     let none : HasRows before [] = λ m. ap (found (named_by m)) (added_names g before added) in
     let count : n ≡ length (all_rules g) = sym long ∙ (ap length same ∙ length-map (all_rules g) with_clauses) in
     record {
       names = subst (λ rows. HasRows types rows) (ap (λ s. rounds_seen g s n) same ∙ (rounds_are g n ∙ ap (rounds g) count)) (ends.table g read none);
+      names_in_order = names;
       tokens = (kept_read g g.type_parameters before types read ends.rest).tokens;
+      terminals_in_order = terminals;
     }
 
 first_of_pairs : (rs : List RuleData) → map (λ (s : Seen). s.0) (map with_clauses rs) ≡ rs
@@ -159,6 +165,8 @@ filled_inferred g tt full distinct none =
     let types = inferred_types g typable.one_type in
     record {
       names = λ n x. ((λ e. (types n.0 x).0 (sym (full.names n.0) ∙ e)), λ h. full.names n.0 ∙ (types n.0 x).1 h);
+      names_in_order = full.names_in_order;
       terminals = full.tokens.terminals;
+      terminals_in_order = full.terminals_in_order;
       rest = full.tokens.rest;
     }

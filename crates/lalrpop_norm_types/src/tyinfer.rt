@@ -67,6 +67,7 @@ fn filled_table(alloc: Global, grammar: &Grammar, rules: &[PlainRule]) -> Result
 {
     let mut types = token_types(alloc, grammar)?;
     run_rounds(alloc, &grammar.type_parameters, &mut types, rules)?;
+    types.rows_ascend();
     Ok(types)
 }
 

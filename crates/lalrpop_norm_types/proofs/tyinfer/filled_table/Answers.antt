@@ -10,4 +10,4 @@ pub returns : goal.returns
 returns c =
     let ends = rw c.deref.ensures.value at c.in_ok-run_rounds.ensures in
     filled (grammar_view c.args.grammar.now) (type_table c.in_ok-types.types) (type_table c.run_rounds.new.types) (map rule_seen c.args.rules.now) (length c.args.rules.now)
-    c.in_ok-types.ensures ends c.requires (length-map c.args.rules.now rule_seen)
+    c.in_ok-types.ensures ends c.requires (length-map c.args.rules.now rule_seen) c.rows_ascend.ensures.nonterminals c.rows_ascend.ensures.terminals
