@@ -13,7 +13,7 @@ use Rattle.lalrpop_norm_model.specs.TypeRounds.{Row, table_of, taken, visit, vis
 use Rattle.lalrpop_norm_types.specs.declared.tyinfer.rounds.PlainRule.{PlainRule}
 use Rattle.lalrpop_norm_types.specs.Clauses.{first_in}
 use Rattle.lalrpop_norm_types.specs.TableValues.{named_by, names_in}
-use Rattle.lalrpop_norm_types.specs.Visits.{Seen, rule_seen, with_clauses, visit_seen, visits_seen, rounds_seen, HasRows, Takes, Passes, EndsRounds}
+use Rattle.lalrpop_norm_types.specs.Visits.{Seen, rule_seen, with_clauses, visit_seen, visits_seen, rounds_seen, HasRows, Grows, Takes, Passes, EndsRounds}
 use Rattle.lalrpop_norm_types.proofs.ReadLemmas.{first_at, kept_read, rest_after}
 
 -- ---- a visit
@@ -23,6 +23,9 @@ taken_kept : (tt : TypeTable) (n : List ℕ) (v : Option ReprData) (x : ReprData
 taken_kept tt n v x e = record {
   table = λ rows h. let is : table_of rows n ≡ Some x = sym (h n) ∙ sym e in rw is h;
   quiet = λ _ rows h. let is : table_of rows n ≡ Some x = sym (h n) ∙ sym e in rw is refl;
+  still = λ _. refl;
+  told = λ no. absurd cc;
+  kept = λ m y is. is;
   rest = refl;
 }
 
@@ -40,6 +43,9 @@ pub taken_none : (tt : TypeTable) (n : List ℕ) (v : Option ReprData) → names
 taken_none tt n v none e = record {
   table = λ rows h. let is : table_of rows n ≡ None = sym (h n) ∙ none in rw (is, ← e) h;
   quiet = λ _ rows h. let is : table_of rows n ≡ None = sym (h n) ∙ none in rw (is, ← e) refl;
+  still = λ _. refl;
+  told = λ no. absurd cc;
+  kept = λ m y is. is;
   rest = refl;
 }
 
@@ -56,6 +62,16 @@ added_case before after n x added others rows h m false e =
     absurd cc)
     ∙ h m
 
+kept_beside : (before after : TypeTable) (n : List ℕ) → names_in before n ≡ None →
+    ((other : NonterminalString) → (other ≡ named_by n → ⊥) → type_of other after ≡ type_of other before) →
+    (m : List ℕ) (y : ReprData) → names_in before m ≡ Some y → names_in after m ≡ Some y
+kept_beside before after n none others m y is =
+    others (named_by m) (λ same.
+    let name : m ≡ n = ap (λ (a : NonterminalString). a.0) same in
+    let clash : None ≡ Some y = sym none ∙ (ap (names_in before) (sym name) ∙ is) in
+    absurd cc)
+    ∙ is
+
 -- one for which a type is made takes it
 pub taken_new : (before after : TypeTable) (n : List ℕ) (v : Option ReprData) (x : ReprData) → names_in before n ≡ None → Some x ≡ v → names_in after n ≡ Some x →
     ((other : NonterminalString) → (other ≡ named_by n → ⊥) → type_of other after ≡ type_of other before) →
@@ -63,13 +79,22 @@ pub taken_new : (before after : TypeTable) (n : List ℕ) (v : Option ReprData) 
 taken_new before after n v x none e added others rest = record {
   table = λ rows h. let is : table_of rows n ≡ None = sym (h n) ∙ none in rw (is, ← e) (λ m. added_case before after n x added others rows h m (bytes_eq n m) refl);
   quiet = λ no. absurd cc;
+  still = λ no. absurd cc;
+  told = λ _. record { name = n; ty = x; untyped = none; typed = added };
+  kept = kept_beside before after n none others;
   rest = rest;
 }
 
 -- ---- a round
 
 pub passes_none : (ps : List TypeParameter) (tt : TypeTable) → Passes ps tt tt [] false
-passes_none ps tt = record { table = λ g read rows h. h; quiet = λ no g read rows h. refl; rest = refl }
+passes_none ps tt = record {
+  table = λ g read rows h. h;
+  quiet = λ no g read rows h. refl;
+  still = λ _. refl;
+  told = λ no. absurd cc;
+  rest = refl;
+}
 
 visits_last : (g : GrammarData) (rows : List Row) (ss : List Seen) (s : Seen) → visits_seen g rows (ss ++ s ∷ []) ≡ visit_seen g (visits_seen g rows ss) s
 visits_last g rows [] s = refl
@@ -82,6 +107,13 @@ left_false false b e = refl
 right_false : (a b : Bool) → (a || b) ≡ false → b ≡ false
 right_false true b e = absurd cc
 right_false false b e = e
+
+grows_more : (before mid after : TypeTable) (n : List ℕ) (v : Option ReprData) (b a : Bool) → (b ≡ false → mid ≡ before) → (b ≡ true → Grows before mid) →
+    Takes mid after n v a → (b || a) ≡ true → Grows before after
+grows_more before mid after n v true a still told t e =
+    let g = told refl in
+    record { name = g.name; ty = g.ty; untyped = g.untyped; typed = t.kept g.name g.ty g.typed }
+grows_more before mid after n v false a still told t e = subst (λ tt. Grows tt after) (still refl) (t.told e)
 
 pub passes_more : (ps : List TypeParameter) (before mid after : TypeTable) (ss : List Seen) (s : Seen) (b a : Bool) → Passes ps before mid ss b →
     Takes mid after s.0.name.0 (first_in ps mid s.1) a → Passes ps before after (ss ++ s ∷ []) (b || a)
@@ -98,6 +130,8 @@ passes_more ps before mid after ss s b a p t = record {
       visits_last g rows ss s
       ∙ (ap (λ v. taken (visits_seen g rows ss) s.0.name.0 (table_of (visits_seen g rows ss) s.0.name.0) v) (sym same)
       ∙ (t.quiet (right_false b a no) (visits_seen g rows ss) here ∙ p.quiet (left_false b a no) g read rows h));
+  still = λ no. t.still (right_false b a no) ∙ p.still (left_false b a no);
+  told = grows_more before mid after _ _ b a p.still p.told t;
   rest = rest_after before mid after p.rest t.rest;
 }
 

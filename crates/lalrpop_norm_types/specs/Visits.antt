@@ -1,5 +1,5 @@
 -- Rounds of visits over rules with their clauses, and what they do to a type table.
-use Rattle.std.specs.Prelude.{◌≡◌, ℕ, zero, suc, Bool, false, List, [], ◌∷◌, Option, map}
+use Rattle.std.specs.Prelude.{◌≡◌, ℕ, zero, suc, Bool, true, false, List, [], ◌∷◌, Option, Some, None, map}
 use Rattle.lalrpop_norm_tree.specs.declared.names.TypeParameter.{TypeParameter}
 use Rattle.lalrpop_norm_tree.specs.Items.{RuleData, GrammarData, rule_view}
 use Rattle.lalrpop_norm_tree.specs.Reprs.{ReprData}
@@ -46,16 +46,29 @@ pub record IsReadBy (g : GrammarData) (ps : List TypeParameter) (tt : TypeTable)
   pub parameters : g.type_parameters ≡ ps
   pub tokens : HasTokens g tt
 
--- the visit of a rule of that name that may take that type, and whether it does
+-- a name has a type after that had none before
+pub record Grows (before after : TypeTable) : Type 0 where
+  pub name : List ℕ
+  pub ty : ReprData
+  pub untyped : names_in before name ≡ None
+  pub typed : names_in after name ≡ Some ty
+
+-- The visit of a rule of that name that may take that type, and whether it does: if not, the table stays as it is. A name that has a
+-- type keeps it.
 pub record Takes (before after : TypeTable) (n : List ℕ) (v : Option ReprData) (added : Bool) : Type 0 where
   pub table : (rows : List Row) → HasRows before rows → HasRows after (taken rows n (table_of rows n) v)
   pub quiet : added ≡ false → (rows : List Row) → HasRows before rows → taken rows n (table_of rows n) v ≡ rows
+  pub still : added ≡ false → after ≡ before
+  pub told : added ≡ true → Grows before after
+  pub kept : (m : List ℕ) (x : ReprData) → names_in before m ≡ Some x → names_in after m ≡ Some x
   pub rest : after ≡ record before { nonterminals = after.nonterminals }
 
--- the visits of some rules, and whether one of them takes a type
+-- the visits of some rules, and whether one of them takes a type: if none does, the table stays as it is
 pub record Passes (ps : List TypeParameter) (before after : TypeTable) (ss : List Seen) (added : Bool) : Type 0 where
   pub table : (g : GrammarData) → IsReadBy g ps before → (rows : List Row) → HasRows before rows → HasRows after (visits_seen g rows ss)
   pub quiet : added ≡ false → (g : GrammarData) → IsReadBy g ps before → (rows : List Row) → HasRows before rows → visits_seen g rows ss ≡ rows
+  pub still : added ≡ false → after ≡ before
+  pub told : added ≡ true → Grows before after
   pub rest : after ≡ record before { nonterminals = after.nonterminals }
 
 -- so many rounds of visits
