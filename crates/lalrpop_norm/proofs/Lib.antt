@@ -22,6 +22,8 @@ pub mod StartProductions
 pub mod TreesRounds
 pub mod TreesLeveled
 pub mod TreesWritten
+pub mod TreesPublic
 pub mod TreesFaithful
 pub mod TreesMacros
 pub mod TreesStarts
+pub mod StartExamples

@@ -73,6 +73,20 @@ start_row prefix cs rest (s ∷ some) r i = elim (cases_Bool (bytes_eq (prefix +
   ])
 ]
 
+-- what is listed under the name of a public rule
+pub start_listed : (prefix : List ℕ) (some : List RuleData) (r : RuleData) → In r some → (n : Name) → r.name.0 ≡ n →
+    found (record { 0 = n }) (map (λ (s : RuleData). (s.name, start_name prefix s.name)) some) ≡ Some (start_name prefix (record { 0 = n }))
+start_listed prefix [] r i n named = absurd i
+start_listed prefix (s ∷ some) r i n named = elim (cases_Bool (bytes_eq n s.name.0)) [
+  | inl t ↦ (let same : n ≡ s.name.0 = text_sound n s.name.0 t in
+      rw t (ap (λ (m : Name). Some (start_name prefix (record { 0 = m }))) (sym same)))
+  | inr f ↦ rw f (elim i [
+    | inl e ↦ absurd (let yes : bytes_eq n s.name.0 ≡ true =
+        subst (λ (m : Name). bytes_eq m s.name.0 ≡ true) (sym (ap (λ (x : RuleData). x.name.0) e) ∙ named) (text_same s.name.0) in cc (f, yes))
+    | inr j ↦ start_listed prefix some r j n named
+  ])
+]
+
 -- the production of a start symbol
 abbrev pub start_production : RuleData → Production
 start_production r = record { origin = from_start; symbols = nonterminal_symbol r.name.0 ∷ [] }

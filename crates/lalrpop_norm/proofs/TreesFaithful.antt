@@ -1,12 +1,12 @@
 -- The derivation trees of what a grammar is lowered to stand one to one with the written trees.
-use Rattle.std.proofs.Common.{append-nil, ◌≡◌, inl, inr, ℕ, Bool, true, false, List, [], ◌∷◌, ◌++◌, map, length, refl, sym, ap, ◌∙◌, subst}
-use Rattle.std.specs.Prelude.{flat_map, Option, Some, None, if◌then◌else◌}
+use Rattle.std.proofs.Common.{append-nil, ◌≡◌, inl, inr, ℕ, List, [], ◌∷◌, ◌++◌, map, length, refl, sym, ap, ◌∙◌, subst}
+use Rattle.std.specs.Prelude.{flat_map, Option, Some, None}
 use Rattle.std.proofs.lemmas.Grind.{flat_map-append}
 use Rattle.lalrpop_norm_tree.specs.Items.{RuleData, EnumTokenData, GrammarData, intern_item}
 use Rattle.lalrpop_norm_theory.specs.Symbols.{Name, ClosedSymbol, terminal, error, reference, wrapped}
 use Rattle.lalrpop_norm_theory.specs.Meaning.{Meaning}
 use Rattle.lalrpop_norm_theory.specs.LoweredTrees as theory
-use Rattle.lalrpop_norm_theory.specs.LoweredTrees.{nonterminal_symbol}
+use Rattle.lalrpop_norm_theory.specs.LoweredTrees.{nonterminal_symbol, from_start}
 use Rattle.lalrpop_norm_theory.specs.Clauses.{IsNonterminal, symbol_of}
 use Rattle.lalrpop_norm_theory.specs.Rounds.{In, IsDistinct}
 use Rattle.lalrpop_norm_theory.specs.Met.{expanded_symbols, IsKnown}
@@ -19,13 +19,13 @@ use Rattle.lalrpop_norm_conditions.specs.Conditions.{comparison}
 use Rattle.lalrpop_norm_names.specs.NameFaults.{resolve_faults}
 use Rattle.lalrpop_norm_names.proofs.ResolvedFaults.{faults_gone}
 use Rattle.lalrpop_norm_repr.specs.Lowered.{LoweredGrammar}
-use Rattle.lalrpop_norm_repr.specs.Tables.{TypeTable}
-use Rattle.lalrpop_norm_late.specs.Lowering.{public_rules}
+use Rattle.lalrpop_norm_repr.specs.Tables.{TypeTable, found}
+use Rattle.lalrpop_norm_late.specs.Lowering.{public_rules, start_name}
 use Rattle.lalrpop_norm_late.specs.Shape.{IsLoweringOf}
 use Rattle.lalrpop_norm_model.specs.Features.{Features}
 use Rattle.lalrpop_norm_model.specs.Enabled.{enabled_grammar}
 use Rattle.lalrpop_norm_model.specs.WrittenRules.{WrittenRule, written_rules}
-use Rattle.lalrpop_norm_model.specs.Grammars.{ConditionValue, is_macro, meaning, references, rule_roots, roots}
+use Rattle.lalrpop_norm_model.specs.Grammars.{ConditionValue, meaning, references, roots}
 use Rattle.lalrpop_norm_model.specs.ClosedTexts.{text_in}
 use Rattle.lalrpop_norm_model.specs.LevelRules.{leveled_grammar}
 use Rattle.lalrpop_norm_model.specs.PlainRules.{rule_of_item, all_rules, plain_grammar, plain_rules, IsWhole}
@@ -40,30 +40,20 @@ use Rattle.lalrpop_norm_model.specs.Lexers.{Lexer}
 use Rattle.lalrpop_norm_model.proofs.ResolvedLemmas.{resolved_once}
 use Rattle.lalrpop_norm_model.proofs.LevelLemmas.{in_map, of_map}
 use Rattle.lalrpop_norm_model.proofs.MeaningLemmas.{meaning_has_counts, meaning_has_levels}
-use Rattle.lalrpop_norm_model.proofs.GrammarLemmas.{of_flat}
 use Rattle.lalrpop_norm_model.proofs.PlainReadLemmas.{rules_read, origins_counted}
 use Rattle.lalrpop_norm_model.proofs.FaithfulLemmas.{plain_grammars_hold_plain_rules}
 use Rattle.lalrpop_norm.specs.Derivations.{derivations}
-use Rattle.lalrpop_norm.specs.Faithful.{grammar_of_plain_rules, traced_derivations, written_meaning}
+use Rattle.lalrpop_norm.specs.Faithful.{HasStart, grammar_of_plain_rules, lowered_name, start_of, traced_derivations, written_meaning}
 use Rattle.lalrpop_norm.specs.Laws.{HasFlatMacros, LoweredTreesAreFaithful}
 use Rattle.lalrpop_norm.proofs.ScopedLemmas.{names_once, leveled_scoped, settled, levels_resolved}
 use Rattle.lalrpop_norm.proofs.ShapeTrees.{AreFree}
 use Rattle.lalrpop_norm.proofs.PlainShape.{distinct_listed, free_listed, shape_derivations}
-use Rattle.lalrpop_norm.proofs.StartProductions.{start_production, start_derivations, start_written}
-use Rattle.lalrpop_norm.proofs.TreesWritten.{reference_of, written_whole, written_fit, written_names, written_stands}
-
--- a rule taken by itself is by a reference
-root_of : (rs : List WrittenRule) (s : ClosedSymbol) → In s (roots rs) → (n : Name) × (s ≡ reference n None)
-root_of rs s h =
-    let (w, i, j) = of_flat rule_roots s rs h in by w (is_macro w) j
-  where
-    by : (w : WrittenRule) (x : Bool) → In s (if x then [] else reference w.name None ∷ []) → (n : Name) × (s ≡ reference n None)
-    by w true i = absurd i
-    by w false (inl e) = (w.name, e)
-    by w false (inr i) = absurd i
+use Rattle.lalrpop_norm.proofs.StartProductions.{start_listed, start_production, start_derivations, start_written}
+use Rattle.lalrpop_norm.proofs.TreesPublic.{public_rule}
+use Rattle.lalrpop_norm.proofs.TreesWritten.{root_of, reference_of, written_whole, written_fit, written_names, written_stands}
 
 -- the symbol of a rule is the nonterminal of its text
-rule_symbol : (rs : List WrittenRule) (s : ClosedSymbol) → In s (roots rs ++ references rs) → symbol_of (text_in rs) s ≡ nonterminal_symbol (text_in rs s)
+pub rule_symbol : (rs : List WrittenRule) (s : ClosedSymbol) → In s (roots rs ++ references rs) → symbol_of (text_in rs) s ≡ nonterminal_symbol (text_in rs s)
 rule_symbol rs s i = elim (in_cases s (roots rs) (references rs) i) [
   | inl j ↦ (let (m, e) = root_of rs s j in rw e refl)
   | inr j ↦ (let (m, b, e) = reference_of rs s j in rw e refl)
@@ -196,6 +186,14 @@ module _ (value : ConditionValue) (fs : Features) (g : GrammarData) (N : HasLeve
         (plain_origins M (references ws) n) counted)
         s i
 
+    -- the table of start symbols lists that of a public rule
+    pub lowered_listed : (r : RuleData) → In r (public_rules (all_rules plain)) → (m : Name) → r.name.0 ≡ m →
+        found (record { 0 = m }) l.start_nonterminals ≡ Some (start_name plain.prefix (record { 0 = m }))
+    lowered_listed r i m named =
+        shaped.start_nonterminals.holds (record { 0 = m })
+        ∙ start_listed checked.prefix (public_rules (all_rules plain)) r i m named
+        ∙ ap (λ (prefix : Name). Some (start_name prefix (record { 0 = m }))) (entered_same plain checked entered).1
+
     pub lowered_starts : (r : RuleData) → In r (public_rules (all_rules plain)) →
         derivations (action_origins (length (public_rules (all_rules plain))) M (references ws) n) l (plain.prefix ++ r.name.0) ≡ start_production r ∷ []
     lowered_starts r i =
@@ -218,16 +216,37 @@ module _ (fs : Features) (g : GrammarData) (faults : resolve_faults (enabled_gra
   pub levels_settled : IsSettled (leveled_grammar (prepared_grammar fs g))
   levels_settled = settled (leveled_grammar (prepared_grammar fs g)) level_faults (levels_resolved (prepared_grammar fs g) level_names_found)
 
+-- ---- start symbols
+
+module _ (fs : Features) (g : GrammarData) (plain : GrammarData) (rounds : ℕ) (l : LoweredGrammar) (s : ClosedSymbol)
+    (known : In s (roots (written_rules fs g) ++ references (written_rules fs g)))
+    (trees : OneToOne (written_meaning fs g) (text_in (written_rules fs g)) (traced_derivations fs g plain rounds l) s) (p : RuleData)
+    (named : p.name.0 ≡ text_in (written_rules fs g) s) where
+  -- what a public plain rule has, the written symbol of its name has
+  has_start : found (lowered_name fs g s) l.start_nonterminals ≡ Some (start_of fs g s) →
+      traced_derivations fs g plain rounds l (g.prefix ++ p.name.0) ≡ start_production p ∷ [] → HasStart fs g plain rounds l s
+  has_start listed production = record {
+    listed = listed;
+    production = subst
+        (λ (m : Name). traced_derivations fs g plain rounds l (g.prefix ++ m) ≡ record { origin = from_start; symbols = nonterminal_symbol m ∷ [] } ∷ [])
+        named production;
+    words = start_written (written_meaning fs g) (text_in (written_rules fs g)) (traced_derivations fs g plain rounds l) s trees
+        (rule_symbol (written_rules fs g) s known) (start_of fs g s).0 p
+        (subst (λ (m : Name). traced_derivations fs g plain rounds l (g.prefix ++ m) ≡ start_production p ∷ []) named production) named;
+  }
+
 pub lowered_trees_faithful : LoweredTreesAreFaithful
 lowered_trees_faithful fs g faults macros level_faults rounds whole names checked entered types l shape =
     let N = level_names_found fs g faults macros level_faults in
     let S = levels_settled fs g faults macros level_faults in
     let trees = lowered_trees comparison fs g N S rounds whole names.once names.starts checked entered types l shape in
     let starts = lowered_starts comparison fs g N S rounds whole names.once names.starts checked entered types l shape in
+    let listed = lowered_listed comparison fs g N S rounds whole names.once names.starts checked entered types l shape in
     record {
       whole = written_whole comparison fs g N S rounds whole;
       one_to_one = trees;
-      starts = starts;
-      words = λ s i r j. start_written (written_meaning fs g) (text_in (written_rules fs g)) (traced_derivations fs g (grammar_of_plain_rules fs g rounds) rounds l)
-          s (trees s i) (rule_symbol (written_rules fs g) s i) ((grammar_of_plain_rules fs g rounds).prefix ++ r.name.0) r (starts r j);
+      starts = λ r i none shown s k of. (
+          let (p, j, named) = public_rule comparison fs g N S rounds r i none shown s k of in
+          has_start fs g (grammar_of_plain_rules fs g rounds) rounds l s k (trees s k) p named (listed p j (text_in (written_rules fs g) s) named) (starts p j));
+      plain_starts = starts;
     }

@@ -1,9 +1,9 @@
 -- Where lowering has no fault and each rule has a type, no start symbol has the name of a rule.
-use Rattle.std.proofs.Common.{◌≡◌, inl, inr, ℕ, ◌+◌, List, [], ◌∷◌, ◌++◌, Bool, true, false, not, refl, ap}
+use Rattle.std.proofs.Common.{◌≡◌, inl, inr, ℕ, ◌+◌, List, [], ◌∷◌, ◌++◌, Bool, true, false, not, ap}
 use Rattle.std.specs.Prelude.{filter, is_none, if◌then◌else◌}
 use Rattle.std.specs.List.{enumerate_from}
 use Rattle.lalrpop_norm_tree.specs.Accessors.{is_public}
-use Rattle.lalrpop_norm_tree.specs.Items.{RuleData, GrammarData}
+use Rattle.lalrpop_norm_tree.specs.Items.{RuleData}
 use Rattle.lalrpop_norm_theory.specs.Rounds.{In}
 use Rattle.lalrpop_norm_faults.specs.declared.kind.FaultKind.TheVariants.{StartTaken}
 use Rattle.lalrpop_norm_late.specs.Lowering as late

@@ -53,6 +53,16 @@ use Rattle.lalrpop_norm.proofs.TreesLeveled.{parts_of, leveled_parts, leveled_re
 
 -- ---- declared references
 
+-- a rule taken by itself is by a reference without a bound
+pub root_of : (rs : List WrittenRule) (s : ClosedSymbol) → In s (roots rs) → (n : Name) × (s ≡ reference n None)
+root_of rs s h =
+    let (w, i, j) = of_flat rule_roots s rs h in by w (is_macro w) j
+  where
+    by : (w : WrittenRule) (x : Bool) → In s (if x then [] else reference w.name None ∷ []) → (n : Name) × (s ≡ reference n None)
+    by w true i = absurd i
+    by w false (inl e) = (w.name, e)
+    by w false (inr i) = absurd i
+
 abbrev bare : RuleData → ClosedSymbol
 bare d = reference d.name.0 None
 
@@ -101,7 +111,8 @@ module _ (r : GrammarData) (N : HasLevelNames r) where
   abbrev ps : RuleData → List (Option Leveled)
   ps d = with_levels (all_places d)
 
-  level_at : (d : RuleData) → In d (all_rules r) → (m : ℕ) → l d.name.0 m ≡ level_of_rule d (ps d) m
+  -- the name of a level is that of its rule
+  pub level_at : (d : RuleData) → In d (all_rules r) → (m : ℕ) → l d.name.0 m ≡ level_of_rule d (ps d) m
   level_at d i m =
       ap (λ o. named_level o d.name.0 m) (leveled_found r d (distinct r N) i)
       ∙ ap (λ (qs : List (Option Leveled)). level_name d.name.0 (highest_level qs) m) (places_are r N d i)
@@ -320,7 +331,8 @@ module _ (value : ConditionValue) (fs : Features) (g : GrammarData) (N : HasLeve
   abbrev ln : Name → ℕ → Name
   ln = level_names (leveled_rules (prepared_grammar fs g))
 
-  same_references : references rs ≡ references ws
+  -- what is declared stays when the disabled alternatives are left out
+  pub same_references : references rs ≡ references ws
   same_references = (disabled_only_renumber value fs g).1
 
   pub written_scoped : IsScoped ws
@@ -358,7 +370,8 @@ module _ (value : ConditionValue) (fs : Features) (g : GrammarData) (N : HasLeve
       ∙ ap (map (leveled_parts ln)) (clauses_only_renumber value fs g x)
       ∙ ranked_parts ln (rank_by ws) (clauses M x)
 
-  level_written : (n : Name) (b : Option ℕ) → level_reference ln n b ≡ reference_name ws n b
+  -- and so do the names of levels
+  pub level_written : (n : Name) (b : Option ℕ) → level_reference ln n b ≡ reference_name ws n b
   level_written n None = refl
   level_written n (Some m) = ap (λ xs. level_names xs n m) (disabled_are_left_out fs g) ∙ level_closed ws n m
 

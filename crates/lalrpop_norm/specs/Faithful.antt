@@ -1,8 +1,10 @@
 -- The headline: what a lowered grammar owes the written one.
-use Rattle.std.specs.Prelude.{◌≡◌, ◌↔◌, ℕ, List, [], ◌∷◌, ◌++◌, length, Some}
+use Rattle.std.specs.Prelude.{◌≡◌, ◌↔◌, ℕ, true, List, [], ◌∷◌, ◌++◌, length, Option, Some}
+use Rattle.lalrpop_norm_tree.specs.declared.names.NonterminalString.{NonterminalString}
+use Rattle.lalrpop_norm_tree.specs.Accessors.{is_public}
 use Rattle.lalrpop_norm_tree.specs.Items.{RuleData, GrammarData}
 use Rattle.lalrpop_norm_tree.specs.Reprs.{ReprData}
-use Rattle.lalrpop_norm_theory.specs.Symbols.{ClosedSymbol, Terminal}
+use Rattle.lalrpop_norm_theory.specs.Symbols.{ClosedSymbol, Terminal, reference}
 use Rattle.lalrpop_norm_theory.specs.Meaning.{Meaning}
 use Rattle.lalrpop_norm_theory.specs.LoweredTrees as theory
 use Rattle.lalrpop_norm_theory.specs.LoweredTrees.{nonterminal_symbol, from_start}
@@ -23,7 +25,7 @@ use Rattle.lalrpop_norm_model.specs.Lexers.{Lexer}
 use Rattle.lalrpop_norm_model.specs.CheckedTokens.{IsChecked}
 use Rattle.lalrpop_norm_model.specs.TypeRelation.{IsRule, Has}
 use Rattle.lalrpop_norm_repr.specs.Lowered.{LoweredGrammar}
-use Rattle.lalrpop_norm_repr.specs.Tables.{TypeTable, type_of}
+use Rattle.lalrpop_norm_repr.specs.Tables.{TypeTable, type_of, found}
 use Rattle.lalrpop_norm_repr.specs.Closed.{IsClosed}
 pub use Rattle.lalrpop_norm_types.specs.Inferred.{IsInferred}
 use Rattle.lalrpop_norm_late.specs.Lowering.{public_rules, start_name}
@@ -41,19 +43,39 @@ abbrev pub traced_derivations : Features → GrammarData → GrammarData → ℕ
 traced_derivations fs g plain rounds l =
     derivations (action_origins (length (public_rules (all_rules plain))) (written_meaning fs g) (references (written_rules fs g)) rounds) l
 
+-- the closed symbol is that rule, by itself or within one of its levels
+abbrev pub IsSymbolOf : RuleData → ClosedSymbol → Type 0
+IsSymbolOf r s = (level : Option ℕ) × (s ≡ reference r.name.0 level)
+
+-- the name that a written symbol has in the lowered grammar
+abbrev pub lowered_name : Features → GrammarData → ClosedSymbol → NonterminalString
+lowered_name fs g s = record { 0 = text_in (written_rules fs g) s }
+
+-- the name of its start symbol
+abbrev pub start_of : Features → GrammarData → ClosedSymbol → NonterminalString
+start_of fs g s = start_name g.prefix (lowered_name fs g s)
+
+-- A written symbol has a start symbol: the lowered grammar lists it, its one production is the symbol's name, with the origin of
+-- start symbols, and its words are those of the written symbol.
+pub record HasStart (fs : Features) (g : GrammarData) (plain : GrammarData) (rounds : ℕ) (l : LoweredGrammar) (s : ClosedSymbol) : Type 0 where
+  pub listed : found (lowered_name fs g s) l.start_nonterminals ≡ Some (start_of fs g s)
+  pub production : traced_derivations fs g plain rounds l (start_of fs g s).0 ≡ record { origin = from_start; symbols = nonterminal_symbol (lowered_name fs g s).0 ∷ [] } ∷ []
+  pub words : (w : List Terminal) →
+      IsWrittenWord (written_meaning fs g) s w ↔ IsWordOf (traced_derivations fs g plain rounds l) (start_of fs g s).0 w
+
 -- From each enabled written rule that is no macro, by itself and within each of its levels, the derivation trees of the lowered
 -- grammar stand one to one with the written ones, with the same terminals and the same alternatives. After so many rounds
--- nothing is new. The start symbol of a public rule has one production, which is that rule; so its words are those of the written
--- rule, and where the rule is a level, those of the written rule within that level.
+-- nothing is new. Where the rule is public, it has a start symbol, by itself and within each of its levels, with the words that it
+-- has there. The start symbol of each public plain rule, also of one that a call of a public macro makes, has that rule as its
+-- one production.
 pub record HasFaithfulTrees (fs : Features) (g : GrammarData) (plain : GrammarData) (rounds : ℕ) (l : LoweredGrammar) : Type 0 where
   pub whole : (expansion (written_meaning fs g) (references (written_rules fs g)) rounds).fresh ≡ []
   pub one_to_one : (s : ClosedSymbol) → In s (roots (written_rules fs g) ++ references (written_rules fs g)) →
       OneToOne (written_meaning fs g) (text_in (written_rules fs g)) (traced_derivations fs g plain rounds l) s
-  pub starts : (r : RuleData) → In r (public_rules (all_rules plain)) →
+  pub starts : (r : RuleData) → In r (all_rules (enabled_grammar fs g)) → r.args ≡ [] → is_public r.visibility ≡ true →
+      (s : ClosedSymbol) → In s (roots (written_rules fs g) ++ references (written_rules fs g)) → IsSymbolOf r s → HasStart fs g plain rounds l s
+  pub plain_starts : (r : RuleData) → In r (public_rules (all_rules plain)) →
       traced_derivations fs g plain rounds l (start_name plain.prefix r.name).0 ≡ record { origin = from_start; symbols = nonterminal_symbol r.name.0 ∷ [] } ∷ []
-  pub words : (s : ClosedSymbol) → In s (roots (written_rules fs g) ++ references (written_rules fs g)) →
-      (r : RuleData) → In r (public_rules (all_rules plain)) → r.name.0 ≡ text_in (written_rules fs g) s → (w : List Terminal) →
-      IsWrittenWord (written_meaning fs g) s w ↔ IsWordOf (traced_derivations fs g plain rounds l) (start_name plain.prefix r.name).0 w
 
 -- ---- types
 
@@ -92,8 +114,8 @@ abbrev pub grammar_of_plain_rules : Features → GrammarData → ℕ → Grammar
 grammar_of_plain_rules fs g rounds = plain_grammar comparison (grammar_with_levels fs g) rounds
 
 -- The lowered grammar is one of the written grammar: for a number of rounds after which nothing is new, its trees stand one to
--- one with the written ones; it has the shape of the plain rules, in their order, with their tokens; each nonterminal has its
--- only grounded type; and nothing in it is left open.
+-- one with the written ones, and each public rule has its start symbols; it has the shape of the plain rules, in their order,
+-- with their tokens; each nonterminal has its only grounded type; and nothing in it is left open.
 pub record IsFaithful {R : Type 0} (lexer : Lexer R) (fs : Features) (g : GrammarData) (l : LoweredGrammar) : Type 0 where
   pub rounds : ℕ
   pub trees : HasFaithfulTrees fs g (grammar_of_plain_rules fs g rounds) rounds l

@@ -3,8 +3,9 @@
 ghost use Rattle.lalrpop_norm.specs.Laws.{LoweredTreesAreFaithful, MacrosHaveOneLevel, NamesAreOwn};
 
 /// The trees of what a grammar's plain rules are lowered to, once they have their tokens, stand one to one with the written trees,
-/// with the same words and the same written alternatives, for each rule by itself and within each of its levels. The start symbol of a
-/// public rule has that rule as its one production, so it has the words of the written rule, or of the level that the rule is.
+/// with the same words and the same written alternatives, for each rule by itself and within each of its levels. Each enabled public
+/// rule that is no macro, by itself and within each of its levels, has a start symbol: it is listed, its one production is the rule
+/// or the level, and it has the words that the rule has there.
 ///
 /// It asks what the passes find out: that no fault of names stands in the enabled grammar and in its grammar with levels, that the
 /// expansion has ended, that the names of the plain rules are distinct, and that none is that of a start symbol. No macro may have

@@ -1,4 +1,4 @@
-use Rattle.std.proofs.Common.{◌≡◌, ℕ, [], ◌++◌, ap, sym, subst, ◌∙◌}
+use Rattle.std.proofs.Common.{◌≡◌, [], ◌++◌, ap, sym, subst, ◌∙◌}
 use Rattle.std.proofs.lemmas.Result.{IfOk-weaker}
 use Rattle.lalrpop_norm_tree.specs.Items as written
 use Rattle.lalrpop_norm_tree.specs.Items.{GrammarData}
@@ -7,15 +7,14 @@ use Rattle.lalrpop_norm_front.specs.Sessions.{features_view}
 use Rattle.lalrpop_norm_front.specs.PrecedenceFaults.{precedence_faults}
 use Rattle.lalrpop_norm_expand.specs.Expansion.{expansion_faults, macro_faults}
 use Rattle.lalrpop_norm_model.specs.Expanded.{IsExpanded}
-use Rattle.lalrpop_norm_model.specs.Features.{Features}
 use Rattle.lalrpop_norm_model.specs.LevelRules.{leveled_grammar}
 use Rattle.lalrpop_norm_model.specs.PlainRules.{plain_grammar}
 use Rattle.lalrpop_norm_model.specs.Scopes.{resolved_grammar}
 use Rattle.lalrpop_norm_faults.specs.Faults.{Refuses}
 use Rattle.lalrpop_norm_repr.specs.Lowered as lowered
-use Rattle.lalrpop_norm.specs.Faithful.{grammar_with_levels, grammar_of_plain_rules}
+use Rattle.lalrpop_norm.specs.Faithful.{grammar_with_levels}
 use Rattle.lalrpop_norm.specs.Normalize.{late_faults}
-use Rattle.lalrpop_norm.specs.Passed.{IsTypedByInference, IsTypedLowering, IsPassed}
+use Rattle.lalrpop_norm.specs.Passed.{IsTypedByInference, IsTypedLowering}
 use Rattle.lalrpop_norm.proofs.PassLemmas.{names_exit, expansion_exit, late_exit, is_expanded, is_typed, passed}
 use Rattle.lalrpop_norm.proofs.passes.run_passes.Goals as goal
 
