@@ -1,4 +1,4 @@
--- A public rule of two levels: both have start symbols, and that of the rule is no level's.
+-- A public rule of two levels: both have start symbols, and that of the rule by itself does not lead to the lower level.
 --   pub E = { #[precedence(level="1")] "n", #[precedence(level="2")] #[assoc(side="left")] E "+" E };
 use Rattle.std.proofs.Common.{◌≡◌, ◌↔◌, inl, inr, ℕ, List, [], ◌∷◌, ◌++◌, map, Some, None, refl, sym, ap, ◌∙◌}
 use Rattle.std.specs.Prelude.{codes}

@@ -43,7 +43,7 @@ abbrev pub traced_derivations : Features → GrammarData → GrammarData → ℕ
 traced_derivations fs g plain rounds l =
     derivations (action_origins (length (public_rules (all_rules plain))) (written_meaning fs g) (references (written_rules fs g)) rounds) l
 
--- the closed symbol is that rule, by itself or within one of its levels
+-- the closed symbol is that rule, by itself or within a level
 abbrev pub IsSymbolOf : RuleData → ClosedSymbol → Type 0
 IsSymbolOf r s = (level : Option ℕ) × (s ≡ reference r.name.0 level)
 
@@ -65,9 +65,9 @@ pub record HasStart (fs : Features) (g : GrammarData) (plain : GrammarData) (rou
 
 -- From each enabled written rule that is no macro, by itself and within each of its levels, the derivation trees of the lowered
 -- grammar stand one to one with the written ones, with the same terminals and the same alternatives. After so many rounds
--- nothing is new. Where the rule is public, it has a start symbol, by itself and within each of its levels, with the words that it
--- has there. The start symbol of each public plain rule, also of one that a call of a public macro makes, has that rule as its
--- one production.
+-- nothing is new. Where the rule is public, it has a start symbol, by itself (that is the highest level's) and within each of its
+-- levels, with the words that it has there. The start symbol of each public plain rule has that rule as its one production; where a
+-- public macro may be called, which `validate` refuses, that says it of the rules that its calls make too.
 pub record HasFaithfulTrees (fs : Features) (g : GrammarData) (plain : GrammarData) (rounds : ℕ) (l : LoweredGrammar) : Type 0 where
   pub whole : (expansion (written_meaning fs g) (references (written_rules fs g)) rounds).fresh ≡ []
   pub one_to_one : (s : ClosedSymbol) → In s (roots (written_rules fs g) ++ references (written_rules fs g)) →
@@ -114,8 +114,8 @@ abbrev pub grammar_of_plain_rules : Features → GrammarData → ℕ → Grammar
 grammar_of_plain_rules fs g rounds = plain_grammar comparison (grammar_with_levels fs g) rounds
 
 -- The lowered grammar is one of the written grammar: for a number of rounds after which nothing is new, its trees stand one to
--- one with the written ones, and each public rule has its start symbols; it has the shape of the plain rules, in their order,
--- with their tokens; each nonterminal has its only grounded type; and nothing in it is left open.
+-- one with the written ones, and each enabled public rule that is no macro has its start symbols; it has the shape of the plain
+-- rules, in their order, with their tokens; each nonterminal has its only grounded type; and nothing in it is left open.
 pub record IsFaithful {R : Type 0} (lexer : Lexer R) (fs : Features) (g : GrammarData) (l : LoweredGrammar) : Type 0 where
   pub rounds : ℕ
   pub trees : HasFaithfulTrees fs g (grammar_of_plain_rules fs g rounds) rounds l

@@ -50,8 +50,8 @@ NamesAreOwn = (g : GrammarData) (types : Table) → IsDistinct (rule_names g) �
     ((n : Name) → In n (rule_names g) → (t : ReprData) × (types n ≡ Some t)) → HasOwnNames g
 
 -- Where no fault of names stands in the enabled grammar and in the one with levels, and so many rounds make all plain rules, what
--- these are lowered to, once they have their tokens, has trees one to one with the written ones, and each public rule has its
--- start symbols there, with its words.
+-- these are lowered to, once they have their tokens, has trees one to one with the written ones, and each enabled public rule
+-- that is no macro has its start symbols there, with its words.
 abbrev pub LoweredTreesAreFaithful : Type 0
 LoweredTreesAreFaithful = (fs : Features) (g : GrammarData) → resolve_faults (enabled_grammar fs g) ≡ [] → HasFlatMacros (prepared_grammar fs g) →
     resolve_faults (grammar_with_levels fs g) ≡ [] → (rounds : ℕ) → IsWhole comparison (grammar_with_levels fs g) rounds →
