@@ -2,7 +2,7 @@
 use Rattle.std.proofs.Common.{◌≡◌, inl, inr, ℕ, zero, suc, Bool, true, false, List, [], ◌∷◌, ◌++◌, map, reverse, refl, ap, sym, subst, ◌∙◌}
 use Rattle.std.specs.Prelude.{flat_map, if◌then◌else◌}
 use Rattle.lalrpop_norm_tree.specs.Symbols.{Part}
-use Rattle.lalrpop_norm_tree.specs.Texts.{part_text}
+use Rattle.lalrpop_norm_tree.specs.SymbolTexts.{part_text}
 use Rattle.lalrpop_norm_tree.specs.Items.{RuleData, GrammarData}
 use Rattle.lalrpop_norm_theory.specs.Symbols.{Name, ClosedSymbol}
 use Rattle.lalrpop_norm_theory.specs.Rounds.{In, is_in, fresh_of, Round, rounds, all_rules_made}

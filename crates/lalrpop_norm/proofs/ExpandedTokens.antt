@@ -1,7 +1,7 @@
 -- The tokens of a grammar with one extern enum and nothing else that gives tokens, along the steps that change rules alone.
 use Rattle.std.proofs.Common.{◌≡◌, ℕ, Bool, true, false, List, [], ◌∷◌, ◌++◌, map, Option, Some, None, refl, ap, sym, subst, ◌∙◌}
 use Rattle.std.specs.Prelude.{flat_map, if◌then◌else◌, option_to_list}
-use Rattle.lalrpop_norm_tree.specs.declared.names.TerminalString.TheVariants.{Error}
+use Rattle.lalrpop_norm_parts.specs.declared.names.TerminalString.TheVariants.{Error}
 use Rattle.lalrpop_norm_tree.specs.Accessors.{first_of, or_else, enum_token_of}
 use Rattle.lalrpop_norm_tree.specs.Items.{RuleData, EnumTokenData, ItemData, GrammarData, match_item, extern_item, intern_item, rule_item, use_item}
 use Rattle.lalrpop_norm_tree.specs.LoweredTypes.{holds_symbol}

@@ -1,9 +1,9 @@
 -- The headline: what a lowered grammar owes the written one.
 use Rattle.std.specs.Prelude.{◌≡◌, ◌↔◌, ℕ, true, List, [], ◌∷◌, ◌++◌, length, Option, Some}
-use Rattle.lalrpop_norm_tree.specs.declared.names.NonterminalString.{NonterminalString}
+use Rattle.lalrpop_norm_parts.specs.declared.names.NonterminalString.{NonterminalString}
 use Rattle.lalrpop_norm_tree.specs.Accessors.{is_public}
 use Rattle.lalrpop_norm_tree.specs.Items.{RuleData, GrammarData}
-use Rattle.lalrpop_norm_tree.specs.Reprs.{ReprData}
+use Rattle.lalrpop_norm_parts.specs.Reprs.{ReprData}
 use Rattle.lalrpop_norm_theory.specs.Symbols.{ClosedSymbol, Terminal, reference}
 use Rattle.lalrpop_norm_theory.specs.Meaning.{Meaning}
 use Rattle.lalrpop_norm_theory.specs.LoweredTrees as theory

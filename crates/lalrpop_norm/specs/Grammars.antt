@@ -6,7 +6,7 @@ pub use Rattle.lalrpop_norm_late.specs.Lowering.{rules_of}
 pub use Rattle.lalrpop_norm_late.specs.Conversions.{conversions_in}
 use Rattle.std.specs.Prelude.{ℕ, Bool, false, ◌||◌, List, [], ◌∷◌, map, filter_map, Option, None, bytes_eq}
 use Rattle.std.specs.List.{list_any}
-use Rattle.lalrpop_norm_tree.specs.declared.names.TerminalString.{TerminalString}
+use Rattle.lalrpop_norm_parts.specs.declared.names.TerminalString.{TerminalString}
 use Rattle.lalrpop_norm_tree.specs.Items.{ItemData, RuleData, ExternTokenData, EnumTokenData, ConversionData}
 
 abbrev pub externs_of : List ItemData → List ExternTokenData

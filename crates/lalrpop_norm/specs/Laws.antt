@@ -1,7 +1,7 @@
 -- What is proved of the whole way, each statement in one piece. The functions of the module `laws` carry them.
 use Rattle.std.specs.Prelude.{◌≡◌, ℕ, [], Some, false}
 use Rattle.lalrpop_norm_tree.specs.Items.{RuleData, GrammarData}
-use Rattle.lalrpop_norm_tree.specs.Reprs.{ReprData}
+use Rattle.lalrpop_norm_parts.specs.Reprs.{ReprData}
 use Rattle.lalrpop_norm_theory.specs.Symbols.{Name}
 use Rattle.lalrpop_norm_theory.specs.Rounds.{In, IsDistinct}
 use Rattle.lalrpop_norm_conditions.specs.Conditions.{comparison}

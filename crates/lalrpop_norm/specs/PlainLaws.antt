@@ -2,7 +2,7 @@
 -- headline.
 use Rattle.std.specs.Prelude.{◌≡◌, ℕ, ◌++◌, List, [], Option, IsSome}
 use Rattle.lalrpop_norm_tree.specs.Items.{RuleData, ExternTokenData, GrammarData, extern_item}
-use Rattle.lalrpop_norm_tree.specs.Reprs.{ReprData}
+use Rattle.lalrpop_norm_parts.specs.Reprs.{ReprData}
 use Rattle.lalrpop_norm_theory.specs.Rounds.{In}
 use Rattle.lalrpop_norm_conditions.specs.Conditions.{comparison}
 use Rattle.lalrpop_norm_model.specs.CheckedTokens.{IsChecked}

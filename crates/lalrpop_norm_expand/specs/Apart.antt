@@ -1,7 +1,7 @@
 -- Symbols with their spans taken off: what the code compares. An identifier counts as the name of a rule, as in
 -- `same_apart_from_spans`, which says the same of two symbols.
 use Rattle.std.specs.Prelude.{List, map}
-use Rattle.lalrpop_norm_tree.specs.declared.names.Span.{Span}
+use Rattle.lalrpop_norm_parts.specs.declared.names.Span.{Span}
 use Rattle.lalrpop_norm_tree.specs.declared.symbol.Symbol.{Symbol}
 use Rattle.lalrpop_norm_tree.specs.Symbols.{Kind, Part, Parts, group, ambiguous_id, terminal, nonterminal, call, repeated, chosen, named, tupled, lookahead, lookbehind, error_terminal, at, no_parts, part_and, symbol_view}
 

@@ -1,9 +1,9 @@
 -- The faults of an expansion, round by round: what `expand_macros` refuses.
 use Rattle.std.specs.Prelude.{ℕ, zero, suc, Bool, not, ◌&&◌, ◌||◌, List, [], ◌∷◌, ◌++◌, flat_map, bytes_eq, map}
 use Rattle.std.specs.List.{list_any}
-use Rattle.lalrpop_norm_tree.specs.declared.names.Span.{Span}
+use Rattle.lalrpop_norm_parts.specs.declared.names.Span.{Span}
 use Rattle.lalrpop_norm_tree.specs.Symbols.{Part, group, ambiguous_id, terminal, nonterminal, call, repeated, chosen, named, tupled, lookahead, lookbehind, error_terminal, at}
-use Rattle.lalrpop_norm_tree.specs.Texts.{part_text}
+use Rattle.lalrpop_norm_tree.specs.SymbolTexts.{part_text}
 use Rattle.lalrpop_norm_tree.specs.Items.{RuleData, GrammarData}
 use Rattle.lalrpop_norm_faults.specs.declared.kind.FaultKind.TheVariants.{NotYet, NamedInGroup, RecursionCap, SharedName}
 use Rattle.lalrpop_norm_faults.specs.Faults.{Fault, fault_if}

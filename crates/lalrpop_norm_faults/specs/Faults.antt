@@ -1,6 +1,6 @@
 -- Lists of faults, and answers that name the first of one.
 use Rattle.std.specs.Prelude.{String, ◌≡◌, ℕ, Bool, if◌then◌else◌, List, [], ◌∷◌, ◌⊎◌, Option, Some, None, Result, Ok, Err, codes}
-use Rattle.lalrpop_norm_tree.specs.declared.names.Span.{Span}
+use Rattle.lalrpop_norm_parts.specs.declared.names.Span.{Span}
 use Rattle.lalrpop_norm_faults.specs.declared.kind.FaultKind.{FaultKind}
 use Rattle.lalrpop_norm_faults.specs.declared.kind.FaultKind.TheVariants.{NotYet, GrammarAttribute, SecondMatch, MatchWithExtern, SecondExtern, UnknownAssociatedType, RepeatedAssociatedType, PublicMacro, UnknownRuleAttribute, RepeatedRuleAttribute, InlineOnPublic, MalformedCfg, MissingLevel, LevelArgument, LevelNumber, SideArgument, Side, SideOnLowest, AlternativeAttribute, NamedWithoutAction, AnonymousInBraces, ChosenWithNamed, NameTwice, ErrorWithAscent, MacroWithoutArguments, NoLocation, WrittenIntern, WrittenErrorTerminal, WrittenOfSymbol, WrittenLookaround, NameDeclaredTwice, ArgumentTwice, NoDefinition, ConditionOnOther, NotNonterminal, NotMacro, Arity, MacroNamed, ConditionArgument, ConditionPattern, NamedInGroup, RecursionCap, SharedName, LiteralTwice, TerminalTwice, NoMapping, NoPattern, BadRegex, RegexFeature, Ambiguity, InputLifetime, InputParameter, NoAlternatives, OnlyCoded, NotGrounded, Disagreement, TupleOverSymbol, TupleOverType, TupleLength, Placeholders, StartTaken, TooManyActions}
 use Rattle.std.specs.declared.alloc.AllocError.{AllocError}

@@ -3,7 +3,8 @@ ghost use Rattle.lalrpop_norm_faults.specs.Faults.{IsFirst, IsRefusal};
 ghost use Rattle.std.specs.Prelude.{◌≡◌, [], ◌∷◌};
 
 use crate::kind::FaultKind;
-use lalrpop_norm_tree::grammar::parse_tree::{NoMemory, Span};
+use lalrpop_norm_parts::names::Span;
+use shared_text::NoMemory;
 use std::alloc::{AllocError, AllocFailed};
 
 /// A fault where it stands.

@@ -1,9 +1,9 @@
 -- Lists that are not empty.
 use Rattle.std.proofs.Common.{◌≡◌, ◌<◌, List, [], ◌∷◌, length, arith, refl}
-use Rattle.lalrpop_norm_tree.specs.declared.names.Span.{Span}
+use Rattle.lalrpop_norm_parts.specs.declared.names.Span.{Span}
 use Rattle.lalrpop_norm_tree.specs.declared.symbol.Symbol.{Symbol}
-use Rattle.lalrpop_norm_tree.specs.declared.attribute.Attribute.{Attribute}
-use Rattle.lalrpop_norm_tree.specs.Attributes.{attributes_view}
+use Rattle.lalrpop_norm_parts.specs.declared.attribute.Attribute.{Attribute}
+use Rattle.lalrpop_norm_parts.specs.Attributes.{attributes_view}
 use Rattle.lalrpop_norm_tree.specs.Symbols.{parts_view}
 use Rattle.lalrpop_norm_front.specs.CfgFaults.{empty_faults}
 use Rattle.lalrpop_norm_front.specs.SymbolFaults.{call_faults}

@@ -2,7 +2,7 @@
 use Rattle.std.proofs.Common.{◌≡◌, ℕ, List, [], ◌∷◌, refl}
 use Rattle.std.specs.Prelude.{Some, codes}
 use Rattle.std.specs.Fmt.{digits}
-use Rattle.lalrpop_norm_tree.specs.Attributes.{AttributeData}
+use Rattle.lalrpop_norm_parts.specs.Attributes.{AttributeData}
 use Rattle.lalrpop_norm_tree.specs.Symbols.{Kind}
 use Rattle.lalrpop_norm_tree.specs.Items.{AlternativeData, RuleData, rule_item}
 use Rattle.lalrpop_norm_faults.specs.declared.kind.FaultKind.TheVariants.{MissingLevel, SideOnLowest, NameDeclaredTwice, NoDefinition, NotNonterminal}

@@ -1,13 +1,14 @@
 -- The faults of a grammar that need no names, in the order in which they are looked for. Disabled parts count like all others.
 use Rattle.std.specs.Prelude.{ℕ, Bool, true, false, ◌||◌, ◌&&◌, not, List, [], ◌∷◌, ◌++◌, map, flat_map, Option, Some, None, is_some, is_none, bytes_eq, codes, if◌then◌else◌}
 use Rattle.std.specs.List.{list_any}
-use Rattle.lalrpop_norm_tree.specs.declared.names.Span.{Span}
+use Rattle.lalrpop_norm_parts.specs.declared.names.Span.{Span}
 use Rattle.lalrpop_norm_tree.specs.declared.items.MatchItem.{MatchItem}
 use Rattle.lalrpop_norm_tree.specs.declared.items.MatchItem.TheVariants.{CatchAll, Unmapped, Mapped}
 use Rattle.lalrpop_norm_tree.specs.declared.items.MatchMapping.TheVariants as mapping
-use Rattle.lalrpop_norm_tree.specs.Accessors.{or_else, first_of, is_public, is_macro, is_known_name, extern_token_of, match_token_of, type_named}
-use Rattle.lalrpop_norm_tree.specs.Attributes.{AttributeData, Attributes, attribute, no_attributes, attribute_and}
-use Rattle.lalrpop_norm_tree.specs.Bounds.{WhereClauseData}
+use Rattle.lalrpop_norm_parts.specs.Accessors.{is_known_name}
+use Rattle.lalrpop_norm_tree.specs.Accessors.{or_else, first_of, is_public, is_macro, extern_token_of, match_token_of, type_named}
+use Rattle.lalrpop_norm_parts.specs.Attributes.{AttributeData, Attributes, attribute, no_attributes, attribute_and}
+use Rattle.lalrpop_norm_parts.specs.Bounds.{WhereClauseData}
 use Rattle.lalrpop_norm_tree.specs.Items.{RuleData, MatchTokenData, AssociatedTypeData, ConversionData, EnumTokenData, ExternTokenData, ItemData, GrammarData, match_item, extern_item, intern_item, rule_item, use_item}
 use Rattle.lalrpop_norm_tree.specs.LoweredTypes.{holds_symbol}
 use Rattle.lalrpop_norm_tree.specs.Types.{TypeData, ParameterData}

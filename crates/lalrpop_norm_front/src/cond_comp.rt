@@ -1,6 +1,6 @@
 //! Conditional compilation: what the features of a session leave of a grammar.
 ghost use Rattle.std.specs.Prelude.{◌≡◌, IsOkAnd, map, filter, option_map};
-ghost use Rattle.lalrpop_norm_tree.specs.Attributes.{attribute_view, attributes_view};
+ghost use Rattle.lalrpop_norm_parts.specs.Attributes.{attribute_view, attributes_view};
 ghost use Rattle.lalrpop_norm_tree.specs.Items.{alternative_view, conversion_view, enum_token_view, item_view, grammar_view};
 ghost use Rattle.lalrpop_norm_model.specs.Features.{is_feature, condition_holds, first_fails, all_hold, any_holds, cfg_holds, is_active};
 ghost use Rattle.lalrpop_norm_model.specs.Enabled.{enabled_enum, enabled_grammar};

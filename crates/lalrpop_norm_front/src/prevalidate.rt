@@ -1,8 +1,8 @@
 //! Checks of a written grammar that need no names. They look at all parts, also at those that a `cfg` turns off.
 ghost use Rattle.std.specs.Prelude.{◌≡◌, ◌||◌, Bool, Some, true, false, map, flat_map, option_map};
 ghost use Rattle.lalrpop_norm_tree.specs.Accessors.{first_of, extern_token_of, match_token_of, or_else};
-ghost use Rattle.lalrpop_norm_tree.specs.Attributes.{attributes_view};
-ghost use Rattle.lalrpop_norm_tree.specs.Bounds.{where_clause_view};
+ghost use Rattle.lalrpop_norm_parts.specs.Attributes.{attributes_view};
+ghost use Rattle.lalrpop_norm_parts.specs.Bounds.{where_clause_view};
 ghost use Rattle.lalrpop_norm_tree.specs.Items.{extern_token_view, grammar_view, item_view};
 ghost use Rattle.lalrpop_norm_tree.specs.Types.{parameter_view, type_view};
 ghost use Rattle.lalrpop_norm_faults.specs.Faults.{Refuses};

@@ -5,7 +5,7 @@ use Rattle.std.specs.List.{enumerate_from, AllByRecursion}
 use Rattle.lalrpop_norm_faults.specs.Faults.{Fault, fault_if}
 use Rattle.lalrpop_norm_tree.specs.Accessors.{is_public}
 use Rattle.lalrpop_norm_tree.specs.Items.{ItemData, match_item, extern_item, intern_item, rule_item, use_item, AlternativeData, RuleData, GrammarData}
-use Rattle.lalrpop_norm_tree.specs.Reprs.{ReprData}
+use Rattle.lalrpop_norm_parts.specs.Reprs.{ReprData}
 use Rattle.lalrpop_norm_model.specs.LoweringFaults as faults
 use Rattle.lalrpop_norm_model.specs.LoweringFaults.{start_faults, code_faults, number_faults, all_alternatives, lowering_faults}
 use Rattle.lalrpop_norm_model.specs.PlainRules.{rule_of_item, all_rules}

@@ -1,9 +1,9 @@
 -- Patterns, one by one.
 use Rattle.std.proofs.Common.{◌≡◌, List, [], ◌∷◌, map, refl, ap}
-use Rattle.lalrpop_norm_tree.specs.declared.pattern.Pattern.{Pattern}
-use Rattle.lalrpop_norm_tree.specs.declared.pattern.FieldPattern.{FieldPattern}
+use Rattle.lalrpop_norm_parts.specs.declared.pattern.Pattern.{Pattern}
+use Rattle.lalrpop_norm_parts.specs.declared.pattern.FieldPattern.{FieldPattern}
 use Rattle.lalrpop_norm_tree.specs.declared.types.TypeRef.{TypeRef}
-use Rattle.lalrpop_norm_tree.specs.Patterns.{pattern_and, field_and, pattern_view, patterns_view, patterns_of, field_view, fields_view, fields_of}
+use Rattle.lalrpop_norm_parts.specs.Patterns.{pattern_and, field_and, pattern_view, patterns_view, patterns_of, field_view, fields_view, fields_of}
 use Rattle.lalrpop_norm_tree.specs.Types.{type_view}
 use Rattle.lalrpop_norm_late.specs.Conversions.{mapped, mapped_patterns, mapped_field, mapped_fields}
 use Rattle.lalrpop_norm_late.specs.Typing.{lowered_type}

@@ -5,12 +5,12 @@ use Rattle.std.specs.BTreeMap.{insert_entry}
 use Rattle.std.specs.List.{list_any, AllByRecursion}
 use Rattle.std.specs.Map.{keys_of}
 use Rattle.std.proofs.lemmas.List.{map-append}
-use Rattle.lalrpop_norm_tree.specs.declared.attribute.Attribute.{Attribute}
-use Rattle.lalrpop_norm_tree.specs.declared.names.Span.{Span}
-use Rattle.lalrpop_norm_tree.specs.declared.names.TerminalString.{TerminalString}
-use Rattle.lalrpop_norm_tree.specs.Accessors.{is_known_name}
-use Rattle.lalrpop_norm_tree.specs.declared.attribute.AttributeArg.TheFolds.{fold_out-Attribute}
-use Rattle.lalrpop_norm_tree.specs.Attributes.{Argument, AttributeData, attribute, attribute_and, argument_step, attribute_step, argument_view, attribute_view, attributes_view}
+use Rattle.lalrpop_norm_parts.specs.declared.attribute.Attribute.{Attribute}
+use Rattle.lalrpop_norm_parts.specs.declared.names.Span.{Span}
+use Rattle.lalrpop_norm_parts.specs.declared.names.TerminalString.{TerminalString}
+use Rattle.lalrpop_norm_parts.specs.Accessors.{is_known_name}
+use Rattle.lalrpop_norm_parts.specs.declared.attribute.AttributeArg.TheFolds.{fold_out-Attribute}
+use Rattle.lalrpop_norm_parts.specs.Attributes.{Argument, AttributeData, attribute, attribute_and, argument_step, attribute_step, argument_view, attribute_view, attributes_view}
 use Rattle.lalrpop_norm_tree.specs.declared.symbol.Symbol.{Symbol}
 use Rattle.lalrpop_norm_tree.specs.declared.symbol.SymbolKind.TheFolds.{fold_out-Symbol}
 use Rattle.lalrpop_norm_tree.specs.Symbols.{Kind, Part, Parts, Call, Again, kind_step, expr_step, macro_step, repeat_step, symbol_step, at, kind_view, symbol_view}

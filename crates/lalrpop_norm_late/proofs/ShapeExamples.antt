@@ -4,18 +4,18 @@ use Rattle.std.specs.Prelude.{slice_get}
 use Rattle.std.proofs.lemmas.List.Elements.{All-nil, All-cons}
 use Rattle.lalrpop_norm_tree.specs.declared.items.MatchEntry.{MatchEntry}
 use Rattle.lalrpop_norm_tree.specs.declared.items.MatchMapping.TheVariants as mapping
-use Rattle.lalrpop_norm_tree.specs.declared.lowered.LrCodeGeneration.TheVariants.{TableDriven, TestAll}
-use Rattle.lalrpop_norm_tree.specs.declared.names.NonterminalString.{NonterminalString}
-use Rattle.lalrpop_norm_tree.specs.declared.names.Span.{Span}
-use Rattle.lalrpop_norm_tree.specs.declared.names.TerminalLiteral.TheVariants.{Quoted}
-use Rattle.lalrpop_norm_tree.specs.declared.names.TerminalString.{TerminalString}
-use Rattle.lalrpop_norm_tree.specs.declared.names.TerminalString.TheVariants.{Literal}
-use Rattle.lalrpop_norm_tree.specs.declared.names.TypeParameter.TheVariants as parameter
-use Rattle.lalrpop_norm_tree.specs.Attributes.{no_attributes, attribute_and, attribute, empty}
-use Rattle.lalrpop_norm_tree.specs.Bounds.{type_clause, trait_bound}
+use Rattle.lalrpop_norm_parts.specs.declared.lowered.LrCodeGeneration.TheVariants.{TableDriven, TestAll}
+use Rattle.lalrpop_norm_parts.specs.declared.names.NonterminalString.{NonterminalString}
+use Rattle.lalrpop_norm_parts.specs.declared.names.Span.{Span}
+use Rattle.lalrpop_norm_parts.specs.declared.names.TerminalLiteral.TheVariants.{Quoted}
+use Rattle.lalrpop_norm_parts.specs.declared.names.TerminalString.{TerminalString}
+use Rattle.lalrpop_norm_parts.specs.declared.names.TerminalString.TheVariants.{Literal}
+use Rattle.lalrpop_norm_parts.specs.declared.names.TypeParameter.TheVariants as parameter
+use Rattle.lalrpop_norm_parts.specs.Attributes.{no_attributes, attribute_and, attribute, empty}
+use Rattle.lalrpop_norm_parts.specs.Bounds.{type_clause, trait_bound}
 use Rattle.lalrpop_norm_tree.specs.Items.{AlternativeData, RuleData, everywhere}
-use Rattle.lalrpop_norm_tree.specs.Paths.{PathData}
-use Rattle.lalrpop_norm_tree.specs.Reprs.{ReprData, tuple, no_reprs, named_repr, for_all, has_bound}
+use Rattle.lalrpop_norm_parts.specs.Paths.{PathData}
+use Rattle.lalrpop_norm_parts.specs.Reprs.{ReprData, tuple, no_reprs, named_repr, for_all, has_bound}
 use Rattle.lalrpop_norm_tree.specs.Symbols.{terminal, at, no_parts, part_and}
 use Rattle.lalrpop_norm_tree.specs.Types as written
 use Rattle.lalrpop_norm_repr.specs.declared.symbol.Symbol.TheVariants.{Nonterminal, Terminal}

@@ -3,11 +3,11 @@ use Rattle.std.proofs.Common.{◌≡◌, ◌∙◌, ℕ, suc, ◌+◌, Bool, tru
 use Rattle.std.specs.Prelude.{replicate, nat_eq, nat_le}
 use Rattle.std.proofs.lemmas.Bool.Decides.{Decides-eqb}
 use Rattle.std.proofs.lemmas.List.{length-replicate}
-use Rattle.lalrpop_norm_tree.specs.declared.names.Span.{Span}
+use Rattle.lalrpop_norm_parts.specs.declared.names.Span.{Span}
 use Rattle.lalrpop_norm_tree.specs.Symbols.{Kind, chosen, named, tupled, Part, at, Parts, no_parts, part_and}
 use Rattle.lalrpop_norm_tree.specs.Items.{Action, user_code, fallible_code, lookahead_code, lookbehind_code, AlternativeData}
-use Rattle.lalrpop_norm_tree.specs.Reprs.{ReprData, tuple, slice, nominal, associated, of_lifetime, reference, trait_object, function, no_reprs, repr_and}
-use Rattle.lalrpop_norm_tree.specs.Texts.{joined}
+use Rattle.lalrpop_norm_parts.specs.Reprs.{ReprData, tuple, slice, nominal, associated, of_lifetime, reference, trait_object, function, no_reprs, repr_and}
+use Rattle.lalrpop_norm_parts.specs.Texts.{joined}
 use Rattle.lalrpop_norm_faults.specs.Faults.{Fault, fault_if}
 use Rattle.lalrpop_norm_faults.specs.declared.kind.FaultKind.TheVariants.{Placeholders}
 use Rattle.lalrpop_norm_late.specs.Slots.{count_faults}

@@ -1,10 +1,10 @@
 -- Where no symbol stands in a type, it is lowered as it is read.
 use Rattle.std.proofs.Common.{◌≡◌, ◌∙◌, Bool, false, cond, List, [], ◌∷◌, ◌++◌, map, Option, Some, None, refl, sym, ap, option_map, inl, inr}
 use Rattle.std.specs.Prelude.{flat_map, option_to_list}
-use Rattle.lalrpop_norm_tree.specs.Bounds.{BoundParameterData, lifetime_parameter, type_parameter, associated_type, BoundData, lifetime_bound, function_bound, trait_bound, WhereClauseData, lifetime_clause, type_clause}
+use Rattle.lalrpop_norm_parts.specs.Bounds.{BoundParameterData, lifetime_parameter, type_parameter, associated_type, BoundData, lifetime_bound, function_bound, trait_bound, WhereClauseData, lifetime_clause, type_clause}
 use Rattle.lalrpop_norm_tree.specs.LoweredTypes.{holds_symbol, repr_of}
-use Rattle.lalrpop_norm_tree.specs.Patterns.{PatternKindData, enumerated, structured, path, tuple, tuple_struct, number, underscore, dot_dot, chosen, character, text, PatternData, pattern_at, Patterns, no_patterns, pattern_and, Fields, no_fields, field_and}
-use Rattle.lalrpop_norm_tree.specs.Reprs.{has_bound}
+use Rattle.lalrpop_norm_parts.specs.Patterns.{PatternKindData, enumerated, structured, path, tuple, tuple_struct, number, underscore, dot_dot, chosen, character, text, PatternData, pattern_at, Patterns, no_patterns, pattern_and, Fields, no_fields, field_and}
+use Rattle.lalrpop_norm_parts.specs.Reprs.{has_bound}
 use Rattle.lalrpop_norm_tree.specs.Types.{TypeData, ParameterData}
 use Rattle.lalrpop_norm_theory.specs.Rounds.{In}
 use Rattle.lalrpop_norm_theory.proofs.RoundsLemmas.{in_left, in_right}

@@ -4,7 +4,8 @@ use Rattle.std.specs.Prelude.{◌≡◌, ℕ, Bool, true, ◌||◌, List, [], �
 use Rattle.std.specs.List.{list_any, enumerate_from}
 use Rattle.lalrpop_norm_front.specs.Braces.{around_slot}
 use Rattle.lalrpop_norm_tree.specs.Symbols.{ArgumentPattern, one_name, several, Kind, chosen, named, tupled, Part, at, Parts, no_parts, part_and}
-use Rattle.lalrpop_norm_tree.specs.Texts.{joined, tuple_text}
+use Rattle.lalrpop_norm_parts.specs.Texts.{joined}
+use Rattle.lalrpop_norm_tree.specs.SymbolTexts.{tuple_text}
 use Rattle.lalrpop_norm_late.specs.Sources.{is_chosen, source_name, plain_name}
 
 -- the symbols of an alternative

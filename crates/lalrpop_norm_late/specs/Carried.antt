@@ -4,18 +4,18 @@ use Rattle.std.specs.List.{list_any, enumerate_from}
 use Rattle.lalrpop_norm_tree.specs.declared.items.MatchEntry.{MatchEntry}
 use Rattle.lalrpop_norm_tree.specs.declared.items.MatchMapping.{MatchMapping}
 use Rattle.lalrpop_norm_tree.specs.declared.items.MatchMapping.TheVariants as mapping
-use Rattle.lalrpop_norm_tree.specs.declared.lowered.LrCodeGeneration.{LrCodeGeneration}
-use Rattle.lalrpop_norm_tree.specs.declared.lowered.LrCodeGeneration.TheVariants.{TableDriven}
-use Rattle.lalrpop_norm_tree.specs.declared.names.Span.{Span}
-use Rattle.lalrpop_norm_tree.specs.declared.names.TerminalString.{TerminalString}
-use Rattle.lalrpop_norm_tree.specs.declared.names.TypeParameter.{TypeParameter}
-use Rattle.lalrpop_norm_tree.specs.Accessors.{codegen_named}
-use Rattle.lalrpop_norm_tree.specs.Attributes.{Attributes, no_attributes, attribute_and, attribute}
-use Rattle.lalrpop_norm_tree.specs.Bounds.{BoundParameterData, lifetime_parameter, type_parameter, associated_type, BoundData, lifetime_bound, function_bound, trait_bound, WhereClauseData, lifetime_clause, type_clause}
+use Rattle.lalrpop_norm_parts.specs.declared.lowered.LrCodeGeneration.{LrCodeGeneration}
+use Rattle.lalrpop_norm_parts.specs.declared.lowered.LrCodeGeneration.TheVariants.{TableDriven}
+use Rattle.lalrpop_norm_parts.specs.declared.names.Span.{Span}
+use Rattle.lalrpop_norm_parts.specs.declared.names.TerminalString.{TerminalString}
+use Rattle.lalrpop_norm_parts.specs.declared.names.TypeParameter.{TypeParameter}
+use Rattle.lalrpop_norm_parts.specs.Accessors.{codegen_named}
+use Rattle.lalrpop_norm_parts.specs.Attributes.{Attributes, no_attributes, attribute_and, attribute}
+use Rattle.lalrpop_norm_parts.specs.Bounds.{BoundParameterData, lifetime_parameter, type_parameter, associated_type, BoundData, lifetime_bound, function_bound, trait_bound, WhereClauseData, lifetime_clause, type_clause}
 use Rattle.lalrpop_norm_tree.specs.Items.{ItemData, extern_item, intern_item, use_item, RuleData, GrammarData}
 use Rattle.lalrpop_norm_tree.specs.LoweredTypes.{repr_of, named_path}
-use Rattle.lalrpop_norm_tree.specs.Patterns.{PatternData, pattern_at, tuple_struct, pattern_and, no_patterns, number, chosen as chosen_type}
-use Rattle.lalrpop_norm_tree.specs.Reprs.{ReprData, of_lifetime, reference, named_repr, LoweredClause, for_all, has_bound}
+use Rattle.lalrpop_norm_parts.specs.Patterns.{PatternData, pattern_at, tuple_struct, pattern_and, no_patterns, number, chosen as chosen_type}
+use Rattle.lalrpop_norm_parts.specs.Reprs.{ReprData, of_lifetime, reference, named_repr, LoweredClause, for_all, has_bound}
 use Rattle.lalrpop_norm_tree.specs.Symbols.{Kind, group, ambiguous_id, terminal, nonterminal, call, repeated, chosen, named, tupled, lookahead, lookbehind, error_terminal, Part, at, Parts, no_parts, part_and}
 use Rattle.lalrpop_norm_tree.specs.Types.{TypeData, ParameterData}
 use Rattle.lalrpop_norm_repr.specs.Lowered.{LoweredParameter}

@@ -1,7 +1,7 @@
 -- The code of an action.
 use Rattle.std.specs.Prelude.{ℕ, List, [], ◌∷◌, Option, Some, None, codes}
 use Rattle.lalrpop_norm_tree.specs.Items.{Action, user_code, fallible_code, lookahead_code, lookbehind_code}
-use Rattle.lalrpop_norm_tree.specs.Reprs.{ReprData, tuple, no_reprs}
+use Rattle.lalrpop_norm_parts.specs.Reprs.{ReprData, tuple, no_reprs}
 
 -- `<>` for one source, else `(<>)`
 abbrev pub sources_code : List (List ℕ) → List ℕ

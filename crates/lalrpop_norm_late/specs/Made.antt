@@ -3,15 +3,15 @@ use Rattle.std.specs.Prelude.{◌≡◌, ℕ, ◌+◌, Bool, List, [], ◌∷◌
 use Rattle.std.specs.List.Sorted.{IsStrictlySortedBy}
 use Rattle.std.specs.Map.{keys_of}
 use Rattle.lalrpop_norm_tree.specs.declared.items.MatchEntry.{MatchEntry}
-use Rattle.lalrpop_norm_tree.specs.declared.names.NonterminalString.{NonterminalString}
-use Rattle.lalrpop_norm_tree.specs.declared.names.Span.{Span}
-use Rattle.lalrpop_norm_tree.specs.declared.names.TerminalString.{TerminalString}
-use Rattle.lalrpop_norm_tree.specs.declared.names.TerminalString.TheVariants as terminal_string
+use Rattle.lalrpop_norm_parts.specs.declared.names.NonterminalString.{NonterminalString}
+use Rattle.lalrpop_norm_parts.specs.declared.names.Span.{Span}
+use Rattle.lalrpop_norm_parts.specs.declared.names.TerminalString.{TerminalString}
+use Rattle.lalrpop_norm_parts.specs.declared.names.TerminalString.TheVariants as terminal_string
 use Rattle.lalrpop_norm_tree.specs.Accessors.{first_of, intern_token_of}
-use Rattle.lalrpop_norm_tree.specs.Bounds.{BoundParameterData, lifetime_parameter, type_parameter, associated_type, BoundData, lifetime_bound, function_bound, trait_bound, WhereClauseData, lifetime_clause, type_clause}
+use Rattle.lalrpop_norm_parts.specs.Bounds.{BoundParameterData, lifetime_parameter, type_parameter, associated_type, BoundData, lifetime_bound, function_bound, trait_bound, WhereClauseData, lifetime_clause, type_clause}
 use Rattle.lalrpop_norm_tree.specs.Items.{Action, user_code, fallible_code, lookahead_code, lookbehind_code, AlternativeData, RuleData, ConversionData, ItemData, match_item, extern_item, intern_item, rule_item, use_item, GrammarData}
-use Rattle.lalrpop_norm_tree.specs.Patterns.{PatternData}
-use Rattle.lalrpop_norm_tree.specs.Reprs.{ReprData, of_lifetime, LoweredClause, has_bound}
+use Rattle.lalrpop_norm_parts.specs.Patterns.{PatternData}
+use Rattle.lalrpop_norm_parts.specs.Reprs.{ReprData, of_lifetime, LoweredClause, has_bound}
 use Rattle.lalrpop_norm_tree.specs.Types.{TypeData, ParameterData}
 use Rattle.lalrpop_norm_faults.specs.Faults.{Fault}
 use Rattle.lalrpop_norm_model.specs.Features.{Features, is_active}

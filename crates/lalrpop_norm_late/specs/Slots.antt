@@ -1,13 +1,13 @@
 -- Codes cut at their `<>`, and with their `<>` replaced.
 use Rattle.std.specs.Prelude.{ℕ, Bool, true, false, not, ◌||◌, List, [], ◌∷◌, ◌++◌, length, drop, flat_map, zip, nat_eq, nat_le, if◌then◌else◌, codes}
 use Rattle.lalrpop_norm_front.specs.Braces.{is_slot}
-use Rattle.lalrpop_norm_tree.specs.declared.names.Span.{Span}
+use Rattle.lalrpop_norm_parts.specs.declared.names.Span.{Span}
 use Rattle.lalrpop_norm_faults.specs.Faults.{Fault, fault_if}
 use Rattle.lalrpop_norm_faults.specs.declared.kind.FaultKind.TheVariants.{Placeholders}
 use Rattle.lalrpop_norm_model.specs.LoweringFaults.{slots, span_over}
 use Rattle.lalrpop_norm_model.specs.MadeRules.{span_of}
 use Rattle.lalrpop_norm_model.specs.Sources.{Source}
-use Rattle.lalrpop_norm_tree.specs.Texts.{joined}
+use Rattle.lalrpop_norm_parts.specs.Texts.{joined}
 
 -- what stands before the first `<>`, and what stands behind each
 abbrev pub Cut : Type 0

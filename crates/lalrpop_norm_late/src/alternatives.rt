@@ -2,7 +2,7 @@
 ghost use Rattle.std.specs.Prelude.{◌≡◌, ◌+◌, ◌++◌, [], ◌∷◌, length, IfOk, OnOk, map, vec_len};
 ghost use Rattle.lalrpop_norm_faults.specs.Faults.{Refuses};
 ghost use Rattle.lalrpop_norm_tree.specs.Items.{alternative_view};
-ghost use Rattle.lalrpop_norm_tree.specs.Reprs.{repr_view};
+ghost use Rattle.lalrpop_norm_parts.specs.Reprs.{repr_view};
 ghost use Rattle.lalrpop_norm_model.specs.LoweringFaults.{code_faults, number_faults};
 ghost use Rattle.lalrpop_norm_repr.specs.Actions.{action_defn_view};
 ghost use Rattle.lalrpop_norm_repr.specs.Productions.{production_view};

@@ -1,7 +1,7 @@
 //! What the actions of alternatives do.
 ghost use Rattle.std.specs.Prelude.{◌≡◌, [], IfOk, map, option_map};
 ghost use Rattle.lalrpop_norm_tree.specs.Items.{action_view, alternative_view};
-ghost use Rattle.lalrpop_norm_tree.specs.Reprs.{repr_view};
+ghost use Rattle.lalrpop_norm_parts.specs.Reprs.{repr_view};
 ghost use Rattle.lalrpop_norm_tree.specs.Symbols.{expr_view};
 ghost use Rattle.lalrpop_norm_model.specs.LoweringFaults.{code_faults};
 ghost use Rattle.lalrpop_norm_repr.specs.Actions.{action_defn_view, action_kind_view};

@@ -1,7 +1,7 @@
 //! Where clauses, one for each bound.
 ghost use Rattle.std.specs.Prelude.{◌≡◌, ◌++◌, [], ◌∷◌, IfOk, OnOk, flat_map, map, option_map};
-ghost use Rattle.lalrpop_norm_tree.specs.Bounds.{bound_parameter_view, bound_view, lifetime_bound, where_clause_view};
-ghost use Rattle.lalrpop_norm_tree.specs.Reprs.{repr_view, lowered_where_clause_view, of_lifetime, has_bound};
+ghost use Rattle.lalrpop_norm_parts.specs.Bounds.{bound_parameter_view, bound_view, lifetime_bound, where_clause_view};
+ghost use Rattle.lalrpop_norm_parts.specs.Reprs.{repr_view, lowered_where_clause_view, of_lifetime, has_bound};
 ghost use Rattle.lalrpop_norm_tree.specs.Types.{type_view};
 ghost use Rattle.lalrpop_norm_late.specs.Carried.{under};
 ghost use Rattle.lalrpop_norm_late.specs.Made.{made_bound, made_bound_parameter, made_clauses};

@@ -1,7 +1,7 @@
 //! What stands at the head of a lowered grammar.
 ghost use Rattle.std.specs.Prelude.{◌≡◌, IfOk, IsTrue, All, flat_map, filter_map, map, option_map, string_bytes, true};
 ghost use Rattle.lalrpop_norm_tree.specs.Accessors.{first_of, intern_token_of};
-ghost use Rattle.lalrpop_norm_tree.specs.Attributes.{attributes_view};
+ghost use Rattle.lalrpop_norm_parts.specs.Attributes.{attributes_view};
 ghost use Rattle.lalrpop_norm_tree.specs.Items.{intern_token_view, item_view};
 ghost use Rattle.lalrpop_norm_tree.specs.Types.{parameter_view};
 ghost use Rattle.lalrpop_norm_model.specs.Expanded.{all_known};

@@ -3,7 +3,7 @@ ghost use Rattle.std.specs.Prelude.{◌≡◌, ◌+◌, ◌||◌, nat_le, ◌++�
 ghost use Rattle.lalrpop_norm_faults.specs.Faults.{Refuses};
 ghost use Rattle.lalrpop_norm_tree.specs.Items.{action_view, alternative_view};
 ghost use Rattle.lalrpop_norm_tree.specs.Symbols.{symbol_view};
-ghost use Rattle.lalrpop_norm_tree.specs.Texts.{joined};
+ghost use Rattle.lalrpop_norm_parts.specs.Texts.{joined};
 ghost use Rattle.lalrpop_norm_model.specs.LoweringFaults.{slots, code_in, code_faults, span_over};
 ghost use Rattle.lalrpop_norm_late.specs.Arguments.{in_slots};
 ghost use Rattle.lalrpop_norm_late.specs.Slots.{pieces, in_order, filled, count_faults, end_of};

@@ -1,7 +1,7 @@
 //! The tables of terminals: their numbers, and their patterns.
 ghost use Rattle.std.specs.Prelude.{◌≡◌, [], IfOk, OnOk};
-ghost use Rattle.lalrpop_norm_tree.specs.Patterns.{pattern_view};
-ghost use Rattle.lalrpop_norm_tree.specs.Reprs.{repr_view};
+ghost use Rattle.lalrpop_norm_parts.specs.Patterns.{pattern_view};
+ghost use Rattle.lalrpop_norm_parts.specs.Reprs.{repr_view};
 ghost use Rattle.lalrpop_norm_repr.specs.Tables.{rows};
 ghost use Rattle.lalrpop_norm_late.specs.Conversions.{sorted_terminals, numbered, terminal_cmp};
 ghost use Rattle.std.specs.BTreeMap.{insert_entry};

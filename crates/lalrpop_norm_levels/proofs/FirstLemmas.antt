@@ -1,7 +1,7 @@
 -- What the first alternative tells of the levels of a rule.
 use Rattle.std.proofs.Common.{◌≡◌, List, [], ◌∷◌, ◌++◌, Option, Some, None, Bool, true, false, ◌&&◌, ◌||◌, map, refl}
 use Rattle.std.specs.Prelude.{flat_map, is_some, is_none, codes}
-use Rattle.lalrpop_norm_tree.specs.Attributes.{AttributeData}
+use Rattle.lalrpop_norm_parts.specs.Attributes.{AttributeData}
 use Rattle.lalrpop_norm_tree.specs.Items.{AlternativeData, RuleData}
 use Rattle.lalrpop_norm_faults.specs.declared.kind.FaultKind.TheVariants.{MissingLevel}
 use Rattle.lalrpop_norm_faults.specs.Faults.{Fault, fault_if}

@@ -1,8 +1,8 @@
 -- Kinds by sides, and attributes taken away.
 use Rattle.std.proofs.Common.{◌≡◌, ℕ, zero, suc, ◌+◌, List, [], ◌∷◌, cond, bytes_eq, ◌&&◌, Bool, true, false, Option, refl, sym, ap, ap₂, ◌∙◌, arith}
 use Rattle.std.specs.Prelude.{unwrap_or, if◌then◌else◌}
-use Rattle.lalrpop_norm_tree.specs.declared.attribute.Attribute.{Attribute}
-use Rattle.lalrpop_norm_tree.specs.Attributes.{attribute_view, attributes_view, attribute_and}
+use Rattle.lalrpop_norm_parts.specs.declared.attribute.Attribute.{Attribute}
+use Rattle.lalrpop_norm_parts.specs.Attributes.{attribute_view, attributes_view, attribute_and}
 use Rattle.lalrpop_norm_tree.specs.Symbols.{Kind, Part, Parts, group, ambiguous_id, terminal, nonterminal, call, repeated, chosen, named, tupled, lookahead, lookbehind, error_terminal, at, part_and, no_parts}
 use Rattle.lalrpop_norm_tree.specs.Items.{RuleData}
 use Rattle.lalrpop_norm_model.specs.Levels.{Side, left, right, neither, every, is_named}

@@ -1,7 +1,7 @@
 -- Faults of the levels of a rule, in the order of looking. Disabled alternatives are not in the rule that is looked at.
 use Rattle.std.specs.Prelude.{ℕ, ◌^◌, Bool, true, false, ◌&&◌, ◌||◌, List, [], ◌∷◌, ◌++◌, length, map, flat_map, Option, Some, None, unwrap_or, is_some, is_none, nat_lt, nat_eq, codes, if◌then◌else◌}
-use Rattle.lalrpop_norm_tree.specs.declared.names.Span.{Span}
-use Rattle.lalrpop_norm_tree.specs.Attributes.{AttributeData, attribute}
+use Rattle.lalrpop_norm_parts.specs.declared.names.Span.{Span}
+use Rattle.lalrpop_norm_parts.specs.Attributes.{AttributeData, attribute}
 use Rattle.lalrpop_norm_tree.specs.Items.{AlternativeData, RuleData, ItemData, GrammarData, match_item, extern_item, intern_item, rule_item, use_item}
 use Rattle.lalrpop_norm_faults.specs.declared.kind.FaultKind.TheVariants.{MissingLevel, LevelArgument, LevelNumber, SideArgument, Side, SideOnLowest}
 use Rattle.lalrpop_norm_faults.specs.Faults.{Fault, fault_if}

@@ -1,7 +1,7 @@
 -- The rules of levels as they are made, one after another.
 use Rattle.std.specs.Prelude.{ℕ, false, List, [], ◌∷◌, ◌++◌, map, Option, Some, None, unwrap_or, codes, if◌then◌else◌}
-use Rattle.lalrpop_norm_tree.specs.declared.attribute.Attribute.{Attribute}
-use Rattle.lalrpop_norm_tree.specs.Attributes.{Attributes, attribute_view}
+use Rattle.lalrpop_norm_parts.specs.declared.attribute.Attribute.{Attribute}
+use Rattle.lalrpop_norm_parts.specs.Attributes.{Attributes, attribute_view}
 use Rattle.lalrpop_norm_tree.specs.Symbols.{Kind, nonterminal}
 use Rattle.lalrpop_norm_tree.specs.Items.{AlternativeData, RuleData}
 use Rattle.lalrpop_norm_model.specs.Levels.{Side, left, right, neither, every, Leveled, is_named, greatest}

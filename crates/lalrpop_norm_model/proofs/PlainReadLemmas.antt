@@ -7,7 +7,7 @@ use Rattle.lalrpop_norm_tree.specs.declared.symbol.RepeatOp.TheVariants.{Star, P
 use Rattle.lalrpop_norm_tree.specs.Symbols as written
 use Rattle.lalrpop_norm_tree.specs.Symbols.{Kind, Part, Parts, at, no_parts, part_and}
 use Rattle.lalrpop_norm_tree.specs.Items.{AlternativeData, RuleData, GrammarData}
-use Rattle.lalrpop_norm_tree.specs.Texts.{kind_text}
+use Rattle.lalrpop_norm_tree.specs.SymbolTexts.{kind_text}
 use Rattle.lalrpop_norm_theory.specs.Symbols.{Name, ClosedSymbol, ClosedSymbols, terminal, error, reference, call, group, star, plus, question, wrapped, lookahead, lookbehind, no_symbols, symbol_and}
 use Rattle.lalrpop_norm_theory.specs.Rounds.{In}
 use Rattle.lalrpop_norm_theory.specs.Meaning.{Meaning}

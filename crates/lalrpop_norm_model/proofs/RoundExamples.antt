@@ -3,10 +3,10 @@ use Rattle.std.proofs.Common.{◌≡◌, ℕ, List, [], ◌∷◌, refl}
 use Rattle.std.specs.Prelude.{true, false, codes, length, map}
 use Rattle.std.specs.Str.{chars}
 use lib.Utf8.{encode}
-use Rattle.lalrpop_norm_tree.specs.declared.names.TerminalString.TheVariants.{Error}
+use Rattle.lalrpop_norm_parts.specs.declared.names.TerminalString.TheVariants.{Error}
 use Rattle.lalrpop_norm_tree.specs.Symbols.{Kind, Part, group, terminal, call, chosen, lookahead, lookbehind, error_terminal, at, parts_of}
 use Rattle.lalrpop_norm_tree.specs.Items.{RuleData, GrammarData}
-use Rattle.lalrpop_norm_tree.specs.Texts.{kind_text}
+use Rattle.lalrpop_norm_tree.specs.SymbolTexts.{kind_text}
 use Rattle.lalrpop_norm_model.specs.MadeRules.{kind_of}
 use Rattle.lalrpop_norm_model.specs.PlainRules.{met, same_apart_from_spans, expansion_round, made_symbols, made_in, IsWhole}
 use Rattle.lalrpop_norm_model.proofs.ExampleWords.{span, literal, name, starred, plussed, optional, name_before, alternative, rule, macro_rule, rules_alone, example_value}

@@ -1,11 +1,11 @@
 -- The test of two lowered types says whether they are equal.
 use Rattle.std.proofs.Common.{◌≡◌, ℕ, Bool, true, false, ◌&&◌, List, [], ◌∷◌, Option, Some, None, bytes_eq, Decides, refl, ap, ap₂}
 use Rattle.std.proofs.lemmas.Slice.Eq.{bytes_eq-Decides}
-use Rattle.lalrpop_norm_tree.specs.declared.names.Lifetime.{Lifetime}
-use Rattle.lalrpop_norm_tree.specs.declared.names.TypeParameter.{TypeParameter}
-use Rattle.lalrpop_norm_tree.specs.declared.names.TypeParameter.TheVariants as parameter
-use Rattle.lalrpop_norm_tree.specs.Paths.{PathData}
-use Rattle.lalrpop_norm_tree.specs.Reprs.{ReprData, Reprs, MaybeRepr, tuple, slice, nominal, associated, of_lifetime, reference, trait_object, function, no_reprs, repr_and, no_repr, returns}
+use Rattle.lalrpop_norm_parts.specs.declared.names.Lifetime.{Lifetime}
+use Rattle.lalrpop_norm_parts.specs.declared.names.TypeParameter.{TypeParameter}
+use Rattle.lalrpop_norm_parts.specs.declared.names.TypeParameter.TheVariants as parameter
+use Rattle.lalrpop_norm_parts.specs.Paths.{PathData}
+use Rattle.lalrpop_norm_parts.specs.Reprs.{ReprData, Reprs, MaybeRepr, tuple, slice, nominal, associated, of_lifetime, reference, trait_object, function, no_reprs, repr_and, no_repr, returns}
 use Rattle.lalrpop_norm_model.specs.SameTypes.{same_flag, same_lifetime, same_parameter, all_same, same_path, same_type, same_types, same_return}
 
 -- ---- small parts

@@ -13,7 +13,7 @@ use Rattle.lalrpop_norm_tree.specs.Symbols.{Kind, Part, Parts}
 use Rattle.lalrpop_norm_theory.specs.LoweredTrees.{LoweredGrammar}
 use Rattle.lalrpop_norm_theory.specs.Tables.{Realizes}
 use Rattle.lalrpop_norm_theory.specs.Laws.{PairsInTwoSteps}
-use Rattle.lalrpop_norm_tree.specs.Texts.{kind_text}
+use Rattle.lalrpop_norm_tree.specs.SymbolTexts.{kind_text}
 use Rattle.lalrpop_norm_model.specs.WrittenRules.{WrittenRule, leveled_rule, rule_named, written_rules, leveled_rules, flat_rules}
 use Rattle.lalrpop_norm_model.specs.Grammars.{ConditionValue, is_nil, is_macro, fits, rule_reader, macro_reader, meaning, references, roots}
 use Rattle.lalrpop_norm_model.specs.Scoped.{is_scoped, are_scoped, NamesAreScoped, IsScoped}

@@ -1,6 +1,6 @@
 -- Symbols that are made into rules, replaced by the names of these.
 use Rattle.lalrpop_norm_tree.specs.Symbols.{Kind, Part, Parts, group, ambiguous_id, terminal, nonterminal, call, repeated, chosen, named, tupled, lookahead, lookbehind, error_terminal, at, no_parts, part_and}
-use Rattle.lalrpop_norm_tree.specs.Texts.{kind_text}
+use Rattle.lalrpop_norm_tree.specs.SymbolTexts.{kind_text}
 
 -- a symbol that is made into a rule as the nonterminal of its text; any other with its parts replaced
 abbrev mutual

@@ -1,17 +1,17 @@
 -- The types that rules have: the least relation that declared types and default alternatives keep.
 use Rattle.std.specs.Prelude.{filter_map, ◌≡◌, ℕ, Bool, true, false, ◌||◌, List, [], ◌∷◌, ◌++◌, Option, Some, None, bytes_eq, if◌then◌else◌}
-use Rattle.lalrpop_norm_tree.specs.declared.names.Lifetime.{Lifetime}
-use Rattle.lalrpop_norm_tree.specs.declared.names.TerminalString.{TerminalString}
-use Rattle.lalrpop_norm_tree.specs.declared.names.TypeParameter.{TypeParameter}
-use Rattle.lalrpop_norm_tree.specs.declared.names.TypeParameter.TheVariants as parameter
+use Rattle.lalrpop_norm_parts.specs.declared.names.Lifetime.{Lifetime}
+use Rattle.lalrpop_norm_parts.specs.declared.names.TerminalString.{TerminalString}
+use Rattle.lalrpop_norm_parts.specs.declared.names.TypeParameter.{TypeParameter}
+use Rattle.lalrpop_norm_parts.specs.declared.names.TypeParameter.TheVariants as parameter
 use Rattle.lalrpop_norm_tree.specs.declared.symbol.Name.{Name}
-use Rattle.lalrpop_norm_tree.specs.declared.names.Span.{Span}
+use Rattle.lalrpop_norm_parts.specs.declared.names.Span.{Span}
 use Rattle.lalrpop_norm_tree.specs.Accessors.{is_public}
 use Rattle.lalrpop_norm_tree.specs.Items.{AlternativeData, RuleData, GrammarData}
 use Rattle.lalrpop_norm_tree.specs.LoweredTypes.{named_path}
-use Rattle.lalrpop_norm_tree.specs.Paths.{PathData}
-use Rattle.lalrpop_norm_tree.specs.Reprs as lowered
-use Rattle.lalrpop_norm_tree.specs.Reprs.{ReprData, Reprs, MaybeRepr}
+use Rattle.lalrpop_norm_parts.specs.Paths.{PathData}
+use Rattle.lalrpop_norm_parts.specs.Reprs as lowered
+use Rattle.lalrpop_norm_parts.specs.Reprs.{ReprData, Reprs, MaybeRepr}
 use Rattle.lalrpop_norm_tree.specs.Symbols.{Kind, terminal, nonterminal, chosen, named, tupled, error_terminal, at, ArgumentPatterns}
 use Rattle.lalrpop_norm_tree.specs.Types.{TypeData, TypesData, MaybeType, tuple, slice, nominal, reference, trait_object, of_lifetime, id, of_symbol, function, no_types, type_and, no_type, returns}
 use Rattle.lalrpop_norm_theory.specs.Rounds.{In}

@@ -1,14 +1,14 @@
 -- What a path with its arguments is seen as.
 use Rattle.std.proofs.Common.{◌≡◌, ap, sym, refl, ◌∙◌, Vec, Global}
-use Rattle.lalrpop_norm_tree.specs.declared.path.Path.{Path}
-use Rattle.lalrpop_norm_tree.specs.declared.lowered.TypeRepr.{TypeRepr}
-use Rattle.lalrpop_norm_tree.specs.declared.lowered.NominalTypeRepr.{NominalTypeRepr}
-use Rattle.lalrpop_norm_tree.specs.declared.lowered.TypeRepr.TheVariants as variant
-use Rattle.lalrpop_norm_tree.specs.declared.lowered.TypeRepr.TheOpen.{TypeRepr-F}
-use Rattle.lalrpop_norm_tree.specs.declared.lowered.TypeRepr.TheViews.{rolls-Nominal, roll-NominalTypeRepr}
-use Rattle.lalrpop_norm_tree.specs.declared.lowered.TypeRepr.TheFolds.{fold-roll-TypeRepr, fold-roll-NominalTypeRepr}
-use Rattle.lalrpop_norm_tree.specs.Paths.{PathData, path_view}
-use Rattle.lalrpop_norm_tree.specs.Reprs.{ReprData, Reprs, Applied, nominal, repr_step, applied_step, repr_view, applied_view, reprs_view}
+use Rattle.lalrpop_norm_parts.specs.declared.path.Path.{Path}
+use Rattle.lalrpop_norm_parts.specs.declared.lowered.TypeRepr.{TypeRepr}
+use Rattle.lalrpop_norm_parts.specs.declared.lowered.NominalTypeRepr.{NominalTypeRepr}
+use Rattle.lalrpop_norm_parts.specs.declared.lowered.TypeRepr.TheVariants as variant
+use Rattle.lalrpop_norm_parts.specs.declared.lowered.TypeRepr.TheOpen.{TypeRepr-F}
+use Rattle.lalrpop_norm_parts.specs.declared.lowered.TypeRepr.TheViews.{rolls-Nominal, roll-NominalTypeRepr}
+use Rattle.lalrpop_norm_parts.specs.declared.lowered.TypeRepr.TheFolds.{fold-roll-TypeRepr, fold-roll-NominalTypeRepr}
+use Rattle.lalrpop_norm_parts.specs.Paths.{PathData, path_view}
+use Rattle.lalrpop_norm_parts.specs.Reprs.{ReprData, Reprs, Applied, nominal, repr_step, applied_step, repr_view, applied_view, reprs_view}
 
 view_nominal : (n : NominalTypeRepr) → repr_view (variant.Nominal n) ≡ nominal (applied_view n).0 (applied_view n).1
 view_nominal n = ap repr_view (sym (rolls-Nominal n)) ∙ fold-roll-TypeRepr ReprData Applied repr_step applied_step (TypeRepr-F.Nominal n)

@@ -1,11 +1,4 @@
 pub mod TextLemmas
-pub mod BoundLemmas
-pub mod BoundViews
 pub mod FirstLemmas
-pub mod LoweredTextLemmas
-pub mod PatternLemmas
-pub mod PatternViews
-pub mod ReprTextLemmas
-pub mod ReprViews
 pub mod TypeLemmas
 pub mod WrittenTextLemmas

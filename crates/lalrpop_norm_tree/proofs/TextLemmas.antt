@@ -5,7 +5,8 @@ use Rattle.std.specs.List.{flat_map}
 use Rattle.lalrpop_norm_tree.specs.declared.symbol.Symbol.{Symbol}
 use Rattle.lalrpop_norm_tree.specs.declared.symbol.ArgPattern.{ArgPattern}
 use Rattle.lalrpop_norm_tree.specs.Symbols.{symbol_view, parts_view, argument_pattern_view, argument_patterns_view}
-use Rattle.lalrpop_norm_tree.specs.Texts.{part_text, part_texts, argument_pattern_text, argument_pattern_texts, joined}
+use Rattle.lalrpop_norm_parts.specs.Texts.{joined}
+use Rattle.lalrpop_norm_tree.specs.SymbolTexts.{part_text, part_texts, argument_pattern_text, argument_pattern_texts}
 
 pub texts_of_symbols : (separator : List ℕ) (ss : List Symbol) → flat_map (λ s. separator ++ part_text (symbol_view s)) ss ≡ flat_map (λ u. separator ++ u) (part_texts (parts_view ss))
 texts_of_symbols separator [] = refl
@@ -14,10 +15,6 @@ texts_of_symbols separator (s ∷ ss) = ap (λ t. (separator ++ part_text (symbo
 pub texts_of_patterns : (separator : List ℕ) (ps : List ArgPattern) → flat_map (λ p. separator ++ argument_pattern_text (argument_pattern_view p)) ps ≡ flat_map (λ u. separator ++ u) (argument_pattern_texts (argument_patterns_view ps))
 texts_of_patterns separator [] = refl
 texts_of_patterns separator (p ∷ ps) = ap (λ t. (separator ++ argument_pattern_text (argument_pattern_view p)) ++ t) (texts_of_patterns separator ps)
-
-pub map_same : {A : Type 0} (xs : List A) → map (λ x. x) xs ≡ xs
-map_same [] = refl
-map_same (x ∷ xs) = ap (λ ys. x ∷ ys) (map_same xs)
 
 -- the first symbol's text, and then the others'
 pub joined_symbols : (separator : List ℕ) (ss : List Symbol) (s : Symbol) (others : List Symbol) (i : ℕ) → ss ≡ s ∷ others → length others ≤ i

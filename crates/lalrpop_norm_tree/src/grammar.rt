@@ -2,33 +2,35 @@
 
 /// What a parser of grammars makes: items, rules, symbols, types.
 pub mod parse_tree {
-    pub use crate::attribute::algorithm::{is_known_attribute, read_algorithm};
-    pub use crate::attribute::{Attribute, AttributeArg};
-    pub use crate::bound::{TypeBound, TypeBoundParameter, WhereClause};
     pub use crate::items::{
         ActionKind, Alternative, AssociatedType, Condition, ConditionOp, Conversion, Dfa,
         EnumToken, ExternToken, Grammar, GrammarItem, InternToken, MatchContents, MatchEntry,
         MatchItem, MatchMapping, MatchSymbol, MatchToken, NonterminalData, Visibility,
     };
-    pub use crate::names::{
-        Lifetime, NonterminalString, Span, TerminalLiteral, TerminalString, TypeParameter,
-    };
-    pub use crate::path::Path;
     pub use crate::symbol::{
         ArgPattern, ExprSymbol, MacroSymbol, Name, RepeatOp, RepeatSymbol, Symbol, SymbolKind,
         Tuple,
     };
     pub use crate::types::repr::TypeReprError;
     pub use crate::types::{Parameter, TypeRef};
+    pub use lalrpop_norm_parts::attribute::algorithm::{is_known_attribute, read_algorithm};
+    pub use lalrpop_norm_parts::attribute::{Attribute, AttributeArg};
+    pub use lalrpop_norm_parts::bound::{TypeBound, TypeBoundParameter, WhereClause};
+    pub use lalrpop_norm_parts::names::{
+        Lifetime, NonterminalString, Span, TerminalLiteral, TerminalString, TypeParameter,
+    };
+    pub use lalrpop_norm_parts::path::Path;
     pub use shared_text::{Atom, NoMemory};
 }
 
 /// Patterns of conversions.
 pub mod pattern {
-    pub use crate::pattern::{FieldPattern, Pattern, PatternKind};
+    pub use lalrpop_norm_parts::pattern::{FieldPattern, Pattern, PatternKind};
 }
 
 /// The types of lowered grammars that stand on no table.
 pub mod repr {
-    pub use crate::lowered::{Algorithm, LrCodeGeneration, NominalTypeRepr, TypeRepr, WhereClause};
+    pub use lalrpop_norm_parts::lowered::{
+        Algorithm, LrCodeGeneration, NominalTypeRepr, TypeRepr, WhereClause,
+    };
 }

@@ -1,19 +1,21 @@
 //! A grammar and its items.
 ghost use Rattle.std.specs.Prelude.{Some};
-ghost use Rattle.lalrpop_norm_tree.specs.Texts.{mapping_text};
+ghost use Rattle.lalrpop_norm_tree.specs.SymbolTexts.{mapping_text};
 
 mod accessors;
 mod copy;
 mod copy_grammar;
 mod show;
 
-use crate::attribute::Attribute;
-use crate::bound::WhereClause;
-use crate::names::{NonterminalString, Span, TerminalLiteral, TerminalString, TypeParameter};
-use crate::path::Path;
-use crate::pattern::Pattern;
 use crate::symbol::ExprSymbol;
 use crate::types::{Parameter, TypeRef};
+use lalrpop_norm_parts::attribute::Attribute;
+use lalrpop_norm_parts::bound::WhereClause;
+use lalrpop_norm_parts::names::{
+    NonterminalString, Span, TerminalLiteral, TerminalString, TypeParameter,
+};
+use lalrpop_norm_parts::path::Path;
+use lalrpop_norm_parts::pattern::Pattern;
 use shared_text::Atom;
 use std::fmt;
 

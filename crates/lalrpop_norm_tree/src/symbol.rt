@@ -3,7 +3,7 @@ mod accessors;
 mod copy;
 mod show;
 
-use crate::names::{NonterminalString, Span, TerminalString};
+use lalrpop_norm_parts::names::{NonterminalString, Span, TerminalString};
 use shared_text::Atom;
 
 /// A name that code gives a value, as `x` or `mut x`.

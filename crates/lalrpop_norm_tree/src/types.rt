@@ -3,9 +3,9 @@ pub(crate) mod copy;
 pub(crate) mod repr;
 mod show;
 
-use crate::names::{Lifetime, TypeParameter};
-use crate::path::Path;
 use crate::symbol::SymbolKind;
+use lalrpop_norm_parts::names::{Lifetime, TypeParameter};
+use lalrpop_norm_parts::path::Path;
 use shared_text::Atom;
 
 /// A Rust type as a grammar writes it.

@@ -2,14 +2,14 @@
 use Rattle.std.proofs.Common.{◌≡◌, ◌<◌, ◌+◌, ℕ, suc, true, false, List, [], ◌∷◌, ◌++◌, length, drop, get_or, refl, sym, ap, ◌∙◌, arith}
 use Rattle.std.specs.List.{flat_map}
 use Rattle.std.proofs.lemmas.List.{map-append, at_drop_more}
-use Rattle.lalrpop_norm_tree.specs.declared.names.Span.{Span}
-use Rattle.lalrpop_norm_tree.specs.declared.lowered.TypeRepr.{TypeRepr}
+use Rattle.lalrpop_norm_parts.specs.declared.names.Span.{Span}
+use Rattle.lalrpop_norm_parts.specs.declared.lowered.TypeRepr.{TypeRepr}
 use Rattle.lalrpop_norm_tree.specs.declared.symbol.ArgPattern.{ArgPattern}
 use Rattle.lalrpop_norm_tree.specs.declared.symbol.ArgPattern.TheFolds.{fold_out-Tuple}
 use Rattle.lalrpop_norm_tree.specs.declared.symbol.Symbol.{Symbol}
 use Rattle.lalrpop_norm_tree.specs.declared.symbol.Tuple.{Tuple}
 use Rattle.lalrpop_norm_tree.specs.declared.symbol.SymbolKind.TheFolds.{fold_out-Symbol}
-use Rattle.lalrpop_norm_tree.specs.Reprs.{reprs_view, repr_view}
+use Rattle.lalrpop_norm_parts.specs.Reprs.{reprs_view, repr_view}
 use Rattle.lalrpop_norm_tree.specs.Symbols.{ArgumentPattern, ArgumentPatterns, argument_pattern_step, tuple_step, tuple_view, Call, Again, kind_step, expr_step, macro_step, repeat_step, symbol_step, kind_view, parts_view, Kind, Part, Parts, group, ambiguous_id, terminal, nonterminal, call, repeated, chosen, named, tupled, lookahead, lookbehind, error_terminal, at, no_parts, part_and, argument_pattern_view, argument_patterns_view}
 use Rattle.lalrpop_norm_faults.specs.Faults.{Fault}
 use Rattle.lalrpop_norm_model.specs.TuplePatterns.{tuple_symbols, symbol_misfits, misfits, misfits_of, as_many}

@@ -2,14 +2,14 @@
 use Rattle.std.proofs.Common.{◌≡◌, List, [], ◌∷◌, Some, refl, sym, ap, ap₂, ◌∙◌}
 use Rattle.std.specs.Prelude.{option_map, unwrap_or}
 use Rattle.std.proofs.Math.Path.{fun_ext}
-use Rattle.lalrpop_norm_tree.specs.declared.names.NonterminalString.{NonterminalString}
-use Rattle.lalrpop_norm_tree.specs.declared.names.TerminalString.{TerminalString}
-use Rattle.lalrpop_norm_tree.specs.declared.names.TypeParameter.{TypeParameter}
+use Rattle.lalrpop_norm_parts.specs.declared.names.NonterminalString.{NonterminalString}
+use Rattle.lalrpop_norm_parts.specs.declared.names.TerminalString.{TerminalString}
+use Rattle.lalrpop_norm_parts.specs.declared.names.TypeParameter.{TypeParameter}
 use Rattle.lalrpop_norm_tree.specs.Accessors.{or_else}
 use Rattle.lalrpop_norm_tree.specs.Items.{GrammarData}
-use Rattle.lalrpop_norm_tree.specs.Paths.{PathData}
-use Rattle.lalrpop_norm_tree.specs.Reprs as lowered
-use Rattle.lalrpop_norm_tree.specs.Reprs.{ReprData}
+use Rattle.lalrpop_norm_parts.specs.Paths.{PathData}
+use Rattle.lalrpop_norm_parts.specs.Reprs as lowered
+use Rattle.lalrpop_norm_parts.specs.Reprs.{ReprData}
 use Rattle.lalrpop_norm_tree.specs.Symbols.{Kind, group, ambiguous_id, terminal, nonterminal, call, repeated, chosen, named, tupled, lookahead, lookbehind, error_terminal, at}
 use Rattle.lalrpop_norm_tree.specs.Types.{TypeData, TypesData, MaybeType, tuple, slice, nominal, reference, trait_object, of_lifetime, id, of_symbol, function, no_types, type_and, no_type, returns}
 use Rattle.lalrpop_norm_repr.specs.Tables.{TypeTable, found_terminal, type_of_terminal}

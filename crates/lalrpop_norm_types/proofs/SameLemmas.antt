@@ -1,7 +1,7 @@
 -- Types in rows of other lengths.
 use Rattle.std.proofs.Common.{◌≡◌, suc, false, List, [], ◌∷◌, ◌&&◌, Bool, true, length, refl, ap}
-use Rattle.lalrpop_norm_tree.specs.declared.lowered.TypeRepr.{TypeRepr}
-use Rattle.lalrpop_norm_tree.specs.Reprs.{reprs_view, repr_view}
+use Rattle.lalrpop_norm_parts.specs.declared.lowered.TypeRepr.{TypeRepr}
+use Rattle.lalrpop_norm_parts.specs.Reprs.{reprs_view, repr_view}
 use Rattle.lalrpop_norm_model.specs.SameTypes.{same_type, same_types}
 
 and_false : (a b : Bool) → false ≡ b → false ≡ (a && b)

@@ -4,16 +4,16 @@ use Rattle.std.proofs.lemmas.List.{map-append}
 use Rattle.std.proofs.lemmas.Bool.Decides.{same_from_decides}
 use Rattle.std.proofs.lemmas.Slice.Eq.{bytes_eq-Decides}
 use Rattle.lalrpop_norm_faults.proofs.FaultLemmas.{at_drop_item}
-use Rattle.lalrpop_norm_tree.specs.declared.lowered.TypeRepr.{TypeRepr}
-use Rattle.lalrpop_norm_tree.specs.declared.names.NonterminalString.{NonterminalString}
-use Rattle.lalrpop_norm_tree.specs.declared.names.TerminalLiteral.{TerminalLiteral}
-use Rattle.lalrpop_norm_tree.specs.declared.names.TerminalLiteral.TheVariants.{Quoted, Regex}
-use Rattle.lalrpop_norm_tree.specs.declared.names.TerminalString.{TerminalString}
-use Rattle.lalrpop_norm_tree.specs.declared.names.TerminalString.TheVariants.{Literal, Bare, Error}
+use Rattle.lalrpop_norm_parts.specs.declared.lowered.TypeRepr.{TypeRepr}
+use Rattle.lalrpop_norm_parts.specs.declared.names.NonterminalString.{NonterminalString}
+use Rattle.lalrpop_norm_parts.specs.declared.names.TerminalLiteral.{TerminalLiteral}
+use Rattle.lalrpop_norm_parts.specs.declared.names.TerminalLiteral.TheVariants.{Quoted, Regex}
+use Rattle.lalrpop_norm_parts.specs.declared.names.TerminalString.{TerminalString}
+use Rattle.lalrpop_norm_parts.specs.declared.names.TerminalString.TheVariants.{Literal, Bare, Error}
 use Rattle.lalrpop_norm_tree.specs.Accessors.{or_else}
 use Rattle.lalrpop_norm_tree.specs.Items.{GrammarData}
 use Rattle.lalrpop_norm_tree.specs.LoweredTypes.{repr_of}
-use Rattle.lalrpop_norm_tree.specs.Reprs.{ReprData, repr_view}
+use Rattle.lalrpop_norm_parts.specs.Reprs.{ReprData, repr_view}
 use Rattle.lalrpop_norm_tree.specs.Types.{TypeData}
 use Rattle.lalrpop_norm_repr.specs.Tables as table
 use Rattle.lalrpop_norm_repr.specs.Tables.{TypeTable, listed_type, found_terminal}

@@ -3,8 +3,8 @@ use Rattle.std.proofs.Common.{◌≡◌, ◌<◌, ◌≤◌, ◌+◌, ℕ, List,
 use Rattle.std.specs.Prelude.{option_map}
 use Rattle.std.proofs.lemmas.List.{map-append, drop_all}
 use Rattle.lalrpop_norm_faults.proofs.FaultLemmas.{at_drop_item}
-use Rattle.lalrpop_norm_tree.specs.declared.lowered.TypeRepr.{TypeRepr}
-use Rattle.lalrpop_norm_tree.specs.Reprs.{ReprData, Reprs, repr_and, no_reprs, reprs_of, reprs_view, repr_view}
+use Rattle.lalrpop_norm_parts.specs.declared.lowered.TypeRepr.{TypeRepr}
+use Rattle.lalrpop_norm_parts.specs.Reprs.{ReprData, Reprs, repr_and, no_reprs, reprs_of, reprs_view, repr_view}
 use Rattle.lalrpop_norm_model.specs.TypeTables.{both}
 
 -- some types before the others

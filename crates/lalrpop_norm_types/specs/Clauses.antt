@@ -1,8 +1,8 @@
 -- The clauses of a rule, as the code has them.
 use Rattle.std.specs.Prelude.{List, [], ◌∷◌, ◌++◌, map, Option, Some, None, option_map, option_to_list, if◌then◌else◌}
-use Rattle.lalrpop_norm_tree.specs.declared.names.TypeParameter.{TypeParameter}
+use Rattle.lalrpop_norm_parts.specs.declared.names.TypeParameter.{TypeParameter}
 use Rattle.lalrpop_norm_tree.specs.Accessors.{or_else}
-use Rattle.lalrpop_norm_tree.specs.Reprs.{ReprData, Reprs, no_reprs, repr_and, tuple}
+use Rattle.lalrpop_norm_parts.specs.Reprs.{ReprData, Reprs, no_reprs, repr_and, tuple}
 use Rattle.lalrpop_norm_tree.specs.Symbols.{Kind, chosen, Parts, at, no_parts, part_and, kind_view}
 use Rattle.lalrpop_norm_tree.specs.Types.{TypeData, of_symbol, type_view}
 use Rattle.lalrpop_norm_repr.specs.Tables.{TypeTable}

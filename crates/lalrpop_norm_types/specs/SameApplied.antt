@@ -1,6 +1,6 @@
 -- Whether two paths with their arguments are equal.
 use Rattle.std.specs.Prelude.{Bool, ◌&&◌}
-use Rattle.lalrpop_norm_tree.specs.Reprs.{Applied}
+use Rattle.lalrpop_norm_parts.specs.Reprs.{Applied}
 use Rattle.lalrpop_norm_model.specs.SameTypes.{same_path, same_types}
 
 abbrev pub same_applied : Applied → Applied → Bool

@@ -1,10 +1,10 @@
 -- What symbols give and written types mean by a table of types. The grammar comes in by its parameters alone.
 use Rattle.std.specs.Prelude.{ℕ, List, Option, Some, None, option_map}
-use Rattle.lalrpop_norm_tree.specs.declared.names.NonterminalString.{NonterminalString}
-use Rattle.lalrpop_norm_tree.specs.declared.names.TypeParameter.{TypeParameter}
+use Rattle.lalrpop_norm_parts.specs.declared.names.NonterminalString.{NonterminalString}
+use Rattle.lalrpop_norm_parts.specs.declared.names.TypeParameter.{TypeParameter}
 use Rattle.lalrpop_norm_tree.specs.LoweredTypes.{named_path}
-use Rattle.lalrpop_norm_tree.specs.Reprs as lowered
-use Rattle.lalrpop_norm_tree.specs.Reprs.{ReprData, Reprs, MaybeRepr}
+use Rattle.lalrpop_norm_parts.specs.Reprs as lowered
+use Rattle.lalrpop_norm_parts.specs.Reprs.{ReprData, Reprs, MaybeRepr}
 use Rattle.lalrpop_norm_tree.specs.Symbols.{Kind, Part, group, ambiguous_id, terminal, nonterminal, call, repeated, chosen, named, tupled, lookahead, lookbehind, error_terminal, at}
 use Rattle.lalrpop_norm_tree.specs.Types.{TypeData, TypesData, MaybeType, tuple, slice, nominal, reference, trait_object, of_lifetime, id, of_symbol, function, no_types, type_and, no_type, returns}
 use Rattle.lalrpop_norm_repr.specs.Tables.{TypeTable, type_of, type_of_terminal}

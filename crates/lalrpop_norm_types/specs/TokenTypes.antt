@@ -1,10 +1,10 @@
 -- The types that need no inference, in a type table.
 use Rattle.std.specs.Prelude.{◌≡◌, List, map, codes}
-use Rattle.lalrpop_norm_tree.specs.declared.lowered.TypeRepr.{TypeRepr}
-use Rattle.lalrpop_norm_tree.specs.declared.names.TerminalString.{TerminalString}
+use Rattle.lalrpop_norm_parts.specs.declared.lowered.TypeRepr.{TypeRepr}
+use Rattle.lalrpop_norm_parts.specs.declared.names.TerminalString.{TerminalString}
 use Rattle.lalrpop_norm_tree.specs.Accessors.{or_else}
 use Rattle.lalrpop_norm_tree.specs.Items.{GrammarData}
-use Rattle.lalrpop_norm_tree.specs.Reprs.{repr_view}
+use Rattle.lalrpop_norm_parts.specs.Reprs.{repr_view}
 use Rattle.lalrpop_norm_repr.specs.Tables.{TypeTable, listed_type, found_terminal, new_table}
 use Rattle.lalrpop_norm_model.specs.TerminalTypes.{Row, location_type, declared_under, token_type, terminal_rows, row_of}
 

@@ -1,6 +1,6 @@
 -- What status 1 tells.
 use Rattle.std.proofs.Common.{◌≡◌, ℕ, List, Option, string_bytes, arith}
-use Rattle.lalrpop_norm_tree.specs.declared.names.Span.{Span}
+use Rattle.lalrpop_norm_parts.specs.declared.names.Span.{Span}
 use Rattle.lalrpop_norm_faults.specs.declared.kind.FaultKind.{FaultKind}
 use Rattle.lalrpop_norm_faults.specs.declared.failure.NormFailure.TheVariants.{Refused, Memory as no_room}
 use Rattle.lnorm.specs.Runs.{WritesFront, IsRefused, fault_line}

@@ -1,7 +1,7 @@
 //! The lines of a lowered grammar.
 ghost use Rattle.std.specs.Prelude.{◌≡◌, ◌++◌, IfOk, OnOk, map, option_map, string_bytes};
 ghost use Rattle.std.specs.List.{flat_map};
-ghost use Rattle.lalrpop_norm_tree.specs.Reprs.{repr_view};
+ghost use Rattle.lalrpop_norm_parts.specs.Reprs.{repr_view};
 ghost use Rattle.lalrpop_norm_repr.specs.Lowered.{grammar_view};
 ghost use Rattle.lalrpop_norm_repr.specs.Productions.{production_view, nonterminal_data_view};
 ghost use Rattle.lalrpop_norm_repr.specs.Tables.{rows, type_table};

@@ -1,7 +1,7 @@
 //! The engine of the program.
 ghost use Rattle.std.specs.Prelude.{◌≡◌, ◌≤◌, ◌<◌, ◌⊎◌, ℕ, List, None, map, string_bytes, IfErr, OnOk};
 ghost use Rattle.std.specs.Io.KnownBytes.{Appends, Keeps};
-ghost use Rattle.lalrpop_norm_tree.specs.declared.names.Span.{Span};
+ghost use Rattle.lalrpop_norm_parts.specs.declared.names.Span.{Span};
 ghost use Rattle.lalrpop_norm_faults.specs.declared.kind.FaultKind.{FaultKind};
 ghost use Rattle.lnorm.specs.Settings.{settings_of};
 ghost use Rattle.lnorm.specs.Runs.{WritesFront, IsRight, IsRefused, IsNoTree, fault_line, usage_line, no_tree_line, memory_line, stream_line};

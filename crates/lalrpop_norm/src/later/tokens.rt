@@ -1,9 +1,9 @@
 //! Attributes and extern blocks.
 ghost use Rattle.std.specs.Prelude.{map, option_map};
 ghost use Rattle.std.specs.List.{flat_map};
-ghost use Rattle.lalrpop_norm_tree.specs.Attributes.{attributes_view};
+ghost use Rattle.lalrpop_norm_parts.specs.Attributes.{attributes_view};
 ghost use Rattle.lalrpop_norm_tree.specs.Items.{conversion_view, enum_token_view, extern_token_view};
-ghost use Rattle.lalrpop_norm_tree.specs.Patterns.{pattern_kind_view, pattern_view, patterns_view};
+ghost use Rattle.lalrpop_norm_parts.specs.Patterns.{pattern_kind_view, pattern_view, patterns_view};
 ghost use Rattle.lalrpop_norm_tree.specs.Types.{type_view};
 ghost use Rattle.lalrpop_norm.specs.Later.{part_of_any, attribute_parts, pattern_kind_parts, pattern_parts, patterns_parts, conversion_parts, enum_parts, extern_parts};
 ghost use Rattle.lalrpop_norm.specs.LaterWalks.{Finds};

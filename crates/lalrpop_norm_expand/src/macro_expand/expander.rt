@@ -1,7 +1,7 @@
 //! The symbols that were met.
 ghost use Rattle.std.specs.Prelude.{◌≡◌, ◌∷◌, [], IfOk, OnOk, None, Option, option_map, is_some};
 ghost use Rattle.lalrpop_norm_tree.specs.Symbols.{symbol_view};
-ghost use Rattle.lalrpop_norm_tree.specs.Texts.{part_text};
+ghost use Rattle.lalrpop_norm_tree.specs.SymbolTexts.{part_text};
 ghost use Rattle.lalrpop_norm_faults.specs.Faults.{Refuses, IsFirst};
 ghost use Rattle.lalrpop_norm_faults.specs.declared.kind.FaultKind.TheVariants.{SharedName};
 ghost use Rattle.lalrpop_norm_expand.specs.Meeting.{first_of, after_one, seen_of, has_key, names_of, IsExpander, Meets, refused_by};

@@ -1,11 +1,11 @@
 //! The rules of groups, repeats and lookarounds.
 ghost use Rattle.std.specs.Prelude.{◌≡◌, ◌++◌, ◌∷◌, [], IfOk, OnOk, None, Some, map, option_map};
-ghost use Rattle.lalrpop_norm_tree.specs.Attributes.{attributes_view};
+ghost use Rattle.lalrpop_norm_parts.specs.Attributes.{attributes_view};
 ghost use Rattle.lalrpop_norm_tree.specs.Symbols.{at, group, repeated, kind_view, symbol_view, parts_view, expr_view};
 ghost use Rattle.lalrpop_norm_tree.specs.Types.{type_view};
-ghost use Rattle.lalrpop_norm_tree.specs.Paths.{path_view};
+ghost use Rattle.lalrpop_norm_parts.specs.Paths.{path_view};
 ghost use Rattle.lalrpop_norm_tree.specs.Items.{alternative_view, rule_view, item_view, rule_item, action_view};
-ghost use Rattle.lalrpop_norm_tree.specs.Texts.{kind_text};
+ghost use Rattle.lalrpop_norm_tree.specs.SymbolTexts.{kind_text};
 ghost use Rattle.lalrpop_norm_faults.specs.Faults.{Refuses};
 ghost use Rattle.lalrpop_norm_model.specs.MadeRules.{inline_at, coded, private_rule, type_of_kind, with_name, holding, star_rule, plus_rule, question_rule, repeat_rule, group_rule, location_rule, some_name_value, bare_or_tuple, group_sources};
 ghost use Rattle.lalrpop_norm_expand.specs.Expansion.{unmade};

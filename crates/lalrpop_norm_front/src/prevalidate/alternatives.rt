@@ -1,6 +1,6 @@
 //! Alternatives.
 ghost use Rattle.std.specs.Prelude.{◌≡◌, option_map};
-ghost use Rattle.lalrpop_norm_tree.specs.Attributes.{attributes_view};
+ghost use Rattle.lalrpop_norm_parts.specs.Attributes.{attributes_view};
 ghost use Rattle.lalrpop_norm_tree.specs.Items.{action_view, alternative_view};
 ghost use Rattle.lalrpop_norm_tree.specs.Symbols.{kind_view, parts_view};
 ghost use Rattle.lalrpop_norm_faults.specs.Faults.{Refuses};

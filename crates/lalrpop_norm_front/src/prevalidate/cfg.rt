@@ -1,6 +1,6 @@
 //! Conditions of attributes.
 ghost use Rattle.std.specs.Prelude.{◌≡◌, [], ◌∷◌};
-ghost use Rattle.lalrpop_norm_tree.specs.Attributes.{argument_view, attribute_view, attributes_view};
+ghost use Rattle.lalrpop_norm_parts.specs.Attributes.{argument_view, attribute_view, attributes_view};
 ghost use Rattle.lalrpop_norm_faults.specs.Faults.{Refuses, IsFirst};
 ghost use Rattle.lalrpop_norm_front.specs.CfgFaults.{test_of, test_faults, argument_faults, first_faults, empty_faults, tests_faults, cfg_faults};
 

@@ -2,7 +2,7 @@
 ghost use Rattle.std.specs.Prelude.{◌≡◌, IfOk, IsErrOf, string_bytes, false};
 ghost use Rattle.serde_json.specs.Data.{string};
 ghost use Rattle.serde_json.specs.View.{view};
-ghost use Rattle.lalrpop_norm_tree.specs.Paths.{path_view};
+ghost use Rattle.lalrpop_norm_parts.specs.Paths.{path_view};
 ghost use Rattle.lalrpop_norm_json.specs.Shapes as shape;
 ghost use Rattle.lalrpop_norm_json.specs.Shapes.{is};
 ghost use Rattle.lalrpop_norm_json.specs.Forms.{span_form, literal_form, terminal_form, path_form};
@@ -162,7 +162,7 @@ impl FromValue for TypeParameter {
 }
 
 impl FromValue for Path {
-    ghost use Rattle.lalrpop_norm_tree.specs.Paths.{path_view};
+    ghost use Rattle.lalrpop_norm_parts.specs.Paths.{path_view};
     ghost use Rattle.lalrpop_norm_json.specs.Forms.{path_form};
     ghost use Rattle.lalrpop_norm_json.specs.Shapes as shape;
 

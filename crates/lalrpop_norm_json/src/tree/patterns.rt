@@ -3,7 +3,7 @@ ghost use Rattle.std.specs.Prelude.{◌≡◌, IfOk, IsErrOf, false};
 ghost use Rattle.serde_json.specs.Data.{array};
 ghost use Rattle.serde_json.specs.View.{view};
 ghost use Rattle.lalrpop_norm_tree.specs.Types.{type_view};
-ghost use Rattle.lalrpop_norm_tree.specs.Patterns.{pattern_kind_view, pattern_view, patterns_view};
+ghost use Rattle.lalrpop_norm_parts.specs.Patterns.{pattern_kind_view, pattern_view, patterns_view};
 ghost use Rattle.lalrpop_norm_json.specs.Shapes as shape;
 ghost use Rattle.lalrpop_norm_json.specs.Shapes.{is, fits, place, many};
 ghost use Rattle.lalrpop_norm_json.specs.PatternForms.{pattern_kind_form, pattern_form, patterns_form};

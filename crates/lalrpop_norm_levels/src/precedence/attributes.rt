@@ -1,6 +1,6 @@
 //! Attributes by name.
 ghost use Rattle.std.specs.Prelude.{◌≡◌, ◌||◌, is_some, option_map, codes};
-ghost use Rattle.lalrpop_norm_tree.specs.Attributes.{attribute_view, attributes_view};
+ghost use Rattle.lalrpop_norm_parts.specs.Attributes.{attribute_view, attributes_view};
 ghost use Rattle.lalrpop_norm_model.specs.Levels.{first_named};
 
 use super::{ASSOC_ATTR, PREC_ATTR};

@@ -2,7 +2,7 @@
 ghost use Rattle.std.specs.Prelude.{◌≡◌, ◌^◌, None, Some, IfOk, is_some, option_map, map, flat_map, codes, nat_eq, not, if◌then◌else◌};
 ghost use Rattle.std.specs.List.{list_any};
 ghost use Rattle.lalrpop_norm_tree.specs.Accessors.{or_else};
-ghost use Rattle.lalrpop_norm_tree.specs.Attributes.{attribute_view, attributes_view};
+ghost use Rattle.lalrpop_norm_parts.specs.Attributes.{attribute_view, attributes_view};
 ghost use Rattle.lalrpop_norm_tree.specs.Items.{alternative_view, rule_view};
 ghost use Rattle.lalrpop_norm_faults.specs.Faults.{Refuses, RefusesOr};
 ghost use Rattle.lalrpop_norm_model.specs.Levels.{first_named, value_under, number_of, side_named, stated_level, stated_side, has_levels};

@@ -1,6 +1,6 @@
 //! The rules of the levels of a rule.
 ghost use Rattle.std.specs.Prelude.{◌≡◌, ◌++◌, [], ◌∷◌, None, Some, IfOk, OnOk, map, unwrap_or};
-ghost use Rattle.lalrpop_norm_tree.specs.Attributes.{attributes_view};
+ghost use Rattle.lalrpop_norm_parts.specs.Attributes.{attributes_view};
 ghost use Rattle.lalrpop_norm_tree.specs.Items.{alternative_view, rule_view};
 ghost use Rattle.lalrpop_norm_tree.specs.Symbols.{nonterminal, kind_view, parts_view};
 ghost use Rattle.lalrpop_norm_faults.specs.Faults.{RefusesOr};

@@ -1,6 +1,6 @@
 //! Copies of actions.
 ghost use Rattle.std.specs.Prelude.{◌≡◌, IfOk, map};
-ghost use Rattle.lalrpop_norm_tree.specs.Reprs.{repr_view};
+ghost use Rattle.lalrpop_norm_parts.specs.Reprs.{repr_view};
 ghost use Rattle.lalrpop_norm_tree.specs.Symbols.{argument_pattern_view};
 ghost use Rattle.lalrpop_norm_repr.specs.Actions.{action_defn_view, action_kind_view, inline_action_view, inlined_symbol_view, user_action_view};
 

@@ -1,6 +1,6 @@
 //! Copies of nonterminals.
 ghost use Rattle.std.specs.Prelude.{◌≡◌, IfOk, map};
-ghost use Rattle.lalrpop_norm_tree.specs.Attributes.{attribute_view};
+ghost use Rattle.lalrpop_norm_parts.specs.Attributes.{attribute_view};
 ghost use Rattle.lalrpop_norm_repr.specs.Productions.{nonterminal_data_view, production_view};
 
 use super::{NonterminalData, Production};

@@ -7,9 +7,9 @@ use super::{
     ActionKind, Alternative, AssociatedType, Dfa, InternToken, MatchContents, MatchEntry,
     MatchToken, NonterminalData, Visibility,
 };
-use crate::attribute::copy::copy_attributes;
-use crate::names::NonterminalString;
 use crate::types::TypeRef;
+use lalrpop_norm_parts::attribute::copy::copy_attributes;
+use lalrpop_norm_parts::names::NonterminalString;
 use std::alloc::{AllocError, Global};
 
 impl Clone for ActionKind {

@@ -2,7 +2,8 @@
 ghost use Rattle.std.specs.Prelude.{Some, map, codes, ◌++◌, ◌≡◌, IfOk, string_bytes};
 ghost use Rattle.std.specs.Fmt.{WritesOnOk};
 ghost use Rattle.lalrpop_norm_tree.specs.Symbols.{argument_pattern_view, tuple_view, argument_patterns_view, kind_view, symbol_view, expr_view, macro_view, repeat_view, parts_view};
-ghost use Rattle.lalrpop_norm_tree.specs.Texts.{name_text, op_text, argument_pattern_text, argument_pattern_texts, tuple_text, kind_text, part_text, part_texts, joined, group_text, call_text, again_text};
+ghost use Rattle.lalrpop_norm_parts.specs.Texts.{joined};
+ghost use Rattle.lalrpop_norm_tree.specs.SymbolTexts.{name_text, op_text, argument_pattern_text, argument_pattern_texts, tuple_text, kind_text, part_text, part_texts, group_text, call_text, again_text};
 
 use super::{
     ArgPattern, ExprSymbol, MacroSymbol, Name, RepeatOp, RepeatSymbol, Symbol, SymbolKind, Tuple,

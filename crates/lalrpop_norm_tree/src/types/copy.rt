@@ -3,7 +3,7 @@ ghost use Rattle.std.specs.Prelude.{◌≡◌, IfOk, map, option_map};
 ghost use Rattle.lalrpop_norm_tree.specs.Types.{type_view, parameter_view};
 
 use super::{Parameter, TypeRef};
-use crate::names::TypeParameter;
+use lalrpop_norm_parts::names::copy::copy_type_parameters;
 use std::alloc::{AllocError, Global};
 
 impl Clone for TypeRef {
@@ -66,15 +66,6 @@ fn copy(written: &TypeRef) -> Result<TypeRef, AllocError>
             ret: copy_return(ret)?,
         }),
     }
-}
-
-#[tactic(auto, using(std::proofs::lemmas::List::Elements::same_from_all_zip))]
-pub(crate) fn copy_type_parameters(
-    parameters: &Vec<TypeParameter>,
-) -> Result<Vec<TypeParameter>, AllocError>
-    ensures { IfOk result (λ ps. ps.items ≡ parameters.now.items) }
-{
-    Ok(parameters.clone()?)
 }
 
 #[cycle(copy)]

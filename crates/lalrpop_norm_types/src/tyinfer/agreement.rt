@@ -1,7 +1,7 @@
 //! Alternatives that give another type than their rule has.
 ghost use Rattle.std.specs.Prelude.{◌≡◌, [], flat_map, map, option_map};
 ghost use Rattle.lalrpop_norm_tree.specs.Items.{alternative_view, rule_view};
-ghost use Rattle.lalrpop_norm_tree.specs.Reprs.{repr_view};
+ghost use Rattle.lalrpop_norm_parts.specs.Reprs.{repr_view};
 ghost use Rattle.lalrpop_norm_faults.specs.Faults.{Refuses, fault_if};
 ghost use Rattle.lalrpop_norm_faults.specs.declared.kind.FaultKind.TheVariants.{Disagreement};
 ghost use Rattle.lalrpop_norm_repr.specs.Tables.{type_table};

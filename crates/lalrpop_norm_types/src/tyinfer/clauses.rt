@@ -1,7 +1,7 @@
 //! By which rules have types.
 ghost use Rattle.std.specs.Prelude.{◌≡◌, IfOk, map, option_map, filter_map};
 ghost use Rattle.lalrpop_norm_tree.specs.Items.{alternative_view, rule_view};
-ghost use Rattle.lalrpop_norm_tree.specs.Reprs.{repr_view, reprs_view};
+ghost use Rattle.lalrpop_norm_parts.specs.Reprs.{repr_view, reprs_view};
 ghost use Rattle.lalrpop_norm_tree.specs.Symbols.{kind_view, symbol_view, parts_view, expr_view};
 ghost use Rattle.lalrpop_norm_repr.specs.Tables.{type_table};
 ghost use Rattle.lalrpop_norm_model.specs.MadeRules.{names_value, some_name_value, all_kinds};

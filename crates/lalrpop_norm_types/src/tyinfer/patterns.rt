@@ -1,7 +1,7 @@
 //! Tuple patterns over symbols, against the types of these.
 ghost use Rattle.std.specs.Prelude.{◌≡◌, ◌∷◌, [], length, flat_map, map, if◌then◌else◌};
 ghost use Rattle.lalrpop_norm_tree.specs.Items.{alternative_view, rule_view};
-ghost use Rattle.lalrpop_norm_tree.specs.Reprs.{repr_view, reprs_view};
+ghost use Rattle.lalrpop_norm_parts.specs.Reprs.{repr_view, reprs_view};
 ghost use Rattle.lalrpop_norm_tree.specs.Symbols.{argument_pattern_view, argument_patterns_view, several, tuple_view, symbol_view, kind_view, parts_view, expr_view};
 ghost use Rattle.lalrpop_norm_faults.specs.Faults.{Refuses};
 ghost use Rattle.lalrpop_norm_faults.specs.declared.kind.FaultKind.TheVariants.{TupleLength};

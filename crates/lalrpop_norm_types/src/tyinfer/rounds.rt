@@ -1,8 +1,8 @@
 //! Rounds in which rules take their types.
 ghost use Rattle.std.specs.Prelude.{◌≡◌, ◌||◌, [], None, Some, IfOk, OnOk, length, map, flat_map};
-ghost use Rattle.lalrpop_norm_tree.specs.declared.names.NonterminalString.{NonterminalString};
+ghost use Rattle.lalrpop_norm_parts.specs.declared.names.NonterminalString.{NonterminalString};
 ghost use Rattle.lalrpop_norm_tree.specs.Items.{item_view, rule_view};
-ghost use Rattle.lalrpop_norm_tree.specs.Reprs.{repr_view};
+ghost use Rattle.lalrpop_norm_parts.specs.Reprs.{repr_view};
 ghost use Rattle.lalrpop_norm_repr.specs.Tables.{type_table, type_of};
 ghost use Rattle.lalrpop_norm_model.specs.PlainRules.{rule_of_item};
 ghost use Rattle.lalrpop_norm_types.specs.Clauses.{clause_view, first_in};

@@ -1,7 +1,7 @@
 //! Whether two lowered types are equal.
 ghost use Rattle.std.specs.Prelude.{◌≡◌, bytes_eq, length, option_map};
-ghost use Rattle.lalrpop_norm_tree.specs.Paths.{path_view};
-ghost use Rattle.lalrpop_norm_tree.specs.Reprs.{repr_view, reprs_view, applied_view, maybe_repr_of};
+ghost use Rattle.lalrpop_norm_parts.specs.Paths.{path_view};
+ghost use Rattle.lalrpop_norm_parts.specs.Reprs.{repr_view, reprs_view, applied_view, maybe_repr_of};
 ghost use Rattle.lalrpop_norm_model.specs.SameTypes.{same_flag, same_lifetime, same_parameter, all_same, same_path, same_type, same_types, same_return};
 ghost use Rattle.lalrpop_norm_types.specs.SameApplied.{same_applied};
 

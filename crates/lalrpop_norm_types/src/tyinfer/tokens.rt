@@ -1,11 +1,11 @@
 //! The types that need no inference: of terminals, locations, errors and tokens.
 ghost use Rattle.std.specs.Prelude.{◌≡◌, ◌++◌, [], ◌∷◌, IfOk, OnOk, map, flat_map, option_map, codes};
-ghost use Rattle.lalrpop_norm_tree.specs.Accessors.{path_of};
+ghost use Rattle.lalrpop_norm_parts.specs.Accessors.{path_of};
 ghost use Rattle.lalrpop_norm_tree.specs.Items.{conversion_view, grammar_view};
 ghost use Rattle.lalrpop_norm_tree.specs.LoweredTypes.{repr_of};
-ghost use Rattle.lalrpop_norm_tree.specs.Paths.{path_view};
-ghost use Rattle.lalrpop_norm_tree.specs.Patterns.{pattern_view, pattern_kind_view, patterns_view, field_view, fields_view};
-ghost use Rattle.lalrpop_norm_tree.specs.Reprs.{repr_view, reprs_view, applied_view, no_reprs, repr_and, of_lifetime};
+ghost use Rattle.lalrpop_norm_parts.specs.Paths.{path_view};
+ghost use Rattle.lalrpop_norm_parts.specs.Patterns.{pattern_view, pattern_kind_view, patterns_view, field_view, fields_view};
+ghost use Rattle.lalrpop_norm_parts.specs.Reprs.{repr_view, reprs_view, applied_view, no_reprs, repr_and, of_lifetime};
 ghost use Rattle.lalrpop_norm_tree.specs.Types.{type_view};
 ghost use Rattle.lalrpop_norm_repr.specs.Tables.{type_table};
 ghost use Rattle.lalrpop_norm_model.specs.Entries.{user_names};

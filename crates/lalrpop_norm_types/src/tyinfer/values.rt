@@ -1,9 +1,9 @@
 //! What symbols give and written types mean by a table of types.
 ghost use Rattle.std.specs.Prelude.{◌≡◌, Bool, IfOk, option_map, is_some};
 ghost use Rattle.lalrpop_norm_tree.specs.LoweredTypes.{named_path};
-ghost use Rattle.lalrpop_norm_tree.specs.Paths.{path_view};
-ghost use Rattle.lalrpop_norm_tree.specs.Reprs as lowered;
-ghost use Rattle.lalrpop_norm_tree.specs.Reprs.{repr_view, reprs_view, applied_view, maybe_repr_of};
+ghost use Rattle.lalrpop_norm_parts.specs.Paths.{path_view};
+ghost use Rattle.lalrpop_norm_parts.specs.Reprs as lowered;
+ghost use Rattle.lalrpop_norm_parts.specs.Reprs.{repr_view, reprs_view, applied_view, maybe_repr_of};
 ghost use Rattle.lalrpop_norm_tree.specs.Symbols.{kind_view, symbol_view};
 ghost use Rattle.lalrpop_norm_tree.specs.Types.{type_view, types_view, maybe_of};
 ghost use Rattle.lalrpop_norm_repr.specs.Tables.{type_table};

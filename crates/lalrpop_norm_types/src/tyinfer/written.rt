@@ -1,8 +1,8 @@
 //! Written types that stand outside of rules, lowered as they stand.
 ghost use Rattle.std.specs.Prelude.{◌≡◌, IfOk, option_map};
 ghost use Rattle.lalrpop_norm_tree.specs.LoweredTypes.{named_path, repr_of, all_reprs_of, result_repr_of};
-ghost use Rattle.lalrpop_norm_tree.specs.Paths.{path_view};
-ghost use Rattle.lalrpop_norm_tree.specs.Reprs.{repr_view, reprs_view, applied_view, maybe_repr_of, no_reprs};
+ghost use Rattle.lalrpop_norm_parts.specs.Paths.{path_view};
+ghost use Rattle.lalrpop_norm_parts.specs.Reprs.{repr_view, reprs_view, applied_view, maybe_repr_of, no_reprs};
 ghost use Rattle.lalrpop_norm_tree.specs.Types.{type_view, types_view, maybe_of};
 
 use super::values::{copy_parameters, named};

@@ -1,5 +1,5 @@
 use Rattle.std.proofs.Common.{◌≡◌, drop}
-use Rattle.lalrpop_norm_tree.specs.Attributes.{attributes_view}
+use Rattle.lalrpop_norm_parts.specs.Attributes.{attributes_view}
 use Rattle.lalrpop_norm_model.specs.Features.{is_active}
 use Rattle.lalrpop_norm_front.specs.Sessions.{features_view}
 use Rattle.lalrpop_norm_front.proofs.cond_comp.cfg_active.Given as goal

@@ -1,6 +1,6 @@
 use Rattle.std.proofs.Common.{◌≡◌, drop}
 use Rattle.lalrpop_norm_tree.specs.Accessors.{or_else}
-use Rattle.lalrpop_norm_tree.specs.Attributes.{attributes_view}
+use Rattle.lalrpop_norm_parts.specs.Attributes.{attributes_view}
 use Rattle.lalrpop_norm_front.specs.GrammarFaults.{ascent_asked}
 use Rattle.lalrpop_norm_front.proofs.prevalidate.ascent_asked.Given as goal
 

@@ -1,7 +1,7 @@
 use Rattle.std.proofs.Common.{◌≡◌, map, drop}
 use Rattle.std.specs.List.{flat_map}
 use Rattle.lalrpop_norm_tree.specs.Types.{type_view}
-use Rattle.lalrpop_norm_tree.specs.Bounds.{where_clause_view}
+use Rattle.lalrpop_norm_parts.specs.Bounds.{where_clause_view}
 use Rattle.lalrpop_norm_front.specs.GrammarFaults.{clause_faults}
 use Rattle.lalrpop_norm_front.proofs.prevalidate.validate_clauses.Given as goal
 

@@ -1,6 +1,6 @@
 use Rattle.std.proofs.Common.{◌≡◌, ◌+◌, ◌++◌, drop, map, vec_len}
 use Rattle.lalrpop_norm_tree.specs.Items.{alternative_view}
-use Rattle.lalrpop_norm_tree.specs.Reprs.{repr_view}
+use Rattle.lalrpop_norm_parts.specs.Reprs.{repr_view}
 use Rattle.lalrpop_norm_repr.specs.Actions.{action_defn_view}
 use Rattle.lalrpop_norm_repr.specs.Productions.{production_view}
 use Rattle.lalrpop_norm_repr.specs.Tables.{type_table}

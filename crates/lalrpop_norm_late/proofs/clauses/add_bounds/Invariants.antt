@@ -1,6 +1,6 @@
 use Rattle.std.proofs.Common.{◌≡◌, ◌++◌, drop, map}
-use Rattle.lalrpop_norm_tree.specs.Bounds.{bound_view}
-use Rattle.lalrpop_norm_tree.specs.Reprs.{lowered_where_clause_view, has_bound}
+use Rattle.lalrpop_norm_parts.specs.Bounds.{bound_view}
+use Rattle.lalrpop_norm_parts.specs.Reprs.{lowered_where_clause_view, has_bound}
 use Rattle.lalrpop_norm_tree.specs.Types.{type_view}
 use Rattle.lalrpop_norm_late.specs.Carried.{under}
 use Rattle.lalrpop_norm_late.specs.Made.{made_bound}

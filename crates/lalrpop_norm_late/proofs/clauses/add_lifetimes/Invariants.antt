@@ -1,6 +1,6 @@
 use Rattle.std.proofs.Common.{◌≡◌, ◌++◌, drop, map}
-use Rattle.lalrpop_norm_tree.specs.Bounds.{lifetime_bound}
-use Rattle.lalrpop_norm_tree.specs.Reprs.{lowered_where_clause_view, of_lifetime, has_bound}
+use Rattle.lalrpop_norm_parts.specs.Bounds.{lifetime_bound}
+use Rattle.lalrpop_norm_parts.specs.Reprs.{lowered_where_clause_view, of_lifetime, has_bound}
 use Rattle.lalrpop_norm_late.proofs.clauses.add_lifetimes.Given as goal
 
 abbrev pub invariant-loop-bound : goal.invariant-loop-bound

@@ -1,7 +1,7 @@
 use Rattle.std.proofs.Common.{◌≡◌, ◌++◌, drop, map}
 use Rattle.std.specs.Prelude.{flat_map}
-use Rattle.lalrpop_norm_tree.specs.Bounds.{where_clause_view}
-use Rattle.lalrpop_norm_tree.specs.Reprs.{lowered_where_clause_view}
+use Rattle.lalrpop_norm_parts.specs.Bounds.{where_clause_view}
+use Rattle.lalrpop_norm_parts.specs.Reprs.{lowered_where_clause_view}
 use Rattle.lalrpop_norm_tree.specs.Types.{type_view}
 use Rattle.lalrpop_norm_late.specs.Made.{made_clauses}
 use Rattle.lalrpop_norm_late.proofs.clauses.lowered_clauses.Given as goal

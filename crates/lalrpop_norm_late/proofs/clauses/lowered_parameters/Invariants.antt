@@ -1,6 +1,6 @@
 use Rattle.std.proofs.Common.{◌≡◌, ◌++◌, drop, map}
-use Rattle.lalrpop_norm_tree.specs.Bounds.{bound_parameter_view}
-use Rattle.lalrpop_norm_tree.specs.Reprs.{repr_view}
+use Rattle.lalrpop_norm_parts.specs.Bounds.{bound_parameter_view}
+use Rattle.lalrpop_norm_parts.specs.Reprs.{repr_view}
 use Rattle.lalrpop_norm_tree.specs.Types.{type_view}
 use Rattle.lalrpop_norm_late.specs.Made.{made_bound_parameter}
 use Rattle.lalrpop_norm_late.proofs.clauses.lowered_parameters.Given as goal

@@ -2,7 +2,7 @@ use Rattle.std.proofs.Common.{◌≡◌, ◌∙◌, ◌||◌, ap, sym, bytes_eq,
 use Rattle.std.specs.Prelude.{fold, unwrap_or}
 use Rattle.std.specs.List.{list_any}
 use Rattle.std.proofs.lemmas.List.Elements.{All-from_recursion}
-use Rattle.lalrpop_norm_tree.specs.Accessors.{is_known_name, codegen_named}
+use Rattle.lalrpop_norm_parts.specs.Accessors.{is_known_name, codegen_named}
 use Rattle.lalrpop_norm_late.proofs.RowLemmas.{known_each, names_any, names_fold}
 use Rattle.lalrpop_norm_late.proofs.head.algorithm_of.Goals as goal
 

@@ -1,6 +1,6 @@
 use Rattle.std.proofs.Common.{◌≡◌, take, map}
-use Rattle.lalrpop_norm_tree.specs.Patterns.{pattern_view, field_view}
-use Rattle.lalrpop_norm_tree.specs.Reprs.{repr_view}
+use Rattle.lalrpop_norm_parts.specs.Patterns.{pattern_view, field_view}
+use Rattle.lalrpop_norm_parts.specs.Reprs.{repr_view}
 use Rattle.lalrpop_norm_tree.specs.Types.{type_view}
 use Rattle.lalrpop_norm_late.specs.Conversions.{mapped, mapped_field}
 use Rattle.lalrpop_norm_late.specs.Typing.{lowered_type}

@@ -1,5 +1,5 @@
 use Rattle.std.proofs.Common.{◌≡◌, take, map}
-use Rattle.lalrpop_norm_tree.specs.Attributes.{attribute_view}
+use Rattle.lalrpop_norm_parts.specs.Attributes.{attribute_view}
 use Rattle.lalrpop_norm_late.proofs.starts.copy_attributes.Given as goal
 
 abbrev pub invariant-loop-attribute : goal.invariant-loop-attribute

@@ -1,5 +1,5 @@
 use Rattle.std.proofs.Common.{◌≡◌, List, [], map, sym, ap, ◌∙◌}
-use Rattle.lalrpop_norm_tree.specs.declared.names.TerminalString.{TerminalString}
+use Rattle.lalrpop_norm_parts.specs.declared.names.TerminalString.{TerminalString}
 use Rattle.lalrpop_norm_tree.specs.Items.{conversion_view}
 use Rattle.lalrpop_norm_front.specs.Sessions.{features_view}
 use Rattle.lalrpop_norm.specs.declared.later.LaterPart.TheVariants.{RepeatedConversion}

@@ -1,5 +1,5 @@
 use Rattle.std.proofs.Common.{◌≡◌, drop}
-use Rattle.lalrpop_norm_tree.specs.Patterns.{patterns_view}
+use Rattle.lalrpop_norm_parts.specs.Patterns.{patterns_view}
 use Rattle.lalrpop_norm_tree.specs.Types.{type_view}
 use Rattle.lalrpop_norm.specs.Later.{patterns_parts}
 use Rattle.lalrpop_norm.proofs.later.tokens.+patterns.Given as goal

@@ -1,5 +1,5 @@
 use Rattle.std.proofs.Common.{◌≡◌, drop}
-use Rattle.lalrpop_norm_tree.specs.Attributes.{attributes_view}
+use Rattle.lalrpop_norm_parts.specs.Attributes.{attributes_view}
 use Rattle.lalrpop_norm_front.specs.CfgFaults.{tests_faults}
 use Rattle.lalrpop_norm_front.proofs.prevalidate.cfg.+cfg.Given as goal
 

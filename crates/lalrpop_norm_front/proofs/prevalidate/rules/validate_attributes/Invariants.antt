@@ -1,5 +1,5 @@
 use Rattle.std.proofs.Common.{◌≡◌, map, take, drop}
-use Rattle.lalrpop_norm_tree.specs.Attributes.{attributes_view}
+use Rattle.lalrpop_norm_parts.specs.Attributes.{attributes_view}
 use Rattle.lalrpop_norm_front.specs.GrammarFaults.{attributes_faults}
 use Rattle.lalrpop_norm_front.specs.Walks.{attributes_along}
 use Rattle.lalrpop_norm_front.proofs.prevalidate.rules.validate_attributes.Given as goal

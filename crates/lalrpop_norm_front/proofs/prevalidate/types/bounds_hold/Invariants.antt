@@ -1,7 +1,7 @@
 use Rattle.std.proofs.Common.{◌≡◌, map, drop}
 use Rattle.std.specs.List.{list_any}
 use Rattle.lalrpop_norm_tree.specs.Types.{type_view}
-use Rattle.lalrpop_norm_tree.specs.Bounds.{bound_view}
+use Rattle.lalrpop_norm_parts.specs.Bounds.{bound_view}
 use Rattle.lalrpop_norm_front.specs.TypeFaults.{bound_holds}
 use Rattle.lalrpop_norm_front.proofs.prevalidate.types.bounds_hold.Given as goal
 

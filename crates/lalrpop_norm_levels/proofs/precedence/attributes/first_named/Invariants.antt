@@ -1,5 +1,5 @@
 use Rattle.std.proofs.Common.{◌≡◌, drop}
-use Rattle.lalrpop_norm_tree.specs.Attributes.{attributes_view}
+use Rattle.lalrpop_norm_parts.specs.Attributes.{attributes_view}
 use Rattle.lalrpop_norm_model.specs.Levels.{first_named}
 use Rattle.lalrpop_norm_levels.proofs.precedence.attributes.first_named.Given as goal
 

@@ -1,5 +1,5 @@
 use Rattle.std.proofs.Common.{◌≡◌, map, take}
-use Rattle.lalrpop_norm_tree.specs.Reprs.{repr_view}
+use Rattle.lalrpop_norm_parts.specs.Reprs.{repr_view}
 use Rattle.lalrpop_norm_repr.proofs.action.copy.copy_types.Given as goal
 
 abbrev pub invariant-loop-ty : goal.invariant-loop-ty

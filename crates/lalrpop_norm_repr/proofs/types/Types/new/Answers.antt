@@ -1,9 +1,9 @@
 use Rattle.std.proofs.Common.{◌≡◌, ◌∙◌, ◌∷◌, [], map, ap, refl, codes, Option, unwrap_or}
 use Rattle.std.specs.Prelude.{option_map}
-use Rattle.lalrpop_norm_tree.specs.declared.names.NonterminalString.{NonterminalString}
-use Rattle.lalrpop_norm_tree.specs.declared.names.TerminalString.{TerminalString}
-use Rattle.lalrpop_norm_tree.specs.declared.names.TerminalString.TheVariants.{Error}
-use Rattle.lalrpop_norm_tree.specs.Reprs.{ReprData, repr_view}
+use Rattle.lalrpop_norm_parts.specs.declared.names.NonterminalString.{NonterminalString}
+use Rattle.lalrpop_norm_parts.specs.declared.names.TerminalString.{TerminalString}
+use Rattle.lalrpop_norm_parts.specs.declared.names.TerminalString.TheVariants.{Error}
+use Rattle.lalrpop_norm_parts.specs.Reprs.{ReprData, repr_view}
 use Rattle.lalrpop_norm_repr.specs.Tables.{rows, unit_type, static_str, util_type}
 use Rattle.lalrpop_norm_repr.proofs.SameTables.{same_tables}
 use Rattle.lalrpop_norm_repr.proofs.types.Types.new.Goals as goal

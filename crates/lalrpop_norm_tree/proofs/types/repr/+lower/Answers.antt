@@ -2,7 +2,7 @@ use Rattle.std.proofs.Common.{rules, arith, ◌∙◌, ap}
 use denote.Param.Weighed.{at_most}
 use Rattle.std.proofs.lemmas.List.{take_all}
 use Rattle.lalrpop_norm_tree.proofs.types.TypeRef.TheLaws.{the_size}
-use Rattle.lalrpop_norm_tree.specs.Reprs.{reprs_of}
+use Rattle.lalrpop_norm_parts.specs.Reprs.{reprs_of}
 use Rattle.lalrpop_norm_tree.proofs.TypeLemmas.{none_in_each, lowered_one_by_one}
 use Rattle.lalrpop_norm_tree.proofs.types.repr.+lower.Goals as goal
 

@@ -1,7 +1,7 @@
 use Rattle.std.proofs.Common.{◌≡◌, Option, Bor, map, subst}
 use Rattle.std.specs.Prelude.{IfOk, option_map}
 use Rattle.lalrpop_norm_tree.specs.declared.symbol.SymbolKind.{SymbolKind}
-use Rattle.lalrpop_norm_tree.specs.Reprs.{ReprData, repr_view}
+use Rattle.lalrpop_norm_parts.specs.Reprs.{ReprData, repr_view}
 use Rattle.lalrpop_norm_tree.specs.Symbols.{kind_view}
 use Rattle.lalrpop_norm_repr.specs.Tables.{type_table}
 use Rattle.lalrpop_norm_types.proofs.ClauseLemmas.{sources_mean}

@@ -1,5 +1,5 @@
 use Rattle.std.proofs.Common.{◌≡◌, drop}
-use Rattle.lalrpop_norm_tree.specs.Reprs.{reprs_view}
+use Rattle.lalrpop_norm_parts.specs.Reprs.{reprs_view}
 use Rattle.lalrpop_norm_tree.specs.Symbols.{argument_patterns_view}
 use Rattle.lalrpop_norm_model.specs.TuplePatterns.{misfits_of}
 use Rattle.lalrpop_norm_types.specs.TableFaults.{faults_at}

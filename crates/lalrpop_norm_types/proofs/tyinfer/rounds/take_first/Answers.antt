@@ -1,4 +1,4 @@
-use Rattle.lalrpop_norm_tree.specs.Reprs.{repr_view}
+use Rattle.lalrpop_norm_parts.specs.Reprs.{repr_view}
 use Rattle.lalrpop_norm_repr.specs.Tables.{type_table}
 use Rattle.lalrpop_norm_types.proofs.VisitLemmas.{taken_new, taken_none}
 use Rattle.lalrpop_norm_types.proofs.tyinfer.rounds.take_first.Goals as goal

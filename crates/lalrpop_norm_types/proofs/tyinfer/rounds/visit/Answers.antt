@@ -1,6 +1,6 @@
 use Rattle.std.proofs.Common.{Bor, sym, ◌∙◌}
-use Rattle.lalrpop_norm_tree.specs.declared.lowered.TypeRepr.{TypeRepr}
-use Rattle.lalrpop_norm_tree.specs.Reprs.{repr_view}
+use Rattle.lalrpop_norm_parts.specs.declared.lowered.TypeRepr.{TypeRepr}
+use Rattle.lalrpop_norm_parts.specs.Reprs.{repr_view}
 use Rattle.lalrpop_norm_repr.specs.Tables.{type_table}
 use Rattle.lalrpop_norm_types.proofs.VisitLemmas.{taken_typed, untyped_none}
 use Rattle.lalrpop_norm_types.proofs.tyinfer.rounds.visit.Goals as goal

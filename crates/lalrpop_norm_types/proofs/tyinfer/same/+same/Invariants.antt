@@ -1,5 +1,5 @@
 use Rattle.std.proofs.Common.{◌≡◌, drop}
-use Rattle.lalrpop_norm_tree.specs.Reprs.{reprs_view}
+use Rattle.lalrpop_norm_parts.specs.Reprs.{reprs_view}
 use Rattle.lalrpop_norm_model.specs.SameTypes.{same_types}
 use Rattle.lalrpop_norm_types.proofs.tyinfer.same.+same.Given as goal
 

@@ -1,0 +1,16 @@
+use Rattle.std.proofs.Common.{arith}
+use Rattle.std.proofs.lemmas.List.{take_more}
+use Rattle.lalrpop_norm_parts.proofs.PatternLemmas.{same_more, same_more_fields}
+use Rattle.lalrpop_norm_parts.proofs.pattern.copy.+copy.Goals as goal
+
+pub copy_patterns-loop-pattern-preserved : goal.copy_patterns-loop-pattern-preserved
+copy_patterns-loop-pattern-preserved g t c =
+    let i = c.loop-pattern.pattern-index in
+    let more = take_more c.args.patterns.now i c.pattern-item.result (omega arith) in
+    rw (c.in_ok-push.ensures.items, more) (same_more _ _ _ _ _ c.loop-pattern.invariant (rw (← c.pattern-item.is) c.in_ok-copy.ensures))
+
+pub copy_fields-loop-field-preserved : goal.copy_fields-loop-field-preserved
+copy_fields-loop-field-preserved g t c =
+    let i = c.loop-field.field-index in
+    let more = take_more c.args.fields.now i c.field-item.result (omega arith) in
+    rw (c.in_ok-push.ensures.items, more) (same_more_fields _ _ _ _ _ c.loop-field.invariant (rw (← c.field-item.is) c.in_ok-copy_field.ensures))

@@ -1,0 +1,12 @@
+pub mod Paths
+pub mod Attributes
+pub mod Reprs
+pub mod Bounds
+pub mod Patterns
+pub mod Texts
+pub mod TypeTexts
+pub mod Accessors
+pub mod BoundTexts
+pub mod KnownTexts
+pub mod LoweredTexts
+pub mod PatternTexts
