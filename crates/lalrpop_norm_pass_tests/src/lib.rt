@@ -1,5 +1,5 @@
-//! Runs of the single passes on values: names, checks, conditions, levels, groups and repeats. They are a crate of their own,
-//! since a crate with tests is proved twice, and apart from the runs on whole grammars, since it needs few libraries so.
+//! Runs of the single passes on small grammars: names, checks, conditions, levels, groups and repeats. They are a crate of their
+//! own, since a crate with tests is proved twice, and apart from the runs on whole grammars, since it needs few libraries so.
 #![tactic(auto)]
 
 #[cfg(test)]
@@ -9,13 +9,16 @@ mod faults;
 #[cfg(test)]
 mod features;
 #[cfg(test)]
+mod forms;
+#[cfg(test)]
 mod levels;
-pub mod made;
 #[cfg(test)]
 mod names;
 #[cfg(test)]
-mod parts;
+mod precedence;
 #[cfg(test)]
-mod small;
+mod prevalidate;
+#[cfg(test)]
+mod trees;
 #[cfg(test)]
 mod values;

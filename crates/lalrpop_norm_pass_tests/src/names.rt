@@ -1,265 +1,241 @@
 //! Grammars whose names are resolved, and refused ones.
-use crate::parts::{self, alternative, fault_text, id, macro_call, reference};
-use crate::small::{self, nonterminal};
-use lalrpop_norm_faults::{FaultKind, NormFailure, NormResult};
+use crate::forms::items;
+use crate::trees::{call_groups, fault_text, last_item, last_rule, mapped, match_block, tree};
+use lalrpop_norm_faults::{NormFailure, NormResult};
 use lalrpop_norm_names::resolve::resolve;
 use lalrpop_norm_tree::grammar::parse_tree::*;
-use lalrpop_norm_tree::grammar::pattern::{Pattern, PatternKind};
 use std::alloc::Global;
-use std::process::Abort;
 use std::test::*;
 
-fn bare(alloc: Global, text: &str) -> Result<TerminalString, NoMemory> {
-    Ok(TerminalString::Bare(Atom::new(alloc, text)?))
-}
+// ---- what is told
 
-fn rule(
-    alloc: Global,
-    text: &str,
-    at: Span,
-    args: Vec<NonterminalString>,
-    symbols: Vec<Symbol>,
-) -> Result<GrammarItem, NoMemory> {
-    let only = alternative(alloc, at, symbols);
-    Ok(GrammarItem::Nonterminal(NonterminalData {
-        args,
-        ..parts::rule(alloc, at, text, vec![in alloc; only]?)?
-    }))
-}
-
-/// `extern { enum T { NAME => _ } }`.
-fn extern_of(alloc: Global, text: &str, span: Span) -> Result<GrammarItem, NoMemory> {
-    let conversion = Conversion {
-        span,
-        attributes: Vec::new(alloc),
-        from: bare(alloc, text)?,
-        to: Pattern {
-            span,
-            kind: PatternKind::Underscore,
-        },
-    };
-    Ok(GrammarItem::ExternToken(ExternToken {
-        span,
-        associated_types: Vec::new(alloc),
-        enum_token: Some(EnumToken {
-            type_name: TypeRef::Id(Atom::new(alloc, "T")?),
-            type_span: span,
-            conversions: vec![in alloc; conversion]?,
-        }),
-    }))
-}
-
-/// `match { "x" => NAME }`.
-fn match_of(alloc: Global, text: &str, span: Span) -> Result<GrammarItem, NoMemory> {
-    let literal = TerminalLiteral::Quoted(Atom::new(alloc, "x")?);
-    let mapping = MatchMapping::Terminal(bare(alloc, text)?);
-    let items = vec![in alloc; MatchItem::Mapped(literal, mapping, span)]?;
-    Ok(GrammarItem::MatchToken(MatchToken {
-        contents: vec![in alloc; MatchContents { items }]?,
-        span,
-    }))
-}
-
-fn grammar(alloc: Global, items: Vec<GrammarItem>) -> Result<Grammar, NoMemory> {
-    small::grammar(alloc, Span(0, 7), items)
-}
-
-fn is_refused(
-    rt: &impl Abort,
-    answer: NormResult<Grammar>,
-    fault: FaultKind,
-    span: Span,
-    message: &str,
-) {
+/// `F29 3..4`, or `Ok`.
+fn answer_text(alloc: Global, answer: NormResult<Grammar>) -> Result<String, Fail> {
     match answer {
-        Err(NormFailure::Refused(error)) => {
-            assert_eq!(rt; error.fault, fault);
-            assert_eq!(rt; error.span, span);
-            assert_eq!(rt; error.message.as_str(), message);
-        }
-        Err(NormFailure::Memory) => assert!(rt; false, "memory"),
-        Ok(_) => assert!(rt; false, "taken"),
-    }
-}
-
-/// `X = X Id<Y>; Id<T> = T;`
-#[test]
-fn unknown_name(rt: HostRuntime) -> Result<(), Fail> {
-    let alloc = rt.alloc();
-    let args = vec![in alloc; id(alloc, Span(18, 19), "Y")?]?;
-    let call = macro_call(alloc, Span(15, 20), "Id", args)?;
-    let symbols = vec![in alloc; id(alloc, Span(13, 14), "X")?, call]?;
-    let items = vec![in alloc;
-        rule(alloc, "X", Span(9, 10), Vec::new(alloc), symbols)?,
-        rule(
-            alloc,
-            "Id",
-            Span(22, 27),
-            vec![in alloc; nonterminal(alloc, "T")?]?,
-            vec![in alloc; id(alloc, Span(30, 31), "T")?]?
-        )?,
-    ]?;
-    is_refused(
-        &rt,
-        resolve(alloc, grammar(alloc, items)?),
-        FaultKind::NoDefinition,
-        Span(18, 19),
-        "`Y` is not declared: add a rule or a terminal of this name, or correct the name",
-    );
-    Ok(())
-}
-
-/// `A = ; A = ;`, then `A = ; extern { enum T { A => _ } }`, then `A = ; match { "x" => A }`.
-#[test]
-fn names_twice(rt: HostRuntime) -> Result<(), Fail> {
-    let alloc = rt.alloc();
-    let first = rule(alloc, "A", Span(9, 10), Vec::new(alloc), Vec::new(alloc))?;
-    let second = rule(alloc, "A", Span(20, 21), Vec::new(alloc), Vec::new(alloc))?;
-    is_refused(
-        &rt,
-        resolve(alloc, grammar(alloc, vec![in alloc; first, second]?)?),
-        FaultKind::NameDeclaredTwice,
-        Span(20, 21),
-        "`A` is the name of a nonterminal already, and this nonterminal has it too: rename one of them",
-    );
-    let first = rule(alloc, "A", Span(9, 10), Vec::new(alloc), Vec::new(alloc))?;
-    let tokens = extern_of(alloc, "A", Span(40, 56))?;
-    is_refused(
-        &rt,
-        resolve(alloc, grammar(alloc, vec![in alloc; tokens, first]?)?),
-        FaultKind::NameDeclaredTwice,
-        Span(40, 56),
-        "`A` is the name of a nonterminal already, and this terminal has it too: rename one of them",
-    );
-    let first = rule(alloc, "A", Span(9, 10), Vec::new(alloc), Vec::new(alloc))?;
-    let tokens = match_of(alloc, "A", Span(30, 38))?;
-    is_refused(
-        &rt,
-        resolve(alloc, grammar(alloc, vec![in alloc; tokens, first]?)?),
-        FaultKind::NameDeclaredTwice,
-        Span(30, 38),
-        "`A` is the name of a nonterminal already, and this terminal has it too: rename one of them",
-    );
-    Ok(())
-}
-
-/// `X<Y, Y> = ;`
-#[test]
-fn argument_twice(rt: HostRuntime) -> Result<(), Fail> {
-    let alloc = rt.alloc();
-    let args = vec![in alloc; nonterminal(alloc, "Y")?, nonterminal(alloc, "Y")?]?;
-    let items = vec![in alloc; rule(alloc, "X", Span(9, 15), args, Vec::new(alloc))?]?;
-    is_refused(
-        &rt,
-        resolve(alloc, grammar(alloc, items)?),
-        FaultKind::ArgumentTwice,
-        Span(9, 15),
-        "two arguments of this macro are named `Y`: rename one of them",
-    );
-    Ok(())
-}
-
-/// `extern { enum T { B => _ } } A = A B; M<B> = B;`: in the macro `B` is its argument.
-#[test]
-fn meanings(rt: HostRuntime) -> Result<(), Fail> {
-    let alloc = rt.alloc();
-    let symbols = vec![in alloc; id(alloc, Span(3, 4), "A")?, id(alloc, Span(5, 6), "B")?]?;
-    let items = vec![in alloc;
-        extern_of(alloc, "B", Span(0, 1))?,
-        rule(alloc, "A", Span(2, 3), Vec::new(alloc), symbols)?,
-        rule(
-            alloc,
-            "M",
-            Span(7, 8),
-            vec![in alloc; nonterminal(alloc, "B")?]?,
-            vec![in alloc; id(alloc, Span(8, 9), "B")?]?
-        )?,
-    ]?;
-    let terminal = SymbolKind::Terminal(bare(alloc, "B")?);
-    let in_rule = vec![in alloc;
-        reference(alloc, Span(3, 4), "A")?,
-        Symbol::new(Span(5, 6), terminal),
-    ]?;
-    let in_macro = vec![in alloc; reference(alloc, Span(8, 9), "B")?]?;
-    let want = vec![in alloc;
-        extern_of(alloc, "B", Span(0, 1))?,
-        rule(alloc, "A", Span(2, 3), Vec::new(alloc), in_rule)?,
-        rule(
-            alloc,
-            "M",
-            Span(7, 8),
-            vec![in alloc; nonterminal(alloc, "B")?]?,
-            in_macro
-        )?,
-    ]?;
-    let Ok(resolved) = resolve(alloc, grammar(alloc, items)?) else {
-        return Err(Fail::from("refused"));
-    };
-    assert!(rt; resolved == grammar(alloc, want)?);
-    Ok(())
-}
-
-// ---- each fault of names
-
-/// What `resolve` answers on `extern { enum T { B => _ } } A = ; M<P> = ;` and that rule: `F29 3..4`, or `Ok`.
-fn told_beside(alloc: Global, rule_x: GrammarItem) -> Result<String, NoMemory> {
-    let args = vec![in alloc; nonterminal(alloc, "P")?]?;
-    let items = vec![in alloc;
-        extern_of(alloc, "B", Span(50, 51))?,
-        rule(alloc, "A", Span(52, 53), Vec::new(alloc), Vec::new(alloc))?,
-        rule(alloc, "M", Span(54, 55), args, Vec::new(alloc))?,
-        rule_x,
-    ]?;
-    match resolve(alloc, grammar(alloc, items)?) {
         Ok(_) => Ok(String::from_str(alloc, "Ok")?),
         Err(failure) => fault_text(alloc, failure),
     }
 }
 
-/// Of a macro `X<Q>` with that symbol.
-fn told_of(alloc: Global, symbol: Symbol) -> Result<String, NoMemory> {
-    let args = vec![in alloc; nonterminal(alloc, "Q")?]?;
-    let rule_x = rule(alloc, "X", Span(56, 57), args, vec![in alloc; symbol]?)?;
-    told_beside(alloc, rule_x)
+/// `F29 3..4: ` and the message, or `Ok`.
+fn whole_text(alloc: Global, answer: NormResult<Grammar>) -> Result<String, Fail> {
+    match answer {
+        Err(NormFailure::Refused(error)) => Ok(format!(in alloc;
+            "{} {}..{}: {}",
+            error.fault.code(),
+            error.span.0,
+            error.span.1,
+            error.message
+        )?),
+        Err(NormFailure::Memory) => Err(Fail::from("no memory")),
+        Ok(_) => Ok(String::from_str(alloc, "Ok")?),
+    }
 }
 
-/// Of a macro `X<Q>` with a condition over that name, and with a name of nothing behind it.
-fn told_of_condition(alloc: Global, name: &str) -> Result<String, NoMemory> {
-    let condition = Condition {
+// ---- faults with their messages
+
+/// `match { "x" => NAME }`.
+fn match_of(alloc: Global, name: &str, at: Span) -> Result<GrammarItem, NoMemory> {
+    let bare = TerminalString::Bare(Atom::new(alloc, name)?);
+    let item = mapped(alloc, "x", bare, at)?;
+    match_block(alloc, at, vec![in alloc; item]?)
+}
+
+/// Of a match block that makes that name, and those items behind it.
+fn told_behind_match(alloc: Global, name: &str, at: Span, items: &str) -> Result<String, Fail> {
+    let mut grammar = tree(alloc, items)?;
+    grammar.items.insert(0, match_of(alloc, name, at)?)?;
+    whole_text(alloc, resolve(alloc, grammar))
+}
+
+/// Of those items, a group in them for a call of the nonterminal that it begins with.
+fn told_with_calls(alloc: Global, items: &str) -> Result<String, Fail> {
+    let mut grammar = tree(alloc, items)?;
+    for item in grammar.items.iter_mut() {
+        if let GrammarItem::Nonterminal(rule) = item {
+            make_calls(rule);
+        }
+    }
+    whole_text(alloc, resolve(alloc, grammar))
+}
+
+fn make_calls(rule: &mut NonterminalData) {
+    for alternative in rule.alternatives.iter_mut() {
+        call_groups(&mut alternative.expr.symbols);
+    }
+}
+
+const MESSAGES: [(&str, &str); 4] = [
+    // X = X Id<Y>; Id<T> = T;
+    (
+        items!(
+            rule "X" [9, 10]
+                | [9, 10] [[13, 14] id "X", [15, 20] group [[15, 17] rule "Id", [18, 19] id "Y"]];
+            rule "Id" [22, 27] {"args":["T"]} | [22, 27] [[30, 31] id "T"]
+        ),
+        "F27 18..19: `Y` is not declared: add a rule or a terminal of this name, or correct the name",
+    ),
+    // A = ; A = ;
+    (
+        items!(rule "A" [9, 10] | [9, 10] []; rule "A" [20, 21] | [20, 21] []),
+        "F25 20..21: `A` is the name of a nonterminal already, and this nonterminal has it too: rename one of them",
+    ),
+    // extern { enum T { A => _ } } A = ;
+    (
+        items!(tokens [40, 56] [[40, 56] "A"]; rule "A" [9, 10] | [9, 10] []),
+        "F25 40..56: `A` is the name of a nonterminal already, and this terminal has it too: rename one of them",
+    ),
+    // X<Y, Y> = ;
+    (
+        items!(rule "X" [9, 15] {"args":["Y","Y"]} | [9, 15] []),
+        "F26 9..15: two arguments of this macro are named `Y`: rename one of them",
+    ),
+];
+
+#[test]
+fn messages(rt: HostRuntime) -> Result<(), Fail> {
+    for (items, want) in MESSAGES {
+        let text = told_with_calls(rt.alloc(), items)?;
+        assert_eq!(rt; text.as_str(), want, "{items}");
+    }
+    Ok(())
+}
+
+/// Rules come first, then conversions, then match items: the later one of these is refused, wherever it stands.
+#[test]
+fn later_definitions(rt: HostRuntime) -> Result<(), Fail> {
+    let alloc = rt.alloc();
+    // match { "x" => A } A = ;
+    let rule_a = items!(rule "A" [9, 10] | [9, 10] []);
+    let text = told_behind_match(alloc, "A", Span(30, 38), rule_a)?;
+    assert_eq!(rt;
+        text.as_str(),
+        "F25 30..38: `A` is the name of a nonterminal already, and this terminal has it too: rename one of them"
+    );
+    // match { "x" => C } extern { enum T { C => _ } }
+    let conversion = items!(tokens [3, 4] [[3, 4] "C"]);
+    let text = told_behind_match(alloc, "C", Span(5, 6), conversion)?;
+    assert_eq!(rt;
+        text.as_str(),
+        "F25 5..6: `C` is the name of a terminal already, and this terminal has it too: rename one of them"
+    );
+    Ok(())
+}
+
+// ---- what names become
+
+/// `extern { enum T { B => _ } } A = A B; M<B> = B;`, with these symbols.
+macro_rules! scopes {
+    ([$($in_rule:tt)*] [$($in_macro:tt)*]) => {
+        items!(
+            tokens [0, 1] [[0, 1] "B"];
+            rule "A" [2, 3] | [2, 3] [$($in_rule)*];
+            rule "M" [7, 8] {"args":["B"]} | [7, 8] [$($in_macro)*]
+        )
+    };
+}
+
+/// In the macro `B` is its argument.
+#[test]
+fn meanings(rt: HostRuntime) -> Result<(), Fail> {
+    let alloc = rt.alloc();
+    let given = scopes!([[3, 4] id "A", [5, 6] id "B"] [[8, 9] id "B"]);
+    let want = scopes!([[3, 4] rule "A", [5, 6] kind {"Terminal":{"Bare":"B"}}] [[8, 9] rule "B"]);
+    let resolved = resolve(alloc, tree(alloc, given)?)?;
+    assert!(rt; resolved == tree(alloc, want)?);
+    Ok(())
+}
+
+// ---- each fault of names
+
+/// `extern { enum T { B => _ } } A = ; M<P> = ;`
+const BESIDE: &str = items!(
+    tokens [50, 51] [[50, 51] "B"];
+    rule "A" [52, 53] | [52, 53] [];
+    rule "M" [54, 55] {"args":["P"]} | [54, 55] []
+);
+
+/// What `resolve` answers on these and that item.
+fn told_beside(alloc: Global, item: GrammarItem) -> Result<String, Fail> {
+    let mut grammar = tree(alloc, BESIDE)?;
+    grammar.items.push(item)?;
+    answer_text(alloc, resolve(alloc, grammar))
+}
+
+/// On these and that rule, a group in it for a call of the nonterminal that it begins with.
+fn told_of(alloc: Global, items: &str) -> Result<String, Fail> {
+    let mut rule = last_rule(alloc, items)?;
+    make_calls(&mut rule);
+    told_beside(alloc, GrammarItem::Nonterminal(rule))
+}
+
+/// On these and that rule, under a condition over that name.
+fn told_under(alloc: Global, items: &str, name: &str) -> Result<String, Fail> {
+    let mut rule = last_rule(alloc, items)?;
+    for alternative in rule.alternatives.iter_mut() {
+        alternative.condition = Some(condition(alloc, name)?);
+    }
+    told_beside(alloc, GrammarItem::Nonterminal(rule))
+}
+
+/// `NAME == "a"`, at 3..4.
+fn condition(alloc: Global, name: &str) -> Result<Condition, NoMemory> {
+    Ok(Condition {
         span: Span(3, 4),
-        lhs: nonterminal(alloc, name)?,
+        lhs: NonterminalString(Atom::new(alloc, name)?),
         rhs: Atom::new(alloc, "a")?,
         op: ConditionOp::Equals,
+    })
+}
+
+/// `X<Q> = ..` of that symbol.
+macro_rules! rule_x {
+    ($($symbol:tt)*) => {
+        items!(rule "X" [56, 57] {"args":["Q"]} | [56, 57] [$($symbol)*])
     };
-    let symbols = vec![in alloc; id(alloc, Span(8, 9), "Z")?]?;
-    let only = Alternative {
-        condition: Some(condition),
-        ..alternative(alloc, Span(57, 58), symbols)
+}
+
+/// `X<Q> = NAME` of a name of which it is not said what it names.
+macro_rules! of_id {
+    ($name:literal) => {
+        rule_x!([3, 4] id $name)
     };
-    let rule_x = NonterminalData {
-        args: vec![in alloc; nonterminal(alloc, "Q")?]?,
-        ..parts::rule(alloc, Span(56, 57), "X", vec![in alloc; only]?)?
+}
+
+/// `X<Q> = NAME` of a nonterminal.
+macro_rules! of_rule {
+    ($name:literal) => {
+        rule_x!([3, 4] rule $name)
     };
-    told_beside(alloc, GrammarItem::Nonterminal(rule_x))
+}
+
+/// `X<Q> = NAME<..>` of those arguments.
+macro_rules! of_call {
+    ($name:literal $(, $at:tt $argument:literal)*) => {
+        rule_x!([3, 4] group [[3, 4] rule $name $(, $at id $argument)*])
+    };
 }
 
 /// Each name as an identifier, and as a nonterminal.
 #[test]
 fn names_in_scope(rt: HostRuntime) -> Result<(), Fail> {
-    let alloc = rt.alloc();
     let rows = [
-        ("A", "Ok", "Ok"),
-        ("Q", "Ok", "Ok"),
-        ("B", "Ok", "F29 3..4"),
-        ("M", "F32 3..4", "F29 3..4"),
-        ("X", "F32 3..4", "F29 3..4"),
-        ("P", "F27 3..4", "F27 3..4"),
+        (of_id!("A"), "Ok"),
+        (of_rule!("A"), "Ok"),
+        (of_id!("Q"), "Ok"),
+        (of_rule!("Q"), "Ok"),
+        (of_id!("B"), "Ok"),
+        (of_rule!("B"), "F29 3..4"),
+        (of_id!("M"), "F32 3..4"),
+        (of_rule!("M"), "F29 3..4"),
+        (of_id!("X"), "F32 3..4"),
+        (of_rule!("X"), "F29 3..4"),
+        (of_id!("P"), "F27 3..4"),
+        (of_rule!("P"), "F27 3..4"),
     ];
-    for (name, identifier, symbol) in rows {
-        let told = told_of(alloc, id(alloc, Span(3, 4), name)?)?;
-        assert_eq!(rt; told.as_str(), identifier, "{name}");
-        let told = told_of(alloc, reference(alloc, Span(3, 4), name)?)?;
-        assert_eq!(rt; told.as_str(), symbol, "{name}");
+    for (items, want) in rows {
+        let text = told_of(rt.alloc(), items)?;
+        assert_eq!(rt; text.as_str(), want, "{items}");
     }
     Ok(())
 }
@@ -267,23 +243,26 @@ fn names_in_scope(rt: HostRuntime) -> Result<(), Fail> {
 /// Each name called without arguments, with one and with two.
 #[test]
 fn calls(rt: HostRuntime) -> Result<(), Fail> {
-    let alloc = rt.alloc();
     let rows = [
-        ("M", "F31 3..4", "Ok", "F31 3..4"),
-        ("A", "F30 3..4", "F30 3..4", "F30 3..4"),
-        ("B", "F30 3..4", "F30 3..4", "F30 3..4"),
-        ("Q", "F30 3..4", "F30 3..4", "F30 3..4"),
-        ("P", "F27 3..4", "F27 3..4", "F27 3..4"),
+        (of_call!("M"), "F31 3..4"),
+        (of_call!("M", [5, 6] "A"), "Ok"),
+        (of_call!("M", [5, 6] "A", [7, 8] "A"), "F31 3..4"),
+        (of_call!("A"), "F30 3..4"),
+        (of_call!("A", [5, 6] "A"), "F30 3..4"),
+        (of_call!("A", [5, 6] "A", [7, 8] "A"), "F30 3..4"),
+        (of_call!("B"), "F30 3..4"),
+        (of_call!("B", [5, 6] "A"), "F30 3..4"),
+        (of_call!("B", [5, 6] "A", [7, 8] "A"), "F30 3..4"),
+        (of_call!("Q"), "F30 3..4"),
+        (of_call!("Q", [5, 6] "A"), "F30 3..4"),
+        (of_call!("Q", [5, 6] "A", [7, 8] "A"), "F30 3..4"),
+        (of_call!("P"), "F27 3..4"),
+        (of_call!("P", [5, 6] "A"), "F27 3..4"),
+        (of_call!("P", [5, 6] "A", [7, 8] "A"), "F27 3..4"),
     ];
-    for (name, none, one, two) in rows {
-        let call = macro_call(alloc, Span(3, 4), name, Vec::new(alloc))?;
-        assert_eq!(rt; told_of(alloc, call)?.as_str(), none, "{name}");
-        let args = vec![in alloc; id(alloc, Span(5, 6), "A")?]?;
-        let call = macro_call(alloc, Span(3, 4), name, args)?;
-        assert_eq!(rt; told_of(alloc, call)?.as_str(), one, "{name}");
-        let args = vec![in alloc; id(alloc, Span(5, 6), "A")?, id(alloc, Span(7, 8), "A")?]?;
-        let call = macro_call(alloc, Span(3, 4), name, args)?;
-        assert_eq!(rt; told_of(alloc, call)?.as_str(), two, "{name}");
+    for (items, want) in rows {
+        let text = told_of(rt.alloc(), items)?;
+        assert_eq!(rt; text.as_str(), want, "{items}");
     }
     Ok(())
 }
@@ -299,33 +278,20 @@ fn conditions(rt: HostRuntime) -> Result<(), Fail> {
         ("P", "F27 3..4"),
     ];
     for (name, want) in rows {
-        let told = told_of_condition(rt.alloc(), name)?;
-        assert_eq!(rt; told.as_str(), want, "{name}");
+        let text = told_under(rt.alloc(), rule_x!([8, 9] id "Z"), name)?;
+        assert_eq!(rt; text.as_str(), want, "{name}");
     }
     Ok(())
 }
 
-/// Rules come first, then conversions, then match items: the later one of these is refused, wherever it stands.
+/// A terminal of the name of a terminal, and one of the name of a macro.
 #[test]
-fn later_definitions(rt: HostRuntime) -> Result<(), Fail> {
+fn names_beside(rt: HostRuntime) -> Result<(), Fail> {
     let alloc = rt.alloc();
-    let items = vec![in alloc;
-        match_of(alloc, "C", Span(5, 6))?,
-        extern_of(alloc, "C", Span(3, 4))?,
-    ]?;
-    let message =
-        "`C` is the name of a terminal already, and this terminal has it too: rename one of them";
-    let answer = resolve(alloc, grammar(alloc, items)?);
-    is_refused(
-        &rt,
-        answer,
-        FaultKind::NameDeclaredTwice,
-        Span(5, 6),
-        message,
-    );
-    let told = told_beside(alloc, extern_of(alloc, "B", Span(3, 4))?)?;
-    assert_eq!(rt; told.as_str(), "F25 3..4");
-    let told = told_beside(alloc, match_of(alloc, "M", Span(3, 4))?)?;
-    assert_eq!(rt; told.as_str(), "F25 3..4");
+    let conversion = last_item(alloc, items!(tokens [3, 4] [[3, 4] "B"]))?;
+    let text = told_beside(alloc, conversion)?;
+    assert_eq!(rt; text.as_str(), "F25 3..4");
+    let text = told_beside(alloc, match_of(alloc, "M", Span(3, 4))?)?;
+    assert_eq!(rt; text.as_str(), "F25 3..4");
     Ok(())
 }

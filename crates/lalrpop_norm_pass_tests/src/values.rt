@@ -1,5 +1,6 @@
 //! Which symbols give the values of an alternative, and where placeholders stand.
-use crate::parts::{alternative, chosen, id};
+use crate::forms::items;
+use crate::trees::last_rule;
 use lalrpop_norm_front::norm_util::{
     AlternativeAction, Presence, Symbols, analyze_action, analyze_expr, check_between_braces,
 };
@@ -7,80 +8,94 @@ use lalrpop_norm_tree::grammar::parse_tree::*;
 use std::alloc::Global;
 use std::test::*;
 
-fn plain(alloc: Global, at: Span) -> Result<Symbol, NoMemory> {
-    id(alloc, at, "a")
+/// ` 2 mut y 4..5` for each: its place, its name, and where the symbol inside stands.
+fn named_text(alloc: Global, named: &[(usize, ArgPattern, &Symbol)]) -> Result<String, Fail> {
+    let mut text = String::from_str(alloc, "named")?;
+    for (place, name, symbol) in named {
+        let one = format!(in alloc; " {place} {name} {}..{}", symbol.span.0, symbol.span.1)?;
+        text.push_str(&one)?;
+    }
+    Ok(text)
 }
 
-fn named(alloc: Global, name: Name, span: Span) -> Result<Symbol, NoMemory> {
-    Ok(Symbol {
-        span: Span(0, 0),
-        kind: SymbolKind::Name(name, Box::new(alloc, plain(alloc, span)?)?),
-    })
+/// ` 2 4..5` for each.
+fn anonymous_text(alloc: Global, anonymous: &[(usize, &Symbol)]) -> Result<String, Fail> {
+    let mut text = String::from_str(alloc, "anonymous")?;
+    for (place, symbol) in anonymous {
+        let one = format!(in alloc; " {place} {}..{}", symbol.span.0, symbol.span.1)?;
+        text.push_str(&one)?;
+    }
+    Ok(text)
+}
+
+fn symbols_text(alloc: Global, symbols: &Symbols<'_>) -> Result<String, Fail> {
+    match symbols {
+        Symbols::Named(named) => named_text(alloc, named),
+        Symbols::Anon(anonymous) => anonymous_text(alloc, anonymous),
+    }
+}
+
+/// The only alternative of those items.
+fn only_alternative(alloc: Global, items: &str) -> Result<Alternative, Fail> {
+    let mut rule = last_rule(alloc, items)?;
+    match rule.alternatives.pop() {
+        Some(alternative) => Ok(alternative),
+        None => Err(Fail::from("no alternative")),
+    }
+}
+
+/// Which symbols `analyze_expr` finds.
+fn expr_text(alloc: Global, items: &str) -> Result<String, Fail> {
+    let alternative = only_alternative(alloc, items)?;
+    let symbols = analyze_expr(alloc, &alternative.expr)?;
+    symbols_text(alloc, &symbols)
+}
+
+/// Which symbols `analyze_action` finds, or `code`.
+fn action_text(alloc: Global, items: &str) -> Result<String, Fail> {
+    let alternative = only_alternative(alloc, items)?;
+    match analyze_action(alloc, &alternative)? {
+        AlternativeAction::User(_code) => Ok(String::from_str(alloc, "code")?),
+        AlternativeAction::Default(symbols) => symbols_text(alloc, &symbols),
+    }
 }
 
 /// `a <a> <mut y:a>`.
-#[test]
-fn named_sources(rt: HostRuntime) -> Result<(), Fail> {
-    let alloc = rt.alloc();
-    let y = Name {
-        mutable: true,
-        name: Atom::new(alloc, "y")?,
-    };
-    let symbols = vec![in alloc;
-        plain(alloc, Span(0, 1))?,
-        chosen(alloc, Span(0, 0), plain(alloc, Span(2, 3))?)?,
-        named(alloc, y.clone()?, Span(4, 5))?,
-    ]?;
-    let expr = ExprSymbol { symbols };
-    match analyze_expr(alloc, &expr)? {
-        Symbols::Named(found) => {
-            assert_eq!(rt; found.len(), 1);
-            assert_eq!(rt; found[0].0, 2);
-            assert!(rt; found[0].1 == ArgPattern::Name(y));
-            assert_eq!(rt; found[0].2.span, Span(4, 5));
-        }
-        Symbols::Anon(_found) => assert!(rt; false, "named"),
-    }
-    Ok(())
-}
+const NAMED: &str = items!(rule "A" [0, 9] | [0, 9] [
+    [0, 1] id "a",
+    [0, 0] kind {"Choose":{"span":[2, 3],"kind":{"AmbiguousId":"a"}}},
+    [0, 0] kind {"Name":[{"mutable":true,"name":"y"},{"span":[4, 5],"kind":{"AmbiguousId":"a"}}]}
+]);
 
 /// `a <a>`.
+const CHOSEN: &str = items!(rule "A" [0, 9] | [0, 9] [
+    [0, 1] id "a",
+    [0, 0] kind {"Choose":{"span":[2, 3],"kind":{"AmbiguousId":"a"}}}
+]);
+
+/// `a a`, without code.
+const PLAIN: &str = items!(rule "A" [0, 9] | [0, 3] [[0, 1] id "a", [2, 3] id "a"]);
+
+/// `a a`, with code.
+const CODED: &str =
+    items!(rule "A" [0, 9] | [0, 3] {"action":{"User":"f()"}} [[0, 1] id "a", [2, 3] id "a"]);
+
 #[test]
-fn chosen_sources(rt: HostRuntime) -> Result<(), Fail> {
-    let alloc = rt.alloc();
-    let symbols = vec![in alloc;
-        plain(alloc, Span(0, 1))?,
-        chosen(alloc, Span(0, 0), plain(alloc, Span(2, 3))?)?,
-    ]?;
-    let expr = ExprSymbol { symbols };
-    match analyze_expr(alloc, &expr)? {
-        Symbols::Anon(found) => {
-            assert_eq!(rt; found.len(), 1);
-            assert_eq!(rt; found[0].0, 1);
-            assert_eq!(rt; found[0].1.span, Span(2, 3));
-        }
-        Symbols::Named(_found) => assert!(rt; false, "chosen"),
+fn sources(rt: HostRuntime) -> Result<(), Fail> {
+    let rows = [(NAMED, "named 2 mut y 4..5"), (CHOSEN, "anonymous 1 2..3")];
+    for (items, want) in rows {
+        let text = expr_text(rt.alloc(), items)?;
+        assert_eq!(rt; text.as_str(), want, "{items}");
     }
     Ok(())
 }
 
-/// `a a`, without code and with code.
 #[test]
 fn actions(rt: HostRuntime) -> Result<(), Fail> {
-    let alloc = rt.alloc();
-    let symbols = vec![in alloc; plain(alloc, Span(0, 1))?, plain(alloc, Span(2, 3))?]?;
-    let mut alternative = alternative(alloc, Span(0, 3), symbols);
-    match analyze_action(alloc, &alternative)? {
-        AlternativeAction::Default(symbols) => match symbols {
-            Symbols::Anon(found) => assert_eq!(rt; found.len(), 2),
-            Symbols::Named(_found) => assert!(rt; false, "all"),
-        },
-        AlternativeAction::User(_code) => assert!(rt; false, "no code"),
-    }
-    alternative.action = Some(ActionKind::User(String::from_str(alloc, "f()")?));
-    match analyze_action(alloc, &alternative)? {
-        AlternativeAction::User(_code) => {}
-        AlternativeAction::Default(_symbols) => assert!(rt; false, "code"),
+    let rows = [(PLAIN, "anonymous 0 0..1 1 2..3"), (CODED, "code")];
+    for (items, want) in rows {
+        let text = action_text(rt.alloc(), items)?;
+        assert_eq!(rt; text.as_str(), want, "{items}");
     }
     Ok(())
 }

@@ -1,109 +1,82 @@
 //! Small grammars from end to end: numbers, productions, actions, terminals, types and start symbols.
-use crate::small::*;
 use lalrpop_norm::normalize::{NormFailure, Session, normalize};
+use lalrpop_norm_json::read_tree;
 use lalrpop_norm_repr::grammar::repr::{self, ActionFnDefnKind};
 use lalrpop_norm_tree::grammar::parse_tree::*;
 use std::alloc::Global;
 use std::test::*;
 
-fn lowered(alloc: Global, grammar: Grammar) -> Option<repr::Grammar> {
+// extern { enum Tok { "a" => A(..) } } pub S: () = "a"; pub T: () = S;
+const TWO_RULES: &str =
+    r#"{"prefix":"__","span":[0,68],"type_parameters":[],"parameters":[],"where_clauses":[],"items":[
+{"ExternToken":{"span":[0,36],"associated_types":[],"enum_token":{"type_name":{"Id":"Tok"},"type_span":[14,17],
+"conversions":[{"span":[20,32],"attributes":[],"from":{"Literal":{"Quoted":"a"}},"to":{"span":[27,32],"kind":{"Enum":
+[{"absolute":false,"ids":["A"]},[{"span":[29,31],"kind":"DotDot"}]]}}}]}}},
+{"Nonterminal":{"visibility":{"Pub":null},"name":"S","attributes":[],"span":[41,46],"args":[],"type_decl":{"Tuple":[]},
+"alternatives":[{"span":[49,52],"expr":{"symbols":[{"span":[49,52],"kind":{"Terminal":{"Literal":{"Quoted":"a"}}}}]},
+"condition":null,"action":null,"attributes":[]}]}},
+{"Nonterminal":{"visibility":{"Pub":null},"name":"T","attributes":[],"span":[41,46],"args":[],"type_decl":{"Tuple":[]},
+"alternatives":[{"span":[49,52],"expr":{"symbols":[{"span":[49,52],"kind":{"Nonterminal":"S"}}]},
+"condition":null,"action":null,"attributes":[]}]}}],"attributes":[],"module_attributes":[]}"#;
+
+// extern { enum Tok { "a" => A(..) } } pub S: u8 = { "a" => f(<>), <S> };
+const CODES: &str =
+    r#"{"prefix":"__","span":[0,53],"type_parameters":[],"parameters":[],"where_clauses":[],"items":[
+{"ExternToken":{"span":[0,36],"associated_types":[],"enum_token":{"type_name":{"Id":"Tok"},"type_span":[14,17],
+"conversions":[{"span":[20,32],"attributes":[],"from":{"Literal":{"Quoted":"a"}},"to":{"span":[27,32],"kind":{"Enum":
+[{"absolute":false,"ids":["A"]},[{"span":[29,31],"kind":"DotDot"}]]}}}]}}},
+{"Nonterminal":{"visibility":{"Pub":null},"name":"S","attributes":[],"span":[41,46],"args":[],"type_decl":{"Id":"u8"},
+"alternatives":[{"span":[49,52],"expr":{"symbols":[{"span":[49,52],"kind":{"Terminal":{"Literal":{"Quoted":"a"}}}}]},
+"condition":null,"action":{"User":"f(<>)"},"attributes":[]},
+{"span":[49,52],"expr":{"symbols":[{"span":[49,52],"kind":{"Choose":{"span":[49,52],"kind":{"Nonterminal":"S"}}}}]},
+"condition":null,"action":null,"attributes":[]}]}}],"attributes":[],"module_attributes":[]}"#;
+
+fn lowered(alloc: Global, text: &str) -> Option<repr::Grammar> {
     let session = Session {
         features: None,
         macro_recursion_limit: 200,
         lexer: (),
     };
-    match normalize(alloc, &session, grammar) {
-        Ok(lowered) => Some(lowered),
-        Err(NormFailure::Refused(_)) | Err(NormFailure::Memory) => None,
+    match read_tree(alloc, text) {
+        Ok(grammar) => match normalize(alloc, &session, grammar) {
+            Ok(lowered) => Some(lowered),
+            Err(NormFailure::Refused(_)) | Err(NormFailure::Memory) => None,
+        },
+        Err(_) => None,
     }
 }
 
-/// `extern { enum Tok { "a" => A(..) } } pub S: () = "a"; pub T: () = S;`
-fn two_rules(alloc: Global) -> Result<Grammar, NoMemory> {
-    let mut grammar = small_tree(alloc, Span(0, 68))?;
-    let symbol = SymbolKind::Nonterminal(nonterminal(alloc, "S")?);
-    let mut second = rule(alloc, alternative(alloc, symbol)?)?;
-    second.name = nonterminal(alloc, "T")?;
-    grammar.items.push(GrammarItem::Nonterminal(second))?;
-    Ok(grammar)
-}
+/// Each name, and its productions, its type and its start symbol.
+const NAMES: [(&str, &str); 5] = [
+    ("__S", "[__S = S => ActionFn(0);] Some(()) None"),
+    ("__T", "[__T = T => ActionFn(1);] Some(()) None"),
+    ("S", "[S = \"a\" => ActionFn(2);] Some(()) Some(__S)"),
+    ("T", "[T = S => ActionFn(3);] Some(()) Some(__T)"),
+    ("U", "[] None None"),
+];
 
-/// Its productions, a line each.
-fn productions(alloc: Global, grammar: &repr::Grammar, name: &str) -> Result<String, Fail> {
-    let mut lines = String::new(alloc);
-    for production in grammar.productions_for(&nonterminal(alloc, name)?) {
-        lines.push_str(format!(in alloc; "{production:?}\n")?.as_str())?;
-    }
-    Ok(lines)
+/// What the grammar has for that name.
+fn entries(alloc: Global, grammar: &repr::Grammar, name: &str) -> Result<String, NoMemory> {
+    let name = NonterminalString(Atom::new(alloc, name)?);
+    let productions = grammar.productions_for(&name);
+    let ty = grammar.types.lookup_nonterminal_type(&name);
+    let start = grammar.start_nonterminals.get(&name);
+    Ok(format!(in alloc; "{productions:?} {ty:?} {start:?}")?)
 }
 
 #[test]
-fn actions_are_numbered(rt: HostRuntime) -> Result<(), Fail> {
+fn names_have_their_entries(rt: HostRuntime) -> Result<(), Fail> {
     let alloc = rt.alloc();
-    match lowered(alloc, two_rules(alloc)?) {
+    match lowered(alloc, TWO_RULES) {
         Some(whole) => {
             let grammar = whole.clone()?;
-            let rows = [
-                ("__S", "__S = S => ActionFn(0);\n"),
-                ("__T", "__T = T => ActionFn(1);\n"),
-                ("S", "S = \"a\" => ActionFn(2);\n"),
-                ("T", "T = S => ActionFn(3);\n"),
-                ("U", ""),
-            ];
-            for (name, want) in rows {
-                assert_eq!(rt; productions(alloc, &grammar, name)?.as_str(), want);
+            for (name, want) in NAMES {
+                let entries = entries(alloc, &grammar, name)?;
+                assert_eq!(rt; entries.as_str(), want);
             }
             assert_eq!(rt; grammar.action_fn_defns.len(), 4);
             assert_eq!(rt; grammar.nonterminals.len(), 4);
-        }
-        None => assert!(rt; false),
-    }
-    Ok(())
-}
-
-#[test]
-fn rules_have_types_and_starts(rt: HostRuntime) -> Result<(), Fail> {
-    let alloc = rt.alloc();
-    match lowered(alloc, two_rules(alloc)?) {
-        Some(grammar) => {
-            for name in ["S", "T", "__S", "__T"] {
-                match grammar
-                    .types
-                    .lookup_nonterminal_type(&nonterminal(alloc, name)?)
-                {
-                    Some(ty) => assert!(rt; ty.is_unit()),
-                    None => assert!(rt; false),
-                }
-            }
             assert_eq!(rt; grammar.start_nonterminals.len(), 2);
-            for (name, want) in [("S", "__S"), ("T", "__T")] {
-                match grammar.start_nonterminals.get(&nonterminal(alloc, name)?) {
-                    Some(start) => assert!(rt; *start == nonterminal(alloc, want)?),
-                    None => assert!(rt; false),
-                }
-            }
-        }
-        None => assert!(rt; false),
-    }
-    Ok(())
-}
-
-#[test]
-fn terminals_have_numbers_and_patterns(rt: HostRuntime) -> Result<(), Fail> {
-    let alloc = rt.alloc();
-    match lowered(alloc, two_rules(alloc)?) {
-        Some(grammar) => {
-            let a = literal(alloc, "a")?;
-            let terminals = grammar.terminals.clone()?;
-            assert_eq!(rt; terminals.all.len(), 1);
-            assert!(rt; terminals.bits.get(&a) == Some(&0));
-            match grammar.conversions.get(&a) {
-                Some(pattern) => {
-                    let text = pattern.to_string(alloc)?;
-                    assert_eq!(rt; text.as_str(), "A(..)");
-                }
-                None => assert!(rt; false),
-            }
             assert_eq!(rt; grammar.prefix.as_str(), "__");
             assert!(rt; !grammar.uses_error_recovery);
         }
@@ -112,8 +85,61 @@ fn terminals_have_numbers_and_patterns(rt: HostRuntime) -> Result<(), Fail> {
     Ok(())
 }
 
+/// Whether `"a"` is the only terminal, with the number 0 and the pattern `A(..)`.
+fn has_one_terminal(alloc: Global, grammar: &repr::Grammar, a: &TerminalString) -> bool {
+    match grammar.terminals.clone() {
+        Ok(terminals) => {
+            terminals.all.len() == 1
+                && terminals.bits.get(a) == Some(&0)
+                && has_pattern(alloc, grammar, a, "A(..)")
+        }
+        Err(_) => false,
+    }
+}
+
+/// Whether the terminal's pattern has that text.
+fn has_pattern(alloc: Global, grammar: &repr::Grammar, a: &TerminalString, want: &str) -> bool {
+    match grammar.conversions.get(a) {
+        Some(pattern) => match pattern.to_string(alloc) {
+            Ok(text) => text.as_str() == want,
+            Err(_) => false,
+        },
+        None => false,
+    }
+}
+
+/// Whether the copy of the entry of that nonterminal is what was written.
+fn is_copied(grammar: &repr::Grammar, name: &NonterminalString) -> bool {
+    match grammar.nonterminals.get(name) {
+        Some(data) => match data.clone() {
+            Ok(copy) => {
+                copy.span == Span(41, 46)
+                    && copy.productions.len() == 1
+                    && copy.visibility == Visibility::Pub(None)
+            }
+            Err(_) => false,
+        },
+        None => false,
+    }
+}
+
+#[test]
+fn terminals_and_rules_have_their_data(rt: HostRuntime) -> Result<(), Fail> {
+    let alloc = rt.alloc();
+    let a = TerminalString::quoted(Atom::new(alloc, "a")?);
+    let name = NonterminalString(Atom::new(alloc, "T")?);
+    match lowered(alloc, TWO_RULES) {
+        Some(grammar) => {
+            assert!(rt; has_one_terminal(alloc, &grammar, &a));
+            assert!(rt; is_copied(&grammar, &name));
+        }
+        None => assert!(rt; false),
+    }
+    Ok(())
+}
+
 /// The code and the type of each action of the grammar, a line each.
-fn codes(alloc: Global, grammar: &repr::Grammar) -> Result<String, Fail> {
+fn codes(alloc: Global, grammar: &repr::Grammar) -> Result<String, NoMemory> {
     let mut lines = String::new(alloc);
     for action in &grammar.action_fn_defns {
         match &action.kind {
@@ -127,71 +153,41 @@ fn codes(alloc: Global, grammar: &repr::Grammar) -> Result<String, Fail> {
     Ok(lines)
 }
 
-/// `pub S: u8 = { "a" => f(<>), <S> };`
 #[test]
-fn codes_are_filled_in(rt: HostRuntime) -> Result<(), Fail> {
-    let alloc = rt.alloc();
-    let mut coded = alternative(alloc, SymbolKind::Terminal(literal(alloc, "a")?))?;
-    coded.action = Some(ActionKind::User(String::from_str(alloc, "f(<>)")?));
-    let itself = Symbol {
-        span: Span(49, 52),
-        kind: SymbolKind::Nonterminal(nonterminal(alloc, "S")?),
-    };
-    let chosen = alternative(alloc, SymbolKind::Choose(Box::new(alloc, itself)?))?;
-    let mut rule = rule(alloc, coded)?;
-    rule.type_decl = Some(crate::made::named_type(alloc, "u8")?);
-    rule.alternatives.push(chosen)?;
-    let tokens = GrammarItem::ExternToken(small_tokens(alloc)?);
-    let items = vec![in alloc; tokens, GrammarItem::Nonterminal(rule)]?;
-    match lowered(alloc, grammar(alloc, Span(0, 53), items)?) {
-        Some(grammar) => {
-            let want = "__0: u8\nf(__0): u8\n__0: u8\n";
-            assert_eq!(rt; codes(alloc, &grammar)?.as_str(), want);
-        }
+fn codes_are_filled_in(rt: HostRuntime) {
+    match lowered(rt.alloc(), CODES) {
+        Some(grammar) => match codes(rt.alloc(), &grammar) {
+            Ok(lines) => assert_eq!(rt; lines.as_str(), "__0: u8\nf(__0): u8\n__0: u8\n"),
+            Err(_) => assert!(rt; false),
+        },
         None => assert!(rt; false),
     }
+}
+
+/// Adds the parameters `n: usize` and `m: usize`, and the type parameters `'input` and `T`.
+fn add_parameters(alloc: Global, grammar: &mut repr::Grammar) -> Result<(), NoMemory> {
+    for name in ["n", "m"] {
+        let name = Atom::new(alloc, name)?;
+        let ty = repr::TypeRepr::usize(alloc)?;
+        grammar.parameters.push(repr::Parameter { name, ty })?;
+    }
+    let input = TypeParameter::Lifetime(Lifetime::input(alloc)?);
+    grammar.type_parameters.push(input)?;
+    let ty = TypeParameter::Id(Atom::new(alloc, "T")?);
+    grammar.type_parameters.push(ty)?;
     Ok(())
 }
 
 #[test]
 fn parameters_are_referred_to(rt: HostRuntime) -> Result<(), Fail> {
     let alloc = rt.alloc();
-    match lowered(alloc, two_rules(alloc)?) {
+    match lowered(alloc, TWO_RULES) {
         Some(mut grammar) => {
-            for name in ["n", "m"] {
-                grammar.parameters.push(repr::Parameter {
-                    name: Atom::new(alloc, name)?,
-                    ty: repr::TypeRepr::usize(alloc)?,
-                })?;
-            }
+            add_parameters(alloc, &mut grammar)?;
             let refs = grammar.user_parameter_refs(alloc)?;
             assert_eq!(rt; refs.as_str(), "n, m, ");
-            grammar
-                .type_parameters
-                .push(TypeParameter::Lifetime(Lifetime::input(alloc)?))?;
-            grammar
-                .type_parameters
-                .push(TypeParameter::Id(Atom::new(alloc, "T")?))?;
             assert_eq!(rt; grammar.non_lifetime_type_parameters(alloc)?.len(), 1);
         }
-        None => assert!(rt; false),
-    }
-    Ok(())
-}
-
-#[test]
-fn nonterminals_are_copied(rt: HostRuntime) -> Result<(), Fail> {
-    let alloc = rt.alloc();
-    match lowered(alloc, two_rules(alloc)?) {
-        Some(grammar) => match grammar.nonterminals.get(&nonterminal(alloc, "T")?) {
-            Some(data) => {
-                let copy = data.clone()?;
-                assert_eq!(rt; copy.span, Span(41, 46));
-                assert_eq!(rt; copy.productions.len(), 1);
-                assert!(rt; copy.visibility == Visibility::Pub(None));
-            }
-            None => assert!(rt; false),
-        },
         None => assert!(rt; false),
     }
     Ok(())

@@ -1,5 +1,5 @@
 //! Readings of whole texts, and what is no tree.
-use crate::small::small_tree;
+use crate::values::{debugs, shows};
 use lalrpop_norm_json::{TreeError, read_tree};
 use lalrpop_norm_tree::grammar::parse_tree::*;
 use std::alloc::{AllocError, Global};
@@ -18,21 +18,34 @@ const SMALL: &str = r#"{"prefix":"__","span":[0,0],"type_parameters":[],"paramet
 {"Literal":{"Quoted":"a"}}}}]},"condition":null,"action":null,
 "attributes":[]}]}}],"attributes":[],"module_attributes":[]}"#;
 
+/// Its value, as a derived `Debug` writes it.
+const SMALL_VALUE: &str =
+    "Grammar { prefix: \"__\", span: Span(0, 0), type_parameters: [], parameters: [], \
+where_clauses: [], items: [ExternToken(ExternToken { span: Span(0, 36), associated_types: [], \
+enum_token: Some(EnumToken { type_name: Id(\"Tok\"), type_span: Span(14, 17), \
+conversions: [Conversion { span: Span(20, 32), attributes: [], from: \"a\", \
+to: Pattern { span: Span(27, 32), kind: Enum(Path { absolute: false, ids: [\"A\"] }, \
+[Pattern { span: Span(29, 31), kind: DotDot }]) } }] }) }), \
+Nonterminal(NonterminalData { visibility: Pub(None), name: S, attributes: [], span: Span(41, 46), args: [], \
+type_decl: Some(Tuple([])), alternatives: [Alternative { span: Span(49, 52), \
+expr: ExprSymbol { symbols: [Symbol { span: Span(49, 52), kind: Terminal(\"a\") }] }, \
+condition: None, action: None, attributes: [] }] })], attributes: [], module_attributes: [] }";
+
 /// A grammar up to its items and its span.
 const BARE: &str =
     r#"{"prefix":"__","type_parameters":[],"parameters":[],"where_clauses":[],"attributes":[],"module_attributes":[],"#;
 
+/// A grammar of one rule, up to the rule's type and alternatives.
+const RULE: &str =
+    r#"{"prefix":"__","span":[0,0],"type_parameters":[],"parameters":[],"where_clauses":[],"attributes":[],"module_attributes":[],"items":[{"Nonterminal":{"visibility":"Priv","name":"S","attributes":[],"span":[0,1],"args":[],"#;
+
 #[test]
-fn small_grammar(rt: HostRuntime) -> Result<(), Fail> {
+fn small_grammar(rt: HostRuntime) {
     let alloc = rt.alloc();
     match read_tree(alloc, SMALL) {
-        Ok(grammar) => {
-            assert!(rt; grammar == small_tree(alloc, Span(0, 0))?);
-            assert!(rt; grammar != small_tree(alloc, Span(0, 1))?);
-        }
+        Ok(grammar) => assert!(rt; debugs(alloc, &grammar, SMALL_VALUE)),
         Err(_) => assert!(rt; false),
     }
-    Ok(())
 }
 
 /// What follows the items of a grammar, and the span that is read.
@@ -121,10 +134,7 @@ fn items(rt: HostRuntime) -> Result<(), Fail> {
 
 /// A grammar of one rule with that type.
 fn with_type(alloc: Global, form: &str) -> Result<String, AllocError> {
-    let rule = format!(in alloc;
-        "{{\"visibility\":\"Priv\",\"name\":\"S\",\"attributes\":[],\"span\":[0,1],\"args\":[],\"alternatives\":[],\"type_decl\":{form}}}"
-    )?;
-    format!(in alloc; "{BARE}\"span\":[0,0],\"items\":[{{\"Nonterminal\":{rule}}}]}}")
+    format!(in alloc; "{RULE}\"alternatives\":[],\"type_decl\":{form}}}}}]}}")
 }
 
 /// Each variant of a type that is read, with its text, and some that are not.
@@ -161,50 +171,50 @@ const TYPES: [(&str, Option<&str>); 12] = [
     ("{\"Id\":\"T\",\"Lifetime\":\"'a\"}", None),
 ];
 
+/// Whether the type of the only rule is read and has that text; without a text, whether it is no tree.
+fn is_type(alloc: Global, text: &str, want: Option<&str>) -> bool {
+    match read_tree(alloc, text) {
+        Ok(grammar) => match (grammar.items.first(), want) {
+            (Some(GrammarItem::Nonterminal(rule)), Some(want)) => match &rule.type_decl {
+                Some(ty) => shows(alloc, ty, want),
+                None => false,
+            },
+            _ => false,
+        },
+        Err(TreeError::NotATree) => want.is_none(),
+        Err(TreeError::Memory) => false,
+    }
+}
+
 #[test]
 fn types(rt: HostRuntime) -> Result<(), Fail> {
-    let alloc = rt.alloc();
     for (form, want) in TYPES {
-        let text = with_type(alloc, form)?;
-        match read_tree(alloc, text.as_str()) {
-            Ok(grammar) => match grammar.items.first() {
-                Some(GrammarItem::Nonterminal(rule)) => {
-                    let shown = match &rule.type_decl {
-                        Some(ty) => ty.to_string(alloc)?,
-                        None => String::new(alloc),
-                    };
-                    assert_eq!(rt; Some(shown.as_str()), want, "{form}");
-                }
-                _ => assert!(rt; false, "{form}"),
-            },
-            Err(TreeError::NotATree) => assert_eq!(rt; None, want, "{form}"),
-            Err(TreeError::Memory) => assert!(rt; false),
-        }
+        let text = with_type(rt.alloc(), form)?;
+        assert!(rt; is_type(rt.alloc(), text.as_str(), want), "{form}");
     }
     Ok(())
 }
 
-/// The only alternative that is read of a rule with that symbol, code and attributes; none where that is no tree.
-fn alternative_of(
+/// A grammar of one rule with one alternative of that symbol, code and attributes.
+fn with_alternative(
     alloc: Global,
     kind: &str,
     code: &str,
     attributes: &str,
-) -> Result<Option<Alternative>, AllocError> {
-    let symbol = format!(in alloc; "{{\"span\":[0,1],\"kind\":{kind}}}")?;
-    let alternative = format!(in alloc;
-        "{{\"span\":[0,1],\"expr\":{{\"symbols\":[{symbol}]}},\"condition\":null,\"action\":{code},\"attributes\":{attributes}}}"
-    )?;
-    let rule = format!(in alloc;
-        "{{\"visibility\":\"Priv\",\"name\":\"S\",\"attributes\":[],\"span\":[0,1],\"args\":[],\"alternatives\":[{alternative}],\"type_decl\":null}}"
-    )?;
-    let text = format!(in alloc; "{BARE}\"span\":[0,0],\"items\":[{{\"Nonterminal\":{rule}}}]}}")?;
-    match read_tree(alloc, text.as_str()) {
+) -> Result<String, AllocError> {
+    format!(in alloc;
+        "{RULE}\"type_decl\":null,\"alternatives\":[{{\"span\":[0,1],\"expr\":{{\"symbols\":[{{\"span\":[0,1],\"kind\":{kind}}}]}},\"condition\":null,\"action\":{code},\"attributes\":{attributes}}}]}}}}]}}"
+    )
+}
+
+/// The only alternative that is read; none where the text is no tree.
+fn alternative_of(alloc: Global, text: &str) -> Option<Alternative> {
+    match read_tree(alloc, text) {
         Ok(mut grammar) => match grammar.items.pop() {
-            Some(GrammarItem::Nonterminal(mut rule)) => Ok(rule.alternatives.pop()),
-            _ => Ok(None),
+            Some(GrammarItem::Nonterminal(mut rule)) => rule.alternatives.pop(),
+            _ => None,
         },
-        Err(_) => Ok(None),
+        Err(_) => None,
     }
 }
 
@@ -258,77 +268,82 @@ const SYMBOLS: [(&str, Option<&str>); 14] = [
     (r#""Lookahead""#, None),
 ];
 
+/// Whether the only symbol is read and has that text; without a text, whether it is no tree.
+fn is_symbol(alloc: Global, text: &str, want: Option<&str>) -> bool {
+    match alternative_of(alloc, text) {
+        Some(alternative) => match (alternative.expr.symbols.first(), want) {
+            (Some(symbol), Some(want)) => shows(alloc, symbol, want),
+            _ => false,
+        },
+        None => want.is_none(),
+    }
+}
+
 #[test]
 fn symbols(rt: HostRuntime) -> Result<(), Fail> {
-    let alloc = rt.alloc();
     for (form, want) in SYMBOLS {
-        match alternative_of(alloc, form, "null", "[]")? {
-            Some(alternative) => match alternative.expr.symbols.first() {
-                Some(symbol) => {
-                    let shown = symbol.to_string(alloc)?;
-                    assert_eq!(rt; Some(shown.as_str()), want, "{form}");
-                }
-                None => assert!(rt; false, "{form}"),
-            },
-            None => assert_eq!(rt; None, want, "{form}"),
-        }
+        let text = with_alternative(rt.alloc(), form, "null", "[]")?;
+        assert!(rt; is_symbol(rt.alloc(), text.as_str(), want), "{form}");
     }
     Ok(())
+}
+
+/// What the only symbol is, and its name.
+fn is_kind(alloc: Global, text: &str, kind: &str, name: &str) -> bool {
+    match alternative_of(alloc, text) {
+        Some(alternative) => match alternative.expr.symbols.first() {
+            Some(symbol) => match &symbol.kind {
+                SymbolKind::AmbiguousId(id) => kind == "ambiguous" && id.as_str() == name,
+                SymbolKind::Terminal(TerminalString::Bare(id)) => {
+                    kind == "bare" && id.as_str() == name
+                }
+                SymbolKind::Terminal(TerminalString::Error) => kind == "error",
+                _ => false,
+            },
+            None => false,
+        },
+        None => false,
+    }
 }
 
 /// Symbols of one text are told apart.
 #[test]
 fn names_and_terminals(rt: HostRuntime) -> Result<(), Fail> {
-    let alloc = rt.alloc();
     let rows = [
-        (
-            r#"{"AmbiguousId":"x"}"#,
-            SymbolKind::AmbiguousId(Atom::new(alloc, "x")?),
-        ),
-        (
-            r#"{"Terminal":{"Bare":"x"}}"#,
-            SymbolKind::Terminal(TerminalString::Bare(Atom::new(alloc, "x")?)),
-        ),
-        (
-            r#"{"Terminal":"Error"}"#,
-            SymbolKind::Terminal(TerminalString::Error),
-        ),
+        (r#"{"AmbiguousId":"x"}"#, "ambiguous", "x"),
+        (r#"{"Terminal":{"Bare":"x"}}"#, "bare", "x"),
+        (r#"{"Terminal":"Error"}"#, "error", ""),
     ];
-    for (form, want) in &rows {
-        match alternative_of(alloc, form, "null", "[]")? {
-            Some(alternative) => match alternative.expr.symbols.first() {
-                Some(symbol) => assert!(rt; symbol.kind == *want, "{form}"),
-                None => assert!(rt; false, "{form}"),
-            },
-            None => assert!(rt; false, "{form}"),
-        }
+    for (form, kind, name) in rows {
+        let text = with_alternative(rt.alloc(), form, "null", "[]")?;
+        assert!(rt; is_kind(rt.alloc(), text.as_str(), kind, name), "{form}");
     }
     Ok(())
 }
 
+/// Whether the alternative is read, and its code has that text for a debugger.
+fn has_code(alloc: Global, text: &str, want: &str) -> bool {
+    match alternative_of(alloc, text) {
+        Some(alternative) => debugs(alloc, &alternative.action, want),
+        None => false,
+    }
+}
+
 #[test]
 fn code(rt: HostRuntime) -> Result<(), Fail> {
-    let alloc = rt.alloc();
     let rows = [
-        ("null", None),
-        (
-            r#"{"User":"f(<>)"}"#,
-            Some(ActionKind::User(String::from_str(alloc, "f(<>)")?)),
-        ),
-        (
-            r#"{"Fallible":"f(<>)"}"#,
-            Some(ActionKind::Fallible(String::from_str(alloc, "f(<>)")?)),
-        ),
-        (r#""Lookahead""#, Some(ActionKind::Lookahead)),
-        (r#""Lookbehind""#, Some(ActionKind::Lookbehind)),
+        ("null", "None"),
+        (r#"{"User":"f(<>)"}"#, r#"Some(User("f(<>)"))"#),
+        (r#"{"Fallible":"f(<>)"}"#, r#"Some(Fallible("f(<>)"))"#),
+        (r#""Lookahead""#, "Some(Lookahead)"),
+        (r#""Lookbehind""#, "Some(Lookbehind)"),
     ];
-    for (form, want) in &rows {
-        match alternative_of(alloc, KIND, form, "[]")? {
-            Some(alternative) => assert!(rt; alternative.action == *want, "{form}"),
-            None => assert!(rt; false, "{form}"),
-        }
+    for (form, want) in rows {
+        let text = with_alternative(rt.alloc(), KIND, form, "[]")?;
+        assert!(rt; has_code(rt.alloc(), text.as_str(), want), "{form}");
     }
-    assert!(rt; alternative_of(alloc, KIND, r#""User""#, "[]")?.is_none());
+    let text = with_alternative(rt.alloc(), KIND, r#""User""#, "[]")?;
+    assert!(rt; alternative_of(rt.alloc(), text.as_str()).is_none());
     Ok(())
 }
 
@@ -336,31 +351,26 @@ fn code(rt: HostRuntime) -> Result<(), Fail> {
 const ATTRIBUTES: &str =
     r#"[{"id_span":[1,2],"id":"cfg","arg":{"Paren":[{"id_span":[3,4],"id":"feature","arg":{"Equal":"f"}}]}},{"id_span":[5,6],"id":"inline","arg":"Empty"}]"#;
 
+const ATTRIBUTES_VALUE: &str = "[Attribute { id_span: Span(1, 2), id: \"cfg\", \
+arg: Paren([Attribute { id_span: Span(3, 4), id: \"feature\", arg: Equal(\"f\") }]) }, \
+Attribute { id_span: Span(5, 6), id: \"inline\", arg: Empty }]";
+
 #[test]
 fn attributes(rt: HostRuntime) -> Result<(), Fail> {
     let alloc = rt.alloc();
-    let feature = Attribute {
-        id_span: Span(3, 4),
-        id: Atom::new(alloc, "feature")?,
-        arg: AttributeArg::Equal(String::from_str(alloc, "f")?),
-    };
-    let cfg = Attribute {
-        id_span: Span(1, 2),
-        id: Atom::new(alloc, "cfg")?,
-        arg: AttributeArg::Paren(vec![in alloc; feature]?),
-    };
-    let inline = Attribute {
-        id_span: Span(5, 6),
-        id: Atom::new(alloc, "inline")?,
-        arg: AttributeArg::Empty,
-    };
-    match alternative_of(alloc, KIND, "null", ATTRIBUTES)? {
-        Some(alternative) => {
-            assert!(rt; alternative.attributes == vec![in alloc; cfg, inline]?);
-        }
+    let text = with_alternative(alloc, KIND, "null", ATTRIBUTES)?;
+    match alternative_of(alloc, text.as_str()) {
+        Some(read) => assert!(rt; debugs(alloc, &read.attributes, ATTRIBUTES_VALUE)),
         None => assert!(rt; false),
     }
     Ok(())
+}
+
+/// `T` in that many slices.
+fn sliced(alloc: Global, slices: usize) -> Result<String, AllocError> {
+    let open = "{\"Slice\":".repeat(alloc, slices)?;
+    let close = "}".repeat(alloc, slices)?;
+    format!(in alloc; "{open}{{\"Id\":\"T\"}}{close}")
 }
 
 /// Arrays and objects are read 127 deep. The type in these slices is the object at depth 5.
@@ -368,14 +378,7 @@ fn attributes(rt: HostRuntime) -> Result<(), Fail> {
 fn nesting(rt: HostRuntime) -> Result<(), Fail> {
     let alloc = rt.alloc();
     for (slices, want) in [(122, true), (123, false)] {
-        let mut form = String::new(alloc);
-        for _ in 0..slices {
-            form.push_str("{\"Slice\":")?;
-        }
-        form.push_str("{\"Id\":\"T\"}")?;
-        for _ in 0..slices {
-            form.push_str("}")?;
-        }
+        let form = sliced(alloc, slices)?;
         let text = with_type(alloc, form.as_str())?;
         assert_eq!(rt; is_tree(alloc, text.as_str()), Some(want));
     }

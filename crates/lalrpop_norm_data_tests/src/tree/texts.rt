@@ -1,0 +1,176 @@
+//! Texts as a grammar's author would write them.
+use super::accessors::names;
+use crate::values::{named_type, shows};
+use lalrpop_norm_tree::grammar::parse_tree::*;
+use lalrpop_norm_tree::grammar::pattern::PatternKind;
+use lalrpop_norm_tree::grammar::repr;
+use std::alloc::Global;
+use std::test::*;
+
+fn symbol(kind: SymbolKind) -> Symbol {
+    Symbol {
+        span: Span(0, 1),
+        kind,
+    }
+}
+
+fn path(alloc: Global, absolute: bool, name: &str) -> Result<Path, NoMemory> {
+    let id = Atom::new(alloc, name)?;
+    let ids = vec![in alloc; id]?;
+    Ok(Path { absolute, ids })
+}
+
+/// The binder of `for<'a>`.
+fn binder(alloc: Global) -> Result<Vec<TypeParameter>, NoMemory> {
+    let lifetime = Lifetime(Atom::new(alloc, "'a")?);
+    Ok(vec![in alloc; TypeParameter::Lifetime(lifetime)]?)
+}
+
+/// Whether that is the text of the symbol.
+fn has_form(answer: Result<String, NoMemory>, want: &str) -> bool {
+    match answer {
+        Ok(text) => text.as_str() == want,
+        Err(_) => false,
+    }
+}
+
+#[test]
+fn shows_literals(rt: HostRuntime) -> Result<(), Fail> {
+    let alloc = rt.alloc();
+    let quoted = TerminalLiteral::Quoted(Atom::new(alloc, "a\"\u{1}\u{7f}é\n")?);
+    assert!(rt; shows(alloc, &quoted, "\"a\\\"\\u{1}\\u{7f}é\\n\""));
+    Ok(())
+}
+
+#[test]
+fn shows_repeats(rt: HostRuntime) {
+    let alloc = rt.alloc();
+    let repeat = RepeatSymbol {
+        op: RepeatOp::Plus,
+        symbol: symbol(SymbolKind::Lookahead),
+    };
+    assert!(rt; has_form(repeat.canonical_form(alloc), "@L+"));
+}
+
+/// `<(x, mut y):@R>`.
+fn chosen_tuple(alloc: Global) -> Result<Symbol, NoMemory> {
+    let parts = Box::new(alloc, symbol(SymbolKind::Lookbehind))?;
+    let named = symbol(SymbolKind::Tuple(names(alloc)?, parts));
+    Ok(symbol(SymbolKind::Choose(Box::new(alloc, named)?)))
+}
+
+#[test]
+fn shows_tuple_symbols(rt: HostRuntime) -> Result<(), Fail> {
+    let alloc = rt.alloc();
+    let chosen = chosen_tuple(alloc)?;
+    assert!(rt; has_form(chosen.canonical_form(alloc), "<(x, mut y):@R>"));
+    Ok(())
+}
+
+/// `I<Item = B>`.
+fn item_bound(alloc: Global) -> Result<TypeBound<TypeRef>, NoMemory> {
+    let ty = named_type(alloc, "B")?;
+    let item = TypeBoundParameter::Associated(Atom::new(alloc, "Item")?, ty);
+    let parameters = vec![in alloc; item]?;
+    Ok(TypeBound::Trait {
+        forall: Vec::new(alloc),
+        path: path(alloc, false, "I")?,
+        parameters,
+    })
+}
+
+/// `I<Item = B> + 'a`.
+fn bounds(alloc: Global) -> Result<Vec<TypeBound<TypeRef>>, NoMemory> {
+    let first = item_bound(alloc)?;
+    let mut bounds = vec![in alloc; first]?;
+    bounds.push(TypeBound::Lifetime(Lifetime(Atom::new(alloc, "'a")?)))?;
+    Ok(bounds)
+}
+
+/// `for<'a> T: I<Item = B> + 'a`.
+fn clause(alloc: Global) -> Result<WhereClause<TypeRef>, NoMemory> {
+    Ok(WhereClause::OfType {
+        forall: binder(alloc)?,
+        ty: named_type(alloc, "T")?,
+        bounds: bounds(alloc)?,
+    })
+}
+
+#[test]
+fn shows_where_clauses(rt: HostRuntime) -> Result<(), Fail> {
+    let alloc = rt.alloc();
+    let clause = clause(alloc)?;
+    assert!(rt; shows(alloc, &clause, "for<'a> T:  I<Item = B> + 'a"));
+    Ok(())
+}
+
+/// `T: Foo`.
+fn lowered_bound(alloc: Global) -> Result<repr::WhereClause, NoMemory> {
+    let parameter = TypeParameter::Id(Atom::new(alloc, "T")?);
+    let subject = repr::TypeRepr::from_parameter(alloc, &parameter)?;
+    let bound = TypeBound::Trait {
+        forall: Vec::new(alloc),
+        path: path(alloc, false, "Foo")?,
+        parameters: Vec::new(alloc),
+    };
+    Ok(repr::WhereClause::Bound { subject, bound })
+}
+
+/// `for<'a> T: Foo`.
+fn lowered_clause(alloc: Global) -> Result<repr::WhereClause, NoMemory> {
+    let clause = Box::new(alloc, lowered_bound(alloc)?)?;
+    Ok(repr::WhereClause::Forall {
+        binder: binder(alloc)?,
+        clause,
+    })
+}
+
+#[test]
+fn shows_lowered_where_clauses(rt: HostRuntime) -> Result<(), Fail> {
+    let alloc = rt.alloc();
+    let clause = lowered_clause(alloc)?;
+    match clause.clone() {
+        Ok(copy) => {
+            assert!(rt; copy == clause);
+            assert!(rt; shows(alloc, &copy, "for<'a> T: Foo"));
+        }
+        Err(_) => assert!(rt; false),
+    }
+    Ok(())
+}
+
+/// `@L` and `!`.
+fn two_symbols(alloc: Global) -> Result<Vec<Symbol>, NoMemory> {
+    Ok(vec![in alloc; symbol(SymbolKind::Lookahead), symbol(SymbolKind::Error)]?)
+}
+
+#[test]
+fn shows_calls(rt: HostRuntime) -> Result<(), Fail> {
+    let alloc = rt.alloc();
+    let args = two_symbols(alloc)?;
+    let call = MacroSymbol {
+        name: NonterminalString(Atom::new(alloc, "M")?),
+        args,
+    };
+    assert!(rt; has_form(call.canonical_form(alloc), "M<@L, error>"));
+    Ok(())
+}
+
+#[test]
+fn shows_groups(rt: HostRuntime) -> Result<(), Fail> {
+    let alloc = rt.alloc();
+    let group = ExprSymbol {
+        symbols: two_symbols(alloc)?,
+    };
+    assert!(rt; has_form(group.canonical_form(alloc), "(@L error)"));
+    Ok(())
+}
+
+#[test]
+fn shows_patterns(rt: HostRuntime) -> Result<(), Fail> {
+    let alloc = rt.alloc();
+    let path = path(alloc, true, "P")?;
+    let fields: PatternKind<TypeRef> = PatternKind::Struct(path, Vec::new(alloc), true);
+    assert!(rt; shows(alloc, &fields, "::P { .. }"));
+    Ok(())
+}
