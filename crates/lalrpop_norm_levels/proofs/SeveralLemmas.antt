@@ -1,5 +1,5 @@
 -- Whether a rule has several levels, by the levels of its alternatives in order.
-use Rattle.std.proofs.Common.{◌≡◌, ◌≢◌, inl, inr, ℕ, ◌<◌, ◌≤◌, List, [], ◌∷◌, map, length, ◌+◌, Option, None, Bool, true, false, Decides, refl, sym, ap, ◌∙◌, subst, arith}
+use Rattle.std.proofs.Common.{◌≡◌, ◌≢◌, inl, inr, ℕ, ◌<◌, List, [], ◌∷◌, map, length, None, Bool, true, false, Decides, refl, sym, ap, ◌∙◌, arith}
 use Rattle.std.specs.Prelude.{not, ◌||◌, nat_eq, nat_lt}
 use Rattle.std.specs.List.{list_any}
 use Rattle.std.proofs.lemmas.Bool.Decides.{Decides-eqb, Decides-ltb}
@@ -10,7 +10,6 @@ use Rattle.lalrpop_norm_model.specs.Levels.{Side, Leveled, rising, with_levels, 
 use Rattle.lalrpop_norm_model.specs.Stated.{IsRising}
 use Rattle.lalrpop_norm_model.proofs.LevelLemmas.{in_rising, of_rising, rising_rises}
 use Rattle.lalrpop_norm_levels.specs.declared.precedence.read.AlternativeLevel.{AlternativeLevel}
-use Rattle.lalrpop_norm_levels.specs.LevelFaults.{levels_and_sides}
 use Rattle.lalrpop_norm_levels.specs.Handed.{alternative_level_view, handed_levels, differ}
 use Rattle.lalrpop_norm_levels.proofs.ReadLemmas.{levels_read, first_of_pairs, first_of_views}
 
