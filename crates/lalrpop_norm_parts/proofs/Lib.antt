@@ -1,3 +1,4 @@
+pub mod AttributeViews
 pub mod BoundLemmas
 pub mod BoundViews
 pub mod KnownTextLemmas

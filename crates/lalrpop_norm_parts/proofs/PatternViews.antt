@@ -1,11 +1,12 @@
 -- Patterns that are the same apart from their chosen parts, seen through a view of those.
 use Rattle.std.proofs.Common.{◌≡◌, List, [], ◌∷◌, map, refl, sym, ap, subst, ◌∙◌}
+use Rattle.lalrpop_norm_parts.specs.declared.names.Span.{Span}
 use Rattle.lalrpop_norm_parts.specs.declared.pattern.FieldPattern.{FieldPattern}
 use Rattle.lalrpop_norm_parts.specs.declared.pattern.Pattern.{Pattern}
 use Rattle.lalrpop_norm_parts.specs.declared.pattern.PatternKind.{PatternKind}
 use Rattle.lalrpop_norm_parts.specs.declared.pattern.PatternKind.TheFolds.{ind-Pattern, fold-roll-PatternKind, fold-roll-FieldPattern, fold-roll-Pattern, map-PatternKind, map-FieldPattern, map-Pattern}
 use Rattle.lalrpop_norm_parts.specs.declared.pattern.PatternKind.TheOpen.{PatternKind-F, FieldPattern-F, Pattern-F}
-use Rattle.lalrpop_norm_parts.specs.declared.pattern.PatternKind.TheViews.{roll-PatternKind, roll-FieldPattern, roll-Pattern}
+use Rattle.lalrpop_norm_parts.specs.declared.pattern.PatternKind.TheViews.{roll-PatternKind, roll-FieldPattern, roll-Pattern, rolls-struct-Pattern}
 use Rattle.lalrpop_norm_parts.specs.Paths.{path_view}
 use Rattle.lalrpop_norm_parts.specs.Patterns.{PatternKindData, enumerated, structured, path, tuple, tuple_struct, number, underscore, dot_dot, chosen, character, text, PatternData, pattern_at, Patterns, no_patterns, pattern_and, Fields, no_fields, field_and, FieldData, patterns_of, fields_of, kind_step, field_step, pattern_step, pattern_kind_view, field_view, pattern_view, SamePatternKind, SamePattern, SamePatterns, SameFields}
 
@@ -144,3 +145,10 @@ view_mapped {T} f p =
 -- patterns that are the same apart from related parts have equal views, where f takes related parts to one value
 pub same_views : {T V : Type 0} (R : T → T → Type 0) (f : T → V) → ((t u : T) → R t u → f u ≡ f t) → (p q : Pattern T) → SamePattern R (pattern_view (λ (t : T). t) p) (pattern_view (λ (t : T). t) q) → pattern_view f q ≡ pattern_view f p
 same_views R f one p q h = view_mapped f q ∙ same_mapped R f one _ _ h ∙ sym (view_mapped f p)
+
+-- one level of a pattern's view
+pub pattern_seen : {T V : Type 0} (f : T → V) (s : Span) (k : PatternKind T) → pattern_view f (let p : Pattern T = record { span = s; kind = k } in p) ≡ pattern_at s (pattern_kind_view f k)
+pattern_seen {T} {V} f s k =
+    let x : Pattern-F T (PatternKind T) (FieldPattern T) (Pattern T) = record { span = s; kind = k } in
+    ap (pattern_view f) (sym (rolls-struct-Pattern x))
+    ∙ fold-roll-Pattern T (PatternKindData V) (FieldData V) (PatternData V) (kind_step f) (field_step f) (pattern_step f) x

@@ -1,3 +1,4 @@
+pub mod SymbolViews
 pub mod TextLemmas
 pub mod FirstLemmas
 pub mod TypeLemmas

@@ -1,5 +1,5 @@
 -- The texts of lists of types, one after another.
-use Rattle.std.proofs.Common.{◌≡◌, ℕ, ◌+◌, List, [], ◌∷◌, ◌++◌, ◌≤◌, ◌<◌, Bool, false, ◌==◌, Option, Some, None, length, take, refl, sym, ap, codes, Box, Vec, Global, option_map, ◌∙◌}
+use Rattle.std.proofs.Common.{◌≡◌, ℕ, List, [], ◌∷◌, ◌++◌, ◌≤◌, Bool, false, ◌==◌, Option, Some, None, length, take, refl, sym, ap, codes, Box, Vec, Global, option_map, ◌∙◌}
 use Rattle.std.proofs.lemmas.List.{take_all}
 use Rattle.std.specs.List.{flat_map}
 use Rattle.lalrpop_norm_tree.specs.declared.types.TypeRef.{TypeRef}

@@ -1,8 +1,19 @@
-use Rattle.std.proofs.Common.{ap, ◌∙◌}
-use Rattle.serde_json.specs.Data.{array}
+use Rattle.std.proofs.Common.{ap, sym, ◌∙◌}
+use Rattle.serde_json.specs.Data.{array, object}
+use Rattle.lalrpop_norm_parts.proofs.PatternViews.{pattern_seen}
+use Rattle.lalrpop_norm_tree.specs.Types.{type_view}
+use Rattle.lalrpop_norm_json.specs.PatternForms.{pattern_form}
 use Rattle.lalrpop_norm_json.proofs.Refusals.{whole_list}
 use Rattle.lalrpop_norm_json.proofs.FormLemmas.{patterns_items}
+use Rattle.lalrpop_norm_json.proofs.MemberLemma.{member_is}
 use Rattle.lalrpop_norm_json.proofs.tree.patterns.+pattern.Goals as goal
 
 pub patterns-returns-clause-ok : goal.patterns-returns-clause-ok
 patterns-returns-clause-ok t c = whole_list _ c.loop-value.patterns.items _ _ _ c.in_ok-values.ensures.ok c.loop-value.invariant c.loop-value-test.false ∙ ap array (patterns_items c.loop-value.patterns.items)
+
+pub pattern-returns-clause-ok : goal.pattern-returns-clause-ok
+pattern-returns-clause-ok t c =
+    c.in_ok-members.ensures.ok ∙ ap object (
+    c.in_ok-field.ensures.ok ∙ member_is _ c.in_ok-kind.ensures.ok (
+    c.in_ok-field-2.ensures.ok ∙ member_is _ c.in_ok-span.ensures.ok c.in_ok-end.ensures.ok))
+    ∙ ap pattern_form (sym (pattern_seen type_view c.in_ok-span.span c.in_ok-kind.kind))

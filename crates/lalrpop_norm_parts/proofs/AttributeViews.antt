@@ -1,0 +1,25 @@
+-- One level of an attribute's view.
+use Rattle.std.proofs.Common.{◌≡◌, List, ℕ, String, Vec, Global, ap, sym, ◌∙◌}
+use Rattle.std.specs.Prelude.{string_bytes}
+use Rattle.lalrpop_norm_parts.specs.declared.names.Span.{Span}
+use Rattle.lalrpop_norm_parts.specs.declared.attribute.Attribute.{Attribute}
+use Rattle.lalrpop_norm_parts.specs.declared.attribute.AttributeArg.{AttributeArg}
+use Rattle.lalrpop_norm_parts.specs.declared.attribute.AttributeArg.TheFolds.{fold-roll-AttributeArg, fold-roll-Attribute}
+use Rattle.lalrpop_norm_parts.specs.declared.attribute.AttributeArg.TheOpen.{AttributeArg-F, Attribute-F}
+use Rattle.lalrpop_norm_parts.specs.declared.attribute.AttributeArg.TheVariants.{Empty, Paren, Equal}
+use Rattle.lalrpop_norm_parts.specs.declared.attribute.AttributeArg.TheViews.{rolls-Empty, rolls-Paren, rolls-Equal, rolls-struct-Attribute}
+use Rattle.lalrpop_norm_parts.specs.Attributes.{Argument, AttributeData, attribute, empty, paren, equal, argument_step, attribute_step, argument_view, attribute_view, attributes_view}
+
+pub attribute_seen : (s : Span) (a : List ℕ) (g : AttributeArg) → attribute_view (let x : Attribute = record { id_span = s; id = a; arg = g } in x) ≡ attribute s a (argument_view g)
+attribute_seen s a g =
+    let x : Attribute-F AttributeArg _ = record { id_span = s; id = a; arg = g } in
+    ap attribute_view (sym (rolls-struct-Attribute x)) ∙ fold-roll-Attribute Argument AttributeData argument_step attribute_step x
+
+pub empty_seen : argument_view Empty ≡ empty
+empty_seen = ap argument_view (sym rolls-Empty) ∙ fold-roll-AttributeArg Argument AttributeData argument_step attribute_step AttributeArg-F.Empty
+
+pub paren_seen : (v : Vec Attribute Global) → argument_view (Paren v) ≡ paren (attributes_view v.items)
+paren_seen v = ap argument_view (sym (rolls-Paren v)) ∙ fold-roll-AttributeArg Argument AttributeData argument_step attribute_step (AttributeArg-F.Paren _)
+
+pub equal_seen : (s : String Global) → argument_view (Equal s) ≡ equal (string_bytes s)
+equal_seen s = ap argument_view (sym (rolls-Equal s)) ∙ fold-roll-AttributeArg Argument AttributeData argument_step attribute_step (AttributeArg-F.Equal s)
