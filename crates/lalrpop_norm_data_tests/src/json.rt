@@ -73,16 +73,34 @@ const SPANS: [(&str, Option<Span>); 18] = [
     ("\"span\":[1,2]} x", None),
 ];
 
+/// A grammar without items that ends so.
+fn with_rest(alloc: Global, rest: &str) -> Result<String, AllocError> {
+    format!(in alloc; "{BARE}\"items\":[],{rest}")
+}
+
+/// The span that is read.
+fn span_of(alloc: Global, text: &str) -> Result<Span, TreeError> {
+    match read_tree(alloc, text) {
+        Ok(grammar) => Ok(grammar.span),
+        Err(error) => Err(error),
+    }
+}
+
+/// Whether that span is read; without a span, whether the text is no tree.
+fn is_span(alloc: Global, text: &str, want: Option<Span>) -> bool {
+    match span_of(alloc, text) {
+        Ok(span) => Some(span) == want,
+        Err(TreeError::NotATree) => want.is_none(),
+        Err(TreeError::Memory) => false,
+    }
+}
+
 /// A missing key, a further one, and a repeated one, of which the last value counts.
 #[test]
 fn spans(rt: HostRuntime) -> Result<(), Fail> {
     for (rest, want) in SPANS {
-        let text = format!(in rt.alloc(); "{BARE}\"items\":[],{rest}")?;
-        match read_tree(rt.alloc(), text.as_str()) {
-            Ok(grammar) => assert_eq!(rt; Some(grammar.span), want, "{rest}"),
-            Err(TreeError::NotATree) => assert_eq!(rt; None, want, "{rest}"),
-            Err(TreeError::Memory) => assert!(rt; false),
-        }
+        let text = with_rest(rt.alloc(), rest)?;
+        assert!(rt; is_span(rt.alloc(), text.as_str(), want), "{rest}");
     }
     Ok(())
 }
@@ -103,30 +121,37 @@ fn no_json(rt: HostRuntime) {
     }
 }
 
+/// Lists of items, and whether they are read.
+const ITEMS: [(&str, bool); 9] = [
+    ("[]", true),
+    ("null", false),
+    ("[{\"Use\":\"a::b\"}]", true),
+    ("[{\"Use\":null}]", false),
+    ("[\"InternToken\"]", false),
+    ("[{\"MatchToken\":{\"contents\":[],\"span\":[0,1]}}]", false),
+    (
+        "[{\"ExternToken\":{\"span\":[0,1],\"associated_types\":[],\"enum_token\":null}}]",
+        true,
+    ),
+    (
+        "[{\"ExternToken\":{\"span\":[0,1],\"associated_types\":[]}}]",
+        false,
+    ),
+    (
+        "[{\"ExternToken\":{\"span\":[0,1],\"associated_types\":null,\"enum_token\":null}}]",
+        false,
+    ),
+];
+
+/// A grammar of these items.
+fn with_items(alloc: Global, items: &str) -> Result<String, AllocError> {
+    format!(in alloc; "{BARE}\"span\":[0,0],\"items\":{items}}}")
+}
+
 #[test]
 fn items(rt: HostRuntime) -> Result<(), Fail> {
-    let rows = [
-        ("[]", true),
-        ("null", false),
-        ("[{\"Use\":\"a::b\"}]", true),
-        ("[{\"Use\":null}]", false),
-        ("[\"InternToken\"]", false),
-        ("[{\"MatchToken\":{\"contents\":[],\"span\":[0,1]}}]", false),
-        (
-            "[{\"ExternToken\":{\"span\":[0,1],\"associated_types\":[],\"enum_token\":null}}]",
-            true,
-        ),
-        (
-            "[{\"ExternToken\":{\"span\":[0,1],\"associated_types\":[]}}]",
-            false,
-        ),
-        (
-            "[{\"ExternToken\":{\"span\":[0,1],\"associated_types\":null,\"enum_token\":null}}]",
-            false,
-        ),
-    ];
-    for (items, want) in rows {
-        let text = format!(in rt.alloc(); "{BARE}\"span\":[0,0],\"items\":{items}}}")?;
+    for (items, want) in ITEMS {
+        let text = with_items(rt.alloc(), items)?;
         assert_eq!(rt; is_tree(rt.alloc(), text.as_str()), Some(want), "{items}");
     }
     Ok(())
@@ -171,16 +196,26 @@ const TYPES: [(&str, Option<&str>); 12] = [
     ("{\"Id\":\"T\",\"Lifetime\":\"'a\"}", None),
 ];
 
+/// Whether the type of the rule has that text.
+fn type_shows(alloc: Global, rule: &NonterminalData, want: &str) -> bool {
+    match &rule.type_decl {
+        Some(ty) => shows(alloc, ty, want),
+        None => false,
+    }
+}
+
+/// Whether the type of the only rule has that text.
+fn has_type(alloc: Global, grammar: &Grammar, want: Option<&str>) -> bool {
+    match (grammar.items.first(), want) {
+        (Some(GrammarItem::Nonterminal(rule)), Some(want)) => type_shows(alloc, rule, want),
+        _ => false,
+    }
+}
+
 /// Whether the type of the only rule is read and has that text; without a text, whether it is no tree.
 fn is_type(alloc: Global, text: &str, want: Option<&str>) -> bool {
     match read_tree(alloc, text) {
-        Ok(grammar) => match (grammar.items.first(), want) {
-            (Some(GrammarItem::Nonterminal(rule)), Some(want)) => match &rule.type_decl {
-                Some(ty) => shows(alloc, ty, want),
-                None => false,
-            },
-            _ => false,
-        },
+        Ok(grammar) => has_type(alloc, &grammar, want),
         Err(TreeError::NotATree) => want.is_none(),
         Err(TreeError::Memory) => false,
     }
@@ -207,14 +242,19 @@ fn with_alternative(
     )
 }
 
-/// The only alternative that is read; none where the text is no tree.
-fn alternative_of(alloc: Global, text: &str) -> Option<Alternative> {
-    match read_tree(alloc, text) {
-        Ok(mut grammar) => match grammar.items.pop() {
-            Some(GrammarItem::Nonterminal(mut rule)) => rule.alternatives.pop(),
-            _ => None,
-        },
-        Err(_) => None,
+/// The only alternative of the only rule.
+fn alternative_of(grammar: &Grammar) -> Option<&Alternative> {
+    match grammar.items.last() {
+        Some(GrammarItem::Nonterminal(rule)) => rule.alternatives.last(),
+        _ => None,
+    }
+}
+
+/// The first symbol of the only alternative.
+fn symbol_of(grammar: &Grammar) -> Option<&Symbol> {
+    match alternative_of(grammar) {
+        Some(alternative) => alternative.expr.symbols.first(),
+        None => None,
     }
 }
 
@@ -268,14 +308,20 @@ const SYMBOLS: [(&str, Option<&str>); 14] = [
     (r#""Lookahead""#, None),
 ];
 
+/// Whether the only symbol has that text.
+fn symbol_shows(alloc: Global, grammar: &Grammar, want: Option<&str>) -> bool {
+    match (symbol_of(grammar), want) {
+        (Some(symbol), Some(want)) => shows(alloc, symbol, want),
+        _ => false,
+    }
+}
+
 /// Whether the only symbol is read and has that text; without a text, whether it is no tree.
 fn is_symbol(alloc: Global, text: &str, want: Option<&str>) -> bool {
-    match alternative_of(alloc, text) {
-        Some(alternative) => match (alternative.expr.symbols.first(), want) {
-            (Some(symbol), Some(want)) => shows(alloc, symbol, want),
-            _ => false,
-        },
-        None => want.is_none(),
+    match read_tree(alloc, text) {
+        Ok(grammar) => symbol_shows(alloc, &grammar, want),
+        Err(TreeError::NotATree) => want.is_none(),
+        Err(TreeError::Memory) => false,
     }
 }
 
@@ -288,21 +334,38 @@ fn symbols(rt: HostRuntime) -> Result<(), Fail> {
     Ok(())
 }
 
+/// Which kind of symbol it is.
+fn kind_of(kind: &SymbolKind) -> &'static str {
+    match kind {
+        SymbolKind::AmbiguousId(_) => "ambiguous",
+        SymbolKind::Terminal(TerminalString::Bare(_)) => "bare",
+        SymbolKind::Terminal(TerminalString::Error) => "error",
+        _ => "another",
+    }
+}
+
+/// Its name; empty where it has none.
+fn name_of(kind: &SymbolKind) -> &str {
+    match kind {
+        SymbolKind::AmbiguousId(id) => id.as_str(),
+        SymbolKind::Terminal(TerminalString::Bare(id)) => id.as_str(),
+        _ => "",
+    }
+}
+
+/// Whether the only symbol is of that kind and has that name.
+fn has_kind(grammar: &Grammar, kind: &str, name: &str) -> bool {
+    match symbol_of(grammar) {
+        Some(symbol) => kind_of(&symbol.kind) == kind && name_of(&symbol.kind) == name,
+        None => false,
+    }
+}
+
 /// What the only symbol is, and its name.
 fn is_kind(alloc: Global, text: &str, kind: &str, name: &str) -> bool {
-    match alternative_of(alloc, text) {
-        Some(alternative) => match alternative.expr.symbols.first() {
-            Some(symbol) => match &symbol.kind {
-                SymbolKind::AmbiguousId(id) => kind == "ambiguous" && id.as_str() == name,
-                SymbolKind::Terminal(TerminalString::Bare(id)) => {
-                    kind == "bare" && id.as_str() == name
-                }
-                SymbolKind::Terminal(TerminalString::Error) => kind == "error",
-                _ => false,
-            },
-            None => false,
-        },
-        None => false,
+    match read_tree(alloc, text) {
+        Ok(grammar) => has_kind(&grammar, kind, name),
+        Err(_) => false,
     }
 }
 
@@ -321,11 +384,19 @@ fn names_and_terminals(rt: HostRuntime) -> Result<(), Fail> {
     Ok(())
 }
 
-/// Whether the alternative is read, and its code has that text for a debugger.
-fn has_code(alloc: Global, text: &str, want: &str) -> bool {
-    match alternative_of(alloc, text) {
+/// Whether the code of the alternative has that text for a debugger.
+fn code_debugs(alloc: Global, grammar: &Grammar, want: &str) -> bool {
+    match alternative_of(grammar) {
         Some(alternative) => debugs(alloc, &alternative.action, want),
         None => false,
+    }
+}
+
+/// Whether the alternative is read, and its code has that text for a debugger.
+fn has_code(alloc: Global, text: &str, want: &str) -> bool {
+    match read_tree(alloc, text) {
+        Ok(grammar) => code_debugs(alloc, &grammar, want),
+        Err(_) => false,
     }
 }
 
@@ -343,7 +414,7 @@ fn code(rt: HostRuntime) -> Result<(), Fail> {
         assert!(rt; has_code(rt.alloc(), text.as_str(), want), "{form}");
     }
     let text = with_alternative(rt.alloc(), KIND, r#""User""#, "[]")?;
-    assert!(rt; alternative_of(rt.alloc(), text.as_str()).is_none());
+    assert_eq!(rt; is_tree(rt.alloc(), text.as_str()), Some(false));
     Ok(())
 }
 
@@ -355,22 +426,40 @@ const ATTRIBUTES_VALUE: &str = "[Attribute { id_span: Span(1, 2), id: \"cfg\", \
 arg: Paren([Attribute { id_span: Span(3, 4), id: \"feature\", arg: Equal(\"f\") }]) }, \
 Attribute { id_span: Span(5, 6), id: \"inline\", arg: Empty }]";
 
+/// Whether the attributes of the alternative have that text for a debugger.
+fn attributes_debug(alloc: Global, grammar: &Grammar, want: &str) -> bool {
+    match alternative_of(grammar) {
+        Some(alternative) => debugs(alloc, &alternative.attributes, want),
+        None => false,
+    }
+}
+
+/// Whether the alternative is read, and its attributes have that text for a debugger.
+fn has_attributes(alloc: Global, text: &str, want: &str) -> bool {
+    match read_tree(alloc, text) {
+        Ok(grammar) => attributes_debug(alloc, &grammar, want),
+        Err(_) => false,
+    }
+}
+
 #[test]
 fn attributes(rt: HostRuntime) -> Result<(), Fail> {
     let alloc = rt.alloc();
     let text = with_alternative(alloc, KIND, "null", ATTRIBUTES)?;
-    match alternative_of(alloc, text.as_str()) {
-        Some(read) => assert!(rt; debugs(alloc, &read.attributes, ATTRIBUTES_VALUE)),
-        None => assert!(rt; false),
-    }
+    assert!(rt; has_attributes(alloc, text.as_str(), ATTRIBUTES_VALUE));
     Ok(())
+}
+
+/// `T` after that opening text, with so many closing braces.
+fn closed(alloc: Global, open: &str, slices: usize) -> Result<String, AllocError> {
+    let close = "}".repeat(alloc, slices)?;
+    format!(in alloc; "{open}{{\"Id\":\"T\"}}{close}")
 }
 
 /// `T` in that many slices.
 fn sliced(alloc: Global, slices: usize) -> Result<String, AllocError> {
     let open = "{\"Slice\":".repeat(alloc, slices)?;
-    let close = "}".repeat(alloc, slices)?;
-    format!(in alloc; "{open}{{\"Id\":\"T\"}}{close}")
+    closed(alloc, open.as_str(), slices)
 }
 
 /// Arrays and objects are read 127 deep. The type in these slices is the object at depth 5.

@@ -32,6 +32,18 @@ pub(crate) fn answers<T: fmt::Display + Drop>(
     }
 }
 
+/// Whether a value was answered that has that text for a debugger.
+pub(crate) fn answers_debug<T: fmt::Debug + Drop, E: Drop>(
+    alloc: Global,
+    answer: Result<T, E>,
+    want: &str,
+) -> bool {
+    match answer {
+        Ok(value) => debugs(alloc, &value, want),
+        Err(_) => false,
+    }
+}
+
 /// Whether the value's copy is equal to it.
 pub(crate) fn copies<T: Clone + PartialEq + Drop>(value: &T) -> bool {
     is_copy(value.clone(), value)
@@ -41,6 +53,14 @@ pub(crate) fn copies<T: Clone + PartialEq + Drop>(value: &T) -> bool {
 pub(crate) fn is_copy<T: PartialEq + Drop, E: Drop>(answer: Result<T, E>, source: &T) -> bool {
     match answer {
         Ok(copy) => copy == *source,
+        Err(_) => false,
+    }
+}
+
+/// Whether a value was answered whose copy is equal to it.
+pub(crate) fn answer_copies<T: Clone + PartialEq + Drop>(answer: Result<T, NoMemory>) -> bool {
+    match answer {
+        Ok(value) => copies(&value),
         Err(_) => false,
     }
 }

@@ -1,7 +1,8 @@
 //! Rounds, what is made in them, and what is refused.
 use crate::forms::items;
-use crate::trees::{fault_text, push_symbols, tree};
+use crate::trees::{fault_text, is_tree, push_symbols, tree};
 use lalrpop_norm_expand::macro_expand::expand_macros;
+use lalrpop_norm_faults::NormResult;
 use lalrpop_norm_tree::grammar::parse_tree::*;
 use std::alloc::Global;
 use std::test::*;
@@ -45,7 +46,12 @@ fn rules_text(alloc: Global, grammar: &Grammar) -> Result<String, Fail> {
 
 /// The rules, or the fault.
 fn told(alloc: Global, items: &str, limit: u16) -> Result<String, Fail> {
-    match expand_macros(alloc, tree(alloc, items)?, limit) {
+    let grammar = tree(alloc, items)?;
+    answer_text(alloc, expand_macros(alloc, grammar, limit))
+}
+
+fn answer_text(alloc: Global, answer: NormResult<Grammar>) -> Result<String, Fail> {
+    match answer {
         Ok(expanded) => rules_text(alloc, &expanded),
         Err(failure) => fault_text(alloc, failure),
     }
@@ -88,20 +94,22 @@ const NAMED_IN_GROUP: &str = items!(
     ]
 );
 
+/// Items, the most rounds, and what is told.
+const ROUNDS: &[(&str, u16, &str)] = &[
+    (
+        STAR,
+        2,
+        "S = \"a\"* \"b\";\n\"a\"* = {alloc::vec![]}; v:\"a\"+ {v};\n\"a\"+ = \"a\" {alloc::vec![<>]}; v:\"a\"+ e:\"a\" {{ let mut v = v; v.push(e); v }};\n",
+    ),
+    (STAR, 1, "F36 72..76"),
+    (SHARED_TEXTS, 5, "F37 66..73"),
+    (DECLARED_TEXT, 5, "F37 60..65"),
+    (NAMED_IN_GROUP, 2, "F35 10..17"),
+];
+
 #[test]
 fn rounds(rt: HostRuntime) -> Result<(), Fail> {
-    let rows = [
-        (
-            STAR,
-            2,
-            "S = \"a\"* \"b\";\n\"a\"* = {alloc::vec![]}; v:\"a\"+ {v};\n\"a\"+ = \"a\" {alloc::vec![<>]}; v:\"a\"+ e:\"a\" {{ let mut v = v; v.push(e); v }};\n",
-        ),
-        (STAR, 1, "F36 72..76"),
-        (SHARED_TEXTS, 5, "F37 66..73"),
-        (DECLARED_TEXT, 5, "F37 60..65"),
-        (NAMED_IN_GROUP, 2, "F35 10..17"),
-    ];
-    for (items, limit, want) in rows {
+    for &(items, limit, want) in ROUNDS {
         let text = told(rt.alloc(), items, limit)?;
         assert_eq!(rt; text.as_str(), want, "{items}");
     }
@@ -157,13 +165,24 @@ const EMPTY_GROUP_RULES: &str = items!(
         | [47, 49] {"action":{"User":"(<>)"}} []
 );
 
+/// What is made of those items in one round.
+fn once_expanded(alloc: Global, items: &str) -> Result<Grammar, Fail> {
+    let grammar = tree(alloc, items)?;
+    Ok(expand_macros(alloc, grammar, 1)?)
+}
+
+/// Whether the first items become the others in one round.
+fn makes(alloc: Global, items: &str, want: &str) -> Result<bool, Fail> {
+    let expanded = once_expanded(alloc, items)?;
+    is_tree(alloc, &expanded, want)
+}
+
 #[test]
 fn made_rules(rt: HostRuntime) -> Result<(), Fail> {
-    let alloc = rt.alloc();
-    let rows = [(CHOICE, CHOICE_RULES), (EMPTY_GROUP, EMPTY_GROUP_RULES)];
-    for (items, want) in rows {
-        let expanded = expand_macros(alloc, tree(alloc, items)?, 1)?;
-        assert!(rt; expanded == tree(alloc, want)?, "{items}");
-    }
+    assert!(rt; makes(rt.alloc(), CHOICE, CHOICE_RULES)?, "a choice");
+    assert!(rt;
+        makes(rt.alloc(), EMPTY_GROUP, EMPTY_GROUP_RULES)?,
+        "no symbols"
+    );
     Ok(())
 }

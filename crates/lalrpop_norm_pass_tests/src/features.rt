@@ -1,6 +1,6 @@
 //! Conditions of `cfg`, and the enabled grammar.
 use crate::forms::{attributes, items};
-use crate::trees::{tree, tree_under};
+use crate::trees::{is_tree, tree, tree_under};
 use lalrpop_norm_front::Session;
 use lalrpop_norm_front::cond_comp::{cfg_active, remove_disabled_decls};
 use lalrpop_norm_tree::grammar::parse_tree::*;
@@ -23,21 +23,27 @@ fn only(alloc: Global, feature: &str) -> Result<Option<BTreeSet<String>>, Fail> 
     Ok(Some(features))
 }
 
+/// With that feature.
+fn session_with(alloc: Global, feature: &str) -> Result<Session<()>, Fail> {
+    Ok(session(only(alloc, feature)?))
+}
+
 /// Whether those attributes turn a part on.
-fn is_active(
-    alloc: Global,
-    features: Option<BTreeSet<String>>,
-    attributes: &str,
-) -> Result<bool, Fail> {
+fn is_active(alloc: Global, session: &Session<()>, attributes: &str) -> Result<bool, Fail> {
     let grammar = tree_under(alloc, attributes, "")?;
-    Ok(cfg_active(&session(features), &grammar.attributes))
+    Ok(cfg_active(session, &grammar.attributes))
+}
+
+/// Whether they do without features.
+fn is_active_without(alloc: Global, attributes: &str) -> Result<bool, Fail> {
+    is_active(alloc, &session(None), attributes)
 }
 
 /// `cfg(feature = "f")`.
 const WITH_F: &str = attributes!("cfg"("feature" = "f"));
 
 /// Attributes, and whether they turn a part on without features.
-const CONDITIONS: [(&str, bool); 24] = [
+const CONDITIONS: &[(&str, bool)] = &[
     (attributes!(), true),
     (attributes!("inline"), true),
     (attributes!("cfg"), false),
@@ -67,22 +73,29 @@ const CONDITIONS: [(&str, bool); 24] = [
 
 #[test]
 fn conditions(rt: HostRuntime) -> Result<(), Fail> {
-    for (attributes, want) in CONDITIONS {
-        assert_eq!(rt;
-            is_active(rt.alloc(), None, attributes)?,
-            want,
-            "{attributes}"
-        );
+    for &(attributes, want) in CONDITIONS {
+        let active = is_active_without(rt.alloc(), attributes)?;
+        assert_eq!(rt; active, want, "{attributes}");
     }
     Ok(())
 }
 
+/// Whether `WITH_F` turns a part on with that feature.
+fn is_active_with(alloc: Global, feature: &str) -> Result<bool, Fail> {
+    let session = session_with(alloc, feature)?;
+    is_active(alloc, &session, WITH_F)
+}
+
+/// Whether it does with a set of no features.
+fn is_active_with_none(alloc: Global) -> Result<bool, Fail> {
+    let session = session(Some(BTreeSet::new(alloc)));
+    is_active(alloc, &session, WITH_F)
+}
+
 #[test]
 fn features(rt: HostRuntime) -> Result<(), Fail> {
-    let alloc = rt.alloc();
-    assert!(rt; is_active(alloc, only(alloc, "f")?, WITH_F)?, "with f");
-    let none = Some(BTreeSet::new(alloc));
-    assert!(rt; !is_active(alloc, none, WITH_F)?, "no features");
+    assert!(rt; is_active_with(rt.alloc(), "f")?, "with f");
+    assert!(rt; !is_active_with_none(rt.alloc())?, "no features");
     Ok(())
 }
 
@@ -144,13 +157,34 @@ fn places(alloc: Global, grammar: &Grammar) -> Result<String, Fail> {
     Ok(text)
 }
 
+/// The parts that are on.
+fn enabled_parts(alloc: Global, session: &Session<()>) -> Result<Grammar, Fail> {
+    let grammar = tree(alloc, PARTS)?;
+    Ok(remove_disabled_decls(session, grammar)?)
+}
+
+/// Where those stand that are on without features.
+fn places_without(alloc: Global) -> Result<String, Fail> {
+    let without = enabled_parts(alloc, &session(None))?;
+    places(alloc, &without)
+}
+
+/// With that feature.
+fn enabled_with(alloc: Global, feature: &str) -> Result<Grammar, Fail> {
+    let session = session_with(alloc, feature)?;
+    enabled_parts(alloc, &session)
+}
+
+/// Whether that feature turns all on.
+fn is_all_on(alloc: Global, feature: &str) -> Result<bool, Fail> {
+    let with = enabled_with(alloc, feature)?;
+    is_tree(alloc, &with, PARTS)
+}
+
 #[test]
 fn enabled(rt: HostRuntime) -> Result<(), Fail> {
-    let alloc = rt.alloc();
-    let without = remove_disabled_decls(&session(None), tree(alloc, PARTS)?)?;
-    let text = places(alloc, &without)?;
+    assert!(rt; is_all_on(rt.alloc(), "f")?, "all is on");
+    let text = places_without(rt.alloc())?;
     assert_eq!(rt; text.as_str(), " 2..3 7..8 9..10");
-    let with = remove_disabled_decls(&session(only(alloc, "f")?), tree(alloc, PARTS)?)?;
-    assert!(rt; with == tree(alloc, PARTS)?, "all is on");
     Ok(())
 }

@@ -2,8 +2,8 @@
 use crate::forms::items;
 use crate::trees::{call_groups, fault_text, last_rule, push_symbols, tree};
 use lalrpop_norm_levels::precedence::{
-    Assoc, Direction, Substitution, expand_levels, expand_nonterm, has_prec_attr, read_levels,
-    replace_nonterm,
+    AlternativeLevel, Assoc, Direction, Substitution, expand_levels, expand_nonterm, has_prec_attr,
+    read_levels, replace_nonterm,
 };
 use lalrpop_norm_tree::grammar::parse_tree::*;
 use std::alloc::Global;
@@ -129,12 +129,20 @@ fn expanded(alloc: Global, items: &str) -> Result<String, Fail> {
 /// The number that its first level is read as, or the fault.
 fn read_number(alloc: Global, items: &str) -> Result<String, Fail> {
     let rule = last_rule(alloc, items)?;
-    match read_levels(alloc, &rule) {
-        Ok(levels) => match levels.first() {
-            Some(first) => Ok(format!(in alloc; "{}", first.level)?),
-            None => Err(Fail::from("no level")),
-        },
+    number_of_rule(alloc, &rule)
+}
+
+fn number_of_rule(alloc: Global, rule: &NonterminalData) -> Result<String, Fail> {
+    match read_levels(alloc, rule) {
+        Ok(levels) => first_number(alloc, &levels),
         Err(failure) => fault_text(alloc, failure),
+    }
+}
+
+fn first_number(alloc: Global, levels: &[AlternativeLevel]) -> Result<String, Fail> {
+    match levels.first() {
+        Some(first) => Ok(format!(in alloc; "{}", first.level)?),
+        None => Err(Fail::from("no level")),
     }
 }
 
@@ -167,19 +175,20 @@ fn no_side(rt: HostRuntime) -> Result<(), Fail> {
     Ok(())
 }
 
+const NUMBERS: &[(&str, &str)] = &[
+    (leveled!("4294967295"), "4294967295"),
+    (leveled!("+0"), "0"),
+    (leveled!("10"), "10"),
+    (leveled!("+02"), "2"),
+    (leveled!("4294967296"), "F12c 60..70"),
+    (leveled!("-0"), "F12c 60..70"),
+    (leveled!("+"), "F12c 60..70"),
+    (leveled!(""), "F12c 60..70"),
+];
+
 #[test]
 fn numbers(rt: HostRuntime) -> Result<(), Fail> {
-    let rows = [
-        (leveled!("4294967295"), "4294967295"),
-        (leveled!("+0"), "0"),
-        (leveled!("10"), "10"),
-        (leveled!("+02"), "2"),
-        (leveled!("4294967296"), "F12c 60..70"),
-        (leveled!("-0"), "F12c 60..70"),
-        (leveled!("+"), "F12c 60..70"),
-        (leveled!(""), "F12c 60..70"),
-    ];
-    for (items, want) in rows {
+    for &(items, want) in NUMBERS {
         let text = read_number(rt.alloc(), items)?;
         assert_eq!(rt; text.as_str(), want, "{items}");
     }
@@ -246,18 +255,21 @@ fn two_occurrences(rt: HostRuntime) -> Result<(), Fail> {
 }
 
 /// Whether the first alternative says a level or a side.
+fn first_says(alloc: Global, items: &str) -> Result<bool, Fail> {
+    let rule = last_rule(alloc, items)?;
+    Ok(has_prec_attr(&rule))
+}
+
 #[test]
 fn first_alternatives(rt: HostRuntime) -> Result<(), Fail> {
-    let rows = [(leveled!("1"), true), (ONLY_SIDE, true), (PLAIN, false)];
-    for (items, want) in rows {
-        let rule = last_rule(rt.alloc(), items)?;
-        assert_eq!(rt; has_prec_attr(&rule), want, "{items}");
-    }
+    assert!(rt; first_says(rt.alloc(), leveled!("1"))?);
+    assert!(rt; first_says(rt.alloc(), ONLY_SIDE)?);
+    assert!(rt; !first_says(rt.alloc(), PLAIN)?);
     Ok(())
 }
 
 /// Levels by their numbers, none, and what is refused.
-const OTHER_RULES: [(&str, &str); 7] = [
+const OTHER_RULES: &[(&str, &str)] = &[
     (UNORDERED, "E2: \"m\" 77..80;\nE: \"n\" 40..43; E2 9..10;\n"),
     (PLAIN, "E: \"n\" 40..43;\n"),
     (ONLY_SIDE, "F12a 144..147"),
@@ -281,7 +293,7 @@ const OTHER_RULES: [(&str, &str); 7] = [
 
 #[test]
 fn other_rules(rt: HostRuntime) -> Result<(), Fail> {
-    for (items, want) in OTHER_RULES {
+    for &(items, want) in OTHER_RULES {
         let text = expanded(rt.alloc(), items)?;
         assert_eq!(rt; text.as_str(), want, "{items}");
     }
@@ -295,24 +307,75 @@ const CALL: &str = items!(rule "A" [1, 2] | [1, 2] [
     [92, 93] rule "E"
 ]);
 
+fn nonterminal(alloc: Global, name: &str) -> Result<NonterminalString, NoMemory> {
+    Ok(NonterminalString(Atom::new(alloc, name)?))
+}
+
+/// Puts `C` for the first `E` that is met, and `B` for the others.
+fn replace(alloc: Global, direction: Direction, symbols: &mut [Symbol]) -> Result<(), NoMemory> {
+    let target = nonterminal(alloc, "E")?;
+    replace_by_two(alloc, &target, direction, symbols)
+}
+
+fn replace_by_two(
+    alloc: Global,
+    target: &NonterminalString,
+    direction: Direction,
+    symbols: &mut [Symbol],
+) -> Result<(), NoMemory> {
+    let current = SymbolKind::Nonterminal(nonterminal(alloc, "C")?);
+    replace_after(alloc, target, &current, direction, symbols)
+}
+
+fn replace_after(
+    alloc: Global,
+    target: &NonterminalString,
+    current: &SymbolKind,
+    direction: Direction,
+    symbols: &mut [Symbol],
+) -> Result<(), NoMemory> {
+    let below = SymbolKind::Nonterminal(nonterminal(alloc, "B")?);
+    let substitution = Substitution::OneThen(current, &below);
+    replace_nonterm(target, substitution, direction, symbols)
+}
+
+fn push_replaced(
+    alloc: Global,
+    direction: Direction,
+    text: &mut String,
+    symbols: &mut [Symbol],
+) -> Result<(), Fail> {
+    call_groups(symbols);
+    replace(alloc, direction, symbols)?;
+    push_symbols(alloc, text, symbols)
+}
+
+fn push_all_replaced(
+    alloc: Global,
+    direction: Direction,
+    text: &mut String,
+    rule: &mut NonterminalData,
+) -> Result<(), Fail> {
+    for alternative in rule.alternatives.iter_mut() {
+        push_replaced(alloc, direction, text, &mut alternative.expr.symbols)?;
+    }
+    Ok(())
+}
+
+fn replaced_text(
+    alloc: Global,
+    direction: Direction,
+    rule: &mut NonterminalData,
+) -> Result<String, Fail> {
+    let mut text = String::new(alloc);
+    push_all_replaced(alloc, direction, &mut text, rule)?;
+    Ok(text)
+}
+
 /// The symbols of the call, with `C` for the first `E` that is met and `B` for the others.
 fn replaced(alloc: Global, direction: Direction) -> Result<String, Fail> {
-    let current = SymbolKind::Nonterminal(NonterminalString(Atom::new(alloc, "C")?));
-    let below = SymbolKind::Nonterminal(NonterminalString(Atom::new(alloc, "B")?));
-    let target = NonterminalString(Atom::new(alloc, "E")?);
-    let mut text = String::new(alloc);
-    for alternative in last_rule(alloc, CALL)?.alternatives.iter_mut() {
-        let symbols = &mut alternative.expr.symbols;
-        call_groups(symbols);
-        replace_nonterm(
-            &target,
-            Substitution::OneThen(&current, &below),
-            direction,
-            symbols,
-        )?;
-        push_symbols(alloc, &mut text, symbols)?;
-    }
-    Ok(text)
+    let mut rule = last_rule(alloc, CALL)?;
+    replaced_text(alloc, direction, &mut rule)
 }
 
 #[test]

@@ -1,6 +1,6 @@
 //! Grammars whose names are resolved, and refused ones.
 use crate::forms::items;
-use crate::trees::{call_groups, fault_text, last_item, last_rule, mapped, match_block, tree};
+use crate::trees::{call_groups, fault_text, is_tree, mapped, match_block, tree};
 use lalrpop_norm_faults::{NormFailure, NormResult};
 use lalrpop_norm_names::resolve::resolve;
 use lalrpop_norm_tree::grammar::parse_tree::*;
@@ -48,15 +48,23 @@ fn told_behind_match(alloc: Global, name: &str, at: Span, items: &str) -> Result
     whole_text(alloc, resolve(alloc, grammar))
 }
 
-/// Of those items, a group in them for a call of the nonterminal that it begins with.
-fn told_with_calls(alloc: Global, items: &str) -> Result<String, Fail> {
+/// What `resolve` answers on those items, a group in them for a call of the nonterminal that it begins with.
+fn resolved_with_calls(alloc: Global, items: &str) -> Result<NormResult<Grammar>, Fail> {
     let mut grammar = tree(alloc, items)?;
+    make_all_calls(&mut grammar);
+    Ok(resolve(alloc, grammar))
+}
+
+fn told_with_calls(alloc: Global, items: &str) -> Result<String, Fail> {
+    whole_text(alloc, resolved_with_calls(alloc, items)?)
+}
+
+fn make_all_calls(grammar: &mut Grammar) {
     for item in grammar.items.iter_mut() {
         if let GrammarItem::Nonterminal(rule) = item {
             make_calls(rule);
         }
     }
-    whole_text(alloc, resolve(alloc, grammar))
 }
 
 fn make_calls(rule: &mut NonterminalData) {
@@ -65,7 +73,7 @@ fn make_calls(rule: &mut NonterminalData) {
     }
 }
 
-const MESSAGES: [(&str, &str); 4] = [
+const MESSAGES: &[(&str, &str)] = &[
     // X = X Id<Y>; Id<T> = T;
     (
         items!(
@@ -94,7 +102,7 @@ const MESSAGES: [(&str, &str); 4] = [
 
 #[test]
 fn messages(rt: HostRuntime) -> Result<(), Fail> {
-    for (items, want) in MESSAGES {
+    for &(items, want) in MESSAGES {
         let text = told_with_calls(rt.alloc(), items)?;
         assert_eq!(rt; text.as_str(), want, "{items}");
     }
@@ -135,47 +143,77 @@ macro_rules! scopes {
     };
 }
 
+fn resolved(alloc: Global, items: &str) -> Result<Grammar, Fail> {
+    let grammar = tree(alloc, items)?;
+    Ok(resolve(alloc, grammar)?)
+}
+
+fn resolves_to(alloc: Global, given: &str, want: &str) -> Result<bool, Fail> {
+    let grammar = resolved(alloc, given)?;
+    is_tree(alloc, &grammar, want)
+}
+
 /// In the macro `B` is its argument.
 #[test]
 fn meanings(rt: HostRuntime) -> Result<(), Fail> {
     let alloc = rt.alloc();
     let given = scopes!([[3, 4] id "A", [5, 6] id "B"] [[8, 9] id "B"]);
     let want = scopes!([[3, 4] rule "A", [5, 6] kind {"Terminal":{"Bare":"B"}}] [[8, 9] rule "B"]);
-    let resolved = resolve(alloc, tree(alloc, given)?)?;
-    assert!(rt; resolved == tree(alloc, want)?);
+    assert!(rt; resolves_to(alloc, given, want)?);
     Ok(())
 }
 
 // ---- each fault of names
 
-/// `extern { enum T { B => _ } } A = ; M<P> = ;`
-const BESIDE: &str = items!(
-    tokens [50, 51] [[50, 51] "B"];
-    rule "A" [52, 53] | [52, 53] [];
-    rule "M" [54, 55] {"args":["P"]} | [54, 55] []
-);
+/// `extern { enum T { B => _ } } A = ; M<P> = ;`, and what is put behind it.
+macro_rules! beside {
+    ($($further:tt)*) => {
+        items!(
+            tokens [50, 51] [[50, 51] "B"];
+            rule "A" [52, 53] | [52, 53] [];
+            rule "M" [54, 55] {"args":["P"]} | [54, 55] []
+            $($further)*
+        )
+    };
+}
 
-/// What `resolve` answers on these and that item.
-fn told_beside(alloc: Global, item: GrammarItem) -> Result<String, Fail> {
-    let mut grammar = tree(alloc, BESIDE)?;
-    grammar.items.push(item)?;
+/// What `resolve` answers on those items, a group in them for a call of the nonterminal that it begins with.
+fn told_of(alloc: Global, items: &str) -> Result<String, Fail> {
+    answer_text(alloc, resolved_with_calls(alloc, items)?)
+}
+
+/// On those items, the last one under a condition over that name.
+fn told_under(alloc: Global, items: &str, name: &str) -> Result<String, Fail> {
+    let mut grammar = tree(alloc, items)?;
+    put_condition(alloc, &mut grammar, name)?;
     answer_text(alloc, resolve(alloc, grammar))
 }
 
-/// On these and that rule, a group in it for a call of the nonterminal that it begins with.
-fn told_of(alloc: Global, items: &str) -> Result<String, Fail> {
-    let mut rule = last_rule(alloc, items)?;
-    make_calls(&mut rule);
-    told_beside(alloc, GrammarItem::Nonterminal(rule))
+fn put_condition(alloc: Global, grammar: &mut Grammar, name: &str) -> Result<(), Fail> {
+    match grammar.items.last_mut() {
+        Some(GrammarItem::Nonterminal(rule)) => put_conditions(alloc, rule, name),
+        _ => Err(Fail::from("no rule")),
+    }
 }
 
-/// On these and that rule, under a condition over that name.
-fn told_under(alloc: Global, items: &str, name: &str) -> Result<String, Fail> {
-    let mut rule = last_rule(alloc, items)?;
+fn put_conditions(alloc: Global, rule: &mut NonterminalData, name: &str) -> Result<(), Fail> {
     for alternative in rule.alternatives.iter_mut() {
         alternative.condition = Some(condition(alloc, name)?);
     }
-    told_beside(alloc, GrammarItem::Nonterminal(rule))
+    Ok(())
+}
+
+/// On those items and a match block that makes that name.
+fn told_before_match(alloc: Global, items: &str, name: &str) -> Result<String, Fail> {
+    let mut grammar = tree(alloc, items)?;
+    push_match(alloc, &mut grammar, name)?;
+    answer_text(alloc, resolve(alloc, grammar))
+}
+
+fn push_match(alloc: Global, grammar: &mut Grammar, name: &str) -> Result<(), Fail> {
+    let item = match_of(alloc, name, Span(3, 4))?;
+    grammar.items.push(item)?;
+    Ok(())
 }
 
 /// `NAME == "a"`, at 3..4.
@@ -188,10 +226,10 @@ fn condition(alloc: Global, name: &str) -> Result<Condition, NoMemory> {
     })
 }
 
-/// `X<Q> = ..` of that symbol.
+/// Behind these `X<Q> = ..` of that symbol.
 macro_rules! rule_x {
     ($($symbol:tt)*) => {
-        items!(rule "X" [56, 57] {"args":["Q"]} | [56, 57] [$($symbol)*])
+        beside!(; rule "X" [56, 57] {"args":["Q"]} | [56, 57] [$($symbol)*])
     };
 }
 
@@ -217,23 +255,24 @@ macro_rules! of_call {
 }
 
 /// Each name as an identifier, and as a nonterminal.
+const NAMES_IN_SCOPE: &[(&str, &str)] = &[
+    (of_id!("A"), "Ok"),
+    (of_rule!("A"), "Ok"),
+    (of_id!("Q"), "Ok"),
+    (of_rule!("Q"), "Ok"),
+    (of_id!("B"), "Ok"),
+    (of_rule!("B"), "F29 3..4"),
+    (of_id!("M"), "F32 3..4"),
+    (of_rule!("M"), "F29 3..4"),
+    (of_id!("X"), "F32 3..4"),
+    (of_rule!("X"), "F29 3..4"),
+    (of_id!("P"), "F27 3..4"),
+    (of_rule!("P"), "F27 3..4"),
+];
+
 #[test]
 fn names_in_scope(rt: HostRuntime) -> Result<(), Fail> {
-    let rows = [
-        (of_id!("A"), "Ok"),
-        (of_rule!("A"), "Ok"),
-        (of_id!("Q"), "Ok"),
-        (of_rule!("Q"), "Ok"),
-        (of_id!("B"), "Ok"),
-        (of_rule!("B"), "F29 3..4"),
-        (of_id!("M"), "F32 3..4"),
-        (of_rule!("M"), "F29 3..4"),
-        (of_id!("X"), "F32 3..4"),
-        (of_rule!("X"), "F29 3..4"),
-        (of_id!("P"), "F27 3..4"),
-        (of_rule!("P"), "F27 3..4"),
-    ];
-    for (items, want) in rows {
+    for &(items, want) in NAMES_IN_SCOPE {
         let text = told_of(rt.alloc(), items)?;
         assert_eq!(rt; text.as_str(), want, "{items}");
     }
@@ -241,26 +280,27 @@ fn names_in_scope(rt: HostRuntime) -> Result<(), Fail> {
 }
 
 /// Each name called without arguments, with one and with two.
+const CALLS: &[(&str, &str)] = &[
+    (of_call!("M"), "F31 3..4"),
+    (of_call!("M", [5, 6] "A"), "Ok"),
+    (of_call!("M", [5, 6] "A", [7, 8] "A"), "F31 3..4"),
+    (of_call!("A"), "F30 3..4"),
+    (of_call!("A", [5, 6] "A"), "F30 3..4"),
+    (of_call!("A", [5, 6] "A", [7, 8] "A"), "F30 3..4"),
+    (of_call!("B"), "F30 3..4"),
+    (of_call!("B", [5, 6] "A"), "F30 3..4"),
+    (of_call!("B", [5, 6] "A", [7, 8] "A"), "F30 3..4"),
+    (of_call!("Q"), "F30 3..4"),
+    (of_call!("Q", [5, 6] "A"), "F30 3..4"),
+    (of_call!("Q", [5, 6] "A", [7, 8] "A"), "F30 3..4"),
+    (of_call!("P"), "F27 3..4"),
+    (of_call!("P", [5, 6] "A"), "F27 3..4"),
+    (of_call!("P", [5, 6] "A", [7, 8] "A"), "F27 3..4"),
+];
+
 #[test]
 fn calls(rt: HostRuntime) -> Result<(), Fail> {
-    let rows = [
-        (of_call!("M"), "F31 3..4"),
-        (of_call!("M", [5, 6] "A"), "Ok"),
-        (of_call!("M", [5, 6] "A", [7, 8] "A"), "F31 3..4"),
-        (of_call!("A"), "F30 3..4"),
-        (of_call!("A", [5, 6] "A"), "F30 3..4"),
-        (of_call!("A", [5, 6] "A", [7, 8] "A"), "F30 3..4"),
-        (of_call!("B"), "F30 3..4"),
-        (of_call!("B", [5, 6] "A"), "F30 3..4"),
-        (of_call!("B", [5, 6] "A", [7, 8] "A"), "F30 3..4"),
-        (of_call!("Q"), "F30 3..4"),
-        (of_call!("Q", [5, 6] "A"), "F30 3..4"),
-        (of_call!("Q", [5, 6] "A", [7, 8] "A"), "F30 3..4"),
-        (of_call!("P"), "F27 3..4"),
-        (of_call!("P", [5, 6] "A"), "F27 3..4"),
-        (of_call!("P", [5, 6] "A", [7, 8] "A"), "F27 3..4"),
-    ];
-    for (items, want) in rows {
+    for &(items, want) in CALLS {
         let text = told_of(rt.alloc(), items)?;
         assert_eq!(rt; text.as_str(), want, "{items}");
     }
@@ -268,16 +308,17 @@ fn calls(rt: HostRuntime) -> Result<(), Fail> {
 }
 
 /// Each name in a condition, which is looked at before the symbols.
+const CONDITIONS: &[(&str, &str)] = &[
+    ("Q", "F27 8..9"),
+    ("A", "F28 3..4"),
+    ("B", "F28 3..4"),
+    ("M", "F28 3..4"),
+    ("P", "F27 3..4"),
+];
+
 #[test]
 fn conditions(rt: HostRuntime) -> Result<(), Fail> {
-    let rows = [
-        ("Q", "F27 8..9"),
-        ("A", "F28 3..4"),
-        ("B", "F28 3..4"),
-        ("M", "F28 3..4"),
-        ("P", "F27 3..4"),
-    ];
-    for (name, want) in rows {
+    for &(name, want) in CONDITIONS {
         let text = told_under(rt.alloc(), rule_x!([8, 9] id "Z"), name)?;
         assert_eq!(rt; text.as_str(), want, "{name}");
     }
@@ -287,11 +328,9 @@ fn conditions(rt: HostRuntime) -> Result<(), Fail> {
 /// A terminal of the name of a terminal, and one of the name of a macro.
 #[test]
 fn names_beside(rt: HostRuntime) -> Result<(), Fail> {
-    let alloc = rt.alloc();
-    let conversion = last_item(alloc, items!(tokens [3, 4] [[3, 4] "B"]))?;
-    let text = told_beside(alloc, conversion)?;
+    let text = told_of(rt.alloc(), beside!(; tokens [3, 4] [[3, 4] "B"]))?;
     assert_eq!(rt; text.as_str(), "F25 3..4");
-    let text = told_beside(alloc, match_of(alloc, "M", Span(3, 4))?)?;
+    let text = told_before_match(rt.alloc(), beside!(), "M")?;
     assert_eq!(rt; text.as_str(), "F25 3..4");
     Ok(())
 }

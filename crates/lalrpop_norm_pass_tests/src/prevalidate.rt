@@ -1,7 +1,7 @@
 //! What a written grammar is refused for, before names are looked at: one refused tree for each fault but those of levels, which
 //! stand in `levels`.
 use crate::forms::items;
-use crate::trees::{call_groups, fault_text, last_rule, mapped, match_block, tree, tree_under};
+use crate::trees::{call_groups, fault_text, mapped, match_block, tree, tree_under};
 use lalrpop_norm_front::prevalidate::validate;
 use lalrpop_norm_tree::grammar::parse_tree::*;
 use std::alloc::Global;
@@ -23,25 +23,26 @@ fn told_under(alloc: Global, attributes: &str, items: &str) -> Result<String, Fa
     told_of_grammar(alloc, &grammar)
 }
 
+const ATTRIBUTES: &[(&str, &str)] = &[
+    // #![lalr]
+    (
+        r#"[{"id_span":[7,12],"id":"lalr","arg":"Empty"}]"#,
+        "F1 7..12",
+    ),
+    // #![LALR]
+    (r#"[{"id_span":[7,12],"id":"LALR","arg":"Empty"}]"#, "Ok"),
+];
+
 #[test]
 fn grammar_attributes(rt: HostRuntime) -> Result<(), Fail> {
-    let rows = [
-        // #![lalr]
-        (
-            r#"[{"id_span":[7,12],"id":"lalr","arg":"Empty"}]"#,
-            "F1 7..12",
-        ),
-        // #![LALR]
-        (r#"[{"id_span":[7,12],"id":"LALR","arg":"Empty"}]"#, "Ok"),
-    ];
-    for (attributes, want) in rows {
+    for &(attributes, want) in ATTRIBUTES {
         let text = told_under(rt.alloc(), attributes, "")?;
         assert_eq!(rt; text.as_str(), want, "{attributes}");
     }
     Ok(())
 }
 
-const HEADS: [(&str, &str); 7] = [
+const HEADS: &[(&str, &str)] = &[
     // extern { enum T { } } extern { enum T { } }
     (items!(tokens [3, 4] []; tokens [3, 4] []), "F4 3..4"),
     // pub A<T> = { };
@@ -81,7 +82,7 @@ const HEADS: [(&str, &str); 7] = [
 
 #[test]
 fn heads(rt: HostRuntime) -> Result<(), Fail> {
-    for (items, want) in HEADS {
+    for &(items, want) in HEADS {
         let text = told_under(rt.alloc(), "[]", items)?;
         assert_eq!(rt; text.as_str(), want, "{items}");
     }
@@ -95,7 +96,7 @@ macro_rules! rule_a {
     };
 }
 
-const ACTIONS: [(&str, &str); 5] = [
+const ACTIONS: &[(&str, &str)] = &[
     // A = #[inline];
     (rule_a!(#[[40, 46] "inline"] []), "F13 40..46"),
     // A = x:"a";
@@ -126,14 +127,14 @@ const ACTIONS: [(&str, &str); 5] = [
 
 #[test]
 fn actions(rt: HostRuntime) -> Result<(), Fail> {
-    for (items, want) in ACTIONS {
+    for &(items, want) in ACTIONS {
         let text = told_under(rt.alloc(), "[]", items)?;
         assert_eq!(rt; text.as_str(), want, "{items}");
     }
     Ok(())
 }
 
-const GROUPS: [(&str, &str); 3] = [
+const GROUPS: &[(&str, &str)] = &[
     // A = (x:"a" <"a">) => ;
     (
         rule_a!({"action":{"User":""}} [[32, 51] group [
@@ -162,7 +163,7 @@ const GROUPS: [(&str, &str); 3] = [
 
 #[test]
 fn groups(rt: HostRuntime) -> Result<(), Fail> {
-    for (items, want) in GROUPS {
+    for &(items, want) in GROUPS {
         let text = told_under(rt.alloc(), "[]", items)?;
         assert_eq!(rt; text.as_str(), want, "{items}");
     }
@@ -171,31 +172,50 @@ fn groups(rt: HostRuntime) -> Result<(), Fail> {
 
 // ---- what is built
 
-/// Of those two items.
-fn told_of_two(alloc: Global, first: GrammarItem, second: GrammarItem) -> Result<String, Fail> {
+/// Puts an item before the others.
+fn put_first(grammar: &mut Grammar, item: GrammarItem) -> Result<(), Fail> {
+    grammar.items.insert(0, item)?;
+    Ok(())
+}
+
+/// Puts an empty match block behind the others.
+fn push_block(alloc: Global, grammar: &mut Grammar, at: Span) -> Result<(), Fail> {
+    let block = match_block(alloc, at, Vec::new(alloc))?;
+    grammar.items.push(block)?;
+    Ok(())
+}
+
+/// Puts that before the others.
+fn put_block(
+    alloc: Global,
+    grammar: &mut Grammar,
+    at: Span,
+    items: Vec<MatchItem>,
+) -> Result<(), Fail> {
+    put_first(grammar, match_block(alloc, at, items)?)
+}
+
+/// Of two match blocks.
+fn told_of_two(alloc: Global) -> Result<String, Fail> {
     let mut grammar = tree(alloc, "")?;
-    grammar.items.push(first)?;
-    grammar.items.push(second)?;
+    push_block(alloc, &mut grammar, Span(3, 4))?;
+    push_block(alloc, &mut grammar, Span(5, 6))?;
     told_of_grammar(alloc, &grammar)
 }
 
-/// Of that item and those behind it.
-fn told_before(alloc: Global, item: GrammarItem, items: &str) -> Result<String, Fail> {
+/// Of a match block before those items.
+fn told_behind_block(alloc: Global, items: &str) -> Result<String, Fail> {
     let mut grammar = tree(alloc, items)?;
-    grammar.items.insert(0, item)?;
+    put_block(alloc, &mut grammar, Span(3, 4), Vec::new(alloc))?;
     told_of_grammar(alloc, &grammar)
 }
 
 /// Two match blocks; a match block and an extern enum.
 #[test]
 fn blocks(rt: HostRuntime) -> Result<(), Fail> {
-    let alloc = rt.alloc();
-    let first = match_block(alloc, Span(3, 4), Vec::new(alloc))?;
-    let second = match_block(alloc, Span(5, 6), Vec::new(alloc))?;
-    let text = told_of_two(alloc, first, second)?;
+    let text = told_of_two(rt.alloc())?;
     assert_eq!(rt; text.as_str(), "F2 5..6");
-    let first = match_block(alloc, Span(3, 4), Vec::new(alloc))?;
-    let text = told_before(alloc, first, items!(tokens [5, 6] []))?;
+    let text = told_behind_block(rt.alloc(), items!(tokens [5, 6] []))?;
     assert_eq!(rt; text.as_str(), "F3 5..6");
     Ok(())
 }
@@ -209,144 +229,240 @@ fn associated(alloc: Global, at: Span, name: &str) -> Result<AssociatedType, NoM
     })
 }
 
-/// `extern { type Location = L; type NAME = L; }`, the second type at 7..8.
-fn told_of_type(alloc: Global, name: &str) -> Result<String, Fail> {
-    let first = associated(alloc, Span(5, 6), "Location")?;
-    let second = associated(alloc, Span(7, 8), name)?;
+fn push_type(
+    alloc: Global,
+    types: &mut Vec<AssociatedType>,
+    at: Span,
+    name: &str,
+) -> Result<(), NoMemory> {
+    let one = associated(alloc, at, name)?;
+    Ok(types.push(one)?)
+}
+
+/// `type Location = L; type NAME = L;`, the second at 7..8.
+fn two_types(alloc: Global, name: &str) -> Result<Vec<AssociatedType>, NoMemory> {
+    let mut types = Vec::new(alloc);
+    push_type(alloc, &mut types, Span(5, 6), "Location")?;
+    push_type(alloc, &mut types, Span(7, 8), name)?;
+    Ok(types)
+}
+
+/// Puts `extern { type Location = L; type NAME = L; }` before the others.
+fn put_types(alloc: Global, grammar: &mut Grammar, name: &str) -> Result<(), Fail> {
     let item = GrammarItem::ExternToken(ExternToken {
         span: Span(3, 4),
-        associated_types: vec![in alloc; first, second]?,
+        associated_types: two_types(alloc, name)?,
         enum_token: None,
     });
-    told_before(alloc, item, "")
+    put_first(grammar, item)
 }
+
+/// Of that alone.
+fn told_of_type(alloc: Global, name: &str) -> Result<String, Fail> {
+    let mut grammar = tree(alloc, "")?;
+    put_types(alloc, &mut grammar, name)?;
+    told_of_grammar(alloc, &grammar)
+}
+
+const TYPES: &[(&str, &str)] = &[
+    ("Token", "F5 7..8"),
+    ("Location", "F6 7..8"),
+    ("Error", "Ok"),
+];
 
 #[test]
 fn associated_types(rt: HostRuntime) -> Result<(), Fail> {
-    let rows = [
-        ("Token", "F5 7..8"),
-        ("Location", "F6 7..8"),
-        ("Error", "Ok"),
-    ];
-    for (name, want) in rows {
+    for &(name, want) in TYPES {
         let text = told_of_type(rt.alloc(), name)?;
         assert_eq!(rt; text.as_str(), want, "{name}");
     }
     Ok(())
 }
 
-/// A tree that holds its tokenizer already.
+/// A tokenizer.
+fn tokenizer(alloc: Global) -> GrammarItem {
+    GrammarItem::InternToken(InternToken {
+        match_entries: Vec::new(alloc),
+        dfa: Dfa {
+            code: Vec::new(alloc),
+        },
+    })
+}
+
+/// Of a tree that holds its tokenizer already.
+fn told_of_tokenizer(alloc: Global) -> Result<String, Fail> {
+    let mut grammar = tree(alloc, "")?;
+    put_first(&mut grammar, tokenizer(alloc))?;
+    told_of_grammar(alloc, &grammar)
+}
+
 #[test]
 fn tokenizers(rt: HostRuntime) -> Result<(), Fail> {
-    let alloc = rt.alloc();
-    let code = Vec::new(alloc);
-    let item = GrammarItem::InternToken(InternToken {
-        match_entries: Vec::new(alloc),
-        dfa: Dfa { code },
-    });
-    let text = told_before(alloc, item, "")?;
+    let text = told_of_tokenizer(rt.alloc())?;
     assert_eq!(rt; text.as_str(), "F21 0..99");
     Ok(())
 }
 
-/// `match { "a" => TERMINAL }`, the item at 7..8.
-fn told_of_mapping(alloc: Global, to: TerminalString) -> Result<String, Fail> {
+/// Puts `match { "a" => TERMINAL }` before the others, the item at 7..8.
+fn put_mapping(alloc: Global, grammar: &mut Grammar, to: TerminalString) -> Result<(), Fail> {
     let item = mapped(alloc, "a", to, Span(7, 8))?;
-    let block = match_block(alloc, Span(3, 4), vec![in alloc; item]?)?;
-    told_before(alloc, block, "")
+    put_block(alloc, grammar, Span(3, 4), vec![in alloc; item]?)
+}
+
+/// Of a mapping to the error terminal.
+fn told_of_error(alloc: Global) -> Result<String, Fail> {
+    let mut grammar = tree(alloc, "")?;
+    put_mapping(alloc, &mut grammar, TerminalString::Error)?;
+    told_of_grammar(alloc, &grammar)
+}
+
+fn quoted(alloc: Global, text: &str) -> Result<TerminalString, NoMemory> {
+    let text = Atom::new(alloc, text)?;
+    Ok(TerminalString::Literal(TerminalLiteral::Quoted(text)))
+}
+
+/// Of a mapping to that literal.
+fn told_of_literal(alloc: Global, text: &str) -> Result<String, Fail> {
+    let mut grammar = tree(alloc, "")?;
+    put_mapping(alloc, &mut grammar, quoted(alloc, text)?)?;
+    told_of_grammar(alloc, &grammar)
 }
 
 #[test]
 fn mappings(rt: HostRuntime) -> Result<(), Fail> {
-    let alloc = rt.alloc();
-    let text = told_of_mapping(alloc, TerminalString::Error)?;
+    let text = told_of_error(rt.alloc())?;
     assert_eq!(rt; text.as_str(), "F22 7..8");
-    let literal = TerminalLiteral::Quoted(Atom::new(alloc, "a")?);
-    let text = told_of_mapping(alloc, TerminalString::Literal(literal))?;
+    let text = told_of_literal(rt.alloc(), "a")?;
     assert_eq!(rt; text.as_str(), "Ok");
     Ok(())
 }
 
-/// `A: (!) = { }`, the type of a symbol inside.
+// ---- what is put for a part that is read
+
+/// `(!)`, the type of a symbol inside.
+fn type_of_symbol(alloc: Global) -> Result<TypeRef, NoMemory> {
+    let inner = vec![in alloc; TypeRef::OfSymbol(SymbolKind::Error)]?;
+    Ok(TypeRef::Tuple(inner))
+}
+
+/// Declares that for each rule.
+fn declare_types(alloc: Global, grammar: &mut Grammar) -> Result<(), Fail> {
+    for item in grammar.items.iter_mut() {
+        if let GrammarItem::Nonterminal(rule) = item {
+            rule.type_decl = Some(type_of_symbol(alloc)?);
+        }
+    }
+    Ok(())
+}
+
+fn told_of_declared(alloc: Global, items: &str) -> Result<String, Fail> {
+    let mut grammar = tree(alloc, items)?;
+    declare_types(alloc, &mut grammar)?;
+    told_of_grammar(alloc, &grammar)
+}
+
+/// `A: (!) = { }`.
 #[test]
 fn declared_types(rt: HostRuntime) -> Result<(), Fail> {
-    let alloc = rt.alloc();
-    let inner = vec![in alloc; TypeRef::OfSymbol(SymbolKind::Error)]?;
-    let mut rule = last_rule(alloc, items!(rule "A" [20, 21]))?;
-    rule.type_decl = Some(TypeRef::Tuple(inner));
-    let text = told_before(alloc, GrammarItem::Nonterminal(rule), "")?;
+    let text = told_of_declared(rt.alloc(), items!(rule "A" [20, 21]))?;
     assert_eq!(rt; text.as_str(), "F23 20..21");
     Ok(())
 }
 
-/// Puts that for the first symbol of a rule.
-fn put(rule: &mut NonterminalData, kind: SymbolKind) {
-    if rule.alternatives.is_empty() {
-        return;
-    }
-    let symbols = &mut rule.alternatives[0].expr.symbols;
-    if symbols.is_empty() {
-        return;
-    }
-    symbols[0].kind = kind;
+/// What is put for a symbol.
+#[derive(Clone, Copy)]
+enum Replacement {
+    /// `!` for it.
+    Error,
+    /// `@L` for it.
+    Lookahead,
+    /// Calls for the groups in it.
+    Calls,
 }
 
-/// Of a grammar with those attributes, that rule with that for its first symbol, and those items behind it.
-fn told_of_kind(
+fn put_calls(kind: &mut SymbolKind) {
+    if let SymbolKind::Expr(group) = kind {
+        call_groups(&mut group.symbols);
+    }
+}
+
+fn put(kind: &mut SymbolKind, what: Replacement) {
+    match what {
+        Replacement::Error => *kind = SymbolKind::Error,
+        Replacement::Lookahead => *kind = SymbolKind::Lookahead,
+        Replacement::Calls => put_calls(kind),
+    }
+}
+
+fn put_in_symbols(symbols: &mut [Symbol], what: Replacement) {
+    for symbol in symbols.iter_mut() {
+        put(&mut symbol.kind, what);
+    }
+}
+
+fn put_in_rule(rule: &mut NonterminalData, what: Replacement) {
+    for alternative in rule.alternatives.iter_mut() {
+        put_in_symbols(&mut alternative.expr.symbols, what);
+    }
+}
+
+fn put_in_rules(grammar: &mut Grammar, what: Replacement) {
+    for item in grammar.items.iter_mut() {
+        if let GrammarItem::Nonterminal(rule) = item {
+            put_in_rule(rule, what);
+        }
+    }
+}
+
+/// Of a grammar with those attributes and those items, that put for each symbol of its rules.
+fn told_with(
     alloc: Global,
     attributes: &str,
-    rule: &str,
-    kind: SymbolKind,
-    behind: &str,
+    items: &str,
+    what: Replacement,
 ) -> Result<String, Fail> {
-    let mut rule = last_rule(alloc, rule)?;
-    put(&mut rule, kind);
-    let mut grammar = tree_under(alloc, attributes, behind)?;
-    grammar.items.insert(0, GrammarItem::Nonterminal(rule))?;
+    let mut grammar = tree_under(alloc, attributes, items)?;
+    put_in_rules(&mut grammar, what);
     told_of_grammar(alloc, &grammar)
 }
 
 /// `A = X;`
 const RULE_X: &str = rule_a!([[3, 4] id "X"]);
 
-/// `A = X => ;`
-const CODED_X: &str = rule_a!({"action":{"User":""}} [[32, 51] id "X"]);
+/// `A = ("a" (M)) => ;`
+const GROUP_OF_M: &str = rule_a!({"action":{"User":""}} [[32, 51] group [
+    [35, 38] quoted "a",
+    [3, 4] kind {"Expr":{"symbols":[{"span":[3, 4],"kind":{"Nonterminal":"M"}}]}}
+]]);
 
-/// `("a" M<>)`, the call at 3..4.
-fn empty_call(alloc: Global) -> Result<SymbolKind, Fail> {
-    let symbols = rule_a!([[35, 38] quoted "a", [3, 4] group [[3, 4] rule "M"]]);
-    let mut rule = last_rule(alloc, symbols)?;
-    match rule.alternatives.pop() {
-        Some(mut alternative) => {
-            call_groups(&mut alternative.expr.symbols);
-            Ok(SymbolKind::Expr(alternative.expr))
-        }
-        None => Err(Fail::from("no alternative")),
-    }
-}
+/// `A = X;` beside an enum without a location.
+const BESIDE_TOKENS: &str = items!(rule "A" [20, 21] | [30, 39] [[3, 4] id "X"]; tokens [7, 8] []);
 
-/// `A = !` in recursive ascent and in a table; a call without arguments; `A = @L` beside an enum without a location.
+const REPLACED: &[(&str, &str, Replacement, &str)] = &[
+    // `A = !` in recursive ascent and in a table
+    (
+        r#"[{"id_span":[5,6],"id":"recursive_ascent","arg":"Empty"}]"#,
+        RULE_X,
+        Replacement::Error,
+        "F18 3..4",
+    ),
+    (
+        r#"[{"id_span":[5,6],"id":"table_driven","arg":"Empty"}]"#,
+        RULE_X,
+        Replacement::Error,
+        "Ok",
+    ),
+    // `A = ("a" M<>) => ;`, a call without arguments
+    ("[]", GROUP_OF_M, Replacement::Calls, "F19 3..4"),
+    // `A = @L`
+    ("[]", BESIDE_TOKENS, Replacement::Lookahead, "F20 3..4"),
+];
+
 #[test]
 fn symbols(rt: HostRuntime) -> Result<(), Fail> {
-    let alloc = rt.alloc();
-    let rows = [
-        (
-            r#"[{"id_span":[5,6],"id":"recursive_ascent","arg":"Empty"}]"#,
-            "F18 3..4",
-        ),
-        (
-            r#"[{"id_span":[5,6],"id":"table_driven","arg":"Empty"}]"#,
-            "Ok",
-        ),
-    ];
-    for (attributes, want) in rows {
-        let text = told_of_kind(alloc, attributes, RULE_X, SymbolKind::Error, "")?;
-        assert_eq!(rt; text.as_str(), want, "{attributes}");
+    for &(attributes, items, what, want) in REPLACED {
+        let text = told_with(rt.alloc(), attributes, items, what)?;
+        assert_eq!(rt; text.as_str(), want, "{attributes} {items}");
     }
-    let text = told_of_kind(alloc, "[]", CODED_X, empty_call(alloc)?, "")?;
-    assert_eq!(rt; text.as_str(), "F19 3..4");
-    let tokens = items!(tokens [7, 8] []);
-    let text = told_of_kind(alloc, "[]", RULE_X, SymbolKind::Lookahead, tokens)?;
-    assert_eq!(rt; text.as_str(), "F20 3..4");
     Ok(())
 }

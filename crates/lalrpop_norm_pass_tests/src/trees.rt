@@ -10,15 +10,29 @@ use std::test::Fail;
 
 /// The grammar of those attributes, a JSON array, and those items, as `items` writes them, at 0..99.
 pub(crate) fn tree_under(alloc: Global, attributes: &str, items: &str) -> Result<Grammar, Fail> {
-    let text = format!(in alloc;
+    let text = written(alloc, attributes, items)?;
+    tree_of(alloc, text.as_str())
+}
+
+fn written(alloc: Global, attributes: &str, items: &str) -> Result<String, Fail> {
+    Ok(format!(in alloc;
         r#"{{"prefix":"__","span":[0,99],"type_parameters":[],"parameters":[],"where_clauses":[],"attributes":{attributes},"module_attributes":[],"items":[{items}]}}"#
-    )?;
-    Ok(read_tree(alloc, text.as_str())?)
+    )?)
+}
+
+fn tree_of(alloc: Global, text: &str) -> Result<Grammar, Fail> {
+    Ok(read_tree(alloc, text)?)
 }
 
 /// The grammar of those items.
 pub(crate) fn tree(alloc: Global, items: &str) -> Result<Grammar, Fail> {
     tree_under(alloc, "[]", items)
+}
+
+/// Whether it is the grammar of those items.
+pub(crate) fn is_tree(alloc: Global, grammar: &Grammar, items: &str) -> Result<bool, Fail> {
+    let want = tree(alloc, items)?;
+    Ok(*grammar == want)
 }
 
 /// The last one of those items.
@@ -93,14 +107,13 @@ pub(crate) fn mapped(
 /// `F7 3..9`: the number of a refusal, and where it stands.
 pub(crate) fn fault_text(alloc: Global, failure: NormFailure) -> Result<String, Fail> {
     match failure {
-        NormFailure::Refused(error) => Ok(format!(in alloc;
-            "{} {}..{}",
-            error.fault.code(),
-            error.span.0,
-            error.span.1
-        )?),
+        NormFailure::Refused(error) => numbered(alloc, error.fault.code(), error.span),
         NormFailure::Memory => Err(Fail::from("no memory")),
     }
+}
+
+fn numbered(alloc: Global, code: &str, span: Span) -> Result<String, Fail> {
+    Ok(format!(in alloc; "{code} {}..{}", span.0, span.1)?)
 }
 
 /// ` "n" E`: a blank and its text for each symbol.
@@ -110,8 +123,19 @@ pub(crate) fn push_symbols(
     symbols: &[Symbol],
 ) -> Result<(), Fail> {
     for symbol in symbols {
-        text.push_str(" ")?;
-        text.push_str(symbol.canonical_form(alloc)?.as_str())?;
+        push_symbol(alloc, text, symbol)?;
     }
+    Ok(())
+}
+
+fn push_symbol(alloc: Global, text: &mut String, symbol: &Symbol) -> Result<(), Fail> {
+    let form = symbol.canonical_form(alloc)?;
+    push_word(text, form.as_str())
+}
+
+/// A blank and the word.
+fn push_word(text: &mut String, word: &str) -> Result<(), Fail> {
+    text.push_str(" ")?;
+    text.push_str(word)?;
     Ok(())
 }

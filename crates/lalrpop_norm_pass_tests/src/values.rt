@@ -47,14 +47,22 @@ fn only_alternative(alloc: Global, items: &str) -> Result<Alternative, Fail> {
 /// Which symbols `analyze_expr` finds.
 fn expr_text(alloc: Global, items: &str) -> Result<String, Fail> {
     let alternative = only_alternative(alloc, items)?;
-    let symbols = analyze_expr(alloc, &alternative.expr)?;
+    text_of_expr(alloc, &alternative.expr)
+}
+
+fn text_of_expr(alloc: Global, expr: &ExprSymbol) -> Result<String, Fail> {
+    let symbols = analyze_expr(alloc, expr)?;
     symbols_text(alloc, &symbols)
 }
 
 /// Which symbols `analyze_action` finds, or `code`.
 fn action_text(alloc: Global, items: &str) -> Result<String, Fail> {
     let alternative = only_alternative(alloc, items)?;
-    match analyze_action(alloc, &alternative)? {
+    text_of_action(alloc, &alternative)
+}
+
+fn text_of_action(alloc: Global, alternative: &Alternative) -> Result<String, Fail> {
+    match analyze_action(alloc, alternative)? {
         AlternativeAction::User(_code) => Ok(String::from_str(alloc, "code")?),
         AlternativeAction::Default(symbols) => symbols_text(alloc, &symbols),
     }
@@ -80,20 +88,22 @@ const PLAIN: &str = items!(rule "A" [0, 9] | [0, 3] [[0, 1] id "a", [2, 3] id "a
 const CODED: &str =
     items!(rule "A" [0, 9] | [0, 3] {"action":{"User":"f()"}} [[0, 1] id "a", [2, 3] id "a"]);
 
+const SOURCES: &[(&str, &str)] = &[(NAMED, "named 2 mut y 4..5"), (CHOSEN, "anonymous 1 2..3")];
+
 #[test]
 fn sources(rt: HostRuntime) -> Result<(), Fail> {
-    let rows = [(NAMED, "named 2 mut y 4..5"), (CHOSEN, "anonymous 1 2..3")];
-    for (items, want) in rows {
+    for &(items, want) in SOURCES {
         let text = expr_text(rt.alloc(), items)?;
         assert_eq!(rt; text.as_str(), want, "{items}");
     }
     Ok(())
 }
 
+const ACTIONS: &[(&str, &str)] = &[(PLAIN, "anonymous 0 0..1 1 2..3"), (CODED, "code")];
+
 #[test]
 fn actions(rt: HostRuntime) -> Result<(), Fail> {
-    let rows = [(PLAIN, "anonymous 0 0..1 1 2..3"), (CODED, "code")];
-    for (items, want) in rows {
+    for &(items, want) in ACTIONS {
         let text = action_text(rt.alloc(), items)?;
         assert_eq!(rt; text.as_str(), want, "{items}");
     }

@@ -1,5 +1,5 @@
 //! Each call that makes a part of a tree, once with enough memory.
-use crate::values::{answers, copies, named_type, shows};
+use crate::values::{answers, copies, is_copy, named_type, shows};
 use lalrpop_norm_tree::grammar::parse_tree::*;
 use lalrpop_norm_tree::grammar::repr::TypeRepr;
 use std::alloc::Global;
@@ -45,12 +45,21 @@ fn match_blocks_grow_at_their_end(rt: HostRuntime) -> Result<(), Fail> {
     Ok(())
 }
 
+/// Whether the written type of that name is lowered to this type.
+fn name_lowers_to(alloc: Global, name: &str, want: &TypeRepr) -> bool {
+    match named_type(alloc, name) {
+        Ok(ty) => is_copy(ty.type_repr(alloc), want),
+        Err(_) => false,
+    }
+}
+
 #[test]
-fn types_lose_their_single_names(rt: HostRuntime) -> Result<(), Fail> {
+fn types_lose_their_single_names(rt: HostRuntime) {
     let alloc = rt.alloc();
-    let lowered = TypeRepr::str(alloc)?;
-    assert!(rt; named_type(alloc, "str")?.type_repr(alloc) == Ok(lowered));
-    Ok(())
+    match TypeRepr::str(alloc) {
+        Ok(lowered) => assert!(rt; name_lowers_to(alloc, "str", &lowered)),
+        Err(_) => assert!(rt; false),
+    }
 }
 
 #[test]

@@ -1,6 +1,6 @@
 //! Each call that copies, once with enough memory.
 use super::accessors::names;
-use crate::values::{copies, is_copy, named_type};
+use crate::values::{answer_copies, copies, is_copy, named_type};
 use lalrpop_norm_json::read_tree;
 use lalrpop_norm_tree::grammar::parse_tree::*;
 use lalrpop_norm_tree::grammar::pattern::{FieldPattern, Pattern, PatternKind};
@@ -126,10 +126,10 @@ fn extern_blocks_are_copied(rt: HostRuntime) -> Result<(), Fail> {
 
 /// `input: T`.
 fn parameter(alloc: Global) -> Result<Parameter, NoMemory> {
-    let ty = named_type(alloc, "T")?;
+    let name = Atom::new(alloc, "input")?;
     Ok(Parameter {
-        name: Atom::new(alloc, "input")?,
-        ty,
+        name,
+        ty: named_type(alloc, "T")?,
     })
 }
 
@@ -161,19 +161,31 @@ fn grammars_are_copied(rt: HostRuntime) -> Result<(), Fail> {
     Ok(())
 }
 
-#[test]
-fn lowered_types_are_copied(rt: HostRuntime) -> Result<(), Fail> {
-    let alloc = rt.alloc();
+/// `<usize>`.
+fn lowered_arguments(alloc: Global) -> Result<Vec<TypeRepr>, NoMemory> {
     let usize = TypeRepr::usize(alloc)?;
-    let types = vec![in alloc; usize]?;
-    let ty = NominalTypeRepr {
-        path: Path::vec(alloc)?,
-        types,
-    };
-    assert!(rt; copies(&ty));
-    let ty = TypeRepr::Nominal(ty);
-    assert!(rt; copies(&ty));
-    Ok(())
+    Ok(vec![in alloc; usize]?)
+}
+
+/// `alloc::vec::Vec<usize>`.
+fn lowered_vec(alloc: Global) -> Result<NominalTypeRepr, NoMemory> {
+    let path = Path::vec(alloc)?;
+    Ok(NominalTypeRepr {
+        path,
+        types: lowered_arguments(alloc)?,
+    })
+}
+
+/// The same as a type.
+fn lowered_type(alloc: Global) -> Result<TypeRepr, NoMemory> {
+    Ok(TypeRepr::Nominal(lowered_vec(alloc)?))
+}
+
+#[test]
+fn lowered_types_are_copied(rt: HostRuntime) {
+    let alloc = rt.alloc();
+    assert!(rt; answer_copies(lowered_vec(alloc)));
+    assert!(rt; answer_copies(lowered_type(alloc)));
 }
 
 #[test]
@@ -193,44 +205,107 @@ fn calls_and_tuples_are_copied(rt: HostRuntime) -> Result<(), Fail> {
 
 /// `f: <u8>`.
 fn field(alloc: Global) -> Result<FieldPattern<TypeRef>, NoMemory> {
+    let field_name = Atom::new(alloc, "f")?;
     let pattern = Pattern {
         span: Span(2, 3),
         kind: PatternKind::Choose(named_type(alloc, "u8")?),
     };
     Ok(FieldPattern {
         field_span: Span(1, 3),
-        field_name: Atom::new(alloc, "f")?,
+        field_name,
         pattern,
     })
 }
 
-#[test]
-fn patterns_are_copied(rt: HostRuntime) -> Result<(), Fail> {
-    let alloc = rt.alloc();
+/// `f: <u8>`, alone in its list.
+fn fields(alloc: Global) -> Result<Vec<FieldPattern<TypeRef>>, NoMemory> {
     let field = field(alloc)?;
-    assert!(rt; is_copy(field.pattern.clone(), &field.pattern));
-    assert!(rt; is_copy(field.clone(), &field));
-    let fields = vec![in alloc; field]?;
-    let kind = PatternKind::Struct(Path::option(alloc)?, fields, true);
-    assert!(rt; is_copy(kind.clone(), &kind));
-    Ok(())
+    Ok(vec![in alloc; field]?)
+}
+
+/// A structure of that field and others.
+fn structure(alloc: Global) -> Result<PatternKind<TypeRef>, NoMemory> {
+    let path = Path::option(alloc)?;
+    Ok(PatternKind::Struct(path, fields(alloc)?, true))
+}
+
+/// Of a field and its pattern.
+fn field_is_copied(alloc: Global) -> bool {
+    match field(alloc) {
+        Ok(field) => {
+            is_copy(field.pattern.clone(), &field.pattern) && is_copy(field.clone(), &field)
+        }
+        Err(_) => false,
+    }
+}
+
+fn structure_is_copied(alloc: Global) -> bool {
+    match structure(alloc) {
+        Ok(kind) => is_copy(kind.clone(), &kind),
+        Err(_) => false,
+    }
 }
 
 #[test]
-fn where_clauses_are_copied(rt: HostRuntime) -> Result<(), Fail> {
+fn patterns_are_copied(rt: HostRuntime) {
     let alloc = rt.alloc();
-    let parameter = TypeBoundParameter::TypeParameter(named_type(alloc, "T")?);
-    assert!(rt; is_copy(parameter.clone(), &parameter));
-    let bound: TypeBound<TypeRef> = TypeBound::Lifetime(Lifetime::statik(alloc)?);
-    assert!(rt; is_copy(bound.clone(), &bound));
-    let bounds = vec![in alloc; bound]?;
-    let clause = WhereClause::OfType {
+    assert!(rt; field_is_copied(alloc));
+    assert!(rt; structure_is_copied(alloc));
+}
+
+/// `T`.
+fn type_parameter(alloc: Global) -> Result<TypeBoundParameter<TypeRef>, NoMemory> {
+    Ok(TypeBoundParameter::TypeParameter(named_type(alloc, "T")?))
+}
+
+/// `'static`.
+fn static_bound(alloc: Global) -> Result<TypeBound<TypeRef>, NoMemory> {
+    Ok(TypeBound::Lifetime(Lifetime::statik(alloc)?))
+}
+
+fn static_bounds(alloc: Global) -> Result<Vec<TypeBound<TypeRef>>, NoMemory> {
+    let bound = static_bound(alloc)?;
+    Ok(vec![in alloc; bound]?)
+}
+
+/// `T: 'static`.
+fn static_clause(alloc: Global) -> Result<WhereClause<TypeRef>, NoMemory> {
+    let ty = named_type(alloc, "T")?;
+    let bounds = static_bounds(alloc)?;
+    Ok(WhereClause::OfType {
         forall: Vec::new(alloc),
-        ty: named_type(alloc, "T")?,
+        ty,
         bounds,
-    };
-    assert!(rt; is_copy(clause.clone(), &clause));
-    Ok(())
+    })
+}
+
+fn parameter_is_copied(alloc: Global) -> bool {
+    match type_parameter(alloc) {
+        Ok(parameter) => is_copy(parameter.clone(), &parameter),
+        Err(_) => false,
+    }
+}
+
+fn bound_is_copied(alloc: Global) -> bool {
+    match static_bound(alloc) {
+        Ok(bound) => is_copy(bound.clone(), &bound),
+        Err(_) => false,
+    }
+}
+
+fn clause_is_copied(alloc: Global) -> bool {
+    match static_clause(alloc) {
+        Ok(clause) => is_copy(clause.clone(), &clause),
+        Err(_) => false,
+    }
+}
+
+#[test]
+fn where_clauses_are_copied(rt: HostRuntime) {
+    let alloc = rt.alloc();
+    assert!(rt; parameter_is_copied(alloc));
+    assert!(rt; bound_is_copied(alloc));
+    assert!(rt; clause_is_copied(alloc));
 }
 
 #[test]
