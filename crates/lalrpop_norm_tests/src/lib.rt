@@ -4,5 +4,8 @@
 
 #[cfg(test)]
 mod later_parts;
+pub mod made;
 #[cfg(test)]
 mod normalize;
+#[cfg(test)]
+mod small;
