@@ -1,424 +1,522 @@
-//! What a later stage brings: each such part is refused with F0 at the grammar's span, by its name.
-use crate::made::named_type;
-use crate::small::*;
-use lalrpop_norm::normalize::{FaultKind, NormFailure, Session, normalize};
+//! What a later stage brings: each such part is refused with F0 at the grammar's span, by its name. Parts that have a form
+//! in JSON are read; the others are put into a small grammar that is read.
+use crate::runs::{read, run};
+use lalrpop_norm::normalize::{FaultKind, NormError, NormFailure};
 use lalrpop_norm_tree::grammar::parse_tree::*;
 use lalrpop_norm_tree::grammar::pattern::PatternKind;
-use std::alloc::Global;
+use std::alloc::{AllocError, Global};
 use std::test::*;
 
-/// What the refusal of a grammar with F0 at its span says; nothing where there is no such refusal.
-fn told(alloc: Global, grammar: Grammar) -> String {
-    let session = Session {
-        features: None,
-        macro_recursion_limit: 200,
-        lexer: (),
-    };
+/// The parts of a grammar's text: the grammar's lists, the items before the rule, the rule's head, the symbol and the
+/// code of its only alternative, and the items behind it.
+#[derive(Clone, Copy)]
+struct Parts {
+    head: &'static str,
+    tokens: &'static str,
+    rule: &'static str,
+    symbol: &'static str,
+    code: &'static str,
+    behind: &'static str,
+}
+
+// extern { enum Tok { "a" => A(..) } } pub S: () = "a";
+const SMALL: Parts = Parts {
+    head: r#""type_parameters":[],"attributes":[]"#,
+    tokens: r#"{"ExternToken":{"span":[0,36],"associated_types":[],"enum_token":{"type_name":{"Id":"Tok"},"type_span":[14,17],"conversions":[{"span":[20,32],"attributes":[],"from":{"Literal":{"Quoted":"a"}},"to":{"span":[27,32],"kind":{"Enum":[{"absolute":false,"ids":["A"]},[{"span":[29,31],"kind":"DotDot"}]]}}}]}}},"#,
+    rule: r#""name":"S","args":[],"type_decl":{"Tuple":[]}"#,
+    symbol: A,
+    code: "null",
+    behind: "",
+};
+
+const A: &str = r#"{"Terminal":{"Literal":{"Quoted":"a"}}}"#;
+
+const NOTHING: &str = "";
+
+const NO_CONVERSION: &str = "a terminal without a conversion is not taken yet";
+
+const SEVERAL: &str = "code with several `<>` is not taken yet";
+
+const NO_ENUM: &str = "a grammar without an extern enum is not taken yet";
+
+/// Grammars that are read, and what each is refused with; nothing where it is not refused so.
+const READ: [(Parts, &str); 23] = [
+    (SMALL, NOTHING),
+    // pub S: () = "a" => f(<>);
+    (
+        Parts {
+            code: r#"{"User":"f(<>)"}"#,
+            ..SMALL
+        },
+        NOTHING,
+    ),
+    // pub S: () = <"a">;
+    (
+        Parts {
+            symbol: r#"{"Choose":{"span":[49,52],"kind":{"Terminal":{"Literal":{"Quoted":"a"}}}}}"#,
+            ..SMALL
+        },
+        NOTHING,
+    ),
+    // pub S: () = ("a");
+    (
+        Parts {
+            symbol: r#"{"Expr":{"symbols":[{"span":[49,52],"kind":{"Terminal":{"Literal":{"Quoted":"a"}}}}]}}"#,
+            ..SMALL
+        },
+        NOTHING,
+    ),
+    // pub S: () = "a"*;
+    (
+        Parts {
+            symbol: r#"{"Repeat":{"op":"Star","symbol":{"span":[49,52],"kind":{"Terminal":{"Literal":{"Quoted":"a"}}}}}}"#,
+            ..SMALL
+        },
+        NOTHING,
+    ),
+    // pub S: () = <x:"a"> => f(x);
+    (
+        Parts {
+            symbol: r#"{"Name":[{"mutable":false,"name":"x"},{"span":[49,52],"kind":{"Terminal":{"Literal":{"Quoted":"a"}}}}]}"#,
+            code: r#"{"User":"f(x)"}"#,
+            ..SMALL
+        },
+        NOTHING,
+    ),
+    // pub S: () = "b";
+    (
+        Parts {
+            symbol: r#"{"Terminal":{"Literal":{"Quoted":"b"}}}"#,
+            ..SMALL
+        },
+        NO_CONVERSION,
+    ),
+    // pub S: () = A;
+    (
+        Parts {
+            symbol: r#"{"Terminal":{"Bare":"A"}}"#,
+            ..SMALL
+        },
+        NO_CONVERSION,
+    ),
+    // pub S: () = "b"*;
+    (
+        Parts {
+            symbol: r#"{"Repeat":{"op":"Star","symbol":{"span":[49,52],"kind":{"Terminal":{"Literal":{"Quoted":"b"}}}}}}"#,
+            ..SMALL
+        },
+        NO_CONVERSION,
+    ),
+    // pub S: () = "a" => (<>, <>);
+    (
+        Parts {
+            code: r#"{"User":"(<>, <>)"}"#,
+            ..SMALL
+        },
+        SEVERAL,
+    ),
+    // pub S: () = "a" =>? f(<>, <>);
+    (
+        Parts {
+            code: r#"{"Fallible":"f(<>, <>)"}"#,
+            ..SMALL
+        },
+        SEVERAL,
+    ),
+    // pub S: () = "a" =>? f(<>);
+    (
+        Parts {
+            code: r#"{"Fallible":"f(<>)"}"#,
+            ..SMALL
+        },
+        NOTHING,
+    ),
+    // pub S<X>: () = "a";
+    (
+        Parts {
+            rule: r#""name":"S","args":["X"],"type_decl":{"Tuple":[]}"#,
+            ..SMALL
+        },
+        "a macro is not taken yet",
+    ),
+    // pub S = "a";
+    (
+        Parts {
+            rule: r#""name":"S","args":[],"type_decl":null"#,
+            ..SMALL
+        },
+        "a rule without a declared type is not taken yet",
+    ),
+    // pub S: () = "a"; pub __S: () = "a";
+    (
+        Parts {
+            behind: r#",{"Nonterminal":{"visibility":{"Pub":null},"name":"__S","attributes":[],"span":[41,46],"args":[],"type_decl":{"Tuple":[]},"alternatives":[{"span":[49,52],"expr":{"symbols":[{"span":[49,52],"kind":{"Terminal":{"Literal":{"Quoted":"a"}}}}]},"condition":null,"action":null,"attributes":[]}]}}"#,
+            ..SMALL
+        },
+        "a rule with the name of a start symbol is not taken yet",
+    ),
+    // use a::b;
+    (
+        Parts {
+            behind: r#",{"Use":"a::b"}"#,
+            ..SMALL
+        },
+        NOTHING,
+    ),
+    // No extern block.
+    (
+        Parts {
+            tokens: "",
+            ..SMALL
+        },
+        NO_ENUM,
+    ),
+    // extern { }
+    (
+        Parts {
+            tokens: r#"{"ExternToken":{"span":[0,36],"associated_types":[],"enum_token":null}},"#,
+            ..SMALL
+        },
+        NO_ENUM,
+    ),
+    // extern { enum Tok { "a" => A(..), "a" => _ } }
+    (
+        Parts {
+            tokens: r#"{"ExternToken":{"span":[0,36],"associated_types":[],"enum_token":{"type_name":{"Id":"Tok"},"type_span":[14,17],"conversions":[{"span":[20,32],"attributes":[],"from":{"Literal":{"Quoted":"a"}},"to":{"span":[27,32],"kind":{"Enum":[{"absolute":false,"ids":["A"]},[{"span":[29,31],"kind":"DotDot"}]]}}},{"span":[20,32],"attributes":[],"from":{"Literal":{"Quoted":"a"}},"to":{"span":[27,32],"kind":"Underscore"}}]}}},"#,
+            ..SMALL
+        },
+        "a second conversion of one terminal is not taken yet",
+    ),
+    // extern { enum Tok { #[cfg(feature = "f")] "a" => _ } }, with no feature on.
+    (
+        Parts {
+            tokens: r#"{"ExternToken":{"span":[0,36],"associated_types":[],"enum_token":{"type_name":{"Id":"Tok"},"type_span":[14,17],"conversions":[{"span":[20,32],"attributes":[{"id_span":[0,3],"id":"cfg","arg":{"Paren":[{"id_span":[4,11],"id":"feature","arg":{"Equal":"f"}}]}}],"from":{"Literal":{"Quoted":"a"}},"to":{"span":[27,32],"kind":"Underscore"}}]}}},"#,
+            ..SMALL
+        },
+        NO_CONVERSION,
+    ),
+    // extern { enum Tok { "a" => A(..), #[cfg(feature = "f")] "a" => _ } }, with no feature on.
+    (
+        Parts {
+            tokens: r#"{"ExternToken":{"span":[0,36],"associated_types":[],"enum_token":{"type_name":{"Id":"Tok"},"type_span":[14,17],"conversions":[{"span":[20,32],"attributes":[],"from":{"Literal":{"Quoted":"a"}},"to":{"span":[27,32],"kind":{"Enum":[{"absolute":false,"ids":["A"]},[{"span":[29,31],"kind":"DotDot"}]]}}},{"span":[20,32],"attributes":[{"id_span":[0,3],"id":"cfg","arg":{"Paren":[{"id_span":[4,11],"id":"feature","arg":{"Equal":"f"}}]}}],"from":{"Literal":{"Quoted":"a"}},"to":{"span":[27,32],"kind":"Underscore"}}]}}},"#,
+            ..SMALL
+        },
+        NOTHING,
+    ),
+    // #[LALR] grammar;
+    (
+        Parts {
+            head: r#""type_parameters":[],"attributes":[{"id_span":[0,4],"id":"LALR","arg":"Empty"}]"#,
+            ..SMALL
+        },
+        "a grammar attribute is not taken yet",
+    ),
+    // grammar<T>;
+    (
+        Parts {
+            head: r#""type_parameters":[{"Id":"T"}],"attributes":[]"#,
+            ..SMALL
+        },
+        "a type parameter is not taken yet",
+    ),
+];
+
+/// The grammar of those parts, read; nothing where it is not read.
+fn tree(alloc: Global, parts: &Parts) -> Result<Option<Grammar>, AllocError> {
+    let Parts {
+        head,
+        tokens,
+        rule,
+        symbol,
+        code,
+        behind,
+    } = parts;
+    let text = format!(in alloc;
+        "{{\"prefix\":\"__\",\"span\":[0,53],\"parameters\":[],\"where_clauses\":[],\"module_attributes\":[],{head},\"items\":[{tokens}{{\"Nonterminal\":{{\"visibility\":{{\"Pub\":null}},\"attributes\":[],\"span\":[41,46],{rule},\"alternatives\":[{{\"span\":[49,52],\"expr\":{{\"symbols\":[{{\"span\":[49,52],\"kind\":{symbol}}}]}},\"condition\":null,\"action\":{code},\"attributes\":[]}}]}}}}{behind}]}}"
+    )?;
+    Ok(read(alloc, text.as_str()))
+}
+
+/// Whether the error is F0 at that span, with these words.
+fn is_not_yet(error: &NormError, span: Span, want: &str) -> bool {
+    error.fault == FaultKind::NotYet && error.span == span && error.message.as_str() == want
+}
+
+/// Whether the grammar is refused with F0 at its span and these words, or normalized, where there are no words.
+fn is_told(alloc: Global, grammar: Grammar, want: &str) -> bool {
     let span = grammar.span;
-    match normalize(alloc, &session, grammar) {
-        Err(NormFailure::Refused(error)) => {
-            if error.fault == FaultKind::NotYet && error.span == span {
-                error.message
-            } else {
-                String::new(alloc)
-            }
-        }
-        Ok(_) | Err(NormFailure::Memory) => String::new(alloc),
+    match run(alloc, grammar) {
+        Ok(_) => want.is_empty(),
+        Err(NormFailure::Refused(error)) => is_not_yet(&error, span, want),
+        Err(NormFailure::Memory) => false,
     }
 }
 
-/// Of the small grammar with that rule in the place of its own.
-fn told_of_rule(alloc: Global, rule: NonterminalData) -> Result<String, NoMemory> {
-    let tokens = GrammarItem::ExternToken(small_tokens(alloc)?);
-    let rule = GrammarItem::Nonterminal(rule);
-    Ok(told(
-        alloc,
-        grammar(alloc, Span(0, 53), vec![in alloc; tokens, rule]?)?,
-    ))
+#[test]
+fn parts_that_are_read(rt: HostRuntime) -> Result<(), Fail> {
+    for (parts, want) in &READ {
+        match tree(rt.alloc(), parts)? {
+            Some(grammar) => assert!(rt; is_told(rt.alloc(), grammar, want), "not {want}"),
+            None => assert!(rt; false, "before {want}"),
+        }
+    }
+    Ok(())
 }
 
-/// Of the small grammar with that symbol in the place of its own.
-fn told_of_symbol(alloc: Global, kind: SymbolKind) -> Result<String, NoMemory> {
-    told_of_rule(alloc, rule(alloc, alternative(alloc, kind)?)?)
+/// A part that no text has yet.
+#[derive(Drop)]
+enum Part {
+    Item(GrammarItem),
+    Parameter(Parameter),
+    Clause(WhereClause<TypeRef>),
+    AssociatedType(AssociatedType),
+    Pattern(PatternKind<TypeRef>),
+    Symbol(SymbolKind),
+    Condition(Condition),
 }
 
-/// Of the small grammar with that code.
-fn told_of_code(alloc: Global, action: ActionKind) -> Result<String, NoMemory> {
-    let mut alternative = alternative(alloc, SymbolKind::Terminal(literal(alloc, "a")?))?;
-    alternative.action = Some(action);
-    told_of_rule(alloc, rule(alloc, alternative)?)
+/// Puts it into the rule; answers whether it has a place there.
+fn put_in_rule(rule: &mut NonterminalData, part: Part) -> bool {
+    match (part, rule.alternatives.first_mut()) {
+        (Part::Condition(condition), Some(alternative)) => {
+            alternative.condition = Some(condition);
+            true
+        }
+        (Part::Symbol(kind), Some(alternative)) => match alternative.expr.symbols.first_mut() {
+            Some(symbol) => {
+                symbol.kind = kind;
+                true
+            }
+            None => false,
+        },
+        _ => false,
+    }
 }
 
-/// Of the small grammar with that extern block in the place of its own.
-fn told_of_tokens(alloc: Global, tokens: ExternToken) -> Result<String, NoMemory> {
-    let tokens = GrammarItem::ExternToken(tokens);
-    let rule = GrammarItem::Nonterminal(small_rule(alloc)?);
-    Ok(told(
-        alloc,
-        grammar(alloc, Span(0, 53), vec![in alloc; tokens, rule]?)?,
-    ))
+/// Puts it into the extern block; answers whether it has a place there.
+fn put_in_tokens(block: &mut ExternToken, part: Part) -> bool {
+    match (part, &mut block.enum_token) {
+        (Part::AssociatedType(ty), _) => block.associated_types.push(ty).is_ok(),
+        (Part::Pattern(kind), Some(tokens)) => match tokens.conversions.first_mut() {
+            Some(conversion) => {
+                conversion.to.kind = kind;
+                true
+            }
+            None => false,
+        },
+        _ => false,
+    }
 }
 
-/// Of the small grammar with that item behind its own.
-fn told_of_item(alloc: Global, item: GrammarItem) -> Result<String, NoMemory> {
-    let mut grammar = small_tree(alloc, Span(0, 53))?;
-    grammar.items.push(item)?;
-    Ok(told(alloc, grammar))
+/// Puts it into the small grammar; answers whether that was done.
+fn put(grammar: &mut Grammar, part: Part) -> bool {
+    match part {
+        Part::Item(item) => grammar.items.push(item).is_ok(),
+        Part::Parameter(parameter) => grammar.parameters.push(parameter).is_ok(),
+        Part::Clause(clause) => grammar.where_clauses.push(clause).is_ok(),
+        Part::AssociatedType(_) | Part::Pattern(_) => match grammar.items.first_mut() {
+            Some(GrammarItem::ExternToken(block)) => put_in_tokens(block, part),
+            _ => false,
+        },
+        Part::Symbol(_) | Part::Condition(_) => match grammar.items.last_mut() {
+            Some(GrammarItem::Nonterminal(rule)) => put_in_rule(rule, part),
+            _ => false,
+        },
+    }
 }
 
-fn symbol_a(alloc: Global) -> Result<Symbol, NoMemory> {
-    Ok(Symbol {
-        span: Span(49, 52),
-        kind: SymbolKind::Terminal(literal(alloc, "a")?),
-    })
+/// The small grammar with that part; nothing where it has no place for it.
+fn small_with(alloc: Global, part: Part) -> Option<Grammar> {
+    let mut grammar = read_small(alloc)?;
+    if put(&mut grammar, part) {
+        Some(grammar)
+    } else {
+        None
+    }
 }
 
-/// `LALR`.
-fn attribute(alloc: Global) -> Result<Attribute, NoMemory> {
-    Ok(Attribute {
-        id_span: Span(0, 4),
-        id: Atom::new(alloc, "LALR")?,
-        arg: AttributeArg::Empty,
-    })
+fn read_small(alloc: Global) -> Option<Grammar> {
+    match tree(alloc, &SMALL) {
+        Ok(grammar) => grammar,
+        Err(_) => None,
+    }
 }
 
-/// `cfg(feature = "f")`, with no feature on.
-fn disabled(alloc: Global) -> Result<Attribute, NoMemory> {
-    let feature = Attribute {
-        id_span: Span(4, 11),
-        id: Atom::new(alloc, "feature")?,
-        arg: AttributeArg::Equal(String::from_str(alloc, "f")?),
-    };
-    Ok(Attribute {
-        id_span: Span(0, 3),
-        id: Atom::new(alloc, "cfg")?,
-        arg: AttributeArg::Paren(vec![in alloc; feature]?),
-    })
+/// Whether the small grammar with that part is refused with these words.
+fn is_refused(alloc: Global, part: Part, want: &str) -> bool {
+    match small_with(alloc, part) {
+        Some(grammar) => is_told(alloc, grammar, want),
+        None => false,
+    }
+}
+
+/// What stands around a symbol.
+#[derive(Clone, Copy)]
+enum Around {
+    Nothing,
+    Group,
+    RepeatInGroup,
+    Choice,
+    Name,
+    Tuple,
 }
 
 /// `(..)` of that symbol.
-fn group_of(alloc: Global, kind: SymbolKind) -> Result<SymbolKind, NoMemory> {
-    let symbol = Symbol {
-        span: Span(49, 52),
-        kind,
-    };
+fn group(alloc: Global, symbol: Symbol) -> Result<SymbolKind, NoMemory> {
     Ok(SymbolKind::Expr(ExprSymbol {
         symbols: vec![in alloc; symbol]?,
     }))
 }
 
-/// That symbol, repeated.
-fn repeat_of(alloc: Global, kind: SymbolKind) -> Result<SymbolKind, NoMemory> {
+/// `..*` of that symbol.
+fn repeat(alloc: Global, symbol: Symbol) -> Result<Symbol, NoMemory> {
     let repeat = RepeatSymbol {
         op: RepeatOp::Star,
-        symbol: Symbol {
-            span: Span(49, 52),
-            kind,
-        },
+        symbol,
     };
-    Ok(SymbolKind::Repeat(Box::new(alloc, repeat)?))
+    let kind = SymbolKind::Repeat(Box::new(alloc, repeat)?);
+    Ok(Symbol::new(Span(49, 52), kind))
 }
 
-/// `x:` and that symbol.
-fn named(alloc: Global, kind: SymbolKind) -> Result<SymbolKind, NoMemory> {
-    let name = Name {
-        mutable: false,
-        name: Atom::new(alloc, "x")?,
+/// The symbol with that around it.
+fn wrapped(alloc: Global, around: Around, kind: SymbolKind) -> Result<Part, NoMemory> {
+    let symbol = Symbol::new(Span(49, 52), kind);
+    let kind = match around {
+        Around::Nothing => symbol.kind,
+        Around::Group => group(alloc, symbol)?,
+        Around::RepeatInGroup => group(alloc, repeat(alloc, symbol)?)?,
+        Around::Choice => SymbolKind::Choose(Box::new(alloc, symbol)?),
+        Around::Name => {
+            let named = Box::new(alloc, symbol)?;
+            SymbolKind::Name(Name::immut(Atom::new(alloc, "x")?), named)
+        }
+        Around::Tuple => SymbolKind::Tuple(Tuple::new(Vec::new(alloc)), Box::new(alloc, symbol)?),
     };
-    let symbol = Symbol {
-        span: Span(49, 52),
-        kind,
-    };
-    Ok(SymbolKind::Name(name, Box::new(alloc, symbol)?))
+    Ok(Part::Symbol(kind))
 }
 
-/// `M<>`.
-fn call(alloc: Global) -> Result<SymbolKind, NoMemory> {
-    Ok(SymbolKind::Macro(MacroSymbol {
-        name: nonterminal(alloc, "M")?,
+/// `M<>` with that around it.
+fn call(alloc: Global, around: Around) -> Result<Part, NoMemory> {
+    let call = MacroSymbol {
+        name: NonterminalString(Atom::new(alloc, "M")?),
         args: Vec::new(alloc),
-    }))
-}
-
-#[test]
-fn no_part(rt: HostRuntime) -> Result<(), Fail> {
-    let alloc = rt.alloc();
-    assert_eq!(rt; told(alloc, small_tree(alloc, Span(0, 53))?).as_str(), "");
-    let code = ActionKind::User(String::from_str(alloc, "f(<>)")?);
-    assert_eq!(rt; told_of_code(alloc, code)?.as_str(), "");
-    let chosen = SymbolKind::Choose(Box::new(alloc, symbol_a(alloc)?)?);
-    assert_eq!(rt; told_of_symbol(alloc, chosen)?.as_str(), "");
-    Ok(())
-}
-
-#[test]
-fn wrappers_are_no_parts(rt: HostRuntime) -> Result<(), Fail> {
-    let alloc = rt.alloc();
-    let group = group_of(alloc, symbol_a(alloc)?.kind)?;
-    assert_eq!(rt; told_of_symbol(alloc, group)?.as_str(), "");
-    let repeat = repeat_of(alloc, symbol_a(alloc)?.kind)?;
-    assert_eq!(rt; told_of_symbol(alloc, repeat)?.as_str(), "");
-    let named = named(alloc, symbol_a(alloc)?.kind)?;
-    assert_eq!(rt; told_of_symbol(alloc, named)?.as_str(), "");
-    Ok(())
+    };
+    wrapped(alloc, around, SymbolKind::Macro(call))
 }
 
 #[test]
 fn calls(rt: HostRuntime) -> Result<(), Fail> {
-    let alloc = rt.alloc();
-    let words = "a macro call is not taken yet";
-    assert_eq!(rt; told_of_symbol(alloc, call(alloc)?)?.as_str(), words);
-    let group = group_of(alloc, call(alloc)?)?;
-    assert_eq!(rt; told_of_symbol(alloc, group)?.as_str(), words);
-    let repeat = repeat_of(alloc, call(alloc)?)?;
-    let group = group_of(alloc, repeat)?;
-    assert_eq!(rt; told_of_symbol(alloc, group)?.as_str(), words);
-    Ok(())
-}
-
-#[test]
-fn symbols_in_wrappers(rt: HostRuntime) -> Result<(), Fail> {
-    let alloc = rt.alloc();
-    let tuple = Tuple {
-        tuples: Vec::new(alloc),
-    };
-    let tuple = SymbolKind::Tuple(tuple, Box::new(alloc, symbol_a(alloc)?)?);
-    assert_eq!(rt;
-        told_of_symbol(alloc, tuple)?.as_str(),
-        "a tuple symbol is not taken yet"
-    );
-    let mut error = symbol_a(alloc)?;
-    error.kind = SymbolKind::Error;
-    let chosen = SymbolKind::Choose(Box::new(alloc, error)?);
-    assert_eq!(rt;
-        told_of_symbol(alloc, chosen)?.as_str(),
-        "an error symbol is not taken yet"
-    );
-    for kind in [SymbolKind::Lookahead, SymbolKind::Lookbehind] {
-        let named = named(alloc, kind)?;
-        assert_eq!(rt;
-            told_of_symbol(alloc, named)?.as_str(),
-            "a lookaround is not taken yet"
-        );
+    for around in [Around::Nothing, Around::Group, Around::RepeatInGroup] {
+        let part = call(rt.alloc(), around)?;
+        assert!(rt; is_refused(rt.alloc(), part, "a macro call is not taken yet"));
     }
     Ok(())
 }
 
-#[test]
-fn terminals(rt: HostRuntime) -> Result<(), Fail> {
-    let alloc = rt.alloc();
-    let words = "a terminal without a conversion is not taken yet";
-    let missing = SymbolKind::Terminal(literal(alloc, "b")?);
-    assert_eq!(rt; told_of_symbol(alloc, missing)?.as_str(), words);
-    let bare = SymbolKind::Terminal(TerminalString::Bare(Atom::new(alloc, "A")?));
-    assert_eq!(rt; told_of_symbol(alloc, bare)?.as_str(), words);
-    let missing = SymbolKind::Terminal(literal(alloc, "b")?);
-    let repeat = repeat_of(alloc, missing)?;
-    assert_eq!(rt; told_of_symbol(alloc, repeat)?.as_str(), words);
-    Ok(())
+/// `():"a"`.
+fn tuple(alloc: Global) -> Result<Part, NoMemory> {
+    let a = SymbolKind::Terminal(TerminalString::quoted(Atom::new(alloc, "a")?));
+    wrapped(alloc, Around::Tuple, a)
 }
 
 #[test]
-fn codes(rt: HostRuntime) -> Result<(), Fail> {
+fn other_symbols(rt: HostRuntime) -> Result<(), Fail> {
     let alloc = rt.alloc();
-    let words = "code with several `<>` is not taken yet";
-    let code = ActionKind::User(String::from_str(alloc, "(<>, <>)")?);
-    assert_eq!(rt; told_of_code(alloc, code)?.as_str(), words);
-    let fallible = ActionKind::Fallible(String::from_str(alloc, "f(<>, <>)")?);
-    assert_eq!(rt; told_of_code(alloc, fallible)?.as_str(), words);
-    let once = ActionKind::Fallible(String::from_str(alloc, "f(<>)")?);
-    assert_eq!(rt; told_of_code(alloc, once)?.as_str(), "");
+    let part = tuple(alloc)?;
+    assert!(rt; is_refused(alloc, part, "a tuple symbol is not taken yet"));
+    let part = wrapped(alloc, Around::Choice, SymbolKind::Error)?;
+    assert!(rt; is_refused(alloc, part, "an error symbol is not taken yet"));
+    let part = wrapped(alloc, Around::Name, SymbolKind::Lookahead)?;
+    assert!(rt; is_refused(alloc, part, "a lookaround is not taken yet"));
+    let part = wrapped(alloc, Around::Name, SymbolKind::Lookbehind)?;
+    assert!(rt; is_refused(alloc, part, "a lookaround is not taken yet"));
     Ok(())
 }
 
-#[test]
-fn heads_of_rules(rt: HostRuntime) -> Result<(), Fail> {
-    let alloc = rt.alloc();
-    let mut definition = small_rule(alloc)?;
-    definition.args = vec![in alloc; nonterminal(alloc, "X")?]?;
-    assert_eq!(rt;
-        told_of_rule(alloc, definition)?.as_str(),
-        "a macro is not taken yet"
-    );
-    let mut undeclared = small_rule(alloc)?;
-    undeclared.type_decl = None;
-    assert_eq!(rt;
-        told_of_rule(alloc, undeclared)?.as_str(),
-        "a rule without a declared type is not taken yet"
-    );
-    Ok(())
-}
-
-#[test]
-fn marks_of_alternatives(rt: HostRuntime) -> Result<(), Fail> {
-    let alloc = rt.alloc();
-    let a = SymbolKind::Terminal(literal(alloc, "a")?);
-    let mut conditional = alternative(alloc, a)?;
-    conditional.condition = Some(Condition {
+/// `if X == "a"`.
+fn condition(alloc: Global) -> Result<Part, NoMemory> {
+    let lhs = NonterminalString(Atom::new(alloc, "X")?);
+    Ok(Part::Condition(Condition {
         span: Span(0, 1),
-        lhs: nonterminal(alloc, "X")?,
+        lhs,
         rhs: Atom::new(alloc, "a")?,
         op: ConditionOp::Equals,
-    });
-    let conditional = rule(alloc, conditional)?;
-    assert_eq!(rt;
-        told_of_rule(alloc, conditional)?.as_str(),
-        "a condition is not taken yet"
-    );
-    Ok(())
+    }))
 }
 
-#[test]
-fn names_of_rules(rt: HostRuntime) -> Result<(), Fail> {
-    let alloc = rt.alloc();
-    let mut taken = small_rule(alloc)?;
-    taken.name = nonterminal(alloc, "__S")?;
-    let taken = GrammarItem::Nonterminal(taken);
-    assert_eq!(rt;
-        told_of_item(alloc, taken)?.as_str(),
-        "a rule with the name of a start symbol is not taken yet"
-    );
-    Ok(())
+fn named_type(alloc: Global, name: &str) -> Result<TypeRef, NoMemory> {
+    Ok(TypeRef::Id(Atom::new(alloc, name)?))
 }
 
-#[test]
-fn other_items(rt: HostRuntime) -> Result<(), Fail> {
-    let alloc = rt.alloc();
-    let used = GrammarItem::Use(String::from_str(alloc, "a::b")?);
-    assert_eq!(rt; told_of_item(alloc, used)?.as_str(), "");
-    let matched = GrammarItem::MatchToken(MatchToken {
-        contents: Vec::new(alloc),
-        span: Span(0, 1),
-    });
-    assert_eq!(rt;
-        told_of_item(alloc, matched)?.as_str(),
-        "a match block is not taken yet"
-    );
-    Ok(())
-}
-
-#[test]
-fn extern_blocks(rt: HostRuntime) -> Result<(), Fail> {
-    let alloc = rt.alloc();
-    let rule = GrammarItem::Nonterminal(small_rule(alloc)?);
-    let bare = grammar(alloc, Span(0, 53), vec![in alloc; rule]?)?;
-    assert_eq!(rt;
-        told(alloc, bare).as_str(),
-        "a grammar without an extern enum is not taken yet"
-    );
-    let mut typed = small_tokens(alloc)?;
-    let location = AssociatedType {
+/// `type Location = usize`.
+fn location(alloc: Global) -> Result<Part, NoMemory> {
+    let type_ref = named_type(alloc, "usize")?;
+    Ok(Part::AssociatedType(AssociatedType {
         type_span: Span(0, 1),
         type_name: Atom::new(alloc, "Location")?,
-        type_ref: named_type(alloc, "usize")?,
-    };
-    typed.associated_types = vec![in alloc; location]?;
-    assert_eq!(rt;
-        told_of_tokens(alloc, typed)?.as_str(),
-        "an associated type is not taken yet"
-    );
-    let mut empty = small_tokens(alloc)?;
-    empty.enum_token = None;
-    assert_eq!(rt;
-        told_of_tokens(alloc, empty)?.as_str(),
-        "a grammar without an extern enum is not taken yet"
-    );
-    Ok(())
+        type_ref,
+    }))
 }
 
-#[test]
-fn conversions(rt: HostRuntime) -> Result<(), Fail> {
-    let alloc = rt.alloc();
-    let first = conversion(alloc, small_pattern(alloc)?)?;
-    let again = conversion(alloc, PatternKind::Underscore)?;
-    let twice = tokens(alloc, vec![in alloc; first, again]?)?;
-    assert_eq!(rt;
-        told_of_tokens(alloc, twice)?.as_str(),
-        "a second conversion of one terminal is not taken yet"
-    );
-    let chosen = conversion(alloc, PatternKind::Choose(named_type(alloc, "u8")?))?;
-    let chosen = tokens(alloc, vec![in alloc; chosen]?)?;
-    assert_eq!(rt;
-        told_of_tokens(alloc, chosen)?.as_str(),
-        "a chosen type of a token is not taken yet"
-    );
-    let number = conversion(alloc, PatternKind::Usize(7))?;
-    let number = tokens(alloc, vec![in alloc; number]?)?;
-    assert_eq!(rt;
-        told_of_tokens(alloc, number)?.as_str(),
-        "such a pattern of a token is not taken yet"
-    );
-    Ok(())
+/// `"a" => <u8>`.
+fn chosen(alloc: Global) -> Result<Part, NoMemory> {
+    Ok(Part::Pattern(PatternKind::Choose(named_type(alloc, "u8")?)))
 }
 
-/// A conversion of `"a"` that no features turn on.
-fn disabled_conversion(alloc: Global) -> Result<Conversion, NoMemory> {
-    let mut marked = conversion(alloc, PatternKind::Underscore)?;
-    marked.attributes = vec![in alloc; disabled(alloc)?]?;
-    Ok(marked)
-}
-
-#[test]
-fn disabled_conversion_alone(rt: HostRuntime) -> Result<(), Fail> {
-    let alloc = rt.alloc();
-    let marked = tokens(alloc, vec![in alloc; disabled_conversion(alloc)?]?)?;
-    assert_eq!(rt;
-        told_of_tokens(alloc, marked)?.as_str(),
-        "a terminal without a conversion is not taken yet"
-    );
-    Ok(())
-}
-
-#[test]
-fn disabled_conversion_beside_another(rt: HostRuntime) -> Result<(), Fail> {
-    let alloc = rt.alloc();
-    let first = conversion(alloc, small_pattern(alloc)?)?;
-    let once = tokens(alloc, vec![in alloc; first, disabled_conversion(alloc)?]?)?;
-    assert_eq!(rt; told_of_tokens(alloc, once)?.as_str(), "");
-    Ok(())
-}
-
-#[test]
-fn heads_of_grammars(rt: HostRuntime) -> Result<(), Fail> {
-    let alloc = rt.alloc();
-    let mut grammar = small_tree(alloc, Span(0, 53))?;
-    grammar.attributes = vec![in alloc; attribute(alloc)?]?;
-    assert_eq!(rt;
-        told(alloc, grammar).as_str(),
-        "a grammar attribute is not taken yet"
-    );
-    let mut grammar = small_tree(alloc, Span(0, 53))?;
-    grammar.type_parameters = vec![in alloc; TypeParameter::Id(Atom::new(alloc, "T")?)]?;
-    assert_eq!(rt;
-        told(alloc, grammar).as_str(),
-        "a type parameter is not taken yet"
-    );
-    Ok(())
-}
-
-#[test]
-fn parameters_and_clauses(rt: HostRuntime) -> Result<(), Fail> {
-    let alloc = rt.alloc();
-    let mut grammar = small_tree(alloc, Span(0, 53))?;
-    let parameter = Parameter {
+/// `n: usize`.
+fn parameter(alloc: Global) -> Result<Part, NoMemory> {
+    let ty = named_type(alloc, "usize")?;
+    Ok(Part::Parameter(Parameter {
         name: Atom::new(alloc, "n")?,
-        ty: named_type(alloc, "usize")?,
-    };
-    grammar.parameters = vec![in alloc; parameter]?;
-    assert_eq!(rt;
-        told(alloc, grammar).as_str(),
-        "a parameter is not taken yet"
-    );
-    let mut grammar = small_tree(alloc, Span(0, 53))?;
-    let clause = WhereClause::OfType {
+        ty,
+    }))
+}
+
+/// `where T:`.
+fn clause(alloc: Global) -> Result<Part, NoMemory> {
+    Ok(Part::Clause(WhereClause::OfType {
         forall: Vec::new(alloc),
         ty: named_type(alloc, "T")?,
         bounds: Vec::new(alloc),
-    };
-    grammar.where_clauses = vec![in alloc; clause]?;
-    assert_eq!(rt;
-        told(alloc, grammar).as_str(),
-        "a where clause is not taken yet"
+    }))
+}
+
+/// `match { }`.
+fn match_block(alloc: Global) -> Part {
+    Part::Item(GrammarItem::MatchToken(MatchToken {
+        contents: Vec::new(alloc),
+        span: Span(0, 1),
+    }))
+}
+
+#[test]
+fn parts_of_the_head(rt: HostRuntime) -> Result<(), Fail> {
+    let alloc = rt.alloc();
+    let part = parameter(alloc)?;
+    assert!(rt; is_refused(alloc, part, "a parameter is not taken yet"));
+    let part = clause(alloc)?;
+    assert!(rt; is_refused(alloc, part, "a where clause is not taken yet"));
+    let part = match_block(alloc);
+    assert!(rt; is_refused(alloc, part, "a match block is not taken yet"));
+    Ok(())
+}
+
+#[test]
+fn parts_of_items(rt: HostRuntime) -> Result<(), Fail> {
+    let alloc = rt.alloc();
+    let part = condition(alloc)?;
+    assert!(rt; is_refused(alloc, part, "a condition is not taken yet"));
+    let part = location(alloc)?;
+    assert!(rt; is_refused(alloc, part, "an associated type is not taken yet"));
+    let part = chosen(alloc)?;
+    assert!(rt; is_refused(alloc, part, "a chosen type of a token is not taken yet"));
+    let part = Part::Pattern(PatternKind::Usize(7));
+    assert!(rt;
+        is_refused(
+            alloc,
+            part,
+            "a token pattern other than `P(..)`, `P`, `_` and `..` is not taken yet"
+        )
     );
     Ok(())
 }

@@ -4,8 +4,7 @@
 
 #[cfg(test)]
 mod later_parts;
-pub mod made;
 #[cfg(test)]
 mod normalize;
 #[cfg(test)]
-mod small;
+mod runs;

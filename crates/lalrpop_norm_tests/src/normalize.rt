@@ -1,6 +1,5 @@
 //! Small grammars from end to end: numbers, productions, actions, terminals, types and start symbols.
-use lalrpop_norm::normalize::{NormFailure, Session, normalize};
-use lalrpop_norm_json::read_tree;
+use crate::runs::{read, run};
 use lalrpop_norm_repr::grammar::repr::{self, ActionFnDefnKind};
 use lalrpop_norm_tree::grammar::parse_tree::*;
 use std::alloc::Global;
@@ -31,17 +30,10 @@ const CODES: &str =
 {"span":[49,52],"expr":{"symbols":[{"span":[49,52],"kind":{"Choose":{"span":[49,52],"kind":{"Nonterminal":"S"}}}}]},
 "condition":null,"action":null,"attributes":[]}]}}],"attributes":[],"module_attributes":[]}"#;
 
+/// The lowered grammar of the tree with that text; nothing where it is not read, or refused.
 fn lowered(alloc: Global, text: &str) -> Option<repr::Grammar> {
-    let session = Session {
-        features: None,
-        macro_recursion_limit: 200,
-        lexer: (),
-    };
-    match read_tree(alloc, text) {
-        Ok(grammar) => match normalize(alloc, &session, grammar) {
-            Ok(lowered) => Some(lowered),
-            Err(NormFailure::Refused(_)) | Err(NormFailure::Memory) => None,
-        },
+    match run(alloc, read(alloc, text)?) {
+        Ok(lowered) => Some(lowered),
         Err(_) => None,
     }
 }
