@@ -75,117 +75,55 @@ fn is_same_path(a: &Path, b: &Path) -> bool
 pub(crate) fn is_same_type(a: &TypeRepr, b: &TypeRepr) -> bool
     ensures { result ≡ same_type (repr_view a.now) (repr_view b.now) }
 {
-    match a {
-        TypeRepr::Tuple(a) => match b {
-            TypeRepr::Tuple(b) => are_same_types(a, b),
-            TypeRepr::Slice(_)
-            | TypeRepr::Nominal(_)
-            | TypeRepr::Associated { .. }
-            | TypeRepr::Lifetime(_)
-            | TypeRepr::Ref { .. }
-            | TypeRepr::TraitObject(_)
-            | TypeRepr::Fn { .. } => false,
-        },
-        TypeRepr::Slice(a) => match b {
-            TypeRepr::Slice(b) => is_same_type(a, b),
-            TypeRepr::Tuple(_)
-            | TypeRepr::Nominal(_)
-            | TypeRepr::Associated { .. }
-            | TypeRepr::Lifetime(_)
-            | TypeRepr::Ref { .. }
-            | TypeRepr::TraitObject(_)
-            | TypeRepr::Fn { .. } => false,
-        },
-        TypeRepr::Nominal(a) => match b {
-            TypeRepr::Nominal(b) => is_same_applied(a, b),
-            TypeRepr::Tuple(_)
-            | TypeRepr::Slice(_)
-            | TypeRepr::Associated { .. }
-            | TypeRepr::Lifetime(_)
-            | TypeRepr::Ref { .. }
-            | TypeRepr::TraitObject(_)
-            | TypeRepr::Fn { .. } => false,
-        },
-        TypeRepr::Associated { type_parameter, id } => match b {
+    match (a, b) {
+        (TypeRepr::Tuple(a), TypeRepr::Tuple(b)) => are_same_types(a, b),
+        (TypeRepr::Slice(a), TypeRepr::Slice(b)) => is_same_type(a, b),
+        (TypeRepr::Nominal(a), TypeRepr::Nominal(b))
+        | (TypeRepr::TraitObject(a), TypeRepr::TraitObject(b)) => is_same_applied(a, b),
+        (
+            TypeRepr::Associated { type_parameter, id },
             TypeRepr::Associated {
-                type_parameter: other,
+                type_parameter: other_parameter,
                 id: other_id,
-            } => type_parameter == other && id == other_id,
-            TypeRepr::Tuple(_)
-            | TypeRepr::Slice(_)
-            | TypeRepr::Nominal(_)
-            | TypeRepr::Lifetime(_)
-            | TypeRepr::Ref { .. }
-            | TypeRepr::TraitObject(_)
-            | TypeRepr::Fn { .. } => false,
-        },
-        TypeRepr::Lifetime(a) => match b {
-            TypeRepr::Lifetime(b) => a.0 == b.0,
-            TypeRepr::Tuple(_)
-            | TypeRepr::Slice(_)
-            | TypeRepr::Nominal(_)
-            | TypeRepr::Associated { .. }
-            | TypeRepr::Ref { .. }
-            | TypeRepr::TraitObject(_)
-            | TypeRepr::Fn { .. } => false,
-        },
-        TypeRepr::Ref {
-            lifetime,
-            mutable,
-            referent,
-        } => match b {
+            },
+        ) => type_parameter == other_parameter && id == other_id,
+        (TypeRepr::Lifetime(a), TypeRepr::Lifetime(b)) => a.0 == b.0,
+        (
             TypeRepr::Ref {
-                lifetime: other,
+                lifetime,
+                mutable,
+                referent,
+            },
+            TypeRepr::Ref {
+                lifetime: other_lifetime,
                 mutable: other_mutable,
                 referent: other_referent,
-            } => {
-                is_same_lifetime(lifetime, other)
-                    && is_same_flag(*mutable, *other_mutable)
-                    && is_same_type(referent, other_referent)
-            }
-            TypeRepr::Tuple(_)
-            | TypeRepr::Slice(_)
-            | TypeRepr::Nominal(_)
-            | TypeRepr::Associated { .. }
-            | TypeRepr::Lifetime(_)
-            | TypeRepr::TraitObject(_)
-            | TypeRepr::Fn { .. } => false,
-        },
-        TypeRepr::TraitObject(a) => match b {
-            TypeRepr::TraitObject(b) => is_same_applied(a, b),
-            TypeRepr::Tuple(_)
-            | TypeRepr::Slice(_)
-            | TypeRepr::Nominal(_)
-            | TypeRepr::Associated { .. }
-            | TypeRepr::Lifetime(_)
-            | TypeRepr::Ref { .. }
-            | TypeRepr::Fn { .. } => false,
-        },
-        TypeRepr::Fn {
-            forall,
-            path,
-            parameters,
-            ret,
-        } => match b {
+            },
+        ) => {
+            is_same_lifetime(lifetime, other_lifetime)
+                && is_same_flag(*mutable, *other_mutable)
+                && is_same_type(referent, other_referent)
+        }
+        (
             TypeRepr::Fn {
-                forall: other,
+                forall,
+                path,
+                parameters,
+                ret,
+            },
+            TypeRepr::Fn {
+                forall: other_forall,
                 path: other_path,
                 parameters: other_parameters,
                 ret: other_ret,
-            } => {
-                are_same_parameters(forall, other)
-                    && is_same_path(path, other_path)
-                    && are_same_types(parameters, other_parameters)
-                    && is_same_return(ret, other_ret)
-            }
-            TypeRepr::Tuple(_)
-            | TypeRepr::Slice(_)
-            | TypeRepr::Nominal(_)
-            | TypeRepr::Associated { .. }
-            | TypeRepr::Lifetime(_)
-            | TypeRepr::Ref { .. }
-            | TypeRepr::TraitObject(_) => false,
-        },
+            },
+        ) => {
+            are_same_parameters(forall, other_forall)
+                && is_same_path(path, other_path)
+                && are_same_types(parameters, other_parameters)
+                && is_same_return(ret, other_ret)
+        }
+        _ => false,
     }
 }
 
@@ -200,15 +138,10 @@ fn is_same_applied(a: &NominalTypeRepr, b: &NominalTypeRepr) -> bool
 fn is_same_return(a: &Option<Box<TypeRepr>>, b: &Option<Box<TypeRepr>>) -> bool
     ensures { result ≡ same_return (maybe_repr_of (option_map (λ b. repr_view b.value) a.now)) (maybe_repr_of (option_map (λ b. repr_view b.value) b.now)) }
 {
-    match a {
-        None => match b {
-            None => true,
-            Some(_) => false,
-        },
-        Some(a) => match b {
-            None => false,
-            Some(b) => is_same_type(a, b),
-        },
+    match (a, b) {
+        (None, None) => true,
+        (Some(a), Some(b)) => is_same_type(a, b),
+        _ => false,
     }
 }
 
