@@ -10,3 +10,4 @@ pub mod BoundTexts
 pub mod KnownTexts
 pub mod LoweredTexts
 pub mod PatternTexts
+pub mod Terminals

@@ -1,12 +1,11 @@
 -- The type table as plain data: its rows in the order of their keys.
-use Rattle.std.specs.Prelude.{ℕ, Bool, true, false, List, [], ◌∷◌, ◌++◌, map, Option, Some, None, codes, bytes_eq, unwrap_or, if◌then◌else◌}
+use Rattle.std.specs.Prelude.{ℕ, false, List, [], ◌∷◌, ◌++◌, map, Option, Some, None, codes, bytes_eq, unwrap_or, if◌then◌else◌}
 use Rattle.std.specs.BTreeMap.{BTreeMap}
 use Rattle.std.specs.Prelude.{option_map}
 use Rattle.lalrpop_norm_parts.specs.declared.names.NonterminalString.{NonterminalString}
-use Rattle.lalrpop_norm_parts.specs.declared.names.TerminalLiteral.{TerminalLiteral}
-use Rattle.lalrpop_norm_parts.specs.declared.names.TerminalLiteral.TheVariants.{Quoted, Regex}
 use Rattle.lalrpop_norm_parts.specs.declared.names.TerminalString.{TerminalString}
 use Rattle.lalrpop_norm_parts.specs.declared.names.TerminalString.TheVariants as terminal
+pub use Rattle.lalrpop_norm_parts.specs.Terminals.{same_literal, same_terminal}
 use Rattle.lalrpop_norm_parts.specs.Reprs.{ReprData, tuple, nominal, reference, no_reprs, repr_and, repr_view, named_repr}
 use Rattle.lalrpop_norm_repr.specs.declared.types.Types.{Types}
 
@@ -18,18 +17,6 @@ rows f m = map (λ e. (e.0, f e.1)) m.entries
 abbrev pub found : {V : Type 0} → NonterminalString → List (NonterminalString × V) → Option V
 found name [] = None
 found name (r ∷ rs) = if bytes_eq name.0 r.0.0 then Some r.1 else found name rs
-
-abbrev pub same_literal : TerminalLiteral → TerminalLiteral → Bool
-same_literal (Quoted a) (Quoted b) = bytes_eq a b
-same_literal (Regex a) (Regex b) = bytes_eq a b
-same_literal (Quoted a) (Regex b) = false
-same_literal (Regex a) (Quoted b) = false
-
-abbrev pub same_terminal : TerminalString → TerminalString → Bool
-same_terminal (terminal.Literal l) (terminal.Literal m) = same_literal l m
-same_terminal (terminal.Bare a) (terminal.Bare b) = bytes_eq a b
-same_terminal terminal.Error terminal.Error = true
-same_terminal _ _ = false
 
 -- what stands at the terminal
 abbrev pub found_terminal : {V : Type 0} → TerminalString → List (TerminalString × V) → Option V
