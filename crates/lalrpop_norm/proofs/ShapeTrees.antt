@@ -14,8 +14,7 @@ use Rattle.lalrpop_norm_repr.specs.Lookups.{productions_of}
 use Rattle.lalrpop_norm_repr.specs.Tables.{TypeTable, found}
 use Rattle.lalrpop_norm_late.specs.Lowering.{public_rules, lowered_symbols, production_of}
 use Rattle.lalrpop_norm_late.specs.Shape.{IsLoweringOf, clauses_of, start_clause, productions_named, start_entry_of, rule_entry_of}
-use Rattle.lalrpop_norm_model.proofs.SimpleTrees.{simple_named}
-use Rattle.lalrpop_norm_model.proofs.NumberedNames.{Named, HaveOtherNames, traced_entry, NoneNamed, HaveDistinctNames}
+use Rattle.lalrpop_norm_model.proofs.NumberedNames.{Named, HaveOtherNames, traced_entry, NoneNamed, HaveDistinctNames, first_named}
 use Rattle.lalrpop_norm.specs.Derivations.{tree_symbol, traced}
 
 abbrev pub tree_symbols : AlternativeData → List LoweredSymbol
@@ -43,16 +42,16 @@ none_in n [] h r i = absurd i
 none_in n (s ∷ rules) h r (inl e) = rw e h.0
 none_in n (s ∷ rules) h r (inr i) = none_in n rules h.1 r i
 
-pub distinct_found : (rules : List RuleData) → HaveDistinctNames rules → (r : RuleData) → In r rules → simple_named rules r.name.0 ≡ Some r
+pub distinct_found : (rules : List RuleData) → HaveDistinctNames rules → (r : RuleData) → In r rules → first_named rules r.name.0 ≡ Some r
 distinct_found [] d r i = absurd i
 distinct_found (s ∷ rules) d r (inl e) = rw (← e) (here (bytes_eq r.name.0 r.name.0) (text_same r.name.0))
   where
-    here : (b : Bool) → b ≡ true → (if b then Some r else simple_named rules r.name.0) ≡ Some r
+    here : (b : Bool) → b ≡ true → (if b then Some r else first_named rules r.name.0) ≡ Some r
     here true t = refl
     here false t = absurd (cc t)
 distinct_found (s ∷ rules) d r (inr i) = there (bytes_eq s.name.0 r.name.0) (none_in s.name.0 rules d.0 r i) (distinct_found rules d.1 r i)
   where
-    there : (b : Bool) → b ≡ false → simple_named rules r.name.0 ≡ Some r → (if b then Some s else simple_named rules r.name.0) ≡ Some r
+    there : (b : Bool) → b ≡ false → first_named rules r.name.0 ≡ Some r → (if b then Some s else first_named rules r.name.0) ≡ Some r
     there true t e = absurd (cc t)
     there false t e = e
 
@@ -90,7 +89,7 @@ no_start_name prefix rules [] h r i = tt
 no_start_name prefix rules (s ∷ some) h r i =
     (turned (prefix ++ s.name.0) r.name.0 (none_in (prefix ++ s.name.0) rules h.0 r i), no_start_name prefix rules some h.1 r i)
 
-rule_row : (cs : List Named) (rules : List RuleData) (r : RuleData) → simple_named rules r.name.0 ≡ Some r →
+rule_row : (cs : List Named) (rules : List RuleData) (r : RuleData) → first_named rules r.name.0 ≡ Some r →
     found r.name (map (rule_entry_of cs) rules) ≡ Some (rule_entry_of cs r).1
 rule_row cs [] r e = absurd (grind arith)
 rule_row cs (s ∷ rules) r e = elim (cases_Bool (bytes_eq s.name.0 r.name.0)) [

@@ -9,7 +9,7 @@ use Rattle.lalrpop_norm_faults.specs.Faults.{Fault, fault_if, IsFirst, Refuses}
 use Rattle.lalrpop_norm_faults.proofs.FaultLemmas.{exit_at}
 use Rattle.lalrpop_norm_expand.specs.declared.macro_expand.expander.Expander.{Expander}
 use Rattle.lalrpop_norm_expand.specs.Expansion.{span_of}
-use Rattle.lalrpop_norm_expand.specs.Meeting.{after, after_one, clashes, clash_faults, seen_of, has_key, names_of, IsExpander, Meets, refused_by}
+use Rattle.lalrpop_norm_expand.specs.Meeting.{after, after_one, clashes, clash_faults, seen_of, has_key, names_of, Meets, refused_by}
 
 pub after_both : (seen xs ys : List Part) → after seen (xs ++ ys) ≡ after (after seen xs) ys
 after_both seen [] ys = refl
@@ -22,9 +22,6 @@ clash_both names seen (x ∷ xs) ys =
     let here : List Fault = fault_if (clashes names seen x) (SharedName, span_of x) in
     ap (λ fs. here ++ fs) (clash_both names (after_one seen x) xs ys)
     ∙ sym (append_assoc here (clash_faults names (after_one seen x) xs) (clash_faults names (after (after_one seen x) xs) ys))
-
-pub meets_none : (e : Expander) → IsExpander e → Meets e e []
-meets_none e h = record { seen = refl; names = refl; indexed = h }
 
 pub meets_both : (a b c : Expander) (xs ys : List Part) → Meets a b xs → Meets b c ys → Meets a c (xs ++ ys)
 meets_both a b c xs ys h k = record {

@@ -8,7 +8,7 @@ use Rattle.lalrpop_norm_parts.specs.declared.names.TerminalLiteral.TheVariants.{
 use Rattle.lalrpop_norm_parts.specs.declared.names.TerminalString.TheVariants.{Literal}
 use Rattle.lalrpop_norm_parts.specs.Reprs.{tuple, no_reprs, named_repr}
 use Rattle.lalrpop_norm_tree.specs.Symbols.{one_name, several, no_arguments, argument_and, terminal, chosen, named, tupled, Part, at}
-use Rattle.lalrpop_norm_late.specs.Arguments.{sources, patterns, names, IsFilled}
+use Rattle.lalrpop_norm_late.specs.Arguments.{patterns, names, IsFilled}
 use Rattle.lalrpop_norm_late.specs.Code.{written_code}
 use Rattle.lalrpop_norm_late.specs.Sources.{plain_name}
 
@@ -24,10 +24,6 @@ picked p = at here (chosen p)
 -- `<"a"> "b" <"c">`
 some_chosen : List Part
 some_chosen = picked (literal (codes "a")) ∷ literal (codes "b") ∷ picked (literal (codes "c")) ∷ []
-
-chosen_sources : sources some_chosen ≡ (0, literal (codes "a")) ∷ (2, literal (codes "c")) ∷ []
-unfolding some_chosen picked literal here
-chosen_sources = refl
 
 chosen_patterns : patterns (codes "__") some_chosen ≡ plain_name (codes "__0") ∷ plain_name (codes "_") ∷ plain_name (codes "__1") ∷ []
 unfolding some_chosen picked literal here digits

@@ -3,7 +3,7 @@
 use Rattle.std.specs.Prelude.{◌≡◌, ℕ, Bool, true, ◌||◌, List, [], ◌∷◌, ◌++◌, length, map, filter, take, zip, flat_map, replicate, nat_le, All, Option, Some, None, is_some, unwrap_or, if◌then◌else◌, codes}
 use Rattle.std.specs.List.{list_any, enumerate_from}
 use Rattle.lalrpop_norm_front.specs.Braces.{around_slot}
-use Rattle.lalrpop_norm_tree.specs.Symbols.{ArgumentPattern, one_name, several, Kind, chosen, named, tupled, Part, at, Parts, no_parts, part_and}
+use Rattle.lalrpop_norm_tree.specs.Symbols.{ArgumentPattern, one_name, several, Kind, named, tupled, Part, at, Parts, no_parts, part_and}
 use Rattle.lalrpop_norm_parts.specs.Texts.{joined}
 use Rattle.lalrpop_norm_tree.specs.SymbolTexts.{tuple_text}
 use Rattle.lalrpop_norm_late.specs.Sources.{is_chosen, source_name, plain_name}
@@ -32,20 +32,6 @@ abbrev pub is_source_of : List Part → Part → Bool
 is_source_of ps p =
     if list_any has_pattern ps then has_pattern p
     else (if list_any is_chosen ps then is_chosen p else true)
-
--- what stands in a chosen, named or tuple symbol
-abbrev pub kind_inside : Kind → Part → Part
-kind_inside (chosen p) whole = p
-kind_inside (named n p) whole = p
-kind_inside (tupled ns p) whole = p
-kind_inside _ whole = whole
-
-abbrev pub inside : Part → Part
-inside (at s k) = kind_inside k (at s k)
-
--- the sources with their places, each as the symbol inside it
-abbrev pub sources : List Part → List (ℕ × Part)
-sources ps = map (λ e. (e.0, inside e.1)) (filter (λ e. is_source_of ps e.1) (enumerate_from 0 ps))
 
 -- ---- patterns and names
 

@@ -1,7 +1,7 @@
 -- Alternatives put into the groups of their levels.
 use Rattle.std.proofs.Common.{◌≡◌, inl, inr, ℕ, zero, suc, ◌<◌, ◌≤◌, List, [], ◌∷◌, ◌++◌, length, map, set, get_or, cond, Some, Bool, true, false, Decides, refl, sym, ap, ap₂, ◌∙◌, subst, arith, append_assoc, append-nil}
 use Rattle.std.specs.Prelude.{slice_get, nat_eq}
-use Rattle.std.specs.Prelude.{Ok, Err}
+use Rattle.std.specs.Prelude.{Err}
 use Rattle.std.specs.Ordering.{nat_cmp}
 use Rattle.std.specs.List.Sorted.{IsBinarySearchResult}
 use Rattle.std.proofs.lemmas.Bool.{cases_lt}
@@ -82,11 +82,6 @@ levels_first (l ∷ ls) = ap (λ ms. l ∷ ms) (levels_first ls)
 
 -- ---- the place of a level
 
-got_at : (xs : List ℕ) (i : ℕ) → i < length xs → slice_get xs i ≡ Some (get_or xs i 0)
-got_at [] i lt = absurd (omega arith)
-got_at (x ∷ xs) zero lt = refl
-got_at (x ∷ xs) (suc i) lt = got_at xs i (omega arith)
-
 in_at : (xs : List ℕ) (i : ℕ) → i < length xs → In (get_or xs i 0) xs
 in_at [] i lt = absurd (omega arith)
 in_at (x ∷ xs) zero lt = inl refl
@@ -108,9 +103,6 @@ nowhere : (xs : List ℕ) (x i : ℕ) → In x xs → ((k : ℕ) → k < i → g
 nowhere xs x i h front back =
     let (k, lt, e) = place_of x xs h in
     elim (cases_lt k i) [ inl before ↦ (let less = front k before in omega arith) | inr after ↦ (let more = back k after lt in omega arith) ]
-
-pub place_found : (xs : List ℕ) (x i : ℕ) → IsBinarySearchResult (λ y. nat_cmp y x) xs (Ok i) → IsRising xs → slice_get xs i ≡ Some x
-place_found xs x i h r = let f = searched xs x (Ok i) h (never_falls xs r) in got_at xs i f.0 ∙ ap Some f.1
 
 pub place_not_found : (xs : List ℕ) (x i : ℕ) → IsBinarySearchResult (λ y. nat_cmp y x) xs (Err i) → IsRising xs → In x xs → slice_get xs i ≡ Some x
 place_not_found xs x i h r there = let f = searched xs x (Err i) h (never_falls xs r) in absurd (nowhere xs x i there f.1 f.2)

@@ -6,10 +6,7 @@ pub mod StatedLemmas
 pub mod WrittenLemmas
 pub mod EnabledLemmas
 pub mod ResolvedLemmas
-pub mod SimpleRules
-pub mod SimpleTrees
 pub mod NumberedNames
-pub mod SimpleGrammars
 pub mod ReadingLemmas
 pub mod LevelRuleLemmas
 pub mod BoundLemmas
@@ -42,7 +39,6 @@ pub mod TypeExamples
 pub mod TypeFaultExamples
 pub mod EntryExamples
 pub mod ExpandedExamples
-pub mod SimpleTypes
 pub mod FaithfulExamples
 pub mod TypeRoundLemmas
 pub mod TypeEndLemmas

@@ -1,5 +1,5 @@
 -- The test of two lowered types says whether they are equal.
-use Rattle.std.proofs.Common.{◌≡◌, ℕ, Bool, true, false, ◌&&◌, List, [], ◌∷◌, Option, Some, None, bytes_eq, Decides, refl, ap, ap₂}
+use Rattle.std.proofs.Common.{◌≡◌, ℕ, Bool, true, false, ◌&&◌, List, [], ◌∷◌, Option, Some, None, bytes_eq, refl, ap, ap₂}
 use Rattle.std.proofs.lemmas.Slice.Eq.{bytes_eq-Decides}
 use Rattle.lalrpop_norm_parts.specs.declared.names.Lifetime.{Lifetime}
 use Rattle.lalrpop_norm_parts.specs.declared.names.TypeParameter.{TypeParameter}
@@ -138,7 +138,3 @@ mutual
   pub return_same : (r : MaybeRepr) → same_return r r ≡ true
   return_same no_repr = refl
   return_same (returns t) = type_same t
-
--- the test decides
-pub same_type-Decides : (t u : ReprData) → Decides (same_type t u) (t ≡ u)
-same_type-Decides t u = (type_sound t u, λ e. rw e (type_same u))

@@ -128,19 +128,3 @@ inferred_end g = record {
   reached = refl;
   quiet = end_case g (after g (length (all_rules g))) (round_progress g (inferred g));
 }
-
--- a quiet table stays
-stays : (g : GrammarData) (k m : ℕ) → round g (rounds g k) ≡ rounds g k → rounds g (k + m) ≡ rounds g k
-stays g k zero quiet = let here : k + zero ≡ k = omega arith in ap (rounds g) here
-stays g k (suc m) quiet =
-    let next : k + suc m ≡ suc (k + m) = omega arith in
-    ap (rounds g) next ∙ (ap (round g) (stays g k m quiet) ∙ quiet)
-
--- where the rounds end is one table
-pub one_end : (g : GrammarData) (rows : List Row) → IsEnd g rows → rows ≡ inferred g
-one_end g rows end =
-    let quiet : round g (rounds g end.count) ≡ rounds g end.count = subst (λ s. round g s ≡ s) end.reached end.quiet in
-    let mine = stays g end.count (length (all_rules g)) quiet in
-    let other = stays g (length (all_rules g)) end.count (inferred_end g).quiet in
-    let same : end.count + length (all_rules g) ≡ length (all_rules g) + end.count = omega arith in
-    end.reached ∙ (sym mine ∙ (ap (rounds g) same ∙ other))

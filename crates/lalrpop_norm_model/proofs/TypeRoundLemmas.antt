@@ -5,10 +5,10 @@ use Rattle.lalrpop_norm_tree.specs.Items.{RuleData, GrammarData}
 use Rattle.lalrpop_norm_parts.specs.Reprs.{ReprData}
 use Rattle.lalrpop_norm_theory.specs.Rounds.{In}
 use Rattle.lalrpop_norm_model.specs.PlainRules.{all_rules}
-use Rattle.lalrpop_norm_model.specs.TypeRelation.{IsRule, Clause, clauses, Has, by_clause, IsFunctional, HasOneType}
+use Rattle.lalrpop_norm_model.specs.TypeRelation.{IsRule, Clause, clauses, Has, by_clause, HasOneType}
 use Rattle.lalrpop_norm_model.specs.TypeTables.{Table, clause_value, IsSound, IsClosed, IsStuck, IsTable}
 use Rattle.lalrpop_norm_model.specs.TypeRounds.{Row, table_of, first_value, taken, visit, visits, rounds, IsEnd}
-use Rattle.lalrpop_norm_model.proofs.TypeLemmas.{clause_makes, has_some, table_is, closed_functional, none_had}
+use Rattle.lalrpop_norm_model.proofs.TypeLemmas.{clause_makes, has_some, table_is, closed_functional}
 use Rattle.lalrpop_norm_model.proofs.TableTests.{AllHad, rows_sound}
 
 -- ---- the first value of some clauses
@@ -115,17 +115,6 @@ pub end_stuck : (g : GrammarData) (rows : List Row) → IsEnd g rows → IsStuck
 end_stuck g rows end r rule c i s =
     taken_quiet rows r.name.0 (table_of rows r.name.0) (first_value g (table_of rows) (clauses r))
     (quiet_visits g rows (all_rules g) end.quiet r rule) (first_some g (table_of rows) (clauses r) c i s)
-
--- a rule without a type there has none
-pub ungrounded : (g : GrammarData) (rows : List Row) → IsEnd g rows → (n : List ℕ) → table_of rows n ≡ None → (x : ReprData) → Has g n x → ⊥
-ungrounded g rows end = none_had g (table_of rows) (end_stuck g rows end)
-
--- a clause that makes another type than the rule's gives it a second one
-pub disagreeing : (g : GrammarData) (rows : List Row) → IsEnd g rows → (r : RuleData) → IsRule g r → (c : Clause) → In c (clauses r) →
-    (x y : ReprData) → table_of rows r.name.0 ≡ Some x → clause_value g (table_of rows) c ≡ Some y → (x ≡ y → ⊥) → IsFunctional g → ⊥
-disagreeing g rows end r rule c i x y e d differ one =
-    differ (one r.name.0 x y (end_sound g rows end r.name.0 x e)
-    (by_clause r c y rule i (clause_makes g (table_of rows) (end_sound g rows end) c y d)))
 
 -- each rule has a type in the table
 abbrev pub IsFull : GrammarData → Table → Type 0

@@ -1,12 +1,11 @@
 -- The types that rules have: the least relation that declared types and default alternatives keep.
-use Rattle.std.specs.Prelude.{filter_map, ◌≡◌, ℕ, Bool, true, false, ◌||◌, List, [], ◌∷◌, ◌++◌, Option, Some, None, bytes_eq, if◌then◌else◌}
+use Rattle.std.specs.Prelude.{filter_map, ◌≡◌, ℕ, Bool, false, ◌||◌, List, [], ◌∷◌, Option, Some, None, bytes_eq, if◌then◌else◌}
 use Rattle.lalrpop_norm_parts.specs.declared.names.Lifetime.{Lifetime}
 use Rattle.lalrpop_norm_parts.specs.declared.names.TerminalString.{TerminalString}
 use Rattle.lalrpop_norm_parts.specs.declared.names.TypeParameter.{TypeParameter}
 use Rattle.lalrpop_norm_parts.specs.declared.names.TypeParameter.TheVariants as parameter
 use Rattle.lalrpop_norm_tree.specs.declared.symbol.Name.{Name}
 use Rattle.lalrpop_norm_parts.specs.declared.names.Span.{Span}
-use Rattle.lalrpop_norm_tree.specs.Accessors.{is_public}
 use Rattle.lalrpop_norm_tree.specs.Items.{AlternativeData, RuleData, GrammarData}
 use Rattle.lalrpop_norm_tree.specs.LoweredTypes.{named_path}
 use Rattle.lalrpop_norm_parts.specs.Paths.{PathData}
@@ -111,10 +110,6 @@ mutual
 
 -- ---- what is asked of it
 
--- a type is grounded for a name where a rule of that name has it
-abbrev pub IsGrounded : GrammarData → List ℕ → ReprData → Type 0
-IsGrounded g n x = Has g n x
-
 -- each rule has a type
 abbrev pub IsTotal : GrammarData → Type 0
 IsTotal g = (r : RuleData) → IsRule g r → (x : ReprData) × Has g r.name.0 x
@@ -127,7 +122,3 @@ IsFunctional g = (n : List ℕ) (x y : ReprData) → Has g n x → Has g n y →
 pub record HasOneType (g : GrammarData) : Type 0 where
   pub total : IsTotal g
   pub functional : IsFunctional g
-
--- a start symbol has the type of its rule
-pub data HasStart (g : GrammarData) : List ℕ → ReprData → Type 0 where
-  of_rule : (r : RuleData) (x : ReprData) → IsRule g r → is_public r.visibility ≡ true → Has g r.name.0 x → HasStart g (g.prefix ++ r.name.0) x
