@@ -7,8 +7,8 @@ ghost use Rattle.lalrpop_norm_late.specs.Carried.{under};
 ghost use Rattle.lalrpop_norm_late.specs.Made.{made_bound, made_bound_parameter, made_clauses};
 ghost use Rattle.lalrpop_norm_late.specs.Typing.{lowered_type};
 
-use crate::head::copy_type_parameters;
 use crate::typing::lowered_type;
+use lalrpop_norm_parts::names::copy::copy_type_parameters;
 use lalrpop_norm_repr::grammar::repr::{TypeRepr, WhereClause};
 use lalrpop_norm_tree::grammar::parse_tree as pt;
 use lalrpop_norm_tree::grammar::parse_tree::{

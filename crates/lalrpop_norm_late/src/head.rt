@@ -13,7 +13,7 @@ use crate::typing::lowered_type;
 use lalrpop_norm_repr::grammar::repr::{Algorithm, Parameter};
 use lalrpop_norm_tree::grammar::parse_tree as pt;
 use lalrpop_norm_tree::grammar::parse_tree::{
-    Attribute, GrammarItem, InternToken, NoMemory, TypeParameter, read_algorithm,
+    Attribute, GrammarItem, InternToken, NoMemory, read_algorithm,
 };
 use std::alloc::Global;
 
@@ -81,15 +81,6 @@ fn lowered_parameter(alloc: Global, parameter: &pt::Parameter) -> Result<Paramet
     let name = parameter.name.clone()?;
     let ty = lowered_type(alloc, &parameter.ty)?;
     Ok(Parameter { name, ty })
-}
-
-#[tactic(auto, using(std::proofs::lemmas::List::Elements::same_from_all_zip))]
-pub(crate) fn copy_type_parameters(
-    parameters: &Vec<TypeParameter>,
-) -> Result<Vec<TypeParameter>, NoMemory>
-    ensures { IfOk result (λ copies. copies.items ≡ parameters.now.items) }
-{
-    Ok(parameters.clone()?)
 }
 
 /// A copy of each text.

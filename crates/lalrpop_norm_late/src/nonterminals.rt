@@ -10,8 +10,9 @@ ghost use Rattle.lalrpop_norm_late.specs.Lowering.{rule_type, rule_entry, rule_r
 ghost use Rattle.lalrpop_norm_late.specs.Made.{type_in, alternatives_faults, made_starts_faults, made_rules_faults, made_action, made_starts, made_actions};
 
 use crate::alternatives::{lower_alternative, lower_alternatives};
-use crate::starts::{copy_attributes, insert, rule_type, start_alternative, start_name};
+use crate::starts::{insert, rule_type, start_alternative, start_name};
 use lalrpop_norm_front::{FaultKind, NormResult, refusal};
+use lalrpop_norm_parts::attribute::copy::copy_attributes;
 use lalrpop_norm_repr::grammar::repr::{ActionFnDefn, NonterminalData, Types};
 use lalrpop_norm_tree::grammar::parse_tree as pt;
 use lalrpop_norm_tree::grammar::parse_tree::NonterminalString;

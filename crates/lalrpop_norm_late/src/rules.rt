@@ -1,10 +1,9 @@
 //! The rules of a grammar, in item order.
 ghost use Rattle.std.specs.Prelude.{◌≡◌, IfOk, map};
-ghost use Rattle.lalrpop_norm_tree.specs.Items.{rule_view, item_view, visibility_view};
+ghost use Rattle.lalrpop_norm_tree.specs.Items.{rule_view, item_view};
 ghost use Rattle.lalrpop_norm_late.specs.Lowering.{rules_of, public_rules};
-ghost use Rattle.lalrpop_norm_tree.specs.Accessors.{is_public};
 
-use lalrpop_norm_tree::grammar::parse_tree::{GrammarItem, NoMemory, NonterminalData, Visibility};
+use lalrpop_norm_tree::grammar::parse_tree::{GrammarItem, NoMemory, NonterminalData};
 use std::alloc::Global;
 
 /// The rules among the items.
@@ -36,19 +35,9 @@ pub(crate) fn public_rules<'g>(
 {
     let mut chosen = Vec::new(alloc);
     for rule in rules {
-        if is_public(&rule.visibility) {
+        if rule.visibility.is_pub() {
             chosen.push(*rule)?;
         }
     }
     Ok(chosen)
-}
-
-fn is_public(visibility: &Visibility) -> bool
-    ensures { result ≡ is_public (visibility_view visibility.now) }
-{
-    match visibility {
-        Visibility::Pub(_) => true,
-        Visibility::PubIn(_) => true,
-        Visibility::Priv => false,
-    }
 }

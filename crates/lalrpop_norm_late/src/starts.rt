@@ -1,6 +1,5 @@
 //! The parts of nonterminals: the types of rules, and the start symbols of public ones.
 ghost use Rattle.std.specs.Prelude.{◌≡◌, [], IfOk, OnOk, map};
-ghost use Rattle.lalrpop_norm_parts.specs.Attributes.{attribute_view};
 ghost use Rattle.lalrpop_norm_tree.specs.Items.{alternative_view, rule_view};
 ghost use Rattle.lalrpop_norm_parts.specs.Reprs.{repr_view};
 ghost use Rattle.lalrpop_norm_tree.specs.Symbols.{expr_view, symbol_view, nonterminal, at, part_and, no_parts};
@@ -11,7 +10,7 @@ ghost use Rattle.lalrpop_norm_late.specs.Lowering.{rule_type, start_name, start_
 use lalrpop_norm_repr::grammar::repr::{NonterminalData, TypeRepr, Types};
 use lalrpop_norm_tree::grammar::parse_tree as pt;
 use lalrpop_norm_tree::grammar::parse_tree::{
-    Alternative, Atom, Attribute, ExprSymbol, NoMemory, NonterminalString, Span, Symbol, SymbolKind,
+    Alternative, Atom, ExprSymbol, NoMemory, NonterminalString, Span, Symbol, SymbolKind,
 };
 use std::alloc::Global;
 use std::collections::BTreeMap;
@@ -74,20 +73,6 @@ fn named_symbol(span: Span, name: &NonterminalString) -> Result<Symbol, NoMemory
 {
     let kind = SymbolKind::Nonterminal(name.clone()?);
     Ok(Symbol { span, kind })
-}
-
-/// A copy of each attribute.
-pub(crate) fn copy_attributes(
-    alloc: Global,
-    attributes: &[Attribute],
-) -> Result<Vec<Attribute>, NoMemory>
-    ensures { IfOk result (λ copies. map attribute_view copies.items ≡ map attribute_view attributes.now) }
-{
-    let mut copies = Vec::new(alloc);
-    for attribute in attributes {
-        copies.push(attribute.clone()?)?;
-    }
-    Ok(copies)
 }
 
 /// Puts a nonterminal into the table.

@@ -32,12 +32,13 @@ use std::alloc::Global;
 use tokens::token_types;
 
 /// The table of the types of a grammar's rules and terminals. A rule has the type that it declares, or else the one that its
-/// alternatives without code give.
+/// alternatives without code give. The names of the rules are distinct, as in what `expand_macros` answers.
 ///
-/// A grammar is refused by the first of its faults of inference: a rule without a declared type that has no alternatives (F47), or
-/// none that may give a type (F48); then a rule that has no type (F49); then an alternative of a rule without a declared type that
-/// gives another type than the rule has (F50); then a tuple of names before a symbol that is no nonterminal (F51), whose type is no
-/// tuple (F52) or one of another length (F53). The other error is want of memory.
+/// Errors, of several the first in this order: F47 (`NoAlternatives`) at a rule without a declared type and without alternatives,
+/// or F48 (`OnlyCoded`) at the first alternative of one whose alternatives give no type; F49 (`NotGrounded`) at a rule that has no
+/// type; F50 (`Disagreement`) at an alternative of a rule without a declared type that gives another type than the rule has; F51
+/// (`TupleOverSymbol`), F52 (`TupleOverType`) or F53 (`TupleLength`) at the symbol that a tuple of names stands before: it is no
+/// nonterminal, its type is no tuple, or one of another length; `Memory`.
 pub fn infer_types(alloc: Global, grammar: &Grammar) -> NormResult<Types>
     requires { IsDistinct (rule_names (grammar_view grammar.now)) }
     ensures refuses { Refuses result (inference_faults (grammar_view grammar.now)) }

@@ -3,60 +3,23 @@ ghost use Rattle.std.specs.Prelude.{◌≡◌, [], map, option_map, OnOk, IfOk};
 ghost use Rattle.std.specs.BTreeSet.{insert_key};
 ghost use Rattle.std.specs.Ordering.{nat_cmp};
 ghost use Rattle.std.specs.Cmp.Lexicographic.{slice_cmp};
-ghost use Rattle.lalrpop_norm_tree.specs.Items.{item_view, rule_view, extern_token_view, enum_token_view};
-ghost use Rattle.lalrpop_norm.specs.Grammars.{rule_of, extern_token_of, rules_of, externs_of, names_of, enum_in};
+ghost use Rattle.lalrpop_norm_tree.specs.Items.{item_view, enum_token_view};
+ghost use Rattle.lalrpop_norm.specs.Grammars.{rules_of, externs_of, names_of, enum_in};
 ghost use Rattle.lalrpop_norm.specs.Later.{has_rule};
 ghost use Rattle.lalrpop_norm.specs.LaterWalks.{Stops, with_keys, name_in};
 
 use super::Stop;
-use lalrpop_norm_tree::grammar::parse_tree::{
-    Atom, EnumToken, ExternToken, GrammarItem, NonterminalData,
-};
+use lalrpop_norm_tree::grammar::parse_tree::{Atom, EnumToken, GrammarItem};
 use std::alloc::Global;
 use std::collections::BTreeSet;
-
-pub(super) fn rule_of(item: &GrammarItem) -> Option<&NonterminalData>
-    ensures { option_map (λ r. rule_view r.now) result ≡ rule_of (item_view item.now) }
-{
-    match item {
-        GrammarItem::Nonterminal(rule) => Some(rule),
-        GrammarItem::MatchToken(_)
-        | GrammarItem::ExternToken(_)
-        | GrammarItem::InternToken(_)
-        | GrammarItem::Use(_) => None,
-    }
-}
-
-fn extern_of(item: &GrammarItem) -> Option<&ExternToken>
-    ensures { option_map (λ t. extern_token_view t.now) result ≡ extern_token_of (item_view item.now) }
-{
-    match item {
-        GrammarItem::ExternToken(block) => Some(block),
-        GrammarItem::MatchToken(_)
-        | GrammarItem::InternToken(_)
-        | GrammarItem::Nonterminal(_)
-        | GrammarItem::Use(_) => None,
-    }
-}
-
-// ---- extern blocks
-
-fn enum_of(block: &ExternToken) -> Option<&EnumToken>
-    ensures { option_map (λ e. enum_token_view e.now) result ≡ (extern_token_view block.now).enum_token }
-{
-    match &block.enum_token {
-        Some(tokens) => Some(tokens),
-        None => None,
-    }
-}
 
 /// The enum of the first extern block.
 pub(super) fn first_enum(items: &[GrammarItem]) -> Option<&EnumToken>
     ensures { option_map (λ e. enum_token_view e.now) result ≡ enum_in (externs_of (map item_view items.now)) }
 {
     for item in items {
-        if let Some(block) = extern_of(item) {
-            return enum_of(block);
+        if let Some(block) = item.as_extern_token() {
+            return block.enum_token.as_ref();
         }
     }
     None
@@ -77,7 +40,7 @@ fn add_names(names: &mut BTreeSet<Atom>, items: &[GrammarItem]) -> Result<(), St
     ensures adds { OnOk result (names.new.keys ≡ with_keys (slice_cmp nat_cmp) names.old.keys (names_of (rules_of (map item_view items.now)))) }
 {
     for item in items {
-        if let Some(rule) = rule_of(item) {
+        if let Some(rule) = item.as_nonterminal() {
             add_name(names, &rule.name.0)?;
         }
     }

@@ -1,25 +1,15 @@
 //! Start names that are taken.
 ghost use Rattle.std.specs.Prelude.{◌≡◌, ◌++◌, [], map, IfOk};
 ghost use Rattle.std.specs.List.{flat_map};
-ghost use Rattle.lalrpop_norm_tree.specs.Items.{item_view, rule_view, visibility_view};
-ghost use Rattle.lalrpop_norm.specs.Grammars.{is_public, rules_of};
+ghost use Rattle.lalrpop_norm_tree.specs.Items.{item_view, rule_view};
+ghost use Rattle.lalrpop_norm.specs.Grammars.{rules_of};
 ghost use Rattle.lalrpop_norm.specs.Later.{start_parts};
 ghost use Rattle.lalrpop_norm.specs.LaterWalks.{Stops, name_in};
 
-use super::names::rule_of;
 use super::{LaterPart, Stop};
-use lalrpop_norm_tree::grammar::parse_tree::{Atom, GrammarItem, NonterminalData, Visibility};
+use lalrpop_norm_tree::grammar::parse_tree::{Atom, GrammarItem, NonterminalData};
 use std::alloc::Global;
 use std::collections::BTreeSet;
-
-fn is_public(visibility: &Visibility) -> bool
-    ensures { result ≡ is_public (visibility_view visibility.now) }
-{
-    match visibility {
-        Visibility::Pub(_) | Visibility::PubIn(_) => true,
-        Visibility::Priv => false,
-    }
-}
 
 fn start_name(alloc: Global, prefix: &str, name: &Atom) -> Result<Atom, Stop>
     ensures memory { Stops result [] }
@@ -40,7 +30,7 @@ fn find_taken_start(
 ) -> Result<(), Stop>
     ensures { Stops result (start_parts prefix.now (name_in names.now.keys) (rule_view rule.now)) }
 {
-    if !is_public(&rule.visibility) {
+    if !rule.visibility.is_pub() {
         return Ok(());
     }
     let start = start_name(alloc, prefix, &rule.name.0)?;
@@ -60,7 +50,7 @@ pub(super) fn find_taken_starts(
     ensures { Stops result (flat_map (start_parts prefix.now (name_in names.now.keys)) (rules_of (map item_view items.now))) }
 {
     for item in items {
-        if let Some(rule) = rule_of(item) {
+        if let Some(rule) = item.as_nonterminal() {
             find_taken_start(alloc, prefix, names, rule)?;
         }
     }

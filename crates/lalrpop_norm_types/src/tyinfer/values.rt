@@ -11,6 +11,7 @@ ghost use Rattle.lalrpop_norm_model.specs.TypeRelation.{associated_in, is_parame
 ghost use Rattle.lalrpop_norm_model.specs.TypeTables.{path_value, both};
 ghost use Rattle.lalrpop_norm_types.specs.TableValues.{kind_in, part_in, type_in, types_in, return_in};
 
+use lalrpop_norm_parts::names::copy::copy_type_parameters;
 use lalrpop_norm_repr::grammar::repr::{NominalTypeRepr, TypeRepr, Types};
 use lalrpop_norm_tree::grammar::parse_tree::{
     Atom, Lifetime, NoMemory, Path, Symbol, SymbolKind, TypeParameter, TypeRef,
@@ -289,7 +290,7 @@ fn function_of(
 {
     match (parameters, ret) {
         (Some(parameters), Some(ret)) => Ok(Some(TypeRepr::Fn {
-            forall: copy_parameters(forall)?,
+            forall: copy_type_parameters(forall)?,
             path: path.clone()?,
             parameters,
             ret,
@@ -297,15 +298,6 @@ fn function_of(
         (Some(_), None) => Ok(None),
         (None, _) => Ok(None),
     }
-}
-
-#[tactic(auto, using(std::proofs::lemmas::List::Elements::same_from_all_zip))]
-pub(crate) fn copy_parameters(
-    parameters: &Vec<TypeParameter>,
-) -> Result<Vec<TypeParameter>, NoMemory>
-    ensures { IfOk result (λ ps. ps.items ≡ parameters.now.items) }
-{
-    Ok(parameters.clone()?)
 }
 
 #[cycle(value)]

@@ -5,7 +5,8 @@ ghost use Rattle.lalrpop_norm_parts.specs.Paths.{path_view};
 ghost use Rattle.lalrpop_norm_parts.specs.Reprs.{repr_view, reprs_view, applied_view, maybe_repr_of, no_reprs};
 ghost use Rattle.lalrpop_norm_tree.specs.Types.{type_view, types_view, maybe_of};
 
-use super::values::{copy_parameters, named};
+use super::values::named;
+use lalrpop_norm_parts::names::copy::copy_type_parameters;
 use lalrpop_norm_repr::grammar::repr::{NominalTypeRepr, TypeRepr};
 use lalrpop_norm_tree::grammar::parse_tree::{NoMemory, Path, TypeRef};
 use std::alloc::Global;
@@ -42,7 +43,7 @@ pub(crate) fn lowered_type(alloc: Global, written: &TypeRef) -> Result<TypeRepr,
             parameters,
             ret,
         } => Ok(TypeRepr::Fn {
-            forall: copy_parameters(forall)?,
+            forall: copy_type_parameters(forall)?,
             path: path.clone()?,
             parameters: lower_all(alloc, parameters)?,
             ret: lower_result(alloc, ret)?,
