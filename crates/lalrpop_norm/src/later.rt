@@ -78,7 +78,7 @@ impl LaterPart {
             LaterPart::ErrorSymbol => "an error symbol",
             LaterPart::MissingConversion => "a terminal without a conversion",
             LaterPart::RepeatedConversion => "a second conversion of one terminal",
-            LaterPart::PatternKind => "such a pattern of a token",
+            LaterPart::PatternKind => "a token pattern other than `P(..)`, `P`, `_` and `..`",
             LaterPart::LookaroundSymbol => "a lookaround",
             LaterPart::TupleSymbol => "a tuple symbol",
             LaterPart::UndeclaredType => "a rule without a declared type",

@@ -29,8 +29,8 @@ use std::alloc::Global;
 /// types. The grammar is consumed, also where it is refused. The session tells which features are on, and how many rounds of
 /// expansion may make rules.
 ///
-/// Errors: F0 (`NotYet`) at the grammar's span where it holds something that a later stage of this library brings; each
-/// listed fault from F1 on at its place, in the order of the passes; `Memory`.
+/// Errors: F0 (`NotYet`) at the grammar's span where it holds something that a later stage of this library brings; else the first
+/// fault in the order of the passes, at its place (docs/FAULTS.md says which are answered today); `Memory`.
 pub fn normalize<L>(
     alloc: Global,
     session: &Session<L>,

@@ -10,43 +10,46 @@ pub fn plain_grammars_are_expanded()
     lalrpop_norm_expand::names_stay_distinct();
 }
 
-/// It is typed by each table in which each of its rules has a type.
+/// The grammar of plain rules is typed by each table in which each of its rules has a type, where the passes up to the expansion
+/// find nothing wrong.
 pub fn plain_grammars_are_typed()
     ensures { PlainGrammarsAreTyped }
 {}
 
-/// With its extern enum it has the tokens that it needs.
+/// The grammar of plain rules, with its extern enum, has the tokens that it needs, where the passes up to the expansion find nothing
+/// wrong.
 pub fn plain_grammars_have_tokens()
     ensures { PlainGrammarsHaveTokens }
 {}
 
-/// Of its conversions each is active.
+/// Each conversion in the grammar of plain rules is active.
 pub fn plain_conversions_are_active()
     ensures { PlainConversionsAreActive }
 {}
 
-/// The table that is inferred for it, where inference finds nothing wrong, has a type for each of its rules.
+/// The table inferred for the plain rules has a type for each of them, where the passes up to inference find nothing wrong.
 pub fn inferred_types_are_total()
     ensures { InferredTypesAreTotal }
 {
     lalrpop_norm_expand::names_stay_distinct();
 }
 
-/// Where lowering finds nothing wrong either, the start name of a public rule is no rule's name.
+/// No rule has the start name of a public plain rule, where no pass finds a fault.
 pub fn start_names_are_free()
     ensures { StartNamesAreFree }
 {
     lalrpop_norm_expand::names_stay_distinct();
 }
 
-/// Once start symbols have their rules' types, each nonterminal has its only grounded type.
+/// Once start symbols have their rules' types, each nonterminal of the plain rules has its only grounded type, where no pass finds a
+/// fault.
 pub fn lowered_types_are_grounded()
     ensures { LoweredTypesAreGrounded }
 {
     lalrpop_norm_expand::names_stay_distinct();
 }
 
-/// What is lowered from the plain rules, with nothing left open, is faithful to the written grammar.
+/// What is lowered from the plain rules, with nothing left open, is faithful to the written grammar, where no pass finds a fault.
 pub fn lowered_grammars_are_faithful()
     ensures { LoweredGrammarsAreFaithful }
 {

@@ -37,8 +37,8 @@ impl From<AllocError> for ConditionError {
 /// The value of a condition with this operator, the quoted literal that its left side is bound to, and the text on its
 /// right.
 ///
-/// A comparison of texts does not fail. A search fails with `NoReading` where the pattern has no reading, and then
-/// never gives a value; else only with `Memory`.
+/// A comparison of texts does not fail. A search in which the pattern has no reading gives no value: it fails with
+/// `NoReading`, which comes nowhere else, or with `Memory`. Any other search fails with `Memory` only.
 pub fn holds(
     alloc: Global,
     op: &ConditionOp,

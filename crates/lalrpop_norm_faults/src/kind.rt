@@ -31,11 +31,11 @@ pub enum FaultKind {
     MalformedCfg,
     /// F12a: levels or sides, and the first alternative has no level.
     MissingLevel,
-    /// F12b: a level that is not `level = ".."`.
+    /// F12b: a `precedence` whose first argument is not `level = ".."`.
     LevelArgument,
     /// F12c: a level that is no number of 32 bits.
     LevelNumber,
-    /// F12d: a side that is not `side = ".."`.
+    /// F12d: an `assoc` whose first argument is not `side = ".."`.
     SideArgument,
     /// F12e: a side that is none of the four.
     Side,
@@ -47,9 +47,9 @@ pub enum FaultKind {
     NamedWithoutAction,
     /// F15: `<>` just between braces, and no named or tuple symbol.
     AnonymousInBraces,
-    /// F16: a chosen and a named symbol side by side.
+    /// F16: a chosen and a named symbol in one alternative or group.
     ChosenWithNamed,
-    /// F17: two named symbols of one name side by side.
+    /// F17: two named symbols of one name in one alternative or group.
     NameTwice,
     /// F18: `!` where the parser is no table.
     ErrorWithAscent,
@@ -83,7 +83,7 @@ pub enum FaultKind {
     MacroNamed,
     /// F33: a condition over what is no quoted literal.
     ConditionArgument,
-    /// F34: the pattern of a condition is no regular expression.
+    /// F34: the pattern of a condition is no regular expression, or nests too deep to be read.
     ConditionPattern,
     /// F35: a named or tuple symbol in a group.
     NamedInGroup,
@@ -93,7 +93,7 @@ pub enum FaultKind {
     SharedName,
     /// F38: a literal twice in a match block.
     LiteralTwice,
-    /// F39: two entries for one terminal.
+    /// F39: two entries or conversions for one terminal.
     TerminalTwice,
     /// F40: a terminal that the tokenizer does not know.
     NoMapping,
@@ -105,9 +105,9 @@ pub enum FaultKind {
     RegexFeature,
     /// F44: the lexer calls two entries ambiguous.
     Ambiguity,
-    /// F45: the lifetime `'input` is taken.
+    /// F45: the lifetime `'input` is declared, and the tokenizer is made here.
     InputLifetime,
-    /// F46: the parameter `input` is taken.
+    /// F46: the parameter `input` is declared, and the tokenizer is made here.
     InputParameter,
     /// F47: no declared type and no alternatives.
     NoAlternatives,

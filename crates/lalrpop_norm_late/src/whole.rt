@@ -17,9 +17,7 @@ ghost use Rattle.lalrpop_norm_late.specs.Made.{type_in, made_faults, made_starts
 ghost use Rattle.lalrpop_norm_late.specs.Shape.{IsLoweringOf};
 
 use crate::clauses::lowered_clauses;
-use crate::head::{
-    algorithm_of, copy_texts, copy_type_parameters, intern_token_of, lowered_parameters, uses_of,
-};
+use crate::head::{algorithm_of, copy_texts, intern_token_of, lowered_parameters, uses_of};
 use crate::nonterminals::{lower_rules, lower_starts};
 use crate::recovery::uses_recovery;
 use crate::rules::{public_rules, rules_of};
@@ -27,6 +25,7 @@ use crate::starts::start_table;
 use crate::tokens::{terminal_set, tokens_of};
 use crate::typing::add_start_types;
 use lalrpop_norm_front::{NormResult, Session};
+use lalrpop_norm_parts::names::copy::copy_type_parameters;
 use lalrpop_norm_repr::grammar::repr::{
     ActionFnDefn, Grammar, NonterminalData, NonterminalString, Types,
 };
@@ -34,15 +33,17 @@ use lalrpop_norm_tree::grammar::parse_tree as pt;
 use std::alloc::Global;
 use std::collections::BTreeMap;
 
-/// Lowers an expanded grammar over the types of its rules.
+/// Lowers an expanded grammar over the types of its rules: `types` has one for each rule. The terminals of the active conversions,
+/// or of the tokenizer's entries, are distinct, and each terminal that is used is one of them.
 ///
-/// Action k is that of the k-th of the start symbols of public rules, then of the alternatives in item order. Terminals are
-/// numbered in the order of the active conversions, or of the tokenizer's entries, the error terminal last where `!` stands. Each
-/// start symbol gets its rule's type.
+/// Action k, from 0, is that of the k-th of the start symbols of public rules, then of the alternatives in item order. Terminals
+/// are numbered from 0 in the order of the active conversions, or of the tokenizer's entries, the error terminal last where `!`
+/// stands. Each start symbol gets its rule's type.
 ///
-/// Errors: F55 (`StartTaken`) at a public rule, if the name of its start symbol has a type already; F54 (`Placeholders`) at the
-/// sources of an alternative without named symbols whose code has several `<>`, not as many as there are sources; F56
-/// (`TooManyActions`) at the rule or alternative whose action would have a number past the greatest; `Memory`.
+/// Errors: F55 (`StartTaken`) at a public rule, if the name of its start symbol has a type already; F54 (`Placeholders`) from the
+/// first source to the last, or at the alternative if it has none, where an alternative without named symbols has code with
+/// several `<>`, not as many as there are sources; F56 (`TooManyActions`) at the rule or alternative whose action would have a
+/// number past the greatest; `Memory`.
 pub fn lower<L>(
     alloc: Global,
     session: &Session<L>,

@@ -44,7 +44,7 @@ pub fn previous_is_below()
     ensures { PreviousIsBelow }
 {}
 
-/// The highest level of a rule is one that it has, and none is higher.
+/// The highest level of a rule that has a level is one that it has, and none is higher.
 pub fn highest_is_greatest()
     ensures { HighestIsGreatest }
 {}
@@ -54,7 +54,7 @@ pub fn places_are_leveled()
     ensures { PlacesAreLeveled }
 {}
 
-/// The level of a place is the one stated last at or before it.
+/// The level of a place is the one stated last at or before it; 0 where there is none.
 pub fn levels_are_stated()
     ensures { LevelsAreStated }
 {}
@@ -129,7 +129,7 @@ pub fn bounds_are_by_side()
     ensures { BoundsAreBySide }
 {}
 
-/// An alternative of a macro is there exactly where its condition is true.
+/// An alternative of a macro is there, for arguments that fit, exactly where its condition is true or absent.
 pub fn conditions_decide()
     ensures { ConditionsDecide }
 {}

@@ -14,7 +14,9 @@ use shared_text::Atom;
 pub struct Attribute {
     /// Where its name stands.
     pub id_span: Span,
+    /// Its name.
     pub id: Atom,
+    /// What stands behind its name.
     pub arg: AttributeArg,
 }
 
@@ -22,6 +24,7 @@ pub struct Attribute {
 #[cycle(attribute)]
 #[derive(Debug, PartialEq, Eq, Drop)]
 pub enum AttributeArg {
+    /// Nothing.
     Empty,
     /// `(a, b)`, each an attribute.
     Paren(Vec<Attribute>),

@@ -45,7 +45,9 @@ pub enum TypeBound<T> {
 /// An argument of a trait in a bound.
 #[derive(Debug, PartialEq, Eq, PartialOrd, Ord, Drop)]
 pub enum TypeBoundParameter<T> {
+    /// `'a`.
     Lifetime(Lifetime),
+    /// `T`.
     TypeParameter(T),
     /// `Item = T`.
     Associated(Atom, T),

@@ -15,21 +15,28 @@ use shared_text::Atom;
 #[cycle(repr)]
 #[derive(PartialEq, Eq, PartialOrd, Ord, Drop)]
 pub enum TypeRepr {
+    /// `(A, B)`; `()` where the list is empty.
     Tuple(Vec<TypeRepr>),
+    /// `[A]`.
     Slice(Box<TypeRepr>),
+    /// `P<A, B>`.
     Nominal(NominalTypeRepr),
     /// `T::Id`.
     Associated {
         type_parameter: Atom,
         id: Atom,
     },
+    /// `'a`, as an argument of a path.
     Lifetime(Lifetime),
+    /// `&'a mut T`.
     Ref {
         lifetime: Option<Lifetime>,
         mutable: bool,
         referent: Box<TypeRepr>,
     },
+    /// `dyn P<A>`.
     TraitObject(NominalTypeRepr),
+    /// `dyn for<'a> P(A, B) -> R`.
     Fn {
         forall: Vec<TypeParameter>,
         path: Path,
@@ -42,7 +49,9 @@ pub enum TypeRepr {
 #[cycle(repr)]
 #[derive(PartialEq, Eq, PartialOrd, Ord, Drop)]
 pub struct NominalTypeRepr {
+    /// The path.
     pub path: Path,
+    /// Its arguments, in order.
     pub types: Vec<TypeRepr>,
 }
 
@@ -64,7 +73,9 @@ pub enum WhereClause {
 /// How the parser of a lowered grammar is to be made.
 #[derive(Clone, Debug, PartialEq, Eq, Drop)]
 pub struct Algorithm {
+    /// Whether `LALR` is asked for.
     pub lalr: bool,
+    /// What code is asked for.
     pub codegen: LrCodeGeneration,
 }
 
@@ -84,7 +95,10 @@ impl Default for Algorithm {
 /// What code the parser becomes.
 #[derive(Clone, Debug, PartialEq, Eq, Drop)]
 pub enum LrCodeGeneration {
+    /// `table_driven`: tables, and one loop over them.
     TableDriven,
+    /// `recursive_ascent`: a function for each state.
     RecursiveAscent,
+    /// `test_all`: both, to compare them.
     TestAll,
 }

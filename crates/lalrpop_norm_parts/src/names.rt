@@ -32,6 +32,7 @@ pub enum TerminalLiteral {
 /// A terminal.
 #[derive(Clone, PartialEq, Eq, PartialOrd, Ord, Hash, Drop)]
 pub enum TerminalString {
+    /// A literal: it needs no declaration.
     Literal(TerminalLiteral),
     /// A name that a conversion or a match block declares.
     Bare(Atom),
@@ -42,7 +43,9 @@ pub enum TerminalString {
 /// A parameter of a grammar, or of a `for<..>`.
 #[derive(Clone, Debug, PartialEq, Eq, PartialOrd, Ord, Hash, Drop)]
 pub enum TypeParameter {
+    /// `'a`.
     Lifetime(Lifetime),
+    /// `T`.
     Id(Atom),
 }
 

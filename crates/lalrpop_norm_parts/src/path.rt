@@ -12,7 +12,9 @@ use std::alloc::AllocError;
 /// A path such as `a::b`, or `::a::b` where it is absolute.
 #[derive(Debug, PartialEq, Eq, PartialOrd, Ord, Drop)]
 pub struct Path {
+    /// Whether it begins with `::`.
     pub absolute: bool,
+    /// Its parts, the outermost first.
     pub ids: Vec<Atom>,
 }
 

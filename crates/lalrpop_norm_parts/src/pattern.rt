@@ -18,8 +18,11 @@ pub struct Pattern<T> {
 #[cycle(pattern)]
 #[derive(Debug, PartialEq, Eq, Drop)]
 pub struct FieldPattern<T> {
+    /// Where the field stands.
     pub field_span: Span,
+    /// The field's name.
     pub field_name: Atom,
+    /// What its value must be.
     pub pattern: Pattern<T>,
 }
 
@@ -27,19 +30,26 @@ pub struct FieldPattern<T> {
 #[cycle(pattern)]
 #[derive(Debug, PartialEq, Eq, Drop)]
 pub enum PatternKind<T> {
-    /// `P(a, b)`.
+    /// `P(a, b)`, as a grammar writes it.
     Enum(Path, Vec<Pattern<T>>),
     /// `P { f: a, .. }`: the path, the fields, and whether a rest `..` stands.
     Struct(Path, Vec<FieldPattern<T>>, bool),
+    /// `P`.
     Path(Path),
+    /// `(a, b)`.
     Tuple(Vec<Pattern<T>>),
-    /// `P(a, b)`.
+    /// `P(a, b)`; lowering makes it for tokenizers.
     TupleStruct(Path, Vec<Pattern<T>>),
+    /// `7`.
     Usize(usize),
+    /// `_`: anything.
     Underscore,
+    /// `..`: what is left.
     DotDot,
     /// A chosen part: `<T>`.
     Choose(T),
+    /// `'c'`.
     CharLiteral(Atom),
+    /// `"a"`: the text without quotes.
     String(String),
 }

@@ -16,7 +16,7 @@ use std::fmt;
 pub struct ActionFn(u32);
 
 impl ActionFn {
-    /// The action of that place.
+    /// The action of that place, counted from 0, which is below 2^32.
     pub fn new(x: usize) -> ActionFn
         requires { x < 4294967296 }
         ensures { action_index result ≡ x }
@@ -47,37 +47,49 @@ impl fmt::Debug for ActionFn {
 pub struct ActionFnDefn {
     /// Whether it answers a result.
     pub fallible: bool,
+    /// The type of its value; of the value inside, where it answers a result.
     pub ret_type: TypeRepr,
+    /// What it does.
     pub kind: ActionFnDefnKind,
 }
 
 /// What an action does.
 #[derive(Debug, PartialEq, Eq, Drop)]
 pub enum ActionFnDefnKind {
+    /// Code of the grammar, or of a pass.
     User(UserActionFnDefn),
+    /// Calls of other actions.
     Inline(InlineActionFnDefn),
+    /// The location at a lookaround.
     Lookaround(LookaroundActionFnDefn),
 }
 
 /// An action with code, and for each symbol of its production a pattern and a type.
 #[derive(Debug, PartialEq, Eq, Drop)]
 pub struct UserActionFnDefn {
+    /// One for each symbol of the production, in order.
     pub arg_patterns: Vec<ArgPattern>,
+    /// One for each symbol of the production, in order.
     pub arg_types: Vec<TypeRepr>,
+    /// With each `<>` filled in.
     pub code: String,
 }
 
 /// An action that calls others first and then one with what they answer.
 #[derive(Debug, PartialEq, Eq, Drop)]
 pub struct InlineActionFnDefn {
+    /// The action that is called last.
     pub action: ActionFn,
+    /// Its arguments, in order.
     pub symbols: Vec<InlinedSymbol>,
 }
 
 /// An action that answers the location of the next token, or of the end of the last one.
 #[derive(Clone, Debug, PartialEq, Eq, Drop)]
 pub enum LookaroundActionFnDefn {
+    /// Of `@L`: where the next token begins.
     Lookahead,
+    /// Of `@R`: where the token before ends.
     Lookbehind,
 }
 

@@ -16,18 +16,26 @@ use std::fmt;
 /// A nonterminal and its productions.
 #[derive(Debug, Drop)]
 pub struct NonterminalData {
+    /// Who may use it.
     pub visibility: Visibility,
+    /// Where its rule stands; of a made rule, where the symbol stands that it was made for.
     pub span: Span,
+    /// Those of its rule.
     pub attributes: Vec<Attribute>,
+    /// In the order of its alternatives.
     pub productions: Vec<Production>,
 }
 
 /// A production, as `N = A, B`, and the action on what its symbols give.
 #[derive(PartialEq, Eq, PartialOrd, Ord, Hash, Drop)]
 pub struct Production {
+    /// What it derives.
     pub nonterminal: NonterminalString,
+    /// In order; none in an empty production.
     pub symbols: Vec<Symbol>,
+    /// What makes its value.
     pub action: ActionFn,
+    /// Where its alternative stands.
     pub span: Span,
 }
 

@@ -14,7 +14,9 @@ use std::fmt;
 /// A symbol of a production.
 #[derive(Clone, PartialEq, Eq, PartialOrd, Ord, Hash, Drop)]
 pub enum Symbol {
+    /// A nonterminal of the grammar.
     Nonterminal(NonterminalString),
+    /// A terminal of the grammar.
     Terminal(TerminalString),
 }
 

@@ -67,7 +67,7 @@ impl Types {
         self.terminal_types.contains_key(terminal)
     }
 
-    /// The nonterminal's type.
+    /// The type of a nonterminal that has one (`lookup_nonterminal_type`).
     pub fn nonterminal_type(&self, name: &NonterminalString) -> &TypeRepr
         requires { IsSome (type_of name.now (type_table self.now)) }
         ensures { Some (repr_view result.now) ≡ type_of name.now (type_table self.now) }

@@ -22,39 +22,52 @@ use std::fmt;
 /// A lowered grammar.
 #[derive(Debug, Drop)]
 pub struct Grammar {
-    /// Begins each name that the passes make.
+    /// Begins the names of start symbols, of the values in action code, and of the crate that the parser uses.
     pub prefix: String,
+    /// How its parser is to be made.
     pub algorithm: Algorithm,
     /// Whether a production holds the error terminal.
     pub uses_error_recovery: bool,
     /// For each public nonterminal the start symbol that was made for it.
     pub start_nonterminals: BTreeMap<NonterminalString, NonterminalString>,
     pub uses: Vec<String>,
+    /// Those of the written grammar.
     pub type_parameters: Vec<TypeParameter>,
+    /// Those of the written grammar, with lowered types.
     pub parameters: Vec<Parameter>,
+    /// One for each bound that is written.
     pub where_clauses: Vec<WhereClause>,
+    /// The tokenizer, where no extern enum names the tokens.
     pub intern_token: Option<InternToken>,
     /// The actions, in the order of their numbers.
     pub action_fn_defns: Vec<ActionFnDefn>,
+    /// All terminals, with their places.
     pub terminals: TerminalSet,
+    /// Each nonterminal with its productions.
     pub nonterminals: BTreeMap<NonterminalString, NonterminalData>,
     /// The pattern of each terminal's tokens.
     pub conversions: BTreeMap<TerminalString, Pattern<TypeRepr>>,
+    /// The type of each terminal and nonterminal.
     pub types: Types,
+    /// The texts of `#![..]`.
     pub module_attributes: Vec<String>,
 }
 
 /// The terminals of a grammar, and the place of each.
 #[derive(Debug, Drop)]
 pub struct TerminalSet {
+    /// Each at its place, which is its number.
     pub all: Vec<TerminalString>,
+    /// The place of each in `all`, from 0.
     pub bits: BTreeMap<TerminalString, usize>,
 }
 
 /// A parameter of the parser's functions.
 #[derive(Debug, PartialEq, Eq, Drop)]
 pub struct Parameter {
+    /// Its name.
     pub name: Atom,
+    /// Its type.
     pub ty: TypeRepr,
 }
 

@@ -22,37 +22,52 @@ use std::fmt;
 /// A written grammar.
 #[derive(Debug, PartialEq, Eq, Drop)]
 pub struct Grammar {
-    /// Begins each name that the passes make.
+    /// Begins the names of start symbols, of the values in action code, and of the crate that the parser uses.
     pub prefix: String,
+    /// Where the grammar stands; a fault of the whole grammar is told here.
     pub span: Span,
+    /// The lifetimes and types of `grammar<'a, T>`.
     pub type_parameters: Vec<TypeParameter>,
+    /// The parameters of the parser.
     pub parameters: Vec<Parameter>,
+    /// What is asked of the type parameters.
     pub where_clauses: Vec<WhereClause<TypeRef>>,
+    /// In the order of the text.
     pub items: Vec<GrammarItem>,
+    /// The attributes of the word `grammar`.
     pub attributes: Vec<Attribute>,
+    /// The texts of `#![..]`.
     pub module_attributes: Vec<String>,
 }
 
-/// An item of a grammar, in the order of the text.
+/// An item of a grammar.
 #[derive(Debug, PartialEq, Eq, Drop)]
 pub enum GrammarItem {
+    /// `match { .. }`.
     MatchToken(MatchToken),
+    /// `extern { .. }`.
     ExternToken(ExternToken),
+    /// A tokenizer that a pass made.
     InternToken(InternToken),
+    /// A rule or a macro.
     Nonterminal(NonterminalData),
+    /// `use a::b;`: the text behind `use`.
     Use(String),
 }
 
 /// A match block: its groups, the first one with the highest precedence.
 #[derive(Debug, PartialEq, Eq, Drop)]
 pub struct MatchToken {
+    /// Its groups, in the order of the text.
     pub contents: Vec<MatchContents>,
+    /// Where the block stands.
     pub span: Span,
 }
 
 /// A group of a match block.
 #[derive(Debug, PartialEq, Eq, Drop)]
 pub struct MatchContents {
+    /// In the order of the text.
     pub items: Vec<MatchItem>,
 }
 
@@ -73,95 +88,128 @@ pub type MatchSymbol = TerminalLiteral;
 /// What a match item makes of its literal.
 #[derive(Clone, PartialEq, Eq, PartialOrd, Ord, Drop)]
 pub enum MatchMapping {
+    /// The terminal that its tokens are.
     Terminal(TerminalString),
     /// `{ }`: the tokenizer drops it.
     Skip,
 }
 
 /// What the passes make where no extern enum names the tokens: the entries of the tokenizer in rising precedence, and
-/// its automaton. No one writes it.
+/// its automaton. Refused where it is written (F21).
 #[derive(Debug, PartialEq, Eq, Drop)]
 pub struct InternToken {
+    /// In rising order.
     pub match_entries: Vec<MatchEntry>,
+    /// What finds the longest match.
     pub dfa: Dfa,
 }
 
 /// The automaton of a tokenizer, as its lexer made it. No pass looks into it.
 #[derive(Debug, PartialEq, Eq, Drop)]
 pub struct Dfa {
+    /// As the lexer made it.
     pub code: Vec<u32>,
 }
 
 /// An entry of the tokenizer. Entries are ordered by precedence, then literal, then user name.
 #[derive(Clone, Debug, PartialEq, Eq, PartialOrd, Ord, Drop)]
 pub struct MatchEntry {
+    /// A greater one wins over a smaller one.
     pub precedence: usize,
+    /// What it matches.
     pub match_literal: TerminalLiteral,
+    /// What its tokens are.
     pub user_name: MatchMapping,
 }
 
 /// An extern block.
 #[derive(Debug, PartialEq, Eq, Drop)]
 pub struct ExternToken {
+    /// Where the block stands.
     pub span: Span,
+    /// In the order of the text.
     pub associated_types: Vec<AssociatedType>,
+    /// The enum of the tokens, if it has one.
     pub enum_token: Option<EnumToken>,
 }
 
 /// `type Location = ..` or `type Error = ..`.
 #[derive(Debug, PartialEq, Eq, Drop)]
 pub struct AssociatedType {
+    /// Where its name stands.
     pub type_span: Span,
+    /// Its name.
     pub type_name: Atom,
+    /// The type that it is.
     pub type_ref: TypeRef,
 }
 
 /// The enum of the tokens.
 #[derive(Debug, PartialEq, Eq, Drop)]
 pub struct EnumToken {
+    /// The type of a token.
     pub type_name: TypeRef,
+    /// Where that type stands.
     pub type_span: Span,
+    /// In the order of the text.
     pub conversions: Vec<Conversion>,
 }
 
 /// A terminal and the pattern of its tokens.
 #[derive(Debug, PartialEq, Eq, Drop)]
 pub struct Conversion {
+    /// Where it stands.
     pub span: Span,
+    /// Such as `cfg(..)`.
     pub attributes: Vec<Attribute>,
+    /// The terminal.
     pub from: TerminalString,
+    /// The pattern of its tokens.
     pub to: Pattern<TypeRef>,
 }
 
 /// Who may use a rule.
 #[derive(Debug, PartialEq, Eq, Drop)]
 pub enum Visibility {
+    /// `pub`, or `pub(P)`.
     Pub(Option<Path>),
+    /// `pub(in P)`.
     PubIn(Path),
+    /// Nothing is written.
     Priv,
 }
 
 /// A rule, or a macro where `args` is not empty.
 #[derive(Debug, PartialEq, Eq, Drop)]
 pub struct NonterminalData {
+    /// Who may use it; only what is public has a start symbol.
     pub visibility: Visibility,
+    /// Its name.
     pub name: NonterminalString,
+    /// Such as `inline` and `cfg(..)`.
     pub attributes: Vec<Attribute>,
+    /// Where its name stands, with the arguments of a macro.
     pub span: Span,
     /// The macro's arguments.
     pub args: Vec<NonterminalString>,
+    /// The declared type of its values, if there is one.
     pub type_decl: Option<TypeRef>,
+    /// In the order of the text.
     pub alternatives: Vec<Alternative>,
 }
 
 /// An alternative of a rule.
 #[derive(Debug, PartialEq, Eq, Drop)]
 pub struct Alternative {
+    /// Where it stands.
     pub span: Span,
+    /// Its symbols.
     pub expr: ExprSymbol,
     /// Only in macros.
     pub condition: Option<Condition>,
+    /// Its code, if it has some.
     pub action: Option<ActionKind>,
+    /// Such as `precedence(..)`, `assoc(..)` and `cfg(..)`.
     pub attributes: Vec<Attribute>,
 }
 
@@ -172,18 +220,22 @@ pub enum ActionKind {
     User(String),
     /// Code that may fail: `=>? ..`.
     Fallible(String),
-    /// Made for `@L`; no one writes it.
+    /// Made for `@L`; refused where it is written (F24).
     Lookahead,
-    /// Made for `@R`; no one writes it.
+    /// Made for `@R`; refused where it is written (F24).
     Lookbehind,
 }
 
 /// `if X == "a"`: an alternative of a macro that only some instances have.
 #[derive(Clone, Debug, PartialEq, Eq, Drop)]
 pub struct Condition {
+    /// Where it stands.
     pub span: Span,
+    /// The argument of the macro that is tested.
     pub lhs: NonterminalString,
+    /// A text, or for `~~` and `!~` a pattern.
     pub rhs: Atom,
+    /// How the two are compared.
     pub op: ConditionOp,
 }
 

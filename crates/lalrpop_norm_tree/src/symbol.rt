@@ -9,7 +9,9 @@ use shared_text::Atom;
 /// A name that code gives a value, as `x` or `mut x`.
 #[derive(Clone, Debug, PartialEq, Eq, Drop)]
 pub struct Name {
+    /// Whether `mut` stands before it.
     pub mutable: bool,
+    /// The name itself.
     pub name: Atom,
 }
 
@@ -17,6 +19,7 @@ pub struct Name {
 #[cycle(tuple)]
 #[derive(Debug, PartialEq, Eq, Drop)]
 pub struct Tuple {
+    /// A pattern for each part, in order.
     pub tuples: Vec<ArgPattern>,
 }
 
@@ -24,15 +27,20 @@ pub struct Tuple {
 #[cycle(tuple)]
 #[derive(Debug, PartialEq, Eq, Drop)]
 pub enum ArgPattern {
+    /// `x` or `mut x`.
     Name(Name),
+    /// `(a, b)`.
     Tuple(Tuple),
 }
 
 /// How often a symbol may stand: `*` any number, `+` at least once, `?` at most once.
 #[derive(Clone, Copy, Debug, PartialEq, Eq)]
 pub enum RepeatOp {
+    /// `*`.
     Star,
+    /// `+`.
     Plus,
+    /// `?`.
     Question,
 }
 
@@ -40,7 +48,9 @@ pub enum RepeatOp {
 #[cycle(symbol)]
 #[derive(Debug, PartialEq, Eq, Drop)]
 pub struct Symbol {
+    /// Where it stands.
     pub span: Span,
+    /// What it is.
     pub kind: SymbolKind,
 }
 
@@ -52,6 +62,7 @@ pub enum SymbolKind {
     Expr(ExprSymbol),
     /// A name that is not resolved yet.
     AmbiguousId(Atom),
+    /// A terminal.
     Terminal(TerminalString),
     /// A rule, or an argument of the macro around it.
     Nonterminal(NonterminalString),
@@ -77,6 +88,7 @@ pub enum SymbolKind {
 #[cycle(symbol)]
 #[derive(Debug, PartialEq, Eq, Drop)]
 pub struct ExprSymbol {
+    /// In reading order; an empty list is well formed.
     pub symbols: Vec<Symbol>,
 }
 
@@ -84,7 +96,9 @@ pub struct ExprSymbol {
 #[cycle(symbol)]
 #[derive(Debug, PartialEq, Eq, Drop)]
 pub struct MacroSymbol {
+    /// The macro's name.
     pub name: NonterminalString,
+    /// What it is called with, in order.
     pub args: Vec<Symbol>,
 }
 
@@ -92,6 +106,8 @@ pub struct MacroSymbol {
 #[cycle(symbol)]
 #[derive(Debug, PartialEq, Eq, Drop)]
 pub struct RepeatSymbol {
+    /// How often.
     pub op: RepeatOp,
+    /// What is repeated.
     pub symbol: Symbol,
 }

@@ -11,7 +11,9 @@ use shared_text::Atom;
 /// A Rust type as a grammar writes it.
 #[derive(Debug, PartialEq, Eq, Drop)]
 pub enum TypeRef {
+    /// `(A, B)`; `()` where the list is empty.
     Tuple(Vec<TypeRef>),
+    /// `[A]`.
     Slice(Box<TypeRef>),
     /// `a::B<'a, T>`.
     Nominal {
@@ -29,10 +31,11 @@ pub enum TypeRef {
         path: Path,
         types: Vec<TypeRef>,
     },
+    /// `'a`, as an argument of a path.
     Lifetime(Lifetime),
     /// A single name; in a macro it may name an argument.
     Id(Atom),
-    /// The type of a symbol. Only macro expansion makes one.
+    /// The type of a symbol. Macro expansion makes it; refused where it is written (F23).
     OfSymbol(SymbolKind),
     /// `dyn for<'a> P(A, B) -> R`.
     Fn {
@@ -46,6 +49,8 @@ pub enum TypeRef {
 /// A parameter of a grammar, as `input: &'input str`.
 #[derive(Debug, PartialEq, Eq, Drop)]
 pub struct Parameter {
+    /// Its name.
     pub name: Atom,
+    /// Its type.
     pub ty: TypeRef,
 }

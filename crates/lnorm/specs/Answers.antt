@@ -44,8 +44,8 @@ pub record IsAnswer (s : Settings) (bytes text : List ℕ) : Type 0 where
   pub lowers : Lowers s tree lowered
   pub printed : text ≡ lines lowered
 
--- the fault stands in the tree that the input is, at that place, and is the first one there
-pub record Stands (s : Settings) (bytes : List ℕ) (fault : FaultKind) (span : Span) : Type 0 where
+-- the first fault of the tree that the input is, and where it stands
+pub record IsFirstFault (s : Settings) (bytes : List ℕ) (fault : FaultKind) (span : Span) : Type 0 where
   pub tree : GrammarData
   pub form : IsFormOf tree bytes
   pub stands : first (faults_of s tree) ≡ Some (fault, span)

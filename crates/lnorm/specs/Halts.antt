@@ -2,7 +2,7 @@
 use Rattle.std.specs.Prelude.{◌≡◌, ℕ, List, Option, None, string_bytes}
 use Rattle.std.specs.Io.KnownBytes.{Keeps}
 use Rattle.lalrpop_norm_faults.specs.declared.failure.NormFailure.TheVariants.{Refused, Memory as no_room}
-use Rattle.lnorm.specs.Answers.{IsTree, Stands}
+use Rattle.lnorm.specs.Answers.{IsTree, IsFirstFault}
 use Rattle.lnorm.specs.Settings.{Settings, settings_of}
 use Rattle.lnorm.specs.Runs.{WritesFront, IsRight, IsRefused, IsNoTree, fault_line, usage_line, no_tree_line, memory_line, stream_line}
 use Rattle.lnorm.specs.declared.halt.Halt.{Halt}
@@ -11,7 +11,7 @@ use Rattle.lnorm.specs.declared.halt.Halt.TheVariants.{Usage, NotATree, Failed, 
 -- what a halt says of the input itself
 abbrev pub Explains : Settings → List ℕ → Halt → Type 0
 Explains s bytes NotATree = IsTree bytes → ⊥
-Explains s bytes (Failed (Refused e)) = Stands s bytes e.fault e.span
+Explains s bytes (Failed (Refused e)) = IsFirstFault s bytes e.fault e.span
 Explains s bytes (Failed no_room) = Unit {0}
 Explains s bytes Usage = ⊥
 Explains s bytes Input = ⊥

@@ -4,7 +4,7 @@ use Rattle.std.specs.Io.KnownBytes.{Appends, Consumes, IsAtEnd}
 use Rattle.lalrpop_norm_parts.specs.declared.names.Span.{Span}
 use Rattle.lalrpop_norm_faults.specs.declared.kind.FaultKind.{FaultKind}
 use Rattle.lalrpop_norm_faults.specs.Faults.{code_of}
-use Rattle.lnorm.specs.Answers.{IsTree, IsAnswer, Stands}
+use Rattle.lnorm.specs.Answers.{IsTree, IsAnswer, IsFirstFault}
 use Rattle.lnorm.specs.Settings.{Settings, settings_of}
 
 -- the reader gave these bytes, and has no more
@@ -28,12 +28,12 @@ pub record IsRight (words : List (List ℕ)) (in_old in_new : Option (List ℕ))
   pub takes : Takes words in_old in_new settings bytes
   pub right : IsAnswer settings bytes text
 
--- the fault stands in the whole input at that place
+-- the first fault of the tree that the whole input is, at that place
 pub record IsRefused (words : List (List ℕ)) (in_old in_new : Option (List ℕ)) (fault : FaultKind) (span : Span) : Type 0 where
   pub settings : Settings
   pub bytes : List ℕ
   pub takes : Takes words in_old in_new settings bytes
-  pub stands : Stands settings bytes fault span
+  pub stands : IsFirstFault settings bytes fault span
 
 -- the words are right, and the whole input is no tree
 pub record IsNoTree (words : List (List ℕ)) (in_old in_new : Option (List ℕ)) : Type 0 where

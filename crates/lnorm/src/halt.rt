@@ -4,7 +4,7 @@ ghost use Rattle.lnorm.specs.Runs.{WritesFront, fault_line, usage_line, no_tree_
 ghost use Rattle.lnorm.specs.Halts.{status_of, LineOf};
 
 use crate::streams::write_whole;
-use lalrpop_norm_front::{NormError, NormFailure};
+use lalrpop_norm::normalize::{NormError, NormFailure};
 use std::alloc::{AllocError, Global};
 use std::io::Write;
 

@@ -15,7 +15,7 @@ mod words;
 
 use crate::halt::{Halt, report};
 use crate::run::run;
-use lalrpop_norm_front::NormFailure;
+use lalrpop_norm::normalize::NormFailure;
 use std::env;
 use std::io::{self, ErrorKind};
 use std::process::ExitCode;

@@ -11,12 +11,16 @@ use crate::answer::answer;
 use crate::halt::{Halt, report};
 use crate::streams::{ReadFailure, read_whole, write_whole};
 use crate::words::{WordsError, session_of};
-use lalrpop_norm_front::NormFailure;
+use lalrpop_norm::normalize::NormFailure;
 use std::alloc::Global;
 use std::io::{Read, Write};
 
 /// Reads a tree from `input`, and writes the lines of its lowered grammar to `output`. `words` are those of the call,
-/// without the program's name. The answer is the status of the program; with each but 0, one line goes to `faults`.
+/// without the program's name.
+///
+/// The answer is the status of the program: 0 all lines were written; 1 the tree has a fault; 2 the words are no
+/// options, or the input is no tree; 3 there was no memory; 4 a read or a write failed. With each but 0 the line of
+/// that status, or a beginning of it, goes to `faults`.
 pub fn run<R: Read, W: Write, E: Write>(
     alloc: Global,
     words: &[String],
@@ -29,7 +33,7 @@ pub fn run<R: Read, W: Write, E: Write>(
         × IsRight (map string_bytes words.now) (R.remaining input.old) (R.remaining input.new) text
         × Appends (W.contents output.old) (W.contents output.new) text
         × Keeps (E.contents faults.old) (E.contents faults.new) }
-    // Refused: that fault stands in the whole input.
+    // Refused: that is the first fault of the tree that the whole input is.
     ensures fault { result ≡ 1 → (fault : FaultKind) × (span : Span) × (message : List ℕ)
         × IsRefused (map string_bytes words.now) (R.remaining input.old) (R.remaining input.new) fault span
         × WritesFront (E.contents faults.old) (E.contents faults.new) (fault_line fault span message) }

@@ -9,7 +9,9 @@ use std::io::{Read, Write};
 /// Why an input was not read to its end.
 #[derive(Clone, Copy, Debug, PartialEq, Eq)]
 pub enum ReadFailure {
+    /// There was no memory.
     Memory,
+    /// A read failed, or the input had not ended after 2^64 - 1 reads.
     Input,
 }
 
@@ -35,7 +37,7 @@ pub fn write_whole<W: Write>(writer: &mut W, text: &[u8]) -> bool
     true
 }
 
-/// Reads to the end.
+/// Reads to the end. Where that fails, nothing is said of how much was read.
 pub fn read_whole<R: Read>(alloc: Global, reader: &mut R) -> Result<Vec<u8>, ReadFailure>
     ensures { IfOk result (λ bytes. ReadsAll (R.remaining reader.old) (R.remaining reader.new) bytes.items) }
 {

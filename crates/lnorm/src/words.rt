@@ -3,7 +3,7 @@ ghost use Rattle.std.specs.Prelude.{◌≡◌, Some, None, map, string_bytes, If
 ghost use Rattle.lnorm.specs.Settings.{level_of, with_feature, after_pair, settings_from, settings_of, settings_view};
 ghost use Rattle.lnorm.specs.declared.words.WordsError.TheVariants.{Usage};
 
-use lalrpop_norm_front::Session;
+use lalrpop_norm::normalize::Session;
 use std::alloc::{AllocError, AllocFailed, Global};
 use std::collections::BTreeSet;
 
@@ -12,6 +12,7 @@ use std::collections::BTreeSet;
 pub enum WordsError {
     /// They are not pairs of an option and its word.
     Usage,
+    /// There was no memory.
     Memory,
 }
 
@@ -35,7 +36,8 @@ impl<T: Drop> From<AllocFailed<T>> for WordsError {
     }
 }
 
-/// The session that the words of a call ask for: `--limit N` and `--feature F` in any order.
+/// The session that the words of a call ask for: `--limit N` (200 without it, of several the last) and `--feature F`, in any
+/// order. Errors: `Usage` where they are no such pairs, and only there; `Memory`.
 pub fn session_of(alloc: Global, words: &[String]) -> Result<Session<()>, WordsError>
     ensures ok { IfOk result (λ s. settings_of (map string_bytes words.now) ≡ Some (settings_view s)) }
     ensures usage { IsErrOf result Usage → settings_of (map string_bytes words.now) ≡ None }

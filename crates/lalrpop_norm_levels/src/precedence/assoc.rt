@@ -8,7 +8,7 @@ use std::str::FromStr;
 ///
 /// The *own occurrences* of an alternative are its references to its own rule, in reading order. Those of the
 /// current level let the alternative be iterated there; those of the previous level, the next lower one, do not.
-#[derive(Clone, Copy, PartialEq, Eq)]
+#[derive(Clone, Copy, Debug, PartialEq, Eq)]
 pub enum Assoc {
     /// `left`: the first own occurrence has the current level, all others the previous one.
     Left,
@@ -28,7 +28,7 @@ impl Default for Assoc {
     }
 }
 
-/// A text that names no side.
+/// A text that names no side. It prints LALRPOP's words, which leave `all` out.
 #[derive(Clone, Debug, PartialEq, Eq, Drop)]
 pub struct ParseAssocError {
     private: (),

@@ -17,7 +17,7 @@ use lalrpop_norm_tree::grammar::parse_tree::{Alternative, Attribute, Nonterminal
 use std::alloc::{AllocError, Global};
 
 /// The level and the side of an alternative.
-#[derive(Clone, Copy, PartialEq, Eq)]
+#[derive(Clone, Copy, Debug, PartialEq, Eq)]
 pub struct AlternativeLevel {
     /// The level stated last at or before the alternative: 0 to 4294967295. Where none is stated, 0.
     pub level: u32,
@@ -29,9 +29,10 @@ pub struct AlternativeLevel {
 /// are to be taken out before.
 ///
 /// The first fault is refused, in this order: a rule with a `precedence` or an `assoc` whose first alternative has no
-/// `precedence` (F12a); for each alternative a level that is not `level = ".."` (F12b) or no number of 32 bits
-/// (F12c), and a side that is not `side = ".."` (F12d) or none of the four (F12e); then a side on the lowest level
-/// (F12f): any where an alternative states that level, any but `all` where it inherits it.
+/// `precedence` (F12a, at that alternative); for each alternative a level that is not `level = ".."` (F12b) or no
+/// number of 32 bits (F12c), both at the name of the `precedence`, and a side that is not `side = ".."` (F12d) or none
+/// of the four (F12e); then a side on the lowest level (F12f): any where an alternative states that level, any but
+/// `all` where it inherits it; these three at the name of the `assoc`. The other error is `Memory`.
 pub fn read_levels(alloc: Global, rule: &NonterminalData) -> NormResult<Vec<AlternativeLevel>>
     ensures { RefusesOr result (level_faults (rule_view rule.now)) (λ levels. map alternative_level_view levels.items ≡ levels_and_sides (rule_view rule.now)) }
 {
@@ -43,8 +44,8 @@ pub fn read_levels(alloc: Global, rule: &NonterminalData) -> NormResult<Vec<Alte
     Ok(levels)
 }
 
-/// Whether alternatives of a rule state two different levels or more. All alternatives count; those that are not
-/// enabled are to be taken out before.
+/// Whether the alternatives of a rule have two levels or more, 0 counting where none is stated. All alternatives count;
+/// those that are not enabled are to be taken out before.
 ///
 /// The only error is want of memory.
 #[tactic(auto, using(crate::proofs::SeveralLemmas::several_read))]

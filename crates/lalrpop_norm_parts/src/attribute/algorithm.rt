@@ -14,7 +14,7 @@ pub fn is_known_attribute(attribute: &Attribute) -> bool
 }
 
 /// Changes the algorithm as the attributes of a grammar say: `LALR` sets `lalr`, the others set the kind of code, the last one
-/// standing.
+/// standing. Each attribute is known (`is_known_attribute`).
 pub fn read_algorithm(attributes: &[Attribute], algorithm: &mut Algorithm)
     requires { All (λ a. IsTrue (is_known_name a.id)) attributes.now }
     ensures lalr { algorithm.new.lalr ≡ (algorithm.old.lalr || list_any (λ a. bytes_eq a.id (codes "LALR")) attributes.now) }

@@ -1,4 +1,4 @@
-//! Copies of items and grammars.
+//! Copies of rules, match blocks, tokenizers and associated types.
 ghost use Rattle.std.specs.Prelude.{◌≡◌, IfOk, map, option_map};
 ghost use Rattle.lalrpop_norm_tree.specs.Items.{action_view, alternative_view, associated_type_view, intern_token_view, match_contents_view, match_token_view, rule_view, visibility_view};
 ghost use Rattle.lalrpop_norm_tree.specs.Types.{type_view};
