@@ -9,6 +9,7 @@ use Rattle.lalrpop_norm_parts.specs.declared.names.Span.{Span}
 use Rattle.lalrpop_norm_parts.specs.declared.names.TerminalString.{TerminalString}
 use Rattle.lalrpop_norm_parts.specs.declared.names.TerminalString.TheVariants.{Literal, Bare, Error}
 use Rattle.lalrpop_norm_parts.specs.Bounds.{WhereClauseData}
+use Rattle.lalrpop_norm_tree.specs.Accessors.{or_else}
 use Rattle.lalrpop_norm_tree.specs.Items.{AlternativeData, RuleData, AssociatedTypeData, ConversionData, EnumTokenData, ExternTokenData, ItemData, GrammarData, match_item, extern_item, intern_item, rule_item, use_item}
 use Rattle.lalrpop_norm_tree.specs.LoweredTypes.{holds_symbol, any_holds_symbol, result_holds_symbol}
 use Rattle.lalrpop_norm_parts.specs.Patterns as pattern
@@ -35,7 +36,7 @@ use Rattle.lalrpop_norm_front.specs.GrammarFaults.{rule_faults, associated_fault
 use Rattle.lalrpop_norm_front.specs.Walks.{types_along, items_along}
 use Rattle.lalrpop_norm_front.proofs.PlaceLemmas.{types_placed, items_placed}
 use Rattle.lalrpop_norm_late.proofs.KeyLaws.{terminals_decide}
-use Rattle.lalrpop_norm.specs.Grammars.{rules_of, externs_of, enum_in, conversions_in, conversions_of, terminals_of, terminal_listed, same_terminal}
+use Rattle.lalrpop_norm.specs.Grammars.{rules_of, externs_of, first_of, enum_of, conversions_in, conversions_of, terminals_of, terminal_listed, same_terminal}
 use Rattle.lalrpop_norm.specs.Later.{has_conversion}
 use Rattle.lalrpop_norm.specs.TakenGrammars.{IsConverted, IsTakenKind, IsTakenSymbol, AreTakenSymbols, IsTakenAlternative, IsTakenRule, IsNoMatchBlock, IsTaken}
 use Rattle.lalrpop_norm.proofs.ExpandedScopes.{IsOverKind, IsOver, AreOver}
@@ -221,16 +222,28 @@ not_error s Error h e = cc h
 
 -- ---- the enum
 
--- the first extern block with its enum
-the_block : (ts : List ExternTokenData) → IsSome (enum_in ts) →
-    (t : ExternTokenData) × (rest : List ExternTokenData) × (u : EnumTokenData) × (ts ≡ t ∷ rest) × (t.enum_token ≡ Some u)
-the_block [] h = absurd (cc h)
-the_block (t ∷ rest) h = by t.enum_token refl h
+-- the first enum is that of the first extern block with one
+abbrev first_enum : List ExternTokenData → Option EnumTokenData
+first_enum ts = first_of (λ (t : ExternTokenData). t.enum_token) ts
+
+enum_of_externs : (items : List ItemData) → enum_of items ≡ first_enum (externs_of items)
+enum_of_externs [] = refl
+enum_of_externs (extern_item t ∷ items) = ap (or_else t.enum_token) (enum_of_externs items)
+enum_of_externs (match_item m ∷ items) = enum_of_externs items
+enum_of_externs (intern_item t ∷ items) = enum_of_externs items
+enum_of_externs (rule_item r ∷ items) = enum_of_externs items
+enum_of_externs (use_item u ∷ items) = enum_of_externs items
+
+-- the only extern block with its enum
+the_block : (ts : List ExternTokenData) → IsSome (first_enum ts) → ((t : ExternTokenData) (rest : List ExternTokenData) → ts ≡ t ∷ rest → rest ≡ []) →
+    (t : ExternTokenData) × (u : EnumTokenData) × (ts ≡ t ∷ []) × (t.enum_token ≡ Some u)
+the_block [] h once = absurd (cc h)
+the_block (t ∷ rest) h once = by t.enum_token refl (subst (λ (ts : List ExternTokenData). IsSome (first_enum (t ∷ ts))) (once t rest refl) h)
   where
-    by : (o : Option EnumTokenData) → t.enum_token ≡ o → IsSome o →
-        (x : ExternTokenData) × (more : List ExternTokenData) × (u : EnumTokenData) × (t ∷ rest ≡ x ∷ more) × (x.enum_token ≡ Some u)
+    by : (o : Option EnumTokenData) → t.enum_token ≡ o → IsSome (or_else o None) →
+        (x : ExternTokenData) × (u : EnumTokenData) × (t ∷ rest ≡ x ∷ []) × (x.enum_token ≡ Some u)
     by None e some = absurd (cc some)
-    by (Some u) e some = (t, rest, u, refl, e)
+    by (Some u) e some = (t, u, ap (λ ts. t ∷ ts) (once t rest refl), e)
 
 enums_of_externs : (items : List ItemData) → flat_map expanded.enum_in items ≡ flat_map (λ (t : ExternTokenData). option_to_list t.enum_token) (externs_of items)
 enums_of_externs [] = refl
@@ -428,9 +441,8 @@ module _ (fs : Features) (g : GrammarData) (h : IsTaken fs g) (f : validate_faul
 
   pub written_enum : (u : EnumTokenData) × HasWrittenEnum g u
   written_enum =
-      let (t, rest, u, e, is) = the_block (externs_of g.items) h.enum_token in
-      let none : rest ≡ [] = one_extern g false g.items items_free t rest e in
-      (u, record { block = t; only_block = e ∙ ap (λ ts. t ∷ ts) none; enum = is })
+      let (t, u, e, is) = the_block (externs_of g.items) (subst IsSome (enum_of_externs g.items) h.enum_token) (one_extern g false g.items items_free) in
+      (u, record { block = t; only_block = e; enum = is })
 
   module _ (u : EnumTokenData) (w : HasWrittenEnum g u) where
     block_listed : In (extern_item w.block) g.items
@@ -441,7 +453,7 @@ module _ (fs : Features) (g : GrammarData) (h : IsTaken fs g) (f : validate_faul
         subst (λ o. enum_faults o ≡ []) w.enum (extern_free g w.block (each_free (extern_item w.block) block_listed)).1
 
     conversions_are : conversions_of g.items ≡ u.conversions
-    conversions_are = ap (λ (ts : List ExternTokenData). conversions_in (enum_in ts)) w.only_block ∙ ap conversions_in w.enum
+    conversions_are = ap conversions_in (enum_of_externs g.items ∙ ap first_enum w.only_block ∙ ap (λ (o : Option EnumTokenData). or_else o None) w.enum)
 
     the_conversions : active_conversions fs (conversions_of g.items) ≡ (enabled_enum fs u).conversions
     the_conversions = ap (active_conversions fs) conversions_are

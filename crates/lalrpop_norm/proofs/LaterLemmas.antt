@@ -13,8 +13,8 @@ use Rattle.lalrpop_norm_tree.specs.Types.{TypeData}
 use Rattle.lalrpop_norm_model.specs.Features.{Features}
 use Rattle.lalrpop_norm.specs.declared.later.LaterPart.{LaterPart}
 use Rattle.lalrpop_norm.specs.declared.later.LaterPart.TheVariants as later
-use Rattle.lalrpop_norm.specs.Grammars.{rules_of, externs_of, enum_in, conversions_in, conversions_of, active_conversions, terminals_of, same_terminal, has_repeated}
-use Rattle.lalrpop_norm.specs.Later.{part_if, part_of_any, part_of_some, part_of_none, attribute_parts, terminal_parts, kind_parts, symbol_parts, symbols_parts, has_several_slots, action_parts, alternative_parts, rule_parts, start_parts, pattern_kind_parts, pattern_parts, patterns_parts, conversion_parts, enum_parts, extern_parts, token_parts, head_parts, item_parts, has_rule, has_conversion, later_parts}
+use Rattle.lalrpop_norm.specs.Grammars.{rules_of, externs_of, enum_of, conversions_in, conversions_of, active_conversions, terminals_of, same_terminal, has_repeated}
+use Rattle.lalrpop_norm.specs.Later.{part_if, part_of_any, part_of_some, part_of_none, attribute_parts, terminal_parts, kind_parts, symbol_parts, symbols_parts, has_several_slots, action_parts, alternative_parts, type_parts, declared_parts, rule_parts, start_parts, pattern_kind_parts, pattern_parts, patterns_parts, conversion_parts, enum_parts, extern_parts, token_parts, head_parts, item_parts, has_rule, has_conversion, later_parts}
 use Rattle.lalrpop_norm.specs.TakenGrammars.{IsConverted, IsTakenKind, IsTakenSymbol, AreTakenSymbols, HasAtMostOneSlot, IsTakenAlternative, IsTakenRule, IsTakenPatternKind, IsTakenPattern, AreTakenPatterns, HasTakenPattern, IsTakenExtern, IsNoMatchBlock, IsTaken}
 
 -- ---- empty lists
@@ -59,6 +59,10 @@ attributes_none p (attribute_and a rest) h = cc
 there_none : {X : Type 0} (p : LaterPart) (o : Option X) → part_of_none p o ≡ [] → IsSome o
 there_none p None h = cc
 there_none p (Some x) h = refl
+
+declared_none : (converts : TerminalString → Bool) (o : Option TypeData) → declared_parts converts o ≡ [] → IsSome o
+declared_none converts None h = cc
+declared_none converts (Some t) h = refl
 
 -- ---- symbols
 
@@ -116,13 +120,13 @@ taken_alternative converts a h =
 taken_rule : (converts : TerminalString → Bool) (r : RuleData) → rule_parts converts r ≡ [] → IsTakenRule converts r
 taken_rule converts r h =
     let arguments = part_of_any later.MacroDefinition r.args in
-    let declared = part_of_none later.UndeclaredType r.type_decl in
+    let declared = declared_parts converts r.type_decl in
     let alternatives = flat_map (alternative_parts converts) r.alternatives in
     let behind : declared ++ alternatives ≡ [] = right_none arguments (declared ++ alternatives) h in
     let each = each_none (alternative_parts converts) r.alternatives (right_none declared alternatives behind) in
     record {
       arguments = any_none later.MacroDefinition r.args (left_none arguments (declared ++ alternatives) h);
-      declared = there_none later.UndeclaredType r.type_decl (left_none declared alternatives behind);
+      declared = declared_none converts r.type_decl (left_none declared alternatives behind);
       alternatives = λ k d lt. taken_alternative converts _ (each k d lt);
     }
 
@@ -152,16 +156,19 @@ mutual
     taken_patterns ps (right_none (pattern_parts p) (patterns_parts ps) h),
   )
 
-taken_conversions : (o : Option EnumTokenData) → enum_parts o ≡ [] → All HasTakenPattern (conversions_in o)
-taken_conversions None h = All-nil HasTakenPattern
-taken_conversions (Some e) h = λ k d lt. taken_pattern _ (each_none conversion_parts e.conversions h k d lt)
+taken_conversions : (converts : TerminalString → Bool) (o : Option EnumTokenData) → enum_parts converts o ≡ [] → All HasTakenPattern (conversions_in o)
+taken_conversions converts None h = All-nil HasTakenPattern
+taken_conversions converts (Some e) h =
+    let patterns = right_none (type_parts converts e.type_name) (flat_map conversion_parts e.conversions) h in
+    λ k d lt. taken_pattern _ (each_none conversion_parts e.conversions patterns k d lt)
 
-taken_extern : (t : ExternTokenData) → extern_parts t ≡ [] → IsTakenExtern t
-taken_extern t h =
+taken_extern : (converts : TerminalString → Bool) (t : ExternTokenData) → extern_parts converts t ≡ [] → IsTakenExtern t
+taken_extern converts t h =
     let associated = part_of_any later.AssociatedType t.associated_types in
+    let enum = enum_parts converts t.enum_token in
     record {
-      associated_types = any_none later.AssociatedType t.associated_types (left_none associated (enum_parts t.enum_token) h);
-      patterns = taken_conversions t.enum_token (right_none associated (enum_parts t.enum_token) h);
+      associated_types = any_none later.AssociatedType t.associated_types (left_none associated enum h);
+      patterns = taken_conversions converts t.enum_token (right_none associated enum h);
     }
 
 -- ---- items
@@ -170,15 +177,15 @@ module _ (converts : TerminalString → Bool) where
   rules_none : (items : List ItemData) → flat_map (item_parts converts) items ≡ [] → All (λ r. rule_parts converts r ≡ []) (rules_of items)
   rules_none [] h = All-nil (λ r. rule_parts converts r ≡ [])
   rules_none (match_item m ∷ items) h = cc
-  rules_none (extern_item t ∷ items) h = rules_none items (right_none (extern_parts t) (flat_map (item_parts converts) items) h)
+  rules_none (extern_item t ∷ items) h = rules_none items (right_none (extern_parts converts t) (flat_map (item_parts converts) items) h)
   rules_none (intern_item t ∷ items) h = rules_none items h
   rules_none (rule_item r ∷ items) h = All-cons (λ s. rule_parts converts s ≡ []) r (rules_of items) (left_none (rule_parts converts r) (flat_map (item_parts converts) items) h) (rules_none items (right_none (rule_parts converts r) (flat_map (item_parts converts) items) h))
   rules_none (use_item s ∷ items) h = rules_none items h
 
-  externs_none : (items : List ItemData) → flat_map (item_parts converts) items ≡ [] → All (λ t. extern_parts t ≡ []) (externs_of items)
-  externs_none [] h = All-nil (λ t. extern_parts t ≡ [])
+  externs_none : (items : List ItemData) → flat_map (item_parts converts) items ≡ [] → All (λ t. extern_parts converts t ≡ []) (externs_of items)
+  externs_none [] h = All-nil (λ t. extern_parts converts t ≡ [])
   externs_none (match_item m ∷ items) h = cc
-  externs_none (extern_item t ∷ items) h = All-cons (λ u. extern_parts u ≡ []) t (externs_of items) (left_none (extern_parts t) (flat_map (item_parts converts) items) h) (externs_none items (right_none (extern_parts t) (flat_map (item_parts converts) items) h))
+  externs_none (extern_item t ∷ items) h = All-cons (λ u. extern_parts converts u ≡ []) t (externs_of items) (left_none (extern_parts converts t) (flat_map (item_parts converts) items) h) (externs_none items (right_none (extern_parts converts t) (flat_map (item_parts converts) items) h))
   externs_none (intern_item t ∷ items) h = externs_none items h
   externs_none (rule_item r ∷ items) h = externs_none items (right_none (rule_parts converts r) (flat_map (item_parts converts) items) h)
   externs_none (use_item s ∷ items) h = externs_none items h
@@ -233,7 +240,7 @@ taken_of fs g h =
     let attributes = attribute_parts later.GrammarAttribute g.attributes in
     let head_1 : parameters ++ (where_clauses ++ attributes) ≡ [] = right_none type_parameters (parameters ++ (where_clauses ++ attributes)) head_none in
     let head_2 : where_clauses ++ attributes ≡ [] = right_none parameters (where_clauses ++ attributes) head_1 in
-    let no_enum = part_of_none later.NoExternEnum (enum_in (externs_of g.items)) in
+    let no_enum = part_of_none later.NoExternEnum (enum_of g.items) in
     let terminals = terminals_of (active_conversions fs (conversions_of g.items)) in
     let twice = part_if (has_repeated same_terminal terminals) later.RepeatedConversion in
     let each_extern = externs_none converts g.items items_none in
@@ -245,8 +252,8 @@ taken_of fs g h =
       where_clauses = any_none later.WhereClause g.where_clauses (left_none where_clauses attributes head_2);
       attributes = attributes_none later.GrammarAttribute g.attributes (right_none where_clauses attributes head_2);
       no_match = λ k d lt. no_match_block converts _ (each_none (item_parts converts) g.items items_none k d lt);
-      enum_token = there_none later.NoExternEnum (enum_in (externs_of g.items)) (left_none no_enum twice tokens_none);
-      externs = λ k d lt. taken_extern _ (each_extern k d lt);
+      enum_token = there_none later.NoExternEnum (enum_of g.items) (left_none no_enum twice tokens_none);
+      externs = λ k d lt. taken_extern converts _ (each_extern k d lt);
       terminals = distinct_of same_terminal terminals (if_none (has_repeated same_terminal terminals) later.RepeatedConversion (right_none no_enum twice tokens_none));
       rules = λ k d lt. taken_rule converts _ (each_rule k d lt);
       starts = λ k d lt. if_both_none _ _ later.StartTaken (each_start k d lt);

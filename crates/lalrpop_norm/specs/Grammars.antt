@@ -1,10 +1,10 @@
 -- The rules and the tokens of a grammar. Words of the crates below are passed on.
-pub use Rattle.lalrpop_norm_tree.specs.Accessors.{rule_of, extern_token_of, is_public}
+pub use Rattle.lalrpop_norm_tree.specs.Accessors.{first_of, rule_of, extern_token_of, enum_token_of, is_public}
 pub use Rattle.lalrpop_norm_repr.specs.Tables.{same_literal, same_terminal}
 pub use Rattle.lalrpop_norm_front.specs.EnabledItems.{active_conversions}
 pub use Rattle.lalrpop_norm_late.specs.Lowering.{rules_of}
 pub use Rattle.lalrpop_norm_late.specs.Conversions.{conversions_in}
-use Rattle.std.specs.Prelude.{ℕ, Bool, false, ◌||◌, List, [], ◌∷◌, map, filter_map, Option, None, bytes_eq}
+use Rattle.std.specs.Prelude.{ℕ, Bool, false, ◌||◌, List, [], ◌∷◌, map, filter_map, Option, bytes_eq}
 use Rattle.std.specs.List.{list_any}
 use Rattle.lalrpop_norm_parts.specs.declared.names.TerminalString.{TerminalString}
 use Rattle.lalrpop_norm_tree.specs.Items.{ItemData, RuleData, ExternTokenData, EnumTokenData, ConversionData}
@@ -18,14 +18,13 @@ names_of rules = map (λ r. r.name.0) rules
 abbrev pub listed : List ℕ → List (List ℕ) → Bool
 listed name ns = list_any (bytes_eq name) ns
 
--- the enum of the first extern block
-abbrev pub enum_in : List ExternTokenData → Option EnumTokenData
-enum_in [] = None
-enum_in (t ∷ ts) = t.enum_token
+-- the first enum of any extern block
+abbrev pub enum_of : List ItemData → Option EnumTokenData
+enum_of items = first_of enum_token_of items
 
 -- the conversions of that enum
 abbrev pub conversions_of : List ItemData → List ConversionData
-conversions_of items = conversions_in (enum_in (externs_of items))
+conversions_of items = conversions_in (enum_of items)
 
 abbrev pub terminals_of : List ConversionData → List TerminalString
 terminals_of cs = map (λ c. c.from) cs

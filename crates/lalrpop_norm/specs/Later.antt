@@ -7,14 +7,14 @@ use Rattle.lalrpop_norm_parts.specs.Attributes.{Attributes, no_attributes, attri
 use Rattle.lalrpop_norm_tree.specs.Items.{Action, user_code, fallible_code, lookahead_code, lookbehind_code, AlternativeData, RuleData, ConversionData, EnumTokenData, ExternTokenData, ItemData, match_item, extern_item, intern_item, rule_item, use_item, GrammarData}
 use Rattle.lalrpop_norm_parts.specs.Patterns as pattern
 use Rattle.lalrpop_norm_tree.specs.Symbols.{Kind, group, ambiguous_id, terminal, nonterminal, call, repeated, chosen, named, tupled, lookahead, lookbehind, error_terminal, Part, at, Parts, no_parts, part_and}
-use Rattle.lalrpop_norm_tree.specs.Types.{TypeData}
+use Rattle.lalrpop_norm_tree.specs.Types.{TypeData, TypesData, MaybeType, tuple, slice, nominal, reference, trait_object, of_lifetime, id, of_symbol, function, no_types, type_and, no_type, returns}
 use Rattle.lalrpop_norm_model.specs.Features.{Features}
 use Rattle.lalrpop_norm_front.specs.Braces.{around_slot}
 use Rattle.lalrpop_norm_faults.specs.Faults.{Fault}
 use Rattle.lalrpop_norm_faults.specs.declared.kind.FaultKind.TheVariants.{NotYet}
 use Rattle.lalrpop_norm.specs.declared.later.LaterPart.{LaterPart}
 use Rattle.lalrpop_norm.specs.declared.later.LaterPart.TheVariants as later
-use Rattle.lalrpop_norm.specs.Grammars.{rules_of, externs_of, names_of, is_public, enum_in, conversions_of, active_conversions, terminals_of, listed, terminal_listed, same_terminal, has_repeated}
+use Rattle.lalrpop_norm.specs.Grammars.{rules_of, names_of, is_public, enum_of, conversions_of, active_conversions, terminals_of, listed, terminal_listed, same_terminal, has_repeated}
 
 abbrev pub part_if : Bool → LaterPart → List LaterPart
 part_if b p = if b then p ∷ [] else []
@@ -66,6 +66,28 @@ abbrev mutual
   symbols_parts has_conversion no_parts = []
   symbols_parts has_conversion (part_and p ps) = symbol_parts has_conversion p ++ symbols_parts has_conversion ps
 
+-- ---- types, for the symbols whose types stand in them
+
+abbrev mutual
+  pub type_parts : (TerminalString → Bool) → TypeData → List LaterPart
+  type_parts has_conversion (tuple ts) = types_parts has_conversion ts
+  type_parts has_conversion (slice t) = type_parts has_conversion t
+  type_parts has_conversion (nominal p ts) = types_parts has_conversion ts
+  type_parts has_conversion (reference l m t) = type_parts has_conversion t
+  type_parts has_conversion (trait_object p ts) = types_parts has_conversion ts
+  type_parts has_conversion (of_lifetime l) = []
+  type_parts has_conversion (id a) = []
+  type_parts has_conversion (of_symbol k) = kind_parts has_conversion k
+  type_parts has_conversion (function fs p ts r) = types_parts has_conversion ts ++ return_parts has_conversion r
+
+  pub types_parts : (TerminalString → Bool) → TypesData → List LaterPart
+  types_parts has_conversion no_types = []
+  types_parts has_conversion (type_and t ts) = type_parts has_conversion t ++ types_parts has_conversion ts
+
+  pub return_parts : (TerminalString → Bool) → MaybeType → List LaterPart
+  return_parts has_conversion no_type = []
+  return_parts has_conversion (returns t) = type_parts has_conversion t
+
 -- ---- rules
 
 -- the code behind its first `<>`
@@ -95,10 +117,14 @@ alternative_parts has_conversion a =
     ++ (part_of_some later.Condition a.condition
     ++ action_parts a.action)
 
+abbrev pub declared_parts : (TerminalString → Bool) → Option TypeData → List LaterPart
+declared_parts has_conversion None = later.UndeclaredType ∷ []
+declared_parts has_conversion (Some t) = type_parts has_conversion t
+
 abbrev pub rule_parts : (TerminalString → Bool) → RuleData → List LaterPart
 rule_parts has_conversion r =
     part_of_any later.MacroDefinition r.args
-    ++ (part_of_none later.UndeclaredType r.type_decl
+    ++ (declared_parts has_conversion r.type_decl
     ++ flat_map (alternative_parts has_conversion) r.alternatives)
 
 -- a public rule whose start name, the prefix and its own, is a rule's
@@ -131,17 +157,17 @@ abbrev mutual
 abbrev pub conversion_parts : ConversionData → List LaterPart
 conversion_parts c = pattern_parts c.to
 
-abbrev pub enum_parts : Option EnumTokenData → List LaterPart
-enum_parts None = []
-enum_parts (Some e) = flat_map conversion_parts e.conversions
+abbrev pub enum_parts : (TerminalString → Bool) → Option EnumTokenData → List LaterPart
+enum_parts has_conversion None = []
+enum_parts has_conversion (Some e) = type_parts has_conversion e.type_name ++ flat_map conversion_parts e.conversions
 
-abbrev pub extern_parts : ExternTokenData → List LaterPart
-extern_parts t = part_of_any later.AssociatedType t.associated_types ++ enum_parts t.enum_token
+abbrev pub extern_parts : (TerminalString → Bool) → ExternTokenData → List LaterPart
+extern_parts has_conversion t = part_of_any later.AssociatedType t.associated_types ++ enum_parts has_conversion t.enum_token
 
--- no enum in the first extern block, or a terminal that has two active conversions there
+-- no enum in any extern block, or a terminal that has two active conversions in the first enum
 abbrev pub token_parts : Features → List ItemData → List LaterPart
 token_parts fs items =
-    part_of_none later.NoExternEnum (enum_in (externs_of items))
+    part_of_none later.NoExternEnum (enum_of items)
     ++ part_if (has_repeated same_terminal (terminals_of (active_conversions fs (conversions_of items)))) later.RepeatedConversion
 
 -- ---- grammars
@@ -156,7 +182,7 @@ head_parts g =
 
 abbrev pub item_parts : (TerminalString → Bool) → ItemData → List LaterPart
 item_parts has_conversion (match_item m) = later.MatchBlock ∷ []
-item_parts has_conversion (extern_item t) = extern_parts t
+item_parts has_conversion (extern_item t) = extern_parts has_conversion t
 item_parts has_conversion (intern_item t) = []
 item_parts has_conversion (rule_item r) = rule_parts has_conversion r
 item_parts has_conversion (use_item s) = []
@@ -168,7 +194,7 @@ has_rule items name = listed name (names_of (rules_of items))
 abbrev pub names_terminal : List ConversionData → TerminalString → Bool
 names_terminal conversions t = terminal_listed t (terminals_of conversions)
 
--- whether an active conversion of the first extern block names that terminal
+-- whether an active conversion of the first enum names that terminal
 abbrev pub has_conversion : Features → List ItemData → TerminalString → Bool
 has_conversion fs items = names_terminal (active_conversions fs (conversions_of items))
 

@@ -9,7 +9,7 @@ use Rattle.lalrpop_norm_parts.specs.Patterns as pattern
 use Rattle.lalrpop_norm_tree.specs.Symbols.{Kind, group, ambiguous_id, terminal, nonterminal, call, repeated, chosen, named, tupled, lookahead, lookbehind, error_terminal, Part, at, Parts, no_parts, part_and}
 use Rattle.lalrpop_norm_tree.specs.Types.{TypeData}
 use Rattle.lalrpop_norm_model.specs.Features.{Features}
-use Rattle.lalrpop_norm.specs.Grammars.{rules_of, externs_of, is_public, enum_in, conversions_in, conversions_of, active_conversions, terminals_of, same_terminal}
+use Rattle.lalrpop_norm.specs.Grammars.{rules_of, externs_of, is_public, enum_of, conversions_in, conversions_of, active_conversions, terminals_of, same_terminal}
 use Rattle.lalrpop_norm.specs.Later.{has_several_slots, has_rule, has_conversion}
 
 -- ---- symbols, where a test tells which terminals have a conversion
@@ -107,7 +107,7 @@ IsNoMatchBlock (intern_item t) = Unit {0}
 IsNoMatchBlock (rule_item r) = Unit {0}
 IsNoMatchBlock (use_item s) = Unit {0}
 
--- What counts of conversions is which ones of the first extern block the features leave active. All else is asked of rules and
+-- What counts of conversions is which ones of the first enum the features leave active. All else is asked of rules and
 -- alternatives whether they are active or not.
 pub record IsTaken (fs : Features) (g : GrammarData) : Type 0 where
   pub type_parameters : g.type_parameters ≡ []
@@ -115,8 +115,8 @@ pub record IsTaken (fs : Features) (g : GrammarData) : Type 0 where
   pub where_clauses : g.where_clauses ≡ []
   pub attributes : g.attributes ≡ no_attributes
   pub no_match : All IsNoMatchBlock g.items
-  -- the first extern block is there, and has an enum
-  pub enum_token : IsSome (enum_in (externs_of g.items))
+  -- an extern block has an enum
+  pub enum_token : IsSome (enum_of g.items)
   pub externs : All IsTakenExtern (externs_of g.items)
   -- no two active conversions have one terminal
   pub terminals : IsDistinct same_terminal (terminals_of (active_conversions fs (conversions_of g.items)))

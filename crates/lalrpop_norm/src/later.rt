@@ -15,6 +15,7 @@ mod starts;
 mod symbols;
 mod terminals;
 mod tokens;
+mod types;
 
 use items::{find_in_head, find_in_items};
 use lalrpop_norm_front::{FaultKind, NormFailure, NormResult, Session, refusal};
@@ -33,7 +34,7 @@ pub(crate) enum LaterPart {
     MacroCall,
     /// An alternative that only some instances have.
     Condition,
-    /// No first extern block, or one without an enum.
+    /// No extern block has an enum.
     NoExternEnum,
     MatchBlock,
     /// `!`.
@@ -176,7 +177,7 @@ fn find<L>(alloc: Global, session: &Session<L>, grammar: &Grammar) -> Result<(),
     ensures { Stops result (later_parts (features_view session.now.features) (grammar_view grammar.now)) }
 {
     find_in_head(grammar)?;
-    let terminals = known_terminals(alloc, session, &grammar.items)?;
+    let terminals = known_terminals(alloc, session, grammar)?;
     find_in_items(&terminals, &grammar.items)?;
     let names = rule_names(alloc, &grammar.items)?;
     find_taken_starts(alloc, grammar.prefix.as_str(), &names, &grammar.items)

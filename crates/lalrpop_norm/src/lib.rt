@@ -1,7 +1,7 @@
 //! LALRPOP's grammar normalization: from a written grammar to its lowered one.
 //!
-//! [`normalize::normalize`] is the whole way; each pass stands under the module [`normalize`] as well. The types of both
-//! sides stand under the module [`grammar`].
+//! [`normalize::normalize`] is the whole way; the passes that can be used by themselves stand under the module [`normalize`] as
+//! well. The types of both sides stand under the module [`grammar`].
 #![tactic(auto)]
 
 pub mod grammar;

@@ -25,7 +25,7 @@ fn find_in_item(converted: &BTreeSet<TerminalString>, item: &GrammarItem) -> Res
 {
     match item {
         GrammarItem::MatchToken(_) => Err(LaterPart::MatchBlock),
-        GrammarItem::ExternToken(block) => find_in_extern(block),
+        GrammarItem::ExternToken(block) => find_in_extern(converted, block),
         GrammarItem::Nonterminal(rule) => find_in_rule(converted, rule),
         GrammarItem::InternToken(_) | GrammarItem::Use(_) => Ok(()),
     }

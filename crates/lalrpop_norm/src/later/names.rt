@@ -1,31 +1,17 @@
-//! Rules, extern blocks and names among the items.
-ghost use Rattle.std.specs.Prelude.{◌≡◌, [], map, option_map, OnOk, IfOk};
+//! Names of rules.
+ghost use Rattle.std.specs.Prelude.{◌≡◌, [], map, OnOk, IfOk};
 ghost use Rattle.std.specs.BTreeSet.{insert_key};
 ghost use Rattle.std.specs.Ordering.{nat_cmp};
 ghost use Rattle.std.specs.Cmp.Lexicographic.{slice_cmp};
-ghost use Rattle.lalrpop_norm_tree.specs.Items.{item_view, enum_token_view};
-ghost use Rattle.lalrpop_norm.specs.Grammars.{rules_of, externs_of, names_of, enum_in};
+ghost use Rattle.lalrpop_norm_tree.specs.Items.{item_view};
+ghost use Rattle.lalrpop_norm.specs.Grammars.{rules_of, names_of};
 ghost use Rattle.lalrpop_norm.specs.Later.{has_rule};
 ghost use Rattle.lalrpop_norm.specs.LaterWalks.{Stops, with_keys, name_in};
 
 use super::Stop;
-use lalrpop_norm_tree::grammar::parse_tree::{Atom, EnumToken, GrammarItem};
+use lalrpop_norm_tree::grammar::parse_tree::{Atom, GrammarItem};
 use std::alloc::Global;
 use std::collections::BTreeSet;
-
-/// The enum of the first extern block.
-pub(super) fn first_enum(items: &[GrammarItem]) -> Option<&EnumToken>
-    ensures { option_map (λ e. enum_token_view e.now) result ≡ enum_in (externs_of (map item_view items.now)) }
-{
-    for item in items {
-        if let Some(block) = item.as_extern_token() {
-            return block.enum_token.as_ref();
-        }
-    }
-    None
-}
-
-// ---- names of rules
 
 fn add_name(names: &mut BTreeSet<Atom>, name: &Atom) -> Result<(), Stop>
     ensures memory { Stops result [] }

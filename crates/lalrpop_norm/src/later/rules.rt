@@ -3,12 +3,13 @@ ghost use Rattle.std.specs.Prelude.{◌≡◌, map, option_map};
 ghost use Rattle.std.specs.List.{flat_map};
 ghost use Rattle.lalrpop_norm_tree.specs.Items.{action_view, alternative_view, rule_view};
 ghost use Rattle.lalrpop_norm_tree.specs.Types.{type_view};
-ghost use Rattle.lalrpop_norm.specs.Later.{part_of_some, part_of_none, after_slot, has_several_slots, code_parts, action_parts, alternative_parts, rule_parts};
+ghost use Rattle.lalrpop_norm.specs.Later.{part_of_some, declared_parts, after_slot, has_several_slots, code_parts, action_parts, alternative_parts, rule_parts};
 ghost use Rattle.lalrpop_norm.specs.LaterWalks.{Finds, terminal_in};
 
 use super::LaterPart;
 use super::symbols::find_in_symbols;
 use super::tokens::find_any;
+use super::types::find_in_type;
 use lalrpop_norm_tree::grammar::parse_tree::{
     ActionKind, Alternative, Condition, NonterminalData, TerminalString, TypeRef,
 };
@@ -85,11 +86,14 @@ fn find_in_alternatives(
     Ok(())
 }
 
-fn find_undeclared(declared: &Option<TypeRef>) -> Result<(), LaterPart>
-    ensures { Finds result (part_of_none LaterPart.UndeclaredType (option_map type_view declared.now)) }
+fn find_in_declared(
+    converted: &BTreeSet<TerminalString>,
+    declared: &Option<TypeRef>,
+) -> Result<(), LaterPart>
+    ensures { Finds result (declared_parts (terminal_in converted.now.keys) (option_map type_view declared.now)) }
 {
     match declared {
-        Some(_) => Ok(()),
+        Some(written) => find_in_type(converted, written),
         None => Err(LaterPart::UndeclaredType),
     }
 }
@@ -101,6 +105,6 @@ pub(super) fn find_in_rule(
     ensures { Finds result (rule_parts (terminal_in converted.now.keys) (rule_view rule.now)) }
 {
     find_any(LaterPart::MacroDefinition, &rule.args)?;
-    find_undeclared(&rule.type_decl)?;
+    find_in_declared(converted, &rule.type_decl)?;
     find_in_alternatives(converted, &rule.alternatives)
 }

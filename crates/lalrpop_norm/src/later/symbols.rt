@@ -56,7 +56,10 @@ fn find_in_symbol(converted: &BTreeSet<TerminalString>, symbol: &Symbol) -> Resu
 }
 
 #[cycle(symbols)]
-fn find_in_kind(converted: &BTreeSet<TerminalString>, kind: &SymbolKind) -> Result<(), LaterPart>
+pub(super) fn find_in_kind(
+    converted: &BTreeSet<TerminalString>,
+    kind: &SymbolKind,
+) -> Result<(), LaterPart>
     ensures { Finds result (kind_parts (terminal_in converted.now.keys) (kind_view kind.now)) }
 {
     match kind {

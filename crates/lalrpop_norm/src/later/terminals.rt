@@ -1,18 +1,17 @@
 //! Terminals of conversions.
 ghost use Rattle.std.specs.Prelude.{◌≡◌, map, OnOk, IfOk};
 ghost use Rattle.std.specs.BTreeSet.{insert_key};
-ghost use Rattle.lalrpop_norm_tree.specs.Items.{conversion_view, item_view};
+ghost use Rattle.lalrpop_norm_tree.specs.Items.{conversion_view, grammar_view};
 ghost use Rattle.lalrpop_norm_front.specs.Sessions.{features_view};
 ghost use Rattle.lalrpop_norm.specs.Grammars.{active_conversions, terminals_of, has_repeated, same_terminal};
 ghost use Rattle.lalrpop_norm.specs.Later.{part_if, names_terminal, token_parts, has_conversion};
 ghost use Rattle.lalrpop_norm.specs.LaterWalks.{Stops, has_key, with_keys, repeats, terminal_in};
 ghost use Rattle.lalrpop_norm_late.specs.Conversions.{terminal_cmp};
 
-use super::names::first_enum;
 use super::{LaterPart, Stop};
 use lalrpop_norm_front::Session;
 use lalrpop_norm_front::cond_comp::cfg_active;
-use lalrpop_norm_tree::grammar::parse_tree::{Conversion, GrammarItem, TerminalString};
+use lalrpop_norm_tree::grammar::parse_tree::{Conversion, Grammar, TerminalString};
 use std::alloc::Global;
 use std::collections::BTreeSet;
 
@@ -61,16 +60,16 @@ fn converted_terminals<L>(
     Ok(terminals)
 }
 
-/// The terminals that have an active conversion in the first extern block, where it has an enum and none has two.
+/// The terminals that have an active conversion in the first enum of an extern block, where there is one and none has two.
 pub(super) fn known_terminals<L>(
     alloc: Global,
     session: &Session<L>,
-    items: &[GrammarItem],
+    grammar: &Grammar,
 ) -> Result<BTreeSet<TerminalString>, Stop>
-    ensures finds { Stops result (token_parts (features_view session.now.features) (map item_view items.now)) }
-    ensures has { IfOk result (λ s. terminal_in s.keys ≡ has_conversion (features_view session.now.features) (map item_view items.now)) }
+    ensures finds { Stops result (token_parts (features_view session.now.features) (grammar_view grammar.now).items) }
+    ensures has { IfOk result (λ s. terminal_in s.keys ≡ has_conversion (features_view session.now.features) (grammar_view grammar.now).items) }
 {
-    match first_enum(items) {
+    match grammar.enum_token() {
         Some(tokens) => converted_terminals(alloc, session, &tokens.conversions),
         None => Err(Stop::Found(LaterPart::NoExternEnum)),
     }

@@ -6,13 +6,15 @@ ghost use Rattle.lalrpop_norm_tree.specs.Items.{conversion_view, enum_token_view
 ghost use Rattle.lalrpop_norm_parts.specs.Patterns.{pattern_kind_view, pattern_view, patterns_view};
 ghost use Rattle.lalrpop_norm_tree.specs.Types.{type_view};
 ghost use Rattle.lalrpop_norm.specs.Later.{part_of_any, attribute_parts, pattern_kind_parts, pattern_parts, patterns_parts, conversion_parts, enum_parts, extern_parts};
-ghost use Rattle.lalrpop_norm.specs.LaterWalks.{Finds};
+ghost use Rattle.lalrpop_norm.specs.LaterWalks.{Finds, terminal_in};
 
 use super::LaterPart;
+use super::types::find_in_type;
 use lalrpop_norm_tree::grammar::parse_tree::{
-    Attribute, Conversion, EnumToken, ExternToken, TypeRef,
+    Attribute, Conversion, EnumToken, ExternToken, TerminalString, TypeRef,
 };
 use lalrpop_norm_tree::grammar::pattern::{Pattern, PatternKind};
+use std::collections::BTreeSet;
 
 /// Answers `part` where there is anything.
 pub(super) fn find_any<T>(part: LaterPart, things: &[T]) -> Result<(), LaterPart>
@@ -81,18 +83,27 @@ fn find_in_conversions(conversions: &[Conversion]) -> Result<(), LaterPart>
     Ok(())
 }
 
-fn find_in_enum(tokens: &Option<EnumToken>) -> Result<(), LaterPart>
-    ensures { Finds result (enum_parts (option_map enum_token_view tokens.now)) }
+fn find_in_enum(
+    converted: &BTreeSet<TerminalString>,
+    tokens: &Option<EnumToken>,
+) -> Result<(), LaterPart>
+    ensures { Finds result (enum_parts (terminal_in converted.now.keys) (option_map enum_token_view tokens.now)) }
 {
     match tokens {
-        Some(tokens) => find_in_conversions(&tokens.conversions),
+        Some(tokens) => {
+            find_in_type(converted, &tokens.type_name)?;
+            find_in_conversions(&tokens.conversions)
+        }
         None => Ok(()),
     }
 }
 
-pub(super) fn find_in_extern(block: &ExternToken) -> Result<(), LaterPart>
-    ensures { Finds result (extern_parts (extern_token_view block.now)) }
+pub(super) fn find_in_extern(
+    converted: &BTreeSet<TerminalString>,
+    block: &ExternToken,
+) -> Result<(), LaterPart>
+    ensures { Finds result (extern_parts (terminal_in converted.now.keys) (extern_token_view block.now)) }
 {
     find_any(LaterPart::AssociatedType, &block.associated_types)?;
-    find_in_enum(&block.enum_token)
+    find_in_enum(converted, &block.enum_token)
 }

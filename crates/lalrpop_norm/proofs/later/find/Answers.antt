@@ -14,9 +14,9 @@ returns-in_err-find_in_items g c =
     let fs = features_view c.args.session.now.features in
     let grammar = grammar_view c.args.grammar.now in
     let converted = terminal_in c.in_ok-terminals.terminals.keys in
-    let tokens : token_parts fs grammar.items ≡ [] = rw c.deref.ensures.value at c.in_ok-terminals.ensures.finds in
-    let has : converted ≡ has_conversion fs grammar.items = rw c.deref.ensures.value at c.in_ok-terminals.ensures.has in
-    stops_at _ _ _ _ _ c.from_residual-in_err-find_in_items.ensures.1 (rw c.deref-2.ensures.value at c.in_err-find_in_items.ensures)
+    let tokens : token_parts fs grammar.items ≡ [] = c.in_ok-terminals.ensures.finds in
+    let has : converted ≡ has_conversion fs grammar.items = c.in_ok-terminals.ensures.has in
+    stops_at _ _ _ _ _ c.from_residual-in_err-find_in_items.ensures.1 (rw c.deref.ensures.value at c.in_err-find_in_items.ensures)
     (from_items fs grammar converted c.in_ok-find_in_head.ensures tokens has)
 
 pub returns : goal.returns
@@ -25,10 +25,10 @@ returns g c =
     let grammar = grammar_view c.args.grammar.now in
     let converted = terminal_in c.in_ok-terminals.terminals.keys in
     let names = name_in c.in_ok-names.names.keys in
-    let tokens : token_parts fs grammar.items ≡ [] = rw c.deref.ensures.value at c.in_ok-terminals.ensures.finds in
-    let has : converted ≡ has_conversion fs grammar.items = rw c.deref.ensures.value at c.in_ok-terminals.ensures.has in
-    let items : flat_map (item_parts converted) grammar.items ≡ [] = rw c.deref-2.ensures.value at c.in_ok-find_in_items.ensures in
-    let known : names ≡ has_rule grammar.items = rw c.deref-3.ensures.value at c.in_ok-names.ensures.has in
-    let starts : Stops c.find_taken_starts.result (flat_map (start_parts grammar.prefix names) (rules_of grammar.items)) = rw (c.deref-4.ensures.value, c.as_str.ensures.value) at c.find_taken_starts.ensures in
+    let tokens : token_parts fs grammar.items ≡ [] = c.in_ok-terminals.ensures.finds in
+    let has : converted ≡ has_conversion fs grammar.items = c.in_ok-terminals.ensures.has in
+    let items : flat_map (item_parts converted) grammar.items ≡ [] = rw c.deref.ensures.value at c.in_ok-find_in_items.ensures in
+    let known : names ≡ has_rule grammar.items = rw c.deref-2.ensures.value at c.in_ok-names.ensures.has in
+    let starts : Stops c.find_taken_starts.result (flat_map (start_parts grammar.prefix names) (rules_of grammar.items)) = rw (c.deref-3.ensures.value, c.as_str.ensures.value) at c.find_taken_starts.ensures in
     subst (Stops c.find_taken_starts.result) (sym (from_items fs grammar converted c.in_ok-find_in_head.ensures tokens has ∙ from_starts grammar converted items))
     (subst (λ f. Stops c.find_taken_starts.result (flat_map (start_parts grammar.prefix f) (rules_of grammar.items))) known starts)
