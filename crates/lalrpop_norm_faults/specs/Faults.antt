@@ -1,16 +1,26 @@
 -- Lists of faults, and answers that name the first of one.
-use Rattle.std.specs.Prelude.{String, ◌≡◌, ℕ, Bool, if◌then◌else◌, List, [], ◌∷◌, ◌⊎◌, Option, Some, None, Result, Ok, Err, codes}
+use Rattle.std.specs.Prelude.{String, string_bytes, ◌≡◌, ℕ, Bool, if◌then◌else◌, List, [], ◌∷◌, ◌⊎◌, Option, Some, None, Result, Ok, Err, codes}
 use Rattle.lalrpop_norm_parts.specs.declared.names.Span.{Span}
 use Rattle.lalrpop_norm_faults.specs.declared.kind.FaultKind.{FaultKind}
 use Rattle.lalrpop_norm_faults.specs.declared.kind.FaultKind.TheVariants.{NotYet, GrammarAttribute, SecondMatch, MatchWithExtern, SecondExtern, UnknownAssociatedType, RepeatedAssociatedType, PublicMacro, UnknownRuleAttribute, RepeatedRuleAttribute, InlineOnPublic, MalformedCfg, MissingLevel, LevelArgument, LevelNumber, SideArgument, Side, SideOnLowest, AlternativeAttribute, NamedWithoutAction, AnonymousInBraces, ChosenWithNamed, NameTwice, ErrorWithAscent, MacroWithoutArguments, NoLocation, WrittenIntern, WrittenErrorTerminal, WrittenOfSymbol, WrittenLookaround, NameDeclaredTwice, ArgumentTwice, NoDefinition, ConditionOnOther, NotNonterminal, NotMacro, Arity, MacroNamed, ConditionArgument, ConditionPattern, NamedInGroup, RecursionCap, SharedName, LiteralTwice, TerminalTwice, NoMapping, NoPattern, BadRegex, RegexFeature, Ambiguity, InputLifetime, InputParameter, NoAlternatives, OnlyCoded, NotGrounded, Disagreement, TupleOverSymbol, TupleOverType, TupleLength, Placeholders, StartTaken, TooManyActions}
 use Rattle.std.specs.declared.alloc.AllocError.{AllocError}
 use Rattle.std.specs.declared.alloc.Global.{Global}
+use Rattle.lalrpop_norm_faults.specs.declared.failure.NormError.{NormError}
 use Rattle.lalrpop_norm_faults.specs.declared.failure.NormFailure.{NormFailure}
 use Rattle.lalrpop_norm_faults.specs.declared.failure.NormFailure.TheVariants.{Refused, Memory}
 
 -- a fault where it stands
 abbrev pub Fault : Type 0
 Fault = FaultKind × Span
+
+-- what a refusal says: the fault, its message and its span
+abbrev pub error_view : NormError → FaultKind × (List ℕ × Span)
+error_view e = (e.fault, (string_bytes e.message, e.span))
+
+-- why there is no answer: what a refusal says, or nothing where memory was refused
+abbrev pub failure_view : NormFailure → Option (FaultKind × (List ℕ × Span))
+failure_view (Refused e) = Some (error_view e)
+failure_view Memory = None
 
 -- the first entry
 abbrev pub first : List Fault → Option Fault

@@ -1,5 +1,5 @@
 //! How a pass answers a fault, or want of memory.
-ghost use Rattle.lalrpop_norm_faults.specs.Faults.{IsFirst, IsRefusal};
+ghost use Rattle.lalrpop_norm_faults.specs.Faults.{IsFirst, IsRefusal, error_view, failure_view};
 ghost use Rattle.std.specs.Prelude.{◌≡◌, [], ◌∷◌};
 
 use crate::kind::FaultKind;
@@ -29,6 +29,29 @@ pub enum NormFailure {
 
 /// What a pass answers.
 pub type NormResult<T> = Result<T, NormFailure>;
+
+impl Clone for NormError {
+    ghost is_clone = { λ a b. error_view b ≡ error_view a };
+
+    fn clone(&self) -> Result<NormError, AllocError> {
+        Ok(NormError {
+            fault: self.fault,
+            message: self.message.clone()?,
+            span: self.span,
+        })
+    }
+}
+
+impl Clone for NormFailure {
+    ghost is_clone = { λ a b. failure_view b ≡ failure_view a };
+
+    fn clone(&self) -> Result<NormFailure, AllocError> {
+        match self {
+            NormFailure::Refused(error) => Ok(NormFailure::Refused(error.clone()?)),
+            NormFailure::Memory => Ok(NormFailure::Memory),
+        }
+    }
+}
 
 impl From<NoMemory> for NormFailure {
     ghost use Rattle.lalrpop_norm_faults.specs.declared.failure.NormFailure.TheVariants.{Memory};

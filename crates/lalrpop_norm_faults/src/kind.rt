@@ -51,7 +51,7 @@ pub enum FaultKind {
     ChosenWithNamed,
     /// F17: two named symbols of one name in one alternative or group.
     NameTwice,
-    /// F18: `!` where the parser is no table.
+    /// F18: `!`, where `recursive_ascent` or `test_all` is in force.
     ErrorWithAscent,
     /// F19: a macro call without arguments.
     MacroWithoutArguments,
@@ -123,7 +123,7 @@ pub enum FaultKind {
     TupleOverType,
     /// F53: a tuple pattern of another length than its type.
     TupleLength,
-    /// F54: not as many `<>` as sources.
+    /// F54: several `<>`, not as many as sources, and no named or tuple symbol.
     Placeholders,
     /// F55: the name of a start symbol is taken.
     StartTaken,
