@@ -1,9 +1,11 @@
 //! The table of types, and the texts of productions and actions.
-use crate::values::{answers, answers_debug, debugs, shows};
+use crate::values::{answers, answers_debug, copies_to, debugs, finds, shows};
 use lalrpop_norm_repr::grammar::repr::{
-    ActionFn, ActionFnDefn, ActionFnDefnKind, LookaroundActionFnDefn, NonterminalString, Parameter,
-    Production, Span, Symbol, TerminalString, TypeParameter, TypeRepr, Types,
+    ActionFn, ActionFnDefn, ActionFnDefnKind, ArgPattern, InlineActionFnDefn, InlinedSymbol,
+    LookaroundActionFnDefn, NonterminalString, Parameter, Production, Span, Symbol, TerminalString,
+    TypeParameter, TypeRepr, Types, UserActionFnDefn,
 };
+use lalrpop_norm_tree::grammar::parse_tree::Name;
 use shared_text::{Atom, NoMemory};
 use std::alloc::Global;
 use std::test::*;
@@ -26,14 +28,6 @@ fn located_types(alloc: Global) -> Result<Types, NoMemory> {
 /// The table with that prefix, and tokens of type `str`.
 fn plain_types(alloc: Global, prefix: &str) -> Result<Types, NoMemory> {
     Types::new(alloc, prefix, None, None, TypeRepr::str(alloc)?)
-}
-
-/// How many types were answered; `None` where there was no memory.
-fn count(types: Result<Vec<TypeRepr>, NoMemory>) -> Option<usize> {
-    match types {
-        Ok(types) => Some(types.len()),
-        Err(_) => None,
-    }
 }
 
 /// Whether that is the text of the terminal's type.
@@ -61,14 +55,21 @@ fn error_shows(alloc: Global, types: &Types, want: &str) -> bool {
     answers(alloc, types.error_type(), want)
 }
 
-/// Whether the table lists so many terminals.
-fn has_terminals(types: &Types, want: usize) -> bool {
-    count(types.terminal_types()) == Some(want)
+/// Whether that is the text of the types of the listed terminals.
+fn terminal_types_show(alloc: Global, types: &Types, want: &str) -> bool {
+    answers_debug(alloc, types.terminal_types(), want)
 }
 
-/// Whether the table has a type of locations, and lists one terminal.
-fn is_located(types: &Types) -> bool {
-    types.opt_terminal_loc_type().is_some() && has_terminals(types, 1)
+fn location_shows(alloc: Global, types: &Types, want: &str) -> bool {
+    answers(alloc, types.terminal_loc_type(), want)
+}
+
+/// Whether `usize` is the type of a location, and the error terminal alone is listed.
+fn is_located(alloc: Global, types: &Types) -> bool {
+    let listed = "[__lalrpop_util::ErrorRecovery<usize, Token<'input>, &'static str>]";
+    finds(types.opt_terminal_loc_type(), TypeRepr::usize(alloc))
+        && location_shows(alloc, types, "usize")
+        && terminal_types_show(alloc, types, listed)
 }
 
 /// Whether all that is asked of the table with locations is answered.
@@ -76,7 +77,7 @@ fn located_shows(alloc: Global, types: &Types) -> bool {
     error_types_show(alloc, types)
         && triple_shows(alloc, types, "(usize, Token<'input>, usize)")
         && error_shows(alloc, types, "&'static str")
-        && is_located(types)
+        && is_located(alloc, types)
 }
 
 #[test]
@@ -143,12 +144,33 @@ fn name_is_given_usize(alloc: Global, types: &mut Types, name: &str) -> bool {
     }
 }
 
-/// Whether the table has one nonterminal with a type, and not this one.
+/// The nonterminal's type, which is asked for where it has one.
+fn known_type<'ty>(types: &'ty Types, name: &NonterminalString) -> Option<&'ty TypeRepr> {
+    match types.lookup_nonterminal_type(name) {
+        Some(_) => Some(types.nonterminal_type(name)),
+        None => None,
+    }
+}
+
+/// Whether the nonterminal has the type `usize`.
+fn has_usize(alloc: Global, types: &Types, name: &NonterminalString) -> bool {
+    finds(types.lookup_nonterminal_type(name), TypeRepr::usize(alloc))
+        && finds(known_type(types, name), TypeRepr::usize(alloc))
+}
+
+fn name_has_usize(alloc: Global, types: &Types, name: &str) -> bool {
+    match nonterminal(alloc, name) {
+        Ok(name) => has_usize(alloc, types, &name),
+        Err(_) => false,
+    }
+}
+
+/// Whether one nonterminal has a type, which is `usize`, and not this one.
 fn has_one_other(alloc: Global, types: &Types, name: &str) -> bool {
     match nonterminal(alloc, name) {
         Ok(name) => {
             types.lookup_nonterminal_type(&name).is_none()
-                && count(types.nonterminal_types()) == Some(1)
+                && answers_debug(alloc, types.nonterminal_types(), "[usize]")
         }
         Err(_) => false,
     }
@@ -156,7 +178,9 @@ fn has_one_other(alloc: Global, types: &Types, name: &str) -> bool {
 
 /// Whether that type is added, and is the only one.
 fn nonterminal_is_added(alloc: Global, types: &mut Types) -> bool {
-    name_is_given_usize(alloc, types, "S") && has_one_other(alloc, types, "T")
+    name_is_given_usize(alloc, types, "S")
+        && name_has_usize(alloc, types, "S")
+        && has_one_other(alloc, types, "T")
 }
 
 #[test]
@@ -196,11 +220,12 @@ fn an_unlisted_terminal_has_the_type_of_a_token(rt: HostRuntime) {
     }
 }
 
-/// Whether the table lists two terminals, and that one with the type `usize`.
+/// Whether the table lists that terminal with the type `usize`, and behind it the error terminal.
 fn lists(alloc: Global, types: &Types, terminal: &TerminalString) -> bool {
+    let listed = "[usize, __lalrpop_util::ErrorRecovery<(), str, &'static str>]";
     types.has_term_type(terminal)
         && terminal_shows(alloc, types, terminal, "usize")
-        && has_terminals(types, 2)
+        && terminal_types_show(alloc, types, listed)
 }
 
 /// Whether the copy of the table does.
@@ -256,23 +281,6 @@ fn the_type_of_a_terminal_is_added(rt: HostRuntime) {
     }
 }
 
-fn lookbehind(alloc: Global) -> Result<ActionFnDefn, NoMemory> {
-    Ok(ActionFnDefn {
-        fallible: false,
-        ret_type: TypeRepr::usize(alloc)?,
-        kind: ActionFnDefnKind::Lookaround(LookaroundActionFnDefn::Lookbehind),
-    })
-}
-
-#[test]
-fn actions_show(rt: HostRuntime) {
-    let alloc = rt.alloc();
-    match lookbehind(alloc) {
-        Ok(action) => assert!(rt; answers_debug(alloc, action.clone(), "Lookbehind")),
-        Err(_) => assert!(rt; false),
-    }
-}
-
 /// Action 3 of `N`, of those symbols.
 fn production(alloc: Global, symbols: Vec<Symbol>) -> Result<Production, NoMemory> {
     Ok(Production {
@@ -289,6 +297,127 @@ fn symbols(alloc: Global) -> Result<Vec<Symbol>, NoMemory> {
     let mut symbols = vec![in alloc; first]?;
     symbols.push(Symbol::Terminal(terminal(alloc, "b")?))?;
     Ok(symbols)
+}
+
+fn name(alloc: Global, name: &str) -> Result<ArgPattern, NoMemory> {
+    Ok(ArgPattern::Name(Name::immut(Atom::new(alloc, name)?)))
+}
+
+/// `x, y`.
+fn names(alloc: Global) -> Result<Vec<ArgPattern>, NoMemory> {
+    let first = name(alloc, "x")?;
+    let mut names = vec![in alloc; first]?;
+    names.push(name(alloc, "y")?)?;
+    Ok(names)
+}
+
+/// `usize, str`.
+fn argument_types(alloc: Global) -> Result<Vec<TypeRepr>, NoMemory> {
+    let first = TypeRepr::usize(alloc)?;
+    let mut types = vec![in alloc; first]?;
+    types.push(TypeRepr::str(alloc)?)?;
+    Ok(types)
+}
+
+/// `f(x, y)`, where `x: usize` and `y: str`.
+fn user_action(alloc: Global) -> Result<UserActionFnDefn, NoMemory> {
+    let arg_patterns = names(alloc)?;
+    let arg_types = argument_types(alloc)?;
+    let code = String::from_str(alloc, "f(x, y)")?;
+    Ok(UserActionFnDefn {
+        arg_patterns,
+        arg_types,
+        code,
+    })
+}
+
+/// `Y`.
+fn original(alloc: Global) -> Result<InlinedSymbol, NoMemory> {
+    let symbol = Symbol::Nonterminal(nonterminal(alloc, "Y")?);
+    Ok(InlinedSymbol::Original(symbol))
+}
+
+/// `ActionFn(44)(A, b)`.
+fn inlined(alloc: Global) -> Result<InlinedSymbol, NoMemory> {
+    Ok(InlinedSymbol::Inlined(ActionFn::new(44), symbols(alloc)?))
+}
+
+/// `Y, ActionFn(44)(A, b)`.
+fn arguments(alloc: Global) -> Result<Vec<InlinedSymbol>, NoMemory> {
+    let first = original(alloc)?;
+    let mut arguments = vec![in alloc; first]?;
+    arguments.push(inlined(alloc)?)?;
+    Ok(arguments)
+}
+
+/// `ActionFn(22)(Y, ActionFn(44)(A, b))`.
+fn inline_action(alloc: Global) -> Result<InlineActionFnDefn, NoMemory> {
+    Ok(InlineActionFnDefn {
+        action: ActionFn::new(22),
+        symbols: arguments(alloc)?,
+    })
+}
+
+fn user_kind(alloc: Global) -> Result<ActionFnDefnKind, NoMemory> {
+    Ok(ActionFnDefnKind::User(user_action(alloc)?))
+}
+
+fn inline_kind(alloc: Global) -> Result<ActionFnDefnKind, NoMemory> {
+    Ok(ActionFnDefnKind::Inline(inline_action(alloc)?))
+}
+
+#[test]
+fn parts_of_actions_are_copied(rt: HostRuntime) {
+    let alloc = rt.alloc();
+    assert!(rt; copies_to(original(alloc), original(alloc)));
+    assert!(rt; copies_to(inlined(alloc), inlined(alloc)));
+    assert!(rt; copies_to(inline_action(alloc), inline_action(alloc)));
+    assert!(rt; copies_to(user_action(alloc), user_action(alloc)));
+    assert!(rt; copies_to(inline_kind(alloc), inline_kind(alloc)));
+    assert!(rt; copies_to(user_kind(alloc), user_kind(alloc)));
+}
+
+/// An action of that kind, with a value of type `usize`.
+fn action(alloc: Global, kind: ActionFnDefnKind) -> Result<ActionFnDefn, NoMemory> {
+    let ret_type = TypeRepr::usize(alloc)?;
+    Ok(ActionFnDefn {
+        fallible: false,
+        ret_type,
+        kind,
+    })
+}
+
+fn lookbehind(alloc: Global) -> Result<ActionFnDefn, NoMemory> {
+    let lookaround = LookaroundActionFnDefn::Lookbehind;
+    action(alloc, ActionFnDefnKind::Lookaround(lookaround))
+}
+
+fn user(alloc: Global) -> Result<ActionFnDefn, NoMemory> {
+    let kind = user_kind(alloc)?;
+    action(alloc, kind)
+}
+
+fn inline(alloc: Global) -> Result<ActionFnDefn, NoMemory> {
+    let kind = inline_kind(alloc)?;
+    action(alloc, kind)
+}
+
+/// Whether the action's copy has that text for a debugger.
+fn action_shows(alloc: Global, action: Result<ActionFnDefn, NoMemory>, want: &str) -> bool {
+    match action {
+        Ok(action) => answers_debug(alloc, action.clone(), want),
+        Err(_) => false,
+    }
+}
+
+#[test]
+fn actions_show(rt: HostRuntime) {
+    let alloc = rt.alloc();
+    let code = "fn _(x: usize, y: str) -> usize { f(x, y) }";
+    let calls = "fn _(..) { ActionFn(22)(Y, ActionFn(44)(A, b)) }";
+    assert!(rt; action_shows(alloc, lookbehind(alloc), "Lookbehind"));
+    assert!(rt; action_shows(alloc, user(alloc), code));
+    assert!(rt; action_shows(alloc, inline(alloc), calls));
 }
 
 #[test]

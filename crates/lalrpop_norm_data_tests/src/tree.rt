@@ -1,4 +1,5 @@
 //! Texts, accessors and copies of written trees.
 mod accessors;
 mod copies;
+mod lookups;
 mod texts;

@@ -65,6 +65,25 @@ pub(crate) fn answer_copies<T: Clone + PartialEq + Drop>(answer: Result<T, NoMem
     }
 }
 
+/// Whether both values were answered, and a copy of the first is equal to the second.
+pub(crate) fn copies_to<T: Clone + PartialEq + Drop>(
+    answer: Result<T, NoMemory>,
+    want: Result<T, NoMemory>,
+) -> bool {
+    match (answer, want) {
+        (Ok(value), Ok(want)) => is_copy(value.clone(), &want),
+        _ => false,
+    }
+}
+
+/// Whether a value was found that is equal to the answered one.
+pub(crate) fn finds<T: PartialEq + Drop>(found: Option<&T>, want: Result<T, NoMemory>) -> bool {
+    match (found, want) {
+        (Some(found), Ok(want)) => *found == want,
+        _ => false,
+    }
+}
+
 /// The written type that is one name.
 pub(crate) fn named_type(alloc: Global, name: &str) -> Result<TypeRef, NoMemory> {
     Ok(TypeRef::Id(Atom::new(alloc, name)?))

@@ -3,7 +3,7 @@ use crate::forms::items;
 use crate::trees::{call_groups, fault_text, last_rule, push_symbols, tree};
 use lalrpop_norm_levels::precedence::{
     AlternativeLevel, Assoc, Direction, Substitution, expand_levels, expand_nonterm, has_prec_attr,
-    read_levels, replace_nonterm,
+    has_several_levels, read_levels, replace_nonterm,
 };
 use lalrpop_norm_tree::grammar::parse_tree::*;
 use std::alloc::Global;
@@ -265,6 +265,22 @@ fn first_alternatives(rt: HostRuntime) -> Result<(), Fail> {
     assert!(rt; first_says(rt.alloc(), leveled!("1"))?);
     assert!(rt; first_says(rt.alloc(), ONLY_SIDE)?);
     assert!(rt; !first_says(rt.alloc(), PLAIN)?);
+    Ok(())
+}
+
+/// Whether it has two levels or more.
+fn has_several(alloc: Global, items: &str) -> Result<bool, Fail> {
+    let rule = last_rule(alloc, items)?;
+    Ok(has_several_levels(alloc, &rule)?)
+}
+
+/// Two levels; one, which two alternatives state; none.
+#[test]
+fn several_levels(rt: HostRuntime) -> Result<(), Fail> {
+    let one = choices!(#[[60, 70] "precedence" "level" = "+01"]);
+    assert!(rt; has_several(rt.alloc(), UNORDERED)?);
+    assert!(rt; !has_several(rt.alloc(), one)?);
+    assert!(rt; !has_several(rt.alloc(), PLAIN)?);
     Ok(())
 }
 

@@ -2,7 +2,7 @@
 use crate::forms::items;
 use crate::trees::{call_groups, fault_text, is_tree, mapped, match_block, tree};
 use lalrpop_norm_faults::{NormFailure, NormResult};
-use lalrpop_norm_names::resolve::resolve;
+use lalrpop_norm_names::resolve::{check_globals, resolve};
 use lalrpop_norm_tree::grammar::parse_tree::*;
 use std::alloc::Global;
 use std::test::*;
@@ -332,5 +332,30 @@ fn names_beside(rt: HostRuntime) -> Result<(), Fail> {
     assert_eq!(rt; text.as_str(), "F25 3..4");
     let text = told_before_match(rt.alloc(), beside!(), "M")?;
     assert_eq!(rt; text.as_str(), "F25 3..4");
+    Ok(())
+}
+
+// ---- global names alone
+
+/// What `check_globals` answers on those items.
+fn told_of_globals(alloc: Global, items: &str) -> Result<String, Fail> {
+    let grammar = tree(alloc, items)?;
+    globals_text(alloc, &grammar)
+}
+
+fn globals_text(alloc: Global, grammar: &Grammar) -> Result<String, Fail> {
+    match check_globals(alloc, grammar) {
+        Ok(()) => Ok(String::from_str(alloc, "Ok")?),
+        Err(failure) => fault_text(alloc, failure),
+    }
+}
+
+/// A symbol that nothing is named like, of which it says nothing; and a second rule named `A`.
+#[test]
+fn global_names(rt: HostRuntime) -> Result<(), Fail> {
+    let text = told_of_globals(rt.alloc(), of_id!("Z"))?;
+    assert_eq!(rt; text.as_str(), "Ok");
+    let text = told_of_globals(rt.alloc(), beside!(; rule "A" [58, 59]))?;
+    assert_eq!(rt; text.as_str(), "F25 58..59");
     Ok(())
 }

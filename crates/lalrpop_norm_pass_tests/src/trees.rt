@@ -20,7 +20,8 @@ fn written(alloc: Global, attributes: &str, items: &str) -> Result<String, Fail>
     )?)
 }
 
-fn tree_of(alloc: Global, text: &str) -> Result<Grammar, Fail> {
+/// The grammar of that text, a whole tree in JSON.
+pub(crate) fn tree_of(alloc: Global, text: &str) -> Result<Grammar, Fail> {
     Ok(read_tree(alloc, text)?)
 }
 
@@ -32,6 +33,12 @@ pub(crate) fn tree(alloc: Global, items: &str) -> Result<Grammar, Fail> {
 /// Whether it is the grammar of those items.
 pub(crate) fn is_tree(alloc: Global, grammar: &Grammar, items: &str) -> Result<bool, Fail> {
     let want = tree(alloc, items)?;
+    Ok(*grammar == want)
+}
+
+/// Whether it is the grammar of that text.
+pub(crate) fn is_tree_of(alloc: Global, grammar: &Grammar, text: &str) -> Result<bool, Fail> {
+    let want = tree_of(alloc, text)?;
     Ok(*grammar == want)
 }
 

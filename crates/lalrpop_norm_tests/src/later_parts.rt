@@ -40,7 +40,7 @@ const SEVERAL: &str = "code with several `<>` is not taken yet";
 const NO_ENUM: &str = "a grammar without an extern enum is not taken yet";
 
 /// Grammars that are read, and what each is refused with; nothing where it is not refused so.
-const READ: [(Parts, &str); 23] = [
+const READ: [(Parts, &str); 25] = [
     (SMALL, NOTHING),
     // pub S: () = "a" => f(<>);
     (
@@ -155,6 +155,22 @@ const READ: [(Parts, &str); 23] = [
         },
         "a rule with the name of a start symbol is not taken yet",
     ),
+    // pub S with a declared type in which the type of "b" stands.
+    (
+        Parts {
+            rule: r#""name":"S","args":[],"type_decl":{"Tuple":[{"OfSymbol":{"Terminal":{"Literal":{"Quoted":"b"}}}}]}"#,
+            ..SMALL
+        },
+        NO_CONVERSION,
+    ),
+    // An enum with a type in which the type of "b" stands.
+    (
+        Parts {
+            tokens: r#"{"ExternToken":{"span":[0,36],"associated_types":[],"enum_token":{"type_name":{"Nominal":{"path":{"absolute":false,"ids":["Tok"]},"types":[{"OfSymbol":{"Terminal":{"Literal":{"Quoted":"b"}}}}]}},"type_span":[14,17],"conversions":[{"span":[20,32],"attributes":[],"from":{"Literal":{"Quoted":"a"}},"to":{"span":[27,32],"kind":{"Enum":[{"absolute":false,"ids":["A"]},[{"span":[29,31],"kind":"DotDot"}]]}}}]}}},"#,
+            ..SMALL
+        },
+        NO_CONVERSION,
+    ),
     // use a::b;
     (
         Parts {
@@ -221,6 +237,37 @@ const READ: [(Parts, &str); 23] = [
     ),
 ];
 
+/// Grammars that hold no such part and have a fault all the same: its kind and its span.
+const FAULTY: [(Parts, FaultKind, Span); 3] = [
+    // pub S with the type of "a" as its declared type.
+    (
+        Parts {
+            rule: r#""name":"S","args":[],"type_decl":{"OfSymbol":{"Terminal":{"Literal":{"Quoted":"a"}}}}"#,
+            ..SMALL
+        },
+        FaultKind::WrittenOfSymbol,
+        Span(41, 46),
+    ),
+    // An enum with a type in which the type of "a" stands.
+    (
+        Parts {
+            tokens: r#"{"ExternToken":{"span":[0,36],"associated_types":[],"enum_token":{"type_name":{"Nominal":{"path":{"absolute":false,"ids":["Tok"]},"types":[{"OfSymbol":{"Terminal":{"Literal":{"Quoted":"a"}}}}]}},"type_span":[14,17],"conversions":[{"span":[20,32],"attributes":[],"from":{"Literal":{"Quoted":"a"}},"to":{"span":[27,32],"kind":{"Enum":[{"absolute":false,"ids":["A"]},[{"span":[29,31],"kind":"DotDot"}]]}}}]}}},"#,
+            ..SMALL
+        },
+        FaultKind::WrittenOfSymbol,
+        Span(14, 17),
+    ),
+    // extern { } extern { enum Tok { "a" => A(..) } }
+    (
+        Parts {
+            tokens: r#"{"ExternToken":{"span":[0,9],"associated_types":[],"enum_token":null}},{"ExternToken":{"span":[10,36],"associated_types":[],"enum_token":{"type_name":{"Id":"Tok"},"type_span":[14,17],"conversions":[{"span":[20,32],"attributes":[],"from":{"Literal":{"Quoted":"a"}},"to":{"span":[27,32],"kind":{"Enum":[{"absolute":false,"ids":["A"]},[{"span":[29,31],"kind":"DotDot"}]]}}}]}}},"#,
+            ..SMALL
+        },
+        FaultKind::SecondExtern,
+        Span(10, 36),
+    ),
+];
+
 /// The grammar of those parts, read; nothing where it is not read.
 fn tree(alloc: Global, parts: &Parts) -> Result<Option<Grammar>, AllocError> {
     let Parts {
@@ -252,12 +299,48 @@ fn is_told(alloc: Global, grammar: Grammar, want: &str) -> bool {
     }
 }
 
+/// Whether the grammar of those parts is read, and told so.
+fn is_read_and_told(alloc: Global, parts: &Parts, want: &str) -> Result<bool, AllocError> {
+    match tree(alloc, parts)? {
+        Some(grammar) => Ok(is_told(alloc, grammar, want)),
+        None => Ok(false),
+    }
+}
+
+/// The words of the first row that is not read, or not told so; nothing where each is.
+fn first_untold(
+    alloc: Global,
+    rows: &[(Parts, &'static str)],
+) -> Result<Option<&'static str>, AllocError> {
+    for (parts, want) in rows {
+        if !is_read_and_told(alloc, parts, want)? {
+            return Ok(Some(want));
+        }
+    }
+    Ok(None)
+}
+
 #[test]
 fn parts_that_are_read(rt: HostRuntime) -> Result<(), Fail> {
-    for (parts, want) in &READ {
+    let untold = first_untold(rt.alloc(), &READ)?;
+    assert!(rt; untold.is_none(), "not {untold:?}");
+    Ok(())
+}
+
+/// Whether the grammar is refused with that fault at that span.
+fn has_fault(alloc: Global, grammar: Grammar, fault: FaultKind, span: Span) -> bool {
+    match run(alloc, grammar) {
+        Err(NormFailure::Refused(error)) => error.fault == fault && error.span == span,
+        Ok(_) | Err(NormFailure::Memory) => false,
+    }
+}
+
+#[test]
+fn faults_without_such_a_part(rt: HostRuntime) -> Result<(), Fail> {
+    for (parts, fault, span) in &FAULTY {
         match tree(rt.alloc(), parts)? {
-            Some(grammar) => assert!(rt; is_told(rt.alloc(), grammar, want), "not {want}"),
-            None => assert!(rt; false, "before {want}"),
+            Some(grammar) => assert!(rt; has_fault(rt.alloc(), grammar, *fault, *span)),
+            None => assert!(rt; false, "not read"),
         }
     }
     Ok(())
@@ -431,6 +514,42 @@ fn other_symbols(rt: HostRuntime) -> Result<(), Fail> {
     let part = wrapped(alloc, Around::Name, SymbolKind::Lookbehind)?;
     assert!(rt; is_refused(alloc, part, "a lookaround is not taken yet"));
     Ok(())
+}
+
+/// Gives the rule the type of that symbol; answers whether there is a rule.
+fn declare(grammar: &mut Grammar, kind: SymbolKind) -> bool {
+    match grammar.items.last_mut() {
+        Some(GrammarItem::Nonterminal(rule)) => {
+            rule.type_decl = Some(TypeRef::OfSymbol(kind));
+            true
+        }
+        _ => false,
+    }
+}
+
+/// The small grammar, whose rule has the type of that symbol.
+fn small_of_type(alloc: Global, kind: SymbolKind) -> Option<Grammar> {
+    let mut grammar = read_small(alloc)?;
+    if declare(&mut grammar, kind) {
+        Some(grammar)
+    } else {
+        None
+    }
+}
+
+/// Whether it is refused with these words.
+fn is_refused_in_type(alloc: Global, kind: SymbolKind, want: &str) -> bool {
+    match small_of_type(alloc, kind) {
+        Some(grammar) => is_told(alloc, grammar, want),
+        None => false,
+    }
+}
+
+#[test]
+fn symbols_in_types(rt: HostRuntime) {
+    let want = "a lookaround is not taken yet";
+    assert!(rt; is_refused_in_type(rt.alloc(), SymbolKind::Lookahead, want));
+    assert!(rt; is_refused_in_type(rt.alloc(), SymbolKind::Lookbehind, want));
 }
 
 /// `if X == "a"`.

@@ -1,5 +1,5 @@
 //! Small grammars from end to end: numbers, productions, actions, terminals, types and start symbols.
-use crate::runs::{read, run};
+use crate::runs::lowered;
 use lalrpop_norm_repr::grammar::repr::{self, ActionFnDefnKind};
 use lalrpop_norm_tree::grammar::parse_tree::*;
 use std::alloc::Global;
@@ -29,14 +29,6 @@ const CODES: &str =
 "condition":null,"action":{"User":"f(<>)"},"attributes":[]},
 {"span":[49,52],"expr":{"symbols":[{"span":[49,52],"kind":{"Choose":{"span":[49,52],"kind":{"Nonterminal":"S"}}}}]},
 "condition":null,"action":null,"attributes":[]}]}}],"attributes":[],"module_attributes":[]}"#;
-
-/// The lowered grammar of the tree with that text; nothing where it is not read, or refused.
-fn lowered(alloc: Global, text: &str) -> Option<repr::Grammar> {
-    match run(alloc, read(alloc, text)?) {
-        Ok(lowered) => Some(lowered),
-        Err(_) => None,
-    }
-}
 
 /// Each name, and its productions, its type and its start symbol.
 const NAMES: [(&str, &str); 5] = [

@@ -22,3 +22,11 @@ pub(crate) fn run(alloc: Global, grammar: Grammar) -> NormResult<repr::Grammar> 
     };
     normalize(alloc, &session, grammar)
 }
+
+/// The lowered grammar of the tree with that text; nothing where it is not read, or refused.
+pub(crate) fn lowered(alloc: Global, text: &str) -> Option<repr::Grammar> {
+    match run(alloc, read(alloc, text)?) {
+        Ok(lowered) => Some(lowered),
+        Err(_) => None,
+    }
+}

@@ -1,7 +1,8 @@
 //! Each call that makes a part of a tree, once with enough memory.
-use crate::values::{answers, copies, is_copy, named_type, shows};
+use super::texts::path;
+use crate::values::{answers, copies_to, is_copy, named_type};
 use lalrpop_norm_tree::grammar::parse_tree::*;
-use lalrpop_norm_tree::grammar::repr::TypeRepr;
+use lalrpop_norm_tree::grammar::repr::{NominalTypeRepr, TypeRepr};
 use std::alloc::Global;
 use std::test::*;
 
@@ -13,36 +14,81 @@ fn names_have_their_texts(rt: HostRuntime) {
     assert!(rt; answers(alloc, Lifetime::input(alloc), "'input"));
 }
 
+/// `alloc::vec::Vec`.
+fn vec_path(alloc: Global) -> Result<Path, NoMemory> {
+    let mut path = path(alloc, false, "alloc")?;
+    path.ids.push(Atom::new(alloc, "vec")?)?;
+    path.ids.push(Atom::new(alloc, "Vec")?)?;
+    Ok(path)
+}
+
+/// Whether the path is that one name.
+fn is_id(path: Result<Path, NoMemory>, want: &str) -> bool {
+    match path {
+        Ok(path) => match path.as_id() {
+            Some(id) => id.as_str() == want,
+            None => false,
+        },
+        Err(_) => false,
+    }
+}
+
 #[test]
 fn paths_have_their_parts(rt: HostRuntime) -> Result<(), Fail> {
     let alloc = rt.alloc();
     assert!(rt; answers(alloc, Path::vec(alloc), "alloc::vec::Vec"));
-    let usize = Path::from_id(alloc, Atom::new(alloc, "usize")?)?;
-    assert!(rt; Path::usize(alloc) == Ok(usize));
-    let str = Path::str(alloc)?;
-    assert!(rt; copies(&str));
-    let option = Path::option(alloc)?;
-    assert!(rt; option.as_id().is_some());
+    assert!(rt; copies_to(Path::vec(alloc), vec_path(alloc)));
+    let name = Atom::new(alloc, "x")?;
+    assert!(rt; Path::from_id(alloc, name) == path(alloc, false, "x"));
     Ok(())
-}
-
-/// `_`.
-fn catch_all(alloc: Global) -> Result<MatchContents, NoMemory> {
-    Ok(MatchContents {
-        items: vec![in alloc; MatchItem::CatchAll(Span(3, 4))]?,
-    })
 }
 
 #[test]
-fn match_blocks_grow_at_their_end(rt: HostRuntime) -> Result<(), Fail> {
+fn paths_of_types_are_names(rt: HostRuntime) {
     let alloc = rt.alloc();
-    let token = MatchToken::new(alloc, catch_all(alloc)?, Span(0, 9))?;
-    let second = MatchContents {
-        items: Vec::new(alloc),
-    };
-    let token = token.add(alloc, second)?;
-    assert_eq!(rt; token.contents.len(), 2);
-    Ok(())
+    assert!(rt; Path::usize(alloc) == path(alloc, false, "usize"));
+    assert!(rt; Path::str(alloc) == path(alloc, false, "str"));
+    assert!(rt; Path::option(alloc) == path(alloc, false, "Option"));
+    assert!(rt; is_id(Path::option(alloc), "Option"));
+}
+
+/// `_`, at that place.
+fn catch_all(alloc: Global, span: Span) -> Result<MatchContents, NoMemory> {
+    Ok(MatchContents {
+        items: vec![in alloc; MatchItem::CatchAll(span)]?,
+    })
+}
+
+/// `match { _ } else { _ }`.
+pub(super) fn two_groups(alloc: Global) -> Result<MatchToken, NoMemory> {
+    let first = catch_all(alloc, Span(3, 4))?;
+    let mut contents = vec![in alloc; first]?;
+    contents.push(catch_all(alloc, Span(6, 7))?)?;
+    Ok(MatchToken {
+        contents,
+        span: Span(0, 9),
+    })
+}
+
+/// The same, made of its first group and then of its second.
+fn grown_block(alloc: Global) -> Result<MatchToken, NoMemory> {
+    let first = catch_all(alloc, Span(3, 4))?;
+    let block = MatchToken::new(alloc, first, Span(0, 9))?;
+    let second = catch_all(alloc, Span(6, 7))?;
+    block.add(alloc, second)
+}
+
+#[test]
+fn match_blocks_grow_at_their_end(rt: HostRuntime) {
+    let alloc = rt.alloc();
+    assert!(rt; grown_block(alloc) == two_groups(alloc));
+}
+
+/// The lowered type that is one name.
+fn lowered_name(alloc: Global, name: &str) -> Result<TypeRepr, NoMemory> {
+    let path = path(alloc, false, name)?;
+    let types = Vec::new(alloc);
+    Ok(TypeRepr::Nominal(NominalTypeRepr { path, types }))
 }
 
 /// Whether the written type of that name is lowered to this type.
@@ -56,7 +102,7 @@ fn name_lowers_to(alloc: Global, name: &str, want: &TypeRepr) -> bool {
 #[test]
 fn types_lose_their_single_names(rt: HostRuntime) {
     let alloc = rt.alloc();
-    match TypeRepr::str(alloc) {
+    match lowered_name(alloc, "str") {
         Ok(lowered) => assert!(rt; name_lowers_to(alloc, "str", &lowered)),
         Err(_) => assert!(rt; false),
     }
@@ -66,9 +112,9 @@ fn types_lose_their_single_names(rt: HostRuntime) {
 fn parameters_stand_for_types(rt: HostRuntime) -> Result<(), Fail> {
     let alloc = rt.alloc();
     let parameter = TypeParameter::Id(Atom::new(alloc, "usize")?);
-    let lowered = TypeRepr::from_parameter(alloc, &parameter)?;
-    assert!(rt; shows(alloc, &lowered, "usize"));
-    assert!(rt; TypeRepr::usize(alloc) == Ok(lowered));
+    assert!(rt; TypeRepr::from_parameter(alloc, &parameter) == lowered_name(alloc, "usize"));
+    assert!(rt; TypeRepr::usize(alloc) == lowered_name(alloc, "usize"));
+    assert!(rt; TypeRepr::str(alloc) == lowered_name(alloc, "str"));
     Ok(())
 }
 

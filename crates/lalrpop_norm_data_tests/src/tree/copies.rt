@@ -1,7 +1,11 @@
 //! Each call that copies, once with enough memory.
 use super::accessors::names;
-use crate::values::{answer_copies, copies, is_copy, named_type};
+use super::lookups::levels;
+use super::texts::binder;
+use crate::values::{answer_copies, answers_debug, copies, copies_to, is_copy, named_type};
 use lalrpop_norm_json::read_tree;
+use lalrpop_norm_parts::attribute::copy::copy_attributes;
+use lalrpop_norm_parts::names::copy::copy_type_parameters;
 use lalrpop_norm_tree::grammar::parse_tree::*;
 use lalrpop_norm_tree::grammar::pattern::{FieldPattern, Pattern, PatternKind};
 use lalrpop_norm_tree::grammar::repr::{NominalTypeRepr, TypeRepr};
@@ -96,7 +100,7 @@ fn extern_enums_are_copied(rt: HostRuntime) {
 }
 
 /// `type Location = usize`.
-fn location(alloc: Global) -> Result<AssociatedType, NoMemory> {
+pub(super) fn location(alloc: Global) -> Result<AssociatedType, NoMemory> {
     let type_ref = named_type(alloc, "usize")?;
     Ok(AssociatedType {
         type_span: Span(1, 4),
@@ -320,15 +324,42 @@ fn match_blocks_are_copied(rt: HostRuntime) -> Result<(), Fail> {
     Ok(())
 }
 
-#[test]
-fn tokenizers_are_copied(rt: HostRuntime) -> Result<(), Fail> {
-    let alloc = rt.alloc();
-    let tokenizer = InternToken {
+fn dfa(alloc: Global) -> Result<Dfa, NoMemory> {
+    Ok(Dfa {
+        code: vec![in alloc; 7, 9]?,
+    })
+}
+
+/// A tokenizer without entries.
+pub(super) fn tokenizer(alloc: Global) -> Result<InternToken, NoMemory> {
+    let dfa = dfa(alloc)?;
+    Ok(InternToken {
         match_entries: Vec::new(alloc),
-        dfa: Dfa {
-            code: vec![in alloc; 7]?,
-        },
-    };
-    assert!(rt; copies(&tokenizer));
-    Ok(())
+        dfa,
+    })
+}
+
+#[test]
+fn tokenizers_are_copied(rt: HostRuntime) {
+    let alloc = rt.alloc();
+    assert!(rt; answers_debug(alloc, dfa(alloc), "Dfa { code: [7, 9] }"));
+    assert!(rt; copies_to(dfa(alloc), dfa(alloc)));
+    assert!(rt; copies_to(tokenizer(alloc), tokenizer(alloc)));
+}
+
+fn copied_levels(alloc: Global) -> Result<Vec<Attribute>, NoMemory> {
+    let levels = levels(alloc)?;
+    Ok(copy_attributes(alloc, &levels)?)
+}
+
+fn copied_binder(alloc: Global) -> Result<Vec<TypeParameter>, NoMemory> {
+    let binder = binder(alloc)?;
+    Ok(copy_type_parameters(&binder)?)
+}
+
+#[test]
+fn lists_of_parts_are_copied(rt: HostRuntime) {
+    let alloc = rt.alloc();
+    assert!(rt; copied_levels(alloc) == levels(alloc));
+    assert!(rt; copied_binder(alloc) == binder(alloc));
 }

@@ -14,14 +14,15 @@ fn symbol(kind: SymbolKind) -> Symbol {
     }
 }
 
-fn path(alloc: Global, absolute: bool, name: &str) -> Result<Path, NoMemory> {
+/// `name`, or `::name`.
+pub(super) fn path(alloc: Global, absolute: bool, name: &str) -> Result<Path, NoMemory> {
     let id = Atom::new(alloc, name)?;
     let ids = vec![in alloc; id]?;
     Ok(Path { absolute, ids })
 }
 
 /// The binder of `for<'a>`.
-fn binder(alloc: Global) -> Result<Vec<TypeParameter>, NoMemory> {
+pub(super) fn binder(alloc: Global) -> Result<Vec<TypeParameter>, NoMemory> {
     let lifetime = Lifetime(Atom::new(alloc, "'a")?);
     Ok(vec![in alloc; TypeParameter::Lifetime(lifetime)]?)
 }
@@ -52,10 +53,15 @@ fn shows_repeats(rt: HostRuntime) {
     assert!(rt; has_form(repeat.canonical_form(alloc), "@L+"));
 }
 
+/// `(x, mut y):@R`.
+pub(super) fn tuple_symbol(alloc: Global) -> Result<Symbol, NoMemory> {
+    let parts = Box::new(alloc, symbol(SymbolKind::Lookbehind))?;
+    Ok(symbol(SymbolKind::Tuple(names(alloc)?, parts)))
+}
+
 /// `<(x, mut y):@R>`.
 fn chosen_tuple(alloc: Global) -> Result<Symbol, NoMemory> {
-    let parts = Box::new(alloc, symbol(SymbolKind::Lookbehind))?;
-    let named = symbol(SymbolKind::Tuple(names(alloc)?, parts));
+    let named = tuple_symbol(alloc)?;
     Ok(symbol(SymbolKind::Choose(Box::new(alloc, named)?)))
 }
 
