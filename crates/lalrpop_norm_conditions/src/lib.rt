@@ -58,7 +58,7 @@ pub fn holds(
     }
 }
 
-// Whether the pattern is found anywhere in the text.
+/// Whether the pattern is found anywhere in the text.
 fn finds(alloc: Global, pattern: &str, text: &str) -> Result<bool, ConditionError>
     ensures value { IfOk result (λ found. found ≡ is_found pattern.now text.now) }
     ensures read { OnOk result (has_reading pattern.now ≡ true) }

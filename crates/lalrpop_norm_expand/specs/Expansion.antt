@@ -47,7 +47,7 @@ shared_in value g k = shared_names (rule_names g) (met_before value g k) (meetin
 
 -- ---- F35: no rule is made
 
--- a group with a named symbol in it; and in this stage of the library a macro call, with F0
+-- a group with a named or tuple symbol in it; and in this stage of the library a macro call, with F0
 abbrev pub unmade : Part → List Fault
 unmade (at s (group ps)) = fault_if (some_name_value ps) (NamedInGroup, s)
 unmade (at s (call n ps)) = (NotYet, s) ∷ []

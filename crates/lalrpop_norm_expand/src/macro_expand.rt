@@ -126,8 +126,8 @@ fn expand_rounds(alloc: Global, grammar: Grammar, limit: u16) -> NormResult<Gram
 ///
 /// Errors: F37 (`SharedName`) at a symbol whose text is the name of a rule, or the text of another symbol that was met
 /// before and is not the same; F36 (`RecursionCap`) at the last new symbol of the round after `limit` rounds; F35
-/// (`NamedInGroup`) at a group with a named symbol in it; `Memory`. In this stage of the library also F0 (`NotYet`), at a
-/// macro, before all others, and at a macro call that is to be made into a rule.
+/// (`NamedInGroup`) at a group with a named or tuple symbol in it; `Memory`. In this stage of the library also F0
+/// (`NotYet`), at a macro, before all others, and at a macro call that is to be made into a rule.
 pub fn expand_macros(alloc: Global, grammar: Grammar, limit: u16) -> NormResult<Grammar>
     // Ok exactly where no fault stands, and a refusal names the first one, memory aside. No condition is asked for where
     // there is no macro, so these hold whatever the value of conditions.

@@ -28,7 +28,7 @@ use types::clause_holds;
 /// What the symbols of a grammar stand in.
 #[derive(Clone, Copy)]
 pub(crate) struct Place {
-    /// The parser is one by recursive ascent.
+    /// `recursive_ascent` or `test_all` is in force.
     has_ascent: bool,
     /// The tokens are an extern enum's, and no type of locations is declared.
     lacks_location: bool,

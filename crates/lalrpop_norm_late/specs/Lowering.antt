@@ -1,4 +1,4 @@
--- What plain rules are lowered to: numbered productions, action functions, terminals.
+-- What plain rules are lowered to: symbols, numbered productions, start symbols; and tables sorted by names.
 use Rattle.std.specs.Prelude.{ℕ, ◌+◌, Bool, true, false, List, [], ◌∷◌, ◌++◌, length, Option, Some, None, unwrap_or, filter_map, if◌then◌else◌}
 use Rattle.std.specs.BTreeMap.{insert_entry}
 use Rattle.std.specs.Ordering.{nat_cmp}
@@ -121,5 +121,3 @@ with_row rows r = insert_entry (λ (a : NonterminalString) (b : NonterminalStrin
 abbrev pub sorted_onto : {V : Type 0} → List (NonterminalString × V) → List (NonterminalString × V) → List (NonterminalString × V)
 sorted_onto rows [] = rows
 sorted_onto rows (r ∷ rs) = sorted_onto (with_row rows r) rs
-
--- ---- faults

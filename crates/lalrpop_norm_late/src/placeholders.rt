@@ -16,7 +16,7 @@ use lalrpop_norm_tree::grammar::parse_tree::{
 };
 use std::alloc::Global;
 
-/// Refuses an alternative without named symbols whose code has several `<>`, not as many as it has sources.
+/// Refuses an alternative without named and tuple symbols whose code has several `<>`, not as many as it has sources.
 pub(crate) fn check_code(alloc: Global, alternative: &Alternative) -> NormResult<()>
     ensures { Refuses result (code_faults (alternative_view alternative.now)) }
 {

@@ -41,8 +41,8 @@ use std::collections::BTreeMap;
 /// stands. Each start symbol gets its rule's type.
 ///
 /// Errors: F55 (`StartTaken`) at a public rule, if the name of its start symbol has a type already; F54 (`Placeholders`) from the
-/// first source to the last, or at the alternative if it has none, where an alternative without named symbols has code with
-/// several `<>`, not as many as there are sources; F56 (`TooManyActions`) at the rule or alternative whose action would have a
+/// first source to the last, or at the alternative if it has none, where an alternative without named and tuple symbols has
+/// code with several `<>`, not as many as there are sources; F56 (`TooManyActions`) at the rule or alternative whose action would have a
 /// number past the greatest; `Memory`.
 pub fn lower<L>(
     alloc: Global,

@@ -10,7 +10,9 @@ use shared_text::Atom;
 #[cycle(pattern)]
 #[derive(Debug, PartialEq, Eq, Drop)]
 pub struct Pattern<T> {
+    /// Where it stands.
     pub span: Span,
+    /// What it is.
     pub kind: PatternKind<T>,
 }
 

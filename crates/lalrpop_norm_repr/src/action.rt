@@ -54,7 +54,7 @@ pub struct ActionFnDefn {
 }
 
 /// What an action does.
-#[derive(Debug, PartialEq, Eq, Drop)]
+#[derive(PartialEq, Eq, Drop)]
 pub enum ActionFnDefnKind {
     /// Code of the grammar, or of a pass.
     User(UserActionFnDefn),
@@ -65,7 +65,7 @@ pub enum ActionFnDefnKind {
 }
 
 /// An action with code, and for each symbol of its production a pattern and a type.
-#[derive(Debug, PartialEq, Eq, Drop)]
+#[derive(PartialEq, Eq, Drop)]
 pub struct UserActionFnDefn {
     /// One for each symbol of the production, in order.
     pub arg_patterns: Vec<ArgPattern>,
@@ -76,7 +76,7 @@ pub struct UserActionFnDefn {
 }
 
 /// An action that calls others first and then one with what they answer.
-#[derive(Debug, PartialEq, Eq, Drop)]
+#[derive(PartialEq, Eq, Drop)]
 pub struct InlineActionFnDefn {
     /// The action that is called last.
     pub action: ActionFn,
@@ -94,7 +94,7 @@ pub enum LookaroundActionFnDefn {
 }
 
 /// An argument of an inline action.
-#[derive(Debug, PartialEq, Eq, Drop)]
+#[derive(PartialEq, Eq, Drop)]
 pub enum InlinedSymbol {
     /// The symbol's own value.
     Original(Symbol),

@@ -20,7 +20,7 @@ pub struct NonterminalData {
     pub visibility: Visibility,
     /// Where its rule stands; of a made rule, where the symbol stands that it was made for.
     pub span: Span,
-    /// Those of its rule.
+    /// Those of its rule; a start symbol has none.
     pub attributes: Vec<Attribute>,
     /// In the order of its alternatives.
     pub productions: Vec<Production>,

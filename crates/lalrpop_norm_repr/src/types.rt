@@ -28,8 +28,8 @@ pub struct Types {
 }
 
 impl Types {
-    /// Gives a nonterminal that has no type yet its type. The only error is want of memory; the table is then as it
-    /// was.
+    /// Gives a nonterminal that has no type yet (`lookup_nonterminal_type` tells) its type. The only error is want of
+    /// memory; the table is then as it was.
     pub fn add_type(&mut self, name: NonterminalString, ty: TypeRepr) -> Result<(), NoMemory>
         requires { type_of name (type_table self.old) ≡ None }
         ensures added { OnOk result (type_of name (type_table self.new) ≡ Some (repr_view ty)) }
@@ -41,7 +41,8 @@ impl Types {
         Ok(())
     }
 
-    /// Gives a terminal that is not listed its type. The only error is want of memory; the table is then as it was.
+    /// Gives a terminal that is not listed (`has_term_type` tells) its type. The only error is want of memory; the table
+    /// is then as it was.
     pub fn add_term_type(&mut self, terminal: TerminalString, ty: TypeRepr) -> Result<(), NoMemory>
         requires { listed_type terminal (type_table self.old) ≡ None }
         ensures added { OnOk result (listed_type terminal (type_table self.new) ≡ Some (repr_view ty)) }

@@ -30,6 +30,7 @@ pub struct Grammar {
     pub uses_error_recovery: bool,
     /// For each public nonterminal the start symbol that was made for it.
     pub start_nonterminals: BTreeMap<NonterminalString, NonterminalString>,
+    /// The texts behind `use`, in item order.
     pub uses: Vec<String>,
     /// Those of the written grammar.
     pub type_parameters: Vec<TypeParameter>,

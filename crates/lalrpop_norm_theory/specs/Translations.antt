@@ -21,7 +21,7 @@ abbrev pub elements : WrittenTree → WrittenTrees
 elements (list ts) = ts
 elements _ = no_trees
 
--- what an origin makes of the children's trees: a start symbol and a step stand for their child, `PlusMore` puts its second
+-- what an origin makes of the children's trees: a start symbol and a step stand for their child, `plus_more` puts its second
 -- child at the end of its first one's list
 abbrev pub made_by : Origin → WrittenTrees → WrittenTree
 made_by from_start ts = first ts

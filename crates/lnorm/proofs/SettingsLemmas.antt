@@ -1,4 +1,4 @@
--- What `parse` reads as a level, and what a set of features is after one more.
+-- What `parse` reads as a limit, and what a set of features is after one more.
 use Rattle.std.proofs.Common.{◌≡◌, ℕ, ◌<◌, ◌≤◌, ◌^◌, get_or, drop, take, take_all, length-drop, ◌-◌, List, [], ◌∷◌, length, Option, Some, None, Bool, true, false, ◌&&◌, nat_lt, if◌then◌else◌, ◌⊎◌, inl, inr, refl, sym, ap, arith, rules, map, string_bytes, String, Global, option_map, BTreeSet}
 use Rattle.std.specs.Char.{digit_value}
 use Rattle.std.specs.Str.Parse.{IsNumeral, AllDigits, digits_value}

@@ -20,10 +20,14 @@ const OTHER_RULE: &str =
 
 const USE: &str = r#"{"Use":"a::b"}"#;
 
+const MARKED_USE: &str = r#"{"Use":"a?b"}"#;
+
 const MATCH: &str = r#"{"MatchToken":{"contents":[],"span":[0,0]}}"#;
 
 const LINES: &str =
     "S = \"a\" => ActionFn(1);\n__S = S => ActionFn(0);\ntype S: ()\ntype __S: ()\nstart S = __S\n";
+
+const NO_TREE: &str = "lnorm: not a tree\n";
 
 const USAGE: &str = "lnorm: usage: lnorm [--limit N] [--feature F]...\n";
 
@@ -53,11 +57,15 @@ struct Outcome {
 }
 
 fn run_on(alloc: Global, words: &[&str], input: &str) -> Result<Outcome, AllocError> {
+    run_on_bytes(alloc, words, input.as_bytes())
+}
+
+fn run_on_bytes(alloc: Global, words: &[&str], input: &[u8]) -> Result<Outcome, AllocError> {
     let mut texts = Vec::new(alloc);
     for word in words {
         texts.push(String::from_str(alloc, word)?)?;
     }
-    let mut input = input.as_bytes();
+    let mut input = input;
     let mut output = Vec::new(alloc);
     let mut faults = Vec::new(alloc);
     let status = run(alloc, &texts, &mut input, &mut output, &mut faults);
@@ -124,7 +132,43 @@ fn refuses_what_is_no_tree(rt: HostRuntime) -> Result<(), Fail> {
     ] {
         let result = run_on(alloc, &[], input)?;
         assert_eq!(rt; result.status, 2, "of {input}");
-        assert_eq!(rt; result.faults.as_slice(), "lnorm: not a tree\n".as_bytes());
+        assert_eq!(rt; result.faults.as_slice(), NO_TREE.as_bytes());
+        assert!(rt; result.output.is_empty());
+    }
+    Ok(())
+}
+
+/// The bytes of the text, with 0xFF in place of each `?`.
+fn marked_bytes(alloc: Global, text: &str) -> Result<Vec<u8>, AllocError> {
+    let mut bytes = Vec::new(alloc);
+    for byte in text.as_bytes() {
+        let marked = if *byte == b'?' { 0xFF } else { *byte };
+        bytes.push(marked)?;
+    }
+    Ok(bytes)
+}
+
+fn run_on_marked(alloc: Global, text: &str) -> Result<Outcome, AllocError> {
+    let bytes = marked_bytes(alloc, text)?;
+    run_on_bytes(alloc, &[], &bytes)
+}
+
+fn status_on(alloc: Global, text: &str) -> Result<u8, AllocError> {
+    let result = run_on(alloc, &[], text)?;
+    Ok(result.status)
+}
+
+#[test]
+fn refuses_what_is_no_text(rt: HostRuntime) -> Result<(), Fail> {
+    let alloc = rt.alloc();
+    let inside = tree(alloc, &[TOKENS, MARKED_USE, RULE])?;
+    assert_eq!(rt; status_on(alloc, inside.as_str())?, 0);
+    let one = tree(alloc, &[TOKENS, RULE])?;
+    let before = format!(in alloc; "?{one}")?;
+    for text in ["?", "?{", before.as_str(), inside.as_str()] {
+        let result = run_on_marked(alloc, text)?;
+        assert_eq!(rt; result.status, 2, "of {text}");
+        assert_eq!(rt; result.faults.as_slice(), NO_TREE.as_bytes());
         assert!(rt; result.output.is_empty());
     }
     Ok(())

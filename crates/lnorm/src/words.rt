@@ -10,7 +10,7 @@ use std::collections::BTreeSet;
 /// Why words give no session.
 #[derive(Clone, Copy, Debug, PartialEq, Eq)]
 pub enum WordsError {
-    /// They are not pairs of an option and its word.
+    /// They are not pairs of a known option and a word that it takes.
     Usage,
     /// There was no memory.
     Memory,
@@ -36,8 +36,8 @@ impl<T: Drop> From<AllocFailed<T>> for WordsError {
     }
 }
 
-/// The session that the words of a call ask for: `--limit N` (200 without it, of several the last) and `--feature F`, in any
-/// order. Errors: `Usage` where they are no such pairs, and only there; `Memory`.
+/// The session that the words of a call ask for: `--limit N` (rounds, 0 to 65535; 200 without it, of several the last) and
+/// `--feature F`, in any order. Errors: `Usage` where they are no such pairs, and only there; `Memory`.
 pub fn session_of(alloc: Global, words: &[String]) -> Result<Session<()>, WordsError>
     ensures ok { IfOk result (λ s. settings_of (map string_bytes words.now) ≡ Some (settings_view s)) }
     ensures usage { IsErrOf result Usage → settings_of (map string_bytes words.now) ≡ None }

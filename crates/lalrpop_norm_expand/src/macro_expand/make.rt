@@ -273,7 +273,7 @@ fn add(items: &mut Vec<GrammarItem>, rule: NonterminalData) -> Result<(), NoMemo
 
 /// Adds the rule that a symbol is made into.
 ///
-/// Errors: F35 (`NamedInGroup`) at a group with a named symbol in it; F0 (`NotYet`) at a macro call; `Memory`.
+/// Errors: F35 (`NamedInGroup`) at a group with a named or tuple symbol in it; F0 (`NotYet`) at a macro call; `Memory`.
 pub(super) fn add_rule(
     alloc: Global,
     symbol: &Symbol,

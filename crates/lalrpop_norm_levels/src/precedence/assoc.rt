@@ -8,7 +8,7 @@ use std::str::FromStr;
 ///
 /// The *own occurrences* of an alternative are its references to its own rule, in reading order. Those of the
 /// current level let the alternative be iterated there; those of the previous level, the next lower one, do not.
-#[derive(Clone, Copy, Debug, PartialEq, Eq)]
+#[derive(Clone, Copy, PartialEq, Eq)]
 pub enum Assoc {
     /// `left`: the first own occurrence has the current level, all others the previous one.
     Left,

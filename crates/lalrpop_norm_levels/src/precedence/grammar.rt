@@ -16,7 +16,7 @@ use std::mem;
 /// not enabled are to be taken out before.
 ///
 /// The first fault on levels of a rule is refused, the rules in item order; the errors are those of
-/// [`read_levels`](super::read_levels).
+/// [`read_levels`](super::read_levels). The grammar is consumed, also where it is refused.
 /// That names of levels are taken, or a macro has several levels, is not looked for.
 pub fn expand_levels(alloc: Global, grammar: Grammar) -> NormResult<Grammar>
     ensures { RefusesOr result (grammar_level_faults (grammar_view grammar)) (λ g. grammar_view g ≡ leveled_grammar (grammar_view grammar)) }

@@ -17,7 +17,7 @@ use lalrpop_norm_tree::grammar::parse_tree::{Alternative, Attribute, Nonterminal
 use std::alloc::{AllocError, Global};
 
 /// The level and the side of an alternative.
-#[derive(Clone, Copy, Debug, PartialEq, Eq)]
+#[derive(Clone, Copy, PartialEq, Eq)]
 pub struct AlternativeLevel {
     /// The level stated last at or before the alternative: 0 to 4294967295. Where none is stated, 0.
     pub level: u32,

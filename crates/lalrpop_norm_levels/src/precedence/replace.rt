@@ -18,7 +18,7 @@ pub enum Substitution<'a> {
 }
 
 /// In which order own occurrences are met.
-#[derive(Clone, Copy, Debug, PartialEq, Eq)]
+#[derive(Clone, Copy, PartialEq, Eq)]
 pub enum Direction {
     /// In reading order.
     Forward,

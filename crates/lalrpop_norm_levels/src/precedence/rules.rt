@@ -34,7 +34,7 @@ use std::mem;
 /// of the rule, without code. All else of the rule is copied to each level. In a macro no reference is an own
 /// occurrence.
 ///
-/// The errors are those of [`read_levels`](super::read_levels).
+/// The errors are those of [`read_levels`](super::read_levels). The rule is consumed, also where it is refused.
 pub fn expand_nonterm(alloc: Global, rule: NonterminalData) -> NormResult<Vec<NonterminalData>>
     ensures { RefusesOr result (level_faults (rule_view rule)) (λ rules. map rule_view rules.items ≡ level_rules (rule_view rule)) }
 {

@@ -48,7 +48,7 @@ fn copy_argument(argument: &AttributeArg) -> Result<AttributeArg, AllocError>
     }
 }
 
-/// A copy of each attribute, in order.
+/// A copy of each attribute, in order. The only error is want of memory.
 #[cycle(copy)]
 pub fn copy_attributes(
     alloc: Global,

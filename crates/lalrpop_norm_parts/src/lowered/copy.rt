@@ -101,7 +101,7 @@ fn copy_reprs(types: &Vec<TypeRepr>) -> Result<Vec<TypeRepr>, AllocError>
 }
 
 impl WhereClause {
-    /// A copy.
+    /// A copy. The only error is want of memory.
     pub fn clone(&self) -> Result<WhereClause, NoMemory>
         ensures { IfOk result (λ c. lowered_where_clause_view c ≡ lowered_where_clause_view self.now) }
     {

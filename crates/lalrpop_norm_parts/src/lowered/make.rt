@@ -10,21 +10,21 @@ use shared_text::{Atom, NoMemory};
 use std::alloc::Global;
 
 impl TypeRepr {
-    /// The type `usize`.
+    /// The type `usize`. The only error is want of memory.
     pub fn usize(alloc: Global) -> Result<TypeRepr, NoMemory>
         ensures { IfOk result (λ t. repr_view t ≡ named_repr (codes "usize")) }
     {
         named(alloc, Atom::new(alloc, "usize")?)
     }
 
-    /// The type `str`.
+    /// The type `str`. The only error is want of memory.
     pub fn str(alloc: Global) -> Result<TypeRepr, NoMemory>
         ensures { IfOk result (λ t. repr_view t ≡ named_repr (codes "str")) }
     {
         named(alloc, Atom::new(alloc, "str")?)
     }
 
-    /// The type that a parameter stands for: a lifetime itself, or the type of that name.
+    /// The type that a parameter stands for: a lifetime itself, or the type of that name. The only error is want of memory.
     pub fn from_parameter(alloc: Global, parameter: &TypeParameter) -> Result<TypeRepr, NoMemory>
         ensures { IfOk result (λ t. repr_view t ≡ parameter_repr parameter.now) }
     {

@@ -83,21 +83,21 @@ impl NonterminalString {
 }
 
 impl Lifetime {
-    /// `'_`.
+    /// `'_`. The only error is want of memory.
     pub fn anonymous(alloc: Global) -> Result<Lifetime, NoMemory>
         ensures { IfOk result (λ l. l.0 ≡ codes "'_") }
     {
         Ok(Lifetime(Atom::new(alloc, "'_")?))
     }
 
-    /// `'static`.
+    /// `'static`. The only error is want of memory.
     pub fn statik(alloc: Global) -> Result<Lifetime, NoMemory>
         ensures { IfOk result (λ l. l.0 ≡ codes "'static") }
     {
         Ok(Lifetime(Atom::new(alloc, "'static")?))
     }
 
-    /// `'input`.
+    /// `'input`. The only error is want of memory.
     pub fn input(alloc: Global) -> Result<Lifetime, NoMemory>
         ensures { IfOk result (λ l. l.0 ≡ codes "'input") }
     {

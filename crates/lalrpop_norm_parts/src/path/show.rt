@@ -23,7 +23,7 @@ impl fmt::Display for Path {
     }
 }
 
-/// The path, after what it is quantified over.
+/// Writes the path, after what it is quantified over. The only error is the formatter's.
 pub fn show_forall_path<W: fmt::Write>(
     forall: &[TypeParameter],
     path: &Path,

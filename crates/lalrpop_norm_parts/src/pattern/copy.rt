@@ -7,7 +7,7 @@ use shared_text::NoMemory;
 use std::alloc::{AllocError, Global};
 
 impl<T: Clone> Pattern<T> {
-    /// A copy, with a clone of each T.
+    /// A copy, with a clone of each T. The only error is want of memory.
     pub fn clone(&self) -> Result<Pattern<T>, NoMemory>
         ensures { IfOk result (λ p. SamePattern T.is_clone (pattern_view (λ t. t) self.now) (pattern_view (λ t. t) p)) }
     {
@@ -16,7 +16,7 @@ impl<T: Clone> Pattern<T> {
 }
 
 impl<T: Clone> FieldPattern<T> {
-    /// A copy, with a clone of each T.
+    /// A copy, with a clone of each T. The only error is want of memory.
     pub fn clone(&self) -> Result<FieldPattern<T>, NoMemory>
         ensures { IfOk result (λ p. SameField T.is_clone (field_view (λ t. t) self.now) (field_view (λ t. t) p)) }
     {
@@ -25,7 +25,7 @@ impl<T: Clone> FieldPattern<T> {
 }
 
 impl<T: Clone> PatternKind<T> {
-    /// A copy, with a clone of each T.
+    /// A copy, with a clone of each T. The only error is want of memory.
     pub fn clone(&self) -> Result<PatternKind<T>, NoMemory>
         ensures { IfOk result (λ k. SamePatternKind T.is_clone (pattern_kind_view (λ t. t) self.now) (pattern_kind_view (λ t. t) k)) }
     {

@@ -1,13 +1,11 @@
 //! Runs over whole grammars: what they print, or are refused with.
 mod texts;
 
-use super::{Outcome, run_on};
+use super::{NO_TREE, Outcome, run_on};
 use std::alloc::Global;
 use std::process::Abort;
 use std::test::*;
 use texts::*;
-
-const NO_TREE: &str = "lnorm: not a tree\n";
 
 /// Whether a run wrote these lines and nothing else; where it did not end well, whether its line begins so.
 fn is_wanted(outcome: &Outcome, want: &str) -> bool {
@@ -102,6 +100,8 @@ fn features(rt: HostRuntime) -> Result<(), Fail> {
     let alloc = rt.alloc();
     let rows = [
         (ONE_OF_TWO, 0, ONE_OF_TWO_LINES),
+        (SECOND_DISABLED, 0, SECOND_DISABLED_LINES),
+        (NO_ATTRIBUTE, 0, NO_ATTRIBUTE_LINES),
         (WITH_FEATURE, 0, ""),
         (ALL_OF_NONE, 1, "F11 54..57: "),
         (ANY_OF_NONE, 1, "F11 54..57: "),

@@ -85,6 +85,18 @@ pub(super) const ONE_OF_TWO: &str =
 
 pub(super) const ONE_OF_TWO_LINES: &str = "A = \"a\" => ActionFn(0);\ntype A: ()\n";
 
+// extern { enum Tok { "a" => A(..), #[cfg(feature = "f")] "a" => B(..) } } S: () = "a";
+pub(super) const SECOND_DISABLED: &str =
+    r#"{"prefix":"__","span":[0,7],"type_parameters":[],"parameters":[],"where_clauses":[],"items":[{"ExternToken":{"span":[9,15],"associated_types":[],"enum_token":{"type_name":{"Id":"Tok"},"type_span":[23,26],"conversions":[{"span":[29,41],"attributes":[],"from":{"Literal":{"Quoted":"a"}},"to":{"span":[36,41],"kind":{"Enum":[{"absolute":false,"ids":["A"]},[{"span":[38,40],"kind":"DotDot"}]]}}},{"span":[63,76],"attributes":[{"id_span":[45,48],"id":"cfg","arg":{"Paren":[{"id_span":[49,56],"id":"feature","arg":{"Equal":"f"}}]}}],"from":{"Literal":{"Quoted":"a"}},"to":{"span":[70,75],"kind":{"Enum":[{"absolute":false,"ids":["B"]},[{"span":[72,74],"kind":"DotDot"}]]}}}]}}},{"Nonterminal":{"visibility":"Priv","name":"S","attributes":[],"span":[80,81],"args":[],"type_decl":{"Tuple":[]},"alternatives":[{"span":[88,91],"expr":{"symbols":[{"span":[88,91],"kind":{"Terminal":{"Literal":{"Quoted":"a"}}}}]},"condition":null,"action":null,"attributes":[]}]}}],"attributes":[],"module_attributes":[]}"#;
+
+pub(super) const SECOND_DISABLED_LINES: &str = "S = \"a\" => ActionFn(0);\ntype S: ()\n";
+
+// A: () = "a";
+pub(super) const NO_ATTRIBUTE: &str =
+    r#"{"prefix":"__","span":[0,7],"type_parameters":[],"parameters":[],"where_clauses":[],"items":[{"ExternToken":{"span":[9,15],"associated_types":[],"enum_token":{"type_name":{"Id":"Tok"},"type_span":[24,27],"conversions":[{"span":[30,44],"attributes":[],"from":{"Literal":{"Quoted":"a"}},"to":{"span":[37,43],"kind":{"Enum":[{"absolute":false,"ids":["T0"]},[{"span":[40,42],"kind":"DotDot"}]]}}}]}}},{"Nonterminal":{"visibility":"Priv","name":"A","attributes":[],"span":[49,50],"args":[],"type_decl":{"Tuple":[]},"alternatives":[{"span":[57,60],"expr":{"symbols":[{"span":[57,60],"kind":{"Terminal":{"Literal":{"Quoted":"a"}}}}]},"condition":null,"action":null,"attributes":[]}]}}],"attributes":[],"module_attributes":[]}"#;
+
+pub(super) const NO_ATTRIBUTE_LINES: &str = "A = \"a\" => ActionFn(0);\ntype A: ()\n";
+
 // #[cfg(feature = "f")] A: () = "a";
 pub(super) const WITH_FEATURE: &str =
     r#"{"prefix":"__","span":[0,7],"type_parameters":[],"parameters":[],"where_clauses":[],"items":[{"ExternToken":{"span":[9,15],"associated_types":[],"enum_token":{"type_name":{"Id":"Tok"},"type_span":[24,27],"conversions":[{"span":[30,44],"attributes":[],"from":{"Literal":{"Quoted":"a"}},"to":{"span":[37,43],"kind":{"Enum":[{"absolute":false,"ids":["T0"]},[{"span":[40,42],"kind":"DotDot"}]]}}}]}}},{"Nonterminal":{"visibility":"Priv","name":"A","attributes":[{"id_span":[50,53],"id":"cfg","arg":{"Paren":[{"id_span":[54,61],"id":"feature","arg":{"Equal":"f"}}]}}],"span":[70,71],"args":[],"type_decl":{"Tuple":[]},"alternatives":[{"span":[78,81],"expr":{"symbols":[{"span":[78,81],"kind":{"Terminal":{"Literal":{"Quoted":"a"}}}}]},"condition":null,"action":null,"attributes":[]}]}}],"attributes":[],"module_attributes":[]}"#;
