@@ -44,11 +44,11 @@ if_both_none true true p h e = cc
 if_both_none true false p h e = refl
 if_both_none false b p h e = cc
 
-any_none : {X : Type 0} (p : LaterPart) (xs : List X) → part_of_any p xs ≡ [] → xs ≡ []
+pub any_none : {X : Type 0} (p : LaterPart) (xs : List X) → part_of_any p xs ≡ [] → xs ≡ []
 any_none p [] h = refl
 any_none p (x ∷ xs) h = cc
 
-some_none : {X : Type 0} (p : LaterPart) (o : Option X) → part_of_some p o ≡ [] → o ≡ None
+pub some_none : {X : Type 0} (p : LaterPart) (o : Option X) → part_of_some p o ≡ [] → o ≡ None
 some_none p None h = refl
 some_none p (Some x) h = cc
 

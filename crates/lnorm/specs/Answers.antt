@@ -1,5 +1,5 @@
 -- What the text and the faults of an input are.
-use Rattle.std.specs.Prelude.{◌≡◌, ℕ, List, [], ◌∷◌, Option, Some, true, IsUtf8}
+use Rattle.std.specs.Prelude.{◌≡◌, ℕ, List, [], Some, true, IsUtf8}
 use Rattle.serde_json.specs.Data.{Data}
 use Rattle.serde_json.specs.Read.{read}
 use Rattle.lalrpop_norm_parts.specs.declared.names.Span.{Span}
@@ -10,6 +10,7 @@ use Rattle.lalrpop_norm_json.specs.ItemForms.{grammar_form}
 use Rattle.lalrpop_norm_json.specs.Shapes as shape
 use Rattle.lalrpop_norm_json.specs.Shapes.{is}
 use Rattle.lnorm.specs.Settings.{Settings}
+use Rattle.lalrpop_norm.specs.Later.{later_parts}
 use Rattle.lalrpop_norm.specs.Normalize.{normalize_faults, IsNormalized}
 use Rattle.lalrpop_norm_repr.specs.Lowered.{LoweredGrammar}
 use Rattle.lnorm.specs.Lines.{lines}
@@ -27,6 +28,12 @@ pub record IsFormOf (g : GrammarData) (bytes : List ℕ) : Type 0 where
   pub value : Data
   pub is_read : read bytes ≡ Some value
   pub is_form : grammar_form g ≡ Some value
+
+-- the input is the form of a tree without a part of a later stage
+pub record IsTakenForm (s : Settings) (bytes : List ℕ) : Type 0 where
+  pub tree : GrammarData
+  pub form : IsFormOf tree bytes
+  pub taken : later_parts s.features tree ≡ []
 
 -- the lowered grammar of a tree
 abbrev pub Lowers : Settings → GrammarData → LoweredGrammar → Type 0

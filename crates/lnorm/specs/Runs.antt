@@ -4,7 +4,7 @@ use Rattle.std.specs.Io.KnownBytes.{Appends, Consumes, IsAtEnd}
 use Rattle.lalrpop_norm_parts.specs.declared.names.Span.{Span}
 use Rattle.lalrpop_norm_faults.specs.declared.kind.FaultKind.{FaultKind}
 use Rattle.lalrpop_norm_faults.specs.Faults.{code_of}
-use Rattle.lnorm.specs.Answers.{IsTree, IsAnswer, IsFirstFault}
+use Rattle.lnorm.specs.Answers.{IsTree, IsTakenForm, IsAnswer, IsFirstFault}
 use Rattle.lnorm.specs.Settings.{Settings, settings_of}
 
 -- the reader gave these bytes, and has no more
@@ -35,12 +35,13 @@ pub record IsRefused (words : List (List ℕ)) (in_old in_new : Option (List ℕ
   pub takes : Takes words in_old in_new settings bytes
   pub stands : IsFirstFault settings bytes fault span
 
--- the words are right, and the whole input is no tree
+-- the words are right, and the whole input is no tree, and so not the form of one that is taken
 pub record IsNoTree (words : List (List ℕ)) (in_old in_new : Option (List ℕ)) : Type 0 where
   pub settings : Settings
   pub bytes : List ℕ
   pub takes : Takes words in_old in_new settings bytes
   pub no_tree : IsTree bytes → ⊥
+  pub not_taken : IsTakenForm settings bytes → ⊥
 
 -- the line of a fault, as `F36 12..20: ` and the message
 abbrev pub fault_line : FaultKind → Span → List ℕ → List ℕ
