@@ -1,4 +1,4 @@
-//! Actions of the rules that are made for groups and repeats: numbers, patterns, types and code.
+//! Actions, also those of rules that are made for groups and repeats: numbers, patterns, types and code.
 use crate::runs::lowered;
 use lalrpop_norm_repr::grammar::repr::{
     self, ActionFnDefn, ActionFnDefnKind, TypeRepr, UserActionFnDefn,
@@ -19,9 +19,17 @@ const EMPTY_GROUP: &str =
 const REPEAT: &str =
     r#"{"prefix":"__","span":[0,7],"type_parameters":[],"parameters":[],"where_clauses":[],"items":[{"ExternToken":{"span":[9,15],"associated_types":[],"enum_token":{"type_name":{"Id":"Tok"},"type_span":[23,26],"conversions":[{"span":[29,41],"attributes":[],"from":{"Literal":{"Quoted":"a"}},"to":{"span":[36,41],"kind":{"Enum":[{"absolute":false,"ids":["A"]},[{"span":[38,40],"kind":"DotDot"}]]}}},{"span":[43,56],"attributes":[],"from":{"Literal":{"Quoted":"b"}},"to":{"span":[50,55],"kind":{"Enum":[{"absolute":false,"ids":["B"]},[{"span":[52,54],"kind":"DotDot"}]]}}}]}}},{"Nonterminal":{"visibility":{"Pub":null},"name":"S","attributes":[],"span":[64,65],"args":[],"type_decl":{"Tuple":[]},"alternatives":[{"span":[72,80],"expr":{"symbols":[{"span":[72,76],"kind":{"Repeat":{"op":"Star","symbol":{"span":[72,75],"kind":{"Terminal":{"Literal":{"Quoted":"a"}}}}}}},{"span":[77,80],"kind":{"Terminal":{"Literal":{"Quoted":"b"}}}}]},"condition":null,"action":null,"attributes":[]}]}}],"attributes":[],"module_attributes":[]}"#;
 
+// A: u32 = <x:"a"> <mut y:"b"> => F { <> };
+const NAMED: &str =
+    r#"{"prefix":"__","span":[0,7],"type_parameters":[],"parameters":[],"where_clauses":[],"items":[{"ExternToken":{"span":[9,15],"associated_types":[],"enum_token":{"type_name":{"Id":"Tok"},"type_span":[24,27],"conversions":[{"span":[30,43],"attributes":[],"from":{"Literal":{"Quoted":"a"}},"to":{"span":[37,43],"kind":{"Enum":[{"absolute":false,"ids":["T0"]},[{"span":[40,42],"kind":"DotDot"}]]}}},{"span":[45,59],"attributes":[],"from":{"Literal":{"Quoted":"b"}},"to":{"span":[52,58],"kind":{"Enum":[{"absolute":false,"ids":["T1"]},[{"span":[55,57],"kind":"DotDot"}]]}}}]}}},{"Nonterminal":{"visibility":"Priv","name":"A","attributes":[],"span":[63,64],"args":[],"type_decl":{"Id":"u32"},"alternatives":[{"span":[72,103],"expr":{"symbols":[{"span":[72,79],"kind":{"Name":[{"mutable":false,"name":"x"},{"span":[75,78],"kind":{"Terminal":{"Literal":{"Quoted":"a"}}}}]}},{"span":[80,91],"kind":{"Name":[{"mutable":true,"name":"y"},{"span":[87,90],"kind":{"Terminal":{"Literal":{"Quoted":"b"}}}}]}}]},"condition":null,"action":{"User":"F { <> }"},"attributes":[]}]}}],"attributes":[],"module_attributes":[]}"#;
+
+// A: u32 = <"a"> "b" <"c"> => f(<>);
+const CHOSEN: &str =
+    r#"{"prefix":"__","span":[0,7],"type_parameters":[],"parameters":[],"where_clauses":[],"items":[{"ExternToken":{"span":[9,15],"associated_types":[],"enum_token":{"type_name":{"Id":"Tok"},"type_span":[24,27],"conversions":[{"span":[30,43],"attributes":[],"from":{"Literal":{"Quoted":"a"}},"to":{"span":[37,43],"kind":{"Enum":[{"absolute":false,"ids":["T0"]},[{"span":[40,42],"kind":"DotDot"}]]}}},{"span":[45,58],"attributes":[],"from":{"Literal":{"Quoted":"b"}},"to":{"span":[52,58],"kind":{"Enum":[{"absolute":false,"ids":["T1"]},[{"span":[55,57],"kind":"DotDot"}]]}}},{"span":[60,74],"attributes":[],"from":{"Literal":{"Quoted":"c"}},"to":{"span":[67,73],"kind":{"Enum":[{"absolute":false,"ids":["T2"]},[{"span":[70,72],"kind":"DotDot"}]]}}}]}}},{"Nonterminal":{"visibility":"Priv","name":"A","attributes":[],"span":[78,79],"args":[],"type_decl":{"Id":"u32"},"alternatives":[{"span":[87,111],"expr":{"symbols":[{"span":[87,92],"kind":{"Choose":{"span":[88,91],"kind":{"Terminal":{"Literal":{"Quoted":"a"}}}}}},{"span":[93,96],"kind":{"Terminal":{"Literal":{"Quoted":"b"}}}},{"span":[97,102],"kind":{"Choose":{"span":[98,101],"kind":{"Terminal":{"Literal":{"Quoted":"c"}}}}}}]},"condition":null,"action":{"User":"f(<>)"},"attributes":[]}]}}],"attributes":[],"module_attributes":[]}"#;
+
 /// Grammars, a name of each, and for each production of that name a line of its action: the number, the patterns of the
 /// arguments, their types, the action's type, and the code.
-const ACTIONS: [(&str, &str, &str); 11] = [
+const ACTIONS: [(&str, &str, &str); 13] = [
     (GROUP_OR_NOTHING, "__S", "0: __0 [()] -> (): ()\n"),
     (GROUP_OR_NOTHING, "S", "1: __0 [Option<Tok>] -> (): ()\n"),
     (
@@ -52,6 +60,12 @@ const ACTIONS: [(&str, &str, &str); 11] = [
         REPEAT,
         "\"a\"+",
         "4: __0 [Tok] -> alloc::vec::Vec<Tok>: alloc::vec![__0]\n5: v e [alloc::vec::Vec<Tok>, Tok] -> alloc::vec::Vec<Tok>: { let mut v = v; v.push(e); v }\n",
+    ),
+    (NAMED, "A", "0: x mut y [Tok, Tok] -> u32: F { x, y }\n"),
+    (
+        CHOSEN,
+        "A",
+        "0: __0 _ __1 [Tok, Tok, Tok] -> u32: f(__0, __1)\n",
     ),
 ];
 
@@ -113,7 +127,7 @@ fn actions(alloc: Global, text: &str, name: &str) -> Result<String, NoMemory> {
 }
 
 #[test]
-fn made_rules_have_their_actions(rt: HostRuntime) -> Result<(), Fail> {
+fn productions_have_their_actions(rt: HostRuntime) -> Result<(), Fail> {
     for (text, name, want) in ACTIONS {
         let actions = actions(rt.alloc(), text, name)?;
         assert_eq!(rt; actions.as_str(), want, "of {name}");

@@ -66,6 +66,21 @@ fn groups_and_repeats(rt: HostRuntime) -> Result<(), Fail> {
     Ok(())
 }
 
+/// Of several limits the last one counts.
+#[test]
+fn two_limits(rt: HostRuntime) -> Result<(), Fail> {
+    let rows = [
+        (["--limit", "1", "--limit", "2"], 0, REPEAT_LINES),
+        (["--limit", "2", "--limit", "1"], 1, "F36 72..76: "),
+    ];
+    for (words, status, want) in rows {
+        let outcome = run_on(rt.alloc(), &words, REPEAT)?;
+        assert_eq!(rt; outcome.status, status, "of {want}");
+        assert!(rt; is_wanted(&outcome, want), "of {want}");
+    }
+    Ok(())
+}
+
 #[test]
 fn rounds(rt: HostRuntime) -> Result<(), Fail> {
     let alloc = rt.alloc();
