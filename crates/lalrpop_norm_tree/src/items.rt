@@ -56,7 +56,7 @@ pub enum GrammarItem {
 }
 
 /// A match block: its groups, the first one with the highest precedence.
-#[derive(Debug, PartialEq, Eq, Drop)]
+#[derive(Debug, PartialEq, Eq)]
 pub struct MatchToken {
     /// Its groups, in the order of the text.
     pub contents: Vec<MatchContents>,
@@ -96,7 +96,7 @@ pub enum MatchMapping {
 
 /// What the passes make where no extern enum names the tokens: the entries of the tokenizer in rising precedence, and
 /// its automaton. Refused where it is written (F21).
-#[derive(Debug, PartialEq, Eq, Drop)]
+#[derive(Debug, PartialEq, Eq)]
 pub struct InternToken {
     /// In rising order.
     pub match_entries: Vec<MatchEntry>,
@@ -123,7 +123,7 @@ pub struct MatchEntry {
 }
 
 /// An extern block.
-#[derive(Debug, PartialEq, Eq, Drop)]
+#[derive(Debug, PartialEq, Eq)]
 pub struct ExternToken {
     /// Where the block stands.
     pub span: Span,
@@ -268,5 +268,35 @@ impl fmt::Debug for MatchMapping {
 
     fn fmt<W: fmt::Write>(&self, f: &mut fmt::Formatter<W>) -> fmt::Result {
         fmt::Display::fmt(self, f)
+    }
+}
+
+// The release of a derived type is proved anew in each crate in which a value of it ends. That of these types, which no
+// pass takes apart, is proved here.
+impl Drop for MatchToken {
+    fn drop(self) {
+        let MatchToken {
+            contents: _contents,
+            span: _span,
+        } = self;
+    }
+}
+
+impl Drop for InternToken {
+    fn drop(self) {
+        let InternToken {
+            match_entries: _entries,
+            dfa: _dfa,
+        } = self;
+    }
+}
+
+impl Drop for ExternToken {
+    fn drop(self) {
+        let ExternToken {
+            span: _span,
+            associated_types: _types,
+            enum_token: _tokens,
+        } = self;
     }
 }

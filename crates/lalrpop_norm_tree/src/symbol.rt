@@ -25,7 +25,7 @@ pub struct Tuple {
 
 /// The pattern of an argument of an action.
 #[cycle(tuple)]
-#[derive(Debug, PartialEq, Eq, Drop)]
+#[derive(Debug, PartialEq, Eq)]
 pub enum ArgPattern {
     /// `x` or `mut x`.
     Name(Name),
@@ -56,7 +56,7 @@ pub struct Symbol {
 
 /// What a symbol is.
 #[cycle(symbol)]
-#[derive(Debug, PartialEq, Eq, Drop)]
+#[derive(Debug, PartialEq, Eq)]
 pub enum SymbolKind {
     /// A group: `(X Y)`.
     Expr(ExprSymbol),
@@ -110,4 +110,32 @@ pub struct RepeatSymbol {
     pub op: RepeatOp,
     /// What is repeated.
     pub symbol: Symbol,
+}
+
+// The release of a derived type is proved anew in each crate in which a value of it ends; this one is proved here.
+impl Drop for ArgPattern {
+    fn drop(self) {
+        match self {
+            ArgPattern::Name(_name) => {}
+            ArgPattern::Tuple(_tuple) => {}
+        }
+    }
+}
+
+impl Drop for SymbolKind {
+    #[cycle(release)]
+    fn drop(self) {
+        match self {
+            SymbolKind::Expr(_expr) => {}
+            SymbolKind::AmbiguousId(_name) => {}
+            SymbolKind::Terminal(_terminal) => {}
+            SymbolKind::Nonterminal(_name) => {}
+            SymbolKind::Macro(_call) => {}
+            SymbolKind::Repeat(_repeat) => {}
+            SymbolKind::Choose(_symbol) => {}
+            SymbolKind::Name(_name, _symbol) => {}
+            SymbolKind::Tuple(_tuple, _symbol) => {}
+            SymbolKind::Lookahead | SymbolKind::Lookbehind | SymbolKind::Error => {}
+        }
+    }
 }

@@ -9,7 +9,7 @@ use lalrpop_norm_parts::path::Path;
 use shared_text::Atom;
 
 /// A Rust type as a grammar writes it.
-#[derive(Debug, PartialEq, Eq, Drop)]
+#[derive(Debug, PartialEq, Eq)]
 pub enum TypeRef {
     /// `(A, B)`; `()` where the list is empty.
     Tuple(Vec<TypeRef>),
@@ -53,4 +53,36 @@ pub struct Parameter {
     pub name: Atom,
     /// Its type.
     pub ty: TypeRef,
+}
+
+// The release of a derived type is proved anew in each crate in which a value of it ends; this one is proved here.
+impl Drop for TypeRef {
+    fn drop(self) {
+        match self {
+            TypeRef::Tuple(_types) => {}
+            TypeRef::Slice(_element) => {}
+            TypeRef::Nominal {
+                path: _path,
+                types: _types,
+            } => {}
+            TypeRef::Ref {
+                lifetime: _lifetime,
+                mutable: _mutable,
+                referent: _referent,
+            } => {}
+            TypeRef::TraitObject {
+                path: _path,
+                types: _types,
+            } => {}
+            TypeRef::Lifetime(_lifetime) => {}
+            TypeRef::Id(_name) => {}
+            TypeRef::OfSymbol(_kind) => {}
+            TypeRef::Fn {
+                forall: _forall,
+                path: _path,
+                parameters: _parameters,
+                ret: _ret,
+            } => {}
+        }
+    }
 }

@@ -26,8 +26,10 @@ impl MatchToken {
         ensures contents { IfOk result (λ m. (match_token_view m).contents ≡ (match_token_view self).contents ++ match_contents_view contents ∷ []) }
         ensures span { IfOk result (λ m. m.span ≡ self.span) }
     {
-        let span = self.span;
-        let mut groups = self.contents;
+        let MatchToken {
+            contents: mut groups,
+            span,
+        } = self;
         groups.push(contents)?;
         Ok(MatchToken {
             contents: groups,
