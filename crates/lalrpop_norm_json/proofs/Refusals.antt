@@ -1,13 +1,17 @@
 -- What has not the parts of a shape does not have the shape.
 use Rattle.std.proofs.Common.{◌≡◌, ◌≢◌, ℕ, zero, suc, ◌<◌, ◌≤◌, map, List, [], ◌∷◌, length, get_or, take, Some, None, option_and_then, Bool, true, false, ◌&&◌, refl, sym, ap, ◌∙◌, arith}
+use Rattle.std.specs.Prelude.{Result, Ok, Err, IsErrAnd, IsErrOf}
+use Rattle.std.specs.Str.{bytes_eq}
 use Rattle.std.proofs.lemmas.List.{take_all}
 use Rattle.serde_json.specs.Data.{Data, null, boolean, number, unsigned, negative, float, string, array, object, no_items, item, Members, no_members, member}
 use Rattle.serde_json.specs.Find.{as_object, as_array, as_number, as_u64}
 use Rattle.serde_json.specs.View.{view, items_view, items_of}
 use Rattle.serde_json.specs.declared.value.Value.{Value}
+use Rattle.lalrpop_norm_json.specs.declared.json.TreeError.{TreeError}
+use Rattle.lalrpop_norm_json.specs.declared.json.TreeError.TheVariants.{NotATree}
 use Rattle.lalrpop_norm_json.specs.Weight.{weight, items_weight}
-use Rattle.lalrpop_norm_json.specs.Parts.{is_null, is_pair, is_variant, is_no_members, starts_with}
-use Rattle.lalrpop_norm_json.specs.Shapes.{Name, natural, absent, Place, Held, Arrays, shape, struct_of, each, row, fits, fits_items, fits_members, struct, variants, arrayed, optional, Shape, is}
+use Rattle.lalrpop_norm_json.specs.Parts.{is_null, is_pair, is_variant, is_no_members, starts_with, begins, are_keys, has_fields}
+use Rattle.lalrpop_norm_json.specs.Shapes.{Name, natural, absent, Place, Held, Arrays, shape, struct_of, each, row, place, fits, fits_items, fits_members, struct, variants, arrayed, optional, Shape, is}
 
 pub not_pair : (vs : List Value) → length vs ≢ 2 → is_pair (array (items_view vs)) ≡ false
 not_pair [] other = refl
@@ -79,6 +83,78 @@ pub and_false : (a b : Bool) → b ≡ false → (a && b) ≡ false
 and_false true b e = e
 and_false false b e = refl
 
+-- what follows a refused part does not matter
+pub false_and : (a b : Bool) → a ≡ false → (a && b) ≡ false
+false_and true b e = cc
+false_and false b e = refl
+
+-- ---- a record, field by field
+
+pub begins_without : (n : List ℕ) (p : Place) (ms : Members) → starts_with n ms ≡ false → begins n p ms ≡ false
+begins_without n p no_members e = refl
+begins_without n p (member k d ms) e = false_and _ _ e
+
+pub begins_unfit : (n : List ℕ) (p : Place) (d : Data) (ms ns : Members) → ms ≡ member n d ns → fits (place p) d ≡ false → begins n p ms ≡ false
+begins_unfit n p d ms ns is e = rw is (and_false _ _ e)
+
+pub ruleset begins_not = (begins_without, begins_unfit)
+
+unlike_or_refused : (a b c : Bool) → (a && b) ≡ false → (a && (b && c)) ≡ false
+unlike_or_refused true b c e = false_and b c e
+unlike_or_refused false b c e = refl
+
+-- a struct without the first of the fields that are left
+pub no_first : (r : List ℕ × Place) (rows : List (List ℕ × Place)) (ms : Members) → begins r.0 r.1 ms ≡ false → fits_members (struct_of (r ∷ rows)) ms ≡ false
+no_first r rows no_members e = refl
+no_first r rows (member k d ms) e = unlike_or_refused (bytes_eq k r.0) (fits (place r.1) d) (fits_members (struct_of rows) ms) e
+
+-- a struct without a later one of the fields that are left
+pub no_later : (r : List ℕ × Place) (rows : List (List ℕ × Place)) (ms : Members) (d : Data) (ns : Members) → ms ≡ member r.0 d ns → fits_members (struct_of rows) ns ≡ false → fits_members (struct_of (r ∷ rows)) ms ≡ false
+no_later r rows ms d ns is e = rw is (and_false _ _ (and_false _ _ e))
+
+-- ---- a record of known fields
+
+pub no_record : (ns : List (List ℕ)) (d : Data) → as_object d ≡ None → has_fields ns d ≡ false
+no_record ns null e = refl
+no_record ns (boolean b) e = refl
+no_record ns (number n) e = refl
+no_record ns (string s) e = refl
+no_record ns (array ds) e = refl
+no_record ns (object ms) e = cc
+
+pub no_key : (n : List ℕ) (ns : List (List ℕ)) (ms : Members) → starts_with n ms ≡ false → are_keys (n ∷ ns) ms ≡ false
+no_key n ns no_members e = refl
+no_key n ns (member k d ms) e = false_and _ _ e
+
+pub no_further_key : (ms : Members) → is_no_members ms ≡ false → are_keys [] ms ≡ false
+no_further_key no_members e = e
+no_further_key (member k d ms) e = refl
+
+pub ruleset no_fields_read = (no_record, no_key, no_further_key, and_false)
+
+unlike_or_unfit : (a b c f : Bool) → (a && c) ≡ false → (c ≡ false → f ≡ false) → (a && (b && f)) ≡ false
+unlike_or_unfit true b c f e h = and_false b f (h e)
+unlike_or_unfit false b c f e h = refl
+
+no_keys : (rows : List (List ℕ × Place)) (ms : Members) → are_keys (map (λ r. r.0) rows) ms ≡ false → fits_members (struct_of rows) ms ≡ false
+no_keys [] no_members e = cc
+no_keys [] (member k d ms) e = refl
+no_keys (r ∷ rows) no_members e = refl
+no_keys (r ∷ rows) (member k d ms) e = unlike_or_unfit (bytes_eq k r.0) (fits (place r.1) d) (are_keys (map (λ r. r.0) rows) ms) (fits_members (struct_of rows) ms) e (no_keys rows ms)
+
+-- a value without the fields of a struct does not have its shape
+pub no_fields : (rows : List (List ℕ × Place)) (d : Data) → has_fields (map (λ r. r.0) rows) d ≡ false → fits (struct rows) d ≡ false
+no_fields rows null e = refl
+no_fields rows (boolean b) e = refl
+no_fields rows (number n) e = refl
+no_fields rows (string s) e = refl
+no_fields rows (array ds) e = refl
+no_fields rows (object ms) e = no_keys rows ms e
+
+-- a value whose members do not fit does not have the shape
+pub unfit_members : (rows : List (List ℕ × Place)) (d : Data) (ms : Members) → d ≡ object ms → fits_members (struct_of rows) ms ≡ false → fits (struct rows) d ≡ false
+unfit_members rows d ms is e = rw is e
+
 -- ---- a variant, a list
 
 pub no_variant : (ns : List (List ℕ)) (rows : List (List ℕ × Held)) (d : Data) → is_variant d ≡ false → fits (variants ns rows) d ≡ false
@@ -146,4 +222,11 @@ no_list n v vs i x is h at refused = rw is (no_item n vs i x h (ap (λ y. fits (
 pub whole_list : {X : Type 0} (f : X → Data) (xs : List X) (v : Data) (vs : List Value) (i : ℕ) → v ≡ array (items_view vs) → map f xs ≡ map view (take i vs) → length vs ≤ i → v ≡ array (items_of (map f xs))
 whole_list f xs v vs i is e h = is ∙ ap (λ ds. array (items_of ds)) (ap (map view) (sym (take_all i vs h)) ∙ sym e)
 
-pub ruleset refusals = (no_struct, no_field, no_end, and_false, no_variant, no_array, no_pair, no_optional, lighter, no_list)
+-- a callee's refusal that `?` hands on
+pub refused_by : {T U P : Type 0} (r : Result T TreeError) (e : TreeError) → IsErrAnd r (λ x. x ≡ e) → (IsErrOf {T = U} (Err e) NotATree → P) → IsErrOf r NotATree → P
+refused_by (Ok x) e from says refused = absurd from
+refused_by (Err x) e from says refused = says cc
+
+pub ruleset refusals = (no_struct, no_fields, no_end, and_false, no_variant, no_array, no_pair, no_optional, lighter, no_list)
+
+pub ruleset by_members = (no_struct, no_field, no_first, no_end, and_false)

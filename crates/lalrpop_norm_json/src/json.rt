@@ -1,10 +1,10 @@
 //! The parts of a JSON value, each refused as no tree where it is not there.
-ghost use Rattle.std.specs.Prelude.{◌≡◌, [], Some, None, IfOk, IfSome, IfNone, IsErrOf, false};
+ghost use Rattle.std.specs.Prelude.{◌≡◌, [], ◌∷◌, Some, None, IfOk, IfSome, IfNone, IsErrOf, false};
 ghost use Rattle.serde_json.specs.Data.{null, boolean, number, unsigned, string, array, object, item, no_items, member, no_members};
 ghost use Rattle.serde_json.specs.Find.{as_object, as_array};
 ghost use Rattle.serde_json.specs.View.{view, items_view, members_view};
 ghost use Rattle.lalrpop_norm_json.specs.Shapes.{is, text, truth, natural, empty, absent};
-ghost use Rattle.lalrpop_norm_json.specs.Parts.{starts_with, is_no_members, is_variant, is_pair, is_null, case_form};
+ghost use Rattle.lalrpop_norm_json.specs.Parts.{starts_with, is_no_members, has_fields, is_variant, is_pair, is_null, case_form};
 
 use lalrpop_norm_tree::grammar::parse_tree::NoMemory;
 use serde_json::Value;
@@ -90,6 +90,78 @@ pub fn end(mut members: Members<'_>) -> Result<(), TreeError>
         Some(_) => Err(TreeError::NotATree),
         None => Ok(()),
     }
+}
+
+/// The value of the one field of a record.
+#[tactic(auto, using(crate::proofs::Refusals::no_fields_read))]
+pub fn only_field<'v>(value: &'v Value, name: &str) -> Result<&'v Value, TreeError>
+    ensures ok { IfOk result (λ v. view value.now ≡ object (member name.now (view v.now) no_members)) }
+    ensures err { IsErrOf result TreeError.NotATree → has_fields (name.now ∷ []) (view value.now) ≡ false }
+{
+    let mut members = members_of(value)?;
+    let only = field(&mut members, name)?;
+    end(members)?;
+    Ok(only)
+}
+
+/// The values of the two fields of a record, whose names come in their order.
+#[tactic(auto, using(crate::proofs::Refusals::no_fields_read))]
+pub fn two_fields<'v>(
+    value: &'v Value,
+    first: &str,
+    second: &str,
+) -> Result<(&'v Value, &'v Value), TreeError>
+    ensures ok { IfOk result (λ p. view value.now ≡ object (member first.now (view p.0.now) (member second.now (view p.1.now) no_members))) }
+    ensures err { IsErrOf result TreeError.NotATree → has_fields (first.now ∷ second.now ∷ []) (view value.now) ≡ false }
+{
+    let mut members = members_of(value)?;
+    let one = field(&mut members, first)?;
+    let two = field(&mut members, second)?;
+    end(members)?;
+    Ok((one, two))
+}
+
+/// The values of the three fields of a record, whose names come in their order.
+#[tactic(auto, using(crate::proofs::Refusals::no_fields_read))]
+pub fn three_fields<'v>(
+    value: &'v Value,
+    first: &str,
+    second: &str,
+    third: &str,
+) -> Result<(&'v Value, &'v Value, &'v Value), TreeError>
+    ensures ok { IfOk result (λ p. view value.now ≡
+        object (member first.now (view p.0.now) (member second.now (view p.1.now) (member third.now (view p.2.now) no_members)))) }
+    ensures err { IsErrOf result TreeError.NotATree → has_fields (first.now ∷ second.now ∷ third.now ∷ []) (view value.now) ≡ false }
+{
+    let mut members = members_of(value)?;
+    let one = field(&mut members, first)?;
+    let two = field(&mut members, second)?;
+    let three = field(&mut members, third)?;
+    end(members)?;
+    Ok((one, two, three))
+}
+
+/// The values of the four fields of a record, whose names come in their order.
+#[tactic(auto, using(crate::proofs::Refusals::no_fields_read))]
+pub fn four_fields<'v>(
+    value: &'v Value,
+    first: &str,
+    second: &str,
+    third: &str,
+    fourth: &str,
+) -> Result<(&'v Value, &'v Value, &'v Value, &'v Value), TreeError>
+    ensures ok { IfOk result (λ p. view value.now ≡
+        object (member first.now (view p.0.now) (member second.now (view p.1.now) (member third.now (view p.2.now) (member fourth.now (view p.3.now) no_members))))) }
+    ensures err { IsErrOf result TreeError.NotATree →
+        has_fields (first.now ∷ second.now ∷ third.now ∷ fourth.now ∷ []) (view value.now) ≡ false }
+{
+    let mut members = members_of(value)?;
+    let one = field(&mut members, first)?;
+    let two = field(&mut members, second)?;
+    let three = field(&mut members, third)?;
+    let four = field(&mut members, fourth)?;
+    end(members)?;
+    Ok((one, two, three, four))
 }
 
 /// A variant: its name alone, or its name and what it holds.

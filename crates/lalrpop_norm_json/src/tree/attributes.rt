@@ -8,7 +8,8 @@ ghost use Rattle.lalrpop_norm_json.specs.Shapes.{is, fits, place, many};
 ghost use Rattle.lalrpop_norm_json.specs.Forms.{argument_form, attribute_form, attributes_form};
 
 use super::names::{atom, span, string};
-use crate::json::{Case, TreeError, case_of, end, field, items, members_of};
+use super::parts::FromValue;
+use crate::json::{Case, TreeError, case_of, items, three_fields};
 use lalrpop_norm_tree::grammar::parse_tree::{Attribute, AttributeArg};
 use serde_json::Value;
 use std::alloc::Global;
@@ -39,11 +40,10 @@ fn attribute(alloc: Global, value: &Value) -> Result<Attribute, TreeError>
     ensures ok { IfOk result (λ a. view value.now ≡ attribute_form (attribute_view a)) }
     ensures err { IsErrOf result TreeError.NotATree → is shape.attribute (view value.now) ≡ false }
 {
-    let mut members = members_of(value)?;
-    let arg = argument(alloc, field(&mut members, "arg")?)?;
-    let id = atom(alloc, field(&mut members, "id")?)?;
-    let id_span = span(field(&mut members, "id_span")?)?;
-    end(members)?;
+    let (arg, id, at) = three_fields(value, "arg", "id", "id_span")?;
+    let id_span = span(at)?;
+    let id = atom(alloc, id)?;
+    let arg = argument(alloc, arg)?;
     Ok(Attribute { id_span, id, arg })
 }
 
@@ -59,4 +59,18 @@ pub(super) fn attributes(alloc: Global, value: &Value) -> Result<Vec<Attribute>,
         attributes.push(attribute(alloc, value)?)?;
     }
     Ok(attributes)
+}
+
+impl FromValue for Attribute {
+    ghost use Rattle.lalrpop_norm_parts.specs.Attributes.{attribute_view};
+    ghost use Rattle.lalrpop_norm_json.specs.Forms.{attribute_form};
+    ghost use Rattle.lalrpop_norm_json.specs.Shapes as shape;
+
+    ghost form = { λ a. attribute_form (attribute_view a) };
+
+    ghost named = { shape.attribute };
+
+    fn from_value(alloc: Global, value: &Value) -> Result<Attribute, TreeError> {
+        attribute(alloc, value)
+    }
 }

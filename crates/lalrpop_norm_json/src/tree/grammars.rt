@@ -6,12 +6,10 @@ ghost use Rattle.lalrpop_norm_json.specs.Shapes as shape;
 ghost use Rattle.lalrpop_norm_json.specs.Shapes.{is, fits, place, many};
 ghost use Rattle.lalrpop_norm_json.specs.ItemForms.{item_form, items_form, grammar_form};
 
-use super::attributes::attributes;
-use super::names::{span, string};
-use super::parts::list;
+use super::names::string;
+use super::parts::{no_list, required, several};
 use super::rules::rule;
 use super::tokens::extern_token;
-use super::types::{parameters, where_clauses};
 use crate::json::{Case, TreeError, case_of, end, field, items, members_of};
 use lalrpop_norm_tree::grammar::parse_tree::{Grammar, GrammarItem};
 use serde_json::Value;
@@ -46,21 +44,21 @@ fn grammar_items(alloc: Global, value: &Value) -> Result<Vec<GrammarItem>, TreeE
     Ok(read)
 }
 
-/// The grammar whose form the value is.
-#[tactic(auto, using(crate::proofs::Refusals::refusals))]
+/// The grammar whose form the value is: no parameter and no where clause is read yet.
+#[tactic(auto, using(crate::proofs::Refusals::by_members))]
 pub fn grammar(alloc: Global, value: &Value) -> Result<Grammar, TreeError>
     ensures ok { IfOk result (λ g. grammar_form (grammar_view g) ≡ Some (view value.now)) }
     ensures err { IsErrOf result TreeError.NotATree → is shape.grammar (view value.now) ≡ false }
 {
     let mut members = members_of(value)?;
-    let attributes = attributes(alloc, field(&mut members, "attributes")?)?;
+    let attributes = several(alloc, &mut members, "attributes")?;
     let items = grammar_items(alloc, field(&mut members, "items")?)?;
-    let module_attributes = list(alloc, field(&mut members, "module_attributes")?)?;
-    let parameters = parameters(alloc, field(&mut members, "parameters")?)?;
-    let prefix = string(alloc, field(&mut members, "prefix")?)?;
-    let span = span(field(&mut members, "span")?)?;
-    let type_parameters = list(alloc, field(&mut members, "type_parameters")?)?;
-    let where_clauses = where_clauses(alloc, field(&mut members, "where_clauses")?)?;
+    let module_attributes = several(alloc, &mut members, "module_attributes")?;
+    let parameters = no_list(alloc, &mut members, "parameters")?;
+    let prefix = required(alloc, &mut members, "prefix")?;
+    let span = required(alloc, &mut members, "span")?;
+    let type_parameters = several(alloc, &mut members, "type_parameters")?;
+    let where_clauses = no_list(alloc, &mut members, "where_clauses")?;
     end(members)?;
     Ok(Grammar {
         prefix,

@@ -8,7 +8,7 @@ ghost use Rattle.lalrpop_norm_json.specs.Shapes.{is};
 ghost use Rattle.lalrpop_norm_json.specs.Forms.{span_form, literal_form, terminal_form, path_form};
 
 use super::parts::{FromValue, list};
-use crate::json::{Case, TreeError, case_of, end, field, members_of, natural, pair, text, truth};
+use crate::json::{Case, TreeError, case_of, natural, pair, text, truth, two_fields};
 use lalrpop_norm_tree::grammar::parse_tree::{
     Atom, Lifetime, NonterminalString, Path, Span, TerminalLiteral, TerminalString, TypeParameter,
 };
@@ -80,10 +80,9 @@ pub(super) fn path(alloc: Global, value: &Value) -> Result<Path, TreeError>
     ensures ok { IfOk result (λ p. view value.now ≡ path_form (path_view p)) }
     ensures err { IsErrOf result TreeError.NotATree → is shape.path (view value.now) ≡ false }
 {
-    let mut members = members_of(value)?;
-    let absolute = truth(field(&mut members, "absolute")?)?;
-    let ids = list(alloc, field(&mut members, "ids")?)?;
-    end(members)?;
+    let (absolute, ids) = two_fields(value, "absolute", "ids")?;
+    let absolute = truth(absolute)?;
+    let ids = list(alloc, ids)?;
     Ok(Path { absolute, ids })
 }
 
@@ -172,5 +171,18 @@ impl FromValue for Path {
 
     fn from_value(alloc: Global, value: &Value) -> Result<Path, TreeError> {
         path(alloc, value)
+    }
+}
+
+impl FromValue for Span {
+    ghost use Rattle.lalrpop_norm_json.specs.Forms.{span_form};
+    ghost use Rattle.lalrpop_norm_json.specs.Shapes as shape;
+
+    ghost form = { span_form };
+
+    ghost named = { shape.span };
+
+    fn from_value(_alloc: Global, value: &Value) -> Result<Span, TreeError> {
+        span(value)
     }
 }

@@ -9,7 +9,7 @@ ghost use Rattle.lalrpop_norm_json.specs.Shapes.{is, fits, place, many};
 ghost use Rattle.lalrpop_norm_json.specs.PatternForms.{pattern_kind_form, pattern_form, patterns_form};
 
 use super::names::{path, span};
-use crate::json::{Case, TreeError, case_of, end, field, items, members_of, pair};
+use crate::json::{Case, TreeError, case_of, items, pair, two_fields};
 use lalrpop_norm_tree::grammar::parse_tree::TypeRef;
 use lalrpop_norm_tree::grammar::pattern::{Pattern, PatternKind};
 use serde_json::Value;
@@ -46,10 +46,9 @@ pub(super) fn pattern(alloc: Global, value: &Value) -> Result<Pattern<TypeRef>, 
     ensures ok { IfOk result (λ p. view value.now ≡ pattern_form (pattern_view type_view p)) }
     ensures err { IsErrOf result TreeError.NotATree → is shape.pattern (view value.now) ≡ false }
 {
-    let mut members = members_of(value)?;
-    let kind = pattern_kind(alloc, field(&mut members, "kind")?)?;
-    let span = span(field(&mut members, "span")?)?;
-    end(members)?;
+    let (kind, at) = two_fields(value, "kind", "span")?;
+    let span = span(at)?;
+    let kind = pattern_kind(alloc, kind)?;
     Ok(Pattern { span, kind })
 }
 

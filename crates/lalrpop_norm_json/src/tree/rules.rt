@@ -4,28 +4,16 @@ ghost use Rattle.serde_json.specs.View.{view};
 ghost use Rattle.lalrpop_norm_tree.specs.Items.{alternative_view, rule_view};
 ghost use Rattle.lalrpop_norm_json.specs.Shapes as shape;
 ghost use Rattle.lalrpop_norm_json.specs.Shapes.{is};
-ghost use Rattle.lalrpop_norm_json.specs.Json.{maybe_form};
-ghost use Rattle.lalrpop_norm_json.specs.ItemForms.{condition_form, alternative_form, rule_form};
+ghost use Rattle.lalrpop_norm_json.specs.ItemForms.{alternative_form, rule_form};
 
-use super::attributes::attributes;
-use super::names::{atom, path, span, string};
-use super::parts::{FromValue, list, maybe};
-use super::symbols::group;
-use crate::json::{Case, TreeError, absent, case_of, end, field, members_of};
+use super::names::{path, string};
+use super::parts::{FromValue, maybe, no_value, optional, required, several};
+use crate::json::{Case, TreeError, case_of, end, members_of};
 use lalrpop_norm_tree::grammar::parse_tree::{
-    ActionKind, Alternative, Condition, NonterminalData, NonterminalString, Visibility,
+    ActionKind, Alternative, NonterminalData, Visibility,
 };
 use serde_json::Value;
 use std::alloc::Global;
-
-/// No condition: none is read yet.
-fn condition(value: &Value) -> Result<Option<Condition>, TreeError>
-    ensures ok { IfOk result (λ o. view value.now ≡ maybe_form condition_form o) }
-    ensures err { IsErrOf result TreeError.NotATree → is shape.absent (view value.now) ≡ false }
-{
-    absent(value)?;
-    Ok(None)
-}
 
 impl FromValue for ActionKind {
     ghost use Rattle.lalrpop_norm_tree.specs.Items.{action_view};
@@ -53,22 +41,23 @@ impl FromValue for ActionKind {
     }
 }
 
-#[tactic(auto, using(crate::proofs::Refusals::refusals, crate::proofs::FormLemmas::maybe_seen))]
+/// No condition is read yet.
+#[tactic(auto, using(crate::proofs::Refusals::by_members))]
 fn alternative(alloc: Global, value: &Value) -> Result<Alternative, TreeError>
     ensures ok { IfOk result (λ a. view value.now ≡ alternative_form (alternative_view a)) }
     ensures err { IsErrOf result TreeError.NotATree → is shape.alternative (view value.now) ≡ false }
 {
     let mut members = members_of(value)?;
-    let action = maybe(alloc, field(&mut members, "action")?)?;
-    let attributes = attributes(alloc, field(&mut members, "attributes")?)?;
-    let condition = condition(field(&mut members, "condition")?)?;
-    let expr = group(alloc, field(&mut members, "expr")?)?;
-    let span = span(field(&mut members, "span")?)?;
+    let action = optional(alloc, &mut members, "action")?;
+    let attributes = several(alloc, &mut members, "attributes")?;
+    no_value(&mut members, "condition")?;
+    let expr = required(alloc, &mut members, "expr")?;
+    let span = required(alloc, &mut members, "span")?;
     end(members)?;
     Ok(Alternative {
         span,
         expr,
-        condition,
+        condition: None,
         action,
         attributes,
     })
@@ -113,19 +102,19 @@ impl FromValue for Visibility {
     }
 }
 
-#[tactic(auto, using(crate::proofs::Refusals::refusals))]
+#[tactic(auto, using(crate::proofs::Refusals::by_members))]
 pub(super) fn rule(alloc: Global, value: &Value) -> Result<NonterminalData, TreeError>
     ensures ok { IfOk result (λ n. view value.now ≡ rule_form (rule_view n)) }
     ensures err { IsErrOf result TreeError.NotATree → is shape.rule (view value.now) ≡ false }
 {
     let mut members = members_of(value)?;
-    let alternatives = list(alloc, field(&mut members, "alternatives")?)?;
-    let args = list(alloc, field(&mut members, "args")?)?;
-    let attributes = attributes(alloc, field(&mut members, "attributes")?)?;
-    let name = NonterminalString(atom(alloc, field(&mut members, "name")?)?);
-    let span = span(field(&mut members, "span")?)?;
-    let type_decl = maybe(alloc, field(&mut members, "type_decl")?)?;
-    let visibility = Visibility::from_value(alloc, field(&mut members, "visibility")?)?;
+    let alternatives = several(alloc, &mut members, "alternatives")?;
+    let args = several(alloc, &mut members, "args")?;
+    let attributes = several(alloc, &mut members, "attributes")?;
+    let name = required(alloc, &mut members, "name")?;
+    let span = required(alloc, &mut members, "span")?;
+    let type_decl = optional(alloc, &mut members, "type_decl")?;
+    let visibility = required(alloc, &mut members, "visibility")?;
     end(members)?;
     Ok(NonterminalData {
         visibility,

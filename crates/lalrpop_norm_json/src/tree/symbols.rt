@@ -1,15 +1,16 @@
 //! Symbols.
-ghost use Rattle.std.specs.Prelude.{◌≡◌, [], ◌∷◌, IfOk, IsErrOf, false};
+ghost use Rattle.std.specs.Prelude.{◌≡◌, codes, IfOk, IsErrOf, false};
 ghost use Rattle.serde_json.specs.Data.{array};
 ghost use Rattle.serde_json.specs.View.{view};
-ghost use Rattle.lalrpop_norm_tree.specs.Symbols.{kind_view, symbol_view, expr_view, repeat_view, parts_view};
+ghost use Rattle.lalrpop_norm_tree.specs.Symbols.{kind_view, symbol_view, expr_view, parts_view};
 ghost use Rattle.lalrpop_norm_json.specs.Shapes as shape;
 ghost use Rattle.lalrpop_norm_json.specs.Shapes.{is, fits, place, many};
-ghost use Rattle.lalrpop_norm_json.specs.Json.{row};
-ghost use Rattle.lalrpop_norm_json.specs.SymbolForms.{op_form, name_form, kind_form, part_form, parts_form, group_form, repeat_form};
+ghost use Rattle.lalrpop_norm_json.specs.Json.{variant};
+ghost use Rattle.lalrpop_norm_json.specs.SymbolForms.{op_form, name_form, kind_form, part_form, parts_form, group_form};
 
 use super::names::{atom, span, terminal};
-use crate::json::{Case, TreeError, case_of, end, field, items, members_of, pair, truth};
+use super::parts::FromValue;
+use crate::json::{Case, TreeError, case_of, items, only_field, pair, truth, two_fields};
 use lalrpop_norm_tree::grammar::parse_tree::{
     ExprSymbol, Name, NonterminalString, RepeatOp, RepeatSymbol, Symbol, SymbolKind,
 };
@@ -37,10 +38,9 @@ fn name(alloc: Global, value: &Value) -> Result<Name, TreeError>
     ensures ok { IfOk result (λ n. view value.now ≡ name_form n) }
     ensures err { IsErrOf result TreeError.NotATree → is shape.symbol_name (view value.now) ≡ false }
 {
-    let mut members = members_of(value)?;
-    let mutable = truth(field(&mut members, "mutable")?)?;
-    let name = atom(alloc, field(&mut members, "name")?)?;
-    end(members)?;
+    let (mutable, name) = two_fields(value, "mutable", "name")?;
+    let mutable = truth(mutable)?;
+    let name = atom(alloc, name)?;
     Ok(Name { mutable, name })
 }
 
@@ -57,12 +57,9 @@ pub(super) fn kind(alloc: Global, value: &Value) -> Result<SymbolKind, TreeError
             "AmbiguousId" => Ok(SymbolKind::AmbiguousId(atom(alloc, held)?)),
             "Terminal" => Ok(SymbolKind::Terminal(terminal(alloc, held)?)),
             "Nonterminal" => Ok(SymbolKind::Nonterminal(NonterminalString(atom(alloc, held)?))),
-            "Repeat" => Ok(SymbolKind::Repeat(Box::new(alloc, repeat(alloc, held)?)?)),
-            "Choose" => Ok(SymbolKind::Choose(Box::new(alloc, symbol(alloc, held)?)?)),
-            "Name" => {
-                let (name, symbol) = named(alloc, held)?;
-                Ok(SymbolKind::Name(name, Box::new(alloc, symbol)?))
-            }
+            "Repeat" => repeated(alloc, held),
+            "Choose" => chosen(alloc, held),
+            "Name" => named(alloc, held),
             _ => Err(TreeError::NotATree),
         },
     }
@@ -74,38 +71,47 @@ fn symbol(alloc: Global, value: &Value) -> Result<Symbol, TreeError>
     ensures ok { IfOk result (λ s. view value.now ≡ part_form (symbol_view s)) }
     ensures err { IsErrOf result TreeError.NotATree → is shape.symbol (view value.now) ≡ false }
 {
-    let mut members = members_of(value)?;
-    let kind = kind(alloc, field(&mut members, "kind")?)?;
-    let span = span(field(&mut members, "span")?)?;
-    end(members)?;
+    let (of, at) = two_fields(value, "kind", "span")?;
+    let span = span(at)?;
+    let kind = kind(alloc, of)?;
     Ok(Symbol { span, kind })
 }
 
-/// A name, and the symbol that has it.
+/// The repeat whose operator and symbol these are.
 #[cycle(symbol)]
 #[tactic(auto, using(crate::proofs::Refusals::refusals))]
-fn named(alloc: Global, value: &Value) -> Result<(Name, Symbol), TreeError>
-    ensures ok { IfOk result (λ p. view value.now ≡ row (name_form p.0 ∷ part_form (symbol_view p.1) ∷ [])) }
-    ensures err { IsErrOf result TreeError.NotATree →
-        fits (shape.arrayed (shape.row (shape.one shape.symbol_name ∷ shape.one shape.symbol ∷ []))) (view value.now) ≡ false }
+fn repeated(alloc: Global, value: &Value) -> Result<SymbolKind, TreeError>
+    ensures ok { IfOk result (λ k. variant (codes "Repeat") (view value.now) ≡ kind_form (kind_view k)) }
+    ensures err { IsErrOf result TreeError.NotATree → is shape.kind (variant (codes "Repeat") (view value.now)) ≡ false }
+{
+    let (op, repeated) = two_fields(value, "op", "symbol")?;
+    let op = repeat_op(op)?;
+    let symbol = symbol(alloc, repeated)?;
+    Ok(SymbolKind::Repeat(Box::new(alloc, RepeatSymbol { op, symbol })?))
+}
+
+/// The chosen symbol.
+#[cycle(symbol)]
+#[tactic(auto, using(crate::proofs::Refusals::refusals))]
+fn chosen(alloc: Global, value: &Value) -> Result<SymbolKind, TreeError>
+    ensures ok { IfOk result (λ k. variant (codes "Choose") (view value.now) ≡ kind_form (kind_view k)) }
+    ensures err { IsErrOf result TreeError.NotATree → is shape.kind (variant (codes "Choose") (view value.now)) ≡ false }
+{
+    let symbol = symbol(alloc, value)?;
+    Ok(SymbolKind::Choose(Box::new(alloc, symbol)?))
+}
+
+/// The symbol with a name.
+#[cycle(symbol)]
+#[tactic(auto, using(crate::proofs::Refusals::refusals))]
+fn named(alloc: Global, value: &Value) -> Result<SymbolKind, TreeError>
+    ensures ok { IfOk result (λ k. variant (codes "Name") (view value.now) ≡ kind_form (kind_view k)) }
+    ensures err { IsErrOf result TreeError.NotATree → is shape.kind (variant (codes "Name") (view value.now)) ≡ false }
 {
     let (first, second) = pair(value)?;
     let name = name(alloc, first)?;
     let symbol = symbol(alloc, second)?;
-    Ok((name, symbol))
-}
-
-#[cycle(symbol)]
-#[tactic(auto, using(crate::proofs::Refusals::refusals))]
-fn repeat(alloc: Global, value: &Value) -> Result<RepeatSymbol, TreeError>
-    ensures ok { IfOk result (λ r. view value.now ≡ repeat_form (repeat_view r)) }
-    ensures err { IsErrOf result TreeError.NotATree → is shape.repeat (view value.now) ≡ false }
-{
-    let mut members = members_of(value)?;
-    let op = repeat_op(field(&mut members, "op")?)?;
-    let symbol = symbol(alloc, field(&mut members, "symbol")?)?;
-    end(members)?;
-    Ok(RepeatSymbol { op, symbol })
+    Ok(SymbolKind::Name(name, Box::new(alloc, symbol)?))
 }
 
 #[cycle(symbol)]
@@ -114,9 +120,7 @@ pub(super) fn group(alloc: Global, value: &Value) -> Result<ExprSymbol, TreeErro
     ensures ok { IfOk result (λ e. view value.now ≡ group_form (expr_view e)) }
     ensures err { IsErrOf result TreeError.NotATree → is shape.group (view value.now) ≡ false }
 {
-    let mut members = members_of(value)?;
-    let symbols = symbols(alloc, field(&mut members, "symbols")?)?;
-    end(members)?;
+    let symbols = symbols(alloc, only_field(value, "symbols")?)?;
     Ok(ExprSymbol { symbols })
 }
 
@@ -132,4 +136,18 @@ fn symbols(alloc: Global, value: &Value) -> Result<Vec<Symbol>, TreeError>
         symbols.push(symbol(alloc, value)?)?;
     }
     Ok(symbols)
+}
+
+impl FromValue for ExprSymbol {
+    ghost use Rattle.lalrpop_norm_tree.specs.Symbols.{expr_view};
+    ghost use Rattle.lalrpop_norm_json.specs.SymbolForms.{group_form};
+    ghost use Rattle.lalrpop_norm_json.specs.Shapes as shape;
+
+    ghost form = { λ e. group_form (expr_view e) };
+
+    ghost named = { shape.group };
+
+    fn from_value(alloc: Global, value: &Value) -> Result<ExprSymbol, TreeError> {
+        group(alloc, value)
+    }
 }

@@ -12,7 +12,7 @@ use super::names::{span, terminal};
 use super::parts::{FromValue, list, maybe};
 use super::patterns::pattern;
 use super::types::type_ref;
-use crate::json::{TreeError, end, field, members_of, nothing};
+use crate::json::{TreeError, four_fields, nothing, three_fields};
 use lalrpop_norm_tree::grammar::parse_tree::{AssociatedType, Conversion, EnumToken, ExternToken};
 use serde_json::Value;
 use std::alloc::Global;
@@ -37,12 +37,11 @@ impl FromValue for Conversion {
 
     #[tactic(auto, using(crate::proofs::Refusals::refusals))]
     fn from_value(alloc: Global, value: &Value) -> Result<Conversion, TreeError> {
-        let mut members = members_of(value)?;
-        let attributes = attributes(alloc, field(&mut members, "attributes")?)?;
-        let from = terminal(alloc, field(&mut members, "from")?)?;
-        let span = span(field(&mut members, "span")?)?;
-        let to = pattern(alloc, field(&mut members, "to")?)?;
-        end(members)?;
+        let (listed, from, at, to) = four_fields(value, "attributes", "from", "span", "to")?;
+        let span = span(at)?;
+        let from = terminal(alloc, from)?;
+        let attributes = attributes(alloc, listed)?;
+        let to = pattern(alloc, to)?;
         Ok(Conversion {
             span,
             attributes,
@@ -57,11 +56,15 @@ fn enum_token(alloc: Global, value: &Value) -> Result<EnumToken, TreeError>
     ensures ok { IfOk result (λ e. view value.now ≡ enum_token_form (enum_token_view e)) }
     ensures err { IsErrOf result TreeError.NotATree → is shape.enum_token (view value.now) ≡ false }
 {
-    let mut members = members_of(value)?;
-    let conversions = list(alloc, field(&mut members, "conversions")?)?;
-    let type_name = type_ref(alloc, field(&mut members, "type_name")?)?;
-    let type_span = span(field(&mut members, "type_span")?)?;
-    end(members)?;
+    let (conversions, type_name, at) = three_fields(
+        value,
+        "conversions",
+        "type_name",
+        "type_span",
+    )?;
+    let type_span = span(at)?;
+    let conversions = list(alloc, conversions)?;
+    let type_name = type_ref(alloc, type_name)?;
     Ok(EnumToken {
         type_name,
         type_span,
@@ -88,11 +91,15 @@ pub(super) fn extern_token(alloc: Global, value: &Value) -> Result<ExternToken, 
     ensures ok { IfOk result (λ t. view value.now ≡ extern_token_form (extern_token_view t)) }
     ensures err { IsErrOf result TreeError.NotATree → is shape.extern_token (view value.now) ≡ false }
 {
-    let mut members = members_of(value)?;
-    let associated_types = associated_types(alloc, field(&mut members, "associated_types")?)?;
-    let enum_token = maybe(alloc, field(&mut members, "enum_token")?)?;
-    let span = span(field(&mut members, "span")?)?;
-    end(members)?;
+    let (associated, enum_token, at) = three_fields(
+        value,
+        "associated_types",
+        "enum_token",
+        "span",
+    )?;
+    let span = span(at)?;
+    let associated_types = associated_types(alloc, associated)?;
+    let enum_token = maybe(alloc, enum_token)?;
     Ok(ExternToken {
         span,
         associated_types,

@@ -1,23 +1,22 @@
-//! Written types, and a grammar's parameters and where clauses.
-ghost use Rattle.std.specs.Prelude.{◌≡◌, [], ◌∷◌, codes, map, option_map, IfOk, IsErrOf, false};
+//! Written types.
+ghost use Rattle.std.specs.Prelude.{◌≡◌, [], ◌∷◌, codes, option_map, IfOk, IsErrOf, false};
 ghost use Rattle.serde_json.specs.Data.{array};
 ghost use Rattle.serde_json.specs.View.{view};
 ghost use Rattle.lalrpop_norm_parts.specs.Paths.{path_view};
-ghost use Rattle.lalrpop_norm_tree.specs.Types.{type_view, types_view, maybe_of, parameter_view};
-ghost use Rattle.lalrpop_norm_parts.specs.Bounds.{where_clause_view};
+ghost use Rattle.lalrpop_norm_tree.specs.Types.{type_view, types_view, maybe_of};
 ghost use Rattle.lalrpop_norm_json.specs.Shapes as shape;
 ghost use Rattle.lalrpop_norm_json.specs.Shapes.{is, fits, place, one, many, maybe, struct};
-ghost use Rattle.lalrpop_norm_json.specs.Json.{fields, variant, list_form};
+ghost use Rattle.lalrpop_norm_json.specs.Json.{fields, variant};
 ghost use Rattle.lalrpop_norm_json.specs.Forms.{path_form};
-ghost use Rattle.lalrpop_norm_json.specs.TypeForms.{type_form, types_form, maybe_type_form, parameter_form, where_clause_form};
+ghost use Rattle.lalrpop_norm_json.specs.TypeForms.{type_form, types_form, maybe_type_form};
 
 use super::names::{atom, path};
 use super::parts::{FromValue, list, maybe};
 use super::symbols::kind;
 use crate::json::{
-    Case, TreeError, case_of, end, field, items, members_of, nothing, present, truth,
+    Case, TreeError, case_of, four_fields, items, present, three_fields, truth, two_fields,
 };
-use lalrpop_norm_tree::grammar::parse_tree::{Lifetime, Parameter, Path, TypeRef, WhereClause};
+use lalrpop_norm_tree::grammar::parse_tree::{Lifetime, Path, TypeRef};
 use serde_json::Value;
 use std::alloc::Global;
 
@@ -73,10 +72,9 @@ fn path_and_types(alloc: Global, value: &Value) -> Result<(Path, Vec<TypeRef>), 
     ensures err { IsErrOf result TreeError.NotATree →
         fits (struct ((codes "path", one shape.path) ∷ (codes "types", many shape.type) ∷ [])) (view value.now) ≡ false }
 {
-    let mut members = members_of(value)?;
-    let path = path(alloc, field(&mut members, "path")?)?;
-    let types = type_refs(alloc, field(&mut members, "types")?)?;
-    end(members)?;
+    let (named, arguments) = two_fields(value, "path", "types")?;
+    let path = path(alloc, named)?;
+    let types = type_refs(alloc, arguments)?;
     Ok((path, types))
 }
 
@@ -87,11 +85,10 @@ fn reference_type(alloc: Global, value: &Value) -> Result<TypeRef, TreeError>
     ensures ok { IfOk result (λ t. variant (codes "Ref") (view value.now) ≡ type_form (type_view t)) }
     ensures err { IsErrOf result TreeError.NotATree → is shape.type (variant (codes "Ref") (view value.now)) ≡ false }
 {
-    let mut members = members_of(value)?;
-    let lifetime = maybe(alloc, field(&mut members, "lifetime")?)?;
-    let mutable = truth(field(&mut members, "mutable")?)?;
-    let referent = type_ref(alloc, field(&mut members, "referent")?)?;
-    end(members)?;
+    let (lifetime, mutable, referent) = three_fields(value, "lifetime", "mutable", "referent")?;
+    let mutable = truth(mutable)?;
+    let lifetime = maybe(alloc, lifetime)?;
+    let referent = type_ref(alloc, referent)?;
     Ok(TypeRef::Ref {
         lifetime,
         mutable,
@@ -106,12 +103,17 @@ fn function_type(alloc: Global, value: &Value) -> Result<TypeRef, TreeError>
     ensures ok { IfOk result (λ t. variant (codes "Fn") (view value.now) ≡ type_form (type_view t)) }
     ensures err { IsErrOf result TreeError.NotATree → is shape.type (variant (codes "Fn") (view value.now)) ≡ false }
 {
-    let mut members = members_of(value)?;
-    let forall = list(alloc, field(&mut members, "forall")?)?;
-    let parameters = type_refs(alloc, field(&mut members, "parameters")?)?;
-    let path = path(alloc, field(&mut members, "path")?)?;
-    let ret = maybe_type_ref(alloc, field(&mut members, "ret")?)?;
-    end(members)?;
+    let (forall, parameters, named, ret) = four_fields(
+        value,
+        "forall",
+        "parameters",
+        "path",
+        "ret",
+    )?;
+    let forall = list(alloc, forall)?;
+    let parameters = type_refs(alloc, parameters)?;
+    let path = path(alloc, named)?;
+    let ret = maybe_type_ref(alloc, ret)?;
     Ok(TypeRef::Fn {
         forall,
         path,
@@ -145,25 +147,4 @@ fn type_refs(alloc: Global, value: &Value) -> Result<Vec<TypeRef>, TreeError>
         types.push(type_ref(alloc, value)?)?;
     }
     Ok(types)
-}
-
-/// No parameters: none are read yet.
-pub(super) fn parameters(alloc: Global, value: &Value) -> Result<Vec<Parameter>, TreeError>
-    ensures ok { IfOk result (λ ps. view value.now ≡ list_form parameter_form (map parameter_view ps.items)) }
-    ensures err { IsErrOf result TreeError.NotATree → is shape.empty (view value.now) ≡ false }
-{
-    nothing(value)?;
-    Ok(Vec::new(alloc))
-}
-
-/// No where clauses: none are read yet.
-pub(super) fn where_clauses(
-    alloc: Global,
-    value: &Value,
-) -> Result<Vec<WhereClause<TypeRef>>, TreeError>
-    ensures ok { IfOk result (λ cs. view value.now ≡ list_form where_clause_form (map (where_clause_view type_view) cs.items)) }
-    ensures err { IsErrOf result TreeError.NotATree → is shape.empty (view value.now) ≡ false }
-{
-    nothing(value)?;
-    Ok(Vec::new(alloc))
 }

@@ -1,4 +1,4 @@
-use Rattle.std.proofs.Common.{ap, sym, ◌∙◌}
+use Rattle.std.proofs.Common.{refl, ap, sym, ◌∙◌}
 use Rattle.serde_json.specs.Data.{array, object}
 use Rattle.lalrpop_norm_parts.proofs.AttributeViews.{attribute_seen}
 use Rattle.lalrpop_norm_json.specs.Forms.{attribute_form}
@@ -12,8 +12,5 @@ attributes-returns-clause-ok t c = whole_list _ c.loop-value.attributes.items _ 
 
 pub attribute-returns-clause-ok : goal.attribute-returns-clause-ok
 attribute-returns-clause-ok t c =
-    c.in_ok-members.ensures.ok ∙ ap object (
-    c.in_ok-field.ensures.ok ∙ member_is _ c.in_ok-arg.ensures.ok (
-    c.in_ok-field-2.ensures.ok ∙ member_is _ c.in_ok-id.ensures.ok (
-    c.in_ok-field-3.ensures.ok ∙ member_is _ c.in_ok-id_span.ensures.ok c.in_ok-end.ensures.ok)))
-    ∙ ap attribute_form (sym (attribute_seen c.in_ok-id_span.id_span c.in_ok-id.id c.in_ok-arg.arg))
+    c.in_ok-arg.ensures.ok ∙ ap object (member_is _ c.in_ok-arg-2.ensures.ok (member_is _ c.in_ok-id.ensures.ok (member_is _ c.in_ok-id_span.ensures.ok refl)))
+    ∙ ap attribute_form (sym (attribute_seen c.in_ok-id_span.id_span c.in_ok-id.id c.in_ok-arg-2.arg))

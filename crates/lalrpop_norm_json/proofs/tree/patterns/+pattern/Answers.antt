@@ -1,4 +1,4 @@
-use Rattle.std.proofs.Common.{ap, sym, ◌∙◌}
+use Rattle.std.proofs.Common.{refl, ap, sym, ◌∙◌}
 use Rattle.serde_json.specs.Data.{array, object}
 use Rattle.lalrpop_norm_parts.proofs.PatternViews.{pattern_seen}
 use Rattle.lalrpop_norm_tree.specs.Types.{type_view}
@@ -13,7 +13,5 @@ patterns-returns-clause-ok t c = whole_list _ c.loop-value.patterns.items _ _ _ 
 
 pub pattern-returns-clause-ok : goal.pattern-returns-clause-ok
 pattern-returns-clause-ok t c =
-    c.in_ok-members.ensures.ok ∙ ap object (
-    c.in_ok-field.ensures.ok ∙ member_is _ c.in_ok-kind.ensures.ok (
-    c.in_ok-field-2.ensures.ok ∙ member_is _ c.in_ok-span.ensures.ok c.in_ok-end.ensures.ok))
-    ∙ ap pattern_form (sym (pattern_seen type_view c.in_ok-span.span c.in_ok-kind.kind))
+    c.in_ok-kind.ensures.ok ∙ ap object (member_is _ c.in_ok-kind-2.ensures.ok (member_is _ c.in_ok-span.ensures.ok refl))
+    ∙ ap pattern_form (sym (pattern_seen type_view c.in_ok-span.span c.in_ok-kind-2.kind))

@@ -1,7 +1,7 @@
-use Rattle.std.proofs.Common.{ap, sym, ◌∙◌}
+use Rattle.std.proofs.Common.{refl, ap, sym, ◌∙◌}
 use Rattle.serde_json.specs.Data.{array, object}
-use Rattle.lalrpop_norm_tree.proofs.SymbolViews.{symbol_seen, group_seen, repeat_seen}
-use Rattle.lalrpop_norm_json.specs.SymbolForms.{part_form, group_form, repeat_form}
+use Rattle.lalrpop_norm_tree.proofs.SymbolViews.{symbol_seen, group_seen}
+use Rattle.lalrpop_norm_json.specs.SymbolForms.{part_form, group_form}
 use Rattle.lalrpop_norm_json.proofs.Refusals.{whole_list}
 use Rattle.lalrpop_norm_json.proofs.FormLemmas.{parts_items}
 use Rattle.lalrpop_norm_json.proofs.MemberLemma.{member_is}
@@ -12,19 +12,10 @@ symbols-returns-clause-ok t c = whole_list _ c.loop-value.symbols.items _ _ _ c.
 
 pub symbol-returns-clause-ok : goal.symbol-returns-clause-ok
 symbol-returns-clause-ok t c =
-    c.in_ok-members.ensures.ok ∙ ap object (
-    c.in_ok-field.ensures.ok ∙ member_is _ c.in_ok-kind.ensures.ok (
-    c.in_ok-field-2.ensures.ok ∙ member_is _ c.in_ok-span.ensures.ok c.in_ok-end.ensures.ok))
+    c.in_ok-of.ensures.ok ∙ ap object (member_is _ c.in_ok-kind.ensures.ok (member_is _ c.in_ok-span.ensures.ok refl))
     ∙ ap part_form (sym (symbol_seen c.in_ok-span.span c.in_ok-kind.kind))
-
-pub repeat-returns-clause-ok : goal.repeat-returns-clause-ok
-repeat-returns-clause-ok t c =
-    c.in_ok-members.ensures.ok ∙ ap object (
-    c.in_ok-field.ensures.ok ∙ member_is _ c.in_ok-op.ensures.ok (
-    c.in_ok-field-2.ensures.ok ∙ member_is _ c.in_ok-symbol.ensures.ok c.in_ok-end.ensures.ok))
-    ∙ ap repeat_form (sym (repeat_seen c.in_ok-op.op c.in_ok-symbol.symbol))
 
 pub group-returns-clause-ok : goal.group-returns-clause-ok
 group-returns-clause-ok t c =
-    c.in_ok-members.ensures.ok ∙ ap object (c.in_ok-field.ensures.ok ∙ member_is _ c.in_ok-symbols.ensures.ok c.in_ok-end.ensures.ok)
+    c.in_ok-only_field.ensures.ok ∙ ap object (member_is _ c.in_ok-symbols.ensures.ok refl)
     ∙ ap group_form (sym (group_seen c.in_ok-symbols.symbols))
