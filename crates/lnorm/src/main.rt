@@ -1,24 +1,12 @@
 //! Reads a written grammar as JSON, normalizes it, and writes the lowered grammar as lines.
 #![tactic(auto)]
 
-ghost use Rattle.std.specs.Prelude.{◌≡◌, ◌≢◌, ◌≤◌};
-ghost use Rattle.std.specs.IoError.{error_kind};
+ghost use Rattle.std.specs.Prelude.{◌≤◌};
 
-mod answer;
-mod halt;
-mod lines;
-mod run;
-mod streams;
-#[cfg(test)]
-mod tests;
-mod words;
-
-use crate::halt::{Halt, report};
-use crate::run::run;
-use lalrpop_norm::normalize::NormFailure;
-use std::env;
-use std::io::{self, ErrorKind};
+use lnorm_run::halt::{halt_of_words, report};
+use lnorm_run::run::run;
 use std::process::ExitCode;
+use std::{env, io};
 
 fn main(rt: HostRuntime) -> ExitCode {
     ExitCode::from(status(&rt))
@@ -36,7 +24,7 @@ fn status(rt: &HostRuntime) -> u8
             &mut rt.stdout(),
             &mut rt.stderr(),
         ),
-        Err(error) => report(alloc, halt_of(&error), &mut rt.stderr()),
+        Err(error) => report(alloc, halt_of_words(&error), &mut rt.stderr()),
     }
 }
 
@@ -46,16 +34,4 @@ fn words_of_call(rt: &HostRuntime) -> io::Result<Vec<String>> {
     let _program = args.next();
     let words = args.collect(rt.alloc())?;
     Ok(words)
-}
-
-/// A word that is no text is no option; the other errors are of memory.
-fn halt_of(error: &io::Error) -> Halt
-    ensures text { error_kind error.now ≡ ErrorKind.InvalidData → result ≡ Halt.Usage }
-    ensures other { error_kind error.now ≢ ErrorKind.InvalidData → result ≡ Halt.Failed NormFailure.Memory }
-{
-    if error.kind() == ErrorKind::InvalidData {
-        Halt::Usage
-    } else {
-        Halt::Failed(NormFailure::Memory)
-    }
 }

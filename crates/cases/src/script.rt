@@ -1,0 +1,35 @@
+//! The answers to a script.
+use lnorm_cases::answer::push_answer;
+use lnorm_cases::script::{is_case, words_of};
+use std::{fs, io};
+
+/// The answers to the lines of a script, each under its line.
+pub fn answers(rt: &HostRuntime, script: &str) -> io::Result<String> {
+    let mut text = String::new(rt.alloc());
+    for line in script.lines() {
+        if is_case(line) {
+            push_case(rt, &mut text, line)?;
+        }
+    }
+    Ok(text)
+}
+
+fn push_case(rt: &HostRuntime, text: &mut String, line: &str) -> io::Result<()> {
+    let alloc = rt.alloc();
+    write!(text, "== {line}\n")?;
+    let words = words_of(alloc, line)?;
+    match words.as_slice() {
+        [name, call, words @ ..] => match tree_bytes(rt, name) {
+            Ok(bytes) => push_answer(alloc, text, call, words, &bytes)?,
+            Err(_) => text.push_str("no file\n")?,
+        },
+        _ => text.push_str("no case\n")?,
+    }
+    Ok(())
+}
+
+/// What the file of a tree holds.
+fn tree_bytes(rt: &HostRuntime, name: &str) -> io::Result<Vec<u8>> {
+    let path = format!(in rt.alloc(); "{name}.json")?;
+    fs::read(rt, path.as_str())
+}

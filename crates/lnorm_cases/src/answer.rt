@@ -1,0 +1,59 @@
+//! The answer to a call.
+use crate::call::{Call, Last, Pass, call_of};
+use crate::cuts::{push_cut_faults, push_cut_reads, push_cut_writes};
+use crate::outcome::{Form, outcome_of, push_outcome};
+use crate::runs::push_run;
+use lnorm_run::words::{WordsError, session_of};
+use lnorm_values::values::push_values;
+use std::alloc::{AllocError, Global};
+
+/// Writes the answer to a call, with its words, on the tree that the bytes are. The only error is want of memory for the
+/// answer's text: a call that has no memory is answered `memory`.
+pub fn push_answer(
+    alloc: Global,
+    text: &mut String,
+    call: &str,
+    words: &[String],
+    bytes: &[u8],
+) -> Result<(), AllocError> {
+    match call_of(alloc, call)? {
+        Some(Call::Lnorm) => push_run(alloc, text, words, bytes),
+        Some(Call::CutReads) => push_cut_reads(alloc, text, words, bytes),
+        Some(Call::CutWrites) => push_cut_writes(alloc, text, words, bytes),
+        Some(Call::CutFaults) => push_cut_faults(alloc, text, words, bytes),
+        Some(Call::Values) => match push_values(alloc, text) {
+            Ok(()) => Ok(()),
+            Err(_) => text.push_str("memory\n"),
+        },
+        Some(Call::Passes(passes, last)) => match words {
+            [first, words @ ..] if first.as_str() == "whole" => {
+                push_passed(alloc, text, &passes, last, Form::Whole, words, bytes)
+            }
+            [first, words @ ..] if first.as_str() == "told" => {
+                push_passed(alloc, text, &passes, last, Form::Told, words, bytes)
+            }
+            _ => push_passed(alloc, text, &passes, last, Form::Lines, words, bytes),
+        },
+        None => text.push_str("no such call\n"),
+    }
+}
+
+/// What the passes come to, in the session of the words.
+fn push_passed(
+    alloc: Global,
+    text: &mut String,
+    passes: &[Pass],
+    last: Last,
+    form: Form,
+    words: &[String],
+    bytes: &[u8],
+) -> Result<(), AllocError> {
+    match session_of(alloc, words) {
+        Ok(session) => {
+            let outcome = outcome_of(alloc, &session, passes, last, bytes);
+            push_outcome(alloc, text, &session, form, &outcome)
+        }
+        Err(WordsError::Usage) => text.push_str("usage\n"),
+        Err(WordsError::Memory) => text.push_str("memory\n"),
+    }
+}

@@ -1,0 +1,268 @@
+//! What the accessors of a written grammar answer, and the pure functions that passes stand on.
+use lalrpop_norm::normalize::Session;
+use lalrpop_norm::normalize::cond_comp::cfg_active;
+use lalrpop_norm::normalize::norm_util::{
+    AlternativeAction, Presence, Symbols, analyze_action, check_between_braces,
+};
+use lalrpop_norm_levels::precedence::{AlternativeLevel, Assoc, has_prec_attr, read_levels};
+use lalrpop_norm_print::symbols::{push_span, push_span_line, push_terminal};
+use lalrpop_norm_tree::grammar::parse_tree::{
+    ActionKind, Alternative, ArgPattern, AssociatedType, Attribute, Conversion, EnumToken,
+    ExternToken, Grammar, GrammarItem, NoMemory, NonterminalData, Symbol, TypeRef,
+};
+use std::alloc::{AllocError, Global};
+
+/// Of the first blocks, the attributes, the blocks, and of each rule with its alternatives.
+pub(crate) fn push_asked(
+    alloc: Global,
+    text: &mut String,
+    session: &Session<()>,
+    tree: &Grammar,
+) -> Result<(), AllocError> {
+    push_first_blocks(text, tree)?;
+    push_asked_attributes(text, session, &tree.attributes)?;
+    for item in &tree.items {
+        push_asked_item(alloc, text, session, item)?;
+    }
+    Ok(())
+}
+
+fn push_first_blocks(text: &mut String, tree: &Grammar) -> Result<(), AllocError> {
+    if let Some(block) = tree.match_token() {
+        text.push_str("first match")?;
+        push_span_line(text, block.span)?;
+    }
+    if let Some(block) = tree.extern_token() {
+        text.push_str("first extern")?;
+        push_span_line(text, block.span)?;
+    }
+    if let Some(tokens) = tree.enum_token() {
+        text.push_str("first enum")?;
+        push_span_line(text, tokens.type_span)?;
+    }
+    if tree.intern_token().is_some() {
+        text.push_str("tokenizer\n")?;
+    }
+    Ok(())
+}
+
+/// ` on` or ` off`, and the first argument of each that is `key = "value"`.
+fn push_asked_attributes(
+    text: &mut String,
+    session: &Session<()>,
+    attributes: &[Attribute],
+) -> Result<(), AllocError> {
+    if cfg_active(session, attributes) {
+        text.push_str("  on")?;
+    } else {
+        text.push_str("  off")?;
+    }
+    push_pairs(text, attributes)?;
+    text.push_str("\n")
+}
+
+fn push_pairs(text: &mut String, attributes: &[Attribute]) -> Result<(), AllocError> {
+    for attribute in attributes {
+        if let Some((key, value)) = attribute.get_arg_equal() {
+            write!(text, " {key}={value}")?;
+        }
+    }
+    Ok(())
+}
+
+fn push_asked_item(
+    alloc: Global,
+    text: &mut String,
+    session: &Session<()>,
+    item: &GrammarItem,
+) -> Result<(), AllocError> {
+    if item.is_macro_def() {
+        text.push_str("macro ")?;
+    }
+    if let Some(block) = item.as_match_token() {
+        text.push_str("match")?;
+        push_span_line(text, block.span)?;
+    }
+    if let Some(block) = item.as_extern_token() {
+        push_asked_extern(text, block)?;
+    }
+    if let Some(rule) = item.as_nonterminal() {
+        push_asked_rule(alloc, text, session, rule)?;
+    }
+    if item.as_intern_token().is_some() {
+        text.push_str("tokenizer\n")?;
+    }
+    Ok(())
+}
+
+fn push_asked_extern(text: &mut String, block: &ExternToken) -> Result<(), AllocError> {
+    text.push_str("extern")?;
+    push_associated_type(text, "Location", block.associated_type("Location"))?;
+    push_associated_type(text, "Error", block.associated_type("Error"))?;
+    text.push_str("\n")?;
+    match &block.enum_token {
+        Some(tokens) => push_lengths(text, tokens),
+        None => Ok(()),
+    }
+}
+
+fn push_associated_type(
+    text: &mut String,
+    name: &str,
+    associated: Option<&AssociatedType>,
+) -> Result<(), AllocError> {
+    match associated {
+        Some(associated) => {
+            let ty = &associated.type_ref;
+            write!(text, " {name}={ty}")
+        }
+        None => Ok(()),
+    }
+}
+
+fn push_lengths(text: &mut String, tokens: &EnumToken) -> Result<(), AllocError> {
+    for conversion in &tokens.conversions {
+        push_length(text, conversion)?;
+    }
+    Ok(())
+}
+
+/// A terminal with its length, and a literal with its precedence.
+fn push_length(text: &mut String, conversion: &Conversion) -> Result<(), AllocError> {
+    text.push_str("  ")?;
+    push_terminal(text, &conversion.from)?;
+    let length = conversion.from.display_len();
+    write!(text, " length {length}")?;
+    if let Some(literal) = conversion.from.as_literal() {
+        let precedence = literal.base_precedence();
+        write!(text, " precedence {precedence}")?;
+    }
+    text.push_str("\n")
+}
+
+fn push_asked_rule(
+    alloc: Global,
+    text: &mut String,
+    session: &Session<()>,
+    rule: &NonterminalData,
+) -> Result<(), AllocError> {
+    push_asked_head(alloc, text, rule)?;
+    push_levels(alloc, text, rule)?;
+    push_asked_attributes(text, session, &rule.attributes)?;
+    for alternative in &rule.alternatives {
+        push_asked_alternative(alloc, text, alternative)?;
+        push_asked_attributes(text, session, &alternative.attributes)?;
+    }
+    Ok(())
+}
+
+fn push_asked_head(
+    alloc: Global,
+    text: &mut String,
+    rule: &NonterminalData,
+) -> Result<(), AllocError> {
+    let name = &rule.name;
+    write!(text, "rule {name}")?;
+    if rule.visibility.is_pub() {
+        text.push_str(" public")?;
+    }
+    if rule.is_macro_def() {
+        text.push_str(" macro")?;
+    }
+    match &rule.type_decl {
+        Some(ty) => push_lowered_type(alloc, text, ty),
+        None => Ok(()),
+    }
+}
+
+fn push_lowered_type(alloc: Global, text: &mut String, ty: &TypeRef) -> Result<(), AllocError> {
+    match ty.type_repr(alloc) {
+        Ok(lowered) => write!(text, ": {lowered}"),
+        Err(_) => text.push_str(" of a symbol"),
+    }
+}
+
+/// ` levels 1 left 2 right` of the alternatives, the word only where the first one states a level.
+fn push_levels(alloc: Global, text: &mut String, rule: &NonterminalData) -> Result<(), AllocError> {
+    if has_prec_attr(rule) {
+        text.push_str(" levels")?;
+    }
+    match read_levels(alloc, rule) {
+        Ok(levels) => push_read_levels(text, &levels),
+        Err(_) => text.push_str(" wrong"),
+    }
+}
+
+fn push_read_levels(text: &mut String, levels: &[AlternativeLevel]) -> Result<(), AllocError> {
+    for one in levels {
+        let level = one.level;
+        let side = side_name(&one.side);
+        write!(text, " {level} {side}")?;
+    }
+    Ok(())
+}
+
+fn side_name(side: &Assoc) -> &'static str {
+    match side {
+        Assoc::Left => "left",
+        Assoc::Right => "right",
+        Assoc::NonAssoc => "none",
+        Assoc::FullyAssoc => "all",
+    }
+}
+
+/// Which symbols give values, and where the first `<>` of its code stands.
+fn push_asked_alternative(
+    alloc: Global,
+    text: &mut String,
+    alternative: &Alternative,
+) -> Result<(), AllocError> {
+    text.push_str("   ")?;
+    push_span(text, alternative.span)?;
+    match analyze_action(alloc, alternative) {
+        Ok(AlternativeAction::User(action)) => push_presence(text, action),
+        Ok(AlternativeAction::Default(symbols)) => push_sources(text, &symbols),
+        Err(NoMemory) => text.push_str(" memory"),
+    }
+}
+
+fn push_sources(text: &mut String, symbols: &Symbols) -> Result<(), AllocError> {
+    match symbols {
+        Symbols::Named(named) => push_named(text, named),
+        Symbols::Anon(anonymous) => push_anonymous(text, anonymous),
+    }
+}
+
+fn push_named(text: &mut String, named: &[(usize, ArgPattern, &Symbol)]) -> Result<(), AllocError> {
+    text.push_str(" named")?;
+    for (place, name, symbol) in named {
+        write!(text, " {place} {name}")?;
+        push_span(text, symbol.span)?;
+    }
+    Ok(())
+}
+
+fn push_anonymous(text: &mut String, anonymous: &[(usize, &Symbol)]) -> Result<(), AllocError> {
+    text.push_str(" anonymous")?;
+    for (place, symbol) in anonymous {
+        write!(text, " {place}")?;
+        push_span(text, symbol.span)?;
+    }
+    Ok(())
+}
+
+fn push_presence(text: &mut String, action: &ActionKind) -> Result<(), AllocError> {
+    match action {
+        ActionKind::User(code) => push_braces(text, code.as_str()),
+        ActionKind::Fallible(code) => push_braces(text, code.as_str()),
+        ActionKind::Lookahead | ActionKind::Lookbehind => text.push_str(" lookaround"),
+    }
+}
+
+fn push_braces(text: &mut String, code: &str) -> Result<(), AllocError> {
+    match check_between_braces(code) {
+        Presence::None => text.push_str(" code"),
+        Presence::Normal => text.push_str(" code <>"),
+        Presence::InCurlyBrackets => text.push_str(" code {<>}"),
+    }
+}

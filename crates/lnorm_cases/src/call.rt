@@ -1,0 +1,152 @@
+//! What a call is, by its name.
+use std::alloc::{AllocError, Global};
+
+/// What is asked for a tree.
+#[derive(Drop)]
+pub(crate) enum Call {
+    /// A run of `lnorm`.
+    Lnorm,
+    /// Runs of it whose reads fail in turn.
+    CutReads,
+    /// Runs of it whose writes fail in turn.
+    CutWrites,
+    /// A run of it whose line on standard error can't be written.
+    CutFaults,
+    /// Values that no tree holds.
+    Values,
+    /// Passes one after another, and what is asked for the tree then.
+    Passes(Vec<Pass>, Last),
+}
+
+/// A pass that answers a tree, or no fault.
+#[derive(Clone, Copy)]
+pub(crate) enum Pass {
+    /// None: the tree as it was read.
+    Read,
+    /// `with_later_parts`: parts that the JSON form does not have yet, put for others.
+    WithLaterParts,
+    /// `validate`, which only looks for faults.
+    Validate,
+    /// `check_globals`, which only looks for faults.
+    CheckGlobals,
+    /// `remove_disabled_decls`.
+    RemoveDisabledDecls,
+    /// `resolve`.
+    Resolve,
+    /// `expand_levels`.
+    ExpandLevels,
+    /// `expand_precedence`.
+    ExpandPrecedence,
+    /// `expand_macros`.
+    ExpandMacros,
+}
+
+impl Pass {
+    /// Whether the pass only looks for faults, and makes no tree.
+    pub(crate) fn only_looks(self) -> bool {
+        match self {
+            Pass::Validate | Pass::CheckGlobals => true,
+            Pass::Read | Pass::WithLaterParts | Pass::RemoveDisabledDecls => false,
+            Pass::Resolve => false,
+            Pass::ExpandLevels | Pass::ExpandPrecedence | Pass::ExpandMacros => false,
+        }
+    }
+}
+
+/// What stands last in a call.
+#[derive(Clone, Copy)]
+pub(crate) enum Last {
+    /// A pass.
+    Pass(Pass),
+    /// `infer_types`: the table of types.
+    InferTypes,
+    /// `normalize`: the lowered grammar.
+    Normalize,
+    /// The tree's `clone`.
+    Copy,
+    /// What accessors answer of the tree.
+    Ask,
+    /// Texts of the tree's parts.
+    Texts,
+    /// The copy of the lowered grammar.
+    LoweredCopy,
+}
+
+/// The call of that name: one of `lnorm`, or passes with `,` between each two. None where a part of it has no meaning.
+pub(crate) fn call_of(alloc: Global, name: &str) -> Result<Option<Call>, AllocError> {
+    match name {
+        "lnorm" => Ok(Some(Call::Lnorm)),
+        "cut_reads" => Ok(Some(Call::CutReads)),
+        "cut_writes" => Ok(Some(Call::CutWrites)),
+        "cut_faults" => Ok(Some(Call::CutFaults)),
+        "values" => Ok(Some(Call::Values)),
+        _ => passes_of(alloc, name),
+    }
+}
+
+fn passes_of(alloc: Global, name: &str) -> Result<Option<Call>, AllocError> {
+    let (first, last) = match name.rsplit_once(",") {
+        Some((first, last)) => (first, last),
+        None => ("read", name),
+    };
+    let Some(last) = last_of(last) else {
+        return Ok(None);
+    };
+    let mut passes = Vec::new(alloc);
+    for part in first.split(",") {
+        match pass_of(part) {
+            Some(pass) => passes.push(pass)?,
+            None => return Ok(None),
+        }
+    }
+    Ok(Some(Call::Passes(passes, last)))
+}
+
+fn last_of(name: &str) -> Option<Last> {
+    match name {
+        "infer_types" => Some(Last::InferTypes),
+        "normalize" => Some(Last::Normalize),
+        "lowered_copy" => Some(Last::LoweredCopy),
+        _ => look_of(name),
+    }
+}
+
+fn look_of(name: &str) -> Option<Last> {
+    match name {
+        "copy" => Some(Last::Copy),
+        "ask" => Some(Last::Ask),
+        "texts" => Some(Last::Texts),
+        _ => match pass_of(name) {
+            Some(pass) => Some(Last::Pass(pass)),
+            None => None,
+        },
+    }
+}
+
+fn pass_of(name: &str) -> Option<Pass> {
+    match name {
+        "read" => Some(Pass::Read),
+        "with_later_parts" => Some(Pass::WithLaterParts),
+        "validate" => Some(Pass::Validate),
+        "check_globals" => Some(Pass::CheckGlobals),
+        _ => change_of(name),
+    }
+}
+
+/// A pass that makes another tree.
+fn change_of(name: &str) -> Option<Pass> {
+    match name {
+        "remove_disabled_decls" => Some(Pass::RemoveDisabledDecls),
+        "resolve" => Some(Pass::Resolve),
+        _ => expansion_of(name),
+    }
+}
+
+fn expansion_of(name: &str) -> Option<Pass> {
+    match name {
+        "expand_levels" => Some(Pass::ExpandLevels),
+        "expand_precedence" => Some(Pass::ExpandPrecedence),
+        "expand_macros" => Some(Pass::ExpandMacros),
+        _ => None,
+    }
+}

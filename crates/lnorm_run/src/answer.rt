@@ -1,0 +1,60 @@
+//! The text for an input.
+ghost use Rattle.std.specs.Prelude.{◌≡◌, IfOk, IfErr, map, string_bytes};
+ghost use Rattle.lalrpop_norm_tree.specs.Items.{grammar_view};
+ghost use Rattle.lalrpop_norm_faults.specs.declared.failure.NormFailure.TheVariants.{Memory};
+ghost use Rattle.lnorm_run.specs.Answers.{IsAnswer, IsFormOf};
+ghost use Rattle.lalrpop_norm_repr.specs.Lowered.{grammar_view as lowered_view};
+ghost use Rattle.lnorm_run.specs.Lines.{lines};
+ghost use Rattle.lnorm_run.specs.declared.halt.Halt.TheVariants.{Failed};
+ghost use Rattle.lnorm_run.specs.Halts.{Explains};
+ghost use Rattle.lnorm_run.specs.Settings.{Settings, settings_view};
+
+use crate::halt::Halt;
+use crate::lines::lines;
+use lalrpop_norm::grammar::repr;
+use lalrpop_norm::normalize::{NormFailure, Session, normalize};
+use lalrpop_norm_json::{TreeError, read_tree};
+use lalrpop_norm_tree::grammar::parse_tree::Grammar;
+use std::alloc::Global;
+
+/// The text for the bytes that were read: the lines of the lowered grammar of the tree whose JSON form they are.
+///
+/// Errors: `NotATree` where they are the form of no tree that is read; `Failed` with the first fault of the tree, or with want of
+/// memory.
+pub fn answer(alloc: Global, session: &Session<()>, bytes: &[u8]) -> Result<String, Halt>
+    ensures ok { IfOk result (λ text. IsAnswer (settings_view session.now) bytes.now (string_bytes text)) }
+    ensures err { IfErr result (Explains (settings_view session.now) bytes.now) }
+{
+    let tree = tree_of(alloc, bytes)?;
+    match normalize(alloc, session, tree) {
+        Ok(lowered) => text_of(alloc, &lowered),
+        Err(failure) => Err(Halt::Failed(failure)),
+    }
+}
+
+/// The tree whose JSON form the bytes are.
+fn tree_of(alloc: Global, bytes: &[u8]) -> Result<Grammar, Halt>
+    ensures ok { IfOk result (λ g. IsFormOf (grammar_view g) bytes.now) }
+    ensures err { IfErr result (λ h. (s : Settings) → Explains s bytes.now h) }
+{
+    let text = match str::from_utf8(bytes) {
+        Ok(text) => text,
+        Err(_) => return Err(Halt::NotATree),
+    };
+    match read_tree(alloc, text) {
+        Ok(tree) => Ok(tree),
+        Err(TreeError::NotATree) => Err(Halt::NotATree),
+        Err(TreeError::Memory) => Err(Halt::Failed(NormFailure::Memory)),
+    }
+}
+
+/// The lines of a lowered grammar.
+fn text_of(alloc: Global, lowered: &repr::Grammar) -> Result<String, Halt>
+    ensures ok { IfOk result (λ text. string_bytes text ≡ lines (lowered_view lowered.now)) }
+    ensures err { IfErr result (λ h. h ≡ Failed Memory) }
+{
+    match lines(alloc, lowered) {
+        Ok(text) => Ok(text),
+        Err(_) => Err(Halt::Failed(NormFailure::Memory)),
+    }
+}

@@ -1,0 +1,67 @@
+//! Refusals with their messages, and sides of alternatives.
+use lalrpop_norm_faults::{FaultKind, NormFailure, refusal};
+use lalrpop_norm_levels::precedence::Assoc;
+use lalrpop_norm_tree::grammar::parse_tree::{NoMemory, Span};
+use std::alloc::{AllocError, Global};
+
+/// A refusal with its message, one without memory for it, and copies of both.
+pub(crate) fn push_refusals(alloc: Global, text: &mut String) -> Result<(), NoMemory> {
+    let message = String::from_str(alloc, "no type follows")?;
+    let told = refusal(FaultKind::NotGrounded, Span(3, 8), Ok(message));
+    push_with_copy(text, &told)?;
+    let untold = refusal(FaultKind::NotGrounded, Span(3, 8), Err(AllocError));
+    push_with_copy(text, &untold)?;
+    for fault in [
+        FaultKind::NotYet,
+        FaultKind::SideOnLowest,
+        FaultKind::TooManyActions,
+    ] {
+        let code = fault.code();
+        write!(text, "{code}\n")?;
+    }
+    Ok(())
+}
+
+/// A failure, and its copy.
+fn push_with_copy(text: &mut String, failure: &NormFailure) -> Result<(), AllocError> {
+    push_told(text, failure)?;
+    push_told(text, &failure.clone()?)
+}
+
+/// `F49 3..8: ` and the message.
+pub fn push_told(text: &mut String, failure: &NormFailure) -> Result<(), AllocError> {
+    match failure {
+        NormFailure::Refused(error) => {
+            let code = error.fault.code();
+            let from = error.span.0;
+            let to = error.span.1;
+            let message = &error.message;
+            write!(text, "{code} {from}..{to}: {message}\n")
+        }
+        NormFailure::Memory => text.push_str("memory\n"),
+    }
+}
+
+/// What each text is as a side.
+pub(crate) fn push_sides(text: &mut String) -> Result<(), AllocError> {
+    for name in ["left", "right", "none", "all", "", "Left", "left ", "both"] {
+        match name.parse::<Assoc>() {
+            Ok(side) => {
+                let found = side_name(side);
+                write!(text, "side \"{name}\": {found}\n")?;
+            }
+            Err(error) => write!(text, "side \"{name}\": {error}\n")?,
+        }
+    }
+    let found = side_name(Assoc::default());
+    write!(text, "no side: {found}\n")
+}
+
+fn side_name(side: Assoc) -> &'static str {
+    match side {
+        Assoc::Left => "left",
+        Assoc::Right => "right",
+        Assoc::NonAssoc => "none",
+        Assoc::FullyAssoc => "all",
+    }
+}

@@ -1,0 +1,11 @@
+//! What a tree in JSON does not show: values that calls make, texts of parts, and parts that have no form in JSON yet.
+#![tactic(auto)]
+
+mod actions;
+pub mod faults;
+pub mod later;
+pub mod lowered;
+mod names;
+mod tables;
+pub mod texts;
+pub mod values;

@@ -1,0 +1,145 @@
+//! Tables of types.
+use lalrpop_norm_repr::grammar::repr::{
+    NonterminalString, Symbol, TerminalString, TypeParameter, TypeRepr, Types,
+};
+use shared_text::{Atom, NoMemory};
+use std::alloc::{AllocError, Global};
+
+/// A table with locations, one without, and one to which types are added.
+pub(crate) fn push_tables(alloc: Global, text: &mut String) -> Result<(), NoMemory> {
+    push_located(alloc, text)?;
+    push_unlocated(alloc, text)?;
+    push_added(alloc, text)
+}
+
+fn push_located(alloc: Global, text: &mut String) -> Result<(), NoMemory> {
+    let types = located(alloc)?;
+    text.push_str("table with locations\n")?;
+    push_table(text, &types)?;
+    push_location(text, &types)?;
+    Ok(())
+}
+
+/// The table with locations of type `usize` and tokens of type `Token<'input>`.
+fn located(alloc: Global) -> Result<Types, NoMemory> {
+    let name = TypeParameter::Id(Atom::new(alloc, "Token<'input>")?);
+    let token = TypeRepr::from_parameter(alloc, &name)?;
+    let location = TypeRepr::usize(alloc)?;
+    Types::new(alloc, "__", Some(location), None, token)
+}
+
+fn push_location(text: &mut String, types: &Types) -> Result<(), AllocError> {
+    match types.opt_terminal_loc_type() {
+        Some(location) => write!(text, "  stated location {location}\n"),
+        None => Ok(()),
+    }
+}
+
+/// What a table makes types of.
+fn push_table(text: &mut String, types: &Types) -> Result<(), NoMemory> {
+    push_token(text, types)?;
+    push_error_types(text, types)?;
+    let terminals = types.terminal_types()?;
+    let nonterminals = types.nonterminal_types()?;
+    write!(text, "  lists {terminals:?} {nonterminals:?}\n")?;
+    Ok(())
+}
+
+fn push_token(text: &mut String, types: &Types) -> Result<(), NoMemory> {
+    let token = types.terminal_token_type();
+    let location = types.terminal_loc_type()?;
+    let error = types.error_type()?;
+    let triple = types.triple_type()?;
+    write!(
+        text,
+        "  token {token}, location {location}, error {error}, triple {triple}\n"
+    )?;
+    Ok(())
+}
+
+fn push_error_types(text: &mut String, types: &Types) -> Result<(), AllocError> {
+    let recovery = types.error_recovery_type();
+    let failure = types.parse_error_type();
+    let of_error = types.terminal_type(&TerminalString::Error);
+    write!(text, "  {recovery}\n  {failure}\n  {of_error}\n")
+}
+
+/// The table without locations and without a prefix.
+fn push_unlocated(alloc: Global, text: &mut String) -> Result<(), NoMemory> {
+    let types = Types::new(alloc, "", None, None, TypeRepr::str(alloc)?)?;
+    text.push_str("table without locations\n")?;
+    push_table(text, &types)?;
+    let spanned = types.spanned_type(TypeRepr::usize(alloc)?)?;
+    write!(text, "  spanned {spanned}\n")?;
+    Ok(())
+}
+
+/// A table to which the type `usize` of a nonterminal and of a terminal is added, copied.
+fn push_added(alloc: Global, text: &mut String) -> Result<(), NoMemory> {
+    let mut types = Types::new(alloc, "__", None, None, TypeRepr::str(alloc)?)?;
+    add_nonterminal(alloc, &mut types)?;
+    add_terminal(alloc, &mut types)?;
+    let types = types.clone()?;
+    text.push_str("table with two types more\n")?;
+    push_table(text, &types)?;
+    push_of_symbols(alloc, text, &types)
+}
+
+fn add_nonterminal(alloc: Global, types: &mut Types) -> Result<(), NoMemory> {
+    let usize = TypeRepr::usize(alloc)?;
+    let name = NonterminalString(Atom::new(alloc, "S")?);
+    match types.lookup_nonterminal_type(&name) {
+        Some(_) => Ok(()),
+        None => types.add_type(name, usize),
+    }
+}
+
+fn add_terminal(alloc: Global, types: &mut Types) -> Result<(), NoMemory> {
+    let usize = TypeRepr::usize(alloc)?;
+    let terminal = TerminalString::Bare(Atom::new(alloc, "Num")?);
+    if types.has_term_type(&terminal) {
+        Ok(())
+    } else {
+        types.add_term_type(terminal, usize)
+    }
+}
+
+/// The types of some names.
+fn push_of_symbols(alloc: Global, text: &mut String, types: &Types) -> Result<(), NoMemory> {
+    for name in ["Num", "Other"] {
+        push_of_terminal(alloc, text, types, name)?;
+    }
+    for name in ["S", "T"] {
+        push_of_nonterminal(alloc, text, types, name)?;
+    }
+    Ok(())
+}
+
+fn push_of_terminal(
+    alloc: Global,
+    text: &mut String,
+    types: &Types,
+    name: &str,
+) -> Result<(), NoMemory> {
+    let terminal = Symbol::Terminal(TerminalString::Bare(Atom::new(alloc, name)?));
+    let ty = terminal.ty(types);
+    write!(text, "  terminal {name}: {ty}\n")?;
+    Ok(())
+}
+
+fn push_of_nonterminal(
+    alloc: Global,
+    text: &mut String,
+    types: &Types,
+    name: &str,
+) -> Result<(), NoMemory> {
+    let name = NonterminalString(Atom::new(alloc, name)?);
+    match types.lookup_nonterminal_type(&name) {
+        Some(_) => {
+            let ty = types.nonterminal_type(&name);
+            write!(text, "  nonterminal {name}: {ty}\n")?;
+        }
+        None => write!(text, "  nonterminal {name}\n")?,
+    }
+    Ok(())
+}

@@ -1,0 +1,17 @@
+//! Values that no tree holds: each call that makes one runs once, with memory enough.
+use crate::actions::push_made;
+use crate::faults::{push_refusals, push_sides};
+use crate::names::push_names;
+use crate::tables::push_tables;
+use shared_text::NoMemory;
+use std::alloc::Global;
+
+/// Of each group of values some lines.
+pub fn push_values(alloc: Global, text: &mut String) -> Result<(), NoMemory> {
+    push_names(alloc, text)?;
+    push_tables(alloc, text)?;
+    push_made(alloc, text)?;
+    push_refusals(alloc, text)?;
+    push_sides(text)?;
+    Ok(())
+}

@@ -1,0 +1,774 @@
+#!/usr/bin/env python3
+"""What the program `cases` is to print, read off the JSON apart from the program: none of its code is used.
+
+    tools/wanted.py DATA <SCRIPT                  prints each line of the script under `== `, and what it is to answer
+    tools/wanted.py DATA --compare OUTPUT <SCRIPT  names the lines for which OUTPUT has another answer; status 1 if there is one
+
+DATA is the folder of the trees, SCRIPT and OUTPUT are a crate's stdin and stdout. Where this script can't tell the answer it
+prints `?`, and compares nothing. It knows the printed forms, and what the passes make of a grammar that they take; of refusals
+only those of names (F25, F26, F27, F29, F32). So what stands at a tree that is refused otherwise, or is no tree, is to be
+written by hand: the comparison counts these lines, and says nothing of them.
+
+The passes are written here a second time, after the published source of lalrpop 0.23.1: briefly, for groups, repeats, levels,
+names and features, not for what this library refuses as a later part.
+"""
+import copy
+import json
+import os
+import re
+import sys
+
+
+class Unknown(Exception):
+    """What this script does not tell."""
+
+
+class Refused(Exception):
+    """A fault: its number and its span."""
+
+
+# ---- names, spans, terminals, types
+
+ESCAPES = {"\0": "\\0", "\t": "\\t", "\r": "\\r", "\n": "\\n", "\\": "\\\\", '"': '\\"'}
+
+
+def escaped(text):
+    return "".join(ESCAPES.get(c) or ("\\u{%x}" % ord(c) if ord(c) < 32 or ord(c) == 127 else c) for c in text)
+
+
+def quoted(text):
+    return '"' + text.replace("\\", "\\\\").replace('"', '\\"').replace("\n", "\\n") + '"'
+
+
+def place(span):
+    return "%d..%d" % tuple(span)
+
+
+def one(value):
+    """A variant as its name and its content."""
+    if isinstance(value, str):
+        return value, None
+    ((name, content),) = value.items()
+    return name, content
+
+
+def literal(value):
+    name, text = one(value)
+    return '"%s"' % escaped(text) if name == "Quoted" else 'r#"%s"#' % escaped(text)
+
+
+def terminal(value, marked=True):
+    """As in the printed form; not marked, as its `Display`."""
+    name, content = one(value)
+    if name == "Literal":
+        return literal(content)
+    return ("$" if marked else "") + content if name == "Bare" else "$!" if marked else "error"
+
+
+def rule_name(name):
+    return name if re.fullmatch("[A-Za-z0-9_]*", name) else "`" + name + "`"
+
+
+def argument(name):
+    return ("mut " if name["mutable"] else "") + name["name"]
+
+
+REPEATS = {"Star": "*", "Plus": "+", "Question": "?"}
+
+
+def path(value):
+    return ("::" if value["absolute"] else "") + "::".join(value["ids"])
+
+
+def applied(value):
+    return path(value["path"]) + ("<" + ", ".join(map(type_text, value["types"])) + ">" if value["types"] else "")
+
+
+def type_text(value):
+    name, content = one(value)
+    if name == "Tuple":
+        return "(" + ", ".join(map(type_text, content)) + ")"
+    if name == "Slice":
+        return "[" + type_text(content) + "]"
+    if name == "Nominal":
+        return applied(content)
+    if name == "TraitObject":
+        return "dyn " + applied(content)
+    if name == "Ref":
+        lifetime = content["lifetime"] + " " if content["lifetime"] else ""
+        return "&" + lifetime + ("mut " if content["mutable"] else "") + type_text(content["referent"])
+    if name in ("Lifetime", "Id"):
+        return content
+    if name == "OfSymbol":
+        return "`" + canonical(content) + "`"
+    binder = "for<" + ", ".join(one(p)[1] for p in content["forall"]) + "> " if content["forall"] else ""
+    value = " -> " + type_text(content["ret"]) if content["ret"] else ""
+    return "dyn " + binder + path(content["path"]) + "(" + ", ".join(map(type_text, content["parameters"])) + ")" + value
+
+
+def pattern(value):
+    name, content = one(value["kind"])
+    if name in ("Enum", "TupleStruct"):
+        return path(content[0]) + "(" + ", ".join(map(pattern, content[1])) + ")"
+    return path(content) if name == "Path" else {"Underscore": "_", "DotDot": ".."}[name]
+
+
+# ---- symbols
+
+def canonical(value):
+    """The text of a symbol, which is the name of the rule that is made of it."""
+    name, content = one(value)
+    if name == "Expr":
+        return "(" + " ".join(canonical(s["kind"]) for s in content["symbols"]) + ")"
+    if name in ("AmbiguousId", "Nonterminal"):
+        return content
+    if name == "Terminal":
+        return terminal(content, False)
+    if name == "Repeat":
+        return canonical(content["symbol"]["kind"]) + REPEATS[content["op"]]
+    if name == "Choose":
+        return "<" + canonical(content["kind"]) + ">"
+    if name == "Name":
+        return argument(content[0]) + ":" + canonical(content[1]["kind"])
+    raise Unknown
+
+
+def symbols(values):
+    return "".join(" " + symbol(s) for s in values)
+
+
+def symbol(value):
+    return kind(value["kind"]) + "@" + place(value["span"])
+
+
+def kind(value):
+    name, content = one(value)
+    if name == "Expr":
+        return "(" + symbols(content["symbols"]) + " )"
+    if name == "AmbiguousId":
+        return "~" + content
+    if name == "Terminal":
+        return terminal(content)
+    if name == "Nonterminal":
+        return rule_name(content)
+    if name == "Repeat":
+        return symbol(content["symbol"]) + REPEATS[content["op"]]
+    if name == "Choose":
+        return "<" + symbol(content) + ">"
+    if name == "Name":
+        return "<" + argument(content[0]) + ":" + symbol(content[1]) + ">"
+    raise Unknown
+
+
+# ---- the printed form of a tree
+
+def attribute(value):
+    name, content = one(value["arg"])
+    arg = "" if name == "Empty" else " = " + quoted(content) if name == "Equal" else "(" + "".join(" " + attribute(a) for a in content) + " )"
+    return value["id"] + "@" + place(value["id_span"]) + arg
+
+
+def attributes(values):
+    return "".join(" #[" + attribute(a) + "]" for a in values)
+
+
+def visibility(value):
+    name, content = one(value)
+    return "" if name == "Priv" else "pub(in %s) " % path(content) if name == "PubIn" else "pub(%s) " % path(content) if content else "pub "
+
+
+def alternative(value):
+    if value["condition"]:
+        raise Unknown
+    text = "    " + place(value["span"]) + attributes(value["attributes"]) + " =" + symbols(value["expr"]["symbols"])
+    if value["action"]:
+        name, code = one(value["action"])
+        text += {"Lookahead": " => @L", "Lookbehind": " => @R"}.get(name) or {"User": " => ", "Fallible": " =>? "}[name] + quoted(code)
+    return text + "\n"
+
+
+def extern(value):
+    text = "extern " + place(value["span"]) + "\n"
+    if value["enum_token"]:
+        tokens = value["enum_token"]
+        text += "  enum %s %s\n" % (type_text(tokens["type_name"]), place(tokens["type_span"]))
+        for c in tokens["conversions"]:
+            head = "    " + place(c["span"]) + attributes(c["attributes"])
+            text += "%s %s => %s %s\n" % (head, terminal(c["from"]), pattern(c["to"]), place(c["to"]["span"]))
+    return text
+
+
+def item(value):
+    name, content = one(value)
+    if name == "Use":
+        return "use " + content + "\n"
+    if name == "ExternToken":
+        return extern(content)
+    text = visibility(content["visibility"]) + "rule " + rule_name(content["name"])
+    text += "<" + ", ".join(content["args"]) + ">" if content["args"] else ""
+    text += ": " + type_text(content["type_decl"]) if content["type_decl"] is not None else ""
+    text += " " + place(content["span"]) + attributes(content["attributes"]) + "\n"
+    return text + "".join(map(alternative, content["alternatives"]))
+
+
+def tree_text(tree):
+    text = "grammar " + place(tree["span"]) + " " + tree["prefix"] + "\n"
+    text += "".join("  #![%s]\n" % a for a in tree["module_attributes"])
+    text += "".join("  #[%s]\n" % attribute(a) for a in tree["attributes"])
+    text += "".join("  <%s>\n" % one(p)[1] for p in tree["type_parameters"])
+    return text + "".join(map(item, tree["items"]))
+
+
+# ---- what is asked of a tree
+
+def first_argument(value):
+    """The key and the value of the first argument, if it is one."""
+    name, content = one(value["arg"])
+    if name == "Paren" and content and one(content[0]["arg"])[0] == "Equal":
+        return content[0]["id"], one(content[0]["arg"])[1]
+    return None
+
+
+def holds(value, features):
+    """Whether a condition of `cfg` does."""
+    name, content = one(value["arg"])
+    parts = content if name == "Paren" else None
+    if value["id"] == "feature":
+        return name == "Equal" and content in features
+    if value["id"] == "not":
+        return bool(parts) and not holds(parts[0], features)
+    if value["id"] == "all":
+        return parts is not None and all(holds(p, features) for p in parts)
+    return value["id"] == "any" and parts is not None and any(holds(p, features) for p in parts)
+
+
+def is_active(values, features):
+    parts = [one(a["arg"]) for a in values if a["id"] == "cfg"]
+    return all(name == "Paren" and content and holds(content[0], features) for name, content in parts)
+
+
+def asked_attributes(values, features):
+    pairs = [first_argument(a) for a in values]
+    return ("  on" if is_active(values, features) else "  off") + "".join(" %s=%s" % p for p in pairs if p) + "\n"
+
+
+def selected(values):
+    """Which symbols give the values: whether they are named, and each with its place and its name."""
+    named = [(i, one(s["kind"])[1]) for i, s in enumerate(values) if one(s["kind"])[0] == "Name"]
+    if named:
+        return True, [(i, argument(c[0]), c[1]) for i, c in named]
+    chosen = [(i, one(s["kind"])[1]) for i, s in enumerate(values) if one(s["kind"])[0] == "Choose"]
+    return False, [(i, None, s) for i, s in chosen or enumerate(values)]
+
+
+def placeholders(code):
+    """How the first `<>` of the code stands: in braces alone, otherwise, or not at all."""
+    if "<>" not in code:
+        return " code"
+    before, behind = code.split("<>", 1)
+    in_braces = re.search(r"\{\s*$", before) and re.match(r"\s*\}", behind)
+    in_text = len(re.findall('"', before)) % 2 == 1
+    return " code {<>}" if in_braces and not in_text else " code <>"
+
+
+def asked_alternative(value, features):
+    text = "    " + place(value["span"])
+    if value["action"]:
+        name, code = one(value["action"])
+        text += placeholders(code) if code is not None else " lookaround"
+    else:
+        named, parts = selected(value["expr"]["symbols"])
+        text += " named" if named else " anonymous"
+        for i, name, s in parts:
+            text += " %d%s %s" % (i, " " + name if named else "", place(s["span"]))
+    return text + asked_attributes(value["attributes"], features)
+
+
+def level_numbers(rule):
+    """Of each alternative the level and the side that it states or inherits; level 0 where none before it states one."""
+    found, level, side = [], 0, "all"
+    for a in rule["alternatives"]:
+        for one_attribute in a["attributes"]:
+            if one_attribute["id"] == "precedence":
+                text = first_argument(one_attribute)[1]
+                if not re.fullmatch(r"\+?[0-9]+", text) or int(text) > 4294967295:
+                    raise Unknown
+                level, side = int(text), "all"
+        for one_attribute in a["attributes"]:
+            if one_attribute["id"] == "assoc":
+                if not found and not any(x["id"] == "precedence" for x in a["attributes"]):
+                    raise Unknown
+                side = first_argument(one_attribute)[1]
+        found.append((level, side))
+    return found
+
+
+def has_levels(rule):
+    first = rule["alternatives"][:1]
+    return any(a["id"] in ("precedence", "assoc") for f in first for a in f["attributes"])
+
+
+def asked_rule(rule, features):
+    text = "rule " + rule["name"] + (" public" if rule["visibility"] != "Priv" else "") + (" macro" if rule["args"] else "")
+    if rule["type_decl"] is not None:
+        text += " of a symbol" if "OfSymbol" in json.dumps(rule["type_decl"]) else ": " + type_text(rule["type_decl"])
+    text += (" levels" if has_levels(rule) else "") + "".join(" %d %s" % pair for pair in level_numbers(rule))
+    text += asked_attributes(rule["attributes"], features)
+    return text + "".join(asked_alternative(a, features) for a in rule["alternatives"])
+
+
+def length(value):
+    name, content = one(value)
+    if name != "Literal":
+        return len(content or "error")
+    name, text = one(content)
+    return len(text.encode()) + (0 if name == "Quoted" else 5)
+
+
+def asked(tree, features):
+    blocks = [c for n, c in map(one, tree["items"]) if n == "ExternToken"]
+    enums = [b["enum_token"] for b in blocks if b["enum_token"]]
+    text = "first extern %s\n" % place(blocks[0]["span"]) if blocks else ""
+    text += "first enum %s\n" % place(enums[0]["type_span"]) if enums else ""
+    text += asked_attributes(tree["attributes"], features)
+    for name, content in map(one, tree["items"]):
+        if name == "ExternToken":
+            text += "extern\n"
+            for c in (content["enum_token"] or {"conversions": []})["conversions"]:
+                text += "  %s length %d" % (terminal(c["from"]), length(c["from"]))
+                if one(c["from"])[0] == "Literal":
+                    text += " precedence %d" % (one(one(c["from"])[1])[0] == "Quoted")
+                text += "\n"
+        elif name == "Nonterminal":
+            text += ("macro " if content["args"] else "") + asked_rule(content, features)
+    return text
+
+
+# ---- the passes
+
+def rules_of(tree):
+    return [c for n, c in map(one, tree["items"]) if n == "Nonterminal"]
+
+
+def symbols_under(values):
+    """The symbols, those inside of others before them."""
+    for s in values:
+        name, content = one(s["kind"])
+        inner = {"Expr": lambda: content["symbols"], "Repeat": lambda: [content["symbol"]],
+                 "Choose": lambda: [content], "Name": lambda: [content[1]]}.get(name, lambda: [])()
+        yield from symbols_under(inner)
+        yield s
+
+
+def remove_disabled(tree, features):
+    tree["items"] = [i for i in tree["items"] if one(i)[0] != "Nonterminal" or is_active(one(i)[1]["attributes"], features)]
+    for rule in rules_of(tree):
+        rule["alternatives"] = [a for a in rule["alternatives"] if is_active(a["attributes"], features)]
+    for name, content in map(one, tree["items"]):
+        if name == "ExternToken" and content["enum_token"]:
+            tokens = content["enum_token"]
+            tokens["conversions"] = [c for c in tokens["conversions"] if is_active(c["attributes"], features)]
+
+
+def global_names(tree):
+    """The rules, and then the bare terminals of conversions; each name once."""
+    named = {}
+    bare = [c for n, b in map(one, tree["items"]) if n == "ExternToken" for c in (b["enum_token"] or {"conversions": []})["conversions"]]
+    whole = [(r["name"], "macro" if r["args"] else "rule", r["span"]) for r in rules_of(tree)]
+    whole += [(one(c["from"])[1], "bare", c["span"]) for c in bare if one(c["from"])[0] == "Bare"]
+    for name, what, span in whole:
+        if name in named:
+            raise Refused("F25 " + place(span))
+        named[name] = what
+    return named
+
+
+def resolve_symbol(s, scope):
+    name, content = one(s["kind"])
+    if name in ("AmbiguousId", "Nonterminal"):
+        what = scope.get(content)
+        wrong = "F27" if what is None else "F29" if name == "Nonterminal" and what not in ("rule", "argument") else "F32" if what == "macro" else None
+        if wrong:
+            raise Refused(wrong + " " + place(s["span"]))
+        s["kind"] = {"Terminal": {"Bare": content}} if what == "bare" else {"Nonterminal": content}
+
+
+def resolve(tree):
+    named = global_names(tree)
+    for rule in rules_of(tree):
+        if len(set(rule["args"])) < len(rule["args"]):
+            raise Refused("F26 " + place(rule["span"]))
+        scope = dict(named, **{a: "argument" for a in rule["args"]})
+        for a in rule["alternatives"]:
+            for s in symbols_under(a["expr"]["symbols"]):
+                resolve_symbol(s, scope)
+
+
+def put_level(values, target, names):
+    """Puts a name for each symbol of the target name: the names in turn, the last one for all others."""
+    for s in values:
+        if s["kind"] == {"Nonterminal": target}:
+            s["kind"] = {"Nonterminal": names.pop(0) if len(names) > 1 else names[0]}
+
+
+def level_rule(rule, level, below, highest):
+    """The rule of one level."""
+    made = copy.deepcopy(rule)
+    made["name"] = rule["name"] if level == highest else "%s%d" % (rule["name"], level)
+    lower = "%s%d" % (rule["name"], below) if below is not None else None
+    pairs = zip(level_numbers(rule), made["alternatives"])
+    made["alternatives"] = []
+    for (number, side), a in pairs:
+        if number == level:
+            a["attributes"] = [x for x in a["attributes"] if x["id"] not in ("precedence", "assoc")]
+            found = list(symbols_under(a["expr"]["symbols"]))
+            names = {"all": [made["name"]], "none": [lower]}.get(side, [made["name"], lower])
+            put_level(found if side != "right" else found[::-1], rule["name"], names)
+            made["alternatives"].append(a)
+    if lower:
+        step = {"span": rule["span"], "kind": {"Nonterminal": lower}}
+        made["alternatives"].append({"span": rule["span"], "expr": {"symbols": [step]}, "condition": None, "action": None, "attributes": []})
+    return {"Nonterminal": made}
+
+
+def expand_levels(tree):
+    items = []
+    for value in tree["items"]:
+        name, rule = one(value)
+        if name != "Nonterminal" or not has_levels(rule):
+            items.append(value)
+            continue
+        levels = sorted({number for number, _ in level_numbers(rule)})
+        items += [level_rule(rule, level, below, levels[-1]) for below, level in zip([None] + levels, levels)]
+    tree["items"] = items
+
+
+def nominal(names, inner):
+    return {"Nominal": {"path": {"absolute": False, "ids": names}, "types": [inner]}}
+
+
+def new_alternative(span, values, code):
+    return {"span": span, "expr": {"symbols": values}, "condition": None, "action": {"User": code}, "attributes": []}
+
+
+def bound(span, name, inner):
+    return {"span": span, "kind": {"Name": [{"mutable": False, "name": name}, inner]}}
+
+
+def group_rule(span, group):
+    named, parts = selected(group["symbols"])
+    if named:
+        raise Unknown
+    types = [{"OfSymbol": copy.deepcopy(s["kind"])} for _, _, s in parts]
+    single = len(types) == 1
+    return types[0] if single else {"Tuple": types}, [new_alternative(span, group["symbols"], "<>" if single else "(<>)")], True
+
+
+def repeat_rule(span, repeat):
+    inner = repeat["symbol"]
+    of_inner = {"OfSymbol": copy.deepcopy(inner["kind"])}
+    plus = {"span": span, "kind": {"Repeat": {"op": "Plus", "symbol": inner}}}
+    if repeat["op"] == "Question":
+        return nominal(["Option"], of_inner), [new_alternative(span, [inner], "Some(<>)"), new_alternative(span, [], "None")], True
+    vec = nominal(["alloc", "vec", "Vec"], of_inner)
+    if repeat["op"] == "Star":
+        return vec, [new_alternative(span, [], "alloc::vec![]"), new_alternative(span, [bound(span, "v", plus)], "v")], True
+    push = [bound(span, "v", copy.deepcopy(plus)), bound(span, "e", inner)]
+    return vec, [new_alternative(span, [inner], "alloc::vec![<>]"), new_alternative(span, push, "{ let mut v = v; v.push(e); v }")], False
+
+
+def expand_macros(tree, limit):
+    """Groups and repeats, round by round; what was met last is made first."""
+    seen, rest, rounds = set(), rules_of(tree), 0
+    if any(r["args"] for r in rest):
+        raise Unknown
+    while True:
+        waiting = []
+        for rule in rest:
+            for a in rule["alternatives"]:
+                for s in symbols_under(a["expr"]["symbols"]):
+                    if one(s["kind"])[0] in ("Expr", "Repeat"):
+                        text = canonical(s["kind"])
+                        if text not in seen:
+                            seen.add(text)
+                            waiting.append((text, copy.deepcopy(s)))
+                        s["kind"] = {"Nonterminal": text}
+        if not waiting:
+            return
+        rounds += 1
+        if rounds > limit:
+            raise Unknown
+        rest = []
+        for text, s in reversed(waiting):
+            name, content = one(s["kind"])
+            ty, made, inline = group_rule(s["span"], content) if name == "Expr" else repeat_rule(s["span"], content)
+            marks = [{"id_span": s["span"], "id": "inline", "arg": "Empty"}] if inline else []
+            rest.append({"visibility": "Priv", "name": text, "attributes": marks, "span": s["span"], "args": [], "type_decl": ty, "alternatives": made})
+        tree["items"] += [{"Nonterminal": r} for r in rest]
+
+
+# ---- types
+
+class Types:
+    """The types of the rules and of the terminals."""
+
+    def __init__(self, tree):
+        enums = [b["enum_token"] for n, b in map(one, tree["items"]) if n == "ExternToken" and b["enum_token"]]
+        if not enums:
+            raise Unknown
+        self.prefix = tree["prefix"]
+        self.token = type_text(enums[0]["type_name"])
+        self.rules = {r["name"]: r for r in rules_of(tree)}
+        self.known = {}
+
+    def of_rule(self, name):
+        if name not in self.known:
+            self.known[name] = None
+            self.known[name] = self.found(self.rules[name])
+        if self.known[name] is None:
+            raise Unknown
+        return self.known[name]
+
+    def found(self, rule):
+        if rule["type_decl"] is not None:
+            return self.lowered(rule["type_decl"])
+        for a in rule["alternatives"]:
+            named, parts = selected(a["expr"]["symbols"])
+            if a["action"] is None and not named:
+                try:
+                    types = [self.of_kind(s["kind"]) for _, _, s in parts]
+                    return types[0] if len(types) == 1 else "(" + ", ".join(types) + ")"
+                except Unknown:
+                    continue
+        return None
+
+    def of_kind(self, value):
+        name, content = one(value)
+        if name == "Terminal":
+            return self.token
+        if name == "Nonterminal":
+            return self.of_rule(content)
+        if name in ("Expr", "Repeat"):
+            return self.of_rule(canonical(value))
+        return self.of_kind((content if name == "Choose" else content[1])["kind"])
+
+    def lowered(self, ty):
+        name, content = one(ty)
+        if name == "OfSymbol":
+            return self.of_kind(content)
+        if name == "Tuple":
+            return "(" + ", ".join(map(self.lowered, content)) + ")"
+        if name == "Nominal":
+            return path(content["path"]) + ("<" + ", ".join(map(self.lowered, content["types"])) + ">" if content["types"] else "")
+        return type_text(ty)
+
+    def text(self):
+        error = "%slalrpop_util::%%s<(), %s, &'static str>" % (self.prefix, self.token)
+        return "token: %s\nrecovery: %s\nparse error: %s\n" % (self.token, error % "ErrorRecovery", error % "ParseError")
+
+
+def types_text(tree):
+    types = Types(tree)
+    text = types.text()
+    for name, content in map(one, tree["items"]):
+        if name == "ExternToken" and content["enum_token"]:
+            text += "".join("terminal %s: token\n" % terminal(c["from"]) for c in content["enum_token"]["conversions"])
+        elif name == "Nonterminal":
+            text += "rule %s: %s\n" % (content["name"], types.of_rule(content["name"]))
+    return text
+
+
+# ---- lowering
+
+def lowered_symbol(value):
+    name, content = one(value["kind"])
+    if name in ("Choose", "Name"):
+        return lowered_symbol(content if name == "Choose" else content[1])
+    return terminal(content, False) if name == "Terminal" else content
+
+
+def action_text(types, values, ty, action):
+    """An action with the patterns and the types of its arguments, its own type, and its code."""
+    named, parts = selected(values)
+    shown = ["_"] * len(values)
+    for count, (i, name, _) in enumerate(parts):
+        shown[i] = name if named else "%s%d" % (types.prefix, count)
+    names = [shown[i].replace("mut ", "") for i, _, _ in parts]
+    code = one(action)[1] if action else "()" if ty == "()" else "<>" if len(parts) == 1 else "(<>)"
+    if code.count("<>") > 1:
+        raise Unknown
+    arguments = ", ".join("%s: %s" % (p, types.of_kind(s["kind"])) for p, s in zip(shown, values))
+    failing = "fallible " if action and one(action)[0] == "Fallible" else ""
+    return "%sfn _(%s) -> %s { %s }\n" % (failing, arguments, ty, code.replace("<>", ", ".join(names)))
+
+
+class Lowered:
+    """A lowered grammar: its nonterminals by their names, its actions, its start symbols."""
+
+    def __init__(self, tree):
+        self.types, self.tree = Types(tree), tree
+        self.found, self.actions, self.starts = {}, [], {}
+        for rule in rules_of(tree):
+            if rule["visibility"] != "Priv":
+                self.start(rule)
+        for rule in rules_of(tree):
+            ty = self.types.of_rule(rule["name"])
+            made = [self.production(rule["name"], a["expr"]["symbols"], ty, a["action"], a["span"]) for a in rule["alternatives"]]
+            self.found[rule["name"]] = (rule, ty, rule["attributes"], made)
+
+    def production(self, name, values, ty, action, span):
+        self.actions.append(action_text(self.types, values, ty, action))
+        shown = ", ".join(map(lowered_symbol, values))
+        return "%s = %s => ActionFn(%d);" % (name, shown, len(self.actions) - 1), place(span)
+
+    def start(self, rule):
+        name = self.tree["prefix"] + rule["name"]
+        if name in self.types.rules:
+            raise Unknown
+        ty, of_rule = self.types.of_rule(rule["name"]), {"span": rule["span"], "kind": {"Nonterminal": rule["name"]}}
+        self.found[name] = (rule, ty, [], [self.production(name, [of_rule], ty, None, rule["span"])])
+        self.starts[rule["name"]] = name
+
+    def text(self):
+        text = "lowered " + self.tree["prefix"] + "\n" + "".join("  #![%s]\n" % a for a in self.tree["module_attributes"])
+        text += "".join("use %s\n" % c for n, c in map(one, self.tree["items"]) if n == "Use") + self.types.text()
+        enums = [b["enum_token"] for n, b in map(one, self.tree["items"]) if n == "ExternToken" and b["enum_token"]]
+        for number, c in enumerate(enums[0]["conversions"]):
+            text += "terminal %s: %s = %s #%d\n" % (terminal(c["from"]), self.types.token, pattern(c["to"]), number)
+        for name in sorted(self.found, key=str.encode):
+            rule, ty, marks, made = self.found[name]
+            text += "%snonterminal %s: %s %s%s\n" % (visibility(rule["visibility"]), name, ty, place(rule["span"]), attributes(marks))
+            text += "".join("    %s %s\n" % pair for pair in made)
+        text += "".join("action %d %s" % pair for pair in enumerate(self.actions))
+        return text + "".join("start %s = %s\n" % (n, self.starts[n]) for n in sorted(self.starts, key=str.encode))
+
+    def lines(self):
+        """What the program `lnorm` prints."""
+        names = sorted(self.found, key=str.encode)
+        text = "".join(line + "\n" for n in names for line, _ in self.found[n][3])
+        text += "".join("type %s: %s\n" % (n, self.found[n][1]) for n in names)
+        return text + "".join("start %s = %s\n" % (n, self.starts[n]) for n in sorted(self.starts, key=str.encode))
+
+
+# ---- the script
+
+def settings(words):
+    features, limit = set(), 200
+    for option, value in zip(words[::2], words[1::2]):
+        if option == "--feature":
+            features.add(value)
+        elif option == "--limit" and re.fullmatch(r"\+?[0-9]+", value) and int(value) < 65536:
+            limit = int(value)
+        else:
+            raise Unknown
+    if len(words) % 2:
+        raise Unknown
+    return features, limit
+
+
+def run_pass(name, tree, features, limit):
+    if name in ("remove_disabled", "remove_disabled_decls"):
+        remove_disabled(tree, features)
+    elif name in ("resolve", "expand_precedence"):
+        resolve(tree)
+        if name == "expand_precedence":
+            expand_levels(tree)
+            resolve(tree)
+    elif name == "expand_levels":
+        expand_levels(tree)
+    elif name == "expand_macros":
+        expand_macros(tree, limit)
+    elif name not in ("read", "copy"):
+        raise Unknown
+
+
+def is_taken(tree):
+    """Whether `normalize` takes it, as far as that is told here."""
+    rules = rules_of(tree)
+    enums = [b["enum_token"] for n, b in map(one, tree["items"]) if n == "ExternToken" and b["enum_token"]]
+    known = {terminal(c["from"]) for c in enums[0]["conversions"]} if enums else set()
+    used = {terminal(one(s["kind"])[1]) for r in rules for a in r["alternatives"]
+            for s in symbols_under(a["expr"]["symbols"]) if one(s["kind"])[0] == "Terminal"}
+    typed = all(r["type_decl"] is not None and not r["args"] for r in rules)
+    return typed and used <= known and not tree["attributes"] and not tree["type_parameters"]
+
+
+def normalized(tree, features, limit):
+    remove_disabled(tree, features)
+    resolve(tree)
+    if not is_taken(tree):
+        raise Unknown
+    expand_levels(tree)
+    resolve(tree)
+    expand_macros(tree, limit)
+    return Lowered(tree)
+
+
+def answer(data, name, call, *words):
+    file = os.path.join(data, name + ".json")
+    if not os.path.exists(file):
+        return "no file\n"
+    try:
+        tree = json.load(open(file, encoding="utf-8"))
+        features, limit = settings(words)
+        if call == "lnorm":
+            return normalized(tree, features, limit).lines() + "status 0\n"
+        *first, last = call.split(",")
+        for one_pass in first:
+            run_pass(one_pass, tree, features, limit)
+        if last == "normalize":
+            return normalized(tree, features, limit).text()
+        if last == "infer_types":
+            resolve(tree)
+            return types_text(tree)
+        if last == "ask":
+            return asked(tree, features)
+        if last == "check_globals":
+            global_names(tree)
+            return "ok\n"
+        run_pass(last, tree, features, limit)
+        return tree_text(tree)
+    except Refused as fault:
+        return "?\n" if call == "lnorm" else str(fault) + "\n"
+    except (Unknown, AttributeError, LookupError, TypeError, ValueError):
+        return "?\n"
+
+
+def answers_of(text):
+    """The lines of an output, and what stands under each."""
+    found, line = {}, None
+    for part in text.splitlines(keepends=True):
+        if part.startswith("== "):
+            line = part[3:].rstrip("\n")
+            found[line] = ""
+        elif line is not None:
+            found[line] += part
+    return found
+
+
+def main():
+    data, others = sys.argv[1], sys.argv[2:]
+    got = answers_of(open(others[1], encoding="utf-8").read()) if others else {}
+    same = unknown = refused = 0
+    differ = []
+    for line in sys.stdin.read().splitlines():
+        if line and not line.startswith("#"):
+            name, *others_of_line = line.split()
+            want = answer(data, name, *others_of_line) if others_of_line else "no case\n"
+            if not others:
+                sys.stdout.write("== %s\n%s" % (line, want))
+            elif want == "?\n":
+                unknown += 1
+            elif got.get(line) == want:
+                same += 1
+            elif re.match(r"F\d+[a-f]? |not a tree|lnorm: not a tree", got.get(line, "")) and not want.startswith("F"):
+                refused += 1
+            else:
+                differ.append("== %s\n-- wanted\n%s-- got\n%s" % (line, want, got.get(line)))
+    if others:
+        print("".join(differ) + "%d same, %d differ, %d refused, %d not told here" % (same, len(differ), refused, unknown))
+    return bool(differ)
+
+
+if __name__ == "__main__":
+    sys.exit(main())
