@@ -15,7 +15,7 @@ use lalrpop_norm_tree::grammar::parse_tree::{
 use std::collections::BTreeSet;
 
 /// The grammar without the rules, alternatives and conversions that the features of the session turn off, all else as it
-/// was. It is always Ok and takes no memory.
+/// was. It is always Ok: want of memory is none of its answers.
 pub fn remove_disabled_decls<L>(session: &Session<L>, mut grammar: Grammar) -> NormResult<Grammar>
     ensures { IsOkAnd result (λ g. grammar_view g ≡ enabled_grammar (features_view session.now.features) (grammar_view grammar)) }
 {
@@ -25,7 +25,7 @@ pub fn remove_disabled_decls<L>(session: &Session<L>, mut grammar: Grammar) -> N
 }
 
 /// Whether the features of the session turn on what has these attributes: each `cfg` among them has a first argument, and
-/// that holds. It takes no memory.
+/// that holds. It always answers.
 pub fn cfg_active<L>(session: &Session<L>, attributes: &[Attribute]) -> bool
     ensures { result ≡ is_active (features_view session.now.features) (attributes_view attributes.now) }
 {

@@ -37,8 +37,8 @@ use std::collections::BTreeMap;
 /// or of the tokenizer's entries, are distinct, and each terminal that is used is one of them.
 ///
 /// Action k, from 0, is that of the k-th of the start symbols of public rules, then of the alternatives in item order. Terminals
-/// are numbered from 0 in the order of the active conversions, or of the tokenizer's entries, the error terminal last where `!`
-/// stands. Each start symbol gets its rule's type.
+/// are numbered from 0 in the order of the active conversions, or of the tokenizer's entries without its skips, the error terminal
+/// last where `!` stands. Each start symbol gets its rule's type.
 ///
 /// Errors: F55 (`StartTaken`) at a public rule, if the name of its start symbol has a type already; F54 (`Placeholders`) from the
 /// first source to the last, or at the alternative if it has none, where an alternative without named and tuple symbols has
