@@ -1,6 +1,7 @@
 mod ClauseLemmas
 mod FilledLemmas
 mod LoopLemmas
+mod LoweredViews
 mod MisfitLemmas
 mod ReadLemmas
 mod SameLemmas

@@ -1,6 +1,5 @@
 //! What symbols give and written types mean by a table of types.
 ghost use Rattle.std.specs.Prelude.{◌≡◌, Bool, IfOk, option_map, is_some};
-ghost use Rattle.lalrpop_norm_tree.specs.LoweredTypes.{named_path};
 ghost use Rattle.lalrpop_norm_parts.specs.Paths.{path_view};
 ghost use Rattle.lalrpop_norm_parts.specs.Reprs as lowered;
 ghost use Rattle.lalrpop_norm_parts.specs.Reprs.{repr_view, reprs_view, applied_view, maybe_repr_of};
@@ -11,7 +10,7 @@ ghost use Rattle.lalrpop_norm_model.specs.TypeRelation.{associated_in, is_parame
 ghost use Rattle.lalrpop_norm_model.specs.TypeTables.{path_value, both};
 ghost use Rattle.lalrpop_norm_types.specs.TableValues.{kind_in, part_in, type_in, types_in, return_in};
 
-use lalrpop_norm_parts::names::copy::copy_type_parameters;
+use super::written::{function_type, lifetime_type, named_type};
 use lalrpop_norm_repr::grammar::repr::{NominalTypeRepr, TypeRepr, Types};
 use lalrpop_norm_tree::grammar::parse_tree::{
     Atom, Lifetime, NoMemory, Path, Symbol, SymbolKind, TypeParameter, TypeRef,
@@ -109,8 +108,8 @@ pub(crate) fn type_value(
         TypeRef::TraitObject { path, types: inner } => {
             object_value(alloc, parameters, types, path, inner)
         }
-        TypeRef::Lifetime(lifetime) => Ok(Some(TypeRepr::Lifetime(lifetime.clone()?))),
-        TypeRef::Id(id) => Ok(Some(TypeRepr::Nominal(named(alloc, id)?))),
+        TypeRef::Lifetime(lifetime) => Ok(Some(lifetime_type(lifetime)?)),
+        TypeRef::Id(id) => Ok(Some(named_type(alloc, id)?)),
         TypeRef::OfSymbol(kind) => kind_value(types, kind),
         TypeRef::Fn {
             forall,
@@ -123,15 +122,6 @@ pub(crate) fn type_value(
             function_of(forall, path, inner, ret)
         }
     }
-}
-
-/// The path that is one name, without arguments.
-pub(crate) fn named(alloc: Global, id: &Atom) -> Result<NominalTypeRepr, NoMemory>
-    ensures { IfOk result (λ n. applied_view n ≡ (named_path id.now, lowered.no_reprs)) }
-{
-    let path = Path::from_id(alloc, id.clone()?)?;
-    let types = Vec::new(alloc);
-    Ok(NominalTypeRepr { path, types })
 }
 
 #[cycle(value)]
@@ -289,12 +279,7 @@ fn function_of(
         (option_map (λ r. maybe_repr_of (option_map (λ b. repr_view b.value) r)) ret)) }
 {
     match (parameters, ret) {
-        (Some(parameters), Some(ret)) => Ok(Some(TypeRepr::Fn {
-            forall: copy_type_parameters(forall)?,
-            path: path.clone()?,
-            parameters,
-            ret,
-        })),
+        (Some(parameters), Some(ret)) => Ok(Some(function_type(forall, path, parameters, ret)?)),
         (Some(_), None) => Ok(None),
         (None, _) => Ok(None),
     }
