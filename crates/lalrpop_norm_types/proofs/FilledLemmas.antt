@@ -1,12 +1,15 @@
 -- The filled table, its faults, and the types that rules have.
-use Rattle.std.proofs.Common.{◌≡◌, ℕ, Bool, true, false, cond, List, [], ◌∷◌, ◌++◌, length, filter, map, Option, Some, None, append_assoc, refl, sym, ap, ap₂, subst, ◌∙◌}
-use Rattle.std.specs.Prelude.{is_none}
+use Rattle.std.proofs.Common.{◌≡◌, ℕ, Bool, true, false, cond, List, [], ◌∷◌, ◌++◌, length, filter, map, Option, Some, None, append-nil, append_assoc, refl, sym, ap, ap₂, subst, ◌∙◌}
+use Rattle.std.specs.Prelude.{Result, IsErrAnd, is_none}
 use Rattle.std.specs.List.{flat_map}
 use Rattle.std.specs.List.Sorted.{IsStrictlySortedBy}
 use Rattle.std.specs.Map.{keys_of}
 use Rattle.std.proofs.lemmas.List.{map-append, length-map}
+use Rattle.lalrpop_norm_parts.specs.declared.names.TypeParameter.{TypeParameter}
 use Rattle.lalrpop_norm_tree.specs.Items.{AlternativeData, RuleData, GrammarData}
-use Rattle.lalrpop_norm_faults.specs.Faults.{Fault, fault_if}
+use Rattle.lalrpop_norm_faults.proofs.FaultLemmas.{exit_at}
+use Rattle.lalrpop_norm_faults.specs.Faults.{Fault, fault_if, IsFirst, Refuses}
+use Rattle.lalrpop_norm_faults.specs.declared.failure.NormFailure.{NormFailure}
 use Rattle.lalrpop_norm_faults.specs.declared.kind.FaultKind.TheVariants.{NotGrounded, Disagreement}
 use Rattle.lalrpop_norm_repr.specs.Orders.{name_cmp, terminal_cmp}
 use Rattle.lalrpop_norm_repr.specs.Tables.{TypeTable, found}
@@ -170,3 +173,30 @@ filled_inferred g tt full distinct none =
       terminals_in_order = full.terminals_in_order;
       rest = full.tokens.rest;
     }
+
+-- ---- the exits of inference
+
+-- at a rule without a clause
+pub clauses_refused : {T : Type 0} (g : GrammarData) (rs : List PlainRule) (r : Result T NormFailure) (e : NormFailure) → map rule_seen rs ≡ map with_clauses (all_rules g) →
+    IsErrAnd r (λ x. x ≡ e) → IsFirst (flat_map lacking_seen (map rule_seen rs)) e → Refuses r (inference_faults g)
+clauses_refused g rs r e seen from first =
+    exit_at r e (flat_map lacking_seen (map rule_seen rs)) (later_faults g) (inference_faults g) from first
+    (lacking_first g ∙ ap (λ ss. flat_map lacking_seen ss ++ later_faults g) (sym seen))
+
+module _ (g : GrammarData) (tt : TypeTable) (full : IsFilled g tt) (ps : List TypeParameter) (same : ps ≡ g.type_parameters)
+    (rs : List PlainRule) (seen : map rule_seen rs ≡ map with_clauses (all_rules g)) (none : flat_map lacking_seen (map rule_seen rs) ≡ []) where
+  by_table : inference_faults g ≡ table_faults ps tt (map (λ (r : PlainRule). (rule_seen r).0) rs)
+  by_table = table_only g tt full rs seen none ∙ ap (λ qs. table_faults qs tt (map (λ (r : PlainRule). (rule_seen r).0) rs)) (sym same)
+
+  -- at what the table shows
+  pub table_refused : {T : Type 0} (r : Result T NormFailure) (e : NormFailure) → IsErrAnd r (λ x. x ≡ e) → IsFirst (table_faults ps tt (map (λ (r : PlainRule). (rule_seen r).0) rs)) e → Refuses r (inference_faults g)
+  table_refused r e from first =
+      exit_at r e (table_faults ps tt (map (λ (r : PlainRule). (rule_seen r).0) rs)) [] (inference_faults g) from first
+      (by_table ∙ sym (append-nil (table_faults ps tt (map (λ (r : PlainRule). (rule_seen r).0) rs))))
+
+  -- nowhere
+  pub none_refused : table_faults ps tt (map (λ (r : PlainRule). (rule_seen r).0) rs) ≡ [] → inference_faults g ≡ []
+  none_refused empty = by_table ∙ empty
+
+  pub none_inferred : IsDistinct (rule_names g) → table_faults ps tt (map (λ (r : PlainRule). (rule_seen r).0) rs) ≡ [] → IsInferred g tt
+  none_inferred distinct empty = filled_inferred g tt full distinct (by_table ∙ empty)

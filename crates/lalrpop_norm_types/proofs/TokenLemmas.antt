@@ -1,5 +1,6 @@
 -- The types that need no inference.
-use Rattle.std.proofs.Common.{◌≡◌, ◌<◌, ◌+◌, ℕ, Bool, true, false, List, [], ◌∷◌, ◌++◌, length, drop, get_or, map, Option, Some, None, cond, bytes_eq, append_assoc, refl, sym, ap, ap₂, ◌∙◌}
+use Rattle.std.proofs.Common.{◌≡◌, ◌<◌, ◌+◌, ℕ, Bool, true, false, List, [], ◌∷◌, ◌++◌, length, drop, get_or, map, Option, Some, None, cond, bytes_eq, append_assoc, refl, sym, ap, ap₂, subst, ◌∙◌}
+use Rattle.std.specs.Prelude.{Result, IfOk, option_map}
 use Rattle.std.proofs.lemmas.List.{map-append}
 use Rattle.std.proofs.lemmas.Bool.Decides.{same_from_decides}
 use Rattle.std.proofs.lemmas.Slice.Eq.{bytes_eq-Decides}
@@ -10,15 +11,15 @@ use Rattle.lalrpop_norm_parts.specs.declared.names.TerminalLiteral.{TerminalLite
 use Rattle.lalrpop_norm_parts.specs.declared.names.TerminalLiteral.TheVariants.{Quoted, Regex}
 use Rattle.lalrpop_norm_parts.specs.declared.names.TerminalString.{TerminalString}
 use Rattle.lalrpop_norm_parts.specs.declared.names.TerminalString.TheVariants.{Literal, Bare, Error}
-use Rattle.lalrpop_norm_tree.specs.Accessors.{or_else}
-use Rattle.lalrpop_norm_tree.specs.Items.{GrammarData}
+use Rattle.lalrpop_norm_tree.specs.Accessors.{or_else, first_of, extern_token_of, type_named}
+use Rattle.lalrpop_norm_tree.specs.Items.{AssociatedTypeData, ExternTokenData, GrammarData}
 use Rattle.lalrpop_norm_tree.specs.LoweredTypes.{repr_of}
 use Rattle.lalrpop_norm_parts.specs.Reprs.{ReprData, repr_view}
 use Rattle.lalrpop_norm_tree.specs.Types.{TypeData}
 use Rattle.lalrpop_norm_repr.specs.Tables as table
 use Rattle.lalrpop_norm_repr.specs.Tables.{TypeTable, listed_type, found_terminal}
 use Rattle.lalrpop_norm_model.specs.Terminals.{same_literal, same_terminal}
-use Rattle.lalrpop_norm_model.specs.TerminalTypes.{Row, recovery_type, terminal_rows, row_of, rows_with, extern_enum}
+use Rattle.lalrpop_norm_model.specs.TerminalTypes.{Row, declared_under, recovery_type, terminal_rows, row_of, rows_with, extern_enum}
 use Rattle.lalrpop_norm_types.specs.TokenTypes.{base_table, AddsTerminals, HasTokens}
 
 -- ---- chosen types
@@ -82,3 +83,16 @@ added_tokens g types added = record {
       ∙ found_is t (terminal_rows g));
   rest = added.rest ∙ ap (with_both (base_table g) types.terminals) (sym (added_names g types added));
 }
+
+pub from_base : (old base new : TypeTable) (rows : List Row) → old ≡ base → AddsTerminals old new rows → AddsTerminals base new rows
+from_base old base new rows same added = subst (λ (u : TypeTable). AddsTerminals u new rows) same added
+
+-- ---- declared types
+
+pub declared_seen : {E : Type 0} (name : List ℕ) (g : GrammarData) (token : ExternTokenData) (r : Result (Option TypeRepr) E) → Some token ≡ first_of extern_token_of g.items →
+    IfOk r (λ o. option_map repr_view o ≡ option_map (λ (t : AssociatedTypeData). repr_of t.type_ref) (first_of (type_named name) token.associated_types)) →
+    IfOk r (λ o. option_map repr_view o ≡ declared_under name g)
+declared_seen name g token r same h = rw (← same) h
+
+pub none_declared : (name : List ℕ) (g : GrammarData) → None ≡ first_of extern_token_of g.items → None ≡ declared_under name g
+none_declared name g same = rw (← same) refl

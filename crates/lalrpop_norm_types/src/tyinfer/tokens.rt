@@ -1,7 +1,8 @@
 //! The types that need no inference: of terminals, locations, errors and tokens.
 ghost use Rattle.std.specs.Prelude.{◌≡◌, ◌++◌, [], ◌∷◌, IfOk, OnOk, map, flat_map, option_map, codes};
 ghost use Rattle.lalrpop_norm_parts.specs.Accessors.{path_of};
-ghost use Rattle.lalrpop_norm_tree.specs.Items.{conversion_view, grammar_view};
+ghost use Rattle.lalrpop_norm_tree.specs.Accessors.{first_of, type_named};
+ghost use Rattle.lalrpop_norm_tree.specs.Items.{conversion_view, extern_token_view, grammar_view};
 ghost use Rattle.lalrpop_norm_tree.specs.LoweredTypes.{repr_of};
 ghost use Rattle.lalrpop_norm_parts.specs.Paths.{path_view};
 ghost use Rattle.lalrpop_norm_parts.specs.Patterns.{pattern_view, pattern_kind_view, patterns_view, field_view, fields_view};
@@ -15,8 +16,8 @@ ghost use Rattle.lalrpop_norm_types.specs.TokenTypes.{AddsTerminals, rows_seen, 
 use super::written::lowered_type;
 use lalrpop_norm_repr::grammar::repr::{NominalTypeRepr, TypeRepr, Types};
 use lalrpop_norm_tree::grammar::parse_tree::{
-    Atom, Conversion, Grammar, Lifetime, MatchEntry, MatchMapping, NoMemory, Path, TerminalString,
-    TypeRef,
+    Atom, Conversion, ExternToken, Grammar, Lifetime, MatchEntry, MatchMapping, NoMemory, Path,
+    TerminalString, TypeRef,
 };
 use lalrpop_norm_tree::grammar::pattern::{FieldPattern, Pattern, PatternKind};
 use std::alloc::Global;
@@ -29,10 +30,17 @@ pub(crate) fn token_types(alloc: Global, grammar: &Grammar) -> Result<Types, NoM
     ensures { IfOk result (λ t. AddsTerminals (base_table (grammar_view grammar.now)) (type_table t)
         (rows_with (extern_enum (grammar_view grammar.now)) (grammar_view grammar.now))) }
 {
-    let rows = token_rows(alloc, grammar)?;
     let mut types = base_types(alloc, grammar)?;
-    add_rows(&mut types, &rows)?;
+    add_token_rows(alloc, &mut types, grammar)?;
     Ok(types)
+}
+
+fn add_token_rows(alloc: Global, types: &mut Types, grammar: &Grammar) -> Result<(), NoMemory>
+    ensures { OnOk result (AddsTerminals (type_table types.old) (type_table types.new)
+        (rows_with (extern_enum (grammar_view grammar.now)) (grammar_view grammar.now))) }
+{
+    let rows = token_rows(alloc, grammar)?;
+    add_rows(types, &rows)
 }
 
 fn base_types(alloc: Global, grammar: &Grammar) -> Result<Types, NoMemory>
@@ -53,10 +61,18 @@ fn declared_under(
     ensures { IfOk result (λ o. option_map repr_view o ≡ declared_under name.now (grammar_view grammar.now)) }
 {
     match grammar.extern_token() {
-        Some(token) => match token.associated_type(name) {
-            Some(declared) => Ok(Some(lowered_type(alloc, &declared.type_ref)?)),
-            None => Ok(None),
-        },
+        Some(token) => declared_in(alloc, token, name),
+        None => Ok(None),
+    }
+}
+
+/// The type that an extern block declares under a name.
+fn declared_in(alloc: Global, token: &ExternToken, name: &str) -> Result<Option<TypeRepr>, NoMemory>
+    ensures { IfOk result (λ o. option_map repr_view o
+        ≡ option_map (λ t. repr_of t.type_ref) (first_of (type_named name.now) (extern_token_view token.now).associated_types)) }
+{
+    match token.associated_type(name) {
+        Some(declared) => Ok(Some(lowered_type(alloc, &declared.type_ref)?)),
         None => Ok(None),
     }
 }
