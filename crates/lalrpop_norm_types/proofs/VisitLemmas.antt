@@ -183,3 +183,11 @@ pub seen_more : (rs : List PlainRule) (i : ℕ) (r : PlainRule) → i < length r
 seen_more rs i r lt is =
     ap (map rule_seen) (take_more rs i r lt)
     ∙ (map-append rule_seen (take i rs) (get_or rs i r ∷ []) ∙ ap (λ q. map rule_seen (take i rs) ++ rule_seen q ∷ []) (sym is))
+
+-- ---- names with the same text
+
+pub same_name : (a b : NonterminalString) → a.0 ≡ b.0 → a ≡ b
+same_name a b e = ap named_by e
+
+pub type_of_same : (a b : NonterminalString) (tt : TypeTable) (o : Option ReprData) → a.0 ≡ b.0 → type_of a tt ≡ o → type_of b tt ≡ o
+type_of_same a b tt o e h = ap (λ (n : NonterminalString). type_of n tt) (sym (same_name a b e)) ∙ h
