@@ -1,18 +1,12 @@
 -- One level of a written type, and of a lowered one.
-use Rattle.std.proofs.Common.{◌≡◌, ℕ, Bool, List, Option, Box, Vec, Global, sym, ap, ◌∙◌}
+use Rattle.std.proofs.Common.{◌≡◌, ℕ, List, Option, Vec, Global, sym, ap, ◌∙◌}
 use Rattle.std.specs.Prelude.{Result, IfOk, option_map}
-use Rattle.lalrpop_norm_parts.specs.declared.lowered.NominalTypeRepr.{NominalTypeRepr}
 use Rattle.lalrpop_norm_parts.specs.declared.lowered.TypeRepr.{TypeRepr}
-use Rattle.lalrpop_norm_parts.specs.declared.lowered.TypeRepr.TheFolds.{fold-roll-TypeRepr}
-use Rattle.lalrpop_norm_parts.specs.declared.lowered.TypeRepr.TheOpen.{TypeRepr-F}
-use Rattle.lalrpop_norm_parts.specs.declared.lowered.TypeRepr.TheVariants as made
-use Rattle.lalrpop_norm_parts.specs.declared.lowered.TypeRepr.TheViews as made_level
 use Rattle.lalrpop_norm_parts.specs.declared.names.Lifetime.{Lifetime}
 use Rattle.lalrpop_norm_parts.specs.declared.names.TypeParameter.{TypeParameter}
 use Rattle.lalrpop_norm_parts.specs.declared.path.Path.{Path}
 use Rattle.lalrpop_norm_parts.specs.Paths.{path_view}
-use Rattle.lalrpop_norm_parts.specs.Reprs as lowered
-use Rattle.lalrpop_norm_parts.specs.Reprs.{ReprData, Applied, repr_step, applied_step, repr_view, applied_view, reprs_view, maybe_repr_of}
+use Rattle.lalrpop_norm_parts.specs.Reprs.{repr_view}
 use Rattle.lalrpop_norm_tree.specs.declared.symbol.SymbolKind.{SymbolKind}
 use Rattle.lalrpop_norm_tree.specs.declared.types.TypeRef.{TypeRef}
 use Rattle.lalrpop_norm_tree.specs.declared.types.TypeRef.TheFolds.{fold-roll-TypeRef}
@@ -41,23 +35,6 @@ id_seen t a e = rw e (ap type_view (sym (written_level.rolls-Id a)) ∙ fold-rol
 
 pub symbol_type_seen : (t : TypeRef) (k : SymbolKind) → t ≡ written.OfSymbol k → type_view t ≡ of_symbol (kind_view k)
 symbol_type_seen t k e = rw e (ap type_view (sym (written_level.rolls-OfSymbol k)) ∙ fold-roll-TypeRef TypeData type_step (TypeRef-F.OfSymbol k))
-
--- ---- lowered types
-
-pub made_slice : (b : Box TypeRepr Global) → repr_view (made.Slice b) ≡ lowered.slice (repr_view b.value)
-made_slice b = ap repr_view (sym (made_level.rolls-Slice b)) ∙ fold-roll-TypeRepr ReprData Applied repr_step applied_step (TypeRepr-F.Slice b)
-
-pub made_nominal : (n : NominalTypeRepr) → repr_view (made.Nominal n) ≡ lowered.nominal (applied_view n).0 (applied_view n).1
-made_nominal n = ap repr_view (sym (made_level.rolls-Nominal n)) ∙ fold-roll-TypeRepr ReprData Applied repr_step applied_step (TypeRepr-F.Nominal n)
-
-pub made_lifetime : (l : Lifetime) → repr_view (made.Lifetime l) ≡ lowered.of_lifetime l
-made_lifetime l = ap repr_view (sym (made_level.rolls-Lifetime l)) ∙ fold-roll-TypeRepr ReprData Applied repr_step applied_step (TypeRepr-F.Lifetime l)
-
-pub made_reference : (l : Option Lifetime) (m : Bool) (b : Box TypeRepr Global) → repr_view (made.Ref l m b) ≡ lowered.reference l m (repr_view b.value)
-made_reference l m b = ap repr_view (sym (made_level.rolls-Ref l m b)) ∙ fold-roll-TypeRepr ReprData Applied repr_step applied_step (TypeRepr-F.Ref l m b)
-
-pub made_object : (n : NominalTypeRepr) → repr_view (made.TraitObject n) ≡ lowered.trait_object (applied_view n).0 (applied_view n).1
-made_object n = ap repr_view (sym (made_level.rolls-TraitObject n)) ∙ fold-roll-TypeRepr ReprData Applied repr_step applied_step (TypeRepr-F.TraitObject n)
 
 -- ---- what is lowered
 
