@@ -9,6 +9,9 @@ use lalrpop_norm_tree::grammar::repr::TypeRepr;
 use std::alloc::AllocError;
 use std::collections::BTreeMap;
 
+/// A type for each key.
+type Rows<K> = BTreeMap<K, TypeRepr>;
+
 impl Clone for Types {
     ghost is_clone = { λ a b. type_table b ≡ type_table a };
 
@@ -20,13 +23,12 @@ impl Clone for Types {
 fn copy_types(types: &Types) -> Result<Types, AllocError>
     ensures { IfOk result (λ t. type_table t ≡ type_table types.now) }
 {
-    let token = types.terminal_token_type.clone()?;
-    let location = copy_option(&types.terminal_loc_type)?;
-    let error = copy_option(&types.error_type)?;
-    let terminals = copy_terminals(&types.terminal_types)?;
-    let nonterminals = copy_nonterminals(&types.nonterminal_types)?;
-    let parse_error = types.parse_error_type.clone()?;
-    let recovery = types.error_recovery_type.clone()?;
+    let failures = copy_failures(types)?;
+    let rows = copy_rows(types)?;
+    let declared = copy_declared(types)?;
+    let (parse_error, recovery) = failures;
+    let (terminals, nonterminals) = rows;
+    let (token, location, error) = declared;
     Ok(Types {
         alloc: types.alloc,
         terminal_token_type: token,
@@ -37,6 +39,40 @@ fn copy_types(types: &Types) -> Result<Types, AllocError>
         parse_error_type: parse_error,
         error_recovery_type: recovery,
     })
+}
+
+/// The types of a failed parse and of the error terminal.
+fn copy_failures(types: &Types) -> Result<(TypeRepr, TypeRepr), AllocError>
+    ensures parse_error { IfOk result (λ f. repr_view f.0 ≡ repr_view types.now.parse_error_type) }
+    ensures recovery { IfOk result (λ f. repr_view f.1 ≡ repr_view types.now.error_recovery_type) }
+{
+    let parse_error = types.parse_error_type.clone()?;
+    let recovery = types.error_recovery_type.clone()?;
+    Ok((parse_error, recovery))
+}
+
+/// The rows of terminals and of nonterminals.
+fn copy_rows(types: &Types) -> Result<(Rows<TerminalString>, Rows<NonterminalString>), AllocError>
+    ensures terminals { IfOk result (λ r. rows repr_view r.0 ≡ rows repr_view types.now.terminal_types) }
+    ensures nonterminals { IfOk result (λ r. rows repr_view r.1 ≡ rows repr_view types.now.nonterminal_types) }
+{
+    let terminals = copy_terminals(&types.terminal_types)?;
+    let nonterminals = copy_nonterminals(&types.nonterminal_types)?;
+    Ok((terminals, nonterminals))
+}
+
+/// The types of a token, of a location and of the user's errors.
+fn copy_declared(
+    types: &Types,
+) -> Result<(TypeRepr, Option<TypeRepr>, Option<TypeRepr>), AllocError>
+    ensures token { IfOk result (λ d. repr_view d.0 ≡ repr_view types.now.terminal_token_type) }
+    ensures location { IfOk result (λ d. option_map repr_view d.1 ≡ option_map repr_view types.now.terminal_loc_type) }
+    ensures error { IfOk result (λ d. option_map repr_view d.2 ≡ option_map repr_view types.now.error_type) }
+{
+    let token = types.terminal_token_type.clone()?;
+    let location = copy_option(&types.terminal_loc_type)?;
+    let error = copy_option(&types.error_type)?;
+    Ok((token, location, error))
 }
 
 fn copy_option(ty: &Option<TypeRepr>) -> Result<Option<TypeRepr>, AllocError>
