@@ -4,18 +4,20 @@ ghost use Rattle.std.specs.BTreeMap.{insert_entry};
 ghost use Rattle.lalrpop_norm_tree.specs.Items.{intern_token_view};
 ghost use Rattle.lalrpop_norm_parts.specs.Patterns.{pattern_view};
 ghost use Rattle.lalrpop_norm_parts.specs.Reprs.{repr_view, lowered_where_clause_view};
+ghost use Rattle.lalrpop_norm_repr.specs.Actions.{action_defn_view};
 ghost use Rattle.lalrpop_norm_repr.specs.Lowered.{grammar_view, lowered_parameter_view, terminal_set_view};
 ghost use Rattle.lalrpop_norm_repr.specs.Productions.{nonterminal_data_view};
 ghost use Rattle.lalrpop_norm_repr.specs.Tables.{rows};
 
 use super::{Grammar, Parameter, TerminalSet};
+use crate::action::ActionFnDefn;
 use crate::action::copy::copy_actions;
 use crate::production::NonterminalData;
 use lalrpop_norm_tree::grammar::parse_tree::{
     InternToken, NoMemory, NonterminalString, TerminalString, TypeParameter,
 };
 use lalrpop_norm_tree::grammar::pattern::Pattern;
-use lalrpop_norm_tree::grammar::repr::{TypeRepr, WhereClause};
+use lalrpop_norm_tree::grammar::repr::{Algorithm, TypeRepr, WhereClause};
 use std::alloc::{AllocError, Global};
 use std::collections::BTreeMap;
 
@@ -34,20 +36,17 @@ fn copy(grammar: &Grammar) -> Result<Grammar, NoMemory>
     ensures { IfOk result (λ g. grammar_view g ≡ grammar_view grammar.now) }
 {
     let alloc = *grammar.uses.allocator();
-    let prefix = grammar.prefix.clone()?;
-    let algorithm = grammar.algorithm.clone()?;
-    let start_nonterminals = copy_starts(&grammar.start_nonterminals)?;
-    let uses = copy_texts(alloc, &grammar.uses)?;
-    let type_parameters = copy_type_parameters(&grammar.type_parameters)?;
-    let parameters = copy_parameters(alloc, &grammar.parameters)?;
-    let where_clauses = copy_clauses(alloc, &grammar.where_clauses)?;
-    let intern_token = copy_token(&grammar.intern_token)?;
-    let action_fn_defns = copy_actions(alloc, &grammar.action_fn_defns)?;
-    let terminals = grammar.terminals.clone()?;
-    let nonterminals = copy_nonterminals(&grammar.nonterminals)?;
-    let conversions = copy_conversions(alloc, &grammar.conversions)?;
+    let head = copy_head(grammar)?;
+    let texts = copy_both_texts(alloc, grammar)?;
+    let signature = copy_signature(alloc, grammar)?;
+    let tokens = copy_tokens(alloc, grammar)?;
+    let rules = copy_rules(alloc, grammar)?;
     let types = grammar.types.clone()?;
-    let module_attributes = copy_texts(alloc, &grammar.module_attributes)?;
+    let (prefix, algorithm) = head;
+    let (uses, module_attributes) = texts;
+    let (type_parameters, parameters, where_clauses) = signature;
+    let (intern_token, terminals, conversions) = tokens;
+    let (start_nonterminals, action_fn_defns, nonterminals) = rules;
     Ok(Grammar {
         prefix,
         algorithm,
@@ -65,6 +64,79 @@ fn copy(grammar: &Grammar) -> Result<Grammar, NoMemory>
         types,
         module_attributes,
     })
+}
+
+fn copy_head(grammar: &Grammar) -> Result<(String, Algorithm), NoMemory>
+    ensures prefix { IfOk result (λ h. string_bytes h.0 ≡ string_bytes grammar.now.prefix) }
+    ensures algorithm { IfOk result (λ h. h.1 ≡ grammar.now.algorithm) }
+{
+    let prefix = grammar.prefix.clone()?;
+    let algorithm = grammar.algorithm.clone()?;
+    Ok((prefix, algorithm))
+}
+
+/// The texts behind `use`, and those of `#![..]`.
+fn copy_both_texts(alloc: Global, grammar: &Grammar) -> Result<(Vec<String>, Vec<String>), NoMemory>
+    ensures uses { IfOk result (λ t. map string_bytes t.0.items ≡ map string_bytes grammar.now.uses.items) }
+    ensures attributes { IfOk result (λ t. map string_bytes t.1.items ≡ map string_bytes grammar.now.module_attributes.items) }
+{
+    let uses = copy_texts(alloc, &grammar.uses)?;
+    let module_attributes = copy_texts(alloc, &grammar.module_attributes)?;
+    Ok((uses, module_attributes))
+}
+
+/// The type parameters, the parameters and the where clauses.
+fn copy_signature(
+    alloc: Global,
+    grammar: &Grammar,
+) -> Result<(Vec<TypeParameter>, Vec<Parameter>, Vec<WhereClause>), NoMemory>
+    ensures type_parameters { IfOk result (λ s. s.0.items ≡ grammar.now.type_parameters.items) }
+    ensures parameters { IfOk result (λ s. map lowered_parameter_view s.1.items ≡ map lowered_parameter_view grammar.now.parameters.items) }
+    ensures clauses { IfOk result (λ s. map lowered_where_clause_view s.2.items ≡ map lowered_where_clause_view grammar.now.where_clauses.items) }
+{
+    let type_parameters = copy_type_parameters(&grammar.type_parameters)?;
+    let parameters = copy_parameters(alloc, &grammar.parameters)?;
+    let where_clauses = copy_clauses(alloc, &grammar.where_clauses)?;
+    Ok((type_parameters, parameters, where_clauses))
+}
+
+/// A pattern for each terminal.
+type Conversions = BTreeMap<TerminalString, Pattern<TypeRepr>>;
+
+/// The tokenizer, the terminals and their patterns.
+fn copy_tokens(
+    alloc: Global,
+    grammar: &Grammar,
+) -> Result<(Option<InternToken>, TerminalSet, Conversions), NoMemory>
+    ensures token { IfOk result (λ t. option_map intern_token_view t.0 ≡ option_map intern_token_view grammar.now.intern_token) }
+    ensures terminals { IfOk result (λ t. terminal_set_view t.1 ≡ terminal_set_view grammar.now.terminals) }
+    ensures conversions { IfOk result (λ t. rows (pattern_view repr_view) t.2 ≡ rows (pattern_view repr_view) grammar.now.conversions) }
+{
+    let intern_token = copy_token(&grammar.intern_token)?;
+    let terminals = grammar.terminals.clone()?;
+    let conversions = copy_conversions(alloc, &grammar.conversions)?;
+    Ok((intern_token, terminals, conversions))
+}
+
+/// The start symbol of each public nonterminal.
+type Starts = BTreeMap<NonterminalString, NonterminalString>;
+
+/// The productions of each nonterminal.
+type Nonterminals = BTreeMap<NonterminalString, NonterminalData>;
+
+/// The start symbols, the actions and the nonterminals.
+fn copy_rules(
+    alloc: Global,
+    grammar: &Grammar,
+) -> Result<(Starts, Vec<ActionFnDefn>, Nonterminals), NoMemory>
+    ensures starts { IfOk result (λ r. r.0.entries ≡ grammar.now.start_nonterminals.entries) }
+    ensures actions { IfOk result (λ r. map action_defn_view r.1.items ≡ map action_defn_view grammar.now.action_fn_defns.items) }
+    ensures nonterminals { IfOk result (λ r. rows nonterminal_data_view r.2 ≡ rows nonterminal_data_view grammar.now.nonterminals) }
+{
+    let starts = copy_starts(&grammar.start_nonterminals)?;
+    let actions = copy_actions(alloc, &grammar.action_fn_defns)?;
+    let nonterminals = copy_nonterminals(&grammar.nonterminals)?;
+    Ok((starts, actions, nonterminals))
 }
 
 fn copy_starts(
