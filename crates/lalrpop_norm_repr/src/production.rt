@@ -14,7 +14,7 @@ use std::alloc::AllocError;
 use std::fmt;
 
 /// A nonterminal and its productions.
-#[derive(Debug, Drop)]
+#[derive(Debug)]
 pub struct NonterminalData {
     /// Who may use it.
     pub visibility: Visibility,
@@ -24,6 +24,19 @@ pub struct NonterminalData {
     pub attributes: Vec<Attribute>,
     /// In the order of its alternatives.
     pub productions: Vec<Production>,
+}
+
+// The release of a derived type is proved anew in each crate in which a value of it ends, at each place; this one is proved
+// here.
+impl Drop for NonterminalData {
+    fn drop(self) {
+        let NonterminalData {
+            visibility: _visibility,
+            span: _span,
+            attributes: _attributes,
+            productions: _productions,
+        } = self;
+    }
 }
 
 /// A production, as `N = A, B`, and the action on what its symbols give.

@@ -15,7 +15,7 @@ use std::alloc::Global;
 use std::collections::BTreeMap;
 
 /// The type of each terminal and nonterminal, and those of locations, errors and tokens.
-#[derive(Debug, Drop)]
+#[derive(Debug)]
 pub struct Types {
     alloc: Global,
     terminal_token_type: TypeRepr,
@@ -25,6 +25,23 @@ pub struct Types {
     nonterminal_types: BTreeMap<NonterminalString, TypeRepr>,
     parse_error_type: TypeRepr,
     error_recovery_type: TypeRepr,
+}
+
+// The release of a derived type is proved anew in each crate in which a value of it ends, at each place; this one is proved
+// here.
+impl Drop for Types {
+    fn drop(self) {
+        let Types {
+            alloc: _alloc,
+            terminal_token_type: _terminal_token_type,
+            terminal_loc_type: _terminal_loc_type,
+            error_type: _error_type,
+            terminal_types: _terminal_types,
+            nonterminal_types: _nonterminal_types,
+            parse_error_type: _parse_error_type,
+            error_recovery_type: _error_recovery_type,
+        } = self;
+    }
 }
 
 impl Types {

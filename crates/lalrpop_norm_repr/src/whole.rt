@@ -20,7 +20,7 @@ use std::collections::BTreeMap;
 use std::fmt;
 
 /// A lowered grammar.
-#[derive(Debug, Drop)]
+#[derive(Debug)]
 pub struct Grammar {
     /// Begins the names of start symbols, of the values in action code, and of the crate that the parser uses.
     pub prefix: String,
@@ -52,6 +52,30 @@ pub struct Grammar {
     pub types: Types,
     /// The texts of `#![..]`.
     pub module_attributes: Vec<String>,
+}
+
+// The release of a derived type is proved anew in each crate in which a value of it ends, at each place; this one is proved
+// here.
+impl Drop for Grammar {
+    fn drop(self) {
+        let Grammar {
+            prefix: _prefix,
+            algorithm: _algorithm,
+            uses_error_recovery: _uses_error_recovery,
+            start_nonterminals: _start_nonterminals,
+            uses: _uses,
+            type_parameters: _type_parameters,
+            parameters: _parameters,
+            where_clauses: _where_clauses,
+            intern_token: _intern_token,
+            action_fn_defns: _action_fn_defns,
+            terminals: _terminals,
+            nonterminals: _nonterminals,
+            conversions: _conversions,
+            types: _types,
+            module_attributes: _module_attributes,
+        } = self;
+    }
 }
 
 /// The terminals of a grammar, and the place of each.
