@@ -43,7 +43,7 @@ impl fmt::Debug for ActionFn {
 }
 
 /// An action.
-#[derive(PartialEq, Eq, Drop)]
+#[derive(PartialEq, Eq)]
 pub struct ActionFnDefn {
     /// Whether it answers a result.
     pub fallible: bool,
@@ -54,7 +54,7 @@ pub struct ActionFnDefn {
 }
 
 /// What an action does.
-#[derive(PartialEq, Eq, Drop)]
+#[derive(PartialEq, Eq)]
 pub enum ActionFnDefnKind {
     /// Code of the grammar, or of a pass.
     User(UserActionFnDefn),
@@ -65,7 +65,7 @@ pub enum ActionFnDefnKind {
 }
 
 /// An action with code, and for each symbol of its production a pattern and a type.
-#[derive(PartialEq, Eq, Drop)]
+#[derive(PartialEq, Eq)]
 pub struct UserActionFnDefn {
     /// One for each symbol of the production, in order.
     pub arg_patterns: Vec<ArgPattern>,
@@ -76,7 +76,7 @@ pub struct UserActionFnDefn {
 }
 
 /// An action that calls others first and then one with what they answer.
-#[derive(PartialEq, Eq, Drop)]
+#[derive(PartialEq, Eq)]
 pub struct InlineActionFnDefn {
     /// The action that is called last.
     pub action: ActionFn,
@@ -100,4 +100,45 @@ pub enum InlinedSymbol {
     Original(Symbol),
     /// What the action answers on the values of these symbols.
     Inlined(ActionFn, Vec<Symbol>),
+}
+
+// The release of a derived type is proved anew in each crate in which a value of it ends, at each place; those of actions are
+// proved here.
+impl Drop for ActionFnDefn {
+    fn drop(self) {
+        let ActionFnDefn {
+            fallible: _fallible,
+            ret_type: _ret_type,
+            kind: _kind,
+        } = self;
+    }
+}
+
+impl Drop for ActionFnDefnKind {
+    fn drop(self) {
+        match self {
+            ActionFnDefnKind::User(_action) => {}
+            ActionFnDefnKind::Inline(_action) => {}
+            ActionFnDefnKind::Lookaround(_action) => {}
+        }
+    }
+}
+
+impl Drop for UserActionFnDefn {
+    fn drop(self) {
+        let UserActionFnDefn {
+            arg_patterns: _arg_patterns,
+            arg_types: _arg_types,
+            code: _code,
+        } = self;
+    }
+}
+
+impl Drop for InlineActionFnDefn {
+    fn drop(self) {
+        let InlineActionFnDefn {
+            action: _action,
+            symbols: _symbols,
+        } = self;
+    }
 }

@@ -40,7 +40,7 @@ impl Drop for NonterminalData {
 }
 
 /// A production, as `N = A, B`, and the action on what its symbols give.
-#[derive(PartialEq, Eq, PartialOrd, Ord, Hash, Drop)]
+#[derive(PartialEq, Eq, PartialOrd, Ord, Hash)]
 pub struct Production {
     /// What it derives.
     pub nonterminal: NonterminalString,
@@ -50,6 +50,17 @@ pub struct Production {
     pub action: ActionFn,
     /// Where its alternative stands.
     pub span: Span,
+}
+
+impl Drop for Production {
+    fn drop(self) {
+        let Production {
+            nonterminal: _nonterminal,
+            symbols: _symbols,
+            action: _action,
+            span: _span,
+        } = self;
+    }
 }
 
 impl Clone for Production {
