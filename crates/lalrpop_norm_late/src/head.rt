@@ -2,20 +2,68 @@
 ghost use Rattle.std.specs.Prelude.{◌≡◌, IfOk, IsTrue, All, flat_map, filter_map, map, option_map, string_bytes, true};
 ghost use Rattle.lalrpop_norm_tree.specs.Accessors.{first_of, intern_token_of};
 ghost use Rattle.lalrpop_norm_parts.specs.Attributes.{attributes_view};
-ghost use Rattle.lalrpop_norm_tree.specs.Items.{intern_token_view, item_view};
+ghost use Rattle.lalrpop_norm_tree.specs.Items.{grammar_view, intern_token_view, item_view};
+ghost use Rattle.lalrpop_norm_parts.specs.Reprs.{lowered_where_clause_view};
 ghost use Rattle.lalrpop_norm_tree.specs.Types.{parameter_view};
 ghost use Rattle.lalrpop_norm_model.specs.Expanded.{all_known};
 ghost use Rattle.lalrpop_norm_repr.specs.Lowered.{lowered_parameter_view};
 ghost use Rattle.lalrpop_norm_late.specs.Carried.{use_of, asks_lalr, asked_code};
-ghost use Rattle.lalrpop_norm_late.specs.Made.{made_parameter};
+ghost use Rattle.lalrpop_norm_late.specs.Made.{made_clauses, made_parameter};
 
+use crate::clauses::lowered_clauses;
 use crate::typing::lowered_type;
-use lalrpop_norm_repr::grammar::repr::{Algorithm, Parameter};
+use lalrpop_norm_parts::names::copy::copy_type_parameters;
+use lalrpop_norm_repr::grammar::repr::{Algorithm, Parameter, WhereClause};
 use lalrpop_norm_tree::grammar::parse_tree as pt;
 use lalrpop_norm_tree::grammar::parse_tree::{
-    Attribute, GrammarItem, InternToken, NoMemory, read_algorithm,
+    Attribute, GrammarItem, InternToken, NoMemory, TypeParameter, read_algorithm,
 };
 use std::alloc::Global;
+
+/// What a lowered grammar takes over as it is.
+#[derive(Drop)]
+pub(crate) struct Head {
+    pub(crate) prefix: String,
+    pub(crate) uses: Vec<String>,
+    pub(crate) module_attributes: Vec<String>,
+    pub(crate) intern_token: Option<InternToken>,
+}
+
+/// The head of a grammar.
+pub(crate) fn head_of(alloc: Global, grammar: &pt::Grammar) -> Result<Head, NoMemory>
+    ensures prefix { IfOk result (λ h. string_bytes h.prefix ≡ (grammar_view grammar.now).prefix) }
+    ensures uses { IfOk result (λ h. map string_bytes h.uses.items ≡ filter_map use_of (grammar_view grammar.now).items) }
+    ensures intern_token { IfOk result (λ h. option_map intern_token_view h.intern_token ≡ first_of intern_token_of (grammar_view grammar.now).items) }
+    ensures module_attributes { IfOk result (λ h. map string_bytes h.module_attributes.items ≡ (grammar_view grammar.now).module_attributes) }
+{
+    Ok(Head {
+        prefix: String::from_str(alloc, grammar.prefix.as_str())?,
+        uses: uses_of(alloc, &grammar.items)?,
+        module_attributes: copy_texts(alloc, &grammar.module_attributes)?,
+        intern_token: intern_token_of(&grammar.items)?,
+    })
+}
+
+/// What the functions of a parser are over.
+#[derive(Drop)]
+pub(crate) struct Signature {
+    pub(crate) type_parameters: Vec<TypeParameter>,
+    pub(crate) parameters: Vec<Parameter>,
+    pub(crate) where_clauses: Vec<WhereClause>,
+}
+
+/// The parameters and where clauses of a grammar, their types lowered.
+pub(crate) fn signature_of(alloc: Global, grammar: &pt::Grammar) -> Result<Signature, NoMemory>
+    ensures type_parameters { IfOk result (λ s. s.type_parameters.items ≡ (grammar_view grammar.now).type_parameters) }
+    ensures parameters { IfOk result (λ s. map lowered_parameter_view s.parameters.items ≡ map made_parameter (grammar_view grammar.now).parameters) }
+    ensures where_clauses { IfOk result (λ s. map lowered_where_clause_view s.where_clauses.items ≡ flat_map made_clauses (grammar_view grammar.now).where_clauses) }
+{
+    Ok(Signature {
+        type_parameters: copy_type_parameters(&grammar.type_parameters)?,
+        parameters: lowered_parameters(alloc, &grammar.parameters)?,
+        where_clauses: lowered_clauses(alloc, &grammar.where_clauses)?,
+    })
+}
 
 /// The algorithm that the attributes ask for.
 pub(crate) fn algorithm_of(attributes: &[Attribute]) -> Algorithm
@@ -29,7 +77,7 @@ pub(crate) fn algorithm_of(attributes: &[Attribute]) -> Algorithm
 }
 
 /// The texts of `use` items.
-pub(crate) fn uses_of(alloc: Global, items: &[GrammarItem]) -> Result<Vec<String>, NoMemory>
+fn uses_of(alloc: Global, items: &[GrammarItem]) -> Result<Vec<String>, NoMemory>
     ensures { IfOk result (λ us. map string_bytes us.items ≡ filter_map use_of (map item_view items.now)) }
 {
     let mut uses = Vec::new(alloc);
@@ -46,7 +94,7 @@ pub(crate) fn uses_of(alloc: Global, items: &[GrammarItem]) -> Result<Vec<String
 }
 
 /// The first tokenizer among the items.
-pub(crate) fn intern_token_of(items: &[GrammarItem]) -> Result<Option<InternToken>, NoMemory>
+fn intern_token_of(items: &[GrammarItem]) -> Result<Option<InternToken>, NoMemory>
     ensures { IfOk result (λ t. option_map intern_token_view t ≡ first_of intern_token_of (map item_view items.now)) }
 {
     for item in items {
@@ -62,7 +110,7 @@ pub(crate) fn intern_token_of(items: &[GrammarItem]) -> Result<Option<InternToke
 }
 
 /// The parameters with their types lowered.
-pub(crate) fn lowered_parameters(
+fn lowered_parameters(
     alloc: Global,
     parameters: &[pt::Parameter],
 ) -> Result<Vec<Parameter>, NoMemory>
@@ -84,7 +132,7 @@ fn lowered_parameter(alloc: Global, parameter: &pt::Parameter) -> Result<Paramet
 }
 
 /// A copy of each text.
-pub(crate) fn copy_texts(alloc: Global, texts: &[String]) -> Result<Vec<String>, NoMemory>
+fn copy_texts(alloc: Global, texts: &[String]) -> Result<Vec<String>, NoMemory>
     ensures { IfOk result (λ copies. map string_bytes copies.items ≡ map string_bytes texts.now) }
 {
     let mut copies = Vec::new(alloc);

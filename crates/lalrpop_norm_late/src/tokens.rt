@@ -2,7 +2,7 @@
 ghost use Rattle.std.specs.Prelude.{◌≡◌, ◌+◌, ◌++◌, [], ◌∷◌, IfOk, OnOk, codes, flat_map, map, if◌then◌else◌};
 ghost use Rattle.std.specs.BTreeMap.{insert_entry};
 ghost use Rattle.std.specs.Map.{keys_of};
-ghost use Rattle.lalrpop_norm_tree.specs.Items.{conversion_view, item_view};
+ghost use Rattle.lalrpop_norm_tree.specs.Items.{conversion_view, grammar_view, item_view};
 ghost use Rattle.lalrpop_norm_tree.specs.LoweredTypes.{named_path};
 ghost use Rattle.lalrpop_norm_parts.specs.Paths.{path_view};
 ghost use Rattle.lalrpop_norm_parts.specs.Patterns.{pattern_view, pattern_at, number, chosen};
@@ -11,7 +11,7 @@ ghost use Rattle.lalrpop_norm_front.specs.Sessions.{features_view};
 ghost use Rattle.lalrpop_norm_repr.specs.Tables.{rows};
 ghost use Rattle.lalrpop_norm_late.specs.Carried.{input_type, internal_pattern};
 ghost use Rattle.lalrpop_norm_late.specs.Conversions.{sorted_terminals, numbered, terminal_cmp};
-ghost use Rattle.lalrpop_norm_late.specs.Made.{conversion_rows, row_of_entry, entry_rows_from, token_rows};
+ghost use Rattle.lalrpop_norm_late.specs.Made.{conversion_rows, row_of_entry, entry_rows_from, token_rows, made_tokens};
 
 use crate::patterns::lowered_pattern;
 use crate::terminals::{insert, numbers_of};
@@ -19,7 +19,8 @@ use lalrpop_norm_front::Session;
 use lalrpop_norm_front::cond_comp::cfg_active;
 use lalrpop_norm_repr::grammar::repr::{TerminalSet, TerminalString, TypeRepr};
 use lalrpop_norm_tree::grammar::parse_tree::{
-    Atom, Conversion, GrammarItem, Lifetime, MatchEntry, MatchMapping, NoMemory, Path, Span,
+    Atom, Conversion, Grammar, GrammarItem, Lifetime, MatchEntry, MatchMapping, NoMemory, Path,
+    Span,
 };
 use lalrpop_norm_tree::grammar::pattern::{Pattern, PatternKind};
 use std::alloc::Global;
@@ -27,15 +28,33 @@ use std::collections::BTreeMap;
 
 /// The terminals with tokens.
 #[derive(Drop)]
-pub(crate) struct Tokens {
+struct Tokens {
     /// In the order of their numbers.
-    pub(crate) all: Vec<TerminalString>,
+    all: Vec<TerminalString>,
     /// The pattern of each one's tokens.
-    pub(crate) patterns: BTreeMap<TerminalString, Pattern<TypeRepr>>,
+    patterns: BTreeMap<TerminalString, Pattern<TypeRepr>>,
+}
+
+/// The terminals with their numbers, the error terminal last where it is used, and the patterns of their tokens.
+pub(crate) fn terminals_of<L>(
+    alloc: Global,
+    session: &Session<L>,
+    grammar: &Grammar,
+    recovers: bool,
+) -> Result<(TerminalSet, BTreeMap<TerminalString, Pattern<TypeRepr>>), NoMemory>
+    ensures all { IfOk result (λ t. t.0.all.items ≡ keys_of (made_tokens (features_view session.now.features) (grammar_view grammar.now))
+        ++ (if recovers then TerminalString.Error ∷ [] else [])) }
+    ensures bits { IfOk result (λ t. t.0.bits.entries ≡ sorted_terminals [] (numbered 0 t.0.all.items)) }
+    ensures patterns { IfOk result (λ t. rows (pattern_view repr_view) t.1
+        ≡ sorted_terminals [] (made_tokens (features_view session.now.features) (grammar_view grammar.now))) }
+{
+    let tokens = tokens_of(alloc, session, grammar.span, &grammar.items)?;
+    let terminals = terminal_set(alloc, tokens.all, recovers)?;
+    Ok((terminals, tokens.patterns))
 }
 
 /// The terminals of the active conversions and of the entries of tokenizers, in order.
-pub(crate) fn tokens_of<L>(
+fn tokens_of<L>(
     alloc: Global,
     session: &Session<L>,
     span: Span,
@@ -200,7 +219,7 @@ fn input_type(alloc: Global) -> Result<TypeRepr, NoMemory>
 }
 
 /// The terminals with their numbers: those given, then the error terminal where it is used.
-pub(crate) fn terminal_set(
+fn terminal_set(
     alloc: Global,
     mut all: Vec<TerminalString>,
     recovers: bool,

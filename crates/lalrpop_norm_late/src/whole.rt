@@ -16,16 +16,14 @@ ghost use Rattle.lalrpop_norm_late.specs.Lowering.{rules_of, public_rules, start
 ghost use Rattle.lalrpop_norm_late.specs.Made.{type_in, made_faults, made_starts_faults, made_rules_faults, made_starts, made_actions, IsMade};
 ghost use Rattle.lalrpop_norm_late.specs.Shape.{IsLoweringOf};
 
-use crate::clauses::lowered_clauses;
-use crate::head::{algorithm_of, copy_texts, intern_token_of, lowered_parameters, uses_of};
+use crate::head::{algorithm_of, head_of, signature_of};
 use crate::nonterminals::{lower_rules, lower_starts};
 use crate::recovery::uses_recovery;
 use crate::rules::{public_rules, rules_of};
 use crate::starts::start_table;
-use crate::tokens::{terminal_set, tokens_of};
+use crate::tokens::terminals_of;
 use crate::typing::add_start_types;
 use lalrpop_norm_front::{NormResult, Session};
-use lalrpop_norm_parts::names::copy::copy_type_parameters;
 use lalrpop_norm_repr::grammar::repr::{
     ActionFnDefn, Grammar, NonterminalData, NonterminalString, Types,
 };
@@ -79,28 +77,29 @@ fn lower_over<L>(
 {
     let prefix = grammar.prefix.as_str();
     let produced = produce(alloc, prefix, &types, rules, public)?;
+    let head = head_of(alloc, grammar)?;
+    let signature = signature_of(alloc, grammar)?;
     let starts = start_table(alloc, prefix, public)?;
     add_start_types(alloc, prefix, public, &mut types)?;
     types.rows_ascend();
-    let tokens = tokens_of(alloc, session, grammar.span, &grammar.items)?;
     let recovers = uses_recovery(rules);
-    let terminals = terminal_set(alloc, tokens.all, recovers)?;
+    let (terminals, conversions) = terminals_of(alloc, session, grammar, recovers)?;
     Ok(Grammar {
-        prefix: String::from_str(alloc, prefix)?,
+        prefix: head.prefix,
         algorithm: algorithm_of(&grammar.attributes),
         uses_error_recovery: recovers,
         start_nonterminals: starts,
-        uses: uses_of(alloc, &grammar.items)?,
-        type_parameters: copy_type_parameters(&grammar.type_parameters)?,
-        parameters: lowered_parameters(alloc, &grammar.parameters)?,
-        where_clauses: lowered_clauses(alloc, &grammar.where_clauses)?,
-        intern_token: intern_token_of(&grammar.items)?,
+        uses: head.uses,
+        type_parameters: signature.type_parameters,
+        parameters: signature.parameters,
+        where_clauses: signature.where_clauses,
+        intern_token: head.intern_token,
         action_fn_defns: produced.actions,
         terminals,
         nonterminals: produced.nonterminals,
-        conversions: tokens.patterns,
+        conversions,
         types,
-        module_attributes: copy_texts(alloc, &grammar.module_attributes)?,
+        module_attributes: head.module_attributes,
     })
 }
 
