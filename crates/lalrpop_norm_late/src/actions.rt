@@ -1,5 +1,5 @@
 //! Action functions, numbered as they are made.
-ghost use Rattle.std.specs.Prelude.{◌≡◌, ◌++◌, [], ◌∷◌, IfOk, OnOk, map, option_map, vec_len};
+ghost use Rattle.std.specs.Prelude.{◌≡◌, IfOk, length, map, option_map};
 ghost use Rattle.lalrpop_norm_faults.specs.Faults.{Refuses};
 ghost use Rattle.lalrpop_norm_tree.specs.Items.{action_view};
 ghost use Rattle.lalrpop_norm_parts.specs.Reprs.{repr_view};
@@ -15,27 +15,24 @@ use std::alloc::Global;
 /// One more than the greatest number of an action.
 const ACTIONS: usize = 4294967296;
 
-/// Adds an action, and answers its number: the length of the list before.
-pub(crate) fn add_action(
+/// The number of the next action: the length of the list.
+pub(crate) fn next_action(
     alloc: Global,
-    actions: &mut Vec<ActionFnDefn>,
+    actions: &[ActionFnDefn],
     span: Span,
-    action: ActionFnDefn,
 ) -> NormResult<ActionFn>
-    ensures refuses { Refuses result (number_faults (vec_len actions.old) span) }
-    ensures number { IfOk result (λ a. a ≡ record { 0 = vec_len actions.old }) }
-    ensures adds { OnOk result (actions.new.items ≡ actions.old.items ++ action ∷ []) }
+    ensures refuses { Refuses result (number_faults (length actions.now) span) }
+    ensures number { IfOk result (λ a. a ≡ record { 0 = length actions.now }) }
 {
     let number = actions.len();
-    if number >= ACTIONS {
-        return Err(refusal(
-            FaultKind::TooManyActions,
-            span,
-            format!(in alloc; "more than {ACTIONS} actions"),
-        ));
+    if number < ACTIONS {
+        return Ok(ActionFn::new(number));
     }
-    actions.push(action)?;
-    Ok(ActionFn::new(number))
+    Err(refusal(
+        FaultKind::TooManyActions,
+        span,
+        format!(in alloc; "more than {ACTIONS} actions"),
+    ))
 }
 
 pub(crate) fn is_fallible(action: &Option<ActionKind>) -> bool

@@ -2,21 +2,24 @@
 ghost use Rattle.std.specs.Prelude.{◌≡◌, ◌+◌, ◌++◌, [], ◌∷◌, length, IfOk, OnOk, map, vec_len};
 ghost use Rattle.lalrpop_norm_faults.specs.Faults.{Refuses};
 ghost use Rattle.lalrpop_norm_tree.specs.Items.{alternative_view};
+ghost use Rattle.lalrpop_norm_tree.specs.Symbols.{expr_view};
 ghost use Rattle.lalrpop_norm_parts.specs.Reprs.{repr_view};
 ghost use Rattle.lalrpop_norm_model.specs.LoweringFaults.{code_faults, number_faults};
 ghost use Rattle.lalrpop_norm_repr.specs.Actions.{action_defn_view};
 ghost use Rattle.lalrpop_norm_repr.specs.Productions.{production_view};
 ghost use Rattle.lalrpop_norm_repr.specs.Tables.{type_table};
-ghost use Rattle.lalrpop_norm_late.specs.Lowering.{production_of, productions_from};
+ghost use Rattle.lalrpop_norm_late.specs.Lowering.{lowered_symbols, production_of, productions_from};
 ghost use Rattle.lalrpop_norm_late.specs.Made.{alternatives_faults, made_action};
 
-use crate::actions::add_action;
+use crate::actions::next_action;
 use crate::bodies::made_action;
 use crate::placeholders::check_code;
 use crate::symbols::lowered_symbols;
 use lalrpop_norm_front::NormResult;
-use lalrpop_norm_repr::grammar::repr::{ActionFnDefn, Production, TypeRepr, Types};
-use lalrpop_norm_tree::grammar::parse_tree::{Alternative, NonterminalString};
+use lalrpop_norm_repr::grammar::repr::{
+    ActionFn, ActionFnDefn, Production, Symbol, TypeRepr, Types,
+};
+use lalrpop_norm_tree::grammar::parse_tree::{Alternative, NoMemory, NonterminalString, Span};
 use std::alloc::Global;
 
 /// The production of an alternative of a rule of that type. Its action is added.
@@ -37,15 +40,47 @@ pub(crate) fn lower_alternative(
     ensures count { OnOk result (vec_len actions.new ≡ vec_len actions.old + 1) }
 {
     check_code(alloc, alternative)?;
+    let action = next_action(alloc, actions, alternative.span)?;
     let symbols = lowered_symbols(alloc, &alternative.expr.symbols)?;
-    let defn = made_action(alloc, prefix, types, ty, alternative, &symbols)?;
-    let nonterminal = name.clone()?;
-    let action = add_action(alloc, actions, alternative.span, defn)?;
+    add_made_action(alloc, prefix, types, ty, alternative, &symbols, actions)?;
+    Ok(production_with(name, symbols, action, alternative.span)?)
+}
+
+/// Adds the action of an alternative with these symbols.
+fn add_made_action(
+    alloc: Global,
+    prefix: &str,
+    types: &Types,
+    ty: &TypeRepr,
+    alternative: &Alternative,
+    symbols: &[Symbol],
+    actions: &mut Vec<ActionFnDefn>,
+) -> Result<(), NoMemory>
+    requires symbols { symbols.now ≡ lowered_symbols (expr_view alternative.now.expr) }
+    requires counted { code_faults (alternative_view alternative.now) ≡ [] }
+    ensures adds { OnOk result (map action_defn_view actions.new.items
+        ≡ map action_defn_view actions.old.items ++ made_action prefix.now (type_table types.now) (repr_view ty.now) (alternative_view alternative.now) ∷ []) }
+    ensures count { OnOk result (vec_len actions.new ≡ vec_len actions.old + 1) }
+{
+    let defn = made_action(alloc, prefix, types, ty, alternative, symbols)?;
+    actions.push(defn)?;
+    Ok(())
+}
+
+/// The production of these parts.
+fn production_with(
+    name: &NonterminalString,
+    symbols: Vec<Symbol>,
+    action: ActionFn,
+    span: Span,
+) -> Result<Production, NoMemory>
+    ensures { IfOk result (λ p. production_view p ≡ record { nonterminal = name.now; symbols = symbols.items; action = action; span = span }) }
+{
     Ok(Production {
-        nonterminal,
+        nonterminal: name.clone()?,
         symbols,
         action,
-        span: alternative.span,
+        span,
     })
 }
 

@@ -1,21 +1,22 @@
 //! The nonterminals of a lowered grammar: start symbols first, then the rules.
 ghost use Rattle.std.specs.Prelude.{◌≡◌, ◌+◌, ◌++◌, [], ◌∷◌, length, IfOk, OnOk, map, vec_len};
 ghost use Rattle.lalrpop_norm_faults.specs.Faults.{Refuses};
+ghost use Rattle.lalrpop_norm_parts.specs.Attributes.{no_attributes};
 ghost use Rattle.lalrpop_norm_tree.specs.Items.{rule_view};
 ghost use Rattle.lalrpop_norm_model.specs.LoweringFaults.{start_faults, number_faults};
 ghost use Rattle.lalrpop_norm_repr.specs.Actions.{action_defn_view};
-ghost use Rattle.lalrpop_norm_repr.specs.Productions.{nonterminal_data_view};
+ghost use Rattle.lalrpop_norm_repr.specs.Productions.{nonterminal_data_view, production_view};
 ghost use Rattle.lalrpop_norm_repr.specs.Tables.{type_table, rows};
-ghost use Rattle.lalrpop_norm_late.specs.Lowering.{rule_type, rule_entry, rule_rows, start_entry, start_rows, start_name, start_alternative, sorted_onto};
+ghost use Rattle.lalrpop_norm_late.specs.Lowering.{rule_type, rule_entry, rule_rows, start_entry, start_rows, start_name, start_alternative, production_of, productions_from, sorted_onto};
 ghost use Rattle.lalrpop_norm_late.specs.Made.{type_in, alternatives_faults, made_starts_faults, made_rules_faults, made_action, made_starts, made_actions};
 
 use crate::alternatives::{lower_alternative, lower_alternatives};
 use crate::starts::{insert, rule_type, start_alternative, start_name};
 use lalrpop_norm_front::{FaultKind, NormResult, refusal};
 use lalrpop_norm_parts::attribute::copy::copy_attributes;
-use lalrpop_norm_repr::grammar::repr::{ActionFnDefn, NonterminalData, Types};
+use lalrpop_norm_repr::grammar::repr::{ActionFnDefn, NonterminalData, Production, Types};
 use lalrpop_norm_tree::grammar::parse_tree as pt;
-use lalrpop_norm_tree::grammar::parse_tree::NonterminalString;
+use lalrpop_norm_tree::grammar::parse_tree::{NoMemory, NonterminalString};
 use std::alloc::Global;
 use std::collections::BTreeMap;
 
@@ -58,14 +59,44 @@ fn lower_start(
     ensures count { OnOk result (vec_len actions.new ≡ vec_len actions.old + 1) }
 {
     check_start(alloc, prefix, types, rule, name)?;
+    let production = start_production(alloc, prefix, types, rule, name, actions)?;
+    Ok(start_data(alloc, rule, production)?)
+}
+
+/// The production of a start symbol. Its action is added.
+fn start_production(
+    alloc: Global,
+    prefix: &str,
+    types: &Types,
+    rule: &pt::NonterminalData,
+    name: &NonterminalString,
+    actions: &mut Vec<ActionFnDefn>,
+) -> NormResult<Production>
+    ensures refuses { Refuses result (number_faults (vec_len actions.old) rule.now.span) }
+    ensures lowered { IfOk result (λ p.
+        production_view p ≡ production_of name.now (vec_len actions.old) (start_alternative (rule_view rule.now))) }
+    ensures adds { OnOk result (map action_defn_view actions.new.items ≡ map action_defn_view actions.old.items
+        ++ made_action prefix.now (type_table types.now) (rule_type (type_table types.now) (rule_view rule.now)) (start_alternative (rule_view rule.now)) ∷ []) }
+    ensures count { OnOk result (vec_len actions.new ≡ vec_len actions.old + 1) }
+{
     let ty = rule_type(alloc, types, rule)?;
     let alternative = start_alternative(alloc, rule)?;
-    let visibility = rule.visibility.clone()?;
-    let production = lower_alternative(alloc, prefix, types, name, &ty, &alternative, actions)?;
+    lower_alternative(alloc, prefix, types, name, &ty, &alternative, actions)
+}
+
+/// The nonterminal of a start symbol with that one production.
+fn start_data(
+    alloc: Global,
+    rule: &pt::NonterminalData,
+    production: Production,
+) -> Result<NonterminalData, NoMemory>
+    ensures { IfOk result (λ n. nonterminal_data_view n
+        ≡ record { visibility = (rule_view rule.now).visibility; span = rule.now.span; attributes = no_attributes; productions = production_view production ∷ [] }) }
+{
     let mut productions = Vec::new(alloc);
     productions.push(production)?;
     Ok(NonterminalData {
-        visibility,
+        visibility: rule.visibility.clone()?,
         span: rule.span,
         attributes: Vec::new(alloc),
         productions,
@@ -86,10 +117,26 @@ fn lower_rule(
         ++ map (made_action prefix.now (type_table types.now) (rule_type (type_table types.now) (rule_view rule.now))) (rule_view rule.now).alternatives) }
     ensures count { OnOk result (vec_len actions.new ≡ vec_len actions.old + length (rule_view rule.now).alternatives) }
 {
+    let productions = rule_productions(alloc, prefix, types, rule, actions)?;
+    Ok(rule_data(alloc, rule, productions)?)
+}
+
+/// The productions of a rule. Their actions are added.
+fn rule_productions(
+    alloc: Global,
+    prefix: &str,
+    types: &Types,
+    rule: &pt::NonterminalData,
+    actions: &mut Vec<ActionFnDefn>,
+) -> NormResult<Vec<Production>>
+    ensures refuses { Refuses result (alternatives_faults (vec_len actions.old) (rule_view rule.now).alternatives) }
+    ensures lowered { IfOk result (λ ps. map production_view ps.items ≡ productions_from rule.now.name (vec_len actions.old) (rule_view rule.now).alternatives) }
+    ensures adds { OnOk result (map action_defn_view actions.new.items ≡ map action_defn_view actions.old.items
+        ++ map (made_action prefix.now (type_table types.now) (rule_type (type_table types.now) (rule_view rule.now))) (rule_view rule.now).alternatives) }
+    ensures count { OnOk result (vec_len actions.new ≡ vec_len actions.old + length (rule_view rule.now).alternatives) }
+{
     let ty = rule_type(alloc, types, rule)?;
-    let visibility = rule.visibility.clone()?;
-    let attributes = copy_attributes(alloc, &rule.attributes)?;
-    let productions = lower_alternatives(
+    lower_alternatives(
         alloc,
         prefix,
         types,
@@ -97,11 +144,22 @@ fn lower_rule(
         &ty,
         &rule.alternatives,
         actions,
-    )?;
+    )
+}
+
+/// The nonterminal of a rule with these productions.
+fn rule_data(
+    alloc: Global,
+    rule: &pt::NonterminalData,
+    productions: Vec<Production>,
+) -> Result<NonterminalData, NoMemory>
+    ensures { IfOk result (λ n. nonterminal_data_view n
+        ≡ record { visibility = (rule_view rule.now).visibility; span = rule.now.span; attributes = (rule_view rule.now).attributes; productions = map production_view productions.items }) }
+{
     Ok(NonterminalData {
-        visibility,
+        visibility: rule.visibility.clone()?,
         span: rule.span,
-        attributes,
+        attributes: copy_attributes(alloc, &rule.attributes)?,
         productions,
     })
 }
