@@ -1,14 +1,11 @@
 -- What has not the parts of a shape does not have the shape.
 use Rattle.std.proofs.Common.{◌≡◌, ◌≢◌, ℕ, zero, suc, ◌<◌, ◌≤◌, map, List, [], ◌∷◌, length, get_or, take, Some, None, option_and_then, Bool, true, false, ◌&&◌, refl, sym, ap, ◌∙◌, arith}
-use Rattle.std.specs.Prelude.{Result, Ok, Err, IsErrAnd, IsErrOf}
 use Rattle.std.specs.Str.{bytes_eq}
 use Rattle.std.proofs.lemmas.List.{take_all}
 use Rattle.serde_json.specs.Data.{Data, null, boolean, number, unsigned, negative, float, string, array, object, no_items, item, Members, no_members, member}
 use Rattle.serde_json.specs.Find.{as_object, as_array, as_number, as_u64}
 use Rattle.serde_json.specs.View.{view, items_view, items_of}
 use Rattle.serde_json.specs.declared.value.Value.{Value}
-use Rattle.lalrpop_norm_json.specs.declared.json.TreeError.{TreeError}
-use Rattle.lalrpop_norm_json.specs.declared.json.TreeError.TheVariants.{NotATree}
 use Rattle.lalrpop_norm_json.specs.Weight.{weight, items_weight}
 use Rattle.lalrpop_norm_json.specs.Parts.{is_null, is_pair, is_variant, is_no_members, starts_with, begins, are_keys, has_fields}
 use Rattle.lalrpop_norm_json.specs.Shapes.{Name, natural, absent, Place, Held, Arrays, shape, struct_of, each, row, place, fits, fits_items, fits_members, struct, variants, arrayed, optional, Shape, is}
@@ -108,10 +105,6 @@ pub no_first : (r : List ℕ × Place) (rows : List (List ℕ × Place)) (ms : M
 no_first r rows no_members e = refl
 no_first r rows (member k d ms) e = unlike_or_refused (bytes_eq k r.0) (fits (place r.1) d) (fits_members (struct_of rows) ms) e
 
--- a struct without a later one of the fields that are left
-pub no_later : (r : List ℕ × Place) (rows : List (List ℕ × Place)) (ms : Members) (d : Data) (ns : Members) → ms ≡ member r.0 d ns → fits_members (struct_of rows) ns ≡ false → fits_members (struct_of (r ∷ rows)) ms ≡ false
-no_later r rows ms d ns is e = rw is (and_false _ _ (and_false _ _ e))
-
 -- ---- a record of known fields
 
 pub no_record : (ns : List (List ℕ)) (d : Data) → as_object d ≡ None → has_fields ns d ≡ false
@@ -150,10 +143,6 @@ no_fields rows (number n) e = refl
 no_fields rows (string s) e = refl
 no_fields rows (array ds) e = refl
 no_fields rows (object ms) e = no_keys rows ms e
-
--- a value whose members do not fit does not have the shape
-pub unfit_members : (rows : List (List ℕ × Place)) (d : Data) (ms : Members) → d ≡ object ms → fits_members (struct_of rows) ms ≡ false → fits (struct rows) d ≡ false
-unfit_members rows d ms is e = rw is e
 
 -- ---- a variant, a list
 
@@ -221,11 +210,6 @@ no_list n v vs i x is h at refused = rw is (no_item n vs i x h (ap (λ y. fits (
 -- a list that was read to its end
 pub whole_list : {X : Type 0} (f : X → Data) (xs : List X) (v : Data) (vs : List Value) (i : ℕ) → v ≡ array (items_view vs) → map f xs ≡ map view (take i vs) → length vs ≤ i → v ≡ array (items_of (map f xs))
 whole_list f xs v vs i is e h = is ∙ ap (λ ds. array (items_of ds)) (ap (map view) (sym (take_all i vs h)) ∙ sym e)
-
--- a callee's refusal that `?` hands on
-pub refused_by : {T U P : Type 0} (r : Result T TreeError) (e : TreeError) → IsErrAnd r (λ x. x ≡ e) → (IsErrOf {T = U} (Err e) NotATree → P) → IsErrOf r NotATree → P
-refused_by (Ok x) e from says refused = absurd from
-refused_by (Err x) e from says refused = says cc
 
 pub ruleset refusals = (no_struct, no_fields, no_end, and_false, no_variant, no_array, no_pair, no_optional, lighter, no_list)
 

@@ -1,4 +1,4 @@
--- One level of a written type, and of a lowered one.
+-- One level of a written type.
 use Rattle.std.proofs.Common.{◌≡◌, ℕ, List, Option, Vec, Global, sym, ap, ◌∙◌}
 use Rattle.std.specs.Prelude.{Result, IfOk, option_map}
 use Rattle.lalrpop_norm_parts.specs.declared.lowered.TypeRepr.{TypeRepr}
