@@ -761,7 +761,7 @@ def main():
                 unknown += 1
             elif got.get(line) == want:
                 same += 1
-            elif re.match(r"F\d+[a-f]? |not a tree|lnorm: not a tree", got.get(line, "")) and not want.startswith("F"):
+            elif re.match(r"(standard error: )?(F\d+[a-f]? |lnorm: not a tree)|not a tree", got.get(line, "")) and not want.startswith("F"):
                 refused += 1
             else:
                 differ.append("== %s\n-- wanted\n%s-- got\n%s" % (line, want, got.get(line)))

@@ -1,10 +1,12 @@
 //! The answer to a call.
+use crate::asks::push_no_feature;
 use crate::call::{Call, Last, Pass, call_of};
 use crate::cuts::{push_cut_faults, push_cut_reads, push_cut_writes};
-use crate::outcome::{Form, outcome_of, push_outcome};
+use crate::outcome::{Form, push_outcome};
 use crate::runs::push_run;
 use lnorm_run::words::{WordsError, session_of};
 use lnorm_values::values::push_values;
+use shared_text::NoMemory;
 use std::alloc::{AllocError, Global};
 
 /// Writes the answer to a call, with its words, on the tree that the bytes are. The only error is want of memory for the
@@ -21,7 +23,7 @@ pub fn push_answer(
         Some(Call::CutReads) => push_cut_reads(alloc, text, words, bytes),
         Some(Call::CutWrites) => push_cut_writes(alloc, text, words, bytes),
         Some(Call::CutFaults) => push_cut_faults(alloc, text, words, bytes),
-        Some(Call::Values) => match push_values(alloc, text) {
+        Some(Call::Values) => match push_made(alloc, text) {
             Ok(()) => Ok(()),
             Err(_) => text.push_str("memory\n"),
         },
@@ -38,6 +40,12 @@ pub fn push_answer(
     }
 }
 
+/// Values that no tree holds.
+fn push_made(alloc: Global, text: &mut String) -> Result<(), NoMemory> {
+    push_values(alloc, text)?;
+    push_no_feature(alloc, text)
+}
+
 /// What the passes come to, in the session of the words.
 fn push_passed(
     alloc: Global,
@@ -49,10 +57,7 @@ fn push_passed(
     bytes: &[u8],
 ) -> Result<(), AllocError> {
     match session_of(alloc, words) {
-        Ok(session) => {
-            let outcome = outcome_of(alloc, &session, passes, last, bytes);
-            push_outcome(alloc, text, &session, form, &outcome)
-        }
+        Ok(session) => push_outcome(alloc, text, &session, form, passes, last, bytes),
         Err(WordsError::Usage) => text.push_str("usage\n"),
         Err(WordsError::Memory) => text.push_str("memory\n"),
     }

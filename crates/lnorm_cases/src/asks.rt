@@ -7,10 +7,11 @@ use lalrpop_norm::normalize::norm_util::{
 use lalrpop_norm_levels::precedence::{AlternativeLevel, Assoc, has_prec_attr, read_levels};
 use lalrpop_norm_print::symbols::{push_span, push_span_line, push_terminal};
 use lalrpop_norm_tree::grammar::parse_tree::{
-    ActionKind, Alternative, ArgPattern, AssociatedType, Attribute, Conversion, EnumToken,
-    ExternToken, Grammar, GrammarItem, NoMemory, NonterminalData, Symbol, TypeRef,
+    ActionKind, Alternative, ArgPattern, AssociatedType, Atom, Attribute, AttributeArg, Conversion,
+    EnumToken, ExternToken, Grammar, GrammarItem, NoMemory, NonterminalData, Span, Symbol, TypeRef,
 };
 use std::alloc::{AllocError, Global};
+use std::collections::BTreeSet;
 
 /// Of the first blocks, the attributes, the blocks, and of each rule with its alternatives.
 pub(crate) fn push_asked(
@@ -265,4 +266,33 @@ fn push_braces(text: &mut String, code: &str) -> Result<(), AllocError> {
         Presence::Normal => text.push_str(" code <>"),
         Presence::InCurlyBrackets => text.push_str(" code {<>}"),
     }
+}
+
+/// Whether `cfg(feature = "f")` is on where the set of features is empty.
+pub(crate) fn push_no_feature(alloc: Global, text: &mut String) -> Result<(), NoMemory> {
+    let attribute = feature_f(alloc)?;
+    let session = Session {
+        features: Some(BTreeSet::new(alloc)),
+        macro_recursion_limit: 200,
+        lexer: (),
+    };
+    let is_on = cfg_active(&session, &[attribute]);
+    write!(text, "with no feature {is_on}\n")?;
+    Ok(())
+}
+
+/// `cfg(feature = "f")`
+fn feature_f(alloc: Global) -> Result<Attribute, NoMemory> {
+    let value = String::from_str(alloc, "f")?;
+    let inner = Attribute {
+        id_span: Span(4, 11),
+        id: Atom::new(alloc, "feature")?,
+        arg: AttributeArg::Equal(value),
+    };
+    let inner = vec![in alloc; inner]?;
+    Ok(Attribute {
+        id_span: Span(0, 3),
+        id: Atom::new(alloc, "cfg")?,
+        arg: AttributeArg::Paren(inner),
+    })
 }

@@ -70,12 +70,14 @@ pub(crate) fn push_cut_reads(
     words: &[String],
     bytes: &[u8],
 ) -> Result<(), AllocError> {
+    let whole = uncut(alloc, words, bytes);
     for fails_at in 0..20 {
         let mut input = Cut::new(Vec::from_slice(alloc, bytes)?, fails_at, false);
         let mut output = Vec::new(alloc);
         let mut faults = Vec::new(alloc);
         let status = run(alloc, words, &mut input, &mut output, &mut faults);
         push_end(text, status, &input, &output, &faults)?;
+        push_difference(text, &whole, &output)?;
     }
     Ok(())
 }
@@ -87,6 +89,7 @@ pub(crate) fn push_cut_writes(
     words: &[String],
     bytes: &[u8],
 ) -> Result<(), AllocError> {
+    let whole = uncut(alloc, words, bytes);
     for fails_at in 0..20 {
         for takes_none in [false, true] {
             let mut input = bytes;
@@ -94,6 +97,7 @@ pub(crate) fn push_cut_writes(
             let mut faults = Vec::new(alloc);
             let status = run(alloc, words, &mut input, &mut output, &mut faults);
             push_end(text, status, &output, &output.bytes, &faults)?;
+            push_difference(text, &whole, &output.bytes)?;
         }
     }
     Ok(())
@@ -111,6 +115,24 @@ pub(crate) fn push_cut_faults(
     let mut faults = Cut::new(Vec::new(alloc), 0, true);
     let status = run(alloc, words, &mut input, &mut output, &mut faults);
     push_end(text, status, &faults, &output, &faults.bytes)
+}
+
+/// What `lnorm` writes where nothing fails.
+fn uncut(alloc: Global, words: &[String], bytes: &[u8]) -> Vec<u8> {
+    let mut input = bytes;
+    let mut output = Vec::new(alloc);
+    let mut faults = Vec::new(alloc);
+    let _status = run(alloc, words, &mut input, &mut output, &mut faults);
+    output
+}
+
+/// A line where what was written is no beginning of the whole.
+fn push_difference(text: &mut String, whole: &[u8], written: &[u8]) -> Result<(), AllocError> {
+    if whole.starts_with(written) {
+        Ok(())
+    } else {
+        text.push_str("what was written is no beginning of the whole text\n")
+    }
 }
 
 /// The status of a run, whether its stream failed, how much was written, and the line on standard error.

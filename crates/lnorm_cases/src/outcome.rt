@@ -9,7 +9,7 @@ use lalrpop_norm_print::lowered::{push_lowered, push_whole_lowered};
 use lalrpop_norm_print::tables::{push_types, push_whole_types};
 use lalrpop_norm_print::trees::{push_tree, push_whole_tree};
 use lalrpop_norm_repr::grammar::repr::Types;
-use lalrpop_norm_tree::grammar::parse_tree::Grammar;
+use lalrpop_norm_tree::grammar::parse_tree::{Grammar, NoMemory};
 use lalrpop_norm_types::tyinfer::infer_types;
 use lnorm_values::faults::push_told;
 use lnorm_values::lowered::push_lowered_copy;
@@ -27,145 +27,212 @@ pub(crate) enum Form {
     Told,
 }
 
-/// What a call comes to.
-#[derive(Drop)]
-pub(crate) enum Outcome {
-    /// The input is no tree.
-    NotATree,
-    /// A pass refused, or there was no memory.
-    Failed(NormFailure),
-    /// The last pass only looks for faults, and found none.
-    NoFault,
-    /// The tree, to be printed.
-    Tree(Grammar),
-    /// The tree, to be asked.
-    Asked(Grammar),
-    /// The tree, whose texts are printed.
-    Texts(Grammar),
-    /// The tree with the types of its rules.
-    Typed(Grammar, Types),
-    /// The tree, lowered.
-    Lowered(repr::Grammar),
-    /// The tree, lowered, to be copied.
-    LoweredCopy(repr::Grammar),
-}
-
-/// What the passes come to on the tree that the bytes are.
-pub(crate) fn outcome_of(
-    alloc: Global,
-    session: &Session<()>,
-    passes: &[Pass],
-    last: Last,
-    bytes: &[u8],
-) -> Outcome {
-    let Ok(json) = str::from_utf8(bytes) else {
-        return Outcome::NotATree;
-    };
-    match read_tree(alloc, json) {
-        Ok(tree) => match passed(alloc, session, passes, last, tree) {
-            Ok(outcome) => outcome,
-            Err(failure) => Outcome::Failed(failure),
-        },
-        Err(TreeError::NotATree) => Outcome::NotATree,
-        Err(TreeError::Memory) => Outcome::Failed(NormFailure::Memory),
-    }
-}
-
-fn passed(
-    alloc: Global,
-    session: &Session<()>,
-    passes: &[Pass],
-    last: Last,
-    tree: Grammar,
-) -> NormResult<Outcome> {
-    let tree = tree_after_all(alloc, session, passes, tree)?;
-    match last {
-        Last::Pass(pass) => after_last(alloc, session, pass, tree),
-        Last::InferTypes => typed(alloc, tree),
-        Last::Normalize => lowered(alloc, session, tree),
-        Last::Copy => copied(tree),
-        Last::Ask => Ok(Outcome::Asked(tree)),
-        Last::Texts => Ok(Outcome::Texts(tree)),
-        Last::LoweredCopy => Ok(Outcome::LoweredCopy(normalize(alloc, session, tree)?)),
-    }
-}
-
-fn after_last(
-    alloc: Global,
-    session: &Session<()>,
-    pass: Pass,
-    tree: Grammar,
-) -> NormResult<Outcome> {
-    let tree = tree_after(alloc, session, pass, tree)?;
-    if pass.only_looks() {
-        Ok(Outcome::NoFault)
-    } else {
-        Ok(Outcome::Tree(tree))
-    }
-}
-
-fn lowered(alloc: Global, session: &Session<()>, tree: Grammar) -> NormResult<Outcome> {
-    match normalize(alloc, session, tree) {
-        Ok(lowered) => Ok(Outcome::Lowered(lowered)),
-        Err(failure) => Err(failure),
-    }
-}
-
-fn copied(tree: Grammar) -> NormResult<Outcome> {
-    match tree.clone() {
-        Ok(copy) => Ok(Outcome::Tree(copy)),
-        Err(_) => Err(NormFailure::Memory),
-    }
-}
-
-/// The tree, whose names are resolved first, with the types of its rules.
-fn typed(alloc: Global, tree: Grammar) -> NormResult<Outcome> {
-    let tree = resolved(alloc, tree)?;
-    let types = infer_types(alloc, &tree)?;
-    Ok(Outcome::Typed(tree, types))
-}
-
-/// The outcome in that form.
+/// What the passes come to on the tree that the bytes are, in that form.
 pub(crate) fn push_outcome(
     alloc: Global,
     text: &mut String,
     session: &Session<()>,
     form: Form,
-    outcome: &Outcome,
+    passes: &[Pass],
+    last: Last,
+    bytes: &[u8],
 ) -> Result<(), AllocError> {
-    match outcome {
-        Outcome::NotATree => text.push_str("not a tree\n"),
-        Outcome::Failed(failure) => match form {
-            Form::Told => push_told(text, failure),
-            Form::Lines | Form::Whole => push_failure(text, failure),
-        },
-        Outcome::NoFault => text.push_str("ok\n"),
-        Outcome::Asked(tree) => push_asked(alloc, text, session, tree),
-        Outcome::Texts(tree) => match push_texts(alloc, text, tree) {
-            Ok(()) => Ok(()),
-            Err(_) => text.push_str("memory\n"),
-        },
-        Outcome::LoweredCopy(lowered) => match push_lowered_copy(alloc, text, lowered) {
-            Ok(()) => Ok(()),
-            Err(_) => text.push_str("memory\n"),
-        },
-        Outcome::Tree(tree) => match form {
-            Form::Lines | Form::Told => push_tree(text, tree),
-            Form::Whole => push_whole_tree(text, tree),
-        },
-        Outcome::Typed(tree, types) => match form {
-            Form::Lines | Form::Told => push_types(text, tree, types),
-            Form::Whole => push_whole_types(text, types),
-        },
-        Outcome::Lowered(lowered) => match form {
-            Form::Lines | Form::Told => push_lowered(text, lowered),
-            Form::Whole => push_whole_lowered(text, lowered),
-        },
+    match read(alloc, bytes) {
+        Ok(tree) => {
+            let answer = tree_after_all(alloc, session, passes, tree);
+            push_answered(alloc, text, session, form, last, answer)
+        }
+        Err(TreeError::NotATree) => text.push_str("not a tree\n"),
+        Err(TreeError::Memory) => text.push_str("memory\n"),
     }
 }
 
-/// The number of a refusal and where it stands.
-fn push_failure(text: &mut String, failure: &NormFailure) -> Result<(), AllocError> {
+fn read(alloc: Global, bytes: &[u8]) -> Result<Grammar, TreeError> {
+    match str::from_utf8(bytes) {
+        Ok(json) => read_tree(alloc, json),
+        Err(_) => Err(TreeError::NotATree),
+    }
+}
+
+fn push_answered(
+    alloc: Global,
+    text: &mut String,
+    session: &Session<()>,
+    form: Form,
+    last: Last,
+    answer: NormResult<Grammar>,
+) -> Result<(), AllocError> {
+    match answer {
+        Ok(tree) => push_last(alloc, text, session, form, last, tree),
+        Err(failure) => push_failure(text, form, &failure),
+    }
+}
+
+/// What stands last in a call.
+fn push_last(
+    alloc: Global,
+    text: &mut String,
+    session: &Session<()>,
+    form: Form,
+    last: Last,
+    tree: Grammar,
+) -> Result<(), AllocError> {
+    match last {
+        Last::Pass(pass) => push_pass(text, form, pass, tree_after(alloc, session, pass, tree)),
+        Last::InferTypes => push_resolved_types(alloc, text, form, tree),
+        Last::Normalize => push_normalized(text, form, normalize(alloc, session, tree)),
+        Last::LoweredCopy => push_copied(alloc, text, form, normalize(alloc, session, tree)),
+        Last::Copy => push_copy(text, form, tree.clone()),
+        Last::Ask => push_asked(alloc, text, session, &tree),
+        Last::Texts => push_texts_or_memory(alloc, text, &tree),
+    }
+}
+
+fn push_pass(
+    text: &mut String,
+    form: Form,
+    pass: Pass,
+    answer: NormResult<Grammar>,
+) -> Result<(), AllocError> {
+    match answer {
+        Ok(tree) => push_tree_after(text, form, pass, &tree),
+        Err(failure) => push_failure(text, form, &failure),
+    }
+}
+
+fn push_tree_after(
+    text: &mut String,
+    form: Form,
+    pass: Pass,
+    tree: &Grammar,
+) -> Result<(), AllocError> {
+    if pass.only_looks() {
+        text.push_str("ok\n")
+    } else {
+        push_tree_as(text, form, tree)
+    }
+}
+
+fn push_tree_as(text: &mut String, form: Form, tree: &Grammar) -> Result<(), AllocError> {
+    match form {
+        Form::Lines | Form::Told => push_tree(text, tree),
+        Form::Whole => push_whole_tree(text, tree),
+    }
+}
+
+/// The types of the tree's rules, once its names are resolved.
+fn push_resolved_types(
+    alloc: Global,
+    text: &mut String,
+    form: Form,
+    tree: Grammar,
+) -> Result<(), AllocError> {
+    match resolved(alloc, tree) {
+        Ok(tree) => push_inferred(text, form, &tree, infer_types(alloc, &tree)),
+        Err(failure) => push_failure(text, form, &failure),
+    }
+}
+
+fn push_inferred(
+    text: &mut String,
+    form: Form,
+    tree: &Grammar,
+    answer: NormResult<Types>,
+) -> Result<(), AllocError> {
+    match answer {
+        Ok(types) => push_types_as(text, form, tree, &types),
+        Err(failure) => push_failure(text, form, &failure),
+    }
+}
+
+fn push_types_as(
+    text: &mut String,
+    form: Form,
+    tree: &Grammar,
+    types: &Types,
+) -> Result<(), AllocError> {
+    match form {
+        Form::Lines | Form::Told => push_types(text, tree, types),
+        Form::Whole => push_whole_types(text, types),
+    }
+}
+
+fn push_normalized(
+    text: &mut String,
+    form: Form,
+    answer: NormResult<repr::Grammar>,
+) -> Result<(), AllocError> {
+    match answer {
+        Ok(lowered) => push_lowered_as(text, form, &lowered),
+        Err(failure) => push_failure(text, form, &failure),
+    }
+}
+
+fn push_lowered_as(
+    text: &mut String,
+    form: Form,
+    lowered: &repr::Grammar,
+) -> Result<(), AllocError> {
+    match form {
+        Form::Lines | Form::Told => push_lowered(text, lowered),
+        Form::Whole => push_whole_lowered(text, lowered),
+    }
+}
+
+fn push_copied(
+    alloc: Global,
+    text: &mut String,
+    form: Form,
+    answer: NormResult<repr::Grammar>,
+) -> Result<(), AllocError> {
+    match answer {
+        Ok(lowered) => push_lowered_copy_or_memory(alloc, text, &lowered),
+        Err(failure) => push_failure(text, form, &failure),
+    }
+}
+
+fn push_lowered_copy_or_memory(
+    alloc: Global,
+    text: &mut String,
+    lowered: &repr::Grammar,
+) -> Result<(), AllocError> {
+    match push_lowered_copy(alloc, text, lowered) {
+        Ok(()) => Ok(()),
+        Err(_) => text.push_str("memory\n"),
+    }
+}
+
+fn push_copy(
+    text: &mut String,
+    form: Form,
+    copy: Result<Grammar, NoMemory>,
+) -> Result<(), AllocError> {
+    match copy {
+        Ok(tree) => push_tree_as(text, form, &tree),
+        Err(_) => text.push_str("memory\n"),
+    }
+}
+
+fn push_texts_or_memory(
+    alloc: Global,
+    text: &mut String,
+    tree: &Grammar,
+) -> Result<(), AllocError> {
+    match push_texts(alloc, text, tree) {
+        Ok(()) => Ok(()),
+        Err(_) => text.push_str("memory\n"),
+    }
+}
+
+/// The number of a refusal and where it stands; its message too, where that is asked for.
+fn push_failure(text: &mut String, form: Form, failure: &NormFailure) -> Result<(), AllocError> {
+    match form {
+        Form::Told => push_told(text, failure),
+        Form::Lines | Form::Whole => push_place(text, failure),
+    }
+}
+
+fn push_place(text: &mut String, failure: &NormFailure) -> Result<(), AllocError> {
     match failure {
         NormFailure::Refused(error) => {
             let code = error.fault.code();

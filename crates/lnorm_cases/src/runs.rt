@@ -28,19 +28,22 @@ fn push_bytes(text: &mut String, bytes: &[u8]) -> Result<(), AllocError> {
 /// The line on standard error: of a fault other than F0 what stands before the message, whose words are not promised.
 fn push_fault_line(text: &mut String, bytes: &[u8]) -> Result<(), AllocError> {
     match str::from_utf8(bytes) {
+        Ok("") => Ok(()),
         Ok(line) => match promised_part(line) {
-            Some(part) => write!(text, "{part}\n"),
-            None => text.push_str(line),
+            Some(part) => write!(text, "standard error: {part}\n"),
+            None => write!(text, "standard error, not a line of lnorm: {line}\n"),
         },
-        Err(_) => text.push_str("no text\n"),
+        Err(_) => text.push_str("standard error: no text\n"),
     }
 }
 
+/// What is promised of a line, which ends with a line feed.
 fn promised_part(line: &str) -> Option<&str> {
+    let line = line.strip_suffix("\n")?;
     if line.starts_with("F") && !line.starts_with("F0 ") {
         let (part, _message) = line.split_once(": ")?;
         Some(part)
     } else {
-        None
+        Some(line)
     }
 }

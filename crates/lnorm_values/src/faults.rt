@@ -6,11 +6,8 @@ use std::alloc::{AllocError, Global};
 
 /// A refusal with its message, one without memory for it, and copies of both.
 pub(crate) fn push_refusals(alloc: Global, text: &mut String) -> Result<(), NoMemory> {
-    let message = String::from_str(alloc, "no type follows")?;
-    let told = refusal(FaultKind::NotGrounded, Span(3, 8), Ok(message));
-    push_with_copy(text, &told)?;
-    let untold = refusal(FaultKind::NotGrounded, Span(3, 8), Err(AllocError));
-    push_with_copy(text, &untold)?;
+    push_with_copy(text, &refused(String::from_str(alloc, "no type follows")))?;
+    push_with_copy(text, &refused(Err(AllocError)))?;
     for fault in [
         FaultKind::NotYet,
         FaultKind::SideOnLowest,
@@ -20,6 +17,11 @@ pub(crate) fn push_refusals(alloc: Global, text: &mut String) -> Result<(), NoMe
         write!(text, "{code}\n")?;
     }
     Ok(())
+}
+
+/// A refusal at `3..8`.
+fn refused(message: Result<String, AllocError>) -> NormFailure {
+    refusal(FaultKind::NotGrounded, Span(3, 8), message)
 }
 
 /// A failure, and its copy.

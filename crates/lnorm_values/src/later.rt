@@ -38,19 +38,68 @@ fn put_block(alloc: Global, tree: &mut Grammar, block: ExternToken) -> Result<()
     Ok(tree.items.push(GrammarItem::ExternToken(block))?)
 }
 
+/// What a rule stands for.
+#[derive(Clone, Copy)]
+enum Meaning {
+    Match,
+    Group,
+    Tokenizer,
+    Clause,
+    Type,
+    Parameter,
+    Rule,
+}
+
+fn meaning_of(name: &str) -> Meaning {
+    match name {
+        "match" => Meaning::Match,
+        "else" => Meaning::Group,
+        "intern" => Meaning::Tokenizer,
+        "where" => Meaning::Clause,
+        other => match other.split_once(" ") {
+            Some(("type", _)) => Meaning::Type,
+            Some(("parameter", _)) => Meaning::Parameter,
+            _ => Meaning::Rule,
+        },
+    }
+}
+
 /// What a rule stands for, by its name.
 fn put_named(alloc: Global, tree: &mut Grammar, rule: NonterminalData) -> Result<(), NoMemory> {
-    let name = rule.name.0.clone()?;
-    match name.as_str() {
-        "match" => put_match(alloc, tree, &rule),
-        "else" => put_group(alloc, tree, &rule),
-        "intern" => put_tokenizer(alloc, tree, &rule),
-        "where" => Ok(tree.where_clauses.push(clause(alloc)?)?),
-        other => match other.split_once(" ") {
-            Some(("type", name)) => put_type(alloc, tree, rule, name),
-            Some(("parameter", name)) => put_parameter(alloc, tree, rule, name),
-            _ => put_rule(alloc, tree, rule),
-        },
+    match meaning_of(rule.name.0.as_str()) {
+        Meaning::Rule => put_rule(alloc, tree, rule),
+        other => put_part(alloc, tree, other, &rule),
+    }
+}
+
+/// The part that a rule stands for.
+fn put_part(
+    alloc: Global,
+    tree: &mut Grammar,
+    meaning: Meaning,
+    rule: &NonterminalData,
+) -> Result<(), NoMemory> {
+    match meaning {
+        Meaning::Match => put_match(alloc, tree, rule),
+        Meaning::Group => put_group(alloc, tree, rule),
+        Meaning::Tokenizer => put_tokenizer(alloc, tree, rule),
+        Meaning::Clause => put_clause(alloc, tree),
+        Meaning::Type => put_type(alloc, tree, rule),
+        Meaning::Parameter => put_parameter(alloc, tree, rule),
+        Meaning::Rule => Ok(()),
+    }
+}
+
+fn put_clause(alloc: Global, tree: &mut Grammar) -> Result<(), NoMemory> {
+    let clause = clause(alloc)?;
+    Ok(tree.where_clauses.push(clause)?)
+}
+
+/// The name behind the first word of a rule's name.
+fn name_behind(alloc: Global, rule: &NonterminalData) -> Result<Atom, NoMemory> {
+    match rule.name.0.as_str().split_once(" ") {
+        Some((_, name)) => Ok(Atom::new(alloc, name)?),
+        None => Ok(rule.name.0.clone()?),
     }
 }
 
@@ -84,18 +133,24 @@ fn contents(alloc: Global, rule: &NonterminalData) -> Result<MatchContents, NoMe
 /// `_` without symbols, a literal, or a literal and what it is mapped to.
 fn match_item(alternative: &Alternative) -> Result<Option<MatchItem>, NoMemory> {
     let at = alternative.span;
-    let item = match alternative.expr.symbols.as_slice() {
-        [] => Some(MatchItem::CatchAll(at)),
+    match alternative.expr.symbols.as_slice() {
+        [] => Ok(Some(MatchItem::CatchAll(at))),
         [from] => match literal_of(from)? {
-            Some(from) => Some(MatchItem::Unmapped(from, at)),
-            None => None,
+            Some(from) => Ok(Some(MatchItem::Unmapped(from, at))),
+            None => Ok(None),
         },
-        [from, to, ..] => match (literal_of(from)?, mapping_of(to)?) {
-            (Some(from), Some(to)) => Some(MatchItem::Mapped(from, to, at)),
-            _ => None,
+        [from, to, ..] => match literal_of(from)? {
+            Some(from) => mapped(from, to, at),
+            None => Ok(None),
         },
-    };
-    Ok(item)
+    }
+}
+
+fn mapped(from: TerminalLiteral, to: &Symbol, at: Span) -> Result<Option<MatchItem>, NoMemory> {
+    match mapping_of(to)? {
+        Some(to) => Ok(Some(MatchItem::Mapped(from, to, at))),
+        None => Ok(None),
+    }
 }
 
 fn literal_of(symbol: &Symbol) -> Result<Option<TerminalLiteral>, NoMemory> {
@@ -120,41 +175,51 @@ fn put_tokenizer(
     tree: &mut Grammar,
     rule: &NonterminalData,
 ) -> Result<(), NoMemory> {
-    let mut match_entries = Vec::new(alloc);
+    let tokens = tokenizer(alloc, rule)?;
+    Ok(tree.items.push(GrammarItem::InternToken(tokens))?)
+}
+
+fn tokenizer(alloc: Global, rule: &NonterminalData) -> Result<InternToken, NoMemory> {
+    let code = vec![in alloc; 7, 9]?;
+    Ok(InternToken {
+        match_entries: entries(alloc, rule)?,
+        dfa: Dfa { code },
+    })
+}
+
+fn entries(alloc: Global, rule: &NonterminalData) -> Result<Vec<MatchEntry>, NoMemory> {
+    let mut entries = Vec::new(alloc);
     for alternative in &rule.alternatives {
         if let Some(MatchItem::Mapped(literal, mapping, _)) = match_item(alternative)? {
-            match_entries.push(MatchEntry {
+            entries.push(MatchEntry {
                 precedence: literal.base_precedence(),
                 match_literal: literal,
                 user_name: mapping,
             })?;
         }
     }
-    let dfa = Dfa {
-        code: vec![in alloc; 7, 9]?,
-    };
-    let tokens = InternToken { match_entries, dfa };
-    Ok(tree.items.push(GrammarItem::InternToken(tokens))?)
+    Ok(entries)
 }
 
 /// A type that the extern block before it names.
-fn put_type(
-    alloc: Global,
-    tree: &mut Grammar,
-    mut rule: NonterminalData,
-    name: &str,
-) -> Result<(), NoMemory> {
-    let type_name = Atom::new(alloc, name)?;
-    let declared = replace(&mut rule.type_decl, None);
-    if let Some(type_ref) = declared {
-        let associated = AssociatedType {
-            type_span: rule.span,
-            type_name,
-            type_ref,
-        };
-        push_type(tree, associated)?;
+fn put_type(alloc: Global, tree: &mut Grammar, rule: &NonterminalData) -> Result<(), NoMemory> {
+    match &rule.type_decl {
+        Some(declared) => push_type(tree, associated(alloc, rule, declared)?),
+        None => Ok(()),
     }
-    Ok(())
+}
+
+fn associated(
+    alloc: Global,
+    rule: &NonterminalData,
+    declared: &TypeRef,
+) -> Result<AssociatedType, NoMemory> {
+    let type_name = name_behind(alloc, rule)?;
+    Ok(AssociatedType {
+        type_span: rule.span,
+        type_name,
+        type_ref: declared.clone()?,
+    })
 }
 
 fn push_type(tree: &mut Grammar, associated: AssociatedType) -> Result<(), NoMemory> {
@@ -223,25 +288,42 @@ fn named_type(alloc: Global, name: &str) -> Result<TypeRef, NoMemory> {
 fn put_parameter(
     alloc: Global,
     tree: &mut Grammar,
-    mut rule: NonterminalData,
-    name: &str,
+    rule: &NonterminalData,
 ) -> Result<(), NoMemory> {
-    let name = Atom::new(alloc, name)?;
-    let declared = replace(&mut rule.type_decl, None);
-    match declared {
-        Some(ty) => Ok(tree.parameters.push(Parameter { name, ty })?),
+    match &rule.type_decl {
+        Some(declared) => Ok(tree.parameters.push(parameter(alloc, rule, declared)?)?),
         None => Ok(()),
     }
 }
 
+fn parameter(
+    alloc: Global,
+    rule: &NonterminalData,
+    declared: &TypeRef,
+) -> Result<Parameter, NoMemory> {
+    let name = name_behind(alloc, rule)?;
+    Ok(Parameter {
+        name,
+        ty: declared.clone()?,
+    })
+}
+
 /// `for<'a> T: I<Item = B> + 'a`
 fn clause(alloc: Global) -> Result<WhereClause<TypeRef>, NoMemory> {
-    let forall = vec![in alloc; TypeParameter::Lifetime(lifetime(alloc)?)]?;
+    let ty = named_type(alloc, "T")?;
+    let forall = binder(alloc)?;
     Ok(WhereClause::OfType {
         forall,
-        ty: named_type(alloc, "T")?,
+        ty,
         bounds: bounds(alloc)?,
     })
+}
+
+/// The binder of `for<'a>`.
+fn binder(alloc: Global) -> Result<Vec<TypeParameter>, NoMemory> {
+    let mut parameters = Vec::new(alloc);
+    parameters.push(TypeParameter::Lifetime(lifetime(alloc)?))?;
+    Ok(parameters)
 }
 
 /// `'a`
@@ -251,7 +333,8 @@ fn lifetime(alloc: Global) -> Result<Lifetime, NoMemory> {
 
 /// `I<Item = B> + 'a`
 fn bounds(alloc: Global) -> Result<Vec<TypeBound<TypeRef>>, NoMemory> {
-    let mut bounds = vec![in alloc; item_bound(alloc)?]?;
+    let mut bounds = Vec::new(alloc);
+    bounds.push(item_bound(alloc)?)?;
     bounds.push(TypeBound::Lifetime(lifetime(alloc)?))?;
     Ok(bounds)
 }
@@ -276,6 +359,11 @@ fn item_parameter(alloc: Global) -> Result<TypeBoundParameter<TypeRef>, NoMemory
 
 fn put_rule(alloc: Global, tree: &mut Grammar, rule: NonterminalData) -> Result<(), NoMemory> {
     let mut rule = rule;
+    put_inside_rule(alloc, &mut rule)?;
+    Ok(tree.items.push(GrammarItem::Nonterminal(rule))?)
+}
+
+fn put_inside_rule(alloc: Global, rule: &mut NonterminalData) -> Result<(), NoMemory> {
     for alternative in rule.alternatives.iter_mut() {
         put_condition(alloc, alternative)?;
         put_symbols(alloc, &mut alternative.expr.symbols)?;
@@ -283,7 +371,7 @@ fn put_rule(alloc: Global, tree: &mut Grammar, rule: NonterminalData) -> Result<
     if let Some(TypeRef::OfSymbol(kind)) = &mut rule.type_decl {
         put_kind(alloc, kind)?;
     }
-    Ok(tree.items.push(GrammarItem::Nonterminal(rule))?)
+    Ok(())
 }
 
 /// Makes a condition of an attribute that stands for one.
@@ -426,9 +514,9 @@ fn tuple_of(alloc: Global, name: &Name) -> Result<Option<Tuple>, NoMemory> {
 }
 
 fn argument(alloc: Global, part: &str) -> Result<ArgPattern, NoMemory> {
-    let name = match part.strip_prefix("mut ") {
-        Some(name) => Name::new(true, Atom::new(alloc, name)?),
-        None => Name::immut(Atom::new(alloc, part)?),
+    let (mutable, name) = match part.strip_prefix("mut ") {
+        Some(name) => (true, name),
+        None => (false, part),
     };
-    Ok(ArgPattern::Name(name))
+    Ok(ArgPattern::Name(Name::new(mutable, Atom::new(alloc, name)?)))
 }

@@ -6,6 +6,7 @@ pub mod faults;
 pub mod later;
 pub mod lowered;
 mod names;
+mod parts;
 mod tables;
 pub mod texts;
 pub mod values;

@@ -17,11 +17,16 @@ pub(crate) fn push_names(alloc: Global, text: &mut String) -> Result<(), NoMemor
 }
 
 fn push_lifetimes(alloc: Global, text: &mut String) -> Result<(), NoMemory> {
-    let anonymous = Lifetime::anonymous(alloc)?;
-    let statik = Lifetime::statik(alloc)?;
-    let input = Lifetime::input(alloc)?;
-    write!(text, "lifetimes {anonymous} {statik} {input}\n")?;
+    text.push_str("lifetimes")?;
+    push_lifetime(text, &Lifetime::anonymous(alloc)?)?;
+    push_lifetime(text, &Lifetime::statik(alloc)?)?;
+    push_lifetime(text, &Lifetime::input(alloc)?)?;
+    text.push_str("\n")?;
     Ok(())
+}
+
+fn push_lifetime(text: &mut String, lifetime: &Lifetime) -> Result<(), AllocError> {
+    write!(text, " {lifetime}")
 }
 
 fn push_paths(alloc: Global, text: &mut String) -> Result<(), NoMemory> {
@@ -45,26 +50,67 @@ fn push_path(text: &mut String, path: &Path) -> Result<(), AllocError> {
 }
 
 fn push_lowered_types(alloc: Global, text: &mut String) -> Result<(), NoMemory> {
-    let usize = TypeRepr::usize(alloc)?;
-    let str = TypeRepr::str(alloc)?;
-    let parameter = TypeParameter::Id(Atom::new(alloc, "T")?);
-    let of_parameter = TypeRepr::from_parameter(alloc, &parameter)?;
-    let lifetime = TypeParameter::Lifetime(Lifetime::input(alloc)?);
-    let of_lifetime = TypeRepr::from_parameter(alloc, &lifetime)?;
-    write!(
-        text,
-        "lowered types {usize} {str} {of_parameter} {of_lifetime}\n"
-    )?;
+    text.push_str("lowered types")?;
+    push_type(text, TypeRepr::usize(alloc))?;
+    push_type(text, TypeRepr::str(alloc))?;
+    push_of_parameter(alloc, text, parameter(alloc))?;
+    push_of_parameter(alloc, text, input(alloc))?;
+    text.push_str("\n")?;
     Ok(())
+}
+
+fn push_type(text: &mut String, made: Result<TypeRepr, NoMemory>) -> Result<(), NoMemory> {
+    let ty = made?;
+    push_shown_type(text, &ty)
+}
+
+fn push_shown_type(text: &mut String, ty: &TypeRepr) -> Result<(), NoMemory> {
+    write!(text, " {ty}")?;
+    Ok(())
+}
+
+/// The type that a type parameter is.
+fn push_of_parameter(
+    alloc: Global,
+    text: &mut String,
+    made: Result<TypeParameter, NoMemory>,
+) -> Result<(), NoMemory> {
+    let parameter = made?;
+    push_type(text, TypeRepr::from_parameter(alloc, &parameter))
+}
+
+/// `'input`
+fn input(alloc: Global) -> Result<TypeParameter, NoMemory> {
+    Ok(TypeParameter::Lifetime(Lifetime::input(alloc)?))
+}
+
+/// `T`
+fn parameter(alloc: Global) -> Result<TypeParameter, NoMemory> {
+    Ok(TypeParameter::Id(Atom::new(alloc, "T")?))
 }
 
 /// Lists of parts, and the automaton of a tokenizer, each copied.
 fn push_lists(alloc: Global, text: &mut String) -> Result<(), NoMemory> {
-    let levels = [level(alloc)?];
-    let attributes = copy_attributes(alloc, &levels)?;
+    push_levels(alloc, text)?;
+    push_binder(alloc, text)?;
+    push_automaton(alloc, text)
+}
+
+fn push_levels(alloc: Global, text: &mut String) -> Result<(), NoMemory> {
+    let attributes = copy_attributes(alloc, &[level(alloc)?])?;
+    write!(text, "copies {attributes:?}")?;
+    Ok(())
+}
+
+fn push_binder(alloc: Global, text: &mut String) -> Result<(), NoMemory> {
     let parameters = copy_type_parameters(&binder(alloc)?)?;
+    write!(text, " {parameters:?}")?;
+    Ok(())
+}
+
+fn push_automaton(alloc: Global, text: &mut String) -> Result<(), NoMemory> {
     let dfa = automaton(alloc)?.clone()?;
-    write!(text, "copies {attributes:?} {parameters:?} {dfa:?}\n")?;
+    write!(text, " {dfa:?}\n")?;
     Ok(())
 }
 
@@ -92,29 +138,40 @@ fn binder(alloc: Global) -> Result<Vec<TypeParameter>, NoMemory> {
 
 /// The copy of `for<'a> T: Foo`.
 fn push_clause(alloc: Global, text: &mut String) -> Result<(), NoMemory> {
-    let clause = forall_clause(alloc)?.clone()?;
+    let clause = forall_clause(alloc)?;
+    push_clause_copy(text, &clause)
+}
+
+fn push_clause_copy(text: &mut String, clause: &WhereClause) -> Result<(), NoMemory> {
+    let copy = clause.clone()?;
+    push_shown(text, &copy)
+}
+
+fn push_shown(text: &mut String, clause: &WhereClause) -> Result<(), NoMemory> {
     write!(text, "where {clause}\n")?;
     Ok(())
 }
 
 /// `for<'a> T: Foo`
 fn forall_clause(alloc: Global) -> Result<WhereClause, NoMemory> {
+    let binder = binder(alloc)?;
     let clause = Box::new(alloc, bound_clause(alloc)?)?;
-    Ok(WhereClause::Forall {
-        binder: binder(alloc)?,
-        clause,
-    })
+    Ok(WhereClause::Forall { binder, clause })
 }
 
 /// `T: Foo`
 fn bound_clause(alloc: Global) -> Result<WhereClause, NoMemory> {
-    let parameter = TypeParameter::Id(Atom::new(alloc, "T")?);
-    let subject = TypeRepr::from_parameter(alloc, &parameter)?;
+    let bound = trait_bound(alloc)?;
+    let subject = TypeRepr::from_parameter(alloc, &parameter(alloc)?)?;
+    Ok(WhereClause::Bound { subject, bound })
+}
+
+/// `Foo`
+fn trait_bound(alloc: Global) -> Result<TypeBound<TypeRepr>, NoMemory> {
     let path = Path::from_id(alloc, Atom::new(alloc, "Foo")?)?;
-    let bound = TypeBound::Trait {
+    Ok(TypeBound::Trait {
         forall: Vec::new(alloc),
         path,
         parameters: Vec::new(alloc),
-    };
-    Ok(WhereClause::Bound { subject, bound })
+    })
 }

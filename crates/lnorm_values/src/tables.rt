@@ -13,19 +13,27 @@ pub(crate) fn push_tables(alloc: Global, text: &mut String) -> Result<(), NoMemo
 }
 
 fn push_located(alloc: Global, text: &mut String) -> Result<(), NoMemory> {
-    let types = located(alloc)?;
     text.push_str("table with locations\n")?;
-    push_table(text, &types)?;
-    push_location(text, &types)?;
+    let types = located(alloc)?;
+    push_located_table(text, &types)
+}
+
+fn push_located_table(text: &mut String, types: &Types) -> Result<(), NoMemory> {
+    push_table(text, types)?;
+    push_location(text, types)?;
     Ok(())
 }
 
 /// The table with locations of type `usize` and tokens of type `Token<'input>`.
 fn located(alloc: Global) -> Result<Types, NoMemory> {
-    let name = TypeParameter::Id(Atom::new(alloc, "Token<'input>")?);
-    let token = TypeRepr::from_parameter(alloc, &name)?;
     let location = TypeRepr::usize(alloc)?;
-    Types::new(alloc, "__", Some(location), None, token)
+    Types::new(alloc, "__", Some(location), None, token(alloc)?)
+}
+
+/// `Token<'input>`
+fn token(alloc: Global) -> Result<TypeRepr, NoMemory> {
+    let name = TypeParameter::Id(Atom::new(alloc, "Token<'input>")?);
+    TypeRepr::from_parameter(alloc, &name)
 }
 
 fn push_location(text: &mut String, types: &Types) -> Result<(), AllocError> {
@@ -39,21 +47,55 @@ fn push_location(text: &mut String, types: &Types) -> Result<(), AllocError> {
 fn push_table(text: &mut String, types: &Types) -> Result<(), NoMemory> {
     push_token(text, types)?;
     push_error_types(text, types)?;
-    let terminals = types.terminal_types()?;
-    let nonterminals = types.nonterminal_types()?;
-    write!(text, "  lists {terminals:?} {nonterminals:?}\n")?;
+    text.push_str("  lists")?;
+    push_terminal_types(text, types)?;
+    push_nonterminal_types(text, types)?;
+    text.push_str("\n")?;
+    Ok(())
+}
+
+fn push_terminal_types(text: &mut String, types: &Types) -> Result<(), NoMemory> {
+    let found = types.terminal_types()?;
+    push_list(text, &found)
+}
+
+fn push_nonterminal_types(text: &mut String, types: &Types) -> Result<(), NoMemory> {
+    let found = types.nonterminal_types()?;
+    push_list(text, &found)
+}
+
+fn push_list(text: &mut String, types: &[TypeRepr]) -> Result<(), NoMemory> {
+    write!(text, " {types:?}")?;
     Ok(())
 }
 
 fn push_token(text: &mut String, types: &Types) -> Result<(), NoMemory> {
     let token = types.terminal_token_type();
-    let location = types.terminal_loc_type()?;
-    let error = types.error_type()?;
-    let triple = types.triple_type()?;
-    write!(
-        text,
-        "  token {token}, location {location}, error {error}, triple {triple}\n"
-    )?;
+    write!(text, "  token {token}")?;
+    push_location_type(text, types)?;
+    push_error_type(text, types)?;
+    push_triple_type(text, types)?;
+    text.push_str("\n")?;
+    Ok(())
+}
+
+fn push_location_type(text: &mut String, types: &Types) -> Result<(), NoMemory> {
+    let ty = types.terminal_loc_type()?;
+    push_type(text, "location", &ty)
+}
+
+fn push_error_type(text: &mut String, types: &Types) -> Result<(), NoMemory> {
+    let ty = types.error_type()?;
+    push_type(text, "error", &ty)
+}
+
+fn push_triple_type(text: &mut String, types: &Types) -> Result<(), NoMemory> {
+    let ty = types.triple_type()?;
+    push_type(text, "triple", &ty)
+}
+
+fn push_type(text: &mut String, name: &str, ty: &TypeRepr) -> Result<(), NoMemory> {
+    write!(text, ", {name} {ty}")?;
     Ok(())
 }
 
@@ -66,41 +108,55 @@ fn push_error_types(text: &mut String, types: &Types) -> Result<(), AllocError> 
 
 /// The table without locations and without a prefix.
 fn push_unlocated(alloc: Global, text: &mut String) -> Result<(), NoMemory> {
-    let types = Types::new(alloc, "", None, None, TypeRepr::str(alloc)?)?;
     text.push_str("table without locations\n")?;
-    push_table(text, &types)?;
+    let types = Types::new(alloc, "", None, None, TypeRepr::str(alloc)?)?;
+    push_unlocated_table(alloc, text, &types)
+}
+
+fn push_unlocated_table(alloc: Global, text: &mut String, types: &Types) -> Result<(), NoMemory> {
+    push_table(text, types)?;
     let spanned = types.spanned_type(TypeRepr::usize(alloc)?)?;
-    write!(text, "  spanned {spanned}\n")?;
+    push_spanned(text, &spanned)
+}
+
+fn push_spanned(text: &mut String, ty: &TypeRepr) -> Result<(), NoMemory> {
+    write!(text, "  spanned {ty}\n")?;
     Ok(())
 }
 
 /// A table to which the type `usize` of a nonterminal and of a terminal is added, copied.
 fn push_added(alloc: Global, text: &mut String) -> Result<(), NoMemory> {
-    let mut types = Types::new(alloc, "__", None, None, TypeRepr::str(alloc)?)?;
-    add_nonterminal(alloc, &mut types)?;
-    add_terminal(alloc, &mut types)?;
-    let types = types.clone()?;
     text.push_str("table with two types more\n")?;
-    push_table(text, &types)?;
-    push_of_symbols(alloc, text, &types)
+    let mut types = Types::new(alloc, "__", None, None, TypeRepr::str(alloc)?)?;
+    push_with_types(alloc, text, &mut types)
+}
+
+fn push_with_types(alloc: Global, text: &mut String, types: &mut Types) -> Result<(), NoMemory> {
+    add_nonterminal(alloc, types)?;
+    add_terminal(alloc, types)?;
+    let copy = types.clone()?;
+    push_added_table(alloc, text, &copy)
+}
+
+fn push_added_table(alloc: Global, text: &mut String, types: &Types) -> Result<(), NoMemory> {
+    push_table(text, types)?;
+    push_of_symbols(alloc, text, types)
 }
 
 fn add_nonterminal(alloc: Global, types: &mut Types) -> Result<(), NoMemory> {
-    let usize = TypeRepr::usize(alloc)?;
     let name = NonterminalString(Atom::new(alloc, "S")?);
     match types.lookup_nonterminal_type(&name) {
         Some(_) => Ok(()),
-        None => types.add_type(name, usize),
+        None => types.add_type(name, TypeRepr::usize(alloc)?),
     }
 }
 
 fn add_terminal(alloc: Global, types: &mut Types) -> Result<(), NoMemory> {
-    let usize = TypeRepr::usize(alloc)?;
     let terminal = TerminalString::Bare(Atom::new(alloc, "Num")?);
     if types.has_term_type(&terminal) {
         Ok(())
     } else {
-        types.add_term_type(terminal, usize)
+        types.add_term_type(terminal, TypeRepr::usize(alloc)?)
     }
 }
 

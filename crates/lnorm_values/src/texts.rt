@@ -104,9 +104,13 @@ fn push_kind_text(alloc: Global, text: &mut String, kind: &SymbolKind) -> Result
 /// Whether the copy of the tree is equal to it, and with another span.
 fn push_equality(text: &mut String, tree: &Grammar) -> Result<(), NoMemory> {
     let mut copy = tree.clone()?;
-    let is_equal = copy == *tree;
+    push_equal(text, tree, &mut copy)
+}
+
+fn push_equal(text: &mut String, tree: &Grammar, copy: &mut Grammar) -> Result<(), NoMemory> {
+    let is_equal = *copy == *tree;
     copy.span = Span(0, 1);
-    let is_moved = copy != *tree;
+    let is_moved = *copy != *tree;
     write!(
         text,
         "copy equal {is_equal}, with another span unequal {is_moved}\n"

@@ -2,6 +2,7 @@
 use crate::actions::push_made;
 use crate::faults::{push_refusals, push_sides};
 use crate::names::push_names;
+use crate::parts::push_parts;
 use crate::tables::push_tables;
 use shared_text::NoMemory;
 use std::alloc::Global;
@@ -13,5 +14,6 @@ pub fn push_values(alloc: Global, text: &mut String) -> Result<(), NoMemory> {
     push_made(alloc, text)?;
     push_refusals(alloc, text)?;
     push_sides(text)?;
+    push_parts(alloc, text)?;
     Ok(())
 }
