@@ -7,3 +7,4 @@ pub mod PatternLemmas
 pub mod PatternViews
 pub mod ReprTextLemmas
 pub mod ReprViews
+pub mod WrittenLemmas

@@ -1,9 +1,12 @@
 //! Copies of patterns.
 ghost use Rattle.std.specs.Prelude.{◌≡◌, ℕ, IfOk};
-ghost use Rattle.lalrpop_norm_parts.specs.Patterns.{pattern_view, pattern_kind_view, field_view, patterns_view, fields_view, SamePattern, SamePatternKind, SamePatterns, SameField, SameFields};
+ghost use Rattle.lalrpop_norm_parts.specs.Paths.{path_view};
+ghost use Rattle.lalrpop_norm_parts.specs.Patterns.{enumerated, structured, tuple_struct, pattern_view, pattern_kind_view, field_view, patterns_view, fields_view, SamePattern, SamePatternKind, SamePatterns, SameField, SameFields};
 
 use super::{FieldPattern, Pattern, PatternKind};
-use shared_text::NoMemory;
+use crate::names::Span;
+use crate::path::Path;
+use shared_text::{Atom, NoMemory};
 use std::alloc::{AllocError, Global};
 
 impl<T: Clone> Pattern<T> {
@@ -50,12 +53,10 @@ fn copy_kind<T: Clone>(kind: &PatternKind<T>) -> Result<PatternKind<T>, AllocErr
 {
     match kind {
         PatternKind::Enum(path, inner) => {
-            let path = path.clone()?;
-            Ok(PatternKind::Enum(path, copy_patterns(*inner.allocator(), inner)?))
+            enumerated(path, copy_patterns(*inner.allocator(), inner)?)
         }
         PatternKind::Struct(path, fields, rest) => {
-            let path = path.clone()?;
-            Ok(PatternKind::Struct(path, copy_fields(*fields.allocator(), fields)?, *rest))
+            structured(path, copy_fields(*fields.allocator(), fields)?, *rest)
         }
         PatternKind::Path(path) => Ok(PatternKind::Path(path.clone()?)),
         PatternKind::Tuple(inner) => Ok(PatternKind::Tuple(copy_patterns(
@@ -63,8 +64,7 @@ fn copy_kind<T: Clone>(kind: &PatternKind<T>) -> Result<PatternKind<T>, AllocErr
             inner,
         )?)),
         PatternKind::TupleStruct(path, inner) => {
-            let path = path.clone()?;
-            Ok(PatternKind::TupleStruct(path, copy_patterns(*inner.allocator(), inner)?))
+            tuple_struct(path, copy_patterns(*inner.allocator(), inner)?)
         }
         PatternKind::Usize(n) => Ok(PatternKind::Usize(*n)),
         PatternKind::Underscore => Ok(PatternKind::Underscore),
@@ -107,10 +107,48 @@ fn copy_fields<T: Clone>(
 fn copy_field<T: Clone>(field: &FieldPattern<T>) -> Result<FieldPattern<T>, AllocError>
     ensures { IfOk result (λ f. SameField T.is_clone (field_view (λ t. t) field.now) (field_view (λ t. t) f)) }
 {
-    let field_name = field.field_name.clone()?;
-    let pattern = copy(&field.pattern)?;
+    named(field.field_span, &field.field_name, copy(&field.pattern)?)
+}
+
+/// `P(a, b)`, with a copy of P.
+fn enumerated<T: Clone>(path: &Path, inner: Vec<Pattern<T>>) -> Result<PatternKind<T>, AllocError>
+    ensures { IfOk result (λ k. pattern_kind_view (λ t. t) k ≡ enumerated (path_view path.now) (patterns_view (λ t. t) inner.items)) }
+{
+    let path = path.clone()?;
+    Ok(PatternKind::Enum(path, inner))
+}
+
+/// `P { f: a, .. }`, with a copy of P.
+fn structured<T: Clone>(
+    path: &Path,
+    fields: Vec<FieldPattern<T>>,
+    rest: bool,
+) -> Result<PatternKind<T>, AllocError>
+    ensures { IfOk result (λ k. pattern_kind_view (λ t. t) k ≡ structured (path_view path.now) (fields_view (λ t. t) fields.items) rest) }
+{
+    let path = path.clone()?;
+    Ok(PatternKind::Struct(path, fields, rest))
+}
+
+/// `P(a, b)` of a tokenizer, with a copy of P.
+fn tuple_struct<T: Clone>(path: &Path, inner: Vec<Pattern<T>>) -> Result<PatternKind<T>, AllocError>
+    ensures { IfOk result (λ k. pattern_kind_view (λ t. t) k ≡ tuple_struct (path_view path.now) (patterns_view (λ t. t) inner.items)) }
+{
+    let path = path.clone()?;
+    Ok(PatternKind::TupleStruct(path, inner))
+}
+
+/// The field at that place with a copy of that name.
+fn named<T: Clone>(
+    field_span: Span,
+    name: &Atom,
+    pattern: Pattern<T>,
+) -> Result<FieldPattern<T>, AllocError>
+    ensures { IfOk result (λ f. field_view (λ t. t) f ≡ record { span = field_span; name = name.now; pattern = pattern_view (λ t. t) pattern }) }
+{
+    let field_name = name.clone()?;
     Ok(FieldPattern {
-        field_span: field.field_span,
+        field_span,
         field_name,
         pattern,
     })

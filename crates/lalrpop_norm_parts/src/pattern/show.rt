@@ -83,7 +83,7 @@ fn show_between<T: fmt::Display, W: fmt::Write>(
     f.write_str(")")
 }
 
-/// `P { f: a, .. }`.
+/// `P { f: a, .. }`, with the fields between braces.
 #[cycle(show)]
 fn show_struct<T: fmt::Display, W: fmt::Write>(
     path: &Path,

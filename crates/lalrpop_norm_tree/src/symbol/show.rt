@@ -95,16 +95,8 @@ impl fmt::Display for SymbolKind {
             SymbolKind::Nonterminal(name) => fmt::Display::fmt(name, f),
             SymbolKind::Macro(call) => fmt::Display::fmt(call, f),
             SymbolKind::Repeat(repeat) => fmt::Display::fmt(&**repeat, f),
-            SymbolKind::Choose(symbol) => {
-                f.write_str("<")?;
-                fmt::Display::fmt(&**symbol, f)?;
-                f.write_str(">")
-            }
-            SymbolKind::Name(name, symbol) => {
-                fmt::Display::fmt(name, f)?;
-                f.write_str(":")?;
-                fmt::Display::fmt(&**symbol, f)
-            }
+            SymbolKind::Choose(symbol) => show_chosen(&**symbol, f),
+            SymbolKind::Name(name, symbol) => show_named(name, &**symbol, f),
             SymbolKind::Tuple(tuple, symbol) => {
                 fmt::Display::fmt(tuple, f)?;
                 f.write_str(":")?;
@@ -115,6 +107,28 @@ impl fmt::Display for SymbolKind {
             SymbolKind::Error => f.write_str("error"),
         }
     }
+}
+
+/// `<X>`.
+#[cycle(show)]
+fn show_chosen<W: fmt::Write>(symbol: &Symbol, f: &mut fmt::Formatter<W>) -> fmt::Result
+    ensures { WritesOnOk W.write_str_gives f.old result
+        (codes "<" ++ part_text (symbol_view symbol.now) ++ codes ">") f.new }
+{
+    f.write_str("<")?;
+    fmt::Display::fmt(symbol, f)?;
+    f.write_str(">")
+}
+
+/// `n:X`.
+#[cycle(show)]
+fn show_named<W: fmt::Write>(name: &Name, symbol: &Symbol, f: &mut fmt::Formatter<W>) -> fmt::Result
+    ensures { WritesOnOk W.write_str_gives f.old result
+        (name_text name.now ++ codes ":" ++ part_text (symbol_view symbol.now)) f.new }
+{
+    fmt::Display::fmt(name, f)?;
+    f.write_str(":")?;
+    fmt::Display::fmt(symbol, f)
 }
 
 impl fmt::Display for ExprSymbol {

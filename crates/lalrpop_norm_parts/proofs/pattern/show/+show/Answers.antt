@@ -1,8 +1,8 @@
-use Rattle.std.proofs.Common.{◌≡◌, ◌==◌, true, false, length, rules, arith, ap, codes, Some, Ok}
+use Rattle.std.proofs.Common.{◌≡◌, ◌==◌, ◌++◌, true, false, length, rules, arith, ap, codes, Some, Ok}
 use Rattle.std.proofs.Output.{displays_on_ok_of_eq}
 use Rattle.lalrpop_norm_parts.specs.KnownTexts.{joined_known}
 use Rattle.lalrpop_norm_parts.specs.Patterns.{pattern_view, patterns_view, field_view, fields_view}
-use Rattle.lalrpop_norm_parts.specs.PatternTexts.{pattern_text, pattern_texts, field_text, field_texts}
+use Rattle.lalrpop_norm_parts.specs.PatternTexts.{pattern_text, pattern_texts, field_text, field_texts, rest_texts}
 use Rattle.lalrpop_norm_parts.proofs.KnownTextLemmas.{written_then, known_then, each_after-more, shown_more, joined_shown, texts_of_patterns, texts_of_fields, rest_behind}
 use Rattle.lalrpop_norm_parts.proofs.pattern.show.+show.Goals as goal
 
@@ -52,3 +52,12 @@ show_fields_and_rest-returns-else-is_empty g t c =
     displays_on_ok_of_eq took c.args.f.now _ c.write_str-else-is_empty.result _ _ (rest_behind output fields c.args.rest kept some)
     (known_then took c.args.f.now _ _ c.write_str-else-is_empty.result (joined_known (codes ", ") (field_texts (fields_view output fields))) (Some (codes ", .."))
     c.in_ok-show_fields.ensures c.write_str-else-is_empty.ensures.writes)
+
+pub show_struct-returns : goal.show_struct-returns
+show_struct-returns g t c =
+    let took = g.W.Write.write_str_gives in
+    let r = c.write_str-2.result in
+    let inside = joined_known (codes ", ") (field_texts (fields_view g.T.Display.output c.args.fields.now) ++ rest_texts c.args.rest) in
+    written_then took c.args.f.now _ _ r _ _ c.in_ok-fmt.ensures.writes
+    (written_then took c.fmt.new.f _ _ r _ _ c.in_ok-write_str.ensures.writes
+    (known_then took c.write_str.new.self _ _ r inside (Some (codes " }")) c.in_ok-show_fields_and_rest.ensures c.write_str-2.ensures.writes))

@@ -1,5 +1,6 @@
 use Rattle.std.proofs.Common.{refl, sym, ap, ◌∙◌, arith, codes}
 use Rattle.std.proofs.Output.{has_written_append, has_written_of_eq}
+use Rattle.lalrpop_norm_parts.proofs.WrittenLemmas.{then_last, then_then_last}
 use Rattle.lalrpop_norm_tree.proofs.WrittenTextLemmas.{joined_types, angled_types, view_slice, view_reference, view_object, view_function}
 use Rattle.lalrpop_norm_tree.specs.WrittenTypeTexts.{type_text}
 use Rattle.lalrpop_norm_tree.proofs.types.show.+show.Goals as goal
@@ -55,3 +56,9 @@ TypeRefDisplay::fmt-returns-in_ok-show_signature-in-Fn-clause-writes g t c =
     let last = c.show_return.ensures first.plain ok in
     has_written_of_eq _ _ _ _ _ (ap type_text (view_function c.args.self.now c.deref-in-Fn.result.now c.in-Fn.forall c.in-Fn.path c.in-Fn.parameters c.in-Fn.ret c.in-Fn.is c.deref-in-Fn.ensures.value))
     (has_written_append _ _ _ _ _ _ first last)
+
+pub show_between-returns : goal.show_between-returns
+show_between-returns g t c = then_then_last g.W.Write.write_str_gives _ _ _ _ _ _ _ _ c.in_ok-write_str.ensures.writes c.in_ok-show_types.ensures c.write_str-2.ensures.writes
+
+pub show_applied-returns : goal.show_applied-returns
+show_applied-returns g t c = then_last g.W.Write.write_str_gives _ _ _ _ _ _ c.in_ok-fmt.ensures.writes c.show_angled.ensures
