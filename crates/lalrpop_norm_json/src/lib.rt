@@ -10,16 +10,15 @@ ghost use Rattle.serde_json.specs.Data.{Data};
 ghost use Rattle.serde_json.specs.Read.{read};
 ghost use Rattle.lalrpop_norm_tree.specs.Items.{grammar_view};
 ghost use Rattle.lalrpop_norm_json.specs.ItemForms.{grammar_form};
-ghost use Rattle.lalrpop_norm_json.specs.Shapes as shape;
-ghost use Rattle.lalrpop_norm_json.specs.Shapes.{is};
+ghost use Rattle.lalrpop_norm_shapes.specs.Shapes as shape;
+ghost use Rattle.lalrpop_norm_shapes.specs.Shapes.{is};
 ghost use Rattle.lalrpop_norm_json.specs.ReadTrees.{IsFormOfRead};
 
-mod json;
 mod tree;
 
-pub use json::TreeError;
+pub use lalrpop_norm_shapes::TreeError;
+use lalrpop_norm_shapes::value_of;
 use lalrpop_norm_tree::grammar::parse_tree::Grammar;
-use serde_json::Value;
 use std::alloc::Global;
 
 /// The grammar whose form in JSON the text is: members in any order, blanks as JSON has them.
@@ -36,14 +35,6 @@ pub fn read_tree(alloc: Global, text: &str) -> Result<Grammar, TreeError>
     ensures not { IsErrOf result TreeError.NotATree → (d : Data) → read text.now ≡ Some d → is shape.grammar d ≡ false }
     ensures form { IsErrOf result TreeError.NotATree → IsFormOfRead text.now → ⊥ }
 {
-    match Value::from_str(alloc, text) {
-        Ok(value) => tree::grammar(alloc, &value),
-        Err(error) => {
-            if error.is_memory() {
-                Err(TreeError::Memory)
-            } else {
-                Err(TreeError::NotATree)
-            }
-        }
-    }
+    let value = value_of(alloc, text)?;
+    tree::grammar(alloc, &value)
 }

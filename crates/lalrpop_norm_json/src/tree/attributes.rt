@@ -3,20 +3,20 @@ ghost use Rattle.std.specs.Prelude.{◌≡◌, IfOk, IsErrOf, false};
 ghost use Rattle.serde_json.specs.Data.{array};
 ghost use Rattle.serde_json.specs.View.{view};
 ghost use Rattle.lalrpop_norm_parts.specs.Attributes.{argument_view, attribute_view, attributes_view};
-ghost use Rattle.lalrpop_norm_json.specs.Shapes as shape;
-ghost use Rattle.lalrpop_norm_json.specs.Shapes.{is, fits, place, many};
+ghost use Rattle.lalrpop_norm_shapes.specs.Shapes as shape;
+ghost use Rattle.lalrpop_norm_shapes.specs.Shapes.{is, fits, place, many};
 ghost use Rattle.lalrpop_norm_json.specs.Forms.{argument_form, attribute_form, attributes_form};
 
 use super::names::{atom, span, string};
-use super::parts::FromValue;
-use crate::json::{Case, TreeError, case_of, items, three_fields};
+use super::parts::pushed;
+use lalrpop_norm_shapes::{Case, TreeError, case_of, items, three_fields};
 use lalrpop_norm_tree::grammar::parse_tree::{Attribute, AttributeArg};
 use serde_json::Value;
 use std::alloc::Global;
 
 /// What stands behind an attribute's name.
 #[cycle(attributes)]
-#[tactic(auto, using(crate::proofs::Refusals::refusals))]
+#[tactic(auto, using(lalrpop_norm_shapes::proofs::Refusals::refusals))]
 fn argument(alloc: Global, value: &Value) -> Result<AttributeArg, TreeError>
     ensures ok { IfOk result (λ g. view value.now ≡ argument_form (argument_view g)) }
     ensures err { IsErrOf result TreeError.NotATree → is shape.attribute_argument (view value.now) ≡ false }
@@ -35,7 +35,7 @@ fn argument(alloc: Global, value: &Value) -> Result<AttributeArg, TreeError>
 }
 
 #[cycle(attributes)]
-#[tactic(auto, using(crate::proofs::Refusals::refusals))]
+#[tactic(auto, using(lalrpop_norm_shapes::proofs::Refusals::refusals))]
 fn attribute(alloc: Global, value: &Value) -> Result<Attribute, TreeError>
     ensures ok { IfOk result (λ a. view value.now ≡ attribute_form (attribute_view a)) }
     ensures err { IsErrOf result TreeError.NotATree → is shape.attribute (view value.now) ≡ false }
@@ -48,7 +48,7 @@ fn attribute(alloc: Global, value: &Value) -> Result<Attribute, TreeError>
 }
 
 #[cycle(attributes)]
-#[tactic(auto, using(crate::proofs::Refusals::refusals))]
+#[tactic(auto, using(lalrpop_norm_shapes::proofs::Refusals::refusals))]
 pub(super) fn attributes(alloc: Global, value: &Value) -> Result<Vec<Attribute>, TreeError>
     ensures ok { IfOk result (λ xs. view value.now ≡ array (attributes_form (attributes_view xs.items))) }
     ensures err { IsErrOf result TreeError.NotATree → fits (place (many shape.attribute)) (view value.now) ≡ false }
@@ -56,21 +56,7 @@ pub(super) fn attributes(alloc: Global, value: &Value) -> Result<Vec<Attribute>,
     let values = items(value)?;
     let mut attributes = Vec::new(alloc);
     for value in values {
-        attributes.push(attribute(alloc, value)?)?;
+        attributes = pushed(attributes, attribute(alloc, value))?;
     }
     Ok(attributes)
-}
-
-impl FromValue for Attribute {
-    ghost use Rattle.lalrpop_norm_parts.specs.Attributes.{attribute_view};
-    ghost use Rattle.lalrpop_norm_json.specs.Forms.{attribute_form};
-    ghost use Rattle.lalrpop_norm_json.specs.Shapes as shape;
-
-    ghost form = { λ a. attribute_form (attribute_view a) };
-
-    ghost named = { shape.attribute };
-
-    fn from_value(alloc: Global, value: &Value) -> Result<Attribute, TreeError> {
-        attribute(alloc, value)
-    }
 }

@@ -1,16 +1,18 @@
 //! Rules and their alternatives.
 ghost use Rattle.std.specs.Prelude.{◌≡◌, IfOk, IsErrOf, false};
 ghost use Rattle.serde_json.specs.View.{view};
-ghost use Rattle.lalrpop_norm_tree.specs.Items.{alternative_view, rule_view};
-ghost use Rattle.lalrpop_norm_json.specs.Shapes as shape;
-ghost use Rattle.lalrpop_norm_json.specs.Shapes.{is};
-ghost use Rattle.lalrpop_norm_json.specs.ItemForms.{alternative_form, rule_form};
+ghost use Rattle.lalrpop_norm_tree.specs.Items.{alternative_view, rule_view, visibility_view};
+ghost use Rattle.lalrpop_norm_shapes.specs.Shapes as shape;
+ghost use Rattle.lalrpop_norm_shapes.specs.Shapes.{is};
+ghost use Rattle.lalrpop_norm_json.specs.ItemForms.{alternative_form, rule_form, visibility_form};
 
-use super::names::{path, string};
-use super::parts::{FromValue, maybe, no_value, optional, required, several};
-use crate::json::{Case, TreeError, case_of, end, members_of};
+use super::attributes::attributes;
+use super::names::{atom, path, span, string};
+use super::parts::{FromValue, list, maybe};
+use super::symbols::group;
+use lalrpop_norm_shapes::{Case, TreeError, absent, case_of, five_fields, seven_fields};
 use lalrpop_norm_tree::grammar::parse_tree::{
-    ActionKind, Alternative, NonterminalData, Visibility,
+    ActionKind, Alternative, NonterminalData, NonterminalString, Visibility,
 };
 use serde_json::Value;
 use std::alloc::Global;
@@ -18,13 +20,13 @@ use std::alloc::Global;
 impl FromValue for ActionKind {
     ghost use Rattle.lalrpop_norm_tree.specs.Items.{action_view};
     ghost use Rattle.lalrpop_norm_json.specs.ItemForms.{action_form};
-    ghost use Rattle.lalrpop_norm_json.specs.Shapes as shape;
+    ghost use Rattle.lalrpop_norm_shapes.specs.Shapes as shape;
 
     ghost form = { λ a. action_form (action_view a) };
 
     ghost named = { shape.action };
 
-    #[tactic(auto, using(crate::proofs::Refusals::refusals))]
+    #[tactic(auto, using(lalrpop_norm_shapes::proofs::Refusals::refusals))]
     fn from_value(alloc: Global, value: &Value) -> Result<ActionKind, TreeError> {
         match case_of(value)? {
             Case::Bare(variant) => match variant {
@@ -42,18 +44,24 @@ impl FromValue for ActionKind {
 }
 
 /// No condition is read yet.
-#[tactic(auto, using(crate::proofs::Refusals::by_members))]
+#[tactic(auto, using(lalrpop_norm_shapes::proofs::Refusals::refusals))]
 fn alternative(alloc: Global, value: &Value) -> Result<Alternative, TreeError>
     ensures ok { IfOk result (λ a. view value.now ≡ alternative_form (alternative_view a)) }
     ensures err { IsErrOf result TreeError.NotATree → is shape.alternative (view value.now) ≡ false }
 {
-    let mut members = members_of(value)?;
-    let action = optional(alloc, &mut members, "action")?;
-    let attributes = several(alloc, &mut members, "attributes")?;
-    no_value(&mut members, "condition")?;
-    let expr = required(alloc, &mut members, "expr")?;
-    let span = required(alloc, &mut members, "span")?;
-    end(members)?;
+    let (code, listed, condition, expr, at) = five_fields(
+        value,
+        "action",
+        "attributes",
+        "condition",
+        "expr",
+        "span",
+    )?;
+    absent(condition)?;
+    let span = span(at)?;
+    let action = maybe(alloc, code)?;
+    let expr = group(alloc, expr)?;
+    let attributes = attributes(alloc, listed)?;
     Ok(Alternative {
         span,
         expr,
@@ -66,7 +74,7 @@ fn alternative(alloc: Global, value: &Value) -> Result<Alternative, TreeError>
 impl FromValue for Alternative {
     ghost use Rattle.lalrpop_norm_tree.specs.Items.{alternative_view};
     ghost use Rattle.lalrpop_norm_json.specs.ItemForms.{alternative_form};
-    ghost use Rattle.lalrpop_norm_json.specs.Shapes as shape;
+    ghost use Rattle.lalrpop_norm_shapes.specs.Shapes as shape;
 
     ghost form = { λ a. alternative_form (alternative_view a) };
 
@@ -77,48 +85,49 @@ impl FromValue for Alternative {
     }
 }
 
-impl FromValue for Visibility {
-    ghost use Rattle.lalrpop_norm_tree.specs.Items.{visibility_view};
-    ghost use Rattle.lalrpop_norm_json.specs.ItemForms.{visibility_form};
-    ghost use Rattle.lalrpop_norm_json.specs.Shapes as shape;
-
-    ghost form = { λ v. visibility_form (visibility_view v) };
-
-    ghost named = { shape.visibility };
-
-    #[tactic(auto, using(crate::proofs::Refusals::refusals, crate::proofs::FormLemmas::maybe_seen))]
-    fn from_value(alloc: Global, value: &Value) -> Result<Visibility, TreeError> {
-        match case_of(value)? {
-            Case::Bare(variant) => match variant {
-                "Priv" => Ok(Visibility::Priv),
-                _ => Err(TreeError::NotATree),
-            },
-            Case::Of(variant, held) => match variant {
-                "Pub" => Ok(Visibility::Pub(maybe(alloc, held)?)),
-                "PubIn" => Ok(Visibility::PubIn(path(alloc, held)?)),
-                _ => Err(TreeError::NotATree),
-            },
-        }
+#[tactic(auto, using(lalrpop_norm_shapes::proofs::Refusals::refusals, crate::proofs::FormLemmas::maybe_seen))]
+fn visibility(alloc: Global, value: &Value) -> Result<Visibility, TreeError>
+    ensures ok { IfOk result (λ v. view value.now ≡ visibility_form (visibility_view v)) }
+    ensures err { IsErrOf result TreeError.NotATree → is shape.visibility (view value.now) ≡ false }
+{
+    match case_of(value)? {
+        Case::Bare(variant) => match variant {
+            "Priv" => Ok(Visibility::Priv),
+            _ => Err(TreeError::NotATree),
+        },
+        Case::Of(variant, held) => match variant {
+            "Pub" => Ok(Visibility::Pub(maybe(alloc, held)?)),
+            "PubIn" => Ok(Visibility::PubIn(path(alloc, held)?)),
+            _ => Err(TreeError::NotATree),
+        },
     }
 }
 
-#[tactic(auto, using(crate::proofs::Refusals::by_members))]
+#[tactic(auto, using(lalrpop_norm_shapes::proofs::Refusals::refusals))]
 pub(super) fn rule(alloc: Global, value: &Value) -> Result<NonterminalData, TreeError>
     ensures ok { IfOk result (λ n. view value.now ≡ rule_form (rule_view n)) }
     ensures err { IsErrOf result TreeError.NotATree → is shape.rule (view value.now) ≡ false }
 {
-    let mut members = members_of(value)?;
-    let alternatives = several(alloc, &mut members, "alternatives")?;
-    let args = several(alloc, &mut members, "args")?;
-    let attributes = several(alloc, &mut members, "attributes")?;
-    let name = required(alloc, &mut members, "name")?;
-    let span = required(alloc, &mut members, "span")?;
-    let type_decl = optional(alloc, &mut members, "type_decl")?;
-    let visibility = required(alloc, &mut members, "visibility")?;
-    end(members)?;
+    let (alternatives, args, listed, name, at, type_decl, seen) = seven_fields(
+        value,
+        "alternatives",
+        "args",
+        "attributes",
+        "name",
+        "span",
+        "type_decl",
+        "visibility",
+    )?;
+    let span = span(at)?;
+    let name = atom(alloc, name)?;
+    let type_decl = maybe(alloc, type_decl)?;
+    let args = list(alloc, args)?;
+    let visibility = visibility(alloc, seen)?;
+    let attributes = attributes(alloc, listed)?;
+    let alternatives = list(alloc, alternatives)?;
     Ok(NonterminalData {
         visibility,
-        name,
+        name: NonterminalString(name),
         attributes,
         span,
         args,

@@ -3,21 +3,20 @@ ghost use Rattle.std.specs.Prelude.{◌≡◌, codes, IfOk, IsErrOf, false};
 ghost use Rattle.serde_json.specs.Data.{array};
 ghost use Rattle.serde_json.specs.View.{view};
 ghost use Rattle.lalrpop_norm_tree.specs.Symbols.{kind_view, symbol_view, expr_view, parts_view};
-ghost use Rattle.lalrpop_norm_json.specs.Shapes as shape;
-ghost use Rattle.lalrpop_norm_json.specs.Shapes.{is, fits, place, many};
+ghost use Rattle.lalrpop_norm_shapes.specs.Shapes as shape;
+ghost use Rattle.lalrpop_norm_shapes.specs.Shapes.{is, fits, place, many};
 ghost use Rattle.lalrpop_norm_json.specs.Json.{variant};
 ghost use Rattle.lalrpop_norm_json.specs.SymbolForms.{op_form, name_form, kind_form, part_form, parts_form, group_form};
 
 use super::names::{atom, span, terminal};
-use super::parts::FromValue;
-use crate::json::{Case, TreeError, case_of, items, only_field, pair, truth, two_fields};
+use lalrpop_norm_shapes::{Case, TreeError, case_of, items, only_field, pair, truth, two_fields};
 use lalrpop_norm_tree::grammar::parse_tree::{
     ExprSymbol, Name, NonterminalString, RepeatOp, RepeatSymbol, Symbol, SymbolKind,
 };
 use serde_json::Value;
 use std::alloc::Global;
 
-#[tactic(auto, using(crate::proofs::Refusals::refusals))]
+#[tactic(auto, using(lalrpop_norm_shapes::proofs::Refusals::refusals))]
 fn repeat_op(value: &Value) -> Result<RepeatOp, TreeError>
     ensures ok { IfOk result (λ o. view value.now ≡ op_form o) }
     ensures err { IsErrOf result TreeError.NotATree → is shape.repeat_operator (view value.now) ≡ false }
@@ -33,7 +32,7 @@ fn repeat_op(value: &Value) -> Result<RepeatOp, TreeError>
     }
 }
 
-#[tactic(auto, using(crate::proofs::Refusals::refusals))]
+#[tactic(auto, using(lalrpop_norm_shapes::proofs::Refusals::refusals))]
 fn name(alloc: Global, value: &Value) -> Result<Name, TreeError>
     ensures ok { IfOk result (λ n. view value.now ≡ name_form n) }
     ensures err { IsErrOf result TreeError.NotATree → is shape.symbol_name (view value.now) ≡ false }
@@ -45,7 +44,7 @@ fn name(alloc: Global, value: &Value) -> Result<Name, TreeError>
 }
 
 #[cycle(symbol)]
-#[tactic(auto, using(crate::proofs::Refusals::refusals))]
+#[tactic(auto, using(lalrpop_norm_shapes::proofs::Refusals::refusals))]
 pub(super) fn kind(alloc: Global, value: &Value) -> Result<SymbolKind, TreeError>
     ensures ok { IfOk result (λ k. view value.now ≡ kind_form (kind_view k)) }
     ensures err { IsErrOf result TreeError.NotATree → is shape.kind (view value.now) ≡ false }
@@ -66,7 +65,7 @@ pub(super) fn kind(alloc: Global, value: &Value) -> Result<SymbolKind, TreeError
 }
 
 #[cycle(symbol)]
-#[tactic(auto, using(crate::proofs::Refusals::refusals))]
+#[tactic(auto, using(lalrpop_norm_shapes::proofs::Refusals::refusals))]
 fn symbol(alloc: Global, value: &Value) -> Result<Symbol, TreeError>
     ensures ok { IfOk result (λ s. view value.now ≡ part_form (symbol_view s)) }
     ensures err { IsErrOf result TreeError.NotATree → is shape.symbol (view value.now) ≡ false }
@@ -79,7 +78,7 @@ fn symbol(alloc: Global, value: &Value) -> Result<Symbol, TreeError>
 
 /// The repeat whose operator and symbol these are.
 #[cycle(symbol)]
-#[tactic(auto, using(crate::proofs::Refusals::refusals))]
+#[tactic(auto, using(lalrpop_norm_shapes::proofs::Refusals::refusals))]
 fn repeated(alloc: Global, value: &Value) -> Result<SymbolKind, TreeError>
     ensures ok { IfOk result (λ k. variant (codes "Repeat") (view value.now) ≡ kind_form (kind_view k)) }
     ensures err { IsErrOf result TreeError.NotATree → is shape.kind (variant (codes "Repeat") (view value.now)) ≡ false }
@@ -92,7 +91,7 @@ fn repeated(alloc: Global, value: &Value) -> Result<SymbolKind, TreeError>
 
 /// The chosen symbol.
 #[cycle(symbol)]
-#[tactic(auto, using(crate::proofs::Refusals::refusals))]
+#[tactic(auto, using(lalrpop_norm_shapes::proofs::Refusals::refusals))]
 fn chosen(alloc: Global, value: &Value) -> Result<SymbolKind, TreeError>
     ensures ok { IfOk result (λ k. variant (codes "Choose") (view value.now) ≡ kind_form (kind_view k)) }
     ensures err { IsErrOf result TreeError.NotATree → is shape.kind (variant (codes "Choose") (view value.now)) ≡ false }
@@ -103,7 +102,7 @@ fn chosen(alloc: Global, value: &Value) -> Result<SymbolKind, TreeError>
 
 /// The symbol with a name.
 #[cycle(symbol)]
-#[tactic(auto, using(crate::proofs::Refusals::refusals))]
+#[tactic(auto, using(lalrpop_norm_shapes::proofs::Refusals::refusals))]
 fn named(alloc: Global, value: &Value) -> Result<SymbolKind, TreeError>
     ensures ok { IfOk result (λ k. variant (codes "Name") (view value.now) ≡ kind_form (kind_view k)) }
     ensures err { IsErrOf result TreeError.NotATree → is shape.kind (variant (codes "Name") (view value.now)) ≡ false }
@@ -115,7 +114,7 @@ fn named(alloc: Global, value: &Value) -> Result<SymbolKind, TreeError>
 }
 
 #[cycle(symbol)]
-#[tactic(auto, using(crate::proofs::Refusals::refusals))]
+#[tactic(auto, using(lalrpop_norm_shapes::proofs::Refusals::refusals))]
 pub(super) fn group(alloc: Global, value: &Value) -> Result<ExprSymbol, TreeError>
     ensures ok { IfOk result (λ e. view value.now ≡ group_form (expr_view e)) }
     ensures err { IsErrOf result TreeError.NotATree → is shape.group (view value.now) ≡ false }
@@ -125,7 +124,7 @@ pub(super) fn group(alloc: Global, value: &Value) -> Result<ExprSymbol, TreeErro
 }
 
 #[cycle(symbol)]
-#[tactic(auto, using(crate::proofs::Refusals::refusals))]
+#[tactic(auto, using(lalrpop_norm_shapes::proofs::Refusals::refusals))]
 fn symbols(alloc: Global, value: &Value) -> Result<Vec<Symbol>, TreeError>
     ensures ok { IfOk result (λ ss. view value.now ≡ array (parts_form (parts_view ss.items))) }
     ensures err { IsErrOf result TreeError.NotATree → fits (place (many shape.symbol)) (view value.now) ≡ false }
@@ -136,18 +135,4 @@ fn symbols(alloc: Global, value: &Value) -> Result<Vec<Symbol>, TreeError>
         symbols.push(symbol(alloc, value)?)?;
     }
     Ok(symbols)
-}
-
-impl FromValue for ExprSymbol {
-    ghost use Rattle.lalrpop_norm_tree.specs.Symbols.{expr_view};
-    ghost use Rattle.lalrpop_norm_json.specs.SymbolForms.{group_form};
-    ghost use Rattle.lalrpop_norm_json.specs.Shapes as shape;
-
-    ghost form = { λ e. group_form (expr_view e) };
-
-    ghost named = { shape.group };
-
-    fn from_value(alloc: Global, value: &Value) -> Result<ExprSymbol, TreeError> {
-        group(alloc, value)
-    }
 }

@@ -1,41 +1,31 @@
 //! Extern blocks.
-ghost use Rattle.std.specs.Prelude.{◌≡◌, map, IfOk, IsErrOf, false};
+ghost use Rattle.std.specs.Prelude.{◌≡◌, IfOk, IsErrOf, false};
 ghost use Rattle.serde_json.specs.View.{view};
-ghost use Rattle.lalrpop_norm_tree.specs.Items.{associated_type_view, enum_token_view, extern_token_view};
-ghost use Rattle.lalrpop_norm_json.specs.Shapes as shape;
-ghost use Rattle.lalrpop_norm_json.specs.Shapes.{is};
-ghost use Rattle.lalrpop_norm_json.specs.Json.{list_form};
-ghost use Rattle.lalrpop_norm_json.specs.ItemForms.{associated_type_form, enum_token_form, extern_token_form};
+ghost use Rattle.lalrpop_norm_tree.specs.Items.{enum_token_view, extern_token_view};
+ghost use Rattle.lalrpop_norm_shapes.specs.Shapes as shape;
+ghost use Rattle.lalrpop_norm_shapes.specs.Shapes.{is};
+ghost use Rattle.lalrpop_norm_json.specs.ItemForms.{enum_token_form, extern_token_form};
 
 use super::attributes::attributes;
 use super::names::{span, terminal};
 use super::parts::{FromValue, list, maybe};
 use super::patterns::pattern;
 use super::types::type_ref;
-use crate::json::{TreeError, four_fields, nothing, three_fields};
-use lalrpop_norm_tree::grammar::parse_tree::{AssociatedType, Conversion, EnumToken, ExternToken};
+use lalrpop_norm_shapes::{TreeError, four_fields, nothing, three_fields};
+use lalrpop_norm_tree::grammar::parse_tree::{Conversion, EnumToken, ExternToken};
 use serde_json::Value;
 use std::alloc::Global;
-
-/// No associated types: none are read yet.
-fn associated_types(alloc: Global, value: &Value) -> Result<Vec<AssociatedType>, TreeError>
-    ensures ok { IfOk result (λ xs. view value.now ≡ list_form associated_type_form (map associated_type_view xs.items)) }
-    ensures err { IsErrOf result TreeError.NotATree → is shape.empty (view value.now) ≡ false }
-{
-    nothing(value)?;
-    Ok(Vec::new(alloc))
-}
 
 impl FromValue for Conversion {
     ghost use Rattle.lalrpop_norm_tree.specs.Items.{conversion_view};
     ghost use Rattle.lalrpop_norm_json.specs.ItemForms.{conversion_form};
-    ghost use Rattle.lalrpop_norm_json.specs.Shapes as shape;
+    ghost use Rattle.lalrpop_norm_shapes.specs.Shapes as shape;
 
     ghost form = { λ c. conversion_form (conversion_view c) };
 
     ghost named = { shape.conversion };
 
-    #[tactic(auto, using(crate::proofs::Refusals::refusals))]
+    #[tactic(auto, using(lalrpop_norm_shapes::proofs::Refusals::refusals))]
     fn from_value(alloc: Global, value: &Value) -> Result<Conversion, TreeError> {
         let (listed, from, at, to) = four_fields(value, "attributes", "from", "span", "to")?;
         let span = span(at)?;
@@ -51,7 +41,7 @@ impl FromValue for Conversion {
     }
 }
 
-#[tactic(auto, using(crate::proofs::Refusals::refusals))]
+#[tactic(auto, using(lalrpop_norm_shapes::proofs::Refusals::refusals))]
 fn enum_token(alloc: Global, value: &Value) -> Result<EnumToken, TreeError>
     ensures ok { IfOk result (λ e. view value.now ≡ enum_token_form (enum_token_view e)) }
     ensures err { IsErrOf result TreeError.NotATree → is shape.enum_token (view value.now) ≡ false }
@@ -63,8 +53,8 @@ fn enum_token(alloc: Global, value: &Value) -> Result<EnumToken, TreeError>
         "type_span",
     )?;
     let type_span = span(at)?;
-    let conversions = list(alloc, conversions)?;
     let type_name = type_ref(alloc, type_name)?;
+    let conversions = list(alloc, conversions)?;
     Ok(EnumToken {
         type_name,
         type_span,
@@ -75,7 +65,7 @@ fn enum_token(alloc: Global, value: &Value) -> Result<EnumToken, TreeError>
 impl FromValue for EnumToken {
     ghost use Rattle.lalrpop_norm_tree.specs.Items.{enum_token_view};
     ghost use Rattle.lalrpop_norm_json.specs.ItemForms.{enum_token_form};
-    ghost use Rattle.lalrpop_norm_json.specs.Shapes as shape;
+    ghost use Rattle.lalrpop_norm_shapes.specs.Shapes as shape;
 
     ghost form = { λ e. enum_token_form (enum_token_view e) };
 
@@ -86,7 +76,8 @@ impl FromValue for EnumToken {
     }
 }
 
-#[tactic(auto, using(crate::proofs::Refusals::refusals))]
+/// No associated type is read yet.
+#[tactic(auto, using(lalrpop_norm_shapes::proofs::Refusals::refusals))]
 pub(super) fn extern_token(alloc: Global, value: &Value) -> Result<ExternToken, TreeError>
     ensures ok { IfOk result (λ t. view value.now ≡ extern_token_form (extern_token_view t)) }
     ensures err { IsErrOf result TreeError.NotATree → is shape.extern_token (view value.now) ≡ false }
@@ -98,11 +89,11 @@ pub(super) fn extern_token(alloc: Global, value: &Value) -> Result<ExternToken, 
         "span",
     )?;
     let span = span(at)?;
-    let associated_types = associated_types(alloc, associated)?;
+    nothing(associated)?;
     let enum_token = maybe(alloc, enum_token)?;
     Ok(ExternToken {
         span,
-        associated_types,
+        associated_types: Vec::new(alloc),
         enum_token,
     })
 }

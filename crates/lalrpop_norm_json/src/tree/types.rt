@@ -4,8 +4,8 @@ ghost use Rattle.serde_json.specs.Data.{array};
 ghost use Rattle.serde_json.specs.View.{view};
 ghost use Rattle.lalrpop_norm_parts.specs.Paths.{path_view};
 ghost use Rattle.lalrpop_norm_tree.specs.Types.{type_view, types_view, maybe_of};
-ghost use Rattle.lalrpop_norm_json.specs.Shapes as shape;
-ghost use Rattle.lalrpop_norm_json.specs.Shapes.{is, fits, place, one, many, maybe, struct};
+ghost use Rattle.lalrpop_norm_shapes.specs.Shapes as shape;
+ghost use Rattle.lalrpop_norm_shapes.specs.Shapes.{is, fits, place, one, many, maybe, struct};
 ghost use Rattle.lalrpop_norm_json.specs.Json.{fields, variant};
 ghost use Rattle.lalrpop_norm_json.specs.Forms.{path_form};
 ghost use Rattle.lalrpop_norm_json.specs.TypeForms.{type_form, types_form, maybe_type_form};
@@ -13,7 +13,7 @@ ghost use Rattle.lalrpop_norm_json.specs.TypeForms.{type_form, types_form, maybe
 use super::names::{atom, path};
 use super::parts::{FromValue, list, maybe};
 use super::symbols::kind;
-use crate::json::{
+use lalrpop_norm_shapes::{
     Case, TreeError, case_of, four_fields, items, present, three_fields, truth, two_fields,
 };
 use lalrpop_norm_tree::grammar::parse_tree::{Lifetime, Path, TypeRef};
@@ -23,7 +23,7 @@ use std::alloc::Global;
 impl FromValue for TypeRef {
     ghost use Rattle.lalrpop_norm_tree.specs.Types.{type_view};
     ghost use Rattle.lalrpop_norm_json.specs.TypeForms.{type_form};
-    ghost use Rattle.lalrpop_norm_json.specs.Shapes as shape;
+    ghost use Rattle.lalrpop_norm_shapes.specs.Shapes as shape;
 
     ghost form = { λ t. type_form (type_view t) };
 
@@ -35,7 +35,7 @@ impl FromValue for TypeRef {
 }
 
 #[cycle(type_ref)]
-#[tactic(auto, using(crate::proofs::Refusals::refusals))]
+#[tactic(auto, using(lalrpop_norm_shapes::proofs::Refusals::refusals))]
 pub(super) fn type_ref(alloc: Global, value: &Value) -> Result<TypeRef, TreeError>
     ensures ok { IfOk result (λ t. view value.now ≡ type_form (type_view t)) }
     ensures err { IsErrOf result TreeError.NotATree → is shape.type (view value.now) ≡ false }
@@ -65,7 +65,7 @@ pub(super) fn type_ref(alloc: Global, value: &Value) -> Result<TypeRef, TreeErro
 
 /// What a named type and a trait object hold.
 #[cycle(type_ref)]
-#[tactic(auto, using(crate::proofs::Refusals::refusals))]
+#[tactic(auto, using(lalrpop_norm_shapes::proofs::Refusals::refusals))]
 fn path_and_types(alloc: Global, value: &Value) -> Result<(Path, Vec<TypeRef>), TreeError>
     ensures ok { IfOk result (λ p. view value.now ≡
         fields ((codes "path", path_form (path_view p.0)) ∷ (codes "types", array (types_form (types_view p.1.items))) ∷ [])) }
@@ -80,7 +80,7 @@ fn path_and_types(alloc: Global, value: &Value) -> Result<(Path, Vec<TypeRef>), 
 
 /// The reference whose fields these are.
 #[cycle(type_ref)]
-#[tactic(auto, using(crate::proofs::Refusals::refusals))]
+#[tactic(auto, using(lalrpop_norm_shapes::proofs::Refusals::refusals))]
 fn reference_type(alloc: Global, value: &Value) -> Result<TypeRef, TreeError>
     ensures ok { IfOk result (λ t. variant (codes "Ref") (view value.now) ≡ type_form (type_view t)) }
     ensures err { IsErrOf result TreeError.NotATree → is shape.type (variant (codes "Ref") (view value.now)) ≡ false }
@@ -98,7 +98,7 @@ fn reference_type(alloc: Global, value: &Value) -> Result<TypeRef, TreeError>
 
 /// The function type whose fields these are.
 #[cycle(type_ref)]
-#[tactic(auto, using(crate::proofs::Refusals::refusals))]
+#[tactic(auto, using(lalrpop_norm_shapes::proofs::Refusals::refusals))]
 fn function_type(alloc: Global, value: &Value) -> Result<TypeRef, TreeError>
     ensures ok { IfOk result (λ t. variant (codes "Fn") (view value.now) ≡ type_form (type_view t)) }
     ensures err { IsErrOf result TreeError.NotATree → is shape.type (variant (codes "Fn") (view value.now)) ≡ false }
@@ -124,7 +124,7 @@ fn function_type(alloc: Global, value: &Value) -> Result<TypeRef, TreeError>
 
 /// Null, or a type.
 #[cycle(type_ref)]
-#[tactic(auto, using(crate::proofs::Refusals::refusals))]
+#[tactic(auto, using(lalrpop_norm_shapes::proofs::Refusals::refusals))]
 fn maybe_type_ref(alloc: Global, value: &Value) -> Result<Option<Box<TypeRef>>, TreeError>
     ensures ok { IfOk result (λ o. view value.now ≡ maybe_type_form (maybe_of (option_map (λ b. type_view b.value) o))) }
     ensures err { IsErrOf result TreeError.NotATree → fits (place (maybe shape.type)) (view value.now) ≡ false }
@@ -136,7 +136,7 @@ fn maybe_type_ref(alloc: Global, value: &Value) -> Result<Option<Box<TypeRef>>, 
 }
 
 #[cycle(type_ref)]
-#[tactic(auto, using(crate::proofs::Refusals::refusals))]
+#[tactic(auto, using(lalrpop_norm_shapes::proofs::Refusals::refusals))]
 fn type_refs(alloc: Global, value: &Value) -> Result<Vec<TypeRef>, TreeError>
     ensures ok { IfOk result (λ ts. view value.now ≡ array (types_form (types_view ts.items))) }
     ensures err { IsErrOf result TreeError.NotATree → fits (place (many shape.type)) (view value.now) ≡ false }

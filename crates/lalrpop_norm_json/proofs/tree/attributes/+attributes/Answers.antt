@@ -2,7 +2,7 @@ use Rattle.std.proofs.Common.{refl, ap, sym, ◌∙◌}
 use Rattle.serde_json.specs.Data.{array, object}
 use Rattle.lalrpop_norm_parts.proofs.AttributeViews.{attribute_seen}
 use Rattle.lalrpop_norm_json.specs.Forms.{attribute_form}
-use Rattle.lalrpop_norm_json.proofs.Refusals.{whole_list}
+use Rattle.lalrpop_norm_shapes.proofs.Refusals.{whole_list}
 use Rattle.lalrpop_norm_json.proofs.FormLemmas.{attributes_items}
 use Rattle.lalrpop_norm_json.proofs.MemberLemma.{member_is}
 use Rattle.lalrpop_norm_json.proofs.tree.attributes.+attributes.Goals as goal

@@ -2,7 +2,7 @@ use Rattle.std.proofs.Common.{◌≡◌, map, take}
 use Rattle.serde_json.specs.View.{view}
 use Rattle.lalrpop_norm_parts.specs.Attributes.{attribute_view}
 use Rattle.lalrpop_norm_json.specs.Forms.{attribute_form}
-use Rattle.lalrpop_norm_json.specs.Weight.{weight}
+use Rattle.lalrpop_norm_shapes.specs.Weight.{weight}
 use Rattle.lalrpop_norm_json.proofs.tree.attributes.+attributes.Given as goal
 
 abbrev pub decreases-argument : goal.decreases-argument

@@ -1,4 +1,4 @@
-use Rattle.lalrpop_norm_json.proofs.Refusals.{whole_list}
+use Rattle.lalrpop_norm_shapes.proofs.Refusals.{whole_list}
 use Rattle.lalrpop_norm_json.proofs.tree.parts.list.Goals as goal
 
 pub returns-clause-ok : goal.returns-clause-ok

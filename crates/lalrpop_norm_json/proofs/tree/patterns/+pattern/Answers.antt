@@ -3,7 +3,7 @@ use Rattle.serde_json.specs.Data.{array, object}
 use Rattle.lalrpop_norm_parts.proofs.PatternViews.{pattern_seen}
 use Rattle.lalrpop_norm_tree.specs.Types.{type_view}
 use Rattle.lalrpop_norm_json.specs.PatternForms.{pattern_form}
-use Rattle.lalrpop_norm_json.proofs.Refusals.{whole_list}
+use Rattle.lalrpop_norm_shapes.proofs.Refusals.{whole_list}
 use Rattle.lalrpop_norm_json.proofs.FormLemmas.{patterns_items}
 use Rattle.lalrpop_norm_json.proofs.MemberLemma.{member_is}
 use Rattle.lalrpop_norm_json.proofs.tree.patterns.+pattern.Goals as goal

@@ -3,7 +3,7 @@ use Rattle.serde_json.specs.View.{view}
 use Rattle.lalrpop_norm_tree.specs.Types.{type_view}
 use Rattle.lalrpop_norm_parts.specs.Patterns.{pattern_view}
 use Rattle.lalrpop_norm_json.specs.PatternForms.{pattern_form}
-use Rattle.lalrpop_norm_json.specs.Weight.{weight}
+use Rattle.lalrpop_norm_shapes.specs.Weight.{weight}
 use Rattle.lalrpop_norm_json.proofs.tree.patterns.+pattern.Given as goal
 
 abbrev pub decreases-pattern : goal.decreases-pattern

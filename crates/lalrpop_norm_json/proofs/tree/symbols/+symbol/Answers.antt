@@ -2,7 +2,7 @@ use Rattle.std.proofs.Common.{refl, ap, sym, ◌∙◌}
 use Rattle.serde_json.specs.Data.{array, object}
 use Rattle.lalrpop_norm_tree.proofs.SymbolViews.{symbol_seen, group_seen}
 use Rattle.lalrpop_norm_json.specs.SymbolForms.{part_form, group_form}
-use Rattle.lalrpop_norm_json.proofs.Refusals.{whole_list}
+use Rattle.lalrpop_norm_shapes.proofs.Refusals.{whole_list}
 use Rattle.lalrpop_norm_json.proofs.FormLemmas.{parts_items}
 use Rattle.lalrpop_norm_json.proofs.MemberLemma.{member_is}
 use Rattle.lalrpop_norm_json.proofs.tree.symbols.+symbol.Goals as goal

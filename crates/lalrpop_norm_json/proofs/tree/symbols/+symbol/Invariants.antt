@@ -2,7 +2,7 @@ use Rattle.std.proofs.Common.{◌≡◌, ◌+◌, map, take}
 use Rattle.serde_json.specs.View.{view}
 use Rattle.lalrpop_norm_tree.specs.Symbols.{symbol_view}
 use Rattle.lalrpop_norm_json.specs.SymbolForms.{part_form}
-use Rattle.lalrpop_norm_json.specs.Weight.{weight}
+use Rattle.lalrpop_norm_shapes.specs.Weight.{weight}
 use Rattle.lalrpop_norm_json.proofs.tree.symbols.+symbol.Given as goal
 
 abbrev pub decreases-kind : goal.decreases-kind

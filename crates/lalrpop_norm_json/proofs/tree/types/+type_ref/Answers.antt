@@ -1,6 +1,6 @@
 use Rattle.std.proofs.Common.{ap, ◌∙◌}
 use Rattle.serde_json.specs.Data.{array}
-use Rattle.lalrpop_norm_json.proofs.Refusals.{whole_list}
+use Rattle.lalrpop_norm_shapes.proofs.Refusals.{whole_list}
 use Rattle.lalrpop_norm_json.proofs.FormLemmas.{types_items}
 use Rattle.lalrpop_norm_json.proofs.tree.types.+type_ref.Goals as goal
 

@@ -2,7 +2,7 @@ use Rattle.std.proofs.Common.{◌≡◌, ◌+◌, map, take}
 use Rattle.serde_json.specs.View.{view}
 use Rattle.lalrpop_norm_tree.specs.Types.{type_view}
 use Rattle.lalrpop_norm_json.specs.TypeForms.{type_form}
-use Rattle.lalrpop_norm_json.specs.Weight.{weight}
+use Rattle.lalrpop_norm_shapes.specs.Weight.{weight}
 use Rattle.lalrpop_norm_json.proofs.tree.types.+type_ref.Given as goal
 
 abbrev pub decreases-type_ref : goal.decreases-type_ref

@@ -3,9 +3,8 @@ use Rattle.std.specs.Prelude.{ℕ, Bool, true, false, ◌&&◌, List, [], ◌∷
 use Rattle.std.specs.Str.{bytes_eq}
 use Rattle.serde_json.specs.Data.{Data, null, string, array, object, no_items, item, Members, no_members, member}
 use Rattle.serde_json.specs.View.{view}
-use Rattle.lalrpop_norm_json.specs.Shapes.{Place, place, fits}
-use Rattle.lalrpop_norm_json.specs.declared.json.Case.{Case}
-use Rattle.lalrpop_norm_json.specs.declared.json.Case.TheVariants.{Bare, Of}
+use Rattle.lalrpop_norm_shapes.specs.declared.value.Case.{Case}
+use Rattle.lalrpop_norm_shapes.specs.declared.value.Case.TheVariants.{Bare, Of}
 
 -- the first member has that key
 abbrev pub starts_with : List ℕ → Members → Bool
@@ -15,11 +14,6 @@ starts_with name (member k d ms) = bytes_eq k name
 abbrev pub is_no_members : Members → Bool
 is_no_members no_members = true
 is_no_members (member k d ms) = false
-
--- the first member has that key, and what may stand there
-abbrev pub begins : List ℕ → Place → Members → Bool
-begins name p no_members = false
-begins name p (member k d ms) = bytes_eq k name && fits (place p) d
 
 -- the members have these keys
 abbrev pub are_keys : List (List ℕ) → Members → Bool

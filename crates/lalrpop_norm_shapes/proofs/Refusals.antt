@@ -6,9 +6,9 @@ use Rattle.serde_json.specs.Data.{Data, null, boolean, number, unsigned, negativ
 use Rattle.serde_json.specs.Find.{as_object, as_array, as_number, as_u64}
 use Rattle.serde_json.specs.View.{view, items_view, items_of}
 use Rattle.serde_json.specs.declared.value.Value.{Value}
-use Rattle.lalrpop_norm_json.specs.Weight.{weight, items_weight}
-use Rattle.lalrpop_norm_json.specs.Parts.{is_null, is_pair, is_variant, is_no_members, starts_with, begins, are_keys, has_fields}
-use Rattle.lalrpop_norm_json.specs.Shapes.{Name, natural, absent, Place, Held, Arrays, shape, struct_of, each, row, place, fits, fits_items, fits_members, struct, variants, arrayed, optional, Shape, is}
+use Rattle.lalrpop_norm_shapes.specs.Weight.{weight, items_weight}
+use Rattle.lalrpop_norm_shapes.specs.Parts.{is_null, is_pair, is_variant, is_no_members, starts_with, are_keys, has_fields}
+use Rattle.lalrpop_norm_shapes.specs.Shapes.{Name, natural, absent, Place, Held, Arrays, shape, struct_of, each, row, place, fits, fits_items, fits_members, struct, variants, arrayed, optional, Shape, is}
 
 pub not_pair : (vs : List Value) → length vs ≢ 2 → is_pair (array (items_view vs)) ≡ false
 not_pair [] other = refl
@@ -58,23 +58,7 @@ not_natural (string s) e = refl
 not_natural (array ds) e = refl
 not_natural (object ms) e = refl
 
--- ---- a struct
-
-pub no_struct : (rows : List (List ℕ × Place)) (d : Data) → as_object d ≡ None → fits (struct rows) d ≡ false
-no_struct rows null e = refl
-no_struct rows (boolean b) e = refl
-no_struct rows (number n) e = refl
-no_struct rows (string s) e = refl
-no_struct rows (array ds) e = refl
-no_struct rows (object ms) e = cc
-
-pub no_field : (r : List ℕ × Place) (rows : List (List ℕ × Place)) (ms : Members) → starts_with r.0 ms ≡ false → fits_members (struct_of (r ∷ rows)) ms ≡ false
-no_field r rows no_members e = refl
-no_field r rows (member k d ms) e = rw e refl
-
-pub no_end : (ms : Members) → is_no_members ms ≡ false → fits_members (struct_of []) ms ≡ false
-no_end no_members e = e
-no_end (member k d ms) e = refl
+-- ---- parts of which one is refused
 
 pub and_false : (a b : Bool) → b ≡ false → (a && b) ≡ false
 and_false true b e = e
@@ -84,26 +68,6 @@ and_false false b e = refl
 pub false_and : (a b : Bool) → a ≡ false → (a && b) ≡ false
 false_and true b e = cc
 false_and false b e = refl
-
--- ---- a record, field by field
-
-pub begins_without : (n : List ℕ) (p : Place) (ms : Members) → starts_with n ms ≡ false → begins n p ms ≡ false
-begins_without n p no_members e = refl
-begins_without n p (member k d ms) e = false_and _ _ e
-
-pub begins_unfit : (n : List ℕ) (p : Place) (d : Data) (ms ns : Members) → ms ≡ member n d ns → fits (place p) d ≡ false → begins n p ms ≡ false
-begins_unfit n p d ms ns is e = rw is (and_false _ _ e)
-
-pub ruleset begins_not = (begins_without, begins_unfit)
-
-unlike_or_refused : (a b c : Bool) → (a && b) ≡ false → (a && (b && c)) ≡ false
-unlike_or_refused true b c e = false_and b c e
-unlike_or_refused false b c e = refl
-
--- a struct without the first of the fields that are left
-pub no_first : (r : List ℕ × Place) (rows : List (List ℕ × Place)) (ms : Members) → begins r.0 r.1 ms ≡ false → fits_members (struct_of (r ∷ rows)) ms ≡ false
-no_first r rows no_members e = refl
-no_first r rows (member k d ms) e = unlike_or_refused (bytes_eq k r.0) (fits (place r.1) d) (fits_members (struct_of rows) ms) e
 
 -- ---- a record of known fields
 
@@ -211,6 +175,4 @@ no_list n v vs i x is h at refused = rw is (no_item n vs i x h (ap (λ y. fits (
 pub whole_list : {X : Type 0} (f : X → Data) (xs : List X) (v : Data) (vs : List Value) (i : ℕ) → v ≡ array (items_view vs) → map f xs ≡ map view (take i vs) → length vs ≤ i → v ≡ array (items_of (map f xs))
 whole_list f xs v vs i is e h = is ∙ ap (λ ds. array (items_of ds)) (ap (map view) (sym (take_all i vs h)) ∙ sym e)
 
-pub ruleset refusals = (no_struct, no_fields, no_end, and_false, no_variant, no_array, no_pair, no_optional, lighter, no_list)
-
-pub ruleset by_members = (no_struct, no_field, no_first, no_end, and_false)
+pub ruleset refusals = (no_fields, and_false, no_variant, no_array, no_pair, no_optional, lighter, no_list)
