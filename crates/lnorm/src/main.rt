@@ -3,8 +3,8 @@
 
 ghost use Rattle.std.specs.Prelude.{◌≤◌};
 
-use lnorm_run::halt::{halt_of_words, report};
 use lnorm_run::run::run;
+use lnorm_streams::halt::{halt_of_words, report};
 use std::process::ExitCode;
 use std::{env, io};
 

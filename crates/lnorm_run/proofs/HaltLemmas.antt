@@ -9,8 +9,8 @@ use Rattle.lnorm_run.specs.Answers.{IsFormOf, faults_of}
 use Rattle.lnorm_run.specs.Settings.{Settings}
 use Rattle.lnorm_run.specs.Runs.{Takes}
 use Rattle.lnorm_run.specs.Halts.{Explains, Halts}
-use Rattle.lnorm_run.specs.declared.halt.Halt.{Halt}
-use Rattle.lnorm_run.specs.declared.halt.Halt.TheVariants.{Usage, NotATree, Failed, Input, Output}
+use Rattle.lnorm_streams.specs.declared.halt.Halt.{Halt}
+use Rattle.lnorm_streams.specs.declared.halt.Halt.TheVariants.{Usage, NotATree, Failed, Input, Output}
 use Rattle.lnorm_run.proofs.TakenLemmas.{taken_is_tree}
 
 -- where the words and the whole input were taken, and nothing was written

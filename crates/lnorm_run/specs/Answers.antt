@@ -7,8 +7,8 @@ use Rattle.lalrpop_norm_tree.specs.Items.{GrammarData}
 use Rattle.lalrpop_norm_faults.specs.declared.kind.FaultKind.{FaultKind}
 use Rattle.lalrpop_norm_faults.specs.Faults.{Fault, first}
 use Rattle.lalrpop_norm_json.specs.ItemForms.{grammar_form}
-use Rattle.lalrpop_norm_json.specs.Shapes as shape
-use Rattle.lalrpop_norm_json.specs.Shapes.{is}
+use Rattle.lalrpop_norm_shapes.specs.Shapes as shape
+use Rattle.lalrpop_norm_shapes.specs.Shapes.{is}
 use Rattle.lnorm_run.specs.Settings.{Settings}
 use Rattle.lalrpop_norm.specs.Faithful.{IsFaithful, no_lexer}
 use Rattle.lalrpop_norm.specs.Later.{later_parts}

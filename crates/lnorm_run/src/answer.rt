@@ -5,16 +5,16 @@ ghost use Rattle.lalrpop_norm_faults.specs.declared.failure.NormFailure.TheVaria
 ghost use Rattle.lnorm_run.specs.Answers.{IsAnswer, IsFormOf};
 ghost use Rattle.lalrpop_norm_repr.specs.Lowered.{grammar_view as lowered_view};
 ghost use Rattle.lnorm_run.specs.Lines.{lines};
-ghost use Rattle.lnorm_run.specs.declared.halt.Halt.TheVariants.{Failed};
+ghost use Rattle.lnorm_streams.specs.declared.halt.Halt.TheVariants.{Failed};
 ghost use Rattle.lnorm_run.specs.Halts.{Explains};
 ghost use Rattle.lnorm_run.specs.Settings.{Settings, settings_view};
 
-use crate::halt::Halt;
 use crate::lines::lines;
 use lalrpop_norm::grammar::repr;
 use lalrpop_norm::normalize::{NormFailure, Session, normalize};
 use lalrpop_norm_json::{TreeError, read_tree};
 use lalrpop_norm_tree::grammar::parse_tree::Grammar;
+use lnorm_streams::halt::Halt;
 use std::alloc::Global;
 
 /// The text for the bytes that were read: the lines of the lowered grammar of the tree whose JSON form they are.

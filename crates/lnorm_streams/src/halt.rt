@@ -1,11 +1,11 @@
 //! Why a run ends without its text, and what users are told then.
 ghost use Rattle.std.specs.IoError.{error_kind};
 ghost use Rattle.std.specs.Prelude.{◌≡◌, ◌≢◌, string_bytes, IfOk};
-ghost use Rattle.lnorm_run.specs.Runs.{WritesFront, fault_line, usage_line, no_tree_line, memory_line, stream_line};
-ghost use Rattle.lnorm_run.specs.Halts.{status_of, LineOf};
+ghost use Rattle.lnorm_streams.specs.Streams.{WritesFront, fault_line, usage_line, no_tree_line, memory_line, stream_line};
+ghost use Rattle.lnorm_streams.specs.Told.{status_of, LineOf};
 
 use crate::streams::write_whole;
-use lalrpop_norm::normalize::{NormError, NormFailure};
+use lalrpop_norm_faults::{NormError, NormFailure};
 use std::alloc::{AllocError, Global};
 use std::io::{self, ErrorKind, Write};
 
@@ -86,28 +86,28 @@ fn line(alloc: Global, error: &NormError) -> Result<String, AllocError>
     format!(in alloc; "{code} {}..{}: {message}\n", error.span.0, error.span.1)
 }
 
-#[tactic(auto, unfolding(crate::specs::Runs::usage_line))]
+#[tactic(auto, unfolding(crate::specs::Streams::usage_line))]
 fn usage() -> &'static str
     ensures { result.now ≡ usage_line }
 {
     "lnorm: usage: lnorm [--limit N] [--feature F]...\n"
 }
 
-#[tactic(auto, unfolding(crate::specs::Runs::no_tree_line))]
+#[tactic(auto, unfolding(crate::specs::Streams::no_tree_line))]
 fn not_a_tree() -> &'static str
     ensures { result.now ≡ no_tree_line }
 {
     "lnorm: not a tree\n"
 }
 
-#[tactic(auto, unfolding(crate::specs::Runs::memory_line))]
+#[tactic(auto, unfolding(crate::specs::Streams::memory_line))]
 fn no_memory() -> &'static str
     ensures { result.now ≡ memory_line }
 {
     "lnorm: out of memory\n"
 }
 
-#[tactic(auto, unfolding(crate::specs::Runs::stream_line))]
+#[tactic(auto, unfolding(crate::specs::Streams::stream_line))]
 fn stream_failed() -> &'static str
     ensures { result.now ≡ stream_line }
 {

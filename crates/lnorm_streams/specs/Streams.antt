@@ -1,0 +1,32 @@
+-- What is read and written as a whole, and the lines that tell of a failed run.
+use Rattle.std.specs.Prelude.{◌≤◌, ℕ, List, ◌++◌, Option, length, take, codes, decimal}
+use Rattle.std.specs.Io.KnownBytes.{Appends, Consumes, IsAtEnd}
+use Rattle.lalrpop_norm_parts.specs.declared.names.Span.{Span}
+use Rattle.lalrpop_norm_faults.specs.declared.kind.FaultKind.{FaultKind}
+use Rattle.lalrpop_norm_faults.specs.Faults.{code_of}
+
+-- the reader gave these bytes, and has no more
+pub record ReadsAll (old new : Option (List ℕ)) (bytes : List ℕ) : Type 0 where
+  pub given : Consumes old new bytes
+  pub end : IsAtEnd new
+
+-- a beginning of the text was written, and nothing else
+abbrev pub WritesFront : Option (List ℕ) → Option (List ℕ) → List ℕ → Type 0
+WritesFront old new text = (n : ℕ) × (n ≤ length text) × Appends old new (take n text)
+
+-- the line of a fault, as `F36 12..20: ` and the message
+abbrev pub fault_line : FaultKind → Span → List ℕ → List ℕ
+fault_line fault span message =
+    code_of fault ++ (codes " " ++ (decimal span.0 ++ (codes ".." ++ (decimal span.1 ++ (codes ": " ++ (message ++ codes "\n"))))))
+
+unfoldable pub usage_line : List ℕ
+usage_line = codes "lnorm: usage: lnorm [--limit N] [--feature F]...\n"
+
+unfoldable pub no_tree_line : List ℕ
+no_tree_line = codes "lnorm: not a tree\n"
+
+unfoldable pub memory_line : List ℕ
+memory_line = codes "lnorm: out of memory\n"
+
+unfoldable pub stream_line : List ℕ
+stream_line = codes "lnorm: input or output failed\n"

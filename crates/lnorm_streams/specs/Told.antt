@@ -1,0 +1,23 @@
+-- How a halt is told: its status and its line.
+use Rattle.std.specs.Prelude.{ℕ, List, Option, string_bytes}
+use Rattle.lalrpop_norm_faults.specs.declared.failure.NormFailure.TheVariants.{Refused, Memory as no_room}
+use Rattle.lnorm_streams.specs.Streams.{WritesFront, fault_line, usage_line, no_tree_line, memory_line, stream_line}
+use Rattle.lnorm_streams.specs.declared.halt.Halt.{Halt}
+use Rattle.lnorm_streams.specs.declared.halt.Halt.TheVariants.{Usage, NotATree, Failed, Input, Output}
+
+abbrev pub status_of : Halt → ℕ
+status_of Usage = 2
+status_of NotATree = 2
+status_of (Failed (Refused e)) = 1
+status_of (Failed no_room) = 3
+status_of Input = 4
+status_of Output = 4
+
+-- the line of the halt, or a beginning of it, was written
+abbrev pub LineOf : Halt → Option (List ℕ) → Option (List ℕ) → Type 0
+LineOf Usage old new = WritesFront old new usage_line
+LineOf NotATree old new = WritesFront old new no_tree_line
+LineOf (Failed (Refused e)) old new = WritesFront old new (fault_line e.fault e.span (string_bytes e.message))
+LineOf (Failed no_room) old new = WritesFront old new memory_line
+LineOf Input old new = WritesFront old new stream_line
+LineOf Output old new = WritesFront old new stream_line
