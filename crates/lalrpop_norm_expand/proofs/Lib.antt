@@ -1,6 +1,7 @@
 mod SameLemmas
 mod ApartLemmas
 mod BackLemmas
+mod ContentLemmas
 pub mod DistinctLemmas
 mod FreshLemmas
 mod InPlace

@@ -1,4 +1,5 @@
 pub mod Apart
+pub mod Contents
 pub mod Expansion
 pub mod Laws
 pub mod Making

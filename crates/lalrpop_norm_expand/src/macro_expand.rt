@@ -12,6 +12,7 @@ ghost use Rattle.lalrpop_norm_expand.specs.Expansion.{unmade, past_cap, expansio
 ghost use Rattle.lalrpop_norm_expand.specs.Making.{made, item_macros};
 ghost use Rattle.lalrpop_norm_expand.specs.Meeting.{seen_of};
 
+mod content;
 mod expander;
 mod items;
 mod make;

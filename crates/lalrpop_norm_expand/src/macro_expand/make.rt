@@ -1,13 +1,13 @@
 //! The rules of groups, repeats and lookarounds.
-ghost use Rattle.std.specs.Prelude.{◌≡◌, ◌++◌, ◌∷◌, [], IfOk, OnOk, None, Some, map, option_map};
+ghost use Rattle.std.specs.Prelude.{◌≡◌, ◌++◌, ◌∷◌, [], IfOk, OnOk, None, Some, codes, map, option_map};
 ghost use Rattle.lalrpop_norm_parts.specs.Attributes.{attributes_view};
-ghost use Rattle.lalrpop_norm_tree.specs.Symbols.{at, group, repeated, kind_view, symbol_view, parts_view, expr_view};
+ghost use Rattle.lalrpop_norm_tree.specs.Symbols.{part_and, at, group, repeated, kind_view, symbol_view, parts_view, expr_view};
 ghost use Rattle.lalrpop_norm_tree.specs.Types.{type_view};
 ghost use Rattle.lalrpop_norm_parts.specs.Paths.{path_view};
 ghost use Rattle.lalrpop_norm_tree.specs.Items.{alternative_view, rule_view, item_view, rule_item, action_view};
 ghost use Rattle.lalrpop_norm_tree.specs.SymbolTexts.{kind_text};
 ghost use Rattle.lalrpop_norm_faults.specs.Faults.{Refuses};
-ghost use Rattle.lalrpop_norm_model.specs.MadeRules.{inline_at, coded, private_rule, type_of_kind, with_name, holding, star_rule, plus_rule, question_rule, repeat_rule, group_rule, location_rule, some_name_value, bare_or_tuple, group_sources};
+ghost use Rattle.lalrpop_norm_model.specs.MadeRules.{inline_at, coded, private_rule, only_part, type_of_kind, with_name, holding, star_rule, plus_rule, question_rule, repeat_rule, group_rule, location_rule, some_name_value, bare_or_tuple, group_sources};
 ghost use Rattle.lalrpop_norm_expand.specs.Expansion.{unmade};
 ghost use Rattle.lalrpop_norm_expand.specs.Making.{made};
 
@@ -97,12 +97,18 @@ fn holding(alloc: Global, path: Path, symbol: &Symbol) -> Result<TypeRef, NoMemo
 
 // ---- repeats
 
+fn repeat_of(alloc: Global, op: RepeatOp, symbol: Symbol) -> Result<SymbolKind, NoMemory>
+    ensures { IfOk result (λ k. kind_view k ≡ repeated op (symbol_view symbol)) }
+{
+    let repeat = Box::new(alloc, RepeatSymbol { op, symbol })?;
+    Ok(SymbolKind::Repeat(repeat))
+}
+
 fn repeated(alloc: Global, span: Span, op: RepeatOp, symbol: &Symbol) -> Result<Symbol, NoMemory>
     ensures { IfOk result (λ s. symbol_view s ≡ at span (repeated op (symbol_view symbol.now))) }
 {
-    let symbol = symbol.clone()?;
-    let repeat = Box::new(alloc, RepeatSymbol { op, symbol })?;
-    Ok(Symbol::new(span, SymbolKind::Repeat(repeat)))
+    let kind = repeat_of(alloc, op, symbol.clone()?)?;
+    Ok(Symbol::new(span, kind))
 }
 
 /// Of `X*`: nothing, or `X+`.
@@ -129,26 +135,48 @@ fn star_rule(alloc: Global, symbol: &Symbol, inner: &Symbol) -> Result<Nontermin
     )
 }
 
+/// `X`, in a row of its own.
+fn alone(alloc: Global, symbol: &Symbol) -> Result<Vec<Symbol>, NoMemory>
+    ensures { IfOk result (λ v. parts_view v.items ≡ only_part (symbol_view symbol.now)) }
+{
+    Ok(vec![in alloc; symbol.clone()?]?)
+}
+
+/// `<v:X+> <e:X>`.
+fn one_more(alloc: Global, span: Span, inner: &Symbol) -> Result<Vec<Symbol>, NoMemory>
+    ensures { IfOk result (λ v. parts_view v.items
+        ≡ part_and (with_name span (codes "v") (at span (repeated RepeatOp.Plus (symbol_view inner.now))))
+        (only_part (with_name span (codes "e") (symbol_view inner.now)))) }
+{
+    let plus = repeated(alloc, span, RepeatOp::Plus, inner)?;
+    let before = with_name(alloc, span, "v", plus)?;
+    let last = with_name(alloc, span, "e", inner.clone()?)?;
+    Ok(vec![in alloc; before, last]?)
+}
+
+fn plus_alternatives(
+    alloc: Global,
+    span: Span,
+    inner: &Symbol,
+) -> Result<Vec<Alternative>, NoMemory>
+    ensures { IfOk result (λ v. map alternative_view v.items ≡ (plus_rule span (symbol_view inner.now)).alternatives) }
+{
+    let first = alone(alloc, inner)?;
+    let more = one_more(alloc, span, inner)?;
+    Ok(vec![in alloc;
+        coded(alloc, span, first, "alloc::vec![<>]")?,
+        coded(alloc, span, more, "{ let mut v = v; v.push(e); v }")?,
+    ]?)
+}
+
 /// Of `X+`: `X`, or `X+` and one more `X`.
 fn plus_rule(alloc: Global, symbol: &Symbol, inner: &Symbol) -> Result<NonterminalData, NoMemory>
     requires { kind_view symbol.now.kind ≡ repeated RepeatOp.Plus (symbol_view inner.now) }
     ensures { IfOk result (λ r. rule_view r ≡ plus_rule symbol.now.span (symbol_view inner.now)) }
 {
     let span = symbol.span;
-    let first = vec![in alloc; inner.clone()?]?;
-    let before = with_name(
-        alloc,
-        span,
-        "v",
-        repeated(alloc, span, RepeatOp::Plus, inner)?,
-    )?;
-    let last = with_name(alloc, span, "e", inner.clone()?)?;
-    let more = vec![in alloc; before, last]?;
-    let alternatives = vec![in alloc;
-        coded(alloc, span, first, "alloc::vec![<>]")?,
-        coded(alloc, span, more, "{ let mut v = v; v.push(e); v }")?,
-    ]?;
     let of_vector = holding(alloc, Path::vec(alloc)?, inner)?;
+    let alternatives = plus_alternatives(alloc, span, inner)?;
     private_rule(
         alloc,
         span,
@@ -157,6 +185,20 @@ fn plus_rule(alloc: Global, symbol: &Symbol, inner: &Symbol) -> Result<Nontermin
         Some(of_vector),
         alternatives,
     )
+}
+
+fn question_alternatives(
+    alloc: Global,
+    span: Span,
+    inner: &Symbol,
+) -> Result<Vec<Alternative>, NoMemory>
+    ensures { IfOk result (λ v. map alternative_view v.items ≡ (question_rule span (symbol_view inner.now)).alternatives) }
+{
+    let filled = alone(alloc, inner)?;
+    Ok(vec![in alloc;
+        coded(alloc, span, filled, "Some(<>)")?,
+        coded(alloc, span, Vec::new(alloc), "None")?,
+    ]?)
 }
 
 /// Of `X?`: `X`, or nothing.
@@ -169,13 +211,9 @@ fn question_rule(
     ensures { IfOk result (λ r. rule_view r ≡ question_rule symbol.now.span (symbol_view inner.now)) }
 {
     let span = symbol.span;
-    let filled = vec![in alloc; inner.clone()?]?;
-    let alternatives = vec![in alloc;
-        coded(alloc, span, filled, "Some(<>)")?,
-        coded(alloc, span, Vec::new(alloc), "None")?,
-    ]?;
-    let inline = inline_at(alloc, span)?;
     let of_option = holding(alloc, Path::option(alloc)?, inner)?;
+    let inline = inline_at(alloc, span)?;
+    let alternatives = question_alternatives(alloc, span, inner)?;
     private_rule(
         alloc,
         span,

@@ -1,11 +1,11 @@
 //! What stands in the place of symbols.
 ghost use Rattle.std.specs.Prelude.{◌≡◌, IfOk};
-ghost use Rattle.lalrpop_norm_tree.specs.Symbols.{kind_view, symbol_view, parts_view};
+ghost use Rattle.lalrpop_norm_tree.specs.Symbols.{chosen, named, tupled, kind_view, symbol_view, parts_view, tuple_view};
 ghost use Rattle.lalrpop_norm_tree.specs.SymbolTexts.{part_text, kind_text};
 ghost use Rattle.lalrpop_norm_model.specs.Replaced.{replaced, replaced_kind, all_replaced};
 
 use lalrpop_norm_tree::grammar::parse_tree::{
-    Atom, NoMemory, NonterminalString, Symbol, SymbolKind,
+    Atom, Name, NoMemory, NonterminalString, Symbol, SymbolKind, Tuple,
 };
 use std::alloc::Global;
 
@@ -16,6 +16,29 @@ pub(super) fn name_of(alloc: Global, kind: &SymbolKind) -> Result<NonterminalStr
     let text = format!(in alloc; "{kind}")?;
     let name = Atom::new(alloc, text.as_str())?;
     Ok(NonterminalString(name))
+}
+
+/// `<X>`.
+fn chosen(alloc: Global, symbol: Symbol) -> Result<SymbolKind, NoMemory>
+    ensures { IfOk result (λ k. kind_view k ≡ chosen (symbol_view symbol)) }
+{
+    Ok(SymbolKind::Choose(Box::new(alloc, symbol)?))
+}
+
+/// `<x:X>`.
+fn named(alloc: Global, name: &Name, symbol: Symbol) -> Result<SymbolKind, NoMemory>
+    ensures { IfOk result (λ k. kind_view k ≡ named name.now (symbol_view symbol)) }
+{
+    let symbol = Box::new(alloc, symbol)?;
+    Ok(SymbolKind::Name(name.clone()?, symbol))
+}
+
+/// `<(x, y):X>`.
+fn tupled(alloc: Global, tuple: &Tuple, symbol: Symbol) -> Result<SymbolKind, NoMemory>
+    ensures { IfOk result (λ k. kind_view k ≡ tupled (tuple_view tuple.now) (symbol_view symbol)) }
+{
+    let symbol = Box::new(alloc, symbol)?;
+    Ok(SymbolKind::Tuple(tuple.clone()?, symbol))
 }
 
 /// What a symbol is once it is replaced: the nonterminal of its text, if it is made into a rule.
@@ -29,20 +52,9 @@ pub(super) fn replaced_kind(alloc: Global, kind: &SymbolKind) -> Result<SymbolKi
         | SymbolKind::Repeat(_)
         | SymbolKind::Lookahead
         | SymbolKind::Lookbehind => Ok(SymbolKind::Nonterminal(name_of(alloc, kind)?)),
-        SymbolKind::Choose(inner) => {
-            let symbol = replaced(alloc, inner)?;
-            Ok(SymbolKind::Choose(Box::new(alloc, symbol)?))
-        }
-        SymbolKind::Name(name, inner) => {
-            let name = name.clone()?;
-            let symbol = replaced(alloc, inner)?;
-            Ok(SymbolKind::Name(name, Box::new(alloc, symbol)?))
-        }
-        SymbolKind::Tuple(tuple, inner) => {
-            let tuple = tuple.clone()?;
-            let symbol = replaced(alloc, inner)?;
-            Ok(SymbolKind::Tuple(tuple, Box::new(alloc, symbol)?))
-        }
+        SymbolKind::Choose(inner) => chosen(alloc, replaced(alloc, inner)?),
+        SymbolKind::Name(name, inner) => named(alloc, name, replaced(alloc, inner)?),
+        SymbolKind::Tuple(tuple, inner) => tupled(alloc, tuple, replaced(alloc, inner)?),
         SymbolKind::AmbiguousId(id) => Ok(SymbolKind::AmbiguousId(id.clone()?)),
         SymbolKind::Terminal(terminal) => Ok(SymbolKind::Terminal(terminal.clone()?)),
         SymbolKind::Nonterminal(name) => Ok(SymbolKind::Nonterminal(name.clone()?)),

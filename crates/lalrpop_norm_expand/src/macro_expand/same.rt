@@ -1,10 +1,12 @@
 //! Which symbols are the same apart from spans.
-ghost use Rattle.std.specs.Prelude.{◌≡◌, ◌↔◌, IsTrue, IsFalse, map};
-ghost use Rattle.lalrpop_norm_tree.specs.Symbols.{argument_pattern_view, argument_patterns_view, tuple_view, kind_view, symbol_view, parts_view, expr_view};
+ghost use Rattle.std.specs.Prelude.{◌≡◌, ◌↔◌, IsTrue, map, option_map};
+ghost use Rattle.lalrpop_norm_tree.specs.Symbols.{argument_pattern_view, argument_patterns_view, kind_view, symbol_view, parts_view, no_parts, part_and};
 ghost use Rattle.lalrpop_norm_model.specs.PlainRules.{same_apart_from_spans};
 ghost use Rattle.lalrpop_norm_expand.specs.Apart.{unplaced_kind, unplaced, all_unplaced, each_unplaced};
+ghost use Rattle.lalrpop_norm_expand.specs.Contents.{marks_seen, inside_of};
 
-use lalrpop_norm_tree::grammar::parse_tree::{ArgPattern, Symbol, SymbolKind};
+use super::content::{Content, content_in};
+use lalrpop_norm_tree::grammar::parse_tree::{ArgPattern, Symbol, SymbolKind, TerminalString};
 
 #[cycle(same_pattern)]
 fn is_same_pattern(a: &ArgPattern, b: &ArgPattern) -> bool
@@ -40,180 +42,61 @@ fn is_each_pattern_same(a: &[ArgPattern], b: &[ArgPattern]) -> bool
     true
 }
 
+fn is_same_terminal(a: Option<&TerminalString>, b: Option<&TerminalString>) -> bool
+    ensures { IsTrue result ↔ (option_map (λ t. t.now) a.entry ≡ option_map (λ t. t.now) b.entry) }
+{
+    match (a, b) {
+        (Some(a), Some(b)) => a == b,
+        (None, None) => true,
+        (Some(_), None) | (None, Some(_)) => false,
+    }
+}
+
+/// Whether they are the same but for the symbols inside them.
+pub(super) fn has_same_marks(a: &Content, b: &Content) -> bool
+    ensures { IsTrue result ↔ (marks_seen a.now ≡ marks_seen b.now) }
+{
+    a.form == b.form
+        && a.mutable == b.mutable
+        && a.text == b.text
+        && is_same_terminal(a.terminal, b.terminal)
+        && are_same_patterns(a.patterns, b.patterns)
+}
+
 #[cycle(same)]
 fn is_same_kind(a: &SymbolKind, b: &SymbolKind) -> bool
     ensures { IsTrue result ↔ (unplaced_kind (kind_view a.now) ≡ unplaced_kind (kind_view b.now)) }
 {
+    let other = content_in(b);
+    has_same_marks(&content_in(a), &other) && are_same_inside(a, other.symbols)
+}
+
+/// Whether the symbols inside the first are the same as the others.
+#[cycle(same)]
+fn are_same_inside(a: &SymbolKind, others: &[Symbol]) -> bool
+    ensures { IsTrue result ↔ (all_unplaced (inside_of (kind_view a.now)) ≡ all_unplaced (parts_view others.now)) }
+{
     match a {
-        SymbolKind::Expr(a) => match b {
-            SymbolKind::Expr(b) => are_same(&a.symbols, &b.symbols),
-            SymbolKind::AmbiguousId(_)
-            | SymbolKind::Terminal(_)
-            | SymbolKind::Nonterminal(_)
-            | SymbolKind::Macro(_)
-            | SymbolKind::Repeat(_)
-            | SymbolKind::Choose(_)
-            | SymbolKind::Name(_, _)
-            | SymbolKind::Tuple(_, _)
-            | SymbolKind::Lookahead
-            | SymbolKind::Lookbehind
-            | SymbolKind::Error => false,
-        },
-        SymbolKind::AmbiguousId(a) => match b {
-            SymbolKind::AmbiguousId(b) => a == b,
-            SymbolKind::Nonterminal(b) => *a == b.0,
-            SymbolKind::Expr(_)
-            | SymbolKind::Terminal(_)
-            | SymbolKind::Macro(_)
-            | SymbolKind::Repeat(_)
-            | SymbolKind::Choose(_)
-            | SymbolKind::Name(_, _)
-            | SymbolKind::Tuple(_, _)
-            | SymbolKind::Lookahead
-            | SymbolKind::Lookbehind
-            | SymbolKind::Error => false,
-        },
-        SymbolKind::Terminal(a) => match b {
-            SymbolKind::Terminal(b) => a == b,
-            SymbolKind::Expr(_)
-            | SymbolKind::AmbiguousId(_)
-            | SymbolKind::Nonterminal(_)
-            | SymbolKind::Macro(_)
-            | SymbolKind::Repeat(_)
-            | SymbolKind::Choose(_)
-            | SymbolKind::Name(_, _)
-            | SymbolKind::Tuple(_, _)
-            | SymbolKind::Lookahead
-            | SymbolKind::Lookbehind
-            | SymbolKind::Error => false,
-        },
-        SymbolKind::Nonterminal(a) => match b {
-            SymbolKind::Nonterminal(b) => a == b,
-            SymbolKind::AmbiguousId(b) => a.0 == *b,
-            SymbolKind::Expr(_)
-            | SymbolKind::Terminal(_)
-            | SymbolKind::Macro(_)
-            | SymbolKind::Repeat(_)
-            | SymbolKind::Choose(_)
-            | SymbolKind::Name(_, _)
-            | SymbolKind::Tuple(_, _)
-            | SymbolKind::Lookahead
-            | SymbolKind::Lookbehind
-            | SymbolKind::Error => false,
-        },
-        SymbolKind::Macro(a) => match b {
-            SymbolKind::Macro(b) => a.name == b.name && are_same(&a.args, &b.args),
-            SymbolKind::Expr(_)
-            | SymbolKind::AmbiguousId(_)
-            | SymbolKind::Terminal(_)
-            | SymbolKind::Nonterminal(_)
-            | SymbolKind::Repeat(_)
-            | SymbolKind::Choose(_)
-            | SymbolKind::Name(_, _)
-            | SymbolKind::Tuple(_, _)
-            | SymbolKind::Lookahead
-            | SymbolKind::Lookbehind
-            | SymbolKind::Error => false,
-        },
-        SymbolKind::Repeat(a) => match b {
-            SymbolKind::Repeat(b) => a.op == b.op && is_same(&a.symbol, &b.symbol),
-            SymbolKind::Expr(_)
-            | SymbolKind::AmbiguousId(_)
-            | SymbolKind::Terminal(_)
-            | SymbolKind::Nonterminal(_)
-            | SymbolKind::Macro(_)
-            | SymbolKind::Choose(_)
-            | SymbolKind::Name(_, _)
-            | SymbolKind::Tuple(_, _)
-            | SymbolKind::Lookahead
-            | SymbolKind::Lookbehind
-            | SymbolKind::Error => false,
-        },
-        SymbolKind::Choose(a) => match b {
-            SymbolKind::Choose(b) => is_same(a, b),
-            SymbolKind::Expr(_)
-            | SymbolKind::AmbiguousId(_)
-            | SymbolKind::Terminal(_)
-            | SymbolKind::Nonterminal(_)
-            | SymbolKind::Macro(_)
-            | SymbolKind::Repeat(_)
-            | SymbolKind::Name(_, _)
-            | SymbolKind::Tuple(_, _)
-            | SymbolKind::Lookahead
-            | SymbolKind::Lookbehind
-            | SymbolKind::Error => false,
-        },
-        SymbolKind::Name(m, a) => match b {
-            SymbolKind::Name(n, b) => m == n && is_same(a, b),
-            SymbolKind::Expr(_)
-            | SymbolKind::AmbiguousId(_)
-            | SymbolKind::Terminal(_)
-            | SymbolKind::Nonterminal(_)
-            | SymbolKind::Macro(_)
-            | SymbolKind::Repeat(_)
-            | SymbolKind::Choose(_)
-            | SymbolKind::Tuple(_, _)
-            | SymbolKind::Lookahead
-            | SymbolKind::Lookbehind
-            | SymbolKind::Error => false,
-        },
-        SymbolKind::Tuple(m, a) => match b {
-            SymbolKind::Tuple(n, b) => are_same_patterns(&m.tuples, &n.tuples) && is_same(a, b),
-            SymbolKind::Expr(_)
-            | SymbolKind::AmbiguousId(_)
-            | SymbolKind::Terminal(_)
-            | SymbolKind::Nonterminal(_)
-            | SymbolKind::Macro(_)
-            | SymbolKind::Repeat(_)
-            | SymbolKind::Choose(_)
-            | SymbolKind::Name(_, _)
-            | SymbolKind::Lookahead
-            | SymbolKind::Lookbehind
-            | SymbolKind::Error => false,
-        },
-        SymbolKind::Lookahead => match b {
-            SymbolKind::Lookahead => true,
-            SymbolKind::Expr(_)
-            | SymbolKind::AmbiguousId(_)
-            | SymbolKind::Terminal(_)
-            | SymbolKind::Nonterminal(_)
-            | SymbolKind::Macro(_)
-            | SymbolKind::Repeat(_)
-            | SymbolKind::Choose(_)
-            | SymbolKind::Name(_, _)
-            | SymbolKind::Tuple(_, _)
-            | SymbolKind::Lookbehind
-            | SymbolKind::Error => false,
-        },
-        SymbolKind::Lookbehind => match b {
-            SymbolKind::Lookbehind => true,
-            SymbolKind::Expr(_)
-            | SymbolKind::AmbiguousId(_)
-            | SymbolKind::Terminal(_)
-            | SymbolKind::Nonterminal(_)
-            | SymbolKind::Macro(_)
-            | SymbolKind::Repeat(_)
-            | SymbolKind::Choose(_)
-            | SymbolKind::Name(_, _)
-            | SymbolKind::Tuple(_, _)
-            | SymbolKind::Lookahead
-            | SymbolKind::Error => false,
-        },
-        SymbolKind::Error => match b {
-            SymbolKind::Error => true,
-            SymbolKind::Expr(_)
-            | SymbolKind::AmbiguousId(_)
-            | SymbolKind::Terminal(_)
-            | SymbolKind::Nonterminal(_)
-            | SymbolKind::Macro(_)
-            | SymbolKind::Repeat(_)
-            | SymbolKind::Choose(_)
-            | SymbolKind::Name(_, _)
-            | SymbolKind::Tuple(_, _)
-            | SymbolKind::Lookahead
-            | SymbolKind::Lookbehind => false,
-        },
+        SymbolKind::Expr(group) => are_same(&group.symbols, others),
+        SymbolKind::Macro(call) => are_same(&call.args, others),
+        SymbolKind::Repeat(repeat) => is_only_same(&repeat.symbol, others),
+        SymbolKind::Choose(inner) => is_only_same(inner, others),
+        SymbolKind::Name(_, inner) => is_only_same(inner, others),
+        SymbolKind::Tuple(_, inner) => is_only_same(inner, others),
+        SymbolKind::AmbiguousId(_)
+        | SymbolKind::Terminal(_)
+        | SymbolKind::Nonterminal(_)
+        | SymbolKind::Lookahead
+        | SymbolKind::Lookbehind
+        | SymbolKind::Error => others.is_empty(),
     }
+}
+
+#[cycle(same)]
+fn is_only_same(a: &Symbol, others: &[Symbol]) -> bool
+    ensures { IsTrue result ↔ (part_and (unplaced (symbol_view a.now)) no_parts ≡ all_unplaced (parts_view others.now)) }
+{
+    others.len() == 1 && is_same(a, &others[0])
 }
 
 #[cycle(same)]
