@@ -1,14 +1,14 @@
 //! Names in rules.
-ghost use Rattle.std.specs.Prelude.{◌≡◌, OnOk, map, flat_map, is_some};
+ghost use Rattle.std.specs.Prelude.{◌≡◌, [], ◌∷◌, OnOk, map, flat_map, is_some};
 ghost use Rattle.lalrpop_norm_tree.specs.Items.{alternative_view, rule_view};
-ghost use Rattle.lalrpop_norm_faults.specs.Faults.{Refuses};
+ghost use Rattle.lalrpop_norm_faults.specs.Faults.{IsFirst, Refuses};
 ghost use Rattle.lalrpop_norm_model.specs.Scopes.{resolved_alternative};
 ghost use Rattle.lalrpop_norm_names.specs.NameFaults.{has_repeated, argument_faults, tested_faults, condition_faults, alternative_faults};
 ghost use Rattle.lalrpop_norm_names.specs.NameTables.{sense_seen, sense_in, rule_faults_in, resolved_rule_in};
 
 use super::Def;
 use super::symbols::{def, is_argument, resolve_each, unknown};
-use lalrpop_norm_faults::{FaultKind, NormResult, refusal};
+use lalrpop_norm_faults::{FaultKind, NormFailure, NormResult, refusal};
 use lalrpop_norm_tree::grammar::parse_tree::{
     Alternative, Atom, Condition, NonterminalData, NonterminalString, Span,
 };
@@ -40,22 +40,26 @@ fn check_args(alloc: Global, span: Span, args: &[NonterminalString]) -> NormResu
     }
 }
 
+fn tests_other(alloc: Global, span: Span, name: &Atom, def: Def) -> NormFailure
+    ensures { IsFirst ((FaultKind.ConditionOnOther, span) ∷ []) result }
+{
+    let what = def.description();
+    refusal(
+        FaultKind::ConditionOnOther,
+        span,
+        format!(in alloc;
+            "a condition can only test an argument of its macro, and `{name}` is a {what}"
+        ),
+    )
+}
+
 #[tactic(auto, unfolding(crate::specs::NameFaults::tested_faults))]
 fn check_tested(alloc: Global, span: Span, name: &Atom, def: Option<Def>) -> NormResult<()>
     ensures { Refuses result (tested_faults span (sense_seen def)) }
 {
     match def {
         Some(Def::MacroArg) => Ok(()),
-        Some(other) => {
-            let what = other.description();
-            Err(refusal(
-                FaultKind::ConditionOnOther,
-                span,
-                format!(in alloc;
-                    "a condition can only test an argument of its macro, and `{name}` is a {what}"
-                ),
-            ))
-        }
+        Some(other) => Err(tests_other(alloc, span, name, other)),
         None => Err(unknown(alloc, span, name)),
     }
 }

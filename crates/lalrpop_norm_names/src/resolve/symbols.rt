@@ -59,6 +59,18 @@ pub(crate) fn unknown(alloc: Global, span: Span, name: &Atom) -> NormFailure
     )
 }
 
+fn macro_named(alloc: Global, span: Span, name: &Atom, arity: usize) -> NormFailure
+    ensures { IsFirst ((FaultKind.MacroNamed, span) ∷ []) result }
+{
+    refusal(
+        FaultKind::MacroNamed,
+        span,
+        format!(in alloc;
+            "`{name}` is a macro: call it with its arguments, as `{name}<..>` (it takes {arity})"
+        ),
+    )
+}
+
 /// What an identifier stands for.
 #[tactic(auto, unfolding(crate::specs::NameFaults::id_faults))]
 fn named(alloc: Global, span: Span, name: Atom, def: Option<Def>) -> NormResult<SymbolKind>
@@ -69,15 +81,31 @@ fn named(alloc: Global, span: Span, name: Atom, def: Option<Def>) -> NormResult<
             name,
         ))),
         Some(Def::Terminal) => Ok(SymbolKind::Terminal(TerminalString::Bare(name))),
-        Some(Def::Macro(arity)) => Err(refusal(
-            FaultKind::MacroNamed,
-            span,
-            format!(in alloc;
-                "`{name}` is a macro: call it with its arguments, as `{name}<..>` (it takes {arity})"
-            ),
-        )),
+        Some(Def::Macro(arity)) => Err(macro_named(alloc, span, &name, arity)),
         None => Err(unknown(alloc, span, &name)),
     }
+}
+
+fn terminal_named(alloc: Global, span: Span, name: &Atom) -> NormFailure
+    ensures { IsFirst ((FaultKind.NotNonterminal, span) ∷ []) result }
+{
+    refusal(
+        FaultKind::NotNonterminal,
+        span,
+        format!(in alloc; "`{name}` is a terminal, and a nonterminal is wanted here"),
+    )
+}
+
+fn bare_macro(alloc: Global, span: Span, name: &Atom, arity: usize) -> NormFailure
+    ensures { IsFirst ((FaultKind.NotNonterminal, span) ∷ []) result }
+{
+    refusal(
+        FaultKind::NotNonterminal,
+        span,
+        format!(in alloc;
+            "`{name}` is a macro, and a nonterminal is wanted here: call it with its arguments, as `{name}<..>` (it takes {arity})"
+        ),
+    )
 }
 
 #[tactic(auto, unfolding(crate::specs::NameFaults::nonterminal_faults))]
@@ -86,20 +114,33 @@ fn check_nonterminal(alloc: Global, span: Span, name: &Atom, def: Option<Def>) -
 {
     match def {
         Some(Def::MacroArg) | Some(Def::Rule) => Ok(()),
-        Some(Def::Terminal) => Err(refusal(
-            FaultKind::NotNonterminal,
-            span,
-            format!(in alloc; "`{name}` is a terminal, and a nonterminal is wanted here"),
-        )),
-        Some(Def::Macro(arity)) => Err(refusal(
-            FaultKind::NotNonterminal,
-            span,
-            format!(in alloc;
-                "`{name}` is a macro, and a nonterminal is wanted here: call it with its arguments, as `{name}<..>` (it takes {arity})"
-            ),
-        )),
+        Some(Def::Terminal) => Err(terminal_named(alloc, span, name)),
+        Some(Def::Macro(arity)) => Err(bare_macro(alloc, span, name, arity)),
         None => Err(unknown(alloc, span, name)),
     }
+}
+
+fn wrong_arity(alloc: Global, span: Span, name: &Atom, given: usize, arity: usize) -> NormFailure
+    ensures { IsFirst ((FaultKind.Arity, span) ∷ []) result }
+{
+    refusal(
+        FaultKind::Arity,
+        span,
+        format!(in alloc;
+            "wrong number of arguments for the macro `{name}`: {given} given, {arity} wanted"
+        ),
+    )
+}
+
+fn not_macro(alloc: Global, span: Span, name: &Atom, def: Def) -> NormFailure
+    ensures { IsFirst ((FaultKind.NotMacro, span) ∷ []) result }
+{
+    let what = def.description();
+    refusal(
+        FaultKind::NotMacro,
+        span,
+        format!(in alloc; "`{name}` is a {what}, not a macro: write it without arguments"),
+    )
 }
 
 #[tactic(auto, unfolding(crate::specs::NameFaults::macro_faults))]
@@ -115,26 +156,29 @@ fn check_macro(
     match def {
         Some(Def::Macro(arity)) => {
             if arity != given {
-                return Err(refusal(
-                    FaultKind::Arity,
-                    span,
-                    format!(in alloc;
-                        "wrong number of arguments for the macro `{name}`: {given} given, {arity} wanted"
-                    ),
-                ));
+                return Err(wrong_arity(alloc, span, name, given, arity));
             }
             Ok(())
         }
-        Some(other) => {
-            let what = other.description();
-            Err(refusal(
-                FaultKind::NotMacro,
-                span,
-                format!(in alloc; "`{name}` is a {what}, not a macro: write it without arguments"),
-            ))
-        }
+        Some(other) => Err(not_macro(alloc, span, name, other)),
         None => Err(unknown(alloc, span, name)),
     }
+}
+
+/// What an identifier stands for in a rule with these arguments.
+fn identified(
+    alloc: Global,
+    globals: &BTreeMap<Atom, Def>,
+    args: &[NonterminalString],
+    span: Span,
+    id: &Atom,
+) -> NormResult<SymbolKind>
+    ensures { RefusesOr result (id_faults span (sense_in globals.now args.now id.now))
+        (λ k. kind_view k ≡ by_sense (sense_in globals.now args.now id.now) id.now) }
+{
+    let name = id.again();
+    let meant = def(globals, args, &name);
+    named(alloc, span, name, meant)
 }
 
 #[tactic(auto, using(crate::proofs::NameLemmas::count_length))]
@@ -197,9 +241,7 @@ fn resolve_kind(
             Ok(())
         }
         SymbolKind::AmbiguousId(id) => {
-            let name = id.again();
-            let meant = def(globals, args, &name);
-            *kind = named(alloc, span, name, meant)?;
+            *kind = identified(alloc, globals, args, span, id)?;
             Ok(())
         }
         SymbolKind::Nonterminal(name) => {
