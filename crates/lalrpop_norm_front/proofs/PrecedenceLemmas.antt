@@ -8,8 +8,9 @@ use Rattle.lalrpop_norm_tree.specs.Items.{AlternativeData, RuleData, ItemData, G
 use Rattle.lalrpop_norm_faults.specs.declared.kind.FaultKind.TheVariants.{NotNonterminal}
 use Rattle.lalrpop_norm_faults.specs.declared.failure.NormFailure.{NormFailure}
 use Rattle.lalrpop_norm_faults.specs.Faults.{Fault, first, IsFault, IsFirst, RefusesOr, fault_if}
+use Rattle.lalrpop_norm_faults.proofs.FaultLemmas.{first_of_more}
 use Rattle.std.specs.Prelude.{Result, Ok, Err}
-use Rattle.std.specs.Result.{IsErrAnd}
+use Rattle.std.specs.Result.{IfOk, IsErrAnd}
 use Rattle.lalrpop_norm_theory.specs.Rounds.{In}
 use Rattle.lalrpop_norm_theory.proofs.RoundsLemmas.{in_cases}
 use Rattle.lalrpop_norm_model.specs.Enabled.{all_places, present}
@@ -242,3 +243,14 @@ pub exit_first : {T : Type 0} (r : Result T NormFailure) (e : NormFailure) (here
     IsFirst here e → first all ≡ first here → RefusesOr r all P
 exit_first (Ok x) e here all P from h same = absurd from
 exit_first (Err x) e here all P from h same = rw from (subst (λ (f : Option Fault). IsFault f e) (sym same) h)
+
+-- the exit where the faults begin with the callee's
+pub exit_begins : {T : Type 0} (r : Result T NormFailure) (e : NormFailure) (here rest all : List Fault) (P : T → Type 0) → IsErrAnd r (λ x. x ≡ e) →
+    IsFirst here e → all ≡ here ++ rest → RefusesOr r all P
+exit_begins (Ok x) e here rest all P from h same = absurd from
+exit_begins (Err x) e here rest all P from h same = rw (from, same) (first_of_more here rest e h)
+
+-- an exit says nothing of a value
+pub exit_without : {T : Type 0} (r : Result T NormFailure) (e : NormFailure) (P : T → Type 0) → IsErrAnd r (λ x. x ≡ e) → IfOk r P
+exit_without (Ok x) e P from = absurd from
+exit_without (Err x) e P from = tt

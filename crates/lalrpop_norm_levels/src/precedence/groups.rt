@@ -55,8 +55,7 @@ pub(super) fn mark(
 pub(super) fn group_by_level(alloc: Global, marked: Vec<Marked>) -> Result<Vec<Group>, NoMemory>
     ensures { IfOk result (λ groups. map group_view groups.items ≡ grouped (map marked_view marked.items)) }
 {
-    let set = distinct(alloc, &marked)?;
-    let levels = listed(alloc, &set)?;
+    let levels = levels_of(alloc, &marked)?;
     let mut groups = empty_groups(alloc, &levels)?;
     for alternative in marked {
         let i = rank(&levels, alternative.level);
@@ -65,7 +64,15 @@ pub(super) fn group_by_level(alloc: Global, marked: Vec<Marked>) -> Result<Vec<G
     Ok(groups)
 }
 
-/// The levels, each once.
+/// The levels, each once, rising.
+fn levels_of(alloc: Global, marked: &[Marked]) -> Result<Vec<u32>, NoMemory>
+    ensures { IfOk result (λ levels. levels.items ≡ rising (map (λ (a : Leveled). a.level) (map marked_view marked.now))) }
+{
+    let set = distinct(alloc, marked)?;
+    listed(alloc, &set)
+}
+
+/// The set of the levels.
 fn distinct(alloc: Global, marked: &[Marked]) -> Result<BTreeSet<u32>, NoMemory>
     ensures { IfOk result (λ levels. levels.keys ≡ rising (map (λ (a : Leveled). a.level) (map marked_view marked.now))) }
 {

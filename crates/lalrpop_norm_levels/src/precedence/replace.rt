@@ -7,6 +7,7 @@ ghost use Rattle.lalrpop_norm_levels.specs.Substituted.{is_name, substitution_vi
 use lalrpop_norm_tree::grammar::parse_tree::{
     NoMemory, NonterminalString, RepeatSymbol, Symbol, SymbolKind,
 };
+use std::alloc::AllocError;
 
 /// What own occurrences become, one after another as they are met.
 #[derive(Clone, Copy, PartialEq, Eq)]
@@ -51,13 +52,17 @@ pub fn replace_nonterm(
 }
 
 /// A copy of the kind that the next occurrence becomes.
-fn occurrence(first: &SymbolKind, others: &SymbolKind, is_met: bool) -> Result<SymbolKind, NoMemory>
+fn occurrence(
+    first: &SymbolKind,
+    others: &SymbolKind,
+    is_met: bool,
+) -> Result<SymbolKind, AllocError>
     ensures { IfOk result (λ k. kind_view k ≡ occurrence (kind_view first.now, kind_view others.now) is_met 0) }
 {
     if is_met {
-        Ok(others.clone()?)
+        others.clone()
     } else {
-        Ok(first.clone()?)
+        first.clone()
     }
 }
 

@@ -8,7 +8,7 @@ use Rattle.lalrpop_norm_levels.proofs.precedence.groups.group_by_level.Goals as 
 pub loop-alternative-init : goal.loop-alternative-init
 loop-alternative-init c =
     let levels : List ℕ = map (λ (a : Leveled). a.level) (map marked_view c.args.marked.items) in
-    let same : c.in_ok-levels.levels.items ≡ rising levels = cc (c.in_ok-levels.ensures, c.in_ok-set.ensures) in
+    let same : c.in_ok-levels.levels.items ≡ rising levels = cc (c.in_ok-levels.ensures) in
     let groups : map group_view c.in_ok-groups.groups.items ≡ map (λ l. (l, [])) c.in_ok-levels.levels.items = cc (c.in_ok-groups.ensures) in
     let whole : c.into_iter-alternative-iterator.result.rest.items ≡ c.args.marked.items = cc in
     record {
