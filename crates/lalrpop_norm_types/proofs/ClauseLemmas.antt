@@ -3,16 +3,18 @@ use Rattle.std.proofs.Common.{◌≡◌, ℕ, suc, Bool, true, false, ◌||◌, 
 use Rattle.std.specs.Prelude.{option_map, option_to_list}
 use Rattle.lalrpop_norm_parts.specs.declared.names.Span.{Span}
 use Rattle.lalrpop_norm_parts.specs.declared.names.TypeParameter.{TypeParameter}
+use Rattle.lalrpop_norm_tree.specs.declared.symbol.Symbol.{Symbol}
+use Rattle.lalrpop_norm_tree.specs.declared.symbol.SymbolKind.TheFolds.{fold_out-Symbol}
 use Rattle.lalrpop_norm_tree.specs.Items.{AlternativeData}
 use Rattle.lalrpop_norm_parts.specs.Reprs.{repr_and, tuple}
-use Rattle.lalrpop_norm_tree.specs.Symbols.{Kind, Parts, group, ambiguous_id, terminal, nonterminal, call, repeated, chosen, named, tupled, lookahead, lookbehind, error_terminal, at, no_parts, part_and}
+use Rattle.lalrpop_norm_tree.specs.Symbols.{Kind, Part, Parts, Call, Again, kind_step, expr_step, macro_step, repeat_step, symbol_step, kind_view, symbol_view, parts_view, group, ambiguous_id, terminal, nonterminal, call, repeated, chosen, named, tupled, lookahead, lookbehind, error_terminal, at, no_parts, part_and}
 use Rattle.lalrpop_norm_tree.specs.Types.{of_symbol, types_of}
 use Rattle.lalrpop_norm_repr.specs.Tables.{TypeTable}
 use Rattle.lalrpop_norm_model.specs.MadeRules.{kind_of, all_kinds, if_any, bare_or_tuple, names_value, some_name_value}
 use Rattle.lalrpop_norm_model.specs.Sources.{Source, named_sources, chosen_sources, all_sources, sources, default_type}
 use Rattle.lalrpop_norm_model.specs.TypeRelation.{makes, alternative_clause}
 use Rattle.lalrpop_norm_model.specs.TypeTables.{both}
-use Rattle.lalrpop_norm_types.specs.Clauses.{chosen_in, chosen_parts, source_kinds, type_of_sources, default_clause, kinds_in, sources_in}
+use Rattle.lalrpop_norm_types.specs.Clauses.{is_naming, chosen_in, chosen_parts, source_kinds, type_of_sources, default_clause, kinds_in, sources_in}
 use Rattle.lalrpop_norm_types.specs.TableValues.{kind_in, type_in, types_in}
 
 -- ---- sources
@@ -90,6 +92,34 @@ type_is : (a : AlternativeData) → some_name_value a.parts ≡ false → type_o
 type_is a e =
     ap (λ ks. bare_or_tuple (map of_symbol ks)) (sym (sources_are a.parts e))
     ∙ ap bare_or_tuple (sym (map_twice kind_in_source of_symbol (sources a.parts)))
+
+-- ---- symbols one by one
+
+naming_at : (s : Span) (k : Kind) → is_naming k ≡ names_value (at s k)
+naming_at s (named n p) = refl
+naming_at s (tupled ns p) = refl
+naming_at s (group ps) = refl
+naming_at s (ambiguous_id a) = refl
+naming_at s (terminal t) = refl
+naming_at s (nonterminal n) = refl
+naming_at s (call n ps) = refl
+naming_at s (repeated op p) = refl
+naming_at s (chosen p) = refl
+naming_at s lookahead = refl
+naming_at s lookbehind = refl
+naming_at s error_terminal = refl
+
+seen_at : (x : Symbol) → symbol_view x ≡ at x.span (kind_view x.kind)
+seen_at x = fold_out-Symbol Kind Parts Call Again Part kind_step expr_step macro_step repeat_step symbol_step x
+
+pub naming_is : (x : Symbol) → is_naming (kind_view x.kind) ≡ names_value (symbol_view x)
+naming_is x = naming_at x.span (kind_view x.kind) ∙ ap names_value (sym (seen_at x))
+
+pub first_kind : (x : Symbol) (xs : List Symbol) → all_kinds (parts_view (x ∷ xs)) ≡ (kind_view x.kind ∷ []) ++ all_kinds (parts_view xs)
+first_kind x xs = ap (λ p. all_kinds (part_and p (parts_view xs))) (seen_at x)
+
+pub first_chosen : (x : Symbol) (xs : List Symbol) → chosen_parts (parts_view (x ∷ xs)) ≡ option_to_list (chosen_in (kind_view x.kind)) ++ chosen_parts (parts_view xs)
+first_chosen x xs = ap (λ p. chosen_parts (part_and p (parts_view xs))) (seen_at x)
 
 -- ---- alternatives without code
 

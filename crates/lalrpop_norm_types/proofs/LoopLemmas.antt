@@ -1,9 +1,10 @@
--- Loops that refuse by the first fault of a list.
-use Rattle.std.proofs.Common.{◌≡◌, ◌<◌, ◌+◌, ℕ, Result, List, length, drop, get_or, map, sym, ◌∙◌}
-use Rattle.std.specs.List.{flat_map}
+-- Loops that refuse by the first fault of a list, and loops that collect.
+use Rattle.std.proofs.Common.{◌≡◌, ◌<◌, ◌+◌, ℕ, Result, Option, Some, None, refl, List, [], ◌∷◌, ◌++◌, append_assoc, length, drop, get_or, map, ap, sym, ◌∙◌}
+use Rattle.std.specs.List.{flat_map, filter_map, cons_option}
+use Rattle.std.specs.Prelude.{option_to_list, is_none}
 use Rattle.std.specs.Result.{IsErrAnd}
 use Rattle.lalrpop_norm_faults.specs.declared.failure.NormFailure.{NormFailure}
-use Rattle.lalrpop_norm_faults.specs.Faults.{Fault, IsFirst, Refuses}
+use Rattle.lalrpop_norm_faults.specs.Faults.{Fault, IsFirst, Refuses, fault_if}
 use Rattle.lalrpop_norm_faults.proofs.FaultLemmas.{exit_at, at_drop_item}
 
 -- the exit by `?` of a loop over a list, each element of which has its faults as it is seen
@@ -13,3 +14,28 @@ pub exit_loop : {X Y T : Type 0} (view : X → Y) (f : Y → List Fault) (xs : L
 exit_loop view f xs i x r e lt is from h same =
     exit_at r e (f (view x)) (flat_map f (map view (drop (i + 1) xs))) (flat_map f (map view xs)) from h
     (sym same ∙ at_drop_item (λ ys. flat_map f (map view ys)) xs i x lt is)
+
+-- a loop that collects what v makes of each element
+pub next_collected : {X Y : Type 0} (F : List X → List Y) (v : X → List Y) → ((x : X) (xs : List X) → F (x ∷ xs) ≡ v x ++ F xs) →
+    (xs : List X) (i : ℕ) (x : X) (old new all : List Y) → i < length xs → x ≡ get_or xs i x → new ≡ old ++ v x → old ++ F (drop i xs) ≡ all → new ++ F (drop (i + 1) xs) ≡ all
+next_collected F v more xs i x old new all lt is made before =
+    ap (λ ys. ys ++ F (drop (i + 1) xs)) made
+    ∙ (append_assoc old (v x) (F (drop (i + 1) xs))
+    ∙ (ap (λ ys. old ++ ys) (sym (more x (drop (i + 1) xs))) ∙ (sym (at_drop_item (λ ys. old ++ F ys) xs i x lt is) ∙ before)))
+
+cons_some : {B : Type 0} (o : Option B) (ys : List B) → cons_option o ys ≡ option_to_list o ++ ys
+cons_some None ys = refl
+cons_some (Some y) ys = refl
+
+pub first_of_some : {A B : Type 0} (f : A → Option B) (x : A) (xs : List A) → filter_map f (x ∷ xs) ≡ option_to_list (f x) ++ filter_map f xs
+first_of_some f x xs = cons_some (f x) (filter_map f xs)
+
+-- ---- a fault where something is not there
+
+pub some_lacks_not : {A : Type 0} (o : Option A) (x : A) (f : Fault) → Some x ≡ o → fault_if (is_none o) f ≡ []
+some_lacks_not (Some y) x f e = refl
+some_lacks_not None x f e = absurd (cc e)
+
+pub none_lacks : {A : Type 0} (o : Option A) (f : Fault) → None ≡ o → fault_if (is_none o) f ≡ f ∷ []
+none_lacks (Some y) f e = absurd (cc e)
+none_lacks None f e = refl

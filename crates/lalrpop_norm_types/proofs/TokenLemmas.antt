@@ -26,13 +26,12 @@ use Rattle.lalrpop_norm_types.specs.TokenTypes.{base_table, AddsTerminals, HasTo
 
 -- a loop over a list of which F collects what v makes of its elements
 pub next_chosen : {X : Type 0} (F : List X → List TypeData) (v : X → List TypeData) → ((x : X) (xs : List X) → F (x ∷ xs) ≡ v x ++ F xs) →
-    (xs : List X) (i : ℕ) (x : X) (ts us : List TypeRepr) (w : List ReprData) → i < length xs → x ≡ get_or xs i x → map repr_view us ≡ map repr_of (v x) →
-    map repr_view ts ++ map repr_of (F (drop i xs)) ≡ w → map repr_view (ts ++ us) ++ map repr_of (F (drop (i + 1) xs)) ≡ w
+    (xs : List X) (i : ℕ) (x : X) (ts us : List TypeRepr) (w : List ReprData) → i < length xs → x ≡ get_or xs i x → map repr_view us ≡ map repr_view ts ++ map repr_of (v x) →
+    map repr_view ts ++ map repr_of (F (drop i xs)) ≡ w → map repr_view us ++ map repr_of (F (drop (i + 1) xs)) ≡ w
 next_chosen F v more xs i x ts us w lt is made before =
-    ap (λ ys. ys ++ map repr_of (F (drop (i + 1) xs))) (map-append repr_view ts us)
-    ∙ (append_assoc (map repr_view ts) (map repr_view us) (map repr_of (F (drop (i + 1) xs)))
-    ∙ (ap (λ ys. map repr_view ts ++ ys)
-    (ap (λ ys. ys ++ map repr_of (F (drop (i + 1) xs))) made ∙ (sym (map-append repr_of (v x) (F (drop (i + 1) xs))) ∙ ap (map repr_of) (sym (more x (drop (i + 1) xs)))))
+    ap (λ ys. ys ++ map repr_of (F (drop (i + 1) xs))) made
+    ∙ (append_assoc (map repr_view ts) (map repr_of (v x)) (map repr_of (F (drop (i + 1) xs)))
+    ∙ (ap (λ ys. map repr_view ts ++ ys) (sym (map-append repr_of (v x) (F (drop (i + 1) xs))) ∙ ap (map repr_of) (sym (more x (drop (i + 1) xs))))
     ∙ (sym (at_drop_item (λ ys. map repr_view ts ++ map repr_of (F ys)) xs i x lt is) ∙ before)))
 
 -- ---- rows

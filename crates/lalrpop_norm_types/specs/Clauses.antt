@@ -1,9 +1,9 @@
 -- The clauses of a rule, as the code has them.
-use Rattle.std.specs.Prelude.{List, [], ◌∷◌, ◌++◌, map, Option, Some, None, option_map, option_to_list, if◌then◌else◌}
+use Rattle.std.specs.Prelude.{Bool, true, false, List, [], ◌∷◌, ◌++◌, map, Option, Some, None, option_map, option_to_list, if◌then◌else◌}
 use Rattle.lalrpop_norm_parts.specs.declared.names.TypeParameter.{TypeParameter}
 use Rattle.lalrpop_norm_tree.specs.Accessors.{or_else}
 use Rattle.lalrpop_norm_parts.specs.Reprs.{ReprData, Reprs, no_reprs, repr_and, tuple}
-use Rattle.lalrpop_norm_tree.specs.Symbols.{Kind, chosen, Parts, at, no_parts, part_and, kind_view}
+use Rattle.lalrpop_norm_tree.specs.Symbols.{Kind, chosen, named, tupled, Parts, at, no_parts, part_and, kind_view}
 use Rattle.lalrpop_norm_tree.specs.Types.{TypeData, of_symbol, type_view}
 use Rattle.lalrpop_norm_repr.specs.Tables.{TypeTable}
 use Rattle.lalrpop_norm_model.specs.MadeRules.{kind_of, all_kinds, if_any, bare_or_tuple, some_name_value}
@@ -12,6 +12,12 @@ use Rattle.lalrpop_norm_model.specs.TypeTables.{both}
 use Rattle.lalrpop_norm_types.specs.declared.tyinfer.clauses.Clause.{Clause}
 use Rattle.lalrpop_norm_types.specs.declared.tyinfer.clauses.Clause.TheVariants.{Declared, Sources, Location}
 use Rattle.lalrpop_norm_types.specs.TableValues.{kind_in, type_in}
+
+-- a name, or a tuple of names, stands before the symbol
+abbrev pub is_naming : Kind → Bool
+is_naming (named n p) = true
+is_naming (tupled ns p) = true
+is_naming k = false
 
 -- what is in a chosen symbol
 abbrev pub chosen_in : Kind → Option Kind

@@ -2,6 +2,7 @@
 use Rattle.std.specs.Prelude.{ℕ, Bool, false, List, [], ◌++◌, map, flat_map, Option, Some, None, is_none, if◌then◌else◌}
 use Rattle.lalrpop_norm_parts.specs.declared.names.Span.{Span}
 use Rattle.lalrpop_norm_parts.specs.declared.names.TypeParameter.{TypeParameter}
+use Rattle.lalrpop_norm_parts.specs.Reprs.{ReprData, Reprs, tuple}
 use Rattle.lalrpop_norm_tree.specs.Items.{AlternativeData, RuleData}
 use Rattle.lalrpop_norm_tree.specs.Symbols.{Kind, tupled, Parts, at, no_parts, part_and}
 use Rattle.lalrpop_norm_faults.specs.Faults.{Fault, fault_if}
@@ -40,6 +41,11 @@ others_in ps tt r = if is_undeclared r then flat_map (other_in ps tt r.name.0) r
 -- kinds of faults at one place
 abbrev pub faults_at : Span → List FaultKind → List Fault
 faults_at s ks = map (λ k. (k, s)) ks
+
+-- the types of a tuple type
+abbrev pub types_in_tuple : ReprData → Option Reprs
+types_in_tuple (tuple ts) = Some ts
+types_in_tuple x = None
 
 -- F51 to F53 at a tuple symbol
 abbrev pub kind_misfits : Table → Kind → List Fault

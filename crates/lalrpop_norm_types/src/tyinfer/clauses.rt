@@ -1,14 +1,15 @@
 //! By which rules have types.
-ghost use Rattle.std.specs.Prelude.{◌≡◌, IfOk, map, option_map, filter_map};
+ghost use Rattle.std.specs.Prelude.{◌≡◌, [], ◌∷◌, ◌++◌, IfOk, OnOk, map, option_map, option_to_list, filter_map};
 ghost use Rattle.lalrpop_norm_tree.specs.Items.{alternative_view, rule_view};
 ghost use Rattle.lalrpop_norm_parts.specs.Reprs.{repr_view, reprs_view};
 ghost use Rattle.lalrpop_norm_tree.specs.Symbols.{kind_view, symbol_view, parts_view, expr_view};
+ghost use Rattle.lalrpop_norm_tree.specs.Types.{type_view};
 ghost use Rattle.lalrpop_norm_repr.specs.Tables.{type_table};
 ghost use Rattle.lalrpop_norm_model.specs.MadeRules.{names_value, some_name_value, all_kinds};
-ghost use Rattle.lalrpop_norm_model.specs.TypeRelation.{alternative_clause, clauses};
-ghost use Rattle.lalrpop_norm_types.specs.Clauses.{chosen_in, chosen_parts, source_kinds, default_clause, kinds_in, sources_in, clause_view, clause_in, first_in};
+ghost use Rattle.lalrpop_norm_model.specs.TypeRelation.{alternative_clause, clauses, clauses_of, makes};
+ghost use Rattle.lalrpop_norm_types.specs.Clauses.{is_naming, chosen_in, chosen_parts, source_kinds, default_clause, kinds_in, sources_in, clause_view, clause_in, first_in};
 
-use super::values::{kind_value, type_value};
+use super::values::{copy_of, kind_value, type_value};
 use lalrpop_norm_repr::grammar::repr::{TypeRepr, Types};
 use lalrpop_norm_tree::grammar::parse_tree::{
     ActionKind, Alternative, ExprSymbol, NoMemory, NonterminalData, Symbol, SymbolKind,
@@ -30,7 +31,13 @@ pub(crate) enum Clause<'g> {
 fn names_value(symbol: &Symbol) -> bool
     ensures { result ≡ names_value (symbol_view symbol.now) }
 {
-    match &symbol.kind {
+    is_naming(&symbol.kind)
+}
+
+fn is_naming(kind: &SymbolKind) -> bool
+    ensures { result ≡ is_naming (kind_view kind.now) }
+{
+    match kind {
         SymbolKind::Name(_, _) | SymbolKind::Tuple(_, _) => true,
         SymbolKind::Expr(_)
         | SymbolKind::AmbiguousId(_)
@@ -82,11 +89,23 @@ fn chosen_symbols(alloc: Global, symbols: &[Symbol]) -> Result<Vec<&SymbolKind>,
 {
     let mut found = Vec::new(alloc);
     for symbol in symbols {
-        if let Some(inner) = chosen_in(&symbol.kind) {
-            found.push(inner)?;
-        }
+        add_some(&mut found, chosen_in(&symbol.kind))?;
     }
     Ok(found)
+}
+
+/// Adds what is there.
+fn add_some<'g>(
+    found: &mut Vec<&'g SymbolKind>,
+    kind: Option<&'g SymbolKind>,
+) -> Result<(), NoMemory>
+    ensures { OnOk result (map (λ k. kind_view k.now) found.new.items
+        ≡ map (λ k. kind_view k.now) found.old.items ++ option_to_list (option_map (λ k. kind_view k.now) kind.entry)) }
+{
+    if let Some(kind) = kind {
+        found.push(kind)?;
+    }
+    Ok(())
 }
 
 fn all_symbols(alloc: Global, symbols: &[Symbol]) -> Result<Vec<&SymbolKind>, NoMemory>
@@ -142,14 +161,28 @@ pub(crate) fn rule_clauses(
 ) -> Result<Vec<Clause<'_>>, NoMemory>
     ensures { IfOk result (λ cs. map clause_view cs.items ≡ clauses (rule_view rule.now)) }
 {
-    match &rule.type_decl {
-        Some(ty) => {
-            let mut clauses = Vec::new(alloc);
-            clauses.push(Clause::Declared(ty))?;
-            Ok(clauses)
-        }
-        None => alternative_clauses(alloc, &rule.alternatives),
+    clauses_of(alloc, &rule.type_decl, &rule.alternatives)
+}
+
+fn clauses_of<'g>(
+    alloc: Global,
+    declared: &'g Option<TypeRef>,
+    alternatives: &'g [Alternative],
+) -> Result<Vec<Clause<'g>>, NoMemory>
+    ensures { IfOk result (λ cs. map clause_view cs.items ≡ clauses_of (option_map type_view declared.now) (map alternative_view alternatives.now)) }
+{
+    match declared {
+        Some(ty) => declared_clause(alloc, ty),
+        None => alternative_clauses(alloc, alternatives),
     }
+}
+
+fn declared_clause(alloc: Global, ty: &TypeRef) -> Result<Vec<Clause<'_>>, NoMemory>
+    ensures { IfOk result (λ cs. map clause_view cs.items ≡ makes (type_view ty.now) ∷ []) }
+{
+    let mut clauses = Vec::new(alloc);
+    clauses.push(Clause::Declared(ty))?;
+    Ok(clauses)
 }
 
 fn alternative_clauses(
@@ -160,11 +193,19 @@ fn alternative_clauses(
 {
     let mut clauses = Vec::new(alloc);
     for alternative in alternatives {
-        if let Some(clause) = alternative_clause(alloc, alternative)? {
-            clauses.push(clause)?;
-        }
+        add_clause(&mut clauses, alternative_clause(alloc, alternative)?)?;
     }
     Ok(clauses)
+}
+
+/// Adds the clause that is there.
+fn add_clause<'g>(clauses: &mut Vec<Clause<'g>>, clause: Option<Clause<'g>>) -> Result<(), NoMemory>
+    ensures { OnOk result (map clause_view clauses.new.items ≡ map clause_view clauses.old.items ++ option_to_list (option_map clause_view clause.entry)) }
+{
+    if let Some(clause) = clause {
+        clauses.push(clause)?;
+    }
+    Ok(())
 }
 
 /// A copy of the type that a clause makes of the table, if it makes one.
@@ -186,10 +227,7 @@ pub(crate) fn clause_value(
 fn location_value(types: &Types) -> Result<Option<TypeRepr>, NoMemory>
     ensures { IfOk result (λ o. option_map repr_view o ≡ (type_table types.now).location) }
 {
-    match types.opt_terminal_loc_type() {
-        Some(ty) => Ok(Some(ty.clone()?)),
-        None => Ok(None),
-    }
+    copy_of(types.opt_terminal_loc_type())
 }
 
 /// The type of the values of these symbols: one bare, any other number of them as a tuple.

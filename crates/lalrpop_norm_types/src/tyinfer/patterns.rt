@@ -1,5 +1,5 @@
 //! Tuple patterns over symbols, against the types of these.
-ghost use Rattle.std.specs.Prelude.{◌≡◌, ◌∷◌, [], length, flat_map, map, if◌then◌else◌};
+ghost use Rattle.std.specs.Prelude.{◌≡◌, ◌∷◌, [], length, flat_map, map, option_map, if◌then◌else◌};
 ghost use Rattle.lalrpop_norm_tree.specs.Items.{alternative_view, rule_view};
 ghost use Rattle.lalrpop_norm_parts.specs.Reprs.{repr_view, reprs_view};
 ghost use Rattle.lalrpop_norm_tree.specs.Symbols.{argument_pattern_view, argument_patterns_view, several, tuple_view, symbol_view, kind_view, parts_view, expr_view};
@@ -7,7 +7,7 @@ ghost use Rattle.lalrpop_norm_faults.specs.Faults.{Refuses};
 ghost use Rattle.lalrpop_norm_faults.specs.declared.kind.FaultKind.TheVariants.{TupleLength};
 ghost use Rattle.lalrpop_norm_repr.specs.Tables.{type_table};
 ghost use Rattle.lalrpop_norm_model.specs.TuplePatterns.{as_many, misfits, misfits_of, symbol_misfits, alternative_misfits, rule_misfits};
-ghost use Rattle.lalrpop_norm_types.specs.TableFaults.{faults_at, kind_misfits, parts_misfits};
+ghost use Rattle.lalrpop_norm_types.specs.TableFaults.{faults_at, kind_misfits, parts_misfits, types_in_tuple};
 ghost use Rattle.lalrpop_norm_types.specs.TableValues.{names_in};
 
 use super::rounds::PlainRule;
@@ -137,19 +137,29 @@ fn check_names(alloc: Global, span: Span, tuple: &Tuple, ty: &TypeRepr) -> NormR
 fn check_tuple(alloc: Global, span: Span, patterns: &[ArgPattern], ty: &TypeRepr) -> NormResult<()>
     ensures { Refuses result (faults_at span (misfits (several (argument_patterns_view patterns.now)) (repr_view ty.now))) }
 {
+    match types_in_tuple(ty) {
+        Some(types) => check_parts(alloc, span, patterns, types),
+        None => Err(refusal(
+            FaultKind::TupleOverType,
+            span,
+            format!(in alloc; "a tuple of names needs a tuple type, and `{ty}` is none"),
+        )),
+    }
+}
+
+/// The types of a tuple type.
+fn types_in_tuple(ty: &TypeRepr) -> Option<&[TypeRepr]>
+    ensures { option_map (λ ts. reprs_view ts.now) result ≡ types_in_tuple (repr_view ty.now) }
+{
     match ty {
-        TypeRepr::Tuple(types) => check_parts(alloc, span, patterns, types),
+        TypeRepr::Tuple(types) => Some(types.as_slice()),
         TypeRepr::Slice(_)
         | TypeRepr::Nominal(_)
         | TypeRepr::Associated { .. }
         | TypeRepr::Lifetime(_)
         | TypeRepr::Ref { .. }
         | TypeRepr::TraitObject(_)
-        | TypeRepr::Fn { .. } => Err(refusal(
-            FaultKind::TupleOverType,
-            span,
-            format!(in alloc; "a tuple of names needs a tuple type, and `{ty}` is none"),
-        )),
+        | TypeRepr::Fn { .. } => None,
     }
 }
 

@@ -8,6 +8,12 @@ ghost use Rattle.lalrpop_norm_types.specs.SameApplied.{same_applied};
 use lalrpop_norm_repr::grammar::repr::{NominalTypeRepr, TypeRepr};
 use lalrpop_norm_tree::grammar::parse_tree::{Atom, Lifetime, Path, TypeParameter};
 
+pub(super) fn is_same_name(a: &Atom, b: &Atom) -> bool
+    ensures { result ≡ bytes_eq a.now b.now }
+{
+    a == b
+}
+
 fn is_same_flag(a: bool, b: bool) -> bool
     ensures { result ≡ same_flag a b }
 {
@@ -29,8 +35,8 @@ fn is_same_parameter(a: &TypeParameter, b: &TypeParameter) -> bool
     ensures { result ≡ same_parameter a.now b.now }
 {
     match (a, b) {
-        (TypeParameter::Lifetime(a), TypeParameter::Lifetime(b)) => a.0 == b.0,
-        (TypeParameter::Id(a), TypeParameter::Id(b)) => a == b,
+        (TypeParameter::Lifetime(a), TypeParameter::Lifetime(b)) => is_same_name(&a.0, &b.0),
+        (TypeParameter::Id(a), TypeParameter::Id(b)) => is_same_name(a, b),
         (TypeParameter::Lifetime(_), TypeParameter::Id(_)) => false,
         (TypeParameter::Id(_), TypeParameter::Lifetime(_)) => false,
     }

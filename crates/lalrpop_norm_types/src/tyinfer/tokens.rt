@@ -114,10 +114,18 @@ fn token_path(alloc: Global) -> Result<NominalTypeRepr, NoMemory>
     ensures { IfOk result (λ n. applied_view n ≡ (path_of (codes "Token" ∷ []), repr_and (of_lifetime input_lifetime) no_reprs)) }
 {
     let path = Path::from_id(alloc, Atom::new(alloc, "Token")?)?;
+    let types = input_arguments(alloc)?;
+    Ok(NominalTypeRepr { path, types })
+}
+
+/// The arguments of a type that are `'input` alone.
+fn input_arguments(alloc: Global) -> Result<Vec<TypeRepr>, NoMemory>
+    ensures { IfOk result (λ ts. reprs_view ts.items ≡ repr_and (of_lifetime input_lifetime) no_reprs) }
+{
     let lifetime = input_lifetime(alloc)?;
     let mut types = Vec::new(alloc);
     types.push(TypeRepr::Lifetime(lifetime))?;
-    Ok(NominalTypeRepr { path, types })
+    Ok(types)
 }
 
 /// `&'input str`.
@@ -153,14 +161,20 @@ fn entry_rows(alloc: Global, entries: &[MatchEntry]) -> Result<Vec<Row>, NoMemor
     let mut rows = Vec::new(alloc);
     for entry in entries {
         match &entry.user_name {
-            MatchMapping::Terminal(terminal) => {
-                let ty = input_str(alloc)?;
-                rows.push((terminal.clone()?, ty))?
-            }
+            MatchMapping::Terminal(terminal) => { rows.push(entry_row(alloc, terminal)?)? }
             MatchMapping::Skip => {}
         }
     }
     Ok(rows)
+}
+
+/// The terminal of an entry, which has the type of its text.
+fn entry_row(alloc: Global, terminal: &TerminalString) -> Result<Row, NoMemory>
+    ensures terminal { IfOk result (λ r. r.0 ≡ terminal.now) }
+    ensures type_of_text { IfOk result (λ r. repr_view r.1 ≡ input_str) }
+{
+    let terminal = terminal.clone()?;
+    Ok((terminal, input_str(alloc)?))
 }
 
 fn conversion_rows(alloc: Global, conversions: &[Conversion]) -> Result<Vec<Row>, NoMemory>
@@ -181,10 +195,9 @@ fn add_conversion(
 ) -> Result<(), NoMemory>
     ensures { OnOk result (rows_seen rows.new.items ≡ rows_seen rows.old.items ++ conversion_row (conversion_view conversion.now)) }
 {
-    let types = chosen_types(alloc, &conversion.to)?;
-    match type_of_chosen(types) {
+    let terminal = conversion.from.clone()?;
+    match type_of_chosen(chosen_types(alloc, &conversion.to)?) {
         Some(ty) => {
-            let terminal = conversion.from.clone()?;
             rows.push((terminal, ty))?;
             Ok(())
         }
@@ -203,73 +216,99 @@ fn type_of_chosen(mut types: Vec<TypeRepr>) -> Option<TypeRepr>
 }
 
 /// The types that a pattern chooses, in reading order.
-#[cycle(chosen)]
 fn chosen_types(alloc: Global, pattern: &Pattern<TypeRef>) -> Result<Vec<TypeRepr>, NoMemory>
     ensures { IfOk result (λ ts. map repr_view ts.items ≡ map repr_of (chosen_in (pattern_view type_view pattern.now))) }
 {
-    chosen_in_kind(alloc, &pattern.kind)
+    let mut types = Vec::new(alloc);
+    add_chosen(alloc, pattern, &mut types)?;
+    Ok(types)
+}
+
+/// Adds the types that a pattern chooses.
+#[cycle(chosen)]
+fn add_chosen(
+    alloc: Global,
+    pattern: &Pattern<TypeRef>,
+    types: &mut Vec<TypeRepr>,
+) -> Result<(), NoMemory>
+    ensures { OnOk result (map repr_view types.new.items
+        ≡ map repr_view types.old.items ++ map repr_of (chosen_in (pattern_view type_view pattern.now))) }
+{
+    add_chosen_in(alloc, &pattern.kind, types)
 }
 
 #[cycle(chosen)]
-fn chosen_in_kind(alloc: Global, kind: &PatternKind<TypeRef>) -> Result<Vec<TypeRepr>, NoMemory>
-    ensures { IfOk result (λ ts. map repr_view ts.items ≡ map repr_of (chosen_in_kind (pattern_kind_view type_view kind.now))) }
+fn add_chosen_in(
+    alloc: Global,
+    kind: &PatternKind<TypeRef>,
+    types: &mut Vec<TypeRepr>,
+) -> Result<(), NoMemory>
+    ensures { OnOk result (map repr_view types.new.items
+        ≡ map repr_view types.old.items ++ map repr_of (chosen_in_kind (pattern_kind_view type_view kind.now))) }
 {
     match kind {
-        PatternKind::Choose(written) => one_type(alloc, written),
-        PatternKind::Enum(_, inner) => chosen_in_all(alloc, inner),
-        PatternKind::Struct(_, fields, _) => chosen_in_fields(alloc, fields),
-        PatternKind::Tuple(inner) => chosen_in_all(alloc, inner),
-        PatternKind::TupleStruct(_, inner) => chosen_in_all(alloc, inner),
+        PatternKind::Choose(written) => add_type(alloc, written, types),
+        PatternKind::Enum(_, inner) => add_chosen_in_all(alloc, inner, types),
+        PatternKind::Struct(_, fields, _) => add_chosen_in_fields(alloc, fields, types),
+        PatternKind::Tuple(inner) => add_chosen_in_all(alloc, inner, types),
+        PatternKind::TupleStruct(_, inner) => add_chosen_in_all(alloc, inner, types),
         PatternKind::Path(_)
         | PatternKind::Usize(_)
         | PatternKind::Underscore
         | PatternKind::DotDot
         | PatternKind::CharLiteral(_)
-        | PatternKind::String(_) => Ok(Vec::new(alloc)),
+        | PatternKind::String(_) => Ok(()),
     }
 }
 
-fn one_type(alloc: Global, written: &TypeRef) -> Result<Vec<TypeRepr>, NoMemory>
-    ensures { IfOk result (λ ts. map repr_view ts.items ≡ repr_of (type_view written.now) ∷ []) }
+fn add_type(alloc: Global, written: &TypeRef, types: &mut Vec<TypeRepr>) -> Result<(), NoMemory>
+    ensures { OnOk result (map repr_view types.new.items ≡ map repr_view types.old.items ++ repr_of (type_view written.now) ∷ []) }
 {
     let ty = lowered_type(alloc, written)?;
-    let mut types = Vec::new(alloc);
     types.push(ty)?;
-    Ok(types)
+    Ok(())
 }
 
 #[cycle(chosen)]
-fn chosen_in_all(alloc: Global, patterns: &[Pattern<TypeRef>]) -> Result<Vec<TypeRepr>, NoMemory>
-    ensures { IfOk result (λ ts. map repr_view ts.items ≡ map repr_of (chosen_in_all (patterns_view type_view patterns.now))) }
+fn add_chosen_in_all(
+    alloc: Global,
+    patterns: &[Pattern<TypeRef>],
+    types: &mut Vec<TypeRepr>,
+) -> Result<(), NoMemory>
+    ensures { OnOk result (map repr_view types.new.items
+        ≡ map repr_view types.old.items ++ map repr_of (chosen_in_all (patterns_view type_view patterns.now))) }
 {
-    let mut types = Vec::new(alloc);
     for pattern in patterns {
-        let mut inner = chosen_types(alloc, pattern)?;
-        types.append(&mut inner)?;
+        add_chosen(alloc, pattern, types)?;
     }
-    Ok(types)
+    Ok(())
 }
 
 #[cycle(chosen)]
-fn chosen_in_fields(
+fn add_chosen_in_fields(
     alloc: Global,
     fields: &[FieldPattern<TypeRef>],
-) -> Result<Vec<TypeRepr>, NoMemory>
-    ensures { IfOk result (λ ts. map repr_view ts.items ≡ map repr_of (chosen_in_fields (fields_view type_view fields.now))) }
+    types: &mut Vec<TypeRepr>,
+) -> Result<(), NoMemory>
+    ensures { OnOk result (map repr_view types.new.items
+        ≡ map repr_view types.old.items ++ map repr_of (chosen_in_fields (fields_view type_view fields.now))) }
 {
-    let mut types = Vec::new(alloc);
     for field in fields {
-        let mut inner = chosen_in_field(alloc, field)?;
-        types.append(&mut inner)?;
+        add_chosen_in_field(alloc, field, types)?;
     }
-    Ok(types)
+    Ok(())
 }
 
 #[cycle(chosen)]
-fn chosen_in_field(alloc: Global, field: &FieldPattern<TypeRef>) -> Result<Vec<TypeRepr>, NoMemory>
-    ensures { IfOk result (λ ts. map repr_view ts.items ≡ map repr_of (chosen_in (field_view type_view field.now).pattern)) }
+fn add_chosen_in_field(
+    alloc: Global,
+    field: &FieldPattern<TypeRef>,
+    types: &mut Vec<TypeRepr>,
+) -> Result<(), NoMemory>
+    ensures { OnOk result (map repr_view types.new.items
+        ≡ map repr_view types.old.items ++ map repr_of (chosen_in (field_view type_view field.now).pattern)) }
 {
-    chosen_types(alloc, &field.pattern)
+    add_chosen(alloc, &field.pattern, types)
 }
 
 /// Adds each row whose terminal is not listed yet.

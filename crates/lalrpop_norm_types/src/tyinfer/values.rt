@@ -10,7 +10,8 @@ ghost use Rattle.lalrpop_norm_model.specs.TypeRelation.{associated_in, is_parame
 ghost use Rattle.lalrpop_norm_model.specs.TypeTables.{path_value, both};
 ghost use Rattle.lalrpop_norm_types.specs.TableValues.{kind_in, part_in, type_in, types_in, return_in};
 
-use super::written::{function_type, lifetime_type, named_type};
+use super::same::is_same_name;
+use super::written::{applied_to, function_type, lifetime_type, named_type, reference_type};
 use lalrpop_norm_repr::grammar::repr::{NominalTypeRepr, TypeRepr, Types};
 use lalrpop_norm_tree::grammar::parse_tree::{
     Atom, Lifetime, NoMemory, Path, Symbol, SymbolKind, TypeParameter, TypeRef,
@@ -23,12 +24,9 @@ pub(crate) fn kind_value(types: &Types, kind: &SymbolKind) -> Result<Option<Type
     ensures { IfOk result (λ o. option_map repr_view o ≡ kind_in (type_table types.now) (kind_view kind.now)) }
 {
     match kind {
-        SymbolKind::Terminal(terminal) => Ok(Some(types.terminal_type(terminal).clone()?)),
-        SymbolKind::Error => Ok(Some(types.error_recovery_type().clone()?)),
-        SymbolKind::Nonterminal(name) => match types.lookup_nonterminal_type(name) {
-            Some(ty) => Ok(Some(ty.clone()?)),
-            None => Ok(None),
-        },
+        SymbolKind::Terminal(terminal) => copy_of(Some(types.terminal_type(terminal))),
+        SymbolKind::Error => copy_of(Some(types.error_recovery_type())),
+        SymbolKind::Nonterminal(name) => copy_of(types.lookup_nonterminal_type(name)),
         SymbolKind::Choose(inner) => symbol_value(types, inner),
         SymbolKind::Name(_, inner) => symbol_value(types, inner),
         SymbolKind::Tuple(_, inner) => symbol_value(types, inner),
@@ -48,11 +46,21 @@ fn symbol_value(types: &Types, symbol: &Symbol) -> Result<Option<TypeRepr>, NoMe
     kind_value(types, &symbol.kind)
 }
 
+/// A copy of the type that is there.
+pub(super) fn copy_of(ty: Option<&TypeRepr>) -> Result<Option<TypeRepr>, NoMemory>
+    ensures { IfOk result (λ o. option_map repr_view o ≡ option_map (λ t. repr_view t.now) ty.entry) }
+{
+    match ty {
+        Some(ty) => Ok(Some(ty.clone()?)),
+        None => Ok(None),
+    }
+}
+
 fn is_parameter_of(name: &Atom, parameter: &TypeParameter) -> bool
     ensures { result ≡ is_parameter_of name.now parameter.now }
 {
     match parameter {
-        TypeParameter::Id(id) => id == name,
+        TypeParameter::Id(id) => is_same_name(id, name),
         TypeParameter::Lifetime(_) => false,
     }
 }
@@ -167,11 +175,7 @@ fn reference_value(
         ≡ option_map (lowered.reference lifetime.now mutable) (type_in parameters.now (type_table types.now) (type_view inner.now))) }
 {
     match boxed_value(alloc, parameters, types, inner)? {
-        Some(referent) => Ok(Some(TypeRepr::Ref {
-            lifetime: lifetime.clone()?,
-            mutable,
-            referent,
-        })),
+        Some(referent) => Ok(Some(reference_type(lifetime, mutable, referent)?)),
         None => Ok(None),
     }
 }
@@ -205,10 +209,7 @@ fn path_value(
         (types_in parameters.now (type_table types.now) (types_view inner.now))) }
 {
     match associated(parameters, path) {
-        Some((parameter, id)) => Ok(Some(TypeRepr::Associated {
-            type_parameter: parameter.clone()?,
-            id: id.clone()?,
-        })),
+        Some((parameter, id)) => Ok(Some(associated_type(parameter, id)?)),
         None => nominal_value(alloc, parameters, types, path, inner),
     }
 }
@@ -225,10 +226,7 @@ fn applied_value(
         ≡ option_map (λ xs. (path_view path.now, xs)) (types_in parameters.now (type_table types.now) (types_view inner.now))) }
 {
     match all_values(alloc, parameters, types, inner)? {
-        Some(types) => {
-            let path = path.clone()?;
-            Ok(Some(NominalTypeRepr { path, types }))
-        }
+        Some(types) => Ok(Some(applied_to(path, types)?)),
         None => Ok(None),
     }
 }
@@ -265,6 +263,16 @@ fn object_value(
         Some(applied) => Ok(Some(TypeRepr::TraitObject(applied))),
         None => Ok(None),
     }
+}
+
+/// `T::Id`.
+fn associated_type(parameter: &Atom, id: &Atom) -> Result<TypeRepr, NoMemory>
+    ensures { IfOk result (λ r. repr_view r ≡ lowered.associated parameter.now id.now) }
+{
+    Ok(TypeRepr::Associated {
+        type_parameter: parameter.clone()?,
+        id: id.clone()?,
+    })
 }
 
 /// The type of a function over these types, if all are there.

@@ -103,10 +103,19 @@ fn lower_reference(
 ) -> Result<TypeRepr, NoMemory>
     ensures { IfOk result (λ r. repr_view r ≡ lowered.reference lifetime.now mutable (repr_of (type_view inner.now))) }
 {
-    let lifetime = lifetime.clone()?;
-    let referent = lower_boxed(alloc, inner)?;
+    reference_type(lifetime, mutable, lower_boxed(alloc, inner)?)
+}
+
+/// The reference type to that lowered one.
+pub(super) fn reference_type(
+    lifetime: &Option<Lifetime>,
+    mutable: bool,
+    referent: Box<TypeRepr>,
+) -> Result<TypeRepr, NoMemory>
+    ensures { IfOk result (λ r. repr_view r ≡ lowered.reference lifetime.now mutable (repr_view referent.value)) }
+{
     Ok(TypeRepr::Ref {
-        lifetime,
+        lifetime: lifetime.clone()?,
         mutable,
         referent,
     })
@@ -116,9 +125,17 @@ fn lower_reference(
 fn lower_applied(alloc: Global, path: &Path, types: &[TypeRef]) -> Result<NominalTypeRepr, NoMemory>
     ensures { IfOk result (λ n. applied_view n ≡ (path_view path.now, all_reprs_of (types_view types.now))) }
 {
-    let path = path.clone()?;
-    let types = lower_all(alloc, types)?;
-    Ok(NominalTypeRepr { path, types })
+    applied_to(path, lower_all(alloc, types)?)
+}
+
+/// The path over these lowered arguments.
+pub(super) fn applied_to(path: &Path, types: Vec<TypeRepr>) -> Result<NominalTypeRepr, NoMemory>
+    ensures { IfOk result (λ n. applied_view n ≡ (path_view path.now, reprs_view types.items)) }
+{
+    Ok(NominalTypeRepr {
+        path: path.clone()?,
+        types,
+    })
 }
 
 #[cycle(lower)]

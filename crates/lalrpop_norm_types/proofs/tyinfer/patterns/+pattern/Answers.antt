@@ -1,6 +1,8 @@
 use Rattle.std.proofs.Common.{arith}
 use Rattle.lalrpop_norm_faults.proofs.FaultLemmas.{exit_at}
-use Rattle.lalrpop_norm_types.proofs.MisfitLemmas.{tuple_is, as_many_is, not_as_many, next_misfits}
+use Rattle.lalrpop_norm_parts.specs.Reprs.{repr_view, reprs_view}
+use Rattle.lalrpop_norm_tree.specs.Symbols.{argument_patterns_view}
+use Rattle.lalrpop_norm_types.proofs.MisfitLemmas.{over_types, over_no_tuple, tuple_is, as_many_is, not_as_many, next_misfits}
 use Rattle.lalrpop_norm_types.proofs.tyinfer.patterns.+pattern.Goals as goal
 
 pub check_parts-returns-then-given-wanted : goal.check_parts-returns-then-given-wanted
@@ -18,3 +20,9 @@ check_each-returns-in_err-check_pattern t c =
 
 pub check_names-returns : goal.check_names-returns
 check_names-returns t c = rw (tuple_is c.args.tuple.now) (rw c.deref.ensures.value at c.check_tuple.ensures)
+
+pub check_tuple-returns-in-Some : goal.check_tuple-returns-in-Some
+check_tuple-returns-in-Some t c = over_types _ _ (repr_view c.args.ty.now) (reprs_view c.in-Some.types.now) _ c.in-Some.ensures c.check_parts.ensures
+
+pub check_tuple-returns-in-None : goal.check_tuple-returns-in-None
+check_tuple-returns-in-None t c = rw (over_no_tuple c.args.span (argument_patterns_view c.args.patterns.now) (repr_view c.args.ty.now) c.in-None.ensures) c.refusal.ensures.first

@@ -8,14 +8,12 @@ use Rattle.lalrpop_norm_model.specs.TerminalTypes.{chosen_in, chosen_in_all, cho
 use Rattle.lalrpop_norm_types.proofs.TokenLemmas.{next_chosen}
 use Rattle.lalrpop_norm_types.proofs.tyinfer.tokens.+chosen.Goals as goal
 
-pub chosen_in_all-loop-pattern-preserved : goal.chosen_in_all-loop-pattern-preserved
-chosen_in_all-loop-pattern-preserved t c =
-    rw c.in_ok-append.ensures.items
-    (next_chosen (λ (ps : List (Pattern TypeRef)). chosen_in_all (patterns_view type_view ps)) (λ (p : Pattern TypeRef). chosen_in (pattern_view type_view p)) (λ p ps. refl)
-    c.args.patterns.now c.loop-pattern.pattern-index c.pattern-item.result c.loop-pattern.types.items c.in_ok-inner.inner.items _ (omega arith) c.pattern-item.is c.in_ok-inner.ensures c.loop-pattern.invariant)
+pub add_chosen_in_all-loop-pattern-preserved : goal.add_chosen_in_all-loop-pattern-preserved
+add_chosen_in_all-loop-pattern-preserved t c =
+    next_chosen (λ (ps : List (Pattern TypeRef)). chosen_in_all (patterns_view type_view ps)) (λ (p : Pattern TypeRef). chosen_in (pattern_view type_view p)) (λ p ps. refl)
+    c.args.patterns.now c.loop-pattern.pattern-index c.pattern-item.result c.loop-pattern.types.items c.add_chosen.new.types.items _ (omega arith) c.pattern-item.is c.in_ok-add_chosen.ensures c.loop-pattern.invariant
 
-pub chosen_in_fields-loop-field-preserved : goal.chosen_in_fields-loop-field-preserved
-chosen_in_fields-loop-field-preserved t c =
-    rw c.in_ok-append.ensures.items
-    (next_chosen (λ (fs : List (FieldPattern TypeRef)). chosen_in_fields (fields_view type_view fs)) (λ (f : FieldPattern TypeRef). chosen_in (field_view type_view f).pattern) (λ f fs. refl)
-    c.args.fields.now c.loop-field.field-index c.field-item.result c.loop-field.types.items c.in_ok-inner.inner.items _ (omega arith) c.field-item.is c.in_ok-inner.ensures c.loop-field.invariant)
+pub add_chosen_in_fields-loop-field-preserved : goal.add_chosen_in_fields-loop-field-preserved
+add_chosen_in_fields-loop-field-preserved t c =
+    next_chosen (λ (fs : List (FieldPattern TypeRef)). chosen_in_fields (fields_view type_view fs)) (λ (f : FieldPattern TypeRef). chosen_in (field_view type_view f).pattern) (λ f fs. refl)
+    c.args.fields.now c.loop-field.field-index c.field-item.result c.loop-field.types.items c.add_chosen_in_field.new.types.items _ (omega arith) c.field-item.is c.in_ok-add_chosen_in_field.ensures c.loop-field.invariant
