@@ -1,4 +1,7 @@
+pub mod LoopLemmas
+pub mod NamingLemmas
 pub mod PatternLemmas
+pub mod PatternLevels
 pub mod ArgumentLemmas
 pub mod CodeLemmas
 pub mod TableLemmas

@@ -1,9 +1,15 @@
 -- The names and patterns of sources, counted along the symbols.
 use Rattle.std.specs.Prelude.{ℕ, ◌+◌, Bool, true, false, ◌||◌, List, [], ◌∷◌, unwrap_or, if◌then◌else◌, codes}
-use Rattle.lalrpop_norm_tree.specs.Symbols.{ArgumentPattern, Part, Parts, no_parts, part_and}
+use Rattle.lalrpop_norm_tree.specs.Symbols.{ArgumentPattern, Kind, named, tupled, Part, Parts, no_parts, part_and}
 use Rattle.lalrpop_norm_model.specs.MadeRules.{some_name_value}
 use Rattle.lalrpop_norm_late.specs.Arguments.{has_pattern, written_pattern, name_given}
 use Rattle.lalrpop_norm_late.specs.Sources.{is_chosen, source_name, plain_name}
+
+-- a name, or a tuple of names, stands before the symbol
+abbrev pub is_naming : Kind → Bool
+is_naming (named n p) = true
+is_naming (tupled ns p) = true
+is_naming k = false
 
 abbrev pub has_chosen : Parts → Bool
 has_chosen no_parts = false

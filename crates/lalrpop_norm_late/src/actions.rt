@@ -7,6 +7,7 @@ ghost use Rattle.lalrpop_norm_model.specs.LoweringFaults.{number_faults};
 ghost use Rattle.lalrpop_norm_repr.specs.Tables.{type_table};
 ghost use Rattle.lalrpop_norm_late.specs.Lowering.{is_fallible, type_or_unit};
 
+use crate::typing::unit_type;
 use lalrpop_norm_front::{FaultKind, NormResult, refusal};
 use lalrpop_norm_repr::grammar::repr::{ActionFn, ActionFnDefn, Symbol, TypeRepr, Types};
 use lalrpop_norm_tree::grammar::parse_tree::{ActionKind, NoMemory, Span};
@@ -69,7 +70,7 @@ fn type_or_unit(alloc: Global, types: &Types, symbol: &Symbol) -> Result<TypeRep
         Symbol::Terminal(terminal) => Ok(types.terminal_type(terminal).clone()?),
         Symbol::Nonterminal(name) => match types.lookup_nonterminal_type(name) {
             Some(ty) => Ok(ty.clone()?),
-            None => Ok(TypeRepr::Tuple(Vec::new(alloc))),
+            None => Ok(unit_type(alloc)),
         },
     }
 }

@@ -39,11 +39,45 @@ pub(crate) fn lower_alternative(
         ≡ map action_defn_view actions.old.items ++ made_action prefix.now (type_table types.now) (repr_view ty.now) (alternative_view alternative.now) ∷ []) }
     ensures count { OnOk result (vec_len actions.new ≡ vec_len actions.old + 1) }
 {
+    let action = action_of(alloc, alternative, actions)?;
+    Ok(add_production(alloc, prefix, types, name, ty, alternative, action, actions)?)
+}
+
+/// The number of an alternative's action.
+fn action_of(
+    alloc: Global,
+    alternative: &Alternative,
+    actions: &[ActionFnDefn],
+) -> NormResult<ActionFn>
+    ensures refuses { Refuses result (code_faults (alternative_view alternative.now) ++ number_faults (length actions.now) alternative.now.span) }
+    ensures number { IfOk result (λ a. a ≡ record { 0 = length actions.now }) }
+    ensures counted { OnOk result (code_faults (alternative_view alternative.now) ≡ []) }
+{
     check_code(alloc, alternative)?;
-    let action = next_action(alloc, actions, alternative.span)?;
+    next_action(alloc, actions, alternative.span)
+}
+
+/// The production of an alternative whose action has that number. The action is added.
+fn add_production(
+    alloc: Global,
+    prefix: &str,
+    types: &Types,
+    name: &NonterminalString,
+    ty: &TypeRepr,
+    alternative: &Alternative,
+    action: ActionFn,
+    actions: &mut Vec<ActionFnDefn>,
+) -> Result<Production, NoMemory>
+    requires counted { code_faults (alternative_view alternative.now) ≡ [] }
+    ensures lowered { IfOk result (λ p. production_view p
+        ≡ record { nonterminal = name.now; symbols = lowered_symbols (expr_view alternative.now.expr); action = action; span = alternative.now.span }) }
+    ensures adds { OnOk result (map action_defn_view actions.new.items
+        ≡ map action_defn_view actions.old.items ++ made_action prefix.now (type_table types.now) (repr_view ty.now) (alternative_view alternative.now) ∷ []) }
+    ensures count { OnOk result (vec_len actions.new ≡ vec_len actions.old + 1) }
+{
     let symbols = lowered_symbols(alloc, &alternative.expr.symbols)?;
     add_made_action(alloc, prefix, types, ty, alternative, &symbols, actions)?;
-    Ok(production_with(name, symbols, action, alternative.span)?)
+    production_with(name, symbols, action, alternative.span)
 }
 
 /// Adds the action of an alternative with these symbols.

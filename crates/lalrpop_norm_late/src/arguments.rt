@@ -1,10 +1,10 @@
 //! The arguments of an action: which symbols its code gets, and their names.
 ghost use Rattle.std.specs.Prelude.{◌≡◌, ◌++◌, IfOk, map, string_bytes};
-ghost use Rattle.lalrpop_norm_tree.specs.Symbols.{symbol_view, parts_view, argument_pattern_view};
+ghost use Rattle.lalrpop_norm_tree.specs.Symbols.{kind_view, symbol_view, parts_view, argument_pattern_view};
 ghost use Rattle.lalrpop_norm_model.specs.MadeRules.{names_value, some_name_value};
 ghost use Rattle.lalrpop_norm_late.specs.Arguments.{has_pattern, name_given};
-ghost use Rattle.lalrpop_norm_late.specs.Sources.{is_chosen, source_name, plain_name};
-ghost use Rattle.lalrpop_norm_late.specs.Naming.{has_chosen, is_source, source_pattern, argument_patterns, source_names};
+ghost use Rattle.lalrpop_norm_late.specs.Sources.{is_chosen, is_chosen_kind, source_name, plain_name};
+ghost use Rattle.lalrpop_norm_late.specs.Naming.{is_naming, has_chosen, is_source, source_pattern, argument_patterns, source_names};
 
 use lalrpop_norm_tree::grammar::parse_tree::{
     ArgPattern, Atom, Name, NoMemory, Symbol, SymbolKind,
@@ -126,7 +126,13 @@ fn has_pattern(symbol: &Symbol) -> bool
     ensures shown { result ≡ has_pattern (symbol_view symbol.now) }
     ensures named { result ≡ names_value (symbol_view symbol.now) }
 {
-    match &symbol.kind {
+    is_naming(&symbol.kind)
+}
+
+fn is_naming(kind: &SymbolKind) -> bool
+    ensures { result ≡ is_naming (kind_view kind.now) }
+{
+    match kind {
         SymbolKind::Name(_, _) | SymbolKind::Tuple(_, _) => true,
         SymbolKind::Expr(_)
         | SymbolKind::AmbiguousId(_)
@@ -155,7 +161,13 @@ fn has_chosen(symbols: &[Symbol]) -> bool
 fn is_chosen(symbol: &Symbol) -> bool
     ensures { result ≡ is_chosen (symbol_view symbol.now) }
 {
-    match &symbol.kind {
+    is_chosen_kind(&symbol.kind)
+}
+
+fn is_chosen_kind(kind: &SymbolKind) -> bool
+    ensures { result ≡ is_chosen_kind (kind_view kind.now) }
+{
+    match kind {
         SymbolKind::Choose(_) => true,
         SymbolKind::Expr(_)
         | SymbolKind::AmbiguousId(_)

@@ -85,10 +85,10 @@ fn user_body(
         action_kind_view k ≡ user_body prefix.now (type_table types.now) (repr_view ty.now) (alternative_view alternative.now)) }
 {
     let arguments = arguments_of(alloc, prefix, &alternative.expr.symbols)?;
-    let arg_types = symbol_types(alloc, types, symbols)?;
     let is_named = has_names(&alternative.expr.symbols);
     let written = written_code(ty, &arguments.names, &alternative.action);
     let code = filled(alloc, is_named, &arguments.names, written)?;
+    let arg_types = symbol_types(alloc, types, symbols)?;
     Ok(ActionFnDefnKind::User(UserActionFnDefn {
         arg_patterns: arguments.patterns,
         arg_types,

@@ -1,6 +1,7 @@
 //! Where clauses, one for each bound.
 ghost use Rattle.std.specs.Prelude.{◌≡◌, ◌++◌, [], ◌∷◌, IfOk, OnOk, flat_map, map, option_map};
-ghost use Rattle.lalrpop_norm_parts.specs.Bounds.{bound_parameter_view, bound_view, lifetime_bound, where_clause_view};
+ghost use Rattle.lalrpop_norm_parts.specs.Bounds.{bound_parameter_view, bound_view, function_bound, lifetime_bound, trait_bound, where_clause_view};
+ghost use Rattle.lalrpop_norm_parts.specs.Paths.{path_view};
 ghost use Rattle.lalrpop_norm_parts.specs.Reprs.{repr_view, lowered_where_clause_view, of_lifetime, has_bound};
 ghost use Rattle.lalrpop_norm_tree.specs.Types.{type_view};
 ghost use Rattle.lalrpop_norm_late.specs.Carried.{under};
@@ -12,7 +13,7 @@ use lalrpop_norm_parts::names::copy::copy_type_parameters;
 use lalrpop_norm_repr::grammar::repr::{TypeRepr, WhereClause};
 use lalrpop_norm_tree::grammar::parse_tree as pt;
 use lalrpop_norm_tree::grammar::parse_tree::{
-    Lifetime, NoMemory, TypeBound, TypeBoundParameter, TypeParameter, TypeRef,
+    Lifetime, NoMemory, Path, TypeBound, TypeBoundParameter, TypeParameter, TypeRef,
 };
 use std::alloc::Global;
 
@@ -55,11 +56,24 @@ fn add_lifetimes(
         ≡ map lowered_where_clause_view lowered.old.items ++ map (λ m. has_bound (of_lifetime lifetime.now) (lifetime_bound m)) bounds.now) }
 {
     for bound in bounds {
-        let subject = TypeRepr::Lifetime(lifetime.clone()?);
-        let bound = TypeBound::Lifetime(bound.clone()?);
-        lowered.push(WhereClause::Bound { subject, bound })?;
+        lowered.push(outlives(lifetime, bound)?)?;
     }
     Ok(())
+}
+
+/// That a lifetime outlives another one.
+fn outlives(lifetime: &Lifetime, bound: &Lifetime) -> Result<WhereClause, NoMemory>
+    ensures { IfOk result (λ c. lowered_where_clause_view c ≡ has_bound (of_lifetime lifetime.now) (lifetime_bound bound.now)) }
+{
+    let lifetime = lifetime.clone()?;
+    let bound = bound.clone()?;
+    Ok(clause_of(TypeRepr::Lifetime(lifetime), TypeBound::Lifetime(bound)))
+}
+
+fn clause_of(subject: TypeRepr, bound: TypeBound<TypeRepr>) -> WhereClause
+    ensures { lowered_where_clause_view result ≡ has_bound (repr_view subject) (bound_view repr_view bound) }
+{
+    WhereClause::Bound { subject, bound }
 }
 
 fn add_bounds(
@@ -89,15 +103,24 @@ fn clause_under(
     ensures { IfOk result (λ c. lowered_where_clause_view c
         ≡ under forall.now.items (has_bound (lowered_type (type_view ty.now)) (made_bound (bound_view type_view bound.now)))) }
 {
-    let subject = lowered_type(alloc, ty)?;
-    let bound = lowered_bound(alloc, bound)?;
-    let clause = WhereClause::Bound { subject, bound };
     if forall.is_empty() {
-        return Ok(clause);
+        return plain_clause(alloc, ty, bound);
     }
     let binder = copy_type_parameters(forall)?;
-    let clause = Box::new(alloc, clause)?;
+    let clause = Box::new(alloc, plain_clause(alloc, ty, bound)?)?;
     Ok(WhereClause::Forall { binder, clause })
+}
+
+/// The clause of one bound, without a `for<..>`.
+fn plain_clause(
+    alloc: Global,
+    ty: &TypeRef,
+    bound: &TypeBound<TypeRef>,
+) -> Result<WhereClause, NoMemory>
+    ensures { IfOk result (λ c. lowered_where_clause_view c ≡ has_bound (lowered_type (type_view ty.now)) (made_bound (bound_view type_view bound.now))) }
+{
+    let subject = lowered_type(alloc, ty)?;
+    Ok(clause_of(subject, lowered_bound(alloc, bound)?))
 }
 
 fn lowered_bound(alloc: Global, bound: &TypeBound<TypeRef>) -> Result<TypeBound<TypeRepr>, NoMemory>
@@ -111,32 +134,53 @@ fn lowered_bound(alloc: Global, bound: &TypeBound<TypeRef>) -> Result<TypeBound<
             parameters,
             ret,
         } => {
-            let forall = copy_type_parameters(forall)?;
-            let path = path.clone()?;
-            let parameters = lowered_types(alloc, parameters)?;
             let ret = lowered_return(alloc, ret)?;
-            Ok(TypeBound::Fn {
-                forall,
-                path,
-                parameters,
-                ret,
-            })
+            function_bound(forall, path, lowered_types(alloc, parameters)?, ret)
         }
         TypeBound::Trait {
             forall,
             path,
             parameters,
-        } => {
-            let forall = copy_type_parameters(forall)?;
-            let path = path.clone()?;
-            let parameters = lowered_parameters(alloc, parameters)?;
-            Ok(TypeBound::Trait {
-                forall,
-                path,
-                parameters,
-            })
-        }
+        } => trait_bound(forall, path, lowered_parameters(alloc, parameters)?),
     }
+}
+
+/// The bound by a function over these lowered types.
+fn function_bound(
+    forall: &Vec<TypeParameter>,
+    path: &Path,
+    parameters: Vec<TypeRepr>,
+    ret: Option<TypeRepr>,
+) -> Result<TypeBound<TypeRepr>, NoMemory>
+    ensures { IfOk result (λ b. bound_view repr_view b
+        ≡ function_bound forall.now.items (path_view path.now) (map repr_view parameters.items) (option_map repr_view ret)) }
+{
+    let forall = copy_type_parameters(forall)?;
+    let path = path.clone()?;
+    Ok(TypeBound::Fn {
+        forall,
+        path,
+        parameters,
+        ret,
+    })
+}
+
+/// The bound by a trait over these lowered parameters.
+fn trait_bound(
+    forall: &Vec<TypeParameter>,
+    path: &Path,
+    parameters: Vec<TypeBoundParameter<TypeRepr>>,
+) -> Result<TypeBound<TypeRepr>, NoMemory>
+    ensures { IfOk result (λ b. bound_view repr_view b
+        ≡ trait_bound forall.now.items (path_view path.now) (map (bound_parameter_view repr_view) parameters.items)) }
+{
+    let forall = copy_type_parameters(forall)?;
+    let path = path.clone()?;
+    Ok(TypeBound::Trait {
+        forall,
+        path,
+        parameters,
+    })
 }
 
 fn lowered_types(alloc: Global, types: &[TypeRef]) -> Result<Vec<TypeRepr>, NoMemory>

@@ -2,6 +2,7 @@
 ghost use Rattle.std.specs.Prelude.{◌≡◌, ◌+◌, ◌++◌, [], ◌∷◌, length, IfOk, OnOk, map, vec_len};
 ghost use Rattle.lalrpop_norm_faults.specs.Faults.{Refuses};
 ghost use Rattle.lalrpop_norm_parts.specs.Attributes.{no_attributes};
+ghost use Rattle.lalrpop_norm_parts.specs.Reprs.{repr_view};
 ghost use Rattle.lalrpop_norm_tree.specs.Items.{rule_view};
 ghost use Rattle.lalrpop_norm_model.specs.LoweringFaults.{start_faults, number_faults};
 ghost use Rattle.lalrpop_norm_repr.specs.Actions.{action_defn_view};
@@ -14,7 +15,9 @@ use crate::alternatives::{lower_alternative, lower_alternatives};
 use crate::starts::{insert, rule_type, start_alternative, start_name};
 use lalrpop_norm_front::{FaultKind, NormResult, refusal};
 use lalrpop_norm_parts::attribute::copy::copy_attributes;
-use lalrpop_norm_repr::grammar::repr::{ActionFnDefn, NonterminalData, Production, Types};
+use lalrpop_norm_repr::grammar::repr::{
+    ActionFnDefn, NonterminalData, Production, TypeRepr, Types,
+};
 use lalrpop_norm_tree::grammar::parse_tree as pt;
 use lalrpop_norm_tree::grammar::parse_tree::{NoMemory, NonterminalString};
 use std::alloc::Global;
@@ -80,8 +83,28 @@ fn start_production(
     ensures count { OnOk result (vec_len actions.new ≡ vec_len actions.old + 1) }
 {
     let ty = rule_type(alloc, types, rule)?;
+    production_of_start(alloc, prefix, types, rule, name, &ty, actions)
+}
+
+/// The same, where the rule has that type.
+fn production_of_start(
+    alloc: Global,
+    prefix: &str,
+    types: &Types,
+    rule: &pt::NonterminalData,
+    name: &NonterminalString,
+    ty: &TypeRepr,
+    actions: &mut Vec<ActionFnDefn>,
+) -> NormResult<Production>
+    ensures refuses { Refuses result (number_faults (vec_len actions.old) rule.now.span) }
+    ensures lowered { IfOk result (λ p.
+        production_view p ≡ production_of name.now (vec_len actions.old) (start_alternative (rule_view rule.now))) }
+    ensures adds { OnOk result (map action_defn_view actions.new.items ≡ map action_defn_view actions.old.items
+        ++ made_action prefix.now (type_table types.now) (repr_view ty.now) (start_alternative (rule_view rule.now)) ∷ []) }
+    ensures count { OnOk result (vec_len actions.new ≡ vec_len actions.old + 1) }
+{
     let alternative = start_alternative(alloc, rule)?;
-    lower_alternative(alloc, prefix, types, name, &ty, &alternative, actions)
+    lower_alternative(alloc, prefix, types, name, ty, &alternative, actions)
 }
 
 /// The nonterminal of a start symbol with that one production.

@@ -1,13 +1,14 @@
 //! The patterns of conversions.
 ghost use Rattle.std.specs.Prelude.{◌≡◌, IfOk, map};
-ghost use Rattle.lalrpop_norm_parts.specs.Patterns.{pattern_view, pattern_kind_view, patterns_view, field_view, fields_view};
+ghost use Rattle.lalrpop_norm_parts.specs.Paths.{path_view};
+ghost use Rattle.lalrpop_norm_parts.specs.Patterns.{pattern_view, pattern_kind_view, patterns_view, field_view, fields_view, enumerated, structured, tuple_struct};
 ghost use Rattle.lalrpop_norm_parts.specs.Reprs.{repr_view};
 ghost use Rattle.lalrpop_norm_tree.specs.Types.{type_view};
 ghost use Rattle.lalrpop_norm_late.specs.Conversions.{mapped, mapped_kind, mapped_patterns, mapped_fields, mapped_field};
 ghost use Rattle.lalrpop_norm_late.specs.Typing.{lowered_type};
 
 use crate::typing::lowered_type;
-use lalrpop_norm_tree::grammar::parse_tree::{NoMemory, TypeRef};
+use lalrpop_norm_tree::grammar::parse_tree::{Atom, NoMemory, Path, Span, TypeRef};
 use lalrpop_norm_tree::grammar::pattern::{FieldPattern, Pattern, PatternKind};
 use lalrpop_norm_tree::grammar::repr::TypeRepr;
 use std::alloc::Global;
@@ -35,19 +36,14 @@ fn lowered_kind(
     ensures { IfOk result (λ k. pattern_kind_view repr_view k ≡ mapped_kind lowered_type (pattern_kind_view type_view kind.now)) }
 {
     match kind {
-        PatternKind::Enum(path, inner) => {
-            let path = path.clone()?;
-            Ok(PatternKind::Enum(path, lowered_patterns(alloc, inner)?))
-        }
+        PatternKind::Enum(path, inner) => enumerated(path, lowered_patterns(alloc, inner)?),
         PatternKind::Struct(path, fields, rest) => {
-            let path = path.clone()?;
-            Ok(PatternKind::Struct(path, lowered_fields(alloc, fields)?, *rest))
+            structured(path, lowered_fields(alloc, fields)?, *rest)
         }
         PatternKind::Path(path) => Ok(PatternKind::Path(path.clone()?)),
         PatternKind::Tuple(inner) => Ok(PatternKind::Tuple(lowered_patterns(alloc, inner)?)),
         PatternKind::TupleStruct(path, inner) => {
-            let path = path.clone()?;
-            Ok(PatternKind::TupleStruct(path, lowered_patterns(alloc, inner)?))
+            tuple_struct(path, lowered_patterns(alloc, inner)?)
         }
         PatternKind::Usize(n) => Ok(PatternKind::Usize(*n)),
         PatternKind::Underscore => Ok(PatternKind::Underscore),
@@ -56,6 +52,34 @@ fn lowered_kind(
         PatternKind::CharLiteral(text) => Ok(PatternKind::CharLiteral(text.clone()?)),
         PatternKind::String(text) => Ok(PatternKind::String(text.clone()?)),
     }
+}
+
+fn enumerated(path: &Path, inner: Vec<Pattern<TypeRepr>>) -> Result<PatternKind<TypeRepr>, NoMemory>
+    ensures { IfOk result (λ k. pattern_kind_view repr_view k ≡ enumerated (path_view path.now) (patterns_view repr_view inner.items)) }
+{
+    let path = path.clone()?;
+    Ok(PatternKind::Enum(path, inner))
+}
+
+fn structured(
+    path: &Path,
+    fields: Vec<FieldPattern<TypeRepr>>,
+    rest: bool,
+) -> Result<PatternKind<TypeRepr>, NoMemory>
+    ensures { IfOk result (λ k. pattern_kind_view repr_view k ≡ structured (path_view path.now) (fields_view repr_view fields.items) rest) }
+{
+    let path = path.clone()?;
+    Ok(PatternKind::Struct(path, fields, rest))
+}
+
+fn tuple_struct(
+    path: &Path,
+    inner: Vec<Pattern<TypeRepr>>,
+) -> Result<PatternKind<TypeRepr>, NoMemory>
+    ensures { IfOk result (λ k. pattern_kind_view repr_view k ≡ tuple_struct (path_view path.now) (patterns_view repr_view inner.items)) }
+{
+    let path = path.clone()?;
+    Ok(PatternKind::TupleStruct(path, inner))
 }
 
 #[cycle(lowered)]
@@ -93,10 +117,23 @@ fn lowered_field(
 ) -> Result<FieldPattern<TypeRepr>, NoMemory>
     ensures { IfOk result (λ f. field_view repr_view f ≡ mapped_field lowered_type (field_view type_view field.now)) }
 {
-    let field_name = field.field_name.clone()?;
-    let pattern = lowered_pattern(alloc, &field.pattern)?;
+    field_with(
+        field.field_span,
+        &field.field_name,
+        lowered_pattern(alloc, &field.pattern)?,
+    )
+}
+
+fn field_with(
+    span: Span,
+    name: &Atom,
+    pattern: Pattern<TypeRepr>,
+) -> Result<FieldPattern<TypeRepr>, NoMemory>
+    ensures { IfOk result (λ f. field_view repr_view f ≡ record { span = span; name = name.now; pattern = pattern_view repr_view pattern }) }
+{
+    let field_name = name.clone()?;
     Ok(FieldPattern {
-        field_span: field.field_span,
+        field_span: span,
         field_name,
         pattern,
     })

@@ -1,5 +1,6 @@
 //! The rules of a grammar, in item order.
-ghost use Rattle.std.specs.Prelude.{◌≡◌, IfOk, map};
+ghost use Rattle.std.specs.Prelude.{◌≡◌, [], ◌∷◌, ◌++◌, IfOk, OnOk, map, option_to_list};
+ghost use Rattle.lalrpop_norm_tree.specs.Accessors.{rule_of};
 ghost use Rattle.lalrpop_norm_tree.specs.Items.{rule_view, item_view};
 ghost use Rattle.lalrpop_norm_late.specs.Lowering.{rules_of, public_rules};
 
@@ -15,15 +16,24 @@ pub(crate) fn rules_of(
 {
     let mut rules = Vec::new(alloc);
     for item in items {
-        match item {
-            GrammarItem::Nonterminal(rule) => rules.push(rule)?,
-            GrammarItem::MatchToken(_)
-            | GrammarItem::ExternToken(_)
-            | GrammarItem::InternToken(_)
-            | GrammarItem::Use(_) => {}
-        }
+        add_rule(&mut rules, item)?;
     }
     Ok(rules)
+}
+
+/// Adds an item that is a rule.
+fn add_rule<'g>(rules: &mut Vec<&'g NonterminalData>, item: &'g GrammarItem) -> Result<(), NoMemory>
+    ensures { OnOk result (map (λ r. rule_view r.now) rules.new.items
+        ≡ map (λ r. rule_view r.now) rules.old.items ++ option_to_list (rule_of (item_view item.now))) }
+{
+    match item {
+        GrammarItem::Nonterminal(rule) => rules.push(rule)?,
+        GrammarItem::MatchToken(_)
+        | GrammarItem::ExternToken(_)
+        | GrammarItem::InternToken(_)
+        | GrammarItem::Use(_) => {}
+    }
+    Ok(())
 }
 
 /// The public ones among the rules.
@@ -35,9 +45,21 @@ pub(crate) fn public_rules<'g>(
 {
     let mut chosen = Vec::new(alloc);
     for rule in rules {
-        if rule.visibility.is_pub() {
-            chosen.push(*rule)?;
-        }
+        add_public(&mut chosen, *rule)?;
     }
     Ok(chosen)
+}
+
+/// Adds a rule that is public.
+fn add_public<'g>(
+    chosen: &mut Vec<&'g NonterminalData>,
+    rule: &'g NonterminalData,
+) -> Result<(), NoMemory>
+    ensures { OnOk result (map (λ r. rule_view r.now) chosen.new.items
+        ≡ map (λ r. rule_view r.now) chosen.old.items ++ public_rules (rule_view rule.now ∷ [])) }
+{
+    if rule.visibility.is_pub() {
+        chosen.push(rule)?;
+    }
+    Ok(())
 }

@@ -1,5 +1,5 @@
 //! The parts of nonterminals: the types of rules, and the start symbols of public ones.
-ghost use Rattle.std.specs.Prelude.{◌≡◌, [], IfOk, OnOk, map};
+ghost use Rattle.std.specs.Prelude.{◌≡◌, [], ◌++◌, IfOk, OnOk, map, string_bytes};
 ghost use Rattle.lalrpop_norm_tree.specs.Items.{alternative_view, rule_view};
 ghost use Rattle.lalrpop_norm_parts.specs.Reprs.{repr_view};
 ghost use Rattle.lalrpop_norm_tree.specs.Symbols.{expr_view, symbol_view, nonterminal, at, part_and, no_parts};
@@ -7,6 +7,7 @@ ghost use Rattle.lalrpop_norm_repr.specs.Productions.{nonterminal_data_view};
 ghost use Rattle.lalrpop_norm_repr.specs.Tables.{type_table, rows};
 ghost use Rattle.lalrpop_norm_late.specs.Lowering.{rule_type, start_name, start_names, start_alternative, with_row, sorted_onto};
 
+use crate::typing::unit_type;
 use lalrpop_norm_repr::grammar::repr::{NonterminalData, TypeRepr, Types};
 use lalrpop_norm_tree::grammar::parse_tree as pt;
 use lalrpop_norm_tree::grammar::parse_tree::{
@@ -25,7 +26,7 @@ pub(crate) fn rule_type(
 {
     match types.lookup_nonterminal_type(&rule.name) {
         Some(ty) => Ok(ty.clone()?),
-        None => Ok(TypeRepr::Tuple(Vec::new(alloc))),
+        None => Ok(unit_type(alloc)),
     }
 }
 
@@ -37,8 +38,16 @@ pub(crate) fn start_name(
 ) -> Result<NonterminalString, NoMemory>
     ensures { IfOk result (λ n. n ≡ start_name prefix.now name.now) }
 {
-    let text = format!(in alloc; "{prefix}{name}")?;
-    Ok(NonterminalString(Atom::new(alloc, text.as_str())?))
+    let text = start_text(alloc, prefix, name)?;
+    let name = Atom::new(alloc, text.as_str())?;
+    Ok(NonterminalString(name))
+}
+
+/// The text of that name.
+fn start_text(alloc: Global, prefix: &str, name: &NonterminalString) -> Result<String, NoMemory>
+    ensures { IfOk result (λ s. string_bytes s ≡ prefix.now ++ name.now.0) }
+{
+    Ok(format!(in alloc; "{prefix}{name}")?)
 }
 
 /// The one alternative of a start symbol: the rule's name.

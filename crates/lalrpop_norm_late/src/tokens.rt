@@ -5,7 +5,7 @@ ghost use Rattle.std.specs.Map.{keys_of};
 ghost use Rattle.lalrpop_norm_tree.specs.Items.{conversion_view, grammar_view, item_view};
 ghost use Rattle.lalrpop_norm_tree.specs.LoweredTypes.{named_path};
 ghost use Rattle.lalrpop_norm_parts.specs.Paths.{path_view};
-ghost use Rattle.lalrpop_norm_parts.specs.Patterns.{pattern_view, pattern_at, number, chosen};
+ghost use Rattle.lalrpop_norm_parts.specs.Patterns.{pattern_view, patterns_view, pattern_at, pattern_and, no_patterns, number, chosen};
 ghost use Rattle.lalrpop_norm_parts.specs.Reprs.{repr_view};
 ghost use Rattle.lalrpop_norm_front.specs.Sessions.{features_view};
 ghost use Rattle.lalrpop_norm_repr.specs.Tables.{rows};
@@ -110,8 +110,11 @@ fn add_conversions<L>(
 {
     for conversion in conversions {
         if cfg_active(session, &conversion.attributes) {
-            let pattern = lowered_pattern(alloc, &conversion.to)?;
-            add_token(tokens, &conversion.from, pattern)?;
+            add_token(
+                tokens,
+                &conversion.from,
+                lowered_pattern(alloc, &conversion.to)?,
+            )?;
         }
     }
     Ok(())
@@ -147,8 +150,7 @@ fn add_entry(
 {
     match &entry.user_name {
         MatchMapping::Terminal(terminal) => {
-            let pattern = internal_pattern(alloc, span, index)?;
-            add_token(tokens, terminal, pattern)
+            add_token(tokens, terminal, internal_pattern(alloc, span, index)?)
         }
         MatchMapping::Skip => Ok(()),
     }
@@ -163,10 +165,8 @@ fn add_token(
     ensures patterns { OnOk result (rows (pattern_view repr_view) tokens.new.patterns
         ≡ insert_entry terminal_cmp (rows (pattern_view repr_view) tokens.old.patterns) terminal.now (pattern_view repr_view pattern)) }
 {
-    let in_order = terminal.clone()?;
-    let key = terminal.clone()?;
-    tokens.all.push(in_order)?;
-    insert(&mut tokens.patterns, key, pattern)?;
+    insert(&mut tokens.patterns, terminal.clone()?, pattern)?;
+    tokens.all.push(terminal.clone()?)?;
     Ok(())
 }
 
@@ -175,14 +175,19 @@ fn internal_pattern(alloc: Global, span: Span, index: usize) -> Result<Pattern<T
     ensures { IfOk result (λ p. pattern_view repr_view p ≡ internal_pattern span index) }
 {
     let path = token_path(alloc)?;
-    let text = input_type(alloc)?;
+    let inner = listed(alloc, span, index)?;
+    Ok(at(span, PatternKind::TupleStruct(path, inner)))
+}
+
+/// `i, <&'input str>`
+fn listed(alloc: Global, span: Span, index: usize) -> Result<Vec<Pattern<TypeRepr>>, NoMemory>
+    ensures { IfOk result (λ ps. patterns_view repr_view ps.items
+        ≡ pattern_and (pattern_at span (number index)) (pattern_and (pattern_at span (chosen input_type)) no_patterns)) }
+{
     let mut inner = Vec::new(alloc);
     inner.push(at(span, PatternKind::Usize(index)))?;
-    inner.push(at(span, PatternKind::Choose(text)))?;
-    Ok(Pattern {
-        span,
-        kind: PatternKind::TupleStruct(path, inner),
-    })
+    inner.push(at(span, PatternKind::Choose(input_type(alloc)?)))?;
+    Ok(inner)
 }
 
 fn at(span: Span, kind: PatternKind<TypeRepr>) -> Pattern<TypeRepr>

@@ -3,7 +3,8 @@ ghost use Rattle.std.specs.Prelude.{◌≡◌, [], ◌∷◌, IfOk, OnOk, map};
 ghost use Rattle.lalrpop_norm_tree.specs.Items.{rule_view};
 ghost use Rattle.lalrpop_norm_parts.specs.Reprs.{repr_view};
 ghost use Rattle.lalrpop_norm_tree.specs.Types.{type_view};
-ghost use Rattle.lalrpop_norm_repr.specs.Tables.{type_table};
+ghost use Rattle.lalrpop_norm_repr.specs.Tables.{type_table, unit_type};
+ghost use Rattle.lalrpop_norm_late.specs.Lowering.{rule_type, start_name};
 ghost use Rattle.lalrpop_norm_late.specs.Typing.{lowered_type, start_types, AddsTypes};
 
 use crate::starts::{rule_type, start_name};
@@ -42,11 +43,30 @@ fn start_types(
 {
     let mut rows = Vec::new(alloc);
     for rule in rules {
-        let name = start_name(alloc, prefix, &rule.name)?;
-        let ty = rule_type(alloc, types, rule)?;
-        rows.push((name, ty))?;
+        rows.push(start_type(alloc, prefix, types, rule)?)?;
     }
     Ok(rows)
+}
+
+/// The start symbol of a rule, which has the rule's type.
+fn start_type(
+    alloc: Global,
+    prefix: &str,
+    types: &Types,
+    rule: &NonterminalData,
+) -> Result<Typed, NoMemory>
+    ensures name { IfOk result (λ r. r.0 ≡ start_name prefix.now rule.now.name) }
+    ensures ty { IfOk result (λ r. repr_view r.1 ≡ rule_type (type_table types.now) (rule_view rule.now)) }
+{
+    let name = start_name(alloc, prefix, &rule.name)?;
+    let ty = rule_type(alloc, types, rule)?;
+    Ok((name, ty))
+}
+
+pub(crate) fn unit_type(alloc: Global) -> TypeRepr
+    ensures { repr_view result ≡ unit_type }
+{
+    TypeRepr::Tuple(Vec::new(alloc))
 }
 
 /// The lowered type. Only macro expansion makes a type that holds a symbol.
@@ -55,7 +75,7 @@ pub(crate) fn lowered_type(alloc: Global, written: &TypeRef) -> Result<TypeRepr,
 {
     match written.type_repr(alloc) {
         Ok(ty) => Ok(ty),
-        Err(TypeReprError::OfSymbol) => Ok(TypeRepr::Tuple(Vec::new(alloc))),
+        Err(TypeReprError::OfSymbol) => Ok(unit_type(alloc)),
         Err(TypeReprError::Memory) => Err(NoMemory),
     }
 }
