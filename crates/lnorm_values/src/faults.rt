@@ -6,17 +6,17 @@ use std::alloc::{AllocError, Global};
 
 /// A refusal with its message, one without memory for it, and copies of both.
 pub(crate) fn push_refusals(alloc: Global, text: &mut String) -> Result<(), NoMemory> {
-    push_with_copy(text, &refused(String::from_str(alloc, "no type follows")))?;
-    push_with_copy(text, &refused(Err(AllocError)))?;
-    for fault in [
-        FaultKind::NotYet,
-        FaultKind::SideOnLowest,
-        FaultKind::TooManyActions,
-    ] {
-        let code = fault.code();
-        write!(text, "{code}\n")?;
-    }
+    push_with_copy(text, refused(String::from_str(alloc, "no type follows")))?;
+    push_with_copy(text, refused(Err(AllocError)))?;
+    push_code(text, FaultKind::NotYet)?;
+    push_code(text, FaultKind::SideOnLowest)?;
+    push_code(text, FaultKind::TooManyActions)?;
     Ok(())
+}
+
+fn push_code(text: &mut String, fault: FaultKind) -> Result<(), AllocError> {
+    let code = fault.code();
+    write!(text, "{code}\n")
 }
 
 /// A refusal at `3..8`.
@@ -25,9 +25,14 @@ fn refused(message: Result<String, AllocError>) -> NormFailure {
 }
 
 /// A failure, and its copy.
-fn push_with_copy(text: &mut String, failure: &NormFailure) -> Result<(), AllocError> {
+fn push_with_copy(text: &mut String, failure: NormFailure) -> Result<(), AllocError> {
+    push_both(text, &failure)
+}
+
+fn push_both(text: &mut String, failure: &NormFailure) -> Result<(), AllocError> {
     push_told(text, failure)?;
-    push_told(text, &failure.clone()?)
+    let copy = failure.clone()?;
+    push_told(text, &copy)
 }
 
 /// `F49 3..8: ` and the message.

@@ -3,12 +3,14 @@
 //! A rule of the name `match`, `else`, `intern`, `type NAME`, `parameter NAME` or `where` stands for what the name says, a symbol
 //! `@L`, `@R` or `!` for itself, a group `(M<> A ..)` for the call `M<A, ..>`, a name `(x, mut y)` for a tuple of names, an
 //! attribute `if`, `if!`, `if~` or `if!~` of an alternative for its condition, and some paths of patterns for other patterns.
+use crate::made::{atom, kept, leave_out, name_pattern, push_if, push_made, put_later};
+use crate::names::binder;
 use lalrpop_norm_tree::grammar::parse_tree::{
     Alternative, ArgPattern, AssociatedType, Atom, Attribute, AttributeArg, Condition, ConditionOp,
-    Dfa, ExprSymbol, ExternToken, Grammar, GrammarItem, InternToken, Lifetime, MacroSymbol,
-    MatchContents, MatchEntry, MatchItem, MatchMapping, MatchToken, Name, NoMemory,
+    Conversion, Dfa, ExprSymbol, ExternToken, Grammar, GrammarItem, InternToken, Lifetime,
+    MacroSymbol, MatchContents, MatchEntry, MatchItem, MatchMapping, MatchToken, Name, NoMemory,
     NonterminalData, NonterminalString, Parameter, Path, Span, Symbol, SymbolKind, TerminalLiteral,
-    TerminalString, Tuple, TypeBound, TypeBoundParameter, TypeParameter, TypeRef, WhereClause,
+    TerminalString, Tuple, TypeBound, TypeBoundParameter, TypeRef, WhereClause,
 };
 use lalrpop_norm_tree::grammar::pattern::{FieldPattern, Pattern, PatternKind};
 use std::alloc::Global;
@@ -17,26 +19,38 @@ use std::mem::replace;
 /// The tree with the parts that stand for others replaced by these.
 pub fn with_later_parts(alloc: Global, tree: Grammar) -> Result<Grammar, NoMemory> {
     let mut tree = tree;
+    let done = put_parts(alloc, &mut tree);
+    kept(tree, done)
+}
+
+fn put_parts(alloc: Global, tree: &mut Grammar) -> Result<(), NoMemory> {
     let items = replace(&mut tree.items, Vec::new(alloc));
     for item in items {
-        put_item(alloc, &mut tree, item)?;
+        put_item(alloc, tree, item)?;
     }
-    Ok(tree)
+    Ok(())
 }
 
 fn put_item(alloc: Global, tree: &mut Grammar, item: GrammarItem) -> Result<(), NoMemory> {
+    let mut item = item;
+    let stays = put_part_of(alloc, tree, &mut item);
+    push_if(&mut tree.items, item, stays)
+}
+
+/// Puts what an item stands for into the tree or into the item itself. Whether the item stays.
+fn put_part_of(
+    alloc: Global,
+    tree: &mut Grammar,
+    item: &mut GrammarItem,
+) -> Result<bool, NoMemory> {
     match item {
         GrammarItem::Nonterminal(rule) => put_named(alloc, tree, rule),
-        GrammarItem::ExternToken(block) => put_block(alloc, tree, block),
-        other => Ok(tree.items.push(other)?),
+        GrammarItem::ExternToken(block) => put_patterns(alloc, block),
+        GrammarItem::MatchToken(_) | GrammarItem::InternToken(_) | GrammarItem::Use(_) => Ok(true),
     }
 }
 
-fn put_block(alloc: Global, tree: &mut Grammar, block: ExternToken) -> Result<(), NoMemory> {
-    let mut block = block;
-    put_patterns(alloc, &mut block)?;
-    Ok(tree.items.push(GrammarItem::ExternToken(block))?)
-}
+// ---- rules that stand for parts
 
 /// What a rule stands for.
 #[derive(Clone, Copy)]
@@ -64,11 +78,21 @@ fn meaning_of(name: &str) -> Meaning {
     }
 }
 
-/// What a rule stands for, by its name.
-fn put_named(alloc: Global, tree: &mut Grammar, rule: NonterminalData) -> Result<(), NoMemory> {
+/// What a rule stands for, by its name. Whether the rule stays.
+fn put_named(
+    alloc: Global,
+    tree: &mut Grammar,
+    rule: &mut NonterminalData,
+) -> Result<bool, NoMemory> {
     match meaning_of(rule.name.0.as_str()) {
-        Meaning::Rule => put_rule(alloc, tree, rule),
-        other => put_part(alloc, tree, other, &rule),
+        Meaning::Rule => {
+            put_inside_rule(alloc, rule)?;
+            Ok(true)
+        }
+        other => {
+            put_part(alloc, tree, other, rule)?;
+            Ok(false)
+        }
     }
 }
 
@@ -80,25 +104,20 @@ fn put_part(
     rule: &NonterminalData,
 ) -> Result<(), NoMemory> {
     match meaning {
-        Meaning::Match => put_match(alloc, tree, rule),
+        Meaning::Match => push_made(&mut tree.items, match_block(alloc, rule)),
         Meaning::Group => put_group(alloc, tree, rule),
-        Meaning::Tokenizer => put_tokenizer(alloc, tree, rule),
-        Meaning::Clause => put_clause(alloc, tree),
+        Meaning::Tokenizer => push_made(&mut tree.items, tokenizer(alloc, rule)),
+        Meaning::Clause => push_made(&mut tree.where_clauses, clause(alloc)),
         Meaning::Type => put_type(alloc, tree, rule),
         Meaning::Parameter => put_parameter(alloc, tree, rule),
         Meaning::Rule => Ok(()),
     }
 }
 
-fn put_clause(alloc: Global, tree: &mut Grammar) -> Result<(), NoMemory> {
-    let clause = clause(alloc)?;
-    Ok(tree.where_clauses.push(clause)?)
-}
-
 /// The name behind the first word of a rule's name.
 fn name_behind(alloc: Global, rule: &NonterminalData) -> Result<Atom, NoMemory> {
     match rule.name.0.as_str().split_once(" ") {
-        Some((_, name)) => Ok(Atom::new(alloc, name)?),
+        Some((_, name)) => Ok(atom(alloc, name)?),
         None => Ok(rule.name.0.clone()?),
     }
 }
@@ -106,18 +125,40 @@ fn name_behind(alloc: Global, rule: &NonterminalData) -> Result<Atom, NoMemory> 
 // ---- tokens
 
 /// A match block of one group.
-fn put_match(alloc: Global, tree: &mut Grammar, rule: &NonterminalData) -> Result<(), NoMemory> {
+fn match_block(alloc: Global, rule: &NonterminalData) -> Result<GrammarItem, NoMemory> {
     let block = MatchToken::new(alloc, contents(alloc, rule)?, rule.span)?;
-    Ok(tree.items.push(GrammarItem::MatchToken(block))?)
+    Ok(GrammarItem::MatchToken(block))
 }
 
 /// One more group of the match block before it.
 fn put_group(alloc: Global, tree: &mut Grammar, rule: &NonterminalData) -> Result<(), NoMemory> {
-    if let Some(GrammarItem::MatchToken(block)) = tree.items.pop() {
-        let block = block.add(alloc, contents(alloc, rule)?)?;
-        tree.items.push(GrammarItem::MatchToken(block))?;
+    match tree.items.pop() {
+        Some(item) => put_group_into(alloc, tree, item, rule),
+        None => Ok(()),
     }
-    Ok(())
+}
+
+fn put_group_into(
+    alloc: Global,
+    tree: &mut Grammar,
+    item: GrammarItem,
+    rule: &NonterminalData,
+) -> Result<(), NoMemory> {
+    match item {
+        GrammarItem::MatchToken(block) => {
+            push_made(&mut tree.items, longer(alloc, block, contents(alloc, rule)))
+        }
+        other => leave_out(other),
+    }
+}
+
+fn longer(
+    alloc: Global,
+    block: MatchToken,
+    group: Result<MatchContents, NoMemory>,
+) -> Result<GrammarItem, NoMemory> {
+    let block = block.add(alloc, group?)?;
+    Ok(GrammarItem::MatchToken(block))
 }
 
 fn contents(alloc: Global, rule: &NonterminalData) -> Result<MatchContents, NoMemory> {
@@ -170,42 +211,47 @@ fn mapping_of(symbol: &Symbol) -> Result<Option<MatchMapping>, NoMemory> {
 }
 
 /// A tokenizer with an entry for each mapped literal, and an automaton of two words.
-fn put_tokenizer(
-    alloc: Global,
-    tree: &mut Grammar,
-    rule: &NonterminalData,
-) -> Result<(), NoMemory> {
-    let tokens = tokenizer(alloc, rule)?;
-    Ok(tree.items.push(GrammarItem::InternToken(tokens))?)
-}
-
-fn tokenizer(alloc: Global, rule: &NonterminalData) -> Result<InternToken, NoMemory> {
+fn tokenizer(alloc: Global, rule: &NonterminalData) -> Result<GrammarItem, NoMemory> {
     let code = vec![in alloc; 7, 9]?;
-    Ok(InternToken {
+    Ok(GrammarItem::InternToken(InternToken {
         match_entries: entries(alloc, rule)?,
         dfa: Dfa { code },
-    })
+    }))
 }
 
 fn entries(alloc: Global, rule: &NonterminalData) -> Result<Vec<MatchEntry>, NoMemory> {
     let mut entries = Vec::new(alloc);
     for alternative in &rule.alternatives {
-        if let Some(MatchItem::Mapped(literal, mapping, _)) = match_item(alternative)? {
-            entries.push(MatchEntry {
-                precedence: literal.base_precedence(),
-                match_literal: literal,
-                user_name: mapping,
-            })?;
+        if let Some(item) = match_item(alternative)? {
+            push_entry(&mut entries, item)?;
         }
     }
     Ok(entries)
 }
 
+fn push_entry(entries: &mut Vec<MatchEntry>, item: MatchItem) -> Result<(), NoMemory> {
+    match item {
+        MatchItem::Mapped(literal, mapping, _) => push_made(entries, Ok(entry(literal, mapping))),
+        other => leave_out(other),
+    }
+}
+
+fn entry(literal: TerminalLiteral, mapping: MatchMapping) -> MatchEntry {
+    MatchEntry {
+        precedence: literal.base_precedence(),
+        match_literal: literal,
+        user_name: mapping,
+    }
+}
+
 /// A type that the extern block before it names.
 fn put_type(alloc: Global, tree: &mut Grammar, rule: &NonterminalData) -> Result<(), NoMemory> {
-    match &rule.type_decl {
-        Some(declared) => push_type(tree, associated(alloc, rule, declared)?),
-        None => Ok(()),
+    match (&rule.type_decl, tree.items.last_mut()) {
+        (Some(declared), Some(GrammarItem::ExternToken(block))) => push_made(
+            &mut block.associated_types,
+            associated(alloc, rule, declared),
+        ),
+        _ => Ok(()),
     }
 }
 
@@ -222,22 +268,23 @@ fn associated(
     })
 }
 
-fn push_type(tree: &mut Grammar, associated: AssociatedType) -> Result<(), NoMemory> {
-    match tree.items.last_mut() {
-        Some(GrammarItem::ExternToken(block)) => Ok(block.associated_types.push(associated)?),
-        _ => Ok(()),
+fn put_patterns(alloc: Global, block: &mut ExternToken) -> Result<bool, NoMemory> {
+    if let Some(tokens) = &mut block.enum_token {
+        put_conversions(alloc, &mut tokens.conversions)?;
     }
+    Ok(true)
 }
 
-fn put_patterns(alloc: Global, block: &mut ExternToken) -> Result<(), NoMemory> {
-    if let Some(tokens) = &mut block.enum_token {
-        for conversion in tokens.conversions.iter_mut() {
-            if let Some(kind) = later_pattern(alloc, &conversion.to.kind)? {
-                conversion.to.kind = kind;
-            }
-        }
+fn put_conversions(alloc: Global, conversions: &mut [Conversion]) -> Result<(), NoMemory> {
+    for i in 0..conversions.len() {
+        put_pattern(alloc, &mut conversions[i].to.kind)?;
     }
     Ok(())
+}
+
+fn put_pattern(alloc: Global, kind: &mut PatternKind<TypeRef>) -> Result<(), NoMemory> {
+    let later = later_pattern(alloc, kind);
+    put_later(kind, later)
 }
 
 /// The pattern that a path of one part stands for.
@@ -248,41 +295,72 @@ fn later_pattern(
     let PatternKind::Path(path) = kind else {
         return Ok(None);
     };
-    let Some(id) = path.as_id() else {
-        return Ok(None);
-    };
-    let later = match id.as_str() {
-        "7" => PatternKind::Usize(7),
-        "<u8>" => PatternKind::Choose(named_type(alloc, "u8")?),
-        "'c'" => PatternKind::CharLiteral(Atom::new(alloc, "c")?),
-        "\"s\"" => PatternKind::String(String::from_str(alloc, "s")?),
-        "()" => PatternKind::Tuple(Vec::new(alloc)),
-        "Option()" => PatternKind::TupleStruct(Path::option(alloc)?, Vec::new(alloc)),
-        "Option { .. }" => PatternKind::Struct(Path::option(alloc)?, Vec::new(alloc), true),
-        "Option { f: <u8>, .. }" => PatternKind::Struct(Path::option(alloc)?, fields(alloc)?, true),
-        _ => return Ok(None),
-    };
-    Ok(Some(later))
+    match path.as_id() {
+        Some(id) => pattern_of(alloc, id.as_str()),
+        None => Ok(None),
+    }
+}
+
+fn pattern_of(alloc: Global, id: &str) -> Result<Option<PatternKind<TypeRef>>, NoMemory> {
+    match id {
+        "7" => Ok(Some(PatternKind::Usize(7))),
+        "<u8>" => Ok(Some(chosen(alloc)?)),
+        "'c'" => Ok(Some(PatternKind::CharLiteral(atom(alloc, "c")?))),
+        "\"s\"" => Ok(Some(PatternKind::String(String::from_str(alloc, "s")?))),
+        "()" => Ok(Some(PatternKind::Tuple(Vec::new(alloc)))),
+        "Option()" => Ok(Some(tuple_struct(alloc)?)),
+        "Option { .. }" => Ok(Some(open_struct(alloc)?)),
+        "Option { f: <u8>, .. }" => Ok(Some(field_struct(alloc)?)),
+        _ => Ok(None),
+    }
+}
+
+/// `<u8>`
+fn chosen(alloc: Global) -> Result<PatternKind<TypeRef>, NoMemory> {
+    Ok(PatternKind::Choose(named_type(alloc, "u8")?))
+}
+
+/// `Option()`
+fn tuple_struct(alloc: Global) -> Result<PatternKind<TypeRef>, NoMemory> {
+    Ok(PatternKind::TupleStruct(Path::option(alloc)?, Vec::new(alloc)))
+}
+
+/// `Option { .. }`
+fn open_struct(alloc: Global) -> Result<PatternKind<TypeRef>, NoMemory> {
+    Ok(PatternKind::Struct(Path::option(alloc)?, Vec::new(alloc), true))
+}
+
+/// `Option { f: <u8>, .. }`
+fn field_struct(alloc: Global) -> Result<PatternKind<TypeRef>, NoMemory> {
+    let path = Path::option(alloc)?;
+    Ok(PatternKind::Struct(path, fields(alloc)?, true))
 }
 
 /// `f: <u8>`
 fn fields(alloc: Global) -> Result<Vec<FieldPattern<TypeRef>>, NoMemory> {
+    let mut fields = Vec::new(alloc);
+    push_made(&mut fields, field(alloc))?;
+    Ok(fields)
+}
+
+fn field(alloc: Global) -> Result<FieldPattern<TypeRef>, NoMemory> {
+    let field_name = atom(alloc, "f")?;
+    let kind = chosen(alloc)?;
     let pattern = Pattern {
         span: Span(2, 3),
-        kind: PatternKind::Choose(named_type(alloc, "u8")?),
+        kind,
     };
-    let field = FieldPattern {
+    Ok(FieldPattern {
         field_span: Span(1, 3),
-        field_name: Atom::new(alloc, "f")?,
+        field_name,
         pattern,
-    };
-    Ok(vec![in alloc; field]?)
+    })
 }
 
 // ---- the head
 
-fn named_type(alloc: Global, name: &str) -> Result<TypeRef, NoMemory> {
-    Ok(TypeRef::Id(Atom::new(alloc, name)?))
+pub(crate) fn named_type(alloc: Global, name: &str) -> Result<TypeRef, NoMemory> {
+    Ok(TypeRef::Id(atom(alloc, name)?))
 }
 
 fn put_parameter(
@@ -291,7 +369,7 @@ fn put_parameter(
     rule: &NonterminalData,
 ) -> Result<(), NoMemory> {
     match &rule.type_decl {
-        Some(declared) => Ok(tree.parameters.push(parameter(alloc, rule, declared)?)?),
+        Some(declared) => push_made(&mut tree.parameters, parameter(alloc, rule, declared)),
         None => Ok(()),
     }
 }
@@ -319,16 +397,9 @@ fn clause(alloc: Global) -> Result<WhereClause<TypeRef>, NoMemory> {
     })
 }
 
-/// The binder of `for<'a>`.
-fn binder(alloc: Global) -> Result<Vec<TypeParameter>, NoMemory> {
-    let mut parameters = Vec::new(alloc);
-    parameters.push(TypeParameter::Lifetime(lifetime(alloc)?))?;
-    Ok(parameters)
-}
-
 /// `'a`
 fn lifetime(alloc: Global) -> Result<Lifetime, NoMemory> {
-    Ok(Lifetime(Atom::new(alloc, "'a")?))
+    Ok(Lifetime(atom(alloc, "'a")?))
 }
 
 /// `I<Item = B> + 'a`
@@ -341,7 +412,7 @@ fn bounds(alloc: Global) -> Result<Vec<TypeBound<TypeRef>>, NoMemory> {
 
 /// `I<Item = B>`
 fn item_bound(alloc: Global) -> Result<TypeBound<TypeRef>, NoMemory> {
-    let path = Path::from_id(alloc, Atom::new(alloc, "I")?)?;
+    let path = Path::from_id(alloc, atom(alloc, "I")?)?;
     Ok(TypeBound::Trait {
         forall: Vec::new(alloc),
         path,
@@ -351,17 +422,11 @@ fn item_bound(alloc: Global) -> Result<TypeBound<TypeRef>, NoMemory> {
 
 /// `Item = B`
 fn item_parameter(alloc: Global) -> Result<TypeBoundParameter<TypeRef>, NoMemory> {
-    let name = Atom::new(alloc, "Item")?;
+    let name = atom(alloc, "Item")?;
     Ok(TypeBoundParameter::Associated(name, named_type(alloc, "B")?))
 }
 
 // ---- rules
-
-fn put_rule(alloc: Global, tree: &mut Grammar, rule: NonterminalData) -> Result<(), NoMemory> {
-    let mut rule = rule;
-    put_inside_rule(alloc, &mut rule)?;
-    Ok(tree.items.push(GrammarItem::Nonterminal(rule))?)
-}
 
 fn put_inside_rule(alloc: Global, rule: &mut NonterminalData) -> Result<(), NoMemory> {
     for alternative in rule.alternatives.iter_mut() {
@@ -378,12 +443,33 @@ fn put_inside_rule(alloc: Global, rule: &mut NonterminalData) -> Result<(), NoMe
 fn put_condition(alloc: Global, alternative: &mut Alternative) -> Result<(), NoMemory> {
     let attributes = replace(&mut alternative.attributes, Vec::new(alloc));
     for attribute in attributes {
-        match condition_of(alloc, &attribute)? {
-            Some(condition) => alternative.condition = Some(condition),
-            None => alternative.attributes.push(attribute)?,
-        }
+        put_attribute(alloc, alternative, attribute)?;
     }
     Ok(())
+}
+
+fn put_attribute(
+    alloc: Global,
+    alternative: &mut Alternative,
+    attribute: Attribute,
+) -> Result<(), NoMemory> {
+    let stays = put_condition_of(alloc, &mut alternative.condition, &attribute);
+    push_if(&mut alternative.attributes, attribute, stays)
+}
+
+/// Puts the condition that an attribute stands for. Whether the attribute stays.
+fn put_condition_of(
+    alloc: Global,
+    place: &mut Option<Condition>,
+    attribute: &Attribute,
+) -> Result<bool, NoMemory> {
+    match condition_of(alloc, attribute)? {
+        Some(condition) => {
+            *place = Some(condition);
+            Ok(false)
+        }
+        None => Ok(true),
+    }
 }
 
 /// `NAME == "a"` of `if = "NAME"`.
@@ -391,8 +477,8 @@ fn condition_of(alloc: Global, attribute: &Attribute) -> Result<Option<Condition
     match (operator_of(attribute.id.as_str()), &attribute.arg) {
         (Some(op), AttributeArg::Equal(name)) => Ok(Some(Condition {
             span: attribute.id_span,
-            lhs: NonterminalString(Atom::new(alloc, name.as_str())?),
-            rhs: Atom::new(alloc, "a")?,
+            lhs: NonterminalString(atom(alloc, name.as_str())?),
+            rhs: atom(alloc, "a")?,
             op,
         })),
         _ => Ok(None),
@@ -438,10 +524,8 @@ fn put_inside(alloc: Global, kind: &mut SymbolKind) -> Result<(), NoMemory> {
 
 /// Puts what a symbol stands for in its place, those inside of it left aside.
 fn put_kind(alloc: Global, kind: &mut SymbolKind) -> Result<(), NoMemory> {
-    if let Some(later) = later_kind(alloc, kind)? {
-        *kind = later;
-    }
-    Ok(())
+    let later = later_kind(alloc, kind);
+    put_later(kind, later)
 }
 
 fn later_kind(alloc: Global, kind: &SymbolKind) -> Result<Option<SymbolKind>, NoMemory> {
@@ -489,7 +573,7 @@ fn called(alloc: Global, group: &ExprSymbol) -> Result<Option<NonterminalString>
 fn called_by(alloc: Global, kind: &SymbolKind) -> Result<Option<NonterminalString>, NoMemory> {
     match kind {
         SymbolKind::Nonterminal(name) => match name.0.as_str().strip_suffix("<>") {
-            Some(name) => Ok(Some(NonterminalString(Atom::new(alloc, name)?))),
+            Some(name) => Ok(Some(NonterminalString(atom(alloc, name)?))),
             None => Ok(None),
         },
         _ => Ok(None),
@@ -514,9 +598,8 @@ fn tuple_of(alloc: Global, name: &Name) -> Result<Option<Tuple>, NoMemory> {
 }
 
 fn argument(alloc: Global, part: &str) -> Result<ArgPattern, NoMemory> {
-    let (mutable, name) = match part.strip_prefix("mut ") {
-        Some(name) => (true, name),
-        None => (false, part),
-    };
-    Ok(ArgPattern::Name(Name::new(mutable, Atom::new(alloc, name)?)))
+    match part.strip_prefix("mut ") {
+        Some(name) => name_pattern(alloc, true, name),
+        None => name_pattern(alloc, false, part),
+    }
 }

@@ -5,6 +5,7 @@ mod actions;
 pub mod faults;
 pub mod later;
 pub mod lowered;
+mod made;
 mod names;
 mod parts;
 mod tables;

@@ -1,10 +1,10 @@
 //! Copies of lowered grammars.
+use crate::actions::parameter;
+use crate::made::{atom, push_made, push_shown};
+use crate::names::{input, named};
 use lalrpop_norm_print::lowered::push_lowered;
-use lalrpop_norm_repr::grammar::repr::{
-    self, NonterminalString, Parameter, TypeParameter, TypeRepr,
-};
-use lalrpop_norm_tree::grammar::parse_tree::Lifetime;
-use shared_text::{Atom, NoMemory};
+use lalrpop_norm_repr::grammar::repr::{self, NonterminalString};
+use shared_text::NoMemory;
 use std::alloc::Global;
 
 /// The copy of the lowered grammar, and what is asked of it with two parameters more.
@@ -43,35 +43,26 @@ fn push_productions_of(
     lowered: &repr::Grammar,
     name: &str,
 ) -> Result<(), NoMemory> {
-    let name = NonterminalString(Atom::new(alloc, name)?);
-    let productions = lowered.productions_for(&name);
+    let name = NonterminalString(atom(alloc, name)?);
+    push_productions_for(text, lowered, &name)
+}
+
+fn push_productions_for(
+    text: &mut String,
+    lowered: &repr::Grammar,
+    name: &NonterminalString,
+) -> Result<(), NoMemory> {
+    let productions = lowered.productions_for(name);
     write!(text, "productions of {name} {productions:?}\n")?;
     Ok(())
 }
 
 /// Adds the parameters `n: usize` and `m: usize`, and the type parameters `'input` and `T`.
 fn add_parameters(alloc: Global, lowered: &mut repr::Grammar) -> Result<(), NoMemory> {
-    lowered.parameters.push(parameter(alloc, "n")?)?;
-    lowered.parameters.push(parameter(alloc, "m")?)?;
-    lowered.type_parameters.push(input(alloc)?)?;
-    lowered.type_parameters.push(named(alloc)?)?;
-    Ok(())
-}
-
-fn parameter(alloc: Global, name: &str) -> Result<Parameter, NoMemory> {
-    let ty = TypeRepr::usize(alloc)?;
-    let name = Atom::new(alloc, name)?;
-    Ok(Parameter { name, ty })
-}
-
-/// `'input`
-fn input(alloc: Global) -> Result<TypeParameter, NoMemory> {
-    Ok(TypeParameter::Lifetime(Lifetime::input(alloc)?))
-}
-
-/// `T`
-fn named(alloc: Global) -> Result<TypeParameter, NoMemory> {
-    Ok(TypeParameter::Id(Atom::new(alloc, "T")?))
+    push_made(&mut lowered.parameters, parameter(alloc, "n"))?;
+    push_made(&mut lowered.parameters, parameter(alloc, "m"))?;
+    push_made(&mut lowered.type_parameters, input(alloc))?;
+    push_made(&mut lowered.type_parameters, named(alloc, "T"))
 }
 
 fn push_references(
@@ -80,7 +71,7 @@ fn push_references(
     lowered: &repr::Grammar,
 ) -> Result<(), NoMemory> {
     let count = lowered.non_lifetime_type_parameters(alloc)?.len();
-    let references = lowered.user_parameter_refs(alloc)?;
-    write!(text, "parameters {references}and {count} type\n")?;
+    push_shown(text, "parameters ", lowered.user_parameter_refs(alloc), "")?;
+    write!(text, "and {count} type\n")?;
     Ok(())
 }

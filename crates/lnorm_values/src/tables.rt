@@ -1,8 +1,10 @@
 //! Tables of types.
+use crate::made::{atom, push_debug, push_shown};
+use crate::names::{named, of_parameter};
 use lalrpop_norm_repr::grammar::repr::{
-    NonterminalString, Symbol, TerminalString, TypeParameter, TypeRepr, Types,
+    NonterminalString, Symbol, TerminalString, TypeRepr, Types,
 };
-use shared_text::{Atom, NoMemory};
+use shared_text::NoMemory;
 use std::alloc::{AllocError, Global};
 
 /// A table with locations, one without, and one to which types are added.
@@ -32,8 +34,7 @@ fn located(alloc: Global) -> Result<Types, NoMemory> {
 
 /// `Token<'input>`
 fn token(alloc: Global) -> Result<TypeRepr, NoMemory> {
-    let name = TypeParameter::Id(Atom::new(alloc, "Token<'input>")?);
-    TypeRepr::from_parameter(alloc, &name)
+    of_parameter(alloc, named(alloc, "Token<'input>"))
 }
 
 fn push_location(text: &mut String, types: &Types) -> Result<(), AllocError> {
@@ -48,55 +49,16 @@ fn push_table(text: &mut String, types: &Types) -> Result<(), NoMemory> {
     push_token(text, types)?;
     push_error_types(text, types)?;
     text.push_str("  lists")?;
-    push_terminal_types(text, types)?;
-    push_nonterminal_types(text, types)?;
-    text.push_str("\n")?;
-    Ok(())
-}
-
-fn push_terminal_types(text: &mut String, types: &Types) -> Result<(), NoMemory> {
-    let found = types.terminal_types()?;
-    push_list(text, &found)
-}
-
-fn push_nonterminal_types(text: &mut String, types: &Types) -> Result<(), NoMemory> {
-    let found = types.nonterminal_types()?;
-    push_list(text, &found)
-}
-
-fn push_list(text: &mut String, types: &[TypeRepr]) -> Result<(), NoMemory> {
-    write!(text, " {types:?}")?;
-    Ok(())
+    push_debug(text, " ", types.terminal_types(), "")?;
+    push_debug(text, " ", types.nonterminal_types(), "\n")
 }
 
 fn push_token(text: &mut String, types: &Types) -> Result<(), NoMemory> {
     let token = types.terminal_token_type();
     write!(text, "  token {token}")?;
-    push_location_type(text, types)?;
-    push_error_type(text, types)?;
-    push_triple_type(text, types)?;
-    text.push_str("\n")?;
-    Ok(())
-}
-
-fn push_location_type(text: &mut String, types: &Types) -> Result<(), NoMemory> {
-    let ty = types.terminal_loc_type()?;
-    push_type(text, "location", &ty)
-}
-
-fn push_error_type(text: &mut String, types: &Types) -> Result<(), NoMemory> {
-    let ty = types.error_type()?;
-    push_type(text, "error", &ty)
-}
-
-fn push_triple_type(text: &mut String, types: &Types) -> Result<(), NoMemory> {
-    let ty = types.triple_type()?;
-    push_type(text, "triple", &ty)
-}
-
-fn push_type(text: &mut String, name: &str, ty: &TypeRepr) -> Result<(), NoMemory> {
-    write!(text, ", {name} {ty}")?;
-    Ok(())
+    push_shown(text, ", location ", types.terminal_loc_type(), "")?;
+    push_shown(text, ", error ", types.error_type(), "")?;
+    push_shown(text, ", triple ", types.triple_type(), "\n")
 }
 
 fn push_error_types(text: &mut String, types: &Types) -> Result<(), AllocError> {
@@ -115,13 +77,11 @@ fn push_unlocated(alloc: Global, text: &mut String) -> Result<(), NoMemory> {
 
 fn push_unlocated_table(alloc: Global, text: &mut String, types: &Types) -> Result<(), NoMemory> {
     push_table(text, types)?;
-    let spanned = types.spanned_type(TypeRepr::usize(alloc)?)?;
-    push_spanned(text, &spanned)
+    push_shown(text, "  spanned ", spanned(alloc, types), "\n")
 }
 
-fn push_spanned(text: &mut String, ty: &TypeRepr) -> Result<(), NoMemory> {
-    write!(text, "  spanned {ty}\n")?;
-    Ok(())
+fn spanned(alloc: Global, types: &Types) -> Result<TypeRepr, NoMemory> {
+    types.spanned_type(TypeRepr::usize(alloc)?)
 }
 
 /// A table to which the type `usize` of a nonterminal and of a terminal is added, copied.
@@ -144,7 +104,7 @@ fn push_added_table(alloc: Global, text: &mut String, types: &Types) -> Result<(
 }
 
 fn add_nonterminal(alloc: Global, types: &mut Types) -> Result<(), NoMemory> {
-    let name = NonterminalString(Atom::new(alloc, "S")?);
+    let name = NonterminalString(atom(alloc, "S")?);
     match types.lookup_nonterminal_type(&name) {
         Some(_) => Ok(()),
         None => types.add_type(name, TypeRepr::usize(alloc)?),
@@ -152,7 +112,7 @@ fn add_nonterminal(alloc: Global, types: &mut Types) -> Result<(), NoMemory> {
 }
 
 fn add_terminal(alloc: Global, types: &mut Types) -> Result<(), NoMemory> {
-    let terminal = TerminalString::Bare(Atom::new(alloc, "Num")?);
+    let terminal = TerminalString::Bare(atom(alloc, "Num")?);
     if types.has_term_type(&terminal) {
         Ok(())
     } else {
@@ -162,13 +122,10 @@ fn add_terminal(alloc: Global, types: &mut Types) -> Result<(), NoMemory> {
 
 /// The types of some names.
 fn push_of_symbols(alloc: Global, text: &mut String, types: &Types) -> Result<(), NoMemory> {
-    for name in ["Num", "Other"] {
-        push_of_terminal(alloc, text, types, name)?;
-    }
-    for name in ["S", "T"] {
-        push_of_nonterminal(alloc, text, types, name)?;
-    }
-    Ok(())
+    push_of_terminal(alloc, text, types, "Num")?;
+    push_of_terminal(alloc, text, types, "Other")?;
+    push_of_nonterminal(alloc, text, types, "S")?;
+    push_of_nonterminal(alloc, text, types, "T")
 }
 
 fn push_of_terminal(
@@ -177,8 +134,11 @@ fn push_of_terminal(
     types: &Types,
     name: &str,
 ) -> Result<(), NoMemory> {
-    let terminal = Symbol::Terminal(TerminalString::Bare(Atom::new(alloc, name)?));
-    let ty = terminal.ty(types);
+    let terminal = Symbol::Terminal(TerminalString::Bare(atom(alloc, name)?));
+    push_named_type(text, name, terminal.ty(types))
+}
+
+fn push_named_type(text: &mut String, name: &str, ty: &TypeRepr) -> Result<(), NoMemory> {
     write!(text, "  terminal {name}: {ty}\n")?;
     Ok(())
 }
@@ -189,10 +149,18 @@ fn push_of_nonterminal(
     types: &Types,
     name: &str,
 ) -> Result<(), NoMemory> {
-    let name = NonterminalString(Atom::new(alloc, name)?);
-    match types.lookup_nonterminal_type(&name) {
+    let name = NonterminalString(atom(alloc, name)?);
+    push_rule_type(text, types, &name)
+}
+
+fn push_rule_type(
+    text: &mut String,
+    types: &Types,
+    name: &NonterminalString,
+) -> Result<(), NoMemory> {
+    match types.lookup_nonterminal_type(name) {
         Some(_) => {
-            let ty = types.nonterminal_type(&name);
+            let ty = types.nonterminal_type(name);
             write!(text, "  nonterminal {name}: {ty}\n")?;
         }
         None => write!(text, "  nonterminal {name}\n")?,

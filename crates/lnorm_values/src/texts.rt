@@ -1,8 +1,9 @@
 //! Texts of the parts of a tree, and whether its copy is equal to it.
+use crate::made::{ended, push_shown};
 use lalrpop_norm_levels::precedence::has_several_levels;
 use lalrpop_norm_tree::grammar::parse_tree::{
     Alternative, ArgPattern, Attribute, Grammar, GrammarItem, MatchContents, NoMemory,
-    NonterminalData, Span, SymbolKind, is_known_attribute, read_algorithm,
+    NonterminalData, Span, Symbol, SymbolKind, Tuple, is_known_attribute, read_algorithm,
 };
 use lalrpop_norm_tree::grammar::repr::Algorithm;
 use std::alloc::{AllocError, Global};
@@ -70,41 +71,51 @@ fn push_alternative_texts(
     alternative: &Alternative,
 ) -> Result<(), NoMemory> {
     for symbol in &alternative.expr.symbols {
-        let form = symbol.canonical_form(alloc)?;
-        write!(text, "symbol {form}")?;
-        push_kind_text(alloc, text, &symbol.kind)?;
-        if let Some((tuple, inner)) = symbol.as_tuple() {
-            let names = ArgPattern::Tuple(tuple.clone()?).name(alloc)?;
-            write!(text, " names {names} of {inner}")?;
-        }
-        text.push_str("\n")?;
+        push_symbol_texts(alloc, text, symbol)?;
     }
     Ok(())
 }
 
-fn push_kind_text(alloc: Global, text: &mut String, kind: &SymbolKind) -> Result<(), NoMemory> {
-    match kind {
-        SymbolKind::Expr(group) => {
-            let form = group.canonical_form(alloc)?;
-            write!(text, " group {form}")?;
-        }
-        SymbolKind::Macro(call) => {
-            let form = call.canonical_form(alloc)?;
-            write!(text, " call {form}")?;
-        }
-        SymbolKind::Repeat(repeat) => {
-            let form = repeat.canonical_form(alloc)?;
-            write!(text, " repeat {form}")?;
-        }
-        _ => {}
+fn push_symbol_texts(alloc: Global, text: &mut String, symbol: &Symbol) -> Result<(), NoMemory> {
+    push_shown(text, "symbol ", symbol.canonical_form(alloc), "")?;
+    push_kind_text(alloc, text, &symbol.kind)?;
+    push_tuple_text(alloc, text, symbol)?;
+    text.push_str("\n")?;
+    Ok(())
+}
+
+fn push_tuple_text(alloc: Global, text: &mut String, symbol: &Symbol) -> Result<(), NoMemory> {
+    if let Some((tuple, inner)) = symbol.as_tuple() {
+        push_shown(text, " names ", tuple_name(alloc, tuple), "")?;
+        write!(text, " of {inner}")?;
     }
     Ok(())
+}
+
+fn tuple_name(alloc: Global, tuple: &Tuple) -> Result<String, NoMemory> {
+    let pattern = ArgPattern::Tuple(tuple.clone()?);
+    pattern.name(alloc)
+}
+
+fn push_kind_text(alloc: Global, text: &mut String, kind: &SymbolKind) -> Result<(), NoMemory> {
+    match kind {
+        SymbolKind::Expr(group) => push_shown(text, " group ", group.canonical_form(alloc), ""),
+        SymbolKind::Macro(call) => push_shown(text, " call ", call.canonical_form(alloc), ""),
+        SymbolKind::Repeat(repeat) => push_shown(
+            text,
+            " repeat ",
+            repeat.canonical_form(alloc),
+            "",
+        ),
+        _ => Ok(()),
+    }
 }
 
 /// Whether the copy of the tree is equal to it, and with another span.
 fn push_equality(text: &mut String, tree: &Grammar) -> Result<(), NoMemory> {
     let mut copy = tree.clone()?;
-    push_equal(text, tree, &mut copy)
+    let done = push_equal(text, tree, &mut copy);
+    ended(copy, done)
 }
 
 fn push_equal(text: &mut String, tree: &Grammar, copy: &mut Grammar) -> Result<(), NoMemory> {

@@ -1,5 +1,5 @@
 //! Values that no tree holds: each call that makes one runs once, with memory enough.
-use crate::actions::push_made;
+use crate::actions::push_actions;
 use crate::faults::{push_refusals, push_sides};
 use crate::names::push_names;
 use crate::parts::push_parts;
@@ -11,7 +11,7 @@ use std::alloc::Global;
 pub fn push_values(alloc: Global, text: &mut String) -> Result<(), NoMemory> {
     push_names(alloc, text)?;
     push_tables(alloc, text)?;
-    push_made(alloc, text)?;
+    push_actions(alloc, text)?;
     push_refusals(alloc, text)?;
     push_sides(text)?;
     push_parts(alloc, text)?;
