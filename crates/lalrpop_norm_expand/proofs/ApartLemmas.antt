@@ -34,7 +34,7 @@ mutual
   kind_closed b a before after written.lookbehind = refl
   kind_closed b a before after written.error_terminal = refl
 
-  part_closed : (b a before after : ℕ) (p : Part) → read_part flat_reader b a (unplaced p) ≡ read_part flat_reader before after p
+  pub part_closed : (b a before after : ℕ) (p : Part) → read_part flat_reader b a (unplaced p) ≡ read_part flat_reader before after p
   part_closed b a before after (at s k) = kind_closed b a before after k
 
   parts_closed : (b a before after : ℕ) (ps : Parts) → read_parts flat_reader b a (all_unplaced ps) ≡ read_parts flat_reader before after ps
@@ -147,13 +147,14 @@ both_true true false f g = sym (f refl)
 both_true false true f g = g refl
 both_true false false f g = refl
 
+pub unplaced_same : (p q : Part) → same_apart_from_spans p q ≡ true → unplaced p ≡ unplaced q
+unplaced_same p q e =
+    sym (part_is 0 0 p) ∙ ap (λ g. at nowhere (kind_back g)) (symbol_test.sound (read_part flat_reader 0 0 p) (read_part flat_reader 0 0 q) e) ∙ part_is 0 0 q
+
 pub same_is : (p q : Part) (r : Bool) → (IsTrue r ↔ (unplaced p ≡ unplaced q)) → r ≡ same_apart_from_spans p q
-same_is p q r h = both_true r (same_apart_from_spans p q) (λ e. there (h.0 e)) (λ e. h.1 (back e))
+same_is p q r h = both_true r (same_apart_from_spans p q) (λ e. there (h.0 e)) (λ e. h.1 (unplaced_same p q e))
   where
     there : unplaced p ≡ unplaced q → same_apart_from_spans p q ≡ true
     there e =
         let same : read_part flat_reader 0 0 p ≡ read_part flat_reader 0 0 q = sym (part_closed 0 0 0 0 p) ∙ ap (read_part flat_reader 0 0) e ∙ part_closed 0 0 0 0 q in
         rw same (symbol_test.complete (read_part flat_reader 0 0 q))
-
-    back : same_apart_from_spans p q ≡ true → unplaced p ≡ unplaced q
-    back e = sym (part_is 0 0 p) ∙ ap (λ g. at nowhere (kind_back g)) (symbol_test.sound (read_part flat_reader 0 0 p) (read_part flat_reader 0 0 q) e) ∙ part_is 0 0 q

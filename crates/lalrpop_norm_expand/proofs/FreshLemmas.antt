@@ -22,16 +22,16 @@ use Rattle.lalrpop_norm_expand.specs.Meeting.{first_of, joined_by, after_one, af
 
 -- ---- sameness
 
-abbrev closed : Part → ClosedSymbol
+abbrev pub closed : Part → ClosedSymbol
 closed p = read_part flat_reader 0 0 p
 
-same_closed : (p q : Part) → same_apart_from_spans p q ≡ true → closed p ≡ closed q
+pub same_closed : (p q : Part) → same_apart_from_spans p q ≡ true → closed p ≡ closed q
 same_closed p q e = symbol_test.sound (closed p) (closed q) e
 
-closed_same : (p q : Part) → closed p ≡ closed q → same_apart_from_spans p q ≡ true
+pub closed_same : (p q : Part) → closed p ≡ closed q → same_apart_from_spans p q ≡ true
 closed_same p q e = subst (λ (g : ClosedSymbol). same_symbol (closed p) g ≡ true) e (symbol_test.complete (closed p))
 
-closed_text_same : (p q : Part) → closed p ≡ closed q → part_text p ≡ part_text q
+pub closed_text_same : (p q : Part) → closed p ≡ closed q → part_text p ≡ part_text q
 closed_text_same p q e =
     sym (part_displayed (λ n b. n) (λ n. refl) 0 0 p) ∙ ap (closed_text (λ n b. n)) e ∙ part_displayed (λ n b. n) (λ n. refl) 0 0 q
 
@@ -42,7 +42,7 @@ is_text : (s t : List ℕ) → s ≡ t → bytes_eq s t ≡ true
 is_text s t e = (bytes_eq-Decides s t).1 e
 
 -- a test is false where it can't be true
-false_where : (b : Bool) → (b ≡ true → ⊥) → b ≡ false
+pub false_where : (b : Bool) → (b ≡ true → ⊥) → b ≡ false
 false_where true n = absurd (n refl)
 false_where false n = refl
 

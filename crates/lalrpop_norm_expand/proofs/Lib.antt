@@ -6,6 +6,7 @@ pub mod DistinctLemmas
 mod FreshLemmas
 mod InPlace
 mod IndexLemmas
+mod InwardLemmas
 mod MeetingLemmas
 mod NameLemmas
 mod RoundLemmas

@@ -1,5 +1,5 @@
 -- How the code meets symbols, one after another: its own words, of which no public clause speaks.
-use Rattle.std.specs.Prelude.{◌≡◌, ◌<◌, ℕ, Bool, false, not, ◌||◌, List, [], ◌∷◌, ◌++◌, map, length, Option, Some, None, option_and_then, slice_get, bytes_eq, if◌then◌else◌}
+use Rattle.std.specs.Prelude.{◌≡◌, ◌<◌, ℕ, Bool, true, false, not, ◌||◌, ◌&&◌, List, [], ◌∷◌, ◌++◌, map, length, Option, Some, None, is_some, option_and_then, slice_get, bytes_eq, if◌then◌else◌}
 use Rattle.std.specs.List.{list_any}
 use Rattle.std.specs.Ordering.{nat_cmp}
 use Rattle.std.specs.Cmp.Lexicographic.{slice_cmp}
@@ -49,6 +49,24 @@ own s error_terminal = []
 abbrev pub itself : Part → List Part
 itself (at s k) = own s k
 
+abbrev pub inside : Part → List Part
+inside (at s k) = met_inside k
+
+-- the text of a symbol that is made into a rule
+abbrev pub own_text : Part → Option (List ℕ)
+own_text (at s (group ps)) = Some (part_text (at s (group ps)))
+own_text (at s (call n ps)) = Some (part_text (at s (call n ps)))
+own_text (at s (repeated op p)) = Some (part_text (at s (repeated op p)))
+own_text (at s lookahead) = Some (part_text (at s lookahead))
+own_text (at s lookbehind) = Some (part_text (at s lookbehind))
+own_text (at s (ambiguous_id a)) = None
+own_text (at s (terminal t)) = None
+own_text (at s (nonterminal n)) = None
+own_text (at s (chosen p)) = None
+own_text (at s (named n p)) = None
+own_text (at s (tupled ns p)) = None
+own_text (at s error_terminal) = None
+
 -- ---- symbols met one after another
 
 -- the first symbol of that text
@@ -80,6 +98,19 @@ abbrev pub clash_faults : (List ℕ → Bool) → List Part → List Part → Li
 clash_faults names seen [] = []
 clash_faults names seen (x ∷ xs) = fault_if (clashes names seen x) (SharedName, span_of x) ++ clash_faults names (after_one seen x) xs
 
+-- a symbol of its text was met that is the same, and its text is no name
+abbrev pub was_met : (List ℕ → Bool) → List Part → Part → Bool
+was_met names seen x = is_some (first_of (part_text x) seen) && not (clashes names seen x)
+
+abbrev pub were_met : (List ℕ → Bool) → List Part → List Part → Bool
+were_met names seen [] = true
+were_met names seen (x ∷ xs) = was_met names seen x && were_met names seen xs
+
+-- what is inside each of these symbols was met
+abbrev pub were_met_inside : (List ℕ → Bool) → List Part → List Part → Bool
+were_met_inside names seen [] = true
+were_met_inside names seen (y ∷ ys) = were_met names seen (inside y) && were_met_inside names seen ys
+
 abbrev pub seen_of : Expander → List Part
 seen_of e = map symbol_view e.met.items
 
@@ -92,10 +123,11 @@ names_of e = has_key e.names
 abbrev pub place_of : Expander → List ℕ → Option ℕ
 place_of e t = get (slice_cmp nat_cmp) e.places t
 
--- the places lead to the symbols by their texts
+-- the places lead to the symbols by their texts, and what is inside a symbol that was met was met
 pub record IsExpander (e : Expander) : Type 0 where
   pub finds : (t : List ℕ) → option_and_then (λ i. slice_get (seen_of e) i) (place_of e t) ≡ first_of t (seen_of e)
   pub in_range : (t : List ℕ) (i : ℕ) → place_of e t ≡ Some i → i < length e.met.items
+  pub inward : were_met_inside (names_of e) (seen_of e) (seen_of e) ≡ true
 
 -- the symbols were met
 pub record Meets (before later : Expander) (xs : List Part) : Type 0 where

@@ -1,10 +1,10 @@
 //! The symbols that were met.
-ghost use Rattle.std.specs.Prelude.{◌≡◌, ◌∷◌, [], IfOk, OnOk, None, Option, option_map, is_some};
+ghost use Rattle.std.specs.Prelude.{◌≡◌, ◌∷◌, [], true, IfOk, OnOk, None, Option, option_map, is_some};
 ghost use Rattle.lalrpop_norm_tree.specs.Symbols.{symbol_view};
 ghost use Rattle.lalrpop_norm_tree.specs.SymbolTexts.{part_text};
 ghost use Rattle.lalrpop_norm_faults.specs.Faults.{Refuses, IsFirst};
 ghost use Rattle.lalrpop_norm_faults.specs.declared.kind.FaultKind.TheVariants.{SharedName};
-ghost use Rattle.lalrpop_norm_expand.specs.Meeting.{first_of, after_one, seen_of, has_key, names_of, IsExpander, Meets, refused_by};
+ghost use Rattle.lalrpop_norm_expand.specs.Meeting.{first_of, after_one, inside, was_met, were_met, seen_of, has_key, names_of, IsExpander, Meets, refused_by};
 
 use super::same::is_same_symbol;
 use lalrpop_norm_faults::{FaultKind, NormFailure, NormResult, refusal};
@@ -79,9 +79,22 @@ impl Expander {
         }
     }
 
+    /// Whether one that is the same was met, and the text is no name. What is inside it was then met as well.
+    pub fn was_met(&self, name: &Atom, symbol: &Symbol) -> bool
+        requires indexed { IsExpander self.now }
+        requires named { name.now ≡ part_text (symbol_view symbol.now) }
+        ensures { result ≡ was_met (names_of self.now) (seen_of self.now) (symbol_view symbol.now) }
+    {
+        match self.first(name) {
+            Some(other) => !self.names.contains(name) && is_same_symbol(other, symbol),
+            None => false,
+        }
+    }
+
     /// Puts a symbol of a new text last.
     fn put(&mut self, name: Atom, symbol: Symbol) -> Result<(), NoMemory>
         requires indexed { IsExpander self.old }
+        requires inward { were_met (names_of self.old) (seen_of self.old) (inside (symbol_view symbol)) ≡ true }
         requires named { name ≡ part_text (symbol_view symbol) }
         requires first { first_of name (seen_of self.old) ≡ None }
         ensures names { OnOk result (self.new.names ≡ self.old.names) }
@@ -94,14 +107,14 @@ impl Expander {
         Ok(())
     }
 
-    /// Meets the symbol alone. Where one that is the same was met, nothing changes.
-    pub fn meet(&mut self, alloc: Global, symbol: &Symbol) -> NormResult<()>
-        requires { IsExpander self.old }
+    /// Meets the symbol alone, whose text this is. Where one that is the same was met, nothing changes.
+    pub fn meet(&mut self, alloc: Global, name: Atom, symbol: &Symbol) -> NormResult<()>
+        requires indexed { IsExpander self.old }
+        requires named { name ≡ part_text (symbol_view symbol.now) }
+        requires inward { were_met (names_of self.old) (seen_of self.old) (inside (symbol_view symbol.now)) ≡ true }
         ensures refuses { Refuses result (refused_by self.old (symbol_view symbol.now ∷ [])) }
         ensures met { OnOk result (Meets self.old self.new (symbol_view symbol.now ∷ [])) }
     {
-        let text = symbol.canonical_form(alloc)?;
-        let name = Atom::new(alloc, text.as_str())?;
         if self.is_known(alloc, &name, symbol)? {
             return Ok(());
         }

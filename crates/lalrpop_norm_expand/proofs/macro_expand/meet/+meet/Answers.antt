@@ -1,6 +1,7 @@
 use Rattle.std.proofs.Common.{ap, sym, ◌∙◌, arith}
 use Rattle.std.proofs.lemmas.List.{take_all}
 use Rattle.lalrpop_norm_expand.specs.Meeting.{refused_by}
+use Rattle.lalrpop_norm_expand.proofs.InwardLemmas.{nothing_refused, nothing_changes, met_now}
 use Rattle.lalrpop_norm_expand.proofs.MeetingLemmas.{on_ok_more}
 use Rattle.lalrpop_norm_expand.proofs.SymbolLemmas.{each_met, all_met_is, each_met_more, each_quiet_more, each_exit, symbol_exit, symbol_refuses, symbol_met}
 use Rattle.lalrpop_norm_expand.proofs.macro_expand.meet.+meet.Goals as goal
@@ -32,7 +33,7 @@ meet_all-returns-clause-met t c =
 
 pub meet_symbol-returns-in_err-meet_inside-clause-refuses : goal.meet_symbol-returns-in_err-meet_inside-clause-refuses
 meet_symbol-returns-in_err-meet_inside-clause-refuses t c =
-    symbol_exit c.args.expander.now c.args.symbol.now _ _ c.from_residual.ensures.1 c.in_err-meet_inside.ensures.refuses
+    symbol_exit c.args.expander.now c.args.symbol.now _ _ c.from_residual-in_err-meet_inside.ensures.1 c.in_err-meet_inside.ensures.refuses
 
 pub meet_symbol-returns-clause-refuses : goal.meet_symbol-returns-clause-refuses
 meet_symbol-returns-clause-refuses t c =
@@ -44,3 +45,13 @@ meet_symbol-returns-clause-met t c =
     on_ok_more c.meet_itself.result _ _
     (symbol_met c.args.expander.now c.meet_inside.new.expander c.meet_itself.new.expander c.args.symbol.now c.in_ok-meet_inside.ensures.met)
     c.meet_itself.ensures.met
+
+pub meet_symbol-returns-then-was_met-clause-refuses : goal.meet_symbol-returns-then-was_met-clause-refuses
+meet_symbol-returns-then-was_met-clause-refuses t c = nothing_refused c.args.expander.now _ (c.was_met.ensures c.if-was_met.true)
+
+pub meet_symbol-returns-then-was_met-clause-met : goal.meet_symbol-returns-then-was_met-clause-met
+meet_symbol-returns-then-was_met-clause-met t c = nothing_changes c.args.expander.now _ c.requires (c.was_met.ensures c.if-was_met.true)
+
+pub meet_symbol-meet_itself-requires-clause-inward : goal.meet_symbol-meet_itself-requires-clause-inward
+meet_symbol-meet_itself-requires-clause-inward t c =
+    met_now c.args.expander.now c.meet_inside.new.expander c.args.symbol.now c.in_ok-meet_inside.ensures.met c.in_ok-meet_inside.ensures.refuses

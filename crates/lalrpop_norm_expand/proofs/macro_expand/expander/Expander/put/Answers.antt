@@ -7,7 +7,8 @@ use Rattle.std.proofs.lemmas.Slice.Eq.{bytes_eq-Decides}
 use Rattle.std.proofs.lemmas.Map.Text.{is_eq-slice_cmp}
 use Rattle.lalrpop_norm_tree.specs.declared.symbol.Symbol.{Symbol}
 use Rattle.lalrpop_norm_tree.specs.Symbols.{Part, symbol_view}
-use Rattle.lalrpop_norm_expand.specs.Meeting.{first_of, place_of}
+use Rattle.lalrpop_norm_expand.specs.Meeting.{first_of, place_of, names_of}
+use Rattle.lalrpop_norm_expand.proofs.InwardLemmas.{inward_more}
 use Rattle.lalrpop_norm_expand.proofs.IndexLemmas.{AtPlaces, at_places_more}
 use Rattle.lalrpop_norm_expand.proofs.macro_expand.expander.Expander.put.Goals as goal
 
@@ -32,4 +33,5 @@ returns-clause-indexed c =
     record {
       finds = λ t. rw views (now.finds t);
       in_range = λ t i e. omega (arith, now.in_range t i e, ap length views, length-map c.push.new.self.items symbol_view);
+      inward = rw views (inward_more (names_of c.args.self.now) seen x c.requires.indexed.inward c.requires.inward);
     }
