@@ -10,7 +10,7 @@ use Rattle.lalrpop_norm_conditions.specs.Conditions.{comparison}
 use Rattle.lalrpop_norm_model.specs.Features.{Features}
 use Rattle.lalrpop_norm_model.specs.Enabled.{enabled_enum, enabled_grammar}
 use Rattle.lalrpop_norm_model.specs.Scopes.{resolved_grammar}
-use Rattle.lalrpop_norm_model.specs.PlainRules.{all_rules, IsWhole}
+use Rattle.lalrpop_norm_model.specs.PlainRules.{all_rules, IsEnded}
 use Rattle.lalrpop_norm_model.specs.PlainTables.{IsSettled}
 use Rattle.lalrpop_norm_model.specs.TypeRelation.{IsRule}
 use Rattle.lalrpop_norm_model.specs.Expanded.{is_plain_terminal, terminals_converted, rule_names, IsExpanded, IsTyped}
@@ -20,15 +20,15 @@ use Rattle.lalrpop_norm_model.specs.Lexers.{Lexer}
 use Rattle.lalrpop_norm_model.specs.CheckedTokens.{IsChecked}
 use Rattle.lalrpop_norm_model.specs.Grammars.{is_nil}
 use Rattle.lalrpop_norm_model.specs.Renumbered.{prepared_grammar}
-use Rattle.lalrpop_norm_names.specs.NameFaults.{resolve_faults}
+use Rattle.lalrpop_norm_resolve.specs.NameFaults.{resolve_faults}
 use Rattle.lalrpop_norm_front.specs.GrammarFaults.{validate_faults}
 use Rattle.lalrpop_norm_expand.specs.Expansion.{expansion_faults}
 use Rattle.lalrpop_norm_expand.specs.Laws.{NamesStayDistinct}
 use Rattle.lalrpop_norm_repr.specs.Closed.{IsClosed}
 use Rattle.lalrpop_norm_repr.specs.Lowered.{LoweredGrammar}
 use Rattle.lalrpop_norm_repr.specs.Tables.{TypeTable}
-use Rattle.lalrpop_norm_late.specs.Lowering.{public_rules}
-use Rattle.lalrpop_norm_late.specs.Made.{type_in}
+use Rattle.lalrpop_norm_late.specs.Lowering.{public_rules_in}
+use Rattle.lalrpop_norm_late.specs.Made.{types_by_name}
 use Rattle.lalrpop_norm_late.specs.Shape.{HasStartTypes, IsLoweringOf}
 use Rattle.lalrpop_norm.specs.Faithful.{HasGroundedTypes, IsInferred, IsFaithful, no_lexer, grammar_with_levels, grammar_of_plain_rules}
 use Rattle.lalrpop_norm.specs.Laws.{HasFlatMacros, HasOwnNames}
@@ -98,7 +98,7 @@ module _ (fs : Features) (g : GrammarData) (taken : IsTaken fs g) (valid : valid
       abbrev p : GrammarData
       p = grammar_of_plain_rules fs g limit
 
-      whole : IsWhole comparison (grammar_with_levels fs g) limit
+      whole : IsEnded comparison (grammar_with_levels fs g) limit
       whole = expansion_whole comparison h limit none
 
       of_plain : HasOneEnum u (grammar_of_plain_rules fs g limit)
@@ -127,12 +127,12 @@ module _ (fs : Features) (g : GrammarData) (taken : IsTaken fs g) (valid : valid
         module _ (typable : inference_faults (grammar_of_plain_rules fs g limit) ≡ []) (table : TypeTable)
             (inferred : IsInferred (grammar_of_plain_rules fs g limit) table) where
           -- each rule has a type in the table of inference
-          pub inferred_total : (r : RuleData) → IsRule (grammar_of_plain_rules fs g limit) r → IsSome (type_in table r.name.0)
+          pub inferred_total : (r : RuleData) → IsRule (grammar_of_plain_rules fs g limit) r → IsSome (types_by_name table r.name.0)
           inferred_total = rule_typed p table inferred distinct_plain typable
 
-          module _ (lowerable : lowering_faults (grammar_of_plain_rules fs g limit) (type_in table) ≡ []) where
+          module _ (lowerable : lowering_faults (grammar_of_plain_rules fs g limit) (types_by_name table) ≡ []) where
             -- the start names are no rules' names
-            pub starts_free : (r : RuleData) → In r (public_rules (all_rules (grammar_of_plain_rules fs g limit))) →
+            pub starts_free : (r : RuleData) → In r (public_rules_in (all_rules (grammar_of_plain_rules fs g limit))) →
                 In ((grammar_of_plain_rules fs g limit).prefix ++ r.name.0) (rule_names (grammar_of_plain_rules fs g limit)) → ⊥
             starts_free = start_is_free p table inferred distinct_plain typable lowerable
 

@@ -11,11 +11,11 @@ use Rattle.lalrpop_norm_theory.proofs.RoundsLemmas.{in_cases, in_flat, of_flat}
 use Rattle.lalrpop_norm_model.specs.Entries.{group_entries, user_names}
 use Rattle.lalrpop_norm_model.specs.Grammars.{is_nil, ConditionValue}
 use Rattle.lalrpop_norm_model.specs.MadeRules.{made_rules, group_rule, star_rule, plus_rule, question_rule, location_rule}
-use Rattle.lalrpop_norm_model.specs.PlainRules.{all_met, met_in_rule, met_by_made, all_rules, rules_of, macros_of, same_apart_from_spans, made_symbols, made_in, replaced_alternative, replaced_rule, plain_grammar, IsWhole}
+use Rattle.lalrpop_norm_model.specs.PlainRules.{all_met, met_in_rule, met_by_made, all_rules, rules_without_arguments, macros_of, same_apart_from_spans, made_symbols, made_in, replaced_alternative, replaced_rule, plain_grammar, IsEnded}
 use Rattle.lalrpop_norm_model.specs.PlainTables.{IsSettled}
 use Rattle.lalrpop_norm_model.specs.Terminals.{terminals_in_parts, terminals_in_rule, terminals_used}
 use Rattle.lalrpop_norm_model.specs.TypeRelation.{IsRule}
-use Rattle.lalrpop_norm_model.specs.Expanded.{is_plain_terminal, is_plain_kind, are_plain, names_in_kind, names_in_parts, declared_symbols, rule_names, names_used_by, names_used, enums, match_blocks, interns, terminals_converted, converted, mapped, IsExpanded}
+use Rattle.lalrpop_norm_model.specs.Expanded.{is_plain_terminal, is_plain_kind, are_plain, names_in_kind, names_in_parts, declared_symbols, rule_names, names_used_by, names_used, enums, match_blocks, interns, terminals_converted, converted, mapped_terminals, IsExpanded}
 use Rattle.lalrpop_norm_model.proofs.LevelLemmas.{of_map}
 use Rattle.lalrpop_norm_model.proofs.InferenceLemmas.{in_filtered}
 use Rattle.lalrpop_norm_model.proofs.FaithfulLemmas.{plain_grammars_hold_plain_rules}
@@ -77,7 +77,7 @@ none_of : {A : Type 0} (xs : List A) (x : A) → xs ≡ [] → In x xs → ⊥
 none_of xs x e i = subst (λ ys. In x ys) e i
 
 module _ (P : TerminalString → Type 0) (plain : (t : TerminalString) → P t → is_plain_terminal t ≡ true)
-    (u : EnumTokenData) (value : ConditionValue) (g : GrammarData) (h : IsPrepared P u g) (n : ℕ) (whole : IsWhole value g n) where
+    (u : EnumTokenData) (value : ConditionValue) (g : GrammarData) (h : IsPrepared P u g) (n : ℕ) (whole : IsEnded value g n) where
   abbrev p : GrammarData
   p = plain_grammar value g n
 
@@ -87,7 +87,7 @@ module _ (P : TerminalString → Type 0) (plain : (t : TerminalString) → P t �
   no_macro : macros_of g ≡ []
   no_macro = no_macros_of g h.no_macros
 
-  from_written : (d : RuleData) → In d (rules_of g) → In d (all_rules g)
+  from_written : (d : RuleData) → In d (rules_without_arguments g) → In d (all_rules g)
   from_written d i = (in_filtered (λ (r : RuleData). is_nil r.args) (all_rules g) d i).0
 
   written_ready : (d : RuleData) → In d (all_rules g) → (a : AlternativeData) → In a d.alternatives → AreReady P Named a.parts
@@ -104,8 +104,8 @@ module _ (P : TerminalString → Type 0) (plain : (t : TerminalString) → P t �
 
   made_symbol_ready : (q : Part) → In q (made_symbols value g n) → IsReady P Named q
   made_symbol_ready =
-      made_within same_apart_from_spans (met_by_made value (macros_of g)) (flat_map met_in_rule (rules_of g)) (IsReady P Named)
-      (met_by_rules (rules_of g) (λ d i a j. written_ready d (from_written d i) a j))
+      made_within same_apart_from_spans (met_by_made value (macros_of g)) (flat_map met_in_rule (rules_without_arguments g)) (IsReady P Named)
+      (met_by_rules (rules_without_arguments g) (λ d i a j. written_ready d (from_written d i) a j))
       (λ x r q i.
       met_by_rules (made_rules value [] x) (λ d j a k. ready_in P Named d.alternatives (made_ready P Named value x r d j) a k) q
       (subst (λ (ms : List RuleData). In q (met_by_made value ms x)) no_macro i)) n
@@ -121,14 +121,14 @@ module _ (P : TerminalString → Type 0) (plain : (t : TerminalString) → P t �
   -- a plain rule is made of a written one, or of one that a symbol is made into
   abbrev From : RuleData → Type 0
   From r =
-      ((d : RuleData) × In d (rules_of g) × (r ≡ replaced_rule d))
+      ((d : RuleData) × In d (rules_without_arguments g) × (r ≡ replaced_rule d))
       ⊎ ((q : Part) × In q (made_symbols value g n) × ((d : RuleData) × In d (made_rules value [] q) × (r ≡ replaced_rule d)))
 
   from : (r : RuleData) → IsRule p r → From r
   from r i =
-      elim (in_cases r (map replaced_rule (rules_of g)) (map replaced_rule (made_in value g n))
+      elim (in_cases r (map replaced_rule (rules_without_arguments g)) (map replaced_rule (made_in value g n))
       (subst (λ (rs : List RuleData). In r rs) (plain_grammars_hold_plain_rules value g n) i)) [
-        | inl j ↦ inl (of_map replaced_rule r (rules_of g) j)
+        | inl j ↦ inl (of_map replaced_rule r (rules_without_arguments g) j)
         | inr j ↦
             let (d, k, e) = of_map replaced_rule r (made_in value g n) j in
             let (q, l, m) = made_from d k in
@@ -136,7 +136,7 @@ module _ (P : TerminalString → Type 0) (plain : (t : TerminalString) → P t �
       ]
 
   -- what holds of a written rule and of a made one, once replaced, holds of each
-  by_cases : (Q : RuleData → Type 0) → ((d : RuleData) → In d (rules_of g) → Q (replaced_rule d)) →
+  by_cases : (Q : RuleData → Type 0) → ((d : RuleData) → In d (rules_without_arguments g) → Q (replaced_rule d)) →
       ((q : Part) → In q (made_symbols value g n) → (d : RuleData) → In d (made_rules value [] q) → Q (replaced_rule d)) →
       (r : RuleData) → IsRule p r → Q r
   by_cases Q f e r i = elim (from r i) [
@@ -150,7 +150,7 @@ module _ (P : TerminalString → Type 0) (plain : (t : TerminalString) → P t �
   alternatives_by d Q f a i = let (b, j, e) = of_map replaced_alternative a d.alternatives i in subst Q (sym e) (f b j)
 
   each_alternative : (Q : AlternativeData → Type 0) →
-      ((d : RuleData) → In d (rules_of g) → (a : AlternativeData) → In a d.alternatives → Q (replaced_alternative a)) →
+      ((d : RuleData) → In d (rules_without_arguments g) → (a : AlternativeData) → In a d.alternatives → Q (replaced_alternative a)) →
       ((q : Part) → In q (made_symbols value g n) → (d : RuleData) → In d (made_rules value [] q) → (a : AlternativeData) → In a d.alternatives → Q (replaced_alternative a)) →
       (r : RuleData) → IsRule p r → (a : AlternativeData) → In a r.alternatives → Q a
   each_alternative Q f e =
@@ -184,10 +184,10 @@ module _ (P : TerminalString → Type 0) (plain : (t : TerminalString) → P t �
 
   -- ---- names
 
-  written_covered : (d : RuleData) → In d (rules_of g) → (a : AlternativeData) → In a d.alternatives → Covered P plain (rule_names p) (all_met a.parts)
+  written_covered : (d : RuleData) → In d (rules_without_arguments g) → (a : AlternativeData) → In a d.alternatives → Covered P plain (rule_names p) (all_met a.parts)
   written_covered d i a j q k =
       start_covered value g h.settled n whole q
-      (in_flat met_in_rule q d (rules_of g) i (in_flat (λ (x : AlternativeData). all_met x.parts) q a d.alternatives j k))
+      (in_flat met_in_rule q d (rules_without_arguments g) i (in_flat (λ (x : AlternativeData). all_met x.parts) q a d.alternatives j k))
 
   symbol_covered : (q : Part) → In q (made_symbols value g n) → Covered P plain (rule_names p) (met_by_made value [] q)
   symbol_covered q i x j = made_covered value g h.settled n whole q i x (subst (λ (ms : List RuleData). In x (met_by_made value ms q)) (sym no_macro) j)
@@ -232,7 +232,7 @@ module _ (P : TerminalString → Type 0) (plain : (t : TerminalString) → P t �
         | inr j ↦ j
       ]
 
-  none_mapped : mapped p ≡ []
+  none_mapped : mapped_terminals p ≡ []
   none_mapped =
       rw (
         ap (flat_map (λ (m : MatchTokenData). user_names (group_entries m.contents))) tokens.no_match,
@@ -254,7 +254,7 @@ module _ (P : TerminalString → Type 0) (plain : (t : TerminalString) → P t �
     distinct_names = distinct;
     names_have_rules = name_used;
     no_error_converted = no_error_converted;
-    no_error_mapped = λ i. none_of (mapped p) Error none_mapped i;
+    no_error_mapped = λ i. none_of (mapped_terminals p) Error none_mapped i;
     one_enum = just_one;
     one_match = at_most (match_blocks p) tokens.no_match;
     one_intern = at_most (interns p) tokens.no_intern;

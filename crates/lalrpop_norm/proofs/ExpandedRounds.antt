@@ -14,7 +14,7 @@ use Rattle.lalrpop_norm_model.specs.ClosedTexts.{closed_text}
 use Rattle.lalrpop_norm_model.specs.Grammars.{ConditionValue}
 use Rattle.lalrpop_norm_model.specs.MadeRules.{made_rules}
 use Rattle.lalrpop_norm_model.specs.PlainRules as plain
-use Rattle.lalrpop_norm_model.specs.PlainRules.{met_in_rule, met_by_made, rules_of, macros_of, made_symbols, made_in, replaced_rule, plain_rules, plain_grammar}
+use Rattle.lalrpop_norm_model.specs.PlainRules.{met_in_rule, met_by_made, rules_without_arguments, macros_of, made_symbols, made_in, replaced_rule, plain_rules, plain_grammar}
 use Rattle.lalrpop_norm_model.specs.PlainTables.{IsSettled, flat_meaning, declared, closed}
 use Rattle.lalrpop_norm_model.specs.Expanded.{rule_names}
 use Rattle.lalrpop_norm_model.proofs.LevelLemmas.{in_map, of_map}
@@ -54,7 +54,7 @@ module _ {A : Type 0} (same : A → A → Bool) (meets : A → List A) (start : 
 
 -- ---- names
 
-module _ (value : ConditionValue) (g : GrammarData) (S : IsSettled g) (n : ℕ) (whole : plain.IsWhole value g n) where
+module _ (value : ConditionValue) (g : GrammarData) (S : IsSettled g) (n : ℕ) (whole : plain.IsEnded value g n) where
   abbrev expanded : List ClosedSymbol
   expanded = expanded_symbols (flat_meaning value g) (declared g) n
 
@@ -74,8 +74,8 @@ module _ (value : ConditionValue) (g : GrammarData) (S : IsSettled g) (n : ℕ) 
       (in_map (λ (d : RuleData). d.name.0) r (plain_rules value g n) i)
 
   -- a rule without arguments keeps its name
-  pub written_named : (r : RuleData) → In r (rules_of g) → In r.name.0 (rule_names (plain_grammar value g n))
-  written_named r i = in_plain (replaced_rule r) (in_left (replaced_rule r) (map replaced_rule (rules_of g)) _ (in_map replaced_rule r (rules_of g) i))
+  pub written_named : (r : RuleData) → In r (rules_without_arguments g) → In r.name.0 (rule_names (plain_grammar value g n))
+  written_named r i = in_plain (replaced_rule r) (in_left (replaced_rule r) (map replaced_rule (rules_without_arguments g)) _ (in_map replaced_rule r (rules_without_arguments g) i))
 
   -- each symbol that is made has a rule of its text
   made_named : (p : Part) → In p (made_symbols value g n) → In (part_text p) (rule_names (plain_grammar value g n))
@@ -84,7 +84,7 @@ module _ (value : ConditionValue) (g : GrammarData) (S : IsSettled g) (n : ℕ) 
       let (r, made, is) = made_rules_are_read value g S.resolved S.scoped p s.0 s.1 in
       let here : In r (made_rules value (macros_of g) p) = subst (λ (rs : List RuleData). In r rs) (sym made) (inl refl) in
       subst (λ m. In m (rule_names (plain_grammar value g n))) is.name
-      (in_plain (replaced_rule r) (in_right (replaced_rule r) (map replaced_rule (rules_of g)) _
+      (in_plain (replaced_rule r) (in_right (replaced_rule r) (map replaced_rule (rules_without_arguments g)) _
       (in_map replaced_rule r (made_in value g n) (in_flat (made_rules value (macros_of g)) r p (made_symbols value g n) i here))))
 
   -- so has each whose closed symbol is expanded
@@ -94,10 +94,10 @@ module _ (value : ConditionValue) (g : GrammarData) (S : IsSettled g) (n : ℕ) 
       subst (λ m. In m (rule_names (plain_grammar value g n))) (same_text p q e) (made_named p j)
 
   -- each symbol that the rules of the grammar meet has a rule of its text
-  pub start_covered : (q : Part) → In q (flat_map met_in_rule (rules_of g)) → In (part_text q) (rule_names (plain_grammar value g n))
+  pub start_covered : (q : Part) → In q (flat_map met_in_rule (rules_without_arguments g)) → In (part_text q) (rule_names (plain_grammar value g n))
   start_covered q i =
       let read = (met_is_read value g S).1 in
-      let met = subst (λ (gs : List ClosedSymbol). In (closed q) gs) read (in_map closed q (flat_map met_in_rule (rules_of g)) i) in
+      let met = subst (λ (gs : List ClosedSymbol). In (closed q) gs) read (in_map closed q (flat_map met_in_rule (rules_without_arguments g)) i) in
       let (x, j, k) = of_flat (rule_meets (flat_meaning value g)) (closed q) (declared g) met in
       expanded_named q (done.done x (closed q) (in_left x (declared g) expanded j) k)
 

@@ -9,9 +9,9 @@ use Rattle.lalrpop_norm_tree.specs.Items.{AlternativeData, RuleData, GrammarData
 use Rattle.lalrpop_norm_theory.specs.Rounds.{In}
 use Rattle.lalrpop_norm_model.specs.Levels.{every, without_levels}
 use Rattle.lalrpop_norm_model.specs.WrittenRules.{WrittenRule, flat_rules, rule_named}
-use Rattle.lalrpop_norm_model.specs.Grammars.{is_nil, is_macro}
+use Rattle.lalrpop_norm_model.specs.Grammars.{is_nil, has_arguments}
 use Rattle.lalrpop_norm_model.specs.Scoped.{is_rule, is_macro_for, is_scoped_kind, is_scoped, are_scoped}
-use Rattle.lalrpop_norm_model.specs.PlainRules.{all_rules, rules_of, macros_of}
+use Rattle.lalrpop_norm_model.specs.PlainRules.{all_rules, rules_without_arguments, macros_of}
 use Rattle.lalrpop_norm_model.specs.PlainTables.{IsSettled}
 use Rattle.lalrpop_norm_model.proofs.GrammarLemmas.{flat_from}
 use Rattle.lalrpop_norm_model.proofs.LevelLemmas.{in_map}
@@ -71,7 +71,7 @@ HasNoMacros g = (r : RuleData) → In r (all_rules g) → r.args ≡ []
 pub no_macros_of : (g : GrammarData) → HasNoMacros g → macros_of g ≡ []
 no_macros_of g h = none_filtered (λ (r : RuleData). not (is_nil r.args)) (all_rules g) (λ r i. ap (λ (args : List NonterminalString). not (is_nil args)) (h r i))
 
-pub all_plain : (g : GrammarData) → HasNoMacros g → (r : RuleData) → In r (all_rules g) → In r (rules_of g)
+pub all_plain : (g : GrammarData) → HasNoMacros g → (r : RuleData) → In r (all_rules g) → In r (rules_without_arguments g)
 all_plain g h = filtered (λ (r : RuleData). is_nil r.args) (all_rules g) (λ r i. ap (λ (args : List NonterminalString). is_nil args) (h r i))
 
 module _ (g : GrammarData) (S : IsSettled g) (none : HasNoMacros g) (P : TerminalString → Type 0) (N : List ℕ → Type 0)
@@ -90,8 +90,8 @@ module _ (g : GrammarData) (S : IsSettled g) (none : HasNoMacros g) (P : Termina
       let f = rule_found (flat_rules g) n s e in
       let (d, i, is) = flat_from g s f.0 in
       let bare : s.args ≡ [] = ap (λ (w : WrittenRule). w.args) is ∙ none d i in
-      let no : is_macro s ≡ false = ap (λ (args : List NonterminalString). not (is_nil args)) bare in
-      let b = and_parts (is_macro s) _ h in
+      let no : has_arguments s ≡ false = ap (λ (args : List NonterminalString). not (is_nil args)) bare in
+      let b = and_parts (has_arguments s) _ h in
       cc (no, b.0)
 
   mutual

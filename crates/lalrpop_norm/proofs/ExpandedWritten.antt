@@ -17,12 +17,12 @@ use Rattle.lalrpop_norm_tree.specs.Symbols.{Kind, Part, Parts, group, ambiguous_
 use Rattle.lalrpop_norm_tree.specs.Types.{TypeData, TypesData, MaybeType, ParameterData, tuple, slice, nominal, reference, trait_object, of_lifetime, id, of_symbol, function, no_types, type_and, no_type, returns}
 use Rattle.lalrpop_norm_theory.specs.Rounds.{In, IsDistinct}
 use Rattle.lalrpop_norm_theory.proofs.RoundsLemmas.{in_cases, of_flat}
-use Rattle.lalrpop_norm_faults.specs.Faults.{Fault, fault_if}
+use Rattle.lalrpop_norm_faults.specs.Faults.{fault_if}
 use Rattle.lalrpop_norm_faults.specs.declared.kind.FaultKind.TheVariants.{UnknownAssociatedType, RepeatedAssociatedType, WrittenOfSymbol}
 use Rattle.lalrpop_norm_model.specs.Features.{Features, is_active, is_one_of}
 use Rattle.lalrpop_norm_model.specs.Enabled.{enabled_rule, enabled_enum, enabled_extern, enabled_item, enabled_grammar}
 use Rattle.lalrpop_norm_model.specs.PlainRules.{rule_of_item, all_rules}
-use Rattle.lalrpop_norm_model.specs.TerminalTypes.{chosen_in, chosen_in_kind, chosen_in_all, chosen_in_fields}
+use Rattle.lalrpop_norm_model.specs.TerminalTypes.{chosen_in_pattern, chosen_in_kind, chosen_in_all, chosen_in_fields}
 use Rattle.lalrpop_norm_model.specs.Expanded as expanded
 use Rattle.lalrpop_norm_model.specs.Expanded.{match_in, intern_in, terminals_converted, symbols_in, symbols_in_all, symbols_in_return, types_in_clause, types_in_enum, types_in_extern, types_beside_rules, all_known}
 use Rattle.lalrpop_norm_model.proofs.LevelLemmas.{of_map}
@@ -32,16 +32,18 @@ use Rattle.lalrpop_norm_front.specs.EnabledItems.{active_conversions}
 use Rattle.lalrpop_norm_front.specs.TypeFaults.{some_holds, kind_holds, pattern_holds, patterns_hold, fields_hold}
 use Rattle.lalrpop_norm_front.specs.SymbolFaults.{terminal_faults, kind_faults, part_faults, parts_faults, beside_faults, list_faults}
 use Rattle.lalrpop_norm_front.specs.AlternativeFaults.{alternative_faults}
-use Rattle.lalrpop_norm_front.specs.GrammarFaults.{rule_faults, associated_faults, types_faults, conversion_faults, enum_faults, extern_faults, is_known_type, unknown_faults, parameter_faults, clause_faults, is_match, is_extern, item_faults, items_faults, place_in, blocks_in, validate_faults}
+use Rattle.lalrpop_norm_front.specs.GrammarFaults.{rule_faults, associated_faults, types_faults, conversion_faults, enum_faults, extern_faults, is_known_type, unknown_grammar_faults, parameter_faults, clause_faults, is_match, is_extern, item_faults, items_faults, place_in, blocks_in, validate_faults}
 use Rattle.lalrpop_norm_front.specs.Walks.{types_along, items_along}
 use Rattle.lalrpop_norm_front.proofs.PlaceLemmas.{types_placed, items_placed}
 use Rattle.lalrpop_norm_late.proofs.KeyLaws.{terminals_decide}
-use Rattle.lalrpop_norm.specs.Grammars.{rules_of, externs_of, first_of, enum_of, conversions_in, conversions_of, terminals_of, terminal_listed, same_terminal}
-use Rattle.lalrpop_norm.specs.Later.{has_conversion}
+use Rattle.lalrpop_norm.specs.Grammars.{rules_among, externs_of, first_of, enum_of, conversions_in, conversions_of, terminal_listed, same_terminal}
+use Rattle.lalrpop_norm.specs.Later.{has_active_conversion}
 use Rattle.lalrpop_norm.specs.TakenGrammars.{IsConverted, IsTakenKind, IsTakenSymbol, AreTakenSymbols, IsTakenAlternative, IsTakenRule, IsNoMatchBlock, IsTaken}
 use Rattle.lalrpop_norm.proofs.ExpandedScopes.{IsOverKind, IsOver, AreOver}
 use Rattle.lalrpop_norm.proofs.ExpandedTokens.{HasOneEnum}
 use Rattle.lalrpop_norm.proofs.ExpandedSteps.{AreFitRules, IsTokenOf, enabled_rules_fit}
+use Rattle.lalrpop_norm_theory.proofs.BoolLemmas.{left_false, right_false}
+use Rattle.lalrpop_norm_faults.proofs.FaultLemmas.{not_fault}
 
 -- ---- lists
 
@@ -49,18 +51,6 @@ each_of : {A : Type 0} (P : A → Type 0) (xs : List A) → All P xs → (x : A)
 each_of P [] h x i = absurd i
 each_of P (y ∷ xs) h x (inl e) = subst P (sym e) (All-head P y xs h)
 each_of P (y ∷ xs) h x (inr i) = each_of P xs (All-tail P y xs h) x i
-
-no_fault : (b : Bool) (f : Fault) → fault_if b f ≡ [] → b ≡ false
-no_fault true f h = absurd (cc h)
-no_fault false f h = refl
-
-left_false : (a b : Bool) → (a || b) ≡ false → a ≡ false
-left_false true b h = h
-left_false false b h = refl
-
-right_false : (a b : Bool) → (a || b) ≡ false → b ≡ false
-right_false true b h = absurd (cc h)
-right_false false b h = h
 
 -- ---- symbols in types
 
@@ -111,19 +101,19 @@ mutual
   chosen_bare_kind (pattern.character a) h t i = absurd i
   chosen_bare_kind (pattern.text a) h t i = absurd i
 
-  chosen_bare : (p : pattern.PatternData TypeData) → pattern_holds p ≡ false → (t : TypeData) → In t (chosen_in p) → holds_symbol t ≡ false
+  chosen_bare : (p : pattern.PatternData TypeData) → pattern_holds p ≡ false → (t : TypeData) → In t (chosen_in_pattern p) → holds_symbol t ≡ false
   chosen_bare (pattern.pattern_at s k) h t i = chosen_bare_kind k h t i
 
   chosen_bare_all : (ps : pattern.Patterns TypeData) → patterns_hold ps ≡ false → (t : TypeData) → In t (chosen_in_all ps) → holds_symbol t ≡ false
   chosen_bare_all pattern.no_patterns h t i = absurd i
-  chosen_bare_all (pattern.pattern_and p ps) h t i = elim (in_cases t (chosen_in p) (chosen_in_all ps) i) [
+  chosen_bare_all (pattern.pattern_and p ps) h t i = elim (in_cases t (chosen_in_pattern p) (chosen_in_all ps) i) [
     | inl j ↦ chosen_bare p (left_false (pattern_holds p) (patterns_hold ps) h) t j
     | inr j ↦ chosen_bare_all ps (right_false (pattern_holds p) (patterns_hold ps) h) t j
   ]
 
   chosen_bare_fields : (fs : pattern.Fields TypeData) → fields_hold fs ≡ false → (t : TypeData) → In t (chosen_in_fields fs) → holds_symbol t ≡ false
   chosen_bare_fields pattern.no_fields h t i = absurd i
-  chosen_bare_fields (pattern.field_and s n p fs) h t i = elim (in_cases t (chosen_in p) (chosen_in_fields fs) i) [
+  chosen_bare_fields (pattern.field_and s n p fs) h t i = elim (in_cases t (chosen_in_pattern p) (chosen_in_fields fs) i) [
     | inl j ↦ chosen_bare p (left_false (pattern_holds p) (fields_hold fs) h) t j
     | inr j ↦ chosen_bare_fields fs (right_false (pattern_holds p) (fields_hold fs) h) t j
   ]
@@ -190,7 +180,7 @@ module _ (g : GrammarData) where
       let two = both_empty (fault_if (some_holds r.type_decl) _) _ one.1 in
       let three = both_empty _ _ two.1 in
       let four = both_empty _ (flat_map (alternative_faults (place_in g)) r.alternatives) three.1 in
-      (no_fault (some_holds r.type_decl) _ two.0, four.1)
+      (not_fault (some_holds r.type_decl) _ two.0, four.1)
 
   symbols_free : (a : AlternativeData) → alternative_faults (place_in g) a ≡ [] → parts_faults (place_in g) a.parts ≡ []
   unfolding alternative_faults
@@ -205,14 +195,14 @@ associated_bare before (a ∷ ts) h t (inl e) =
     let known = fault_if (not (is_known_type a.type_name)) (UnknownAssociatedType, a.type_span) in
     let once = fault_if (is_one_of a.type_name before) (RepeatedAssociatedType, a.type_span) in
     let bare = fault_if (holds_symbol a.type_ref) (WrittenOfSymbol, a.type_span) in
-    ap holds_symbol e ∙ no_fault (holds_symbol a.type_ref) (WrittenOfSymbol, a.type_span) (both_empty once bare (both_empty known (once ++ bare) here).1).1
+    ap holds_symbol e ∙ not_fault (holds_symbol a.type_ref) (WrittenOfSymbol, a.type_span) (both_empty once bare (both_empty known (once ++ bare) here).1).1
 associated_bare before (a ∷ ts) h t (inr i) = associated_bare _ ts (both_empty (associated_faults before a) _ h).1 t i
 
 conversion_free : (cv : ConversionData) → conversion_faults cv ≡ [] → (terminal_faults cv.span cv.from ≡ []) × (pattern_holds cv.to ≡ false)
 unfolding conversion_faults
 conversion_free cv h =
     let two = both_empty (terminal_faults cv.span cv.from) (fault_if (pattern_holds cv.to) _) h in
-    (two.0, no_fault (pattern_holds cv.to) _ two.1)
+    (two.0, not_fault (pattern_holds cv.to) _ two.1)
 
 not_error : (s : Span) (t : TerminalString) → terminal_faults s t ≡ [] → t ≡ Error → ⊥
 unfolding terminal_faults
@@ -312,9 +302,9 @@ module _ (fs : Features) where
 
   -- the types of enabled extern blocks
   enum_bare : (e : EnumTokenData) → enum_faults (Some e) ≡ [] → (t : TypeData) → In t (types_in_enum (enabled_enum fs e)) → holds_symbol t ≡ false
-  enum_bare e h t (inl same) = ap holds_symbol same ∙ no_fault (holds_symbol e.type_name) _ (both_empty (fault_if (holds_symbol e.type_name) _) _ h).0
+  enum_bare e h t (inl same) = ap holds_symbol same ∙ not_fault (holds_symbol e.type_name) _ (both_empty (fault_if (holds_symbol e.type_name) _) _ h).0
   enum_bare e h t (inr i) =
-      let (cv, j, k) = of_flat (λ (x : ConversionData). chosen_in x.to) t (filter (λ (x : ConversionData). is_active fs x.attributes) e.conversions) i in
+      let (cv, j, k) = of_flat (λ (x : ConversionData). chosen_in_pattern x.to) t (filter (λ (x : ConversionData). is_active fs x.attributes) e.conversions) i in
       let l = (in_filtered (λ (x : ConversionData). is_active fs x.attributes) e.conversions cv j).0 in
       chosen_bare cv.to (conversion_free cv (none_made conversion_faults e.conversions (both_empty (fault_if (holds_symbol e.type_name) _) _ h).1 cv l)).1 t k
 
@@ -350,7 +340,7 @@ module _ (fs : Features) where
 -- ---- items that are taken
 
 -- the two words for the rules of a grammar say the same
-rules_same : (items : List ItemData) → rules_of items ≡ flat_map rule_of_item items
+rules_same : (items : List ItemData) → rules_among items ≡ flat_map rule_of_item items
 rules_same [] = refl
 rules_same (rule_item r ∷ items) = ap (λ rs. r ∷ rs) (rules_same items)
 rules_same (match_item m ∷ items) = rules_same items
@@ -434,7 +424,7 @@ module _ (fs : Features) (g : GrammarData) (h : IsTaken fs g) (f : validate_faul
       let clauses = flat_map (clause_faults g.span) g.where_clauses in
       let parameters = flat_map (parameter_faults g.span) g.parameters in
       items_placed (place_in g) (blocks_in g) g.span g.items
-      ∙ (both_empty clauses items (both_empty parameters (clauses ++ items) (both_empty (unknown_faults g.attributes) (parameters ++ (clauses ++ items)) f).1).1).1
+      ∙ (both_empty clauses items (both_empty parameters (clauses ++ items) (both_empty (unknown_grammar_faults g.attributes) (parameters ++ (clauses ++ items)) f).1).1).1
 
   each_free : (i : ItemData) → In i g.items → IsFree g i
   each_free = item_free g false false g.items items_free
@@ -493,18 +483,18 @@ module _ (fs : Features) (g : GrammarData) (h : IsTaken fs g) (f : validate_faul
 
     -- its terminals are distinct
     pub distinct_tokens : IsDistinct (terminals_converted (enabled_enum fs u).conversions)
-    distinct_tokens = distinct_by (terminals_converted (enabled_enum fs u).conversions) (subst (λ cs. list.IsDistinct same_terminal (terminals_of cs)) the_conversions h.terminals)
+    distinct_tokens = distinct_by (terminals_converted (enabled_enum fs u).conversions) (subst (λ cs. list.IsDistinct same_terminal (terminals_converted cs)) the_conversions h.terminals)
 
-    converted : (t : TerminalString) → has_conversion fs g.items t ≡ true → IsTokenOf (enabled_enum fs u) t
+    converted : (t : TerminalString) → has_active_conversion fs g.items t ≡ true → IsTokenOf (enabled_enum fs u) t
     converted t e =
-        listed_in t (terminals_converted (enabled_enum fs u).conversions) (subst (λ cs. terminal_listed t (terminals_of cs) ≡ true) the_conversions e)
+        listed_in t (terminals_converted (enabled_enum fs u).conversions) (subst (λ cs. terminal_listed t (terminals_converted cs) ≡ true) the_conversions e)
 
-    taken_rule : (r : RuleData) → In r (all_rules g) → IsTakenRule (has_conversion fs g.items) r
+    taken_rule : (r : RuleData) → In r (all_rules g) → IsTakenRule (has_active_conversion fs g.items) r
     taken_rule r i =
-        each_of (IsTakenRule (has_conversion fs g.items)) (rules_of g.items) h.rules r (subst (λ (rs : List RuleData). In r rs) (sym (rules_same g.items)) i)
+        each_of (IsTakenRule (has_active_conversion fs g.items)) (rules_among g.items) h.rules r (subst (λ (rs : List RuleData). In r rs) (sym (rules_same g.items)) i)
 
-    taken_alternative : (r : RuleData) → In r (all_rules g) → (a : AlternativeData) → In a r.alternatives → IsTakenAlternative (has_conversion fs g.items) a
-    taken_alternative r i = each_of (IsTakenAlternative (has_conversion fs g.items)) r.alternatives (taken_rule r i).alternatives
+    taken_alternative : (r : RuleData) → In r (all_rules g) → (a : AlternativeData) → In a r.alternatives → IsTakenAlternative (has_active_conversion fs g.items) a
+    taken_alternative r i = each_of (IsTakenAlternative (has_active_conversion fs g.items)) r.alternatives (taken_rule r i).alternatives
 
     -- the rules of the written grammar fit
     written_fit : AreFitRules (IsTokenOf (enabled_enum fs u)) g
@@ -515,7 +505,7 @@ module _ (fs : Features) (g : GrammarData) (h : IsTaken fs g) (f : validate_faul
           bare_type = none_declared r.type_decl free.0;
           conditions = λ a j. (taken_alternative r i a j).condition;
           over = λ a j.
-              parts_over g (has_conversion fs g.items) (IsTokenOf (enabled_enum fs u)) converted a.parts (taken_alternative r i a j).symbols
+              parts_over g (has_active_conversion fs g.items) (IsTokenOf (enabled_enum fs u)) converted a.parts (taken_alternative r i a j).symbols
               (symbols_free g a (none_made (alternative_faults (place_in g)) r.alternatives free.1 a j));
         }
 

@@ -17,13 +17,13 @@ use Rattle.lalrpop_norm_model.specs.TuplePatterns.{IsTypable}
 use Rattle.lalrpop_norm_model.specs.Expanded.{rule_names}
 use Rattle.lalrpop_norm_model.specs.InferenceFaults.{inference_faults}
 use Rattle.lalrpop_norm_model.specs.LoweringFaults as lowering
-use Rattle.lalrpop_norm_model.specs.LoweringFaults.{start_faults, number_faults, lowering_faults}
+use Rattle.lalrpop_norm_model.specs.LoweringFaults.{start_faults, action_number_faults, lowering_faults}
 use Rattle.lalrpop_norm_model.proofs.LevelLemmas.{of_map}
 use Rattle.lalrpop_norm_model.proofs.InferenceLemmas.{both_empty, none_true}
 use Rattle.lalrpop_norm_model.proofs.TypableLemmas.{typable_exactly}
 use Rattle.lalrpop_norm_repr.specs.Tables.{TypeTable, found, type_of}
-use Rattle.lalrpop_norm_late.specs.Lowering.{public_rules, start_name}
-use Rattle.lalrpop_norm_late.specs.Made.{type_in}
+use Rattle.lalrpop_norm_late.specs.Lowering.{public_rules_in, start_name}
+use Rattle.lalrpop_norm_late.specs.Made.{types_by_name}
 use Rattle.lalrpop_norm_late.specs.Shape.{HasStartTypes, rules_of_starts}
 use Rattle.lalrpop_norm.specs.Faithful.{HasOnlyType, IsInferred, HasGroundedTypes}
 
@@ -34,17 +34,17 @@ public_by true s rules some r f (inl e) = inl e
 public_by true s rules some r f (inr i) = inr (f i)
 public_by false s rules some r f i = inr (f i)
 
-pub public_in : (rules : List RuleData) (r : RuleData) → In r (public_rules rules) → In r rules
+pub public_in : (rules : List RuleData) (r : RuleData) → In r (public_rules_in rules) → In r rules
 public_in [] r i = absurd i
-public_in (s ∷ rules) r i = public_by (is_public s.visibility) s rules (public_rules rules) r (public_in rules r) i
+public_in (s ∷ rules) r i = public_by (is_public s.visibility) s rules (public_rules_in rules) r (public_in rules r) i
 
 -- the two words for public rules say the same
-public_same : (rules : List RuleData) → public_rules rules ≡ filter (λ (r : RuleData). is_public r.visibility) rules
+public_same : (rules : List RuleData) → public_rules_in rules ≡ filter (λ (r : RuleData). is_public r.visibility) rules
 public_same [] = refl
 public_same (s ∷ rules) = by (is_public s.visibility) (public_same rules)
   where
-    by : (b : Bool) → public_rules rules ≡ filter (λ (r : RuleData). is_public r.visibility) rules →
-        (if b then s ∷ public_rules rules else public_rules rules)
+    by : (b : Bool) → public_rules_in rules ≡ filter (λ (r : RuleData). is_public r.visibility) rules →
+        (if b then s ∷ public_rules_in rules else public_rules_in rules)
         ≡ (if b then s ∷ filter (λ (r : RuleData). is_public r.visibility) rules else filter (λ (r : RuleData). is_public r.visibility) rules)
     by true h = ap (λ rs. s ∷ rs) h
     by false h = h
@@ -52,14 +52,14 @@ public_same (s ∷ rules) = by (is_public s.visibility) (public_same rules)
 -- ---- start names have no type yet
 
 each_start : (prefix : List ℕ) (types : List ℕ → Option ReprData) (k : ℕ) (rules : List RuleData) →
-    flat_map (λ (e : ℕ × RuleData). start_faults prefix types e.1 ++ number_faults e.0 e.1.span) (enumerate_from k rules) ≡ [] →
+    flat_map (λ (e : ℕ × RuleData). start_faults prefix types e.1 ++ action_number_faults e.0 e.1.span) (enumerate_from k rules) ≡ [] →
     (r : RuleData) → In r rules → start_faults prefix types r ≡ []
 each_start prefix types k [] h r i = absurd i
 each_start prefix types k (s ∷ rules) h r (inl e) =
-    let here = both_empty (start_faults prefix types s ++ number_faults k s.span) _ h in
-    subst (λ (x : RuleData). start_faults prefix types x ≡ []) (sym e) (both_empty (start_faults prefix types s) (number_faults k s.span) here.0).0
+    let here = both_empty (start_faults prefix types s ++ action_number_faults k s.span) _ h in
+    subst (λ (x : RuleData). start_faults prefix types x ≡ []) (sym e) (both_empty (start_faults prefix types s) (action_number_faults k s.span) here.0).0
 each_start prefix types k (s ∷ rules) h r (inr i) =
-    each_start prefix types (k + 1) rules (both_empty (start_faults prefix types s ++ number_faults k s.span) _ h).1 r i
+    each_start prefix types (k + 1) rules (both_empty (start_faults prefix types s ++ action_number_faults k s.span) _ h).1 r i
 
 no_fault : (b : Bool) (f : Fault) → fault_if (not b) f ≡ [] → b ≡ true
 no_fault true f h = refl
@@ -67,9 +67,9 @@ no_fault false f h = absurd (cc h)
 
 -- where no fault of lowering stands, the start name of a public rule has no type in the table
 pub start_untyped : (g : GrammarData) (types : List ℕ → Option ReprData) → lowering_faults g types ≡ [] →
-    (r : RuleData) → In r (public_rules (all_rules g)) → types (g.prefix ++ r.name.0) ≡ None
+    (r : RuleData) → In r (public_rules_in (all_rules g)) → types (g.prefix ++ r.name.0) ≡ None
 start_untyped g types h r i =
-    let starts = (both_empty (flat_map (λ (e : ℕ × RuleData). start_faults g.prefix types e.1 ++ number_faults e.0 e.1.span) (enumerate_from 0 (lowering.public_rules g))) _ h).0 in
+    let starts = (both_empty (flat_map (λ (e : ℕ × RuleData). start_faults g.prefix types e.1 ++ action_number_faults e.0 e.1.span) (enumerate_from 0 (lowering.public_rules g))) _ h).0 in
     let j : In r (lowering.public_rules g) = subst (λ (rs : List RuleData). In r rs) (public_same (all_rules g)) i in
     none_true (types (g.prefix ++ r.name.0)) (no_fault _ _ (each_start g.prefix types 0 (lowering.public_rules g) starts r j))
 
@@ -99,20 +99,20 @@ module _ (g : GrammarData) (table : TypeTable) (inferred : IsInferred g table) (
   rule_listed : (r : RuleData) → IsRule g r → (x : ReprData) × Has g r.name.0 x × (type_of r.name table ≡ Some x)
   rule_listed r i = let t = one_type.total r i in (t.0, t.1, (inferred.names r.name t.0).1 t.1)
 
-  pub rule_typed : (r : RuleData) → IsRule g r → IsSome (type_in table r.name.0)
-  rule_typed r i = by (type_in table r.name.0) (rule_listed r i).0 (rule_listed r i).2
+  pub rule_typed : (r : RuleData) → IsRule g r → IsSome (types_by_name table r.name.0)
+  rule_typed r i = by (types_by_name table r.name.0) (rule_listed r i).0 (rule_listed r i).2
     where
       by : (o : Option ReprData) (x : ReprData) → o ≡ Some x → IsSome o
       by None x e = absurd (grind arith)
       by (Some y) x e = refl
 
-  module _ (lowerable : lowering_faults g (type_in table) ≡ []) where
+  module _ (lowerable : lowering_faults g (types_by_name table) ≡ []) where
     -- the start name of a public rule is no rule's name
-    pub start_is_free : (r : RuleData) → In r (public_rules (all_rules g)) → In (g.prefix ++ r.name.0) (rule_names g) → ⊥
+    pub start_is_free : (r : RuleData) → In r (public_rules_in (all_rules g)) → In (g.prefix ++ r.name.0) (rule_names g) → ⊥
     start_is_free r i j =
         let (d, k, e) = of_map (λ (s : RuleData). s.name.0) (g.prefix ++ r.name.0) (all_rules g) j in
-        let none : type_in table d.name.0 ≡ None = subst (λ m. type_in table m ≡ None) e (start_untyped g (type_in table) lowerable r i) in
-        let some : type_in table d.name.0 ≡ Some (rule_listed d k).0 = (rule_listed d k).2 in
+        let none : types_by_name table d.name.0 ≡ None = subst (λ m. types_by_name table m ≡ None) e (start_untyped g (types_by_name table) lowerable r i) in
+        let some : types_by_name table d.name.0 ≡ Some (rule_listed d k).0 = (rule_listed d k).2 in
         cc (none, some)
 
     module _ (types : TypeTable) (started : HasStartTypes g.prefix (all_rules g) table types) where
@@ -128,12 +128,12 @@ module _ (g : GrammarData) (table : TypeTable) (inferred : IsInferred g table) (
         listed = kept_type r (rule_listed r i).0 (rule_listed r i).2;
       }
 
-      start_type : (r : RuleData) → In r (public_rules (all_rules g)) → type_of (start_name g.prefix r.name) types ≡ type_of r.name types
+      start_type : (r : RuleData) → In r (public_rules_in (all_rules g)) → type_of (start_name g.prefix r.name) types ≡ type_of r.name types
       start_type r i =
           let own = rule_listed r (public_in (all_rules g) r i) in
-          let none : type_of (start_name g.prefix r.name) table ≡ None = start_untyped g (type_in table) lowerable r i in
+          let none : type_of (start_name g.prefix r.name) table ≡ None = start_untyped g (types_by_name table) lowerable r i in
           started.names (start_name g.prefix r.name)
-          ∙ ap₂ (λ o p. or_else o (option_and_then (λ m. type_of m table) p)) none (start_at g.prefix (public_rules (all_rules g)) r i)
+          ∙ ap₂ (λ o p. or_else o (option_and_then (λ m. type_of m table) p)) none (start_at g.prefix (public_rules_in (all_rules g)) r i)
           ∙ own.2 ∙ sym (kept_type r own.0 own.2)
 
       -- each nonterminal has its only grounded type, a start symbol that of its rule

@@ -15,25 +15,10 @@ use Rattle.lalrpop_norm_parts.specs.declared.names.TerminalLiteral.TheVariants.{
 use Rattle.lalrpop_norm_parts.specs.declared.names.TerminalString.{TerminalString}
 use Rattle.lalrpop_norm_parts.specs.declared.names.TerminalString.TheVariants.{Literal, Bare, Error}
 use Rattle.lalrpop_norm_late.proofs.KeyLaws.{terminals_exact}
-use Rattle.lalrpop_norm.specs.Grammars.{has_repeated, same_literal, same_terminal}
-use Rattle.lalrpop_norm.specs.LaterWalks.{has_key, with_keys, repeats}
+use Rattle.lalrpop_norm.specs.Grammars.{has_repeated_by, same_literal, same_terminal}
+use Rattle.lalrpop_norm.specs.LaterWalks.{is_among_keys, with_keys, repeats}
 use Rattle.lalrpop_norm_late.specs.Conversions.{literal_cmp, terminal_cmp}
-
-or_twice : (a b : Bool) → (a || b) ≡ (a || (a || b))
-or_twice true b = refl
-or_twice false b = refl
-
-or_swap : (a b c : Bool) → (a || (b || c)) ≡ (b || (a || c))
-or_swap true true c = refl
-or_swap true false c = refl
-or_swap false true c = refl
-or_swap false false c = refl
-
-or_assoc : (a b c : Bool) → (b || (a || c)) ≡ ((a || b) || c)
-or_assoc true true c = refl
-or_assoc true false c = refl
-or_assoc false true c = refl
-or_assoc false false c = refl
+use Rattle.lalrpop_norm_theory.proofs.BoolLemmas.{or_swap, or_nothing, or_twice, or_moved}
 
 or_shuffle : (a b c d : Bool) → (a || (b || (c || d))) ≡ ((c || b) || (a || d))
 or_shuffle true true true d = refl
@@ -44,10 +29,6 @@ or_shuffle false true true d = refl
 or_shuffle false true false d = refl
 or_shuffle false false true d = refl
 or_shuffle false false false d = refl
-
-or_false : (a : Bool) → (a || false) ≡ a
-or_false true = refl
-or_false false = refl
 
 any_or : {X : Type 0} (p q : X → Bool) (xs : List X) → list_any (λ x. p x || q x) xs ≡ (list_any p xs || list_any q xs)
 any_or p q [] = refl
@@ -75,30 +56,30 @@ module _ {K : Type 0} (cmp : K → K → Ordering) (exact : CmpEqualImpliesEq cm
 
   any_with : (p : K → Bool) (keys ns : List K) → list_any p (with_keys cmp keys ns) ≡ (list_any p ns || list_any p keys)
   any_with p keys [] = refl
-  any_with p keys (n ∷ ns) = any_with p (insert_key cmp keys n) ns ∙ ap (λ b. list_any p ns || b) (any_insert p keys n) ∙ or_assoc (p n) (list_any p ns) (list_any p keys)
+  any_with p keys (n ∷ ns) = any_with p (insert_key cmp keys n) ns ∙ ap (λ b. list_any p ns || b) (any_insert p keys n) ∙ or_moved (p n) (list_any p ns) (list_any p keys)
 
   module _ (same : K → K → Bool) (agree : (a b : K) → is_eq (cmp a b) ≡ same a b) (symm : (a b : K) → same a b ≡ same b a) where
     -- a key is among those that were added to none exactly where it is in the list
-    pub added_keys : (ns : List K) → has_key cmp (with_keys cmp [] ns) ≡ (λ q. list_any (same q) ns)
-    added_keys ns = fun_ext (λ q. any_with (is_at (cmp q)) [] ns ∙ or_false (list_any (is_at (cmp q)) ns) ∙ ap (λ p. list_any p ns) (fun_ext (agree q)))
+    pub added_keys : (ns : List K) → is_among_keys cmp (with_keys cmp [] ns) ≡ (λ q. list_any (same q) ns)
+    added_keys ns = fun_ext (λ q. any_with (is_at (cmp q)) [] ns ∙ or_nothing (list_any (is_at (cmp q)) ns) ∙ ap (λ p. list_any p ns) (fun_ext (agree q)))
 
-    has_inserted : (keys : List K) (n m : K) → has_key cmp (insert_key cmp keys n) m ≡ (same n m || has_key cmp keys m)
-    has_inserted keys n m = any_insert (is_at (cmp m)) keys n ∙ ap (λ b. b || has_key cmp keys m) (agree m n ∙ symm m n)
+    has_inserted : (keys : List K) (n m : K) → is_among_keys cmp (insert_key cmp keys n) m ≡ (same n m || is_among_keys cmp keys m)
+    has_inserted keys n m = any_insert (is_at (cmp m)) keys n ∙ ap (λ b. b || is_among_keys cmp keys m) (agree m n ∙ symm m n)
 
-    repeats_beside : (keys ns : List K) → repeats cmp keys ns ≡ (has_repeated same ns || list_any (has_key cmp keys) ns)
+    repeats_beside : (keys ns : List K) → repeats cmp keys ns ≡ (has_repeated_by same ns || list_any (is_among_keys cmp keys) ns)
     repeats_beside keys [] = refl
     repeats_beside keys (n ∷ ns) =
-        ap (λ b. has_key cmp keys n || b)
+        ap (λ b. is_among_keys cmp keys n || b)
         (repeats_beside (insert_key cmp keys n) ns
-        ∙ ap (λ b. has_repeated same ns || b)
-        (ap (λ p. list_any p ns) (fun_ext (has_inserted keys n)) ∙ any_or (same n) (has_key cmp keys) ns))
-        ∙ or_shuffle (has_key cmp keys n) (has_repeated same ns) (list_any (same n) ns) (list_any (has_key cmp keys) ns)
+        ∙ ap (λ b. has_repeated_by same ns || b)
+        (ap (λ p. list_any p ns) (fun_ext (has_inserted keys n)) ∙ any_or (same n) (is_among_keys cmp keys) ns))
+        ∙ or_shuffle (is_among_keys cmp keys n) (has_repeated_by same ns) (list_any (same n) ns) (list_any (is_among_keys cmp keys) ns)
 
     -- one is there already when its turn comes exactly where one stands again behind itself
-    pub repeats_none : (ns : List K) → repeats cmp [] ns ≡ has_repeated same ns
-    repeats_none ns = repeats_beside [] ns ∙ ap (λ b. has_repeated same ns || b) (any_none ns) ∙ or_false (has_repeated same ns)
+    pub repeats_none : (ns : List K) → repeats cmp [] ns ≡ has_repeated_by same ns
+    repeats_none ns = repeats_beside [] ns ∙ ap (λ b. has_repeated_by same ns || b) (any_none ns) ∙ or_nothing (has_repeated_by same ns)
 
-pub added_names : (ns : List (List ℕ)) → has_key (slice_cmp nat_cmp) (with_keys (slice_cmp nat_cmp) [] ns) ≡ (λ q. list_any (bytes_eq q) ns)
+pub added_names : (ns : List (List ℕ)) → is_among_keys (slice_cmp nat_cmp) (with_keys (slice_cmp nat_cmp) [] ns) ≡ (λ q. list_any (bytes_eq q) ns)
 added_names ns = added_keys (slice_cmp nat_cmp) exact_bytes bytes_eq is_eq-slice_cmp nat_list_eq_equiv.symm ns
 
 -- ---- terminals
@@ -137,8 +118,8 @@ symm_terminals Error (Literal b) = refl
 symm_terminals Error (Bare b) = refl
 symm_terminals Error Error = refl
 
-pub added_terminals : (ts : List TerminalString) → has_key terminal_cmp (with_keys terminal_cmp [] ts) ≡ (λ t. list_any (same_terminal t) ts)
+pub added_terminals : (ts : List TerminalString) → is_among_keys terminal_cmp (with_keys terminal_cmp [] ts) ≡ (λ t. list_any (same_terminal t) ts)
 added_terminals ts = added_keys terminal_cmp terminals_exact same_terminal agree_terminals symm_terminals ts
 
-pub repeated_terminals : (ts : List TerminalString) → repeats terminal_cmp [] ts ≡ has_repeated same_terminal ts
+pub repeated_terminals : (ts : List TerminalString) → repeats terminal_cmp [] ts ≡ has_repeated_by same_terminal ts
 repeated_terminals ts = repeats_none terminal_cmp terminals_exact same_terminal agree_terminals symm_terminals ts

@@ -1,5 +1,5 @@
 -- A grammar that holds no part of a later stage is taken.
-use Rattle.std.proofs.Common.{◌≡◌, Bool, true, false, not, ◌||◌, ◌&&◌, List, [], ◌∷◌, ◌++◌, Option, Some, None, refl, sym, ap, ◌∙◌}
+use Rattle.std.proofs.Common.{◌≡◌, Bool, true, false, not, ◌&&◌, List, [], ◌∷◌, ◌++◌, Option, Some, None, refl, sym, ap, ◌∙◌}
 use Rattle.std.specs.Prelude.{All, IsSome}
 use Rattle.std.specs.List.{flat_map, list_any, AllByRecursion, IsDistinct}
 use Rattle.std.proofs.lemmas.List.Elements.{All-nil, All-cons}
@@ -13,9 +13,10 @@ use Rattle.lalrpop_norm_tree.specs.Types.{TypeData}
 use Rattle.lalrpop_norm_model.specs.Features.{Features}
 use Rattle.lalrpop_norm.specs.declared.later.LaterPart.{LaterPart}
 use Rattle.lalrpop_norm.specs.declared.later.LaterPart.TheVariants as later
-use Rattle.lalrpop_norm.specs.Grammars.{rules_of, externs_of, enum_of, conversions_in, conversions_of, active_conversions, terminals_of, same_terminal, has_repeated}
-use Rattle.lalrpop_norm.specs.Later.{part_if, part_of_any, part_of_some, part_of_none, attribute_parts, terminal_parts, kind_parts, symbol_parts, symbols_parts, has_several_slots, action_parts, alternative_parts, type_parts, declared_parts, rule_parts, start_parts, pattern_kind_parts, pattern_parts, patterns_parts, conversion_parts, enum_parts, extern_parts, token_parts, head_parts, item_parts, has_rule, has_conversion, later_parts}
+use Rattle.lalrpop_norm.specs.Grammars.{rules_among, externs_of, enum_of, conversions_in, conversions_of, active_conversions, terminals_converted, same_terminal, has_repeated_by}
+use Rattle.lalrpop_norm.specs.Later.{part_if, part_of_any, part_of_some, part_of_none, attribute_parts, terminal_parts, kind_parts, symbol_parts, symbols_parts, has_several_slots, action_parts, alternative_parts, type_parts, declared_parts, later_rule_parts, start_parts, pattern_kind_parts, pattern_parts, patterns_parts, conversion_parts, enum_parts, extern_parts, token_parts, head_parts, item_parts, has_rule, has_active_conversion, later_parts}
 use Rattle.lalrpop_norm.specs.TakenGrammars.{IsConverted, IsTakenKind, IsTakenSymbol, AreTakenSymbols, HasAtMostOneSlot, IsTakenAlternative, IsTakenRule, IsTakenPatternKind, IsTakenPattern, AreTakenPatterns, HasTakenPattern, IsTakenExtern, IsNoMatchBlock, IsTaken}
+use Rattle.lalrpop_norm_theory.proofs.BoolLemmas.{left_false, right_false}
 
 -- ---- empty lists
 
@@ -117,7 +118,7 @@ taken_alternative converts a h =
       action = taken_action a.action (right_none condition action behind);
     }
 
-taken_rule : (converts : TerminalString → Bool) (r : RuleData) → rule_parts converts r ≡ [] → IsTakenRule converts r
+taken_rule : (converts : TerminalString → Bool) (r : RuleData) → later_rule_parts converts r ≡ [] → IsTakenRule converts r
 taken_rule converts r h =
     let arguments = part_of_any later.MacroDefinition r.args in
     let declared = declared_parts converts r.type_decl in
@@ -174,12 +175,12 @@ taken_extern converts t h =
 -- ---- items
 
 module _ (converts : TerminalString → Bool) where
-  rules_none : (items : List ItemData) → flat_map (item_parts converts) items ≡ [] → All (λ r. rule_parts converts r ≡ []) (rules_of items)
-  rules_none [] h = All-nil (λ r. rule_parts converts r ≡ [])
+  rules_none : (items : List ItemData) → flat_map (item_parts converts) items ≡ [] → All (λ r. later_rule_parts converts r ≡ []) (rules_among items)
+  rules_none [] h = All-nil (λ r. later_rule_parts converts r ≡ [])
   rules_none (match_item m ∷ items) h = cc
   rules_none (extern_item t ∷ items) h = rules_none items (right_none (extern_parts converts t) (flat_map (item_parts converts) items) h)
   rules_none (intern_item t ∷ items) h = rules_none items h
-  rules_none (rule_item r ∷ items) h = All-cons (λ s. rule_parts converts s ≡ []) r (rules_of items) (left_none (rule_parts converts r) (flat_map (item_parts converts) items) h) (rules_none items (right_none (rule_parts converts r) (flat_map (item_parts converts) items) h))
+  rules_none (rule_item r ∷ items) h = All-cons (λ s. later_rule_parts converts s ≡ []) r (rules_among items) (left_none (later_rule_parts converts r) (flat_map (item_parts converts) items) h) (rules_none items (right_none (later_rule_parts converts r) (flat_map (item_parts converts) items) h))
   rules_none (use_item s ∷ items) h = rules_none items h
 
   externs_none : (items : List ItemData) → flat_map (item_parts converts) items ≡ [] → All (λ t. extern_parts converts t ≡ []) (externs_of items)
@@ -187,7 +188,7 @@ module _ (converts : TerminalString → Bool) where
   externs_none (match_item m ∷ items) h = cc
   externs_none (extern_item t ∷ items) h = All-cons (λ u. extern_parts converts u ≡ []) t (externs_of items) (left_none (extern_parts converts t) (flat_map (item_parts converts) items) h) (externs_none items (right_none (extern_parts converts t) (flat_map (item_parts converts) items) h))
   externs_none (intern_item t ∷ items) h = externs_none items h
-  externs_none (rule_item r ∷ items) h = externs_none items (right_none (rule_parts converts r) (flat_map (item_parts converts) items) h)
+  externs_none (rule_item r ∷ items) h = externs_none items (right_none (later_rule_parts converts r) (flat_map (item_parts converts) items) h)
   externs_none (use_item s ∷ items) h = externs_none items h
 
   no_match_block : (i : ItemData) → item_parts converts i ≡ [] → IsNoMatchBlock i
@@ -199,25 +200,17 @@ module _ (converts : TerminalString → Bool) where
 
 -- ---- names
 
-or_none_left : (a b : Bool) → (a || b) ≡ false → a ≡ false
-or_none_left true b h = cc
-or_none_left false b h = refl
-
-or_none_right : (a b : Bool) → (a || b) ≡ false → b ≡ false
-or_none_right true b h = cc
-or_none_right false b h = h
-
 none_passes : {X : Type 0} (p : X → Bool) (xs : List X) → list_any p xs ≡ false → AllByRecursion (λ y. p y ≡ false) xs
 none_passes p [] h = tt
-none_passes p (x ∷ xs) h = (or_none_left (p x) (list_any p xs) h, none_passes p xs (or_none_right (p x) (list_any p xs) h))
+none_passes p (x ∷ xs) h = (left_false (p x) (list_any p xs) h, none_passes p xs (right_false (p x) (list_any p xs) h))
 
 -- what does not stand again behind itself is distinct
-pub distinct_of : {X : Type 0} (same : X → X → Bool) (xs : List X) → has_repeated same xs ≡ false → IsDistinct same xs
+pub distinct_of : {X : Type 0} (same : X → X → Bool) (xs : List X) → has_repeated_by same xs ≡ false → IsDistinct same xs
 unfolding IsDistinct
 distinct_of same [] h = tt
 distinct_of same (x ∷ xs) h = (
-  none_passes (same x) xs (or_none_left (list_any (same x) xs) (has_repeated same xs) h),
-  distinct_of same xs (or_none_right (list_any (same x) xs) (has_repeated same xs) h),
+  none_passes (same x) xs (left_false (list_any (same x) xs) (has_repeated_by same xs) h),
+  distinct_of same xs (right_false (list_any (same x) xs) (has_repeated_by same xs) h),
 )
 
 -- ---- grammars
@@ -225,10 +218,10 @@ distinct_of same (x ∷ xs) h = (
 -- a grammar without parts of later stages is taken
 pub taken_of : (fs : Features) (g : GrammarData) → later_parts fs g ≡ [] → IsTaken fs g
 taken_of fs g h =
-    let converts = has_conversion fs g.items in
+    let converts = has_active_conversion fs g.items in
     let tokens = token_parts fs g.items in
     let items = flat_map (item_parts converts) g.items in
-    let starts = flat_map (start_parts g.prefix (has_rule g.items)) (rules_of g.items) in
+    let starts = flat_map (start_parts g.prefix (has_rule g.items)) (rules_among g.items) in
     let head_none = left_none (head_parts g) (tokens ++ (items ++ starts)) h in
     let behind_head : tokens ++ (items ++ starts) ≡ [] = right_none (head_parts g) (tokens ++ (items ++ starts)) h in
     let tokens_none : tokens ≡ [] = left_none tokens (items ++ starts) behind_head in
@@ -241,11 +234,11 @@ taken_of fs g h =
     let head_1 : parameters ++ (where_clauses ++ attributes) ≡ [] = right_none type_parameters (parameters ++ (where_clauses ++ attributes)) head_none in
     let head_2 : where_clauses ++ attributes ≡ [] = right_none parameters (where_clauses ++ attributes) head_1 in
     let no_enum = part_of_none later.NoExternEnum (enum_of g.items) in
-    let terminals = terminals_of (active_conversions fs (conversions_of g.items)) in
-    let twice = part_if (has_repeated same_terminal terminals) later.RepeatedConversion in
+    let terminals = terminals_converted (active_conversions fs (conversions_of g.items)) in
+    let twice = part_if (has_repeated_by same_terminal terminals) later.RepeatedConversion in
     let each_extern = externs_none converts g.items items_none in
     let each_rule = rules_none converts g.items items_none in
-    let each_start = each_none (start_parts g.prefix (has_rule g.items)) (rules_of g.items) (right_none items starts behind_tokens) in
+    let each_start = each_none (start_parts g.prefix (has_rule g.items)) (rules_among g.items) (right_none items starts behind_tokens) in
     record {
       type_parameters = any_none later.TypeParameter g.type_parameters (left_none type_parameters (parameters ++ (where_clauses ++ attributes)) head_none);
       parameters = any_none later.Parameter g.parameters (left_none parameters (where_clauses ++ attributes) head_1);
@@ -254,7 +247,7 @@ taken_of fs g h =
       no_match = λ k d lt. no_match_block converts _ (each_none (item_parts converts) g.items items_none k d lt);
       enum_token = there_none later.NoExternEnum (enum_of g.items) (left_none no_enum twice tokens_none);
       externs = λ k d lt. taken_extern converts _ (each_extern k d lt);
-      terminals = distinct_of same_terminal terminals (if_none (has_repeated same_terminal terminals) later.RepeatedConversion (right_none no_enum twice tokens_none));
+      terminals = distinct_of same_terminal terminals (if_none (has_repeated_by same_terminal terminals) later.RepeatedConversion (right_none no_enum twice tokens_none));
       rules = λ k d lt. taken_rule converts _ (each_rule k d lt);
       starts = λ k d lt. if_both_none _ _ later.StartTaken (each_start k d lt);
     }
@@ -265,16 +258,16 @@ after_none : (ps qs : List LaterPart) → ps ≡ [] → ps ++ qs ≡ qs
 after_none ps qs h = rw h refl
 
 -- what is left where nothing stands before the items
-pub from_items : (fs : Features) (g : GrammarData) (converts : TerminalString → Bool) → head_parts g ≡ [] → token_parts fs g.items ≡ [] → converts ≡ has_conversion fs g.items →
-    later_parts fs g ≡ flat_map (item_parts converts) g.items ++ flat_map (start_parts g.prefix (has_rule g.items)) (rules_of g.items)
+pub from_items : (fs : Features) (g : GrammarData) (converts : TerminalString → Bool) → head_parts g ≡ [] → token_parts fs g.items ≡ [] → converts ≡ has_active_conversion fs g.items →
+    later_parts fs g ≡ flat_map (item_parts converts) g.items ++ flat_map (start_parts g.prefix (has_rule g.items)) (rules_among g.items)
 from_items fs g converts head tokens same =
-    let starts = flat_map (start_parts g.prefix (has_rule g.items)) (rules_of g.items) in
-    let items = flat_map (item_parts (has_conversion fs g.items)) g.items in
+    let starts = flat_map (start_parts g.prefix (has_rule g.items)) (rules_among g.items) in
+    let items = flat_map (item_parts (has_active_conversion fs g.items)) g.items in
     after_none (head_parts g) (token_parts fs g.items ++ (items ++ starts)) head
     ∙ after_none (token_parts fs g.items) (items ++ starts) tokens
     ∙ ap (λ (f : TerminalString → Bool). flat_map (item_parts f) g.items ++ starts) (sym same)
 
 -- and where the items hold nothing by themselves
 pub from_starts : (g : GrammarData) (converts : TerminalString → Bool) → flat_map (item_parts converts) g.items ≡ [] →
-    flat_map (item_parts converts) g.items ++ flat_map (start_parts g.prefix (has_rule g.items)) (rules_of g.items) ≡ flat_map (start_parts g.prefix (has_rule g.items)) (rules_of g.items)
-from_starts g converts none = after_none (flat_map (item_parts converts) g.items) (flat_map (start_parts g.prefix (has_rule g.items)) (rules_of g.items)) none
+    flat_map (item_parts converts) g.items ++ flat_map (start_parts g.prefix (has_rule g.items)) (rules_among g.items) ≡ flat_map (start_parts g.prefix (has_rule g.items)) (rules_among g.items)
+from_starts g converts none = after_none (flat_map (item_parts converts) g.items) (flat_map (start_parts g.prefix (has_rule g.items)) (rules_among g.items)) none

@@ -26,15 +26,15 @@ use Rattle.lalrpop_norm_model.specs.PlainRules.{rule_of_item, all_rules}
 use Rattle.lalrpop_norm_model.specs.Scopes.{Global, globals, resolved_grammar}
 use Rattle.lalrpop_norm_model.proofs.InferenceLemmas.{both_empty, inferred_types}
 use Rattle.lalrpop_norm_model.proofs.TypableLemmas.{typable_exactly}
-use Rattle.lalrpop_norm_names.specs.NameFaults.{repeated_faults, rule_faults, item_faults, resolve_faults}
-use Rattle.lalrpop_norm_levels.specs.LevelFaults.{grammar_level_faults}
+use Rattle.lalrpop_norm_resolve.specs.NameFaults.{repeated_faults, rule_name_faults, item_name_faults, resolve_faults}
+use Rattle.lalrpop_norm_precedence.specs.LevelFaults.{grammar_level_faults}
 use Rattle.lalrpop_norm_front.specs.GrammarFaults.{validate_faults}
-use Rattle.lalrpop_norm_front.specs.PrecedenceFaults.{unstepped_rule, step_faults, level_rule_faults, level_items_faults, leveled_faults, precedence_faults}
-use Rattle.lalrpop_norm_expand.specs.Expansion.{expansion_faults, macro_faults}
+use Rattle.lalrpop_norm_precedence.specs.PrecedenceFaults.{unstepped_rule, step_faults, level_rule_faults, level_items_faults, leveled_faults, precedence_faults}
+use Rattle.lalrpop_norm_expand.specs.Expansion.{expansion_faults, later_macro_faults}
 use Rattle.lalrpop_norm_expand.proofs.DistinctLemmas.{names_stay_distinct}
-use Rattle.lalrpop_norm_types.specs.Inferred.{IsInferred}
+use Rattle.lalrpop_norm_tyinfer.specs.Inferred.{IsInferred}
 use Rattle.lalrpop_norm_late.specs.Active.{active_item, active_grammar}
-use Rattle.lalrpop_norm_late.specs.Made.{type_in}
+use Rattle.lalrpop_norm_late.specs.Made.{types_by_name}
 use Rattle.lalrpop_norm_late.specs.Shape.{IsLoweringOf}
 use Rattle.lalrpop_norm.specs.Faithful.{grammar_with_levels, grammar_of_plain_rules, IsFaithful, no_lexer}
 use Rattle.lalrpop_norm.specs.Normalize.{late_faults, pass_faults}
@@ -54,18 +54,18 @@ same_option (Some x) b h = sym ((h x).0 refl)
 
 -- the table that inference answers is the one where its rounds end
 types_are_inferred : (p : GrammarData) (types : TypeTable) → IsDistinct (rule_names p) → inference_faults p ≡ [] → IsInferred p types →
-    type_in types ≡ inferred_table p
+    types_by_name types ≡ inferred_table p
 types_are_inferred p types distinct none inferred =
     let typable = (typable_exactly p distinct).1 none in
     let table = inferred_types p typable.one_type in
-    fun_ext (λ n. same_option (type_in types n) (inferred_table p n) (λ x. (
+    fun_ext (λ n. same_option (types_by_name types n) (inferred_table p n) (λ x. (
       (λ e. (table n x).1 ((inferred.names (record { 0 = n }) x).0 e)),
       (λ e. (inferred.names (record { 0 = n }) x).1 ((table n x).0 e)),
     )))
 
 -- where inference has no fault, those of lowering are all
 pub late_same : (p : GrammarData) (types : TypeTable) → IsDistinct (rule_names p) → inference_faults p ≡ [] → IsInferred p types →
-    lowering_faults p (type_in types) ≡ late_faults p
+    lowering_faults p (types_by_name types) ≡ late_faults p
 late_same p types distinct none inferred =
     ap (lowering_faults p) (types_are_inferred p types distinct none inferred)
     ∙ sym (ap (λ fs. fs ++ lowering_faults p (inferred_table p)) none)
@@ -73,27 +73,27 @@ late_same p types distinct none inferred =
 -- ---- names of the grammar with levels
 
 module _ (ds : List Global) where
-  of_level : (r : RuleData) → r.args ≡ [] → (ps : List (Option Leveled)) (l : ℕ) → rule_faults ds (level_rule r ps l) ≡ level_rule_faults ds r ps l
+  of_level : (r : RuleData) → r.args ≡ [] → (ps : List (Option Leveled)) (l : ℕ) → rule_name_faults ds (level_rule r ps l) ≡ level_rule_faults ds r ps l
   of_level r e ps l =
-      sym (ap (λ (b : Bool). if b then rule_faults ds (level_rule r ps l) else (rule_faults ds (unstepped_rule r ps l) ++ step_faults r (previous_level ps l)))
+      sym (ap (λ (b : Bool). if b then rule_name_faults ds (level_rule r ps l) else (rule_name_faults ds (unstepped_rule r ps l) ++ step_faults r (previous_level ps l)))
       (ap (λ (args : List NonterminalString). is_nil args) e))
 
   of_levels : (r : RuleData) → r.args ≡ [] → (ps : List (Option Leveled)) (ls : List ℕ) →
-      flat_map (item_faults ds) (map rule_item (map (level_rule r ps) ls)) ≡ flat_map (level_rule_faults ds r ps) ls
+      flat_map (item_name_faults ds) (map rule_item (map (level_rule r ps) ls)) ≡ flat_map (level_rule_faults ds r ps) ls
   of_levels r e ps [] = refl
   of_levels r e ps (l ∷ ls) = ap₂ ◌++◌ (of_level r e ps l) (of_levels r e ps ls)
 
   of_rule : (b : Bool) (r : RuleData) → r.args ≡ [] → (ps : List (Option Leveled)) (ls : List ℕ) →
-      flat_map (item_faults ds) (map rule_item (if b then map (level_rule r ps) ls else r ∷ []))
-      ≡ (if b then flat_map (level_rule_faults ds r ps) ls else rule_faults ds r)
+      flat_map (item_name_faults ds) (map rule_item (if b then map (level_rule r ps) ls else r ∷ []))
+      ≡ (if b then flat_map (level_rule_faults ds r ps) ls else rule_name_faults ds r)
   of_rule true r e ps ls = of_levels r e ps ls
-  of_rule false r e ps ls = append-nil (rule_faults ds r)
+  of_rule false r e ps ls = append-nil (rule_name_faults ds r)
 
   of_items : (items : List ItemData) → ((r : RuleData) → In r (flat_map rule_of_item items) → r.args ≡ []) →
-      flat_map (item_faults ds) (flat_map level_items items) ≡ flat_map (level_items_faults ds) items
+      flat_map (item_name_faults ds) (flat_map level_items items) ≡ flat_map (level_items_faults ds) items
   of_items [] h = refl
   of_items (rule_item r ∷ items) h =
-      flat_map-append (item_faults ds) (level_items (rule_item r)) (flat_map level_items items)
+      flat_map-append (item_name_faults ds) (level_items (rule_item r)) (flat_map level_items items)
       ∙ ap₂ ◌++◌ (of_rule (has_levels (all_places r)) r (h r (inl refl)) (with_levels (all_places r)) (levels_of (with_levels (all_places r))))
       (of_items items (λ s i. h s (inr i)))
   of_items (match_item m ∷ items) h = of_items items h
@@ -117,25 +117,25 @@ module _ (fs : Features) (g : GrammarData) (taken : IsTaken fs g) (valid : valid
       (both_empty (grammar_level_faults (resolved_grammar (enabled_grammar fs g))) _ (both_empty (resolve_faults (enabled_grammar fs g)) _ names).1).1
 
   -- no macro is left, which the expansion would refuse
-  no_macro_faults : macro_faults (grammar_with_levels fs g) ≡ []
+  no_macro_faults : later_macro_faults (grammar_with_levels fs g) ≡ []
   no_macro_faults =
       ap (map (λ (r : RuleData). (NotYet, r.span)))
       (no_macros_of (grammar_with_levels fs g) (prepared fs g taken valid resolved leveled).no_macros)
 
   -- what is refused in the expansion is what the passes refuse
   pub expansion_exit : {T : Type 0} (limit : ℕ) (r : Result T NormFailure) (e : NormFailure) (h : GrammarData) → h ≡ grammar_with_levels fs g →
-      IsFirst (macro_faults h ++ expansion_faults comparison h limit) e → IsErrAnd r (λ x. x ≡ e) → Refuses r (pass_faults fs limit g)
+      IsFirst (later_macro_faults h ++ expansion_faults comparison h limit) e → IsErrAnd r (λ x. x ≡ e) → Refuses r (pass_faults fs limit g)
   expansion_exit limit r e h same first is =
       let here = expansion_faults comparison (grammar_with_levels fs g) limit in
       let late = late_faults (grammar_of_plain_rules fs g limit) in
-      let told : IsFirst (macro_faults (grammar_with_levels fs g) ++ here) e =
-      subst (λ (x : GrammarData). IsFirst (macro_faults x ++ expansion_faults comparison x limit) e) same first in
+      let told : IsFirst (later_macro_faults (grammar_with_levels fs g) ++ here) e =
+      subst (λ (x : GrammarData). IsFirst (later_macro_faults x ++ expansion_faults comparison x limit) e) same first in
       exit_at r e here late (pass_faults fs limit g) is (subst (λ ms. IsFirst (ms ++ here) e) no_macro_faults told)
       (ap (λ vs. vs ++ (precedence_faults (enabled_grammar fs g) ++ (here ++ late))) valid ∙ ap (λ ns. ns ++ (here ++ late)) names)
 
-  module _ (limit : ℕ) (whole : macro_faults (grammar_with_levels fs g) ++ expansion_faults comparison (grammar_with_levels fs g) limit ≡ []) where
+  module _ (limit : ℕ) (whole : later_macro_faults (grammar_with_levels fs g) ++ expansion_faults comparison (grammar_with_levels fs g) limit ≡ []) where
     expanded : expansion_faults comparison (grammar_with_levels fs g) limit ≡ []
-    expanded = (both_empty (macro_faults (grammar_with_levels fs g)) _ whole).1
+    expanded = (both_empty (later_macro_faults (grammar_with_levels fs g)) _ whole).1
 
     passes : PassesExpansion fs g limit
     passes = record { taken = taken; valid = valid; resolved = resolved; leveled = leveled; expanded = expanded }
@@ -149,7 +149,7 @@ module _ (fs : Features) (g : GrammarData) (taken : IsTaken fs g) (valid : valid
 
     pub is_typed : IsTypedByInference fs (grammar_of_plain_rules fs g limit)
     is_typed types none inferred =
-        plain_is_typed fs g taken valid resolved leveled limit expanded (type_in types)
+        plain_is_typed fs g taken valid resolved leveled limit expanded (types_by_name types)
         (inferred_total fs g taken valid resolved leveled limit expanded names_stay_distinct none types inferred)
 
     -- what is refused after the expansion is what the passes refuse

@@ -15,9 +15,9 @@ use Rattle.lalrpop_norm_theory.proofs.SameLemmas.{text_sound, text_same}
 use Rattle.lalrpop_norm_repr.specs.Lowered.{LoweredGrammar}
 use Rattle.lalrpop_norm_repr.specs.Tables.{TypeTable}
 use Rattle.lalrpop_norm_late.specs.Lowering as late
-use Rattle.lalrpop_norm_late.specs.Lowering.{public_rules, lowered_symbol, lowered_symbols}
-use Rattle.lalrpop_norm_late.specs.Shape.{IsLoweringOf, clauses_of, start_clause}
-use Rattle.lalrpop_norm_model.specs.PlainTables.{lowered_kind, lowered_part, lowered_parts, productions_from, rules_from}
+use Rattle.lalrpop_norm_late.specs.Lowering.{public_rules_in, lowered_symbol, lowered_symbols}
+use Rattle.lalrpop_norm_late.specs.Shape.{IsLoweringOf, alternatives_in_order, start_clause}
+use Rattle.lalrpop_norm_model.specs.PlainTables.{plain_symbol_kind, lowered_part, lowered_parts, productions_with_origins, rules_from}
 use Rattle.lalrpop_norm_model.proofs.NumberedNames.{Named, of_rule, numbers_named, HaveOtherNames, passed, passed_all, traced_entry, behind, NoneNamed, HaveDistinctNames}
 use Rattle.lalrpop_norm.specs.Derivations.{tree_symbol, traced, derivations}
 use Rattle.lalrpop_norm.proofs.ShapeTrees.{tree_symbols, traced_each, starts_total, replicated, no_start_name, productions_at, AreFree, turned}
@@ -25,7 +25,7 @@ use Rattle.lalrpop_norm.proofs.ShapeTrees.{tree_symbols, traced_each, starts_tot
 -- ---- symbols
 
 mutual
-  kind_same : (k : Kind) → tree_symbol (late.lowered_kind k) ≡ lowered_kind k
+  kind_same : (k : Kind) → tree_symbol (late.lowered_kind k) ≡ plain_symbol_kind k
   kind_same (written.terminal t) = refl
   kind_same (written.nonterminal n) = refl
   kind_same (written.chosen p) = part_same p
@@ -92,7 +92,7 @@ module _ (origins : List Origin) where
   -- the alternatives of the rule of that name, and others after them
   rule_traced : (n : Name) (m : NonterminalString) → bytes_eq n m.0 ≡ true → (k : ℕ) (os : List Origin) (xs : List AlternativeData) (ds : List Named) →
       HaveOtherNames n ds → length xs ≤ length os → ((i : ℕ) → slice_get origins (k + i) ≡ slice_get os i) →
-      map (traced_entry origins tree_symbols) (numbers_named n k (map (λ (a : AlternativeData). (m, a)) xs ++ ds)) ≡ productions_from os xs
+      map (traced_entry origins tree_symbols) (numbers_named n k (map (λ (a : AlternativeData). (m, a)) xs ++ ds)) ≡ productions_with_origins os xs
   rule_traced n m e k os [] ds h b origin = rw (passed_all n k ds h) refl
   rule_traced n m e k [] (a ∷ xs) ds h b origin = absurd (omega arith)
   rule_traced n m e k (o ∷ os) (a ∷ xs) ds h b origin =
@@ -127,25 +127,25 @@ module _ (origins : List Origin) where
 -- ---- the lowered grammar
 
 module _ (g : GrammarData) (rules : List RuleData) (types : TypeTable) (l : LoweredGrammar) (shape : IsLoweringOf g rules types l)
-    (distinct : HaveDistinctNames rules) (free : AreFree g.prefix rules (public_rules rules)) (os : List Origin)
+    (distinct : HaveDistinctNames rules) (free : AreFree g.prefix rules (public_rules_in rules)) (os : List Origin)
     (counted : length os ≡ length (flat_map (λ (r : RuleData). r.alternatives) rules)) where
   abbrev origins : List Origin
-  origins = replicate (length (public_rules rules)) from_start ++ os
+  origins = replicate (length (public_rules_in rules)) from_start ++ os
 
-  origin_at : (i : ℕ) → slice_get origins (0 + length (map (start_clause g.prefix) (public_rules rules)) + i) ≡ slice_get os i
+  origin_at : (i : ℕ) → slice_get origins (0 + length (map (start_clause g.prefix) (public_rules_in rules)) + i) ≡ slice_get os i
   origin_at i =
-      let starts = starts_total g.prefix (public_rules rules) in
-      let count = replicated (length (public_rules rules)) from_start in
-      (let sum : 0 + length (map (start_clause g.prefix) (public_rules rules)) + i ≡ length (replicate (length (public_rules rules)) from_start) + i = omega (starts, count, arith) in
+      let starts = starts_total g.prefix (public_rules_in rules) in
+      let count = replicated (length (public_rules_in rules)) from_start in
+      (let sum : 0 + length (map (start_clause g.prefix) (public_rules_in rules)) + i ≡ length (replicate (length (public_rules_in rules)) from_start) + i = omega (starts, count, arith) in
       ap (slice_get origins) sum)
-      ∙ behind (replicate (length (public_rules rules)) from_start) os i
+      ∙ behind (replicate (length (public_rules_in rules)) from_start) os i
 
   -- Under the name of each rule stand the productions of its alternatives, with the next origins.
   pub shape_derivations : (r : RuleData) → In r rules → derivations origins l r.name.0 ≡ table (rules_from os rules) r.name.0
   shape_derivations r i =
       ap (map (traced origins)) (productions_at g rules types l shape distinct free r i)
-      ∙ traced_each origins r.name.0 (numbers_named r.name.0 0 (clauses_of g.prefix rules))
+      ∙ traced_each origins r.name.0 (numbers_named r.name.0 0 (alternatives_in_order g.prefix rules))
       ∙ ap (map (traced_entry origins tree_symbols))
-      (passed r.name.0 0 (map (start_clause g.prefix) (public_rules rules)) (flat_map of_rule rules)
-      (no_start_name g.prefix rules (public_rules rules) free r i))
-      ∙ rules_traced origins r.name.0 (0 + length (map (start_clause g.prefix) (public_rules rules))) os rules distinct (omega (counted, arith)) origin_at
+      (passed r.name.0 0 (map (start_clause g.prefix) (public_rules_in rules)) (flat_map of_rule rules)
+      (no_start_name g.prefix rules (public_rules_in rules) free r i))
+      ∙ rules_traced origins r.name.0 (0 + length (map (start_clause g.prefix) (public_rules_in rules))) os rules distinct (omega (counted, arith)) origin_at

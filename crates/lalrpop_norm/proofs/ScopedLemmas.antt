@@ -20,7 +20,7 @@ use Rattle.lalrpop_norm_faults.specs.Faults.{Fault, fault_if}
 use Rattle.lalrpop_norm_model.specs.Enabled.{all_places, present}
 use Rattle.lalrpop_norm_model.specs.Scopes.{Definition, a_rule, a_macro, a_terminal, Global, rule_definition, rule_globals, conversion_globals, match_globals, bare_global, match_global, conversions_in, globals, definition_of, Sense, an_argument, global_sense, is_argument, sense_of, by_sense, resolved_kind, resolved_part, resolved_parts, resolved_alternative, resolved_rule, resolved_item, resolved_grammar}
 use Rattle.lalrpop_norm_model.specs.Levels.{Leveled, every, level_at, side_at, leveled_at, has_levels, with_levels, without_levels, levels_of, previous_level}
-use Rattle.lalrpop_norm_model.specs.WrittenRules.{WrittenRule, leveled_rule, flat_rule, rules_through, leveled_rules, flat_rules, rule_named}
+use Rattle.lalrpop_norm_model.specs.WrittenRules.{WrittenRule, written_rule_with_levels, flat_rule, rules_through, leveled_rules, flat_rules, rule_named}
 use Rattle.lalrpop_norm_model.specs.Grammars.{is_nil}
 use Rattle.lalrpop_norm_model.specs.Scoped.{is_rule, takes, is_macro_for, is_scoped_kind, is_scoped, are_scoped, NamesAreScoped, IsScoped}
 use Rattle.lalrpop_norm_model.specs.LevelRules.{is_own, level_of_rule, level_alternative, step_alternatives, of_level, level_rule, level_rules, level_items, leveled_grammar}
@@ -35,26 +35,15 @@ use Rattle.lalrpop_norm_model.proofs.GrammarLemmas.{rule_item_of, of_flat, disti
 use Rattle.lalrpop_norm_model.proofs.LevelRuleLemmas.{resolved_rule_places}
 use Rattle.lalrpop_norm_model.proofs.ReadingLemmas.{parts_kept, parts_settled}
 use Rattle.lalrpop_norm_model.proofs.LevelGrammarLemmas.{alternative_scoped, place_scoped, has_level_rules, no_level_rules}
-use Rattle.lalrpop_norm_names.specs.NameFaults.{repeated_faults, argument_faults, condition_faults, id_faults, nonterminal_faults, macro_faults, parts_count, kind_faults, part_faults, parts_faults, alternative_faults, item_faults, resolve_faults}
+use Rattle.lalrpop_norm_resolve.specs.NameFaults.{repeated_faults, repeated_argument_faults, condition_faults, id_faults, nonterminal_faults, macro_name_faults, parts_count, kind_name_faults, part_name_faults, parts_name_faults, alternative_name_faults, item_name_faults, resolve_faults}
+use Rattle.lalrpop_norm_faults.proofs.FaultLemmas.{left_none, right_none, not_fault}
 
 -- ---- faults
-
-pub left_none : (xs ys : List Fault) → xs ++ ys ≡ [] → xs ≡ []
-left_none [] ys h = refl
-left_none (x ∷ xs) ys h = absurd (cc h)
-
-pub right_none : (xs ys : List Fault) → xs ++ ys ≡ [] → ys ≡ []
-right_none [] ys h = h
-right_none (x ∷ xs) ys h = absurd (cc h)
 
 pub none_of : {A : Type 0} (f : A → List Fault) (xs : List A) (x : A) → flat_map f xs ≡ [] → In x xs → f x ≡ []
 none_of f [] x h i = absurd i
 none_of {A} f (y ∷ xs) x h (inl e) = subst (λ (z : A). f z ≡ []) (sym e) (left_none (f y) (flat_map f xs) h)
 none_of f (y ∷ xs) x h (inr i) = none_of f xs x (right_none (f y) (flat_map f xs) h) i
-
-pub not_fault : (b : Bool) (f : Fault) → fault_if b f ≡ [] → b ≡ false
-not_fault true f h = absurd (cc h)
-not_fault false f h = refl
 
 -- ---- names stand once
 
@@ -119,7 +108,7 @@ names_once g h =
     subst IsDistinct (rule_globals_named g.items)
     (distinct_left (map global_name (flat_map rule_globals g.items)) (map global_name (terminal_globals g))
     (subst IsDistinct (map-append global_name (flat_map rule_globals g.items) (terminal_globals g))
-    (once_after [] (globals g) (left_none (repeated_faults [] (globals g)) (flat_map (item_faults (globals g)) g.items) h)).1))
+    (once_after [] (globals g) (left_none (repeated_faults [] (globals g)) (flat_map (item_name_faults (globals g)) g.items) h)).1))
 
 -- ---- what names mean
 
@@ -251,8 +240,8 @@ module _ (f : RuleData → WrittenRule) (named : (d : RuleData) → (f d).name �
       nonterminal_scoped s n false e (Some (a_macro k)) d h = absurd (cc h)
 
       macro_scoped : (s : Span) (n : Name) (qs : Parts) (b : Bool) → is_argument args n ≡ b → (o : Option Definition) → definition_of (globals g) n ≡ o →
-          macro_faults s (parts_count qs) (meant b o) ≡ [] → (not b && is_macro_for qs (rule_named rules_read n)) ≡ true
-      unfolding macro_faults
+          macro_name_faults s (parts_count qs) (meant b o) ≡ [] → (not b && is_macro_for qs (rule_named rules_read n)) ≡ true
+      unfolding macro_name_faults
       macro_scoped s n qs true e o d h = absurd (cc h)
       macro_scoped s n qs false e None d h = absurd (cc h)
       macro_scoped s n qs false e (Some a_rule) d h = absurd (cc h)
@@ -277,12 +266,12 @@ module _ (f : RuleData → WrittenRule) (named : (d : RuleData) → (f d).name �
       both_true false y z h i = h
 
       mutual
-        kind_scoped : (s : Span) (k : Kind) → kind_faults sense s k ≡ [] → resolved_kind sense k ≡ k → is_scoped_kind rules_read args k ≡ true
+        kind_scoped : (s : Span) (k : Kind) → kind_name_faults sense s k ≡ [] → resolved_kind sense k ≡ k → is_scoped_kind rules_read args k ≡ true
         kind_scoped s (written.nonterminal n) h e = nonterminal_scoped s n (is_argument args n) refl (definition_of (globals g) n) refl h
         kind_scoped s (written.call n qs) h e =
             both_true (not (is_argument args n)) (is_macro_for qs (rule_named rules_read n)) (are_scoped rules_read args qs)
-            (macro_scoped s n qs (is_argument args n) refl (definition_of (globals g) n) refl (left_none (macro_faults s (parts_count qs) (sense n)) (parts_faults sense qs) h))
-            (parts_scoped qs (right_none (macro_faults s (parts_count qs) (sense n)) (parts_faults sense qs) h) (cc e))
+            (macro_scoped s n qs (is_argument args n) refl (definition_of (globals g) n) refl (left_none (macro_name_faults s (parts_count qs) (sense n)) (parts_name_faults sense qs) h))
+            (parts_scoped qs (right_none (macro_name_faults s (parts_count qs) (sense n)) (parts_name_faults sense qs) h) (cc e))
         kind_scoped s (written.group qs) h e = parts_scoped qs h (cc e)
         kind_scoped s (written.repeated op p) h e = part_scoped p h (cc e)
         kind_scoped s (written.chosen p) h e = part_scoped p h (cc e)
@@ -294,16 +283,16 @@ module _ (f : RuleData → WrittenRule) (named : (d : RuleData) → (f d).name �
         kind_scoped s written.lookbehind h e = refl
         kind_scoped s written.error_terminal h e = refl
 
-        part_scoped : (p : Part) → part_faults sense p ≡ [] → resolved_part sense p ≡ p → is_scoped rules_read args p ≡ true
+        part_scoped : (p : Part) → part_name_faults sense p ≡ [] → resolved_part sense p ≡ p → is_scoped rules_read args p ≡ true
         part_scoped (at s k) h e = kind_scoped s k h (cc e)
 
-        parts_scoped : (qs : Parts) → parts_faults sense qs ≡ [] → resolved_parts sense qs ≡ qs → are_scoped rules_read args qs ≡ true
+        parts_scoped : (qs : Parts) → parts_name_faults sense qs ≡ [] → resolved_parts sense qs ≡ qs → are_scoped rules_read args qs ≡ true
         parts_scoped no_parts h e = refl
         parts_scoped (part_and p qs) h e =
             let here : resolved_part sense p ≡ p = cc e in
             let there : resolved_parts sense qs ≡ qs = cc e in
-            ap₂ ◌&&◌ (part_scoped p (left_none (part_faults sense p) (parts_faults sense qs) h) here)
-            (parts_scoped qs (right_none (part_faults sense p) (parts_faults sense qs) h) there)
+            ap₂ ◌&&◌ (part_scoped p (left_none (part_name_faults sense p) (parts_name_faults sense qs) h) here)
+            (parts_scoped qs (right_none (part_name_faults sense p) (parts_name_faults sense qs) h) there)
 
     -- ---- rules
 
@@ -312,9 +301,9 @@ module _ (f : RuleData → WrittenRule) (named : (d : RuleData) → (f d).name �
     fixed {A} k (y ∷ xs) x e (inl i) = subst (λ (z : A). k z ≡ z) (sym i) (cc e)
     fixed k (y ∷ xs) x e (inr h) = fixed k xs x (cc e) h
 
-    tested : (s : Name → Option Sense) (a : AlternativeData) → alternative_faults s a ≡ [] → parts_faults s a.parts ≡ []
-    unfolding alternative_faults
-    tested s a h = right_none (condition_faults s a.condition) (parts_faults s a.parts) h
+    tested : (s : Name → Option Sense) (a : AlternativeData) → alternative_name_faults s a ≡ [] → parts_name_faults s a.parts ≡ []
+    unfolding alternative_name_faults
+    tested s a h = right_none (condition_faults s a.condition) (parts_name_faults s a.parts) h
 
     -- the names in an alternative of a rule without faults, whose names are resolved
     pub alternative_named : resolve_faults g ≡ [] → resolved_grammar g ≡ g → (d : RuleData) → In d (all_rules g) → (a : AlternativeData) → In a d.alternatives →
@@ -322,9 +311,9 @@ module _ (f : RuleData → WrittenRule) (named : (d : RuleData) → (f d).name �
     alternative_named h e d i a j =
         let ds = globals g in
         let item : In (rule_item d) g.items = rule_item_of g d i in
-        let rule = none_of (item_faults ds) g.items (rule_item d) (right_none (repeated_faults [] ds) (flat_map (item_faults ds) g.items) h) item in
-        let faults = none_of (alternative_faults (sense_of ds d.args)) d.alternatives a
-        (right_none (argument_faults d.span d.args) (flat_map (alternative_faults (sense_of ds d.args)) d.alternatives) rule) j in
+        let rule = none_of (item_name_faults ds) g.items (rule_item d) (right_none (repeated_faults [] ds) (flat_map (item_name_faults ds) g.items) h) item in
+        let faults = none_of (alternative_name_faults (sense_of ds d.args)) d.alternatives a
+        (right_none (repeated_argument_faults d.span d.args) (flat_map (alternative_name_faults (sense_of ds d.args)) d.alternatives) rule) j in
         let same : option_map (resolved_alternative (sense_of ds d.args)) (Some a) ≡ Some a =
         fixed (option_map (resolved_alternative (sense_of ds d.args))) (all_places d) (Some a) (resolved_rule_places g e d item) (in_map Some a d.alternatives j) in
         let one : resolved_alternative (sense_of ds d.args) a ≡ a = cc same in
@@ -335,7 +324,7 @@ module _ (f : RuleData → WrittenRule) (named : (d : RuleData) → (f d).name �
 module _ (g : GrammarData) (h : resolve_faults g ≡ []) (e : resolved_grammar g ≡ g) where
   leveled_alternative : (d : RuleData) → In d (all_rules g) → (a : AlternativeData) → In a d.alternatives → are_scoped (leveled_rules g) d.args a.parts ≡ true
   leveled_alternative d i a j =
-      alternative_named (λ d. leveled_rule (globals g) d (all_places d)) (λ d. refl) (λ d. refl) g h e d i a j
+      alternative_named (λ d. written_rule_with_levels (globals g) d (all_places d)) (λ d. refl) (λ d. refl) g h e d i a j
 
   flat_alternative : (d : RuleData) → In d (all_rules g) → (a : AlternativeData) → In a d.alternatives → are_scoped (flat_rules g) d.args a.parts ≡ true
   flat_alternative d i a j =

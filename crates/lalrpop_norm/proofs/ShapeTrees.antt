@@ -12,8 +12,8 @@ use Rattle.lalrpop_norm_repr.specs.Lowered.{LoweredGrammar}
 use Rattle.lalrpop_norm_repr.specs.Productions.{EntryData}
 use Rattle.lalrpop_norm_repr.specs.Lookups.{productions_of}
 use Rattle.lalrpop_norm_repr.specs.Tables.{TypeTable, found}
-use Rattle.lalrpop_norm_late.specs.Lowering.{public_rules, lowered_symbols, production_of}
-use Rattle.lalrpop_norm_late.specs.Shape.{IsLoweringOf, clauses_of, start_clause, productions_named, start_entry_of, rule_entry_of}
+use Rattle.lalrpop_norm_late.specs.Lowering.{public_rules_in, lowered_symbols, production_of}
+use Rattle.lalrpop_norm_late.specs.Shape.{IsLoweringOf, alternatives_in_order, start_clause, productions_named, start_entry_of, rule_entry_of}
 use Rattle.lalrpop_norm_model.proofs.NumberedNames.{Named, HaveOtherNames, traced_entry, NoneNamed, HaveDistinctNames, first_named}
 use Rattle.lalrpop_norm.specs.Derivations.{tree_symbol, traced}
 
@@ -102,13 +102,13 @@ rule_row cs (s ∷ rules) r e = elim (cases_Bool (bytes_eq s.name.0 r.name.0)) [
 -- ---- productions of the lowered grammar
 
 module _ (g : GrammarData) (rules : List RuleData) (types : TypeTable) (l : LoweredGrammar) (shape : IsLoweringOf g rules types l)
-    (distinct : HaveDistinctNames rules) (free : AreFree g.prefix rules (public_rules rules)) where
-  pub productions_at : (r : RuleData) → In r rules → productions_of r.name l ≡ productions_named r.name (clauses_of g.prefix rules)
+    (distinct : HaveDistinctNames rules) (free : AreFree g.prefix rules (public_rules_in rules)) where
+  pub productions_at : (r : RuleData) → In r rules → productions_of r.name l ≡ productions_named r.name (alternatives_in_order g.prefix rules)
   productions_at r i =
-      let cs = clauses_of g.prefix rules in
+      let cs = alternatives_in_order g.prefix rules in
       let looked : found r.name l.nonterminals ≡ Some (rule_entry_of cs r).1 =
       (shape.nonterminals.holds r.name
-      ∙ found_behind r.name (map (start_entry_of g.prefix cs) (public_rules rules)) (map (rule_entry_of cs) rules)
-      (no_start_row g.prefix rules (public_rules rules) cs free r i)
+      ∙ found_behind r.name (map (start_entry_of g.prefix cs) (public_rules_in rules)) (map (rule_entry_of cs) rules)
+      (no_start_row g.prefix rules (public_rules_in rules) cs free r i)
       ∙ rule_row cs rules r (distinct_found rules distinct r i)) in
       ap (λ o. unwrap_or (option_map (λ (n : EntryData). n.productions) o) []) looked

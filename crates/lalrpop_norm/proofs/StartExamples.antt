@@ -9,7 +9,7 @@ use Rattle.lalrpop_norm_theory.specs.LoweredTrees.{LoweredSymbol, nonterminal_sy
 use Rattle.lalrpop_norm_theory.specs.Rounds.{In}
 use Rattle.lalrpop_norm_repr.specs.Lowered.{LoweredGrammar}
 use Rattle.lalrpop_norm_repr.specs.Tables.{found}
-use Rattle.lalrpop_norm_late.specs.Lowering.{public_rules, start_name}
+use Rattle.lalrpop_norm_late.specs.Lowering.{public_rules_in, start_name}
 use Rattle.lalrpop_norm_model.specs.Features.{Features}
 use Rattle.lalrpop_norm_model.specs.WrittenRules.{written_rules}
 use Rattle.lalrpop_norm_model.specs.Grammars.{references, roots}
@@ -31,7 +31,7 @@ abbrev grammar : GrammarData
 grammar = rules_alone (expression ∷ [])
 
 -- both rules of its grammar with levels are public
-levels_are_public : (fs : Features) → map (λ (r : RuleData). r.name.0) (public_rules (all_rules (grammar_with_levels fs grammar))) ≡ codes "E1" ∷ (codes "E" ∷ [])
+levels_are_public : (fs : Features) → map (λ (r : RuleData). r.name.0) (public_rules_in (all_rules (grammar_with_levels fs grammar))) ≡ codes "E1" ∷ (codes "E" ∷ [])
 unfolding digits
 levels_are_public fs = refl
 
@@ -60,7 +60,7 @@ module _ (fs : Features) (plain : GrammarData) (rounds : ℕ) (l : LoweredGramma
 -- The start symbol of a public plain rule has the words of each written symbol of its name.
 plain_words : (fs : Features) (g : GrammarData) (plain : GrammarData) (rounds : ℕ) (l : LoweredGrammar) → HasFaithfulTrees fs g plain rounds l →
     (s : ClosedSymbol) → In s (roots (written_rules fs g) ++ references (written_rules fs g)) →
-    (r : RuleData) → In r (public_rules (all_rules plain)) → r.name.0 ≡ text_in (written_rules fs g) s → (w : List Terminal) →
+    (r : RuleData) → In r (public_rules_in (all_rules plain)) → r.name.0 ≡ text_in (written_rules fs g) s → (w : List Terminal) →
     IsWrittenWord (written_meaning fs g) s w ↔ IsWordOf (traced_derivations fs g plain rounds l) (start_name plain.prefix r.name).0 w
 plain_words fs g plain rounds l trees s i r j named w =
     start_written (written_meaning fs g) (text_in (written_rules fs g)) (traced_derivations fs g plain rounds l) s (trees.one_to_one s i)

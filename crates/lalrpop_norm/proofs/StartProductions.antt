@@ -9,7 +9,7 @@ use Rattle.lalrpop_norm_tree.specs.Items.{RuleData, GrammarData}
 use Rattle.lalrpop_norm_theory.specs.Symbols.{Name, Terminal, ClosedSymbol}
 use Rattle.lalrpop_norm_theory.specs.Meaning.{Meaning}
 use Rattle.lalrpop_norm_theory.specs.LoweredTrees as theory
-use Rattle.lalrpop_norm_theory.specs.LoweredTrees.{nonterminal_symbol, Production, Origin, from_start, LoweredTree, lowered_leaf, lowered_node, no_lowered, lowered_and, IsDerivation, lowered_yield}
+use Rattle.lalrpop_norm_theory.specs.LoweredTrees.{nonterminal_symbol, Production, Origin, from_start, lowered_leaf, lowered_node, no_lowered, lowered_and, IsDerivation, lowered_yield}
 use Rattle.lalrpop_norm_theory.specs.Clauses.{symbol_of}
 use Rattle.lalrpop_norm_theory.specs.Rounds.{In}
 use Rattle.lalrpop_norm_theory.specs.Laws.{OneToOne}
@@ -17,8 +17,8 @@ use Rattle.lalrpop_norm_theory.proofs.SameLemmas.{text_sound, text_same}
 use Rattle.lalrpop_norm_repr.specs.Lowered.{LoweredGrammar}
 use Rattle.lalrpop_norm_repr.specs.Productions.{EntryData}
 use Rattle.lalrpop_norm_repr.specs.Tables.{TypeTable, found}
-use Rattle.lalrpop_norm_late.specs.Lowering.{public_rules, start_name}
-use Rattle.lalrpop_norm_late.specs.Shape.{Clause, IsLoweringOf, clauses_of, start_clause, start_entry_of, rule_entry_of, productions_named}
+use Rattle.lalrpop_norm_late.specs.Lowering.{public_rules_in, start_name}
+use Rattle.lalrpop_norm_late.specs.Shape.{OwnedAlternative, IsLoweringOf, alternatives_in_order, start_clause, start_entry_of, rule_entry_of, productions_named}
 use Rattle.lalrpop_norm_model.proofs.NumberedNames.{of_rule, numbers_named, HaveOtherNames, passed_all, traced_entry, ahead, NoneNamed, HaveDistinctNames}
 use Rattle.lalrpop_norm.specs.Derivations.{traced, derivations, IsWrittenWord, IsWordOf}
 use Rattle.lalrpop_norm.proofs.ShapeTrees.{tree_symbols, traced_each, replicated, AreFree, none_in, turned}
@@ -26,19 +26,19 @@ use Rattle.lalrpop_norm.proofs.PlainShape.{unlike, others_append, none_among}
 
 -- ---- public rules
 
-none_public : (n : Name) (rules : List RuleData) → NoneNamed n rules → NoneNamed n (public_rules rules)
+none_public : (n : Name) (rules : List RuleData) → NoneNamed n rules → NoneNamed n (public_rules_in rules)
 none_public n [] h = tt
 none_public n (r ∷ rules) h = by (is_public r.visibility) (none_public n rules h.1)
   where
-    by : (b : Bool) → NoneNamed n (public_rules rules) → NoneNamed n (if b then r ∷ public_rules rules else public_rules rules)
+    by : (b : Bool) → NoneNamed n (public_rules_in rules) → NoneNamed n (if b then r ∷ public_rules_in rules else public_rules_in rules)
     by true rest = (h.0, rest)
     by false rest = rest
 
-distinct_public : (rules : List RuleData) → HaveDistinctNames rules → HaveDistinctNames (public_rules rules)
+distinct_public : (rules : List RuleData) → HaveDistinctNames rules → HaveDistinctNames (public_rules_in rules)
 distinct_public [] d = tt
 distinct_public (r ∷ rules) d = by (is_public r.visibility) (distinct_public rules d.1)
   where
-    by : (b : Bool) → HaveDistinctNames (public_rules rules) → HaveDistinctNames (if b then r ∷ public_rules rules else public_rules rules)
+    by : (b : Bool) → HaveDistinctNames (public_rules_in rules) → HaveDistinctNames (if b then r ∷ public_rules_in rules else public_rules_in rules)
     by true rest = (none_public r.name.0 rules d.0, rest)
     by false rest = rest
 
@@ -60,7 +60,7 @@ other_starts prefix n [] h = tt
 other_starts prefix n (s ∷ some) h = (other_start prefix n s.name.0 h.0, other_starts prefix n some h.1)
 
 -- what is found at a start name
-start_row : (prefix : List ℕ) (cs : List Clause) (rest : List (NonterminalString × EntryData)) (some : List RuleData) (r : RuleData) → In r some →
+start_row : (prefix : List ℕ) (cs : List OwnedAlternative) (rest : List (NonterminalString × EntryData)) (some : List RuleData) (r : RuleData) → In r some →
     unwrap_or (option_map (λ (n : EntryData). n.productions) (found (start_name prefix r.name) (map (start_entry_of prefix cs) some ++ rest))) []
     ≡ productions_named (start_name prefix r.name) cs
 start_row prefix cs rest [] r i = absurd i
@@ -92,7 +92,7 @@ abbrev pub start_production : RuleData → Production
 start_production r = record { origin = from_start; symbols = nonterminal_symbol r.name.0 ∷ [] }
 
 -- of start symbols in a row with the origin of start symbols, and others after them, those of a start name are one
-start_traced : (prefix : List ℕ) (origins : List Origin) (ds : List Clause) (k : ℕ) (some : List RuleData) → HaveDistinctNames some →
+start_traced : (prefix : List ℕ) (origins : List Origin) (ds : List OwnedAlternative) (k : ℕ) (some : List RuleData) → HaveDistinctNames some →
     ((i : ℕ) → i < length some → slice_get origins (k + i) ≡ Some from_start) →
     (r : RuleData) → In r some → HaveOtherNames (prefix ++ r.name.0) ds →
     map (traced_entry origins tree_symbols) (numbers_named (prefix ++ r.name.0) k (map (start_clause prefix) some ++ ds)) ≡ start_production r ∷ []
@@ -118,31 +118,31 @@ replicated_at (suc m) x (suc i) l = replicated_at m x i (omega arith)
 -- ---- the lowered grammar
 
 module _ (g : GrammarData) (rules : List RuleData) (types : TypeTable) (l : LoweredGrammar) (shape : IsLoweringOf g rules types l)
-    (distinct : HaveDistinctNames rules) (free : AreFree g.prefix rules (public_rules rules)) (os : List Origin) where
+    (distinct : HaveDistinctNames rules) (free : AreFree g.prefix rules (public_rules_in rules)) (os : List Origin) where
   abbrev origins : List Origin
-  origins = replicate (length (public_rules rules)) from_start ++ os
+  origins = replicate (length (public_rules_in rules)) from_start ++ os
 
-  origin_at : (i : ℕ) → i < length (public_rules rules) → slice_get origins (0 + i) ≡ Some from_start
+  origin_at : (i : ℕ) → i < length (public_rules_in rules) → slice_get origins (0 + i) ≡ Some from_start
   origin_at i b =
-      let count = replicated (length (public_rules rules)) from_start in
+      let count = replicated (length (public_rules_in rules)) from_start in
       (let sum : 0 + i ≡ i = omega arith in ap (slice_get origins) sum)
-      ∙ ahead (replicate (length (public_rules rules)) from_start) os i (omega (count, b, arith))
-      ∙ replicated_at (length (public_rules rules)) from_start i b
+      ∙ ahead (replicate (length (public_rules_in rules)) from_start) os i (omega (count, b, arith))
+      ∙ replicated_at (length (public_rules_in rules)) from_start i b
 
   -- Under the start name of each public rule stands one production, which is the rule.
-  pub start_derivations : (r : RuleData) → In r (public_rules rules) → derivations origins l (start_name g.prefix r.name).0 ≡ start_production r ∷ []
+  pub start_derivations : (r : RuleData) → In r (public_rules_in rules) → derivations origins l (start_name g.prefix r.name).0 ≡ start_production r ∷ []
   start_derivations r i =
-      let cs = clauses_of g.prefix rules in
+      let cs = alternatives_in_order g.prefix rules in
       ap (λ o. map (traced origins) (unwrap_or (option_map (λ (n : EntryData). n.productions) o) [])) (shape.nonterminals.holds (start_name g.prefix r.name))
-      ∙ ap (map (traced origins)) (start_row g.prefix cs (map (rule_entry_of cs) rules) (public_rules rules) r i)
+      ∙ ap (map (traced origins)) (start_row g.prefix cs (map (rule_entry_of cs) rules) (public_rules_in rules) r i)
       ∙ traced_each origins (g.prefix ++ r.name.0) (numbers_named (g.prefix ++ r.name.0) 0 cs)
-      ∙ start_traced g.prefix origins (flat_map of_rule rules) 0 (public_rules rules) (distinct_public rules distinct) origin_at r i
-      (none_among (g.prefix ++ r.name.0) rules (free_at g.prefix rules (public_rules rules) free r i))
+      ∙ start_traced g.prefix origins (flat_map of_rule rules) 0 (public_rules_in rules) (distinct_public rules distinct) origin_at r i
+      (none_among (g.prefix ++ r.name.0) rules (free_at g.prefix rules (public_rules_in rules) free r i))
 
 -- ---- words
 
 -- A name whose one production is another name has the words of that name.
-pub start_words : (P : theory.LoweredGrammar) (n : Name) (r : RuleData) → P n ≡ start_production r ∷ [] → (w : List Terminal) → IsWordOf P n w ↔ IsWordOf P r.name.0 w
+pub start_words : (P : theory.ProductionTable) (n : Name) (r : RuleData) → P n ≡ start_production r ∷ [] → (w : List Terminal) → IsWordOf P n w ↔ IsWordOf P r.name.0 w
 start_words P n r one w = (down, up)
   where
     only : (p : ℕ) (q : Production) → slice_get (start_production r ∷ []) p ≡ Some q → q ≡ start_production r
@@ -171,7 +171,7 @@ start_words P n r one w = (down, up)
     )
 
 -- so it has the words of the written symbol that the other name is of
-module _ (M : Meaning) (name : ClosedSymbol → Name) (P : theory.LoweredGrammar) (s : ClosedSymbol) (trees : OneToOne M name P s) where
+module _ (M : Meaning) (name : ClosedSymbol → Name) (P : theory.ProductionTable) (s : ClosedSymbol) (trees : OneToOne M name P s) where
   pub written_words : symbol_of name s ≡ nonterminal_symbol (name s) → (w : List Terminal) → IsWrittenWord M s w ↔ IsWordOf P (name s) w
   written_words named w = (down, up)
     where

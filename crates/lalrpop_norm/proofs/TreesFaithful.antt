@@ -10,17 +10,17 @@ use Rattle.lalrpop_norm_theory.specs.LoweredTrees.{nonterminal_symbol, from_star
 use Rattle.lalrpop_norm_theory.specs.Clauses.{IsNonterminal, symbol_of}
 use Rattle.lalrpop_norm_theory.specs.Rounds.{In, IsDistinct}
 use Rattle.lalrpop_norm_theory.specs.Met.{expanded_symbols, IsKnown}
-use Rattle.lalrpop_norm_theory.specs.Tables.{Realizes, Stands, table, rule_of}
+use Rattle.lalrpop_norm_theory.specs.Tables.{Realizes, Stands, table, rule_of_symbol}
 use Rattle.lalrpop_norm_theory.specs.Laws.{OneToOne}
 use Rattle.lalrpop_norm_theory.proofs.RoundsLemmas.{in_left, in_right, in_cases}
 use Rattle.lalrpop_norm_theory.proofs.TableLemmas.{rules_realize}
 use Rattle.lalrpop_norm_theory.proofs.Trees.{trees_one_to_one}
 use Rattle.lalrpop_norm_conditions.specs.Conditions.{comparison}
-use Rattle.lalrpop_norm_names.specs.NameFaults.{resolve_faults}
-use Rattle.lalrpop_norm_names.proofs.ResolvedFaults.{faults_gone}
+use Rattle.lalrpop_norm_resolve.specs.NameFaults.{resolve_faults}
+use Rattle.lalrpop_norm_resolve.proofs.ResolvedFaults.{faults_gone}
 use Rattle.lalrpop_norm_repr.specs.Lowered.{LoweredGrammar}
 use Rattle.lalrpop_norm_repr.specs.Tables.{TypeTable, found}
-use Rattle.lalrpop_norm_late.specs.Lowering.{public_rules, start_name}
+use Rattle.lalrpop_norm_late.specs.Lowering.{public_rules_in, start_name}
 use Rattle.lalrpop_norm_late.specs.Shape.{IsLoweringOf}
 use Rattle.lalrpop_norm_model.specs.Features.{Features}
 use Rattle.lalrpop_norm_model.specs.Enabled.{enabled_grammar}
@@ -28,7 +28,7 @@ use Rattle.lalrpop_norm_model.specs.WrittenRules.{WrittenRule, written_rules}
 use Rattle.lalrpop_norm_model.specs.Grammars.{ConditionValue, meaning, references, roots}
 use Rattle.lalrpop_norm_model.specs.ClosedTexts.{text_in}
 use Rattle.lalrpop_norm_model.specs.LevelRules.{leveled_grammar}
-use Rattle.lalrpop_norm_model.specs.PlainRules.{rule_of_item, all_rules, plain_grammar, plain_rules, IsWhole}
+use Rattle.lalrpop_norm_model.specs.PlainRules.{rule_of_item, all_rules, plain_grammar, plain_rules, IsEnded}
 use Rattle.lalrpop_norm_model.specs.Origins.{plain_symbols, plain_origins, action_origins}
 use Rattle.lalrpop_norm_model.specs.PlainTables.{IsSettled, rules_from}
 use Rattle.lalrpop_norm_model.specs.LevelNames.{HasLevelNames}
@@ -79,7 +79,7 @@ checked_entered lexer g h = by (extern_enum g)
     by None (t, entries, automaton) = (t, entries)
 
 module _ (value : ConditionValue) (fs : Features) (g : GrammarData) (N : HasLevelNames (prepared_grammar fs g))
-    (S : IsSettled (leveled_grammar (prepared_grammar fs g))) (n : ℕ) (whole : IsWhole value (leveled_grammar (prepared_grammar fs g)) n)
+    (S : IsSettled (leveled_grammar (prepared_grammar fs g))) (n : ℕ) (whole : IsEnded value (leveled_grammar (prepared_grammar fs g)) n)
     (D : IsDistinct (rule_names (plain_grammar value (leveled_grammar (prepared_grammar fs g)) n))) where
   abbrev ws : List WrittenRule
   ws = written_rules fs g
@@ -126,14 +126,14 @@ module _ (value : ConditionValue) (fs : Features) (g : GrammarData) (N : HasLeve
 
   -- ---- a lowered grammar that has the plain rules
 
-  module _ (P : theory.LoweredGrammar)
+  module _ (P : theory.ProductionTable)
       (held : (r : RuleData) → In r (all_rules plain) → P r.name.0 ≡ table (rules_from (plain_origins M (references ws) n) (all_rules plain)) r.name.0) where
-    rules_same : rules_from (plain_origins M (references ws) n) (all_rules plain) ≡ map (rule_of M name) (plain_symbols M (references ws) n)
+    rules_same : rules_from (plain_origins M (references ws) n) (all_rules plain) ≡ map (rule_of_symbol M name) (plain_symbols M (references ws) n)
     rules_same =
         ap (rules_from (plain_origins M (references ws) n)) (plain_grammars_hold_plain_rules value (leveled_grammar (prepared_grammar fs g)) n)
         ∙ rules_read M name (plain_rules value (leveled_grammar (prepared_grammar fs g)) n) (plain_symbols M (references ws) n) (written_fit value fs g N S n)
 
-    realized : Realizes M name (table (map (rule_of M name) (references ws ++ met))) (IsKnown (roots ws ++ references ws) met)
+    realized : Realizes M name (table (map (rule_of_symbol M name) (references ws ++ met))) (IsKnown (roots ws ++ references ws) met)
     realized = rules_realize M name (roots ws) (references ws) met stands
 
     realizes : Realizes M name P (IsKnown (roots ws ++ references ws) met)
@@ -161,7 +161,7 @@ module _ (value : ConditionValue) (fs : Features) (g : GrammarData) (N : HasLeve
 
   -- ---- what the plain rules are lowered to
 
-  module _ (free : (r : RuleData) → In r (public_rules (all_rules plain)) → In (plain.prefix ++ r.name.0) (rule_names plain) → ⊥)
+  module _ (free : (r : RuleData) → In r (public_rules_in (all_rules plain)) → In (plain.prefix ++ r.name.0) (rule_names plain) → ⊥)
       (checked : GrammarData) (entered : IsEntered plain checked) (types : TypeTable) (l : LoweredGrammar)
       (shape : IsLoweringOf checked (all_rules checked) types l) where
     counted : length (plain_origins M (references ws) n) ≡ length (flat_map (λ (r : RuleData). r.alternatives) (all_rules plain))
@@ -173,31 +173,31 @@ module _ (value : ConditionValue) (fs : Features) (g : GrammarData) (N : HasLeve
     shaped : IsLoweringOf checked (all_rules plain) types l
     shaped = subst (λ (rs : List RuleData). IsLoweringOf checked rs types l) (entered_same plain checked entered).0 shape
 
-    free_names : AreFree checked.prefix (all_rules plain) (public_rules (all_rules plain))
+    free_names : AreFree checked.prefix (all_rules plain) (public_rules_in (all_rules plain))
     free_names =
-        subst (λ (prefix : Name). AreFree prefix (all_rules plain) (public_rules (all_rules plain))) (sym (entered_same plain checked entered).1)
-        (free_listed plain.prefix (all_rules plain) (public_rules (all_rules plain)) free)
+        subst (λ (prefix : Name). AreFree prefix (all_rules plain) (public_rules_in (all_rules plain))) (sym (entered_same plain checked entered).1)
+        (free_listed plain.prefix (all_rules plain) (public_rules_in (all_rules plain)) free)
 
     pub lowered_trees : (s : ClosedSymbol) → In s (roots ws ++ references ws) →
-        OneToOne M name (derivations (action_origins (length (public_rules (all_rules plain))) M (references ws) n) l) s
+        OneToOne M name (derivations (action_origins (length (public_rules_in (all_rules plain))) M (references ws) n) l) s
     lowered_trees s i =
-        held_trees (derivations (action_origins (length (public_rules (all_rules plain))) M (references ws) n) l)
+        held_trees (derivations (action_origins (length (public_rules_in (all_rules plain))) M (references ws) n) l)
         (shape_derivations checked (all_rules plain) types l shaped (distinct_listed (all_rules plain) D) free_names
         (plain_origins M (references ws) n) counted)
         s i
 
     -- the table of start symbols lists that of a public rule
-    pub lowered_listed : (r : RuleData) → In r (public_rules (all_rules plain)) → (m : Name) → r.name.0 ≡ m →
+    pub lowered_listed : (r : RuleData) → In r (public_rules_in (all_rules plain)) → (m : Name) → r.name.0 ≡ m →
         found (record { 0 = m }) l.start_nonterminals ≡ Some (start_name plain.prefix (record { 0 = m }))
     lowered_listed r i m named =
         shaped.start_nonterminals.holds (record { 0 = m })
-        ∙ start_listed checked.prefix (public_rules (all_rules plain)) r i m named
+        ∙ start_listed checked.prefix (public_rules_in (all_rules plain)) r i m named
         ∙ ap (λ (prefix : Name). Some (start_name prefix (record { 0 = m }))) (entered_same plain checked entered).1
 
-    pub lowered_starts : (r : RuleData) → In r (public_rules (all_rules plain)) →
-        derivations (action_origins (length (public_rules (all_rules plain))) M (references ws) n) l (plain.prefix ++ r.name.0) ≡ start_production r ∷ []
+    pub lowered_starts : (r : RuleData) → In r (public_rules_in (all_rules plain)) →
+        derivations (action_origins (length (public_rules_in (all_rules plain))) M (references ws) n) l (plain.prefix ++ r.name.0) ≡ start_production r ∷ []
     lowered_starts r i =
-        ap (λ (prefix : Name). derivations (action_origins (length (public_rules (all_rules plain))) M (references ws) n) l (prefix ++ r.name.0))
+        ap (λ (prefix : Name). derivations (action_origins (length (public_rules_in (all_rules plain))) M (references ws) n) l (prefix ++ r.name.0))
         (sym (entered_same plain checked entered).1)
         ∙ start_derivations checked (all_rules plain) types l shaped (distinct_listed (all_rules plain) D) free_names (plain_origins M (references ws) n) r i
 

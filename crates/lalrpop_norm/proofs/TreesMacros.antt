@@ -19,9 +19,10 @@ use Rattle.lalrpop_norm_model.proofs.ScopeLemmas.{in_right, in_flat}
 use Rattle.lalrpop_norm_model.proofs.WrittenLemmas.{scoped_as_written}
 use Rattle.lalrpop_norm_model.proofs.GrammarLemmas.{all_level_rules, rule_item_of, as_leveled, leveled_in, flat_found}
 use Rattle.lalrpop_norm_model.proofs.LevelRuleLemmas.{resolved_rule_places}
-use Rattle.lalrpop_norm_names.specs.NameFaults.{repeated_faults, argument_faults, condition_faults, nonterminal_faults, parts_faults, alternative_faults, item_faults, resolve_faults}
+use Rattle.lalrpop_norm_resolve.specs.NameFaults.{repeated_faults, repeated_argument_faults, condition_faults, nonterminal_faults, parts_name_faults, alternative_name_faults, item_name_faults, resolve_faults}
 use Rattle.lalrpop_norm.specs.Laws.{HasFlatMacros, HasOwnLevels, MacrosHaveOneLevel}
-use Rattle.lalrpop_norm.proofs.ScopedLemmas.{left_none, right_none, none_of, names_once, defined_as, terminal_globals, rules_defined}
+use Rattle.lalrpop_norm_faults.proofs.FaultLemmas.{left_none, right_none}
+use Rattle.lalrpop_norm.proofs.ScopedLemmas.{none_of, names_once, defined_as, terminal_globals, rules_defined}
 
 a_macros : (xs : List NonterminalString) → is_nil xs ≡ false → (k : ℕ) × (rule_definition (length xs) ≡ a_macro k)
 a_macros [] h = absurd (cc h)
@@ -66,9 +67,9 @@ module _ (g : GrammarData) (E : resolved_grammar g ≡ g) (F : resolve_faults (l
       in_right (step_alternative d.span (level_of_rule d (ps d) p)) _ (step_alternatives d (ps d) (previous_level (ps d) m))
       (subst (λ (o : Option ℕ). In (step_alternative d.span (level_of_rule d (ps d) p)) (step_alternatives d (ps d) o)) (sym e) (inl refl))
 
-  named_in : (s : Name → Option Sense) (a : AlternativeData) → alternative_faults s a ≡ [] → parts_faults s a.parts ≡ []
-  unfolding alternative_faults
-  named_in s a k = right_none (condition_faults s a.condition) (parts_faults s a.parts) k
+  named_in : (s : Name → Option Sense) (a : AlternativeData) → alternative_name_faults s a ≡ [] → parts_name_faults s a.parts ≡ []
+  unfolding alternative_name_faults
+  named_in s a k = right_none (condition_faults s a.condition) (parts_name_faults s a.parts) k
 
   no_lower : (d : RuleData) → In d (all_rules g) → is_nil d.args ≡ false → has_levels (all_places d) ≡ true → (a b : ℕ) → In a (levels_of (ps d)) → In b (levels_of (ps d)) →
       a < b → ⊥
@@ -78,10 +79,10 @@ module _ (g : GrammarData) (E : resolved_grammar g ≡ g) (F : resolve_faults (l
       let c : RuleData = level_rule d (ps d) b in
       let t : AlternativeData = step_alternative d.span (level_of_rule d (ps d) p) in
       let sense : Name → Option Sense = sense_of (globals h) d.args in
-      let rule = none_of (item_faults (globals h)) h.items (rule_item c) (right_none (repeated_faults [] (globals h)) (flat_map (item_faults (globals h)) h.items) F)
+      let rule = none_of (item_name_faults (globals h)) h.items (rule_item c) (right_none (repeated_faults [] (globals h)) (flat_map (item_name_faults (globals h)) h.items) F)
       (rule_item_of h c (level_listed d i e b k)) in
-      let alternative = none_of (alternative_faults sense) c.alternatives t
-      (right_none (argument_faults c.span c.args) (flat_map (alternative_faults sense) c.alternatives) rule) (step_listed d b p prev) in
+      let alternative = none_of (alternative_name_faults sense) c.alternatives t
+      (right_none (repeated_argument_faults c.span c.args) (flat_map (alternative_name_faults sense) c.alternatives) rule) (step_listed d b p prev) in
       let (count, is) = a_macros d.args macro in
       not_rule d.span (is_argument d.args (level_of_rule d (ps d) p)) (own d i macro p there) (definition_of (globals h) (level_of_rule d (ps d) p)) count
       (level_defined d i e p there ∙ ap Some is)

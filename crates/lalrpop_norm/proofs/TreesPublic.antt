@@ -7,7 +7,7 @@ use Rattle.lalrpop_norm_tree.specs.Items.{RuleData, ItemData, GrammarData, match
 use Rattle.lalrpop_norm_theory.specs.Symbols.{Name, ClosedSymbol, reference}
 use Rattle.lalrpop_norm_theory.specs.Rounds.{In}
 use Rattle.lalrpop_norm_theory.proofs.RoundsLemmas.{in_left, in_cases}
-use Rattle.lalrpop_norm_late.specs.Lowering.{public_rules}
+use Rattle.lalrpop_norm_late.specs.Lowering.{public_rules_in}
 use Rattle.lalrpop_norm_model.specs.Features.{Features}
 use Rattle.lalrpop_norm_model.specs.Enabled.{all_places, enabled_grammar}
 use Rattle.lalrpop_norm_model.specs.Scopes.{Global, globals, resolved_rule, resolved_item}
@@ -16,7 +16,7 @@ use Rattle.lalrpop_norm_model.specs.WrittenRules.{WrittenRule, written_rules, le
 use Rattle.lalrpop_norm_model.specs.Grammars.{ConditionValue, is_nil, rule_references, references, roots}
 use Rattle.lalrpop_norm_model.specs.ClosedTexts.{level_names, text_in}
 use Rattle.lalrpop_norm_model.specs.LevelRules.{level_rule, level_rules, leveled_grammar}
-use Rattle.lalrpop_norm_model.specs.PlainRules.{replaced_rule, rule_of_item, all_rules, rules_of, made_in, plain_grammar}
+use Rattle.lalrpop_norm_model.specs.PlainRules.{replaced_rule, rule_of_item, all_rules, rules_without_arguments, made_in, plain_grammar}
 use Rattle.lalrpop_norm_model.specs.PlainTables.{IsSettled}
 use Rattle.lalrpop_norm_model.specs.LevelNames.{HasLevelNames}
 use Rattle.lalrpop_norm_model.specs.Renumbered.{prepared_grammar}
@@ -35,13 +35,13 @@ IsPublicRule r = (is_nil r.args ≡ true) × (is_public r.visibility ≡ true)
 
 -- ---- lists
 
-in_public : (rs : List RuleData) (r : RuleData) → In r rs → is_public r.visibility ≡ true → In r (public_rules rs)
+in_public : (rs : List RuleData) (r : RuleData) → In r rs → is_public r.visibility ≡ true → In r (public_rules_in rs)
 in_public [] r i p = absurd i
 in_public (s ∷ rs) r (inl e) p =
     let shown : is_public s.visibility ≡ true = subst (λ (x : RuleData). is_public x.visibility ≡ true) e p in rw shown (inl e)
 in_public (s ∷ rs) r (inr i) p = by (is_public s.visibility) (in_public rs r i p)
   where
-    by : (b : Bool) → In r (public_rules rs) → In r (if b then s ∷ public_rules rs else public_rules rs)
+    by : (b : Bool) → In r (public_rules_in rs) → In r (if b then s ∷ public_rules_in rs else public_rules_in rs)
     by true j = inr j
     by false j = j
 
@@ -132,12 +132,12 @@ module _ (r : GrammarData) (N : HasLevelNames r) where
 
 -- a rule without arguments keeps its name and its visibility
 plain_public : (value : ConditionValue) (h : GrammarData) (n : ℕ) (e : RuleData) → In e (all_rules h) → IsPublicRule e →
-    In (replaced_rule e) (public_rules (all_rules (plain_grammar value h n)))
+    In (replaced_rule e) (public_rules_in (all_rules (plain_grammar value h n)))
 plain_public value h n e i p =
     in_public (all_rules (plain_grammar value h n)) (replaced_rule e)
     (subst (λ (rs : List RuleData). In (replaced_rule e) rs) (sym (plain_grammars_hold_plain_rules value h n))
-    (in_left (replaced_rule e) (map replaced_rule (rules_of h)) (map replaced_rule (made_in value h n))
-    (in_map replaced_rule e (rules_of h) (in_plain (all_rules h) e i p.0)))) p.1
+    (in_left (replaced_rule e) (map replaced_rule (rules_without_arguments h)) (map replaced_rule (made_in value h n))
+    (in_map replaced_rule e (rules_without_arguments h) (in_plain (all_rules h) e i p.0)))) p.1
 
 module _ (value : ConditionValue) (fs : Features) (g : GrammarData) (N : HasLevelNames (prepared_grammar fs g))
     (S : IsSettled (leveled_grammar (prepared_grammar fs g))) (n : ℕ) where
@@ -148,7 +148,7 @@ module _ (value : ConditionValue) (fs : Features) (g : GrammarData) (N : HasLeve
   plain = plain_grammar value (leveled_grammar (prepared_grammar fs g)) n
 
   abbrev HasPublicRule : Name → Type 0
-  HasPublicRule name = (p : RuleData) × In p (public_rules (all_rules plain)) × (p.name.0 ≡ name)
+  HasPublicRule name = (p : RuleData) × In p (public_rules_in (all_rules plain)) × (p.name.0 ≡ name)
 
   -- a rule of a level is plain once its symbols are replaced
   of_level : (d : RuleData) → In d (all_rules (prepared_grammar fs g)) → (name : Name) → HasLevelRule (prepared_grammar fs g) N d name → HasPublicRule name

@@ -25,11 +25,11 @@ use Rattle.lalrpop_norm_model.specs.Enabled.{all_places, present}
 use Rattle.lalrpop_norm_model.specs.Scopes.{is_argument}
 use Rattle.lalrpop_norm_model.specs.Levels.{Leveled, has_levels, with_levels, rising, levels_of, greatest, highest_level}
 use Rattle.lalrpop_norm_model.specs.WrittenRules.{WrittenRule, rule_named, written_rules, leveled_rules, flat_rules}
-use Rattle.lalrpop_norm_model.specs.Grammars.{ConditionValue, is_nil, is_macro, is_own_level, rule_parts, place_count, previous_bound, meaning, rule_references, references, rule_roots, roots}
+use Rattle.lalrpop_norm_model.specs.Grammars.{ConditionValue, is_nil, has_arguments, is_own_level, rule_parts, place_count, previous_bound, meaning, rule_references, references, rule_roots, roots}
 use Rattle.lalrpop_norm_model.specs.Scoped.{is_rule, is_macro_for, is_scoped_kind, is_scoped, are_scoped, NamesAreScoped, IsScoped}
 use Rattle.lalrpop_norm_model.specs.ClosedTexts.{closed_text, closed_texts, wrapped_text, level_name, named_level, level_names, reference_name, text_in}
 use Rattle.lalrpop_norm_model.specs.LevelRules.{level_of_rule, level_rule, level_rules, leveled_grammar}
-use Rattle.lalrpop_norm_model.specs.PlainRules.{all_rules, plain_grammar, plain_rules, IsWhole}
+use Rattle.lalrpop_norm_model.specs.PlainRules.{all_rules, plain_grammar, plain_rules, IsEnded}
 use Rattle.lalrpop_norm_model.specs.Origins.{plain_symbols}
 use Rattle.lalrpop_norm_model.specs.PlainTables.{IsSettled, flat_meaning, declared}
 use Rattle.lalrpop_norm_model.specs.LevelNames.{HasLevelNames, level_origin}
@@ -56,7 +56,7 @@ use Rattle.lalrpop_norm.proofs.TreesLeveled.{parts_of, leveled_parts, leveled_re
 -- a rule taken by itself is by a reference without a bound
 pub root_of : (rs : List WrittenRule) (s : ClosedSymbol) → In s (roots rs) → (n : Name) × (s ≡ reference n None)
 root_of rs s h =
-    let (w, i, j) = of_flat rule_roots s rs h in by w (is_macro w) j
+    let (w, i, j) = of_flat rule_roots s rs h in by w (has_arguments w) j
   where
     by : (w : WrittenRule) (x : Bool) → In s (if x then [] else reference w.name None ∷ []) → (n : Name) × (s ≡ reference n None)
     by w true i = absurd i
@@ -72,7 +72,7 @@ name_of d = d.name.0
 -- what is declared is a reference
 pub reference_of : (rs : List WrittenRule) (g : ClosedSymbol) → In g (references rs) → (n : Name) × (b : Option ℕ) × (g ≡ reference n b)
 reference_of rs g h =
-    let (w, i, j) = of_flat rule_references g rs h in by w (is_macro w) w.has_levels j
+    let (w, i, j) = of_flat rule_references g rs h in by w (has_arguments w) w.has_levels j
   where
     by : (w : WrittenRule) (x y : Bool) → In g (if x then [] else (if y then map (λ l. reference w.name (Some l)) (levels_of w.places) else reference w.name None ∷ [])) →
         (n : Name) × (b : Option ℕ) × (g ≡ reference n b)
@@ -247,7 +247,7 @@ module _ (ws : List WrittenRule) (S : IsScoped ws) (D : IsDistinct (map (λ (w :
   clauses_by n b o = numbered n (λ k. rule_parts ws (is_own_level b) k o) 0 (place_count o) ++ step_clauses n (previous_bound o b)
 
   -- a rule taken by itself is that of its highest level
-  highest_shared : (w : WrittenRule) → In w ws → is_macro w ≡ false → w.has_levels ≡ true → Shares (reference w.name None)
+  highest_shared : (w : WrittenRule) → In w ws → has_arguments w ≡ false → w.has_levels ≡ true → Shares (reference w.name None)
   highest_shared w i plain e =
       let found : rule_named ws w.name ≡ Some w = found_once ws w D i in
       let (m, j) = some (levels_of w.places) (S.some_level w i e) in
@@ -263,14 +263,14 @@ module _ (ws : List WrittenRule) (S : IsScoped ws) (D : IsDistinct (map (λ (w :
       some [] h = absurd (omega arith)
       some (m ∷ ls) h = (m, inl refl)
 
-  bare_shared : (w : WrittenRule) → In w ws → is_macro w ≡ false → w.has_levels ≡ false → Shares (reference w.name None)
+  bare_shared : (w : WrittenRule) → In w ws → has_arguments w ≡ false → w.has_levels ≡ false → Shares (reference w.name None)
   bare_shared w i plain e = (reference w.name None, in_flat rule_references w ws (reference w.name None) i (rw (plain, e) (inl refl)), refl, refl)
 
   pub roots_shared : (g : ClosedSymbol) → In g (roots ws) → Shares g
   roots_shared g h =
-      let (w, i, j) = of_flat rule_roots g ws h in by w i (is_macro w) refl w.has_levels refl j
+      let (w, i, j) = of_flat rule_roots g ws h in by w i (has_arguments w) refl w.has_levels refl j
     where
-      by : (w : WrittenRule) → In w ws → (x : Bool) → is_macro w ≡ x → (y : Bool) → w.has_levels ≡ y →
+      by : (w : WrittenRule) → In w ws → (x : Bool) → has_arguments w ≡ x → (y : Bool) → w.has_levels ≡ y →
           In g (if x then [] else reference w.name None ∷ []) → Shares g
       by w i true m y e j = absurd j
       by w i false m true e (inl k) = subst Shares (sym k) (highest_shared w i m e)
@@ -379,7 +379,7 @@ module _ (value : ConditionValue) (fs : Features) (g : GrammarData) (N : HasLeve
   text_written = fun_ext (λ x. text_leveled (flat_rules h) ws ln level_written x)
 
   -- where no later round has a new symbol, that is so of the written grammar too
-  pub written_whole : (n : ℕ) → IsWhole value h n → (expansion M (references ws) n).fresh ≡ []
+  pub written_whole : (n : ℕ) → IsEnded value h n → (expansion M (references ws) n).fresh ≡ []
   written_whole n whole =
       none_mapped (leveled_symbol ln) (expansion M (references ws) n).fresh
       (fresh_leveled M (flat_meaning value h) ln (references ws) (declared h) written_resolved (meaning_has_levels value ws) (declared_resolved ws)
@@ -414,7 +414,7 @@ module _ (value : ConditionValue) (fs : Features) (g : GrammarData) (N : HasLeve
       ∙ fitting_names M (text_in ws) (plain_rules value h n) (plain_symbols M (references ws) n) (written_fit n)
 
   -- the rules of the written symbols stand
-  pub written_stands : (n : ℕ) → IsWhole value h n → IsDistinct (rule_names (plain_grammar value h n)) →
+  pub written_stands : (n : ℕ) → IsEnded value h n → IsDistinct (rule_names (plain_grammar value h n)) →
       Stands M (text_in ws) (roots ws) (references ws) (expanded_symbols M (references ws) n)
   written_stands n whole D =
       expansion_stands M (meaning_has_levels value ws) (references ws) written_resolved (declared_resolved ws) n (written_whole n whole) (text_in ws)

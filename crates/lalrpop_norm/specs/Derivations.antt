@@ -10,7 +10,7 @@ use Rattle.lalrpop_norm_theory.specs.Symbols as written
 use Rattle.lalrpop_norm_theory.specs.Symbols.{Name, ClosedSymbol}
 use Rattle.lalrpop_norm_theory.specs.Meaning.{Meaning}
 use Rattle.lalrpop_norm_theory.specs.WrittenTrees.{WrittenTree, IsTreeOf, yield}
-use Rattle.lalrpop_norm_theory.specs.LoweredTrees.{LoweredSymbol, terminal_symbol, nonterminal_symbol, Origin, from_start, Production, LoweredGrammar, LoweredTree, IsDerivation, lowered_yield}
+use Rattle.lalrpop_norm_theory.specs.LoweredTrees.{LoweredSymbol, terminal_symbol, nonterminal_symbol, Origin, from_start, Production, ProductionTable, LoweredTree, IsDerivation, lowered_yield}
 use Rattle.lalrpop_norm_model.specs.Reading.{terminal_of}
 
 -- a symbol as trees see it
@@ -23,7 +23,7 @@ abbrev pub traced : List Origin → ProductionData → Production
 traced origins p = record { origin = unwrap_or (slice_get origins (action_index p.action)) from_start; symbols = map tree_symbol p.symbols }
 
 -- the lowered grammar as trees see it, where the origins of its actions are given in their order
-abbrev pub derivations : List Origin → lowered.LoweredGrammar → LoweredGrammar
+abbrev pub derivations : List Origin → lowered.LoweredGrammar → ProductionTable
 derivations origins l n = map (traced origins) (productions_of (record { 0 = n }) l)
 
 -- ---- words
@@ -33,5 +33,5 @@ abbrev pub IsWrittenWord : Meaning → ClosedSymbol → List written.Terminal �
 IsWrittenWord M s w = (t : WrittenTree) × IsTreeOf M t s × (yield t ≡ w)
 
 -- a word of a name: the leaves of one of its derivation trees
-abbrev pub IsWordOf : LoweredGrammar → Name → List written.Terminal → Type 0
+abbrev pub IsWordOf : ProductionTable → Name → List written.Terminal → Type 0
 IsWordOf P n w = (u : LoweredTree) × IsDerivation P u (nonterminal_symbol n) × (lowered_yield u ≡ w)

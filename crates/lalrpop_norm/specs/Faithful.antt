@@ -27,8 +27,8 @@ use Rattle.lalrpop_norm_model.specs.TypeRelation.{IsRule, Has}
 use Rattle.lalrpop_norm_repr.specs.Lowered.{LoweredGrammar}
 use Rattle.lalrpop_norm_repr.specs.Tables.{TypeTable, type_of, found}
 use Rattle.lalrpop_norm_repr.specs.Closed.{IsClosed}
-pub use Rattle.lalrpop_norm_types.specs.Inferred.{IsInferred}
-use Rattle.lalrpop_norm_late.specs.Lowering.{public_rules, start_name}
+pub use Rattle.lalrpop_norm_tyinfer.specs.Inferred.{IsInferred}
+use Rattle.lalrpop_norm_late.specs.Lowering.{public_rules_in, start_name}
 use Rattle.lalrpop_norm_late.specs.Shape.{IsLoweringOf}
 use Rattle.lalrpop_norm.specs.Derivations.{derivations, IsWrittenWord, IsWordOf}
 
@@ -39,9 +39,9 @@ abbrev pub written_meaning : Features → GrammarData → Meaning
 written_meaning fs g = meaning comparison (written_rules fs g)
 
 -- the lowered grammar as trees see it, each production with its origin in the written grammar, or with that of start symbols
-abbrev pub traced_derivations : Features → GrammarData → GrammarData → ℕ → LoweredGrammar → theory.LoweredGrammar
+abbrev pub traced_derivations : Features → GrammarData → GrammarData → ℕ → LoweredGrammar → theory.ProductionTable
 traced_derivations fs g plain rounds l =
-    derivations (action_origins (length (public_rules (all_rules plain))) (written_meaning fs g) (references (written_rules fs g)) rounds) l
+    derivations (action_origins (length (public_rules_in (all_rules plain))) (written_meaning fs g) (references (written_rules fs g)) rounds) l
 
 -- the closed symbol is that rule, by itself or within a level
 abbrev pub IsSymbolOf : RuleData → ClosedSymbol → Type 0
@@ -74,7 +74,7 @@ pub record HasFaithfulTrees (fs : Features) (g : GrammarData) (plain : GrammarDa
       OneToOne (written_meaning fs g) (text_in (written_rules fs g)) (traced_derivations fs g plain rounds l) s
   pub starts : (r : RuleData) → In r (all_rules (enabled_grammar fs g)) → r.args ≡ [] → is_public r.visibility ≡ true →
       (s : ClosedSymbol) → In s (roots (written_rules fs g) ++ references (written_rules fs g)) → IsSymbolOf r s → HasStart fs g plain rounds l s
-  pub plain_starts : (r : RuleData) → In r (public_rules (all_rules plain)) →
+  pub plain_starts : (r : RuleData) → In r (public_rules_in (all_rules plain)) →
       traced_derivations fs g plain rounds l (start_name plain.prefix r.name).0 ≡ record { origin = from_start; symbols = nonterminal_symbol r.name.0 ∷ [] } ∷ []
 
 -- ---- types
@@ -89,7 +89,7 @@ pub record HasOnlyType (plain : GrammarData) (types : TypeTable) (r : RuleData) 
 -- each nonterminal has its only grounded type, a start symbol that of its rule
 pub record HasGroundedTypes (plain : GrammarData) (types : TypeTable) : Type 0 where
   pub rules : (r : RuleData) → IsRule plain r → HasOnlyType plain types r
-  pub starts : (r : RuleData) → In r (public_rules (all_rules plain)) → type_of (start_name plain.prefix r.name) types ≡ type_of r.name types
+  pub starts : (r : RuleData) → In r (public_rules_in (all_rules plain)) → type_of (start_name plain.prefix r.name) types ≡ type_of r.name types
 
 -- ---- tokens
 

@@ -9,12 +9,12 @@ use Rattle.lalrpop_norm_parts.specs.Patterns as pattern
 use Rattle.lalrpop_norm_tree.specs.Symbols.{Kind, group, ambiguous_id, terminal, nonterminal, call, repeated, chosen, named, tupled, lookahead, lookbehind, error_terminal, Part, at, Parts, no_parts, part_and}
 use Rattle.lalrpop_norm_tree.specs.Types.{TypeData, TypesData, MaybeType, tuple, slice, nominal, reference, trait_object, of_lifetime, id, of_symbol, function, no_types, type_and, no_type, returns}
 use Rattle.lalrpop_norm_model.specs.Features.{Features}
-use Rattle.lalrpop_norm_front.specs.Braces.{around_slot}
+use Rattle.lalrpop_norm_util.specs.Braces.{around_slot}
 use Rattle.lalrpop_norm_faults.specs.Faults.{Fault}
 use Rattle.lalrpop_norm_faults.specs.declared.kind.FaultKind.TheVariants.{NotYet}
 use Rattle.lalrpop_norm.specs.declared.later.LaterPart.{LaterPart}
 use Rattle.lalrpop_norm.specs.declared.later.LaterPart.TheVariants as later
-use Rattle.lalrpop_norm.specs.Grammars.{rules_of, names_of, is_public, enum_of, conversions_of, active_conversions, terminals_of, listed, terminal_listed, same_terminal, has_repeated}
+use Rattle.lalrpop_norm.specs.Grammars.{rules_among, names_of_rules, is_public, enum_of, conversions_of, active_conversions, terminals_converted, listed, terminal_listed, same_terminal, has_repeated_by}
 
 abbrev pub part_if : Bool → LaterPart → List LaterPart
 part_if b p = if b then p ∷ [] else []
@@ -40,53 +40,53 @@ attribute_parts p (attribute_and a rest) = p ∷ []
 -- What stands inside a macro call or a tuple symbol is not looked into.
 
 abbrev pub terminal_parts : (TerminalString → Bool) → TerminalString → List LaterPart
-terminal_parts has_conversion (Literal l) = part_if (not (has_conversion (Literal l))) later.MissingConversion
-terminal_parts has_conversion (Bare a) = part_if (not (has_conversion (Bare a))) later.MissingConversion
-terminal_parts has_conversion Error = []
+terminal_parts has_active_conversion (Literal l) = part_if (not (has_active_conversion (Literal l))) later.MissingConversion
+terminal_parts has_active_conversion (Bare a) = part_if (not (has_active_conversion (Bare a))) later.MissingConversion
+terminal_parts has_active_conversion Error = []
 
 abbrev mutual
   pub kind_parts : (TerminalString → Bool) → Kind → List LaterPart
-  kind_parts has_conversion (group ps) = symbols_parts has_conversion ps
-  kind_parts has_conversion (ambiguous_id a) = []
-  kind_parts has_conversion (terminal t) = terminal_parts has_conversion t
-  kind_parts has_conversion (nonterminal n) = []
-  kind_parts has_conversion (call m ps) = later.MacroCall ∷ []
-  kind_parts has_conversion (repeated op p) = symbol_parts has_conversion p
-  kind_parts has_conversion (chosen p) = symbol_parts has_conversion p
-  kind_parts has_conversion (named n p) = symbol_parts has_conversion p
-  kind_parts has_conversion (tupled ps p) = later.TupleSymbol ∷ []
-  kind_parts has_conversion lookahead = later.LookaroundSymbol ∷ []
-  kind_parts has_conversion lookbehind = later.LookaroundSymbol ∷ []
-  kind_parts has_conversion error_terminal = later.ErrorSymbol ∷ []
+  kind_parts has_active_conversion (group ps) = symbols_parts has_active_conversion ps
+  kind_parts has_active_conversion (ambiguous_id a) = []
+  kind_parts has_active_conversion (terminal t) = terminal_parts has_active_conversion t
+  kind_parts has_active_conversion (nonterminal n) = []
+  kind_parts has_active_conversion (call m ps) = later.MacroCall ∷ []
+  kind_parts has_active_conversion (repeated op p) = symbol_parts has_active_conversion p
+  kind_parts has_active_conversion (chosen p) = symbol_parts has_active_conversion p
+  kind_parts has_active_conversion (named n p) = symbol_parts has_active_conversion p
+  kind_parts has_active_conversion (tupled ps p) = later.TupleSymbol ∷ []
+  kind_parts has_active_conversion lookahead = later.LookaroundSymbol ∷ []
+  kind_parts has_active_conversion lookbehind = later.LookaroundSymbol ∷ []
+  kind_parts has_active_conversion error_terminal = later.ErrorSymbol ∷ []
 
   pub symbol_parts : (TerminalString → Bool) → Part → List LaterPart
-  symbol_parts has_conversion (at s k) = kind_parts has_conversion k
+  symbol_parts has_active_conversion (at s k) = kind_parts has_active_conversion k
 
   pub symbols_parts : (TerminalString → Bool) → Parts → List LaterPart
-  symbols_parts has_conversion no_parts = []
-  symbols_parts has_conversion (part_and p ps) = symbol_parts has_conversion p ++ symbols_parts has_conversion ps
+  symbols_parts has_active_conversion no_parts = []
+  symbols_parts has_active_conversion (part_and p ps) = symbol_parts has_active_conversion p ++ symbols_parts has_active_conversion ps
 
 -- ---- types, for the symbols whose types stand in them
 
 abbrev mutual
   pub type_parts : (TerminalString → Bool) → TypeData → List LaterPart
-  type_parts has_conversion (tuple ts) = types_parts has_conversion ts
-  type_parts has_conversion (slice t) = type_parts has_conversion t
-  type_parts has_conversion (nominal p ts) = types_parts has_conversion ts
-  type_parts has_conversion (reference l m t) = type_parts has_conversion t
-  type_parts has_conversion (trait_object p ts) = types_parts has_conversion ts
-  type_parts has_conversion (of_lifetime l) = []
-  type_parts has_conversion (id a) = []
-  type_parts has_conversion (of_symbol k) = kind_parts has_conversion k
-  type_parts has_conversion (function fs p ts r) = types_parts has_conversion ts ++ return_parts has_conversion r
+  type_parts has_active_conversion (tuple ts) = types_parts has_active_conversion ts
+  type_parts has_active_conversion (slice t) = type_parts has_active_conversion t
+  type_parts has_active_conversion (nominal p ts) = types_parts has_active_conversion ts
+  type_parts has_active_conversion (reference l m t) = type_parts has_active_conversion t
+  type_parts has_active_conversion (trait_object p ts) = types_parts has_active_conversion ts
+  type_parts has_active_conversion (of_lifetime l) = []
+  type_parts has_active_conversion (id a) = []
+  type_parts has_active_conversion (of_symbol k) = kind_parts has_active_conversion k
+  type_parts has_active_conversion (function fs p ts r) = types_parts has_active_conversion ts ++ return_parts has_active_conversion r
 
   pub types_parts : (TerminalString → Bool) → TypesData → List LaterPart
-  types_parts has_conversion no_types = []
-  types_parts has_conversion (type_and t ts) = type_parts has_conversion t ++ types_parts has_conversion ts
+  types_parts has_active_conversion no_types = []
+  types_parts has_active_conversion (type_and t ts) = type_parts has_active_conversion t ++ types_parts has_active_conversion ts
 
   pub return_parts : (TerminalString → Bool) → MaybeType → List LaterPart
-  return_parts has_conversion no_type = []
-  return_parts has_conversion (returns t) = type_parts has_conversion t
+  return_parts has_active_conversion no_type = []
+  return_parts has_active_conversion (returns t) = type_parts has_active_conversion t
 
 -- ---- rules
 
@@ -112,20 +112,20 @@ action_parts (Some lookahead_code) = []
 action_parts (Some lookbehind_code) = []
 
 abbrev pub alternative_parts : (TerminalString → Bool) → AlternativeData → List LaterPart
-alternative_parts has_conversion a =
-    symbols_parts has_conversion a.parts
+alternative_parts has_active_conversion a =
+    symbols_parts has_active_conversion a.parts
     ++ (part_of_some later.Condition a.condition
     ++ action_parts a.action)
 
 abbrev pub declared_parts : (TerminalString → Bool) → Option TypeData → List LaterPart
-declared_parts has_conversion None = later.UndeclaredType ∷ []
-declared_parts has_conversion (Some t) = type_parts has_conversion t
+declared_parts has_active_conversion None = later.UndeclaredType ∷ []
+declared_parts has_active_conversion (Some t) = type_parts has_active_conversion t
 
-abbrev pub rule_parts : (TerminalString → Bool) → RuleData → List LaterPart
-rule_parts has_conversion r =
+abbrev pub later_rule_parts : (TerminalString → Bool) → RuleData → List LaterPart
+later_rule_parts has_active_conversion r =
     part_of_any later.MacroDefinition r.args
-    ++ (declared_parts has_conversion r.type_decl
-    ++ flat_map (alternative_parts has_conversion) r.alternatives)
+    ++ (declared_parts has_active_conversion r.type_decl
+    ++ flat_map (alternative_parts has_active_conversion) r.alternatives)
 
 -- a public rule whose start name, the prefix and its own, is a rule's
 abbrev pub start_parts : List ℕ → (List ℕ → Bool) → RuleData → List LaterPart
@@ -158,17 +158,17 @@ abbrev pub conversion_parts : ConversionData → List LaterPart
 conversion_parts c = pattern_parts c.to
 
 abbrev pub enum_parts : (TerminalString → Bool) → Option EnumTokenData → List LaterPart
-enum_parts has_conversion None = []
-enum_parts has_conversion (Some e) = type_parts has_conversion e.type_name ++ flat_map conversion_parts e.conversions
+enum_parts has_active_conversion None = []
+enum_parts has_active_conversion (Some e) = type_parts has_active_conversion e.type_name ++ flat_map conversion_parts e.conversions
 
 abbrev pub extern_parts : (TerminalString → Bool) → ExternTokenData → List LaterPart
-extern_parts has_conversion t = part_of_any later.AssociatedType t.associated_types ++ enum_parts has_conversion t.enum_token
+extern_parts has_active_conversion t = part_of_any later.AssociatedType t.associated_types ++ enum_parts has_active_conversion t.enum_token
 
 -- no enum in any extern block, or a terminal that has two active conversions in the first enum
 abbrev pub token_parts : Features → List ItemData → List LaterPart
 token_parts fs items =
     part_of_none later.NoExternEnum (enum_of items)
-    ++ part_if (has_repeated same_terminal (terminals_of (active_conversions fs (conversions_of items)))) later.RepeatedConversion
+    ++ part_if (has_repeated_by same_terminal (terminals_converted (active_conversions fs (conversions_of items)))) later.RepeatedConversion
 
 -- ---- grammars
 
@@ -181,30 +181,30 @@ head_parts g =
     ++ attribute_parts later.GrammarAttribute g.attributes))
 
 abbrev pub item_parts : (TerminalString → Bool) → ItemData → List LaterPart
-item_parts has_conversion (match_item m) = later.MatchBlock ∷ []
-item_parts has_conversion (extern_item t) = extern_parts has_conversion t
-item_parts has_conversion (intern_item t) = []
-item_parts has_conversion (rule_item r) = rule_parts has_conversion r
-item_parts has_conversion (use_item s) = []
+item_parts has_active_conversion (match_item m) = later.MatchBlock ∷ []
+item_parts has_active_conversion (extern_item t) = extern_parts has_active_conversion t
+item_parts has_active_conversion (intern_item t) = []
+item_parts has_active_conversion (rule_item r) = later_rule_parts has_active_conversion r
+item_parts has_active_conversion (use_item s) = []
 
 -- whether a rule has that name
 abbrev pub has_rule : List ItemData → List ℕ → Bool
-has_rule items name = listed name (names_of (rules_of items))
+has_rule items name = listed name (names_of_rules (rules_among items))
 
 abbrev pub names_terminal : List ConversionData → TerminalString → Bool
-names_terminal conversions t = terminal_listed t (terminals_of conversions)
+names_terminal conversions t = terminal_listed t (terminals_converted conversions)
 
 -- whether an active conversion of the first enum names that terminal
-abbrev pub has_conversion : Features → List ItemData → TerminalString → Bool
-has_conversion fs items = names_terminal (active_conversions fs (conversions_of items))
+abbrev pub has_active_conversion : Features → List ItemData → TerminalString → Bool
+has_active_conversion fs items = names_terminal (active_conversions fs (conversions_of items))
 
 -- what the grammar holds that a later stage brings, in an order of reading
 abbrev pub later_parts : Features → GrammarData → List LaterPart
 later_parts fs g =
     head_parts g
     ++ (token_parts fs g.items
-    ++ (flat_map (item_parts (has_conversion fs g.items)) g.items
-    ++ flat_map (start_parts g.prefix (has_rule g.items)) (rules_of g.items)))
+    ++ (flat_map (item_parts (has_active_conversion fs g.items)) g.items
+    ++ flat_map (start_parts g.prefix (has_rule g.items)) (rules_among g.items)))
 
 -- each one is a fault of the whole grammar
 abbrev pub later_faults : Features → GrammarData → List Fault

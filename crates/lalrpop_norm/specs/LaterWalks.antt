@@ -31,8 +31,8 @@ Stops (Ok _) ps = ps ≡ []
 Stops (Err e) ps = StopsAt ps e
 
 -- whether a key is equal to one of the list
-abbrev pub has_key : {K : Type 0} → (K → K → Ordering) → List K → K → Bool
-has_key cmp keys k = list_any (is_at (cmp k)) keys
+abbrev pub is_among_keys : {K : Type 0} → (K → K → Ordering) → List K → K → Bool
+is_among_keys cmp keys k = list_any (is_at (cmp k)) keys
 
 -- the keys, and one after the other those of a list
 abbrev pub with_keys : {K : Type 0} → (K → K → Ordering) → List K → List K → List K
@@ -42,11 +42,11 @@ with_keys cmp keys (k ∷ ks) = with_keys cmp (insert_key cmp keys k) ks
 -- whether one of the list is there already when its turn comes
 abbrev pub repeats : {K : Type 0} → (K → K → Ordering) → List K → List K → Bool
 repeats cmp keys [] = false
-repeats cmp keys (k ∷ ks) = has_key cmp keys k || repeats cmp (insert_key cmp keys k) ks
+repeats cmp keys (k ∷ ks) = is_among_keys cmp keys k || repeats cmp (insert_key cmp keys k) ks
 
 -- whether a set of names, or of terminals, with these keys has it
 abbrev pub name_in : List (List ℕ) → List ℕ → Bool
-name_in keys = has_key (slice_cmp nat_cmp) keys
+name_in keys = is_among_keys (slice_cmp nat_cmp) keys
 
 abbrev pub terminal_in : List TerminalString → TerminalString → Bool
-terminal_in keys = has_key terminal_cmp keys
+terminal_in keys = is_among_keys terminal_cmp keys

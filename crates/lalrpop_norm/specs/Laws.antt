@@ -12,16 +12,16 @@ use Rattle.lalrpop_norm_model.specs.Scopes.{is_argument, resolved_grammar}
 use Rattle.lalrpop_norm_model.specs.Stated.{HasLevel}
 use Rattle.lalrpop_norm_model.specs.Grammars.{is_nil}
 use Rattle.lalrpop_norm_model.specs.LevelRules.{level_of_rule, leveled_grammar}
-use Rattle.lalrpop_norm_model.specs.PlainRules.{all_rules, IsWhole}
+use Rattle.lalrpop_norm_model.specs.PlainRules.{all_rules, IsEnded}
 use Rattle.lalrpop_norm_model.specs.Renumbered.{prepared_grammar}
 use Rattle.lalrpop_norm_model.specs.Expanded.{rule_names}
 use Rattle.lalrpop_norm_model.specs.TypeTables.{Table}
 use Rattle.lalrpop_norm_model.specs.LoweringFaults.{lowering_faults}
 use Rattle.lalrpop_norm_model.specs.CheckedTokens.{IsEntered}
-use Rattle.lalrpop_norm_names.specs.NameFaults.{resolve_faults}
+use Rattle.lalrpop_norm_resolve.specs.NameFaults.{resolve_faults}
 use Rattle.lalrpop_norm_repr.specs.Lowered.{LoweredGrammar}
 use Rattle.lalrpop_norm_repr.specs.Tables.{TypeTable}
-use Rattle.lalrpop_norm_late.specs.Lowering.{public_rules, start_name}
+use Rattle.lalrpop_norm_late.specs.Lowering.{public_rules_in, start_name}
 use Rattle.lalrpop_norm_late.specs.Shape.{IsLoweringOf}
 use Rattle.lalrpop_norm.specs.Faithful.{HasFaithfulTrees, grammar_with_levels, grammar_of_plain_rules}
 
@@ -42,7 +42,7 @@ MacrosHaveOneLevel = (g : GrammarData) → resolved_grammar g ≡ g → resolve_
 -- names stand once, and no start symbol has the name of a rule
 pub record HasOwnNames (g : GrammarData) : Type 0 where
   pub once : IsDistinct (rule_names g)
-  pub starts : (r : RuleData) → In r (public_rules (all_rules g)) → In (start_name g.prefix r.name).0 (rule_names g) → ⊥
+  pub starts : (r : RuleData) → In r (public_rules_in (all_rules g)) → In (start_name g.prefix r.name).0 (rule_names g) → ⊥
 
 -- Names that stand once are a grammar's own where lowering has no fault and each rule has a type.
 abbrev pub NamesAreOwn : Type 0
@@ -54,7 +54,7 @@ NamesAreOwn = (g : GrammarData) (types : Table) → IsDistinct (rule_names g) �
 -- that is no macro has its start symbols there, with its words.
 abbrev pub LoweredTreesAreFaithful : Type 0
 LoweredTreesAreFaithful = (fs : Features) (g : GrammarData) → resolve_faults (enabled_grammar fs g) ≡ [] → HasFlatMacros (prepared_grammar fs g) →
-    resolve_faults (grammar_with_levels fs g) ≡ [] → (rounds : ℕ) → IsWhole comparison (grammar_with_levels fs g) rounds →
+    resolve_faults (grammar_with_levels fs g) ≡ [] → (rounds : ℕ) → IsEnded comparison (grammar_with_levels fs g) rounds →
     HasOwnNames (grammar_of_plain_rules fs g rounds) → (plain : GrammarData) → IsEntered (grammar_of_plain_rules fs g rounds) plain →
     (types : TypeTable) (l : LoweredGrammar) → IsLoweringOf plain (all_rules plain) types l →
     HasFaithfulTrees fs g (grammar_of_plain_rules fs g rounds) rounds l

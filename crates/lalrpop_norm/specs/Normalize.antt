@@ -9,11 +9,11 @@ use Rattle.lalrpop_norm_model.specs.PlainRules.{all_rules}
 use Rattle.lalrpop_norm_model.specs.InferenceFaults.{inference_faults, inferred_table}
 use Rattle.lalrpop_norm_model.specs.LoweringFaults.{lowering_faults}
 use Rattle.lalrpop_norm_front.specs.GrammarFaults.{validate_faults}
-use Rattle.lalrpop_norm_front.specs.PrecedenceFaults.{precedence_faults}
+use Rattle.lalrpop_norm_precedence.specs.PrecedenceFaults.{precedence_faults}
 use Rattle.lalrpop_norm_expand.specs.Expansion.{expansion_faults}
 use Rattle.lalrpop_norm_repr.specs.Lowered.{LoweredGrammar}
 use Rattle.lalrpop_norm_repr.specs.Tables.{TypeTable}
-use Rattle.lalrpop_norm_types.specs.Inferred.{IsInferred}
+use Rattle.lalrpop_norm_tyinfer.specs.Inferred.{IsInferred}
 use Rattle.lalrpop_norm_late.specs.Shape.{IsLoweringOf}
 use Rattle.lalrpop_norm.specs.Faithful.{grammar_with_levels, grammar_of_plain_rules}
 use Rattle.lalrpop_norm.specs.Later.{later_faults}

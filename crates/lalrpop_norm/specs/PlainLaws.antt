@@ -13,14 +13,14 @@ use Rattle.lalrpop_norm_model.specs.InferenceFaults.{inference_faults}
 use Rattle.lalrpop_norm_model.specs.LoweringFaults.{lowering_faults}
 use Rattle.lalrpop_norm_model.specs.PlainRules.{all_rules}
 use Rattle.lalrpop_norm_model.specs.TypeRelation.{IsRule}
-use Rattle.lalrpop_norm_names.specs.NameFaults.{resolve_faults}
+use Rattle.lalrpop_norm_resolve.specs.NameFaults.{resolve_faults}
 use Rattle.lalrpop_norm_front.specs.GrammarFaults.{validate_faults}
 use Rattle.lalrpop_norm_expand.specs.Expansion.{expansion_faults}
 use Rattle.lalrpop_norm_repr.specs.Closed.{IsClosed}
 use Rattle.lalrpop_norm_repr.specs.Lowered.{LoweredGrammar}
 use Rattle.lalrpop_norm_repr.specs.Tables.{TypeTable}
-use Rattle.lalrpop_norm_late.specs.Lowering.{public_rules}
-use Rattle.lalrpop_norm_late.specs.Made.{type_in}
+use Rattle.lalrpop_norm_late.specs.Lowering.{public_rules_in}
+use Rattle.lalrpop_norm_late.specs.Made.{types_by_name}
 use Rattle.lalrpop_norm_late.specs.Shape.{HasStartTypes, IsLoweringOf}
 use Rattle.lalrpop_norm.specs.TakenGrammars.{IsTaken}
 use Rattle.lalrpop_norm.specs.Faithful.{HasGroundedTypes, IsInferred, IsFaithful, no_lexer, grammar_with_levels, grammar_of_plain_rules}
@@ -40,7 +40,7 @@ pub record PassesLowering (fs : Features) (g : GrammarData) (limit : ℕ) (table
   pub before : PassesExpansion fs g limit
   pub typable : inference_faults (grammar_of_plain_rules fs g limit) ≡ []
   pub inferred : IsInferred (grammar_of_plain_rules fs g limit) table
-  pub lowerable : lowering_faults (grammar_of_plain_rules fs g limit) (type_in table) ≡ []
+  pub lowerable : lowering_faults (grammar_of_plain_rules fs g limit) (types_by_name table) ≡ []
 
 -- ---- plain rules
 
@@ -69,12 +69,12 @@ PlainConversionsAreActive = (fs : Features) (g : GrammarData) (limit : ℕ) (t :
 abbrev pub InferredTypesAreTotal : Type 0
 InferredTypesAreTotal = (fs : Features) (g : GrammarData) (limit : ℕ) (table : TypeTable) → PassesExpansion fs g limit →
     inference_faults (grammar_of_plain_rules fs g limit) ≡ [] → IsInferred (grammar_of_plain_rules fs g limit) table →
-    (r : RuleData) → IsRule (grammar_of_plain_rules fs g limit) r → IsSome (type_in table r.name.0)
+    (r : RuleData) → IsRule (grammar_of_plain_rules fs g limit) r → IsSome (types_by_name table r.name.0)
 
 -- The start name of a public rule is no rule's name.
 abbrev pub StartNamesAreFree : Type 0
 StartNamesAreFree = (fs : Features) (g : GrammarData) (limit : ℕ) (table : TypeTable) → PassesLowering fs g limit table →
-    (r : RuleData) → In r (public_rules (all_rules (grammar_of_plain_rules fs g limit))) →
+    (r : RuleData) → In r (public_rules_in (all_rules (grammar_of_plain_rules fs g limit))) →
     In ((grammar_of_plain_rules fs g limit).prefix ++ r.name.0) (rule_names (grammar_of_plain_rules fs g limit)) → ⊥
 
 -- Once start symbols have their rules' types, each nonterminal has its only grounded type.

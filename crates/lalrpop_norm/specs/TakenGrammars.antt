@@ -9,8 +9,8 @@ use Rattle.lalrpop_norm_parts.specs.Patterns as pattern
 use Rattle.lalrpop_norm_tree.specs.Symbols.{Kind, group, ambiguous_id, terminal, nonterminal, call, repeated, chosen, named, tupled, lookahead, lookbehind, error_terminal, Part, at, Parts, no_parts, part_and}
 use Rattle.lalrpop_norm_tree.specs.Types.{TypeData}
 use Rattle.lalrpop_norm_model.specs.Features.{Features}
-use Rattle.lalrpop_norm.specs.Grammars.{rules_of, externs_of, is_public, enum_of, conversions_in, conversions_of, active_conversions, terminals_of, same_terminal}
-use Rattle.lalrpop_norm.specs.Later.{has_several_slots, has_rule, has_conversion}
+use Rattle.lalrpop_norm.specs.Grammars.{rules_among, externs_of, is_public, enum_of, conversions_in, conversions_of, active_conversions, terminals_converted, same_terminal}
+use Rattle.lalrpop_norm.specs.Later.{has_several_slots, has_rule, has_active_conversion}
 
 -- ---- symbols, where a test tells which terminals have a conversion
 
@@ -119,6 +119,6 @@ pub record IsTaken (fs : Features) (g : GrammarData) : Type 0 where
   pub enum_token : IsSome (enum_of g.items)
   pub externs : All IsTakenExtern (externs_of g.items)
   -- no two active conversions have one terminal
-  pub terminals : IsDistinct same_terminal (terminals_of (active_conversions fs (conversions_of g.items)))
-  pub rules : All (IsTakenRule (has_conversion fs g.items)) (rules_of g.items)
-  pub starts : All (HasFreeStart g.prefix (has_rule g.items)) (rules_of g.items)
+  pub terminals : IsDistinct same_terminal (terminals_converted (active_conversions fs (conversions_of g.items)))
+  pub rules : All (IsTakenRule (has_active_conversion fs g.items)) (rules_among g.items)
+  pub starts : All (HasFreeStart g.prefix (has_rule g.items)) (rules_among g.items)

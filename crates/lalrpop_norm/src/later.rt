@@ -1,7 +1,7 @@
 //! What a later stage of this library brings. Until then a grammar that holds such a part is refused.
 ghost use Rattle.std.specs.Prelude.{◌≡◌, Some, IfErr, OnOk};
 ghost use Rattle.lalrpop_norm_tree.specs.Items.{grammar_view};
-ghost use Rattle.lalrpop_norm_front.specs.Sessions.{features_view};
+ghost use Rattle.lalrpop_norm_util.specs.Sessions.{features_view};
 ghost use Rattle.lalrpop_norm_faults.specs.Faults.{Refuses};
 ghost use Rattle.lalrpop_norm.specs.Later.{later_parts, later_faults};
 ghost use Rattle.lalrpop_norm.specs.LaterWalks.{Stops};
@@ -18,8 +18,9 @@ mod tokens;
 mod types;
 
 use items::{find_in_head, find_in_items};
-use lalrpop_norm_front::{FaultKind, NormFailure, NormResult, Session, refusal};
+use lalrpop_norm_faults::{FaultKind, NormFailure, NormResult, refusal};
 use lalrpop_norm_tree::grammar::parse_tree::{Grammar, NoMemory};
+use lalrpop_norm_util::Session;
 use names::rule_names;
 use starts::find_taken_starts;
 use std::alloc::{AllocError, AllocFailed, Global};

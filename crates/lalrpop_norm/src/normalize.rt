@@ -1,7 +1,6 @@
 //! The whole way from a written grammar to its lowered one, and the passes that can be used by themselves.
 
 pub use crate::passes::normalize;
-pub use lalrpop_norm_front::{
-    FaultKind, NormError, NormFailure, NormResult, Session, cond_comp, norm_util, precedence,
-    prevalidate, resolve,
-};
+pub use lalrpop_norm_faults::{FaultKind, NormError, NormFailure, NormResult};
+pub use lalrpop_norm_front::{cond_comp, precedence, prevalidate, resolve};
+pub use lalrpop_norm_util::{Session, norm_util};

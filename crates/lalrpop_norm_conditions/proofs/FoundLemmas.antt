@@ -11,7 +11,7 @@ use Rattle.regex.proofs.ForCallers.{find_str_sound, find_str_complete}
 use Rattle.regex.proofs.Utf8Lemmas.{IsCharBoundary-of_test}
 use Rattle.lalrpop_norm_theory.specs.Symbols.{Name, quoted, regex, bare, error_terminal, ClosedSymbol, terminal, error, reference, call, group, star, plus, question, wrapped, lookahead, lookbehind}
 use Rattle.lalrpop_norm_conditions.specs.Patterns.{reading, occurs, is_found, MatchesSomewhere}
-use Rattle.lalrpop_norm_conditions.specs.Conditions.{literal_text, comparison}
+use Rattle.lalrpop_norm_conditions.specs.Conditions.{literal_in, comparison}
 use Rattle.lalrpop_norm_conditions.specs.Laws.{Says, ValuesAreOfLiterals}
 
 -- a match starts between characters
@@ -57,7 +57,7 @@ operators_say literal right = record {
 }
 
 -- only a quoted literal has a text, its own
-literal_of : (left : ClosedSymbol) (text : Name) → literal_text left ≡ Some text → left ≡ terminal (quoted text)
+literal_of : (left : ClosedSymbol) (text : Name) → literal_in left ≡ Some text → left ≡ terminal (quoted text)
 literal_of (terminal (quoted t)) text e = ap (λ x. terminal (quoted x)) (same_Some t text e)
 literal_of (terminal (regex t)) text e = absurd (none-some text e)
 literal_of (terminal (bare t)) text e = absurd (none-some text e)
@@ -79,7 +79,7 @@ value_of (Some text) f value e = (text, refl, same_Some (f text) value e)
 
 pub values_are_of_literals : ValuesAreOfLiterals
 values_are_of_literals op left right value = (
-  λ e. let found = value_of (literal_text left) (λ literal. comparison op literal right) value e in
+  λ e. let found = value_of (literal_in left) (λ literal. comparison op literal right) value e in
       (found.0, literal_of left found.0 found.1, found.2),
   λ h. rw (h.1, h.2) refl,
 )

@@ -13,13 +13,13 @@ comparison Match literal right = is_found right literal
 comparison NotMatch literal right = not (is_found right literal)
 
 -- the text of a quoted literal; no other symbol has one, nor has a literal in a wrapper or in a group
-abbrev pub literal_text : ClosedSymbol → Option Name
-literal_text (terminal (quoted text)) = Some text
-literal_text _ = None
+abbrev pub literal_in : ClosedSymbol → Option Name
+literal_in (terminal (quoted text)) = Some text
+literal_in _ = None
 
 -- The value of a condition whose left side is bound to this symbol, and none where that is no quoted literal.
 abbrev pub condition_value : ConditionOp → ClosedSymbol → Name → Option Bool
-condition_value op left right = option_map (λ literal. comparison op literal right) (literal_text left)
+condition_value op left right = option_map (λ literal. comparison op literal right) (literal_in left)
 
 -- the operator asks for a match of a pattern
 abbrev pub asks_for_match : ConditionOp → Bool

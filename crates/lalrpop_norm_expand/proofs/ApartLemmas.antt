@@ -9,10 +9,10 @@ use Rattle.lalrpop_norm_tree.specs.declared.symbol.RepeatOp.{RepeatOp}
 use Rattle.lalrpop_norm_tree.specs.declared.symbol.RepeatOp.TheVariants.{Star, Plus, Question}
 use Rattle.lalrpop_norm_tree.specs.Symbols as written
 use Rattle.lalrpop_norm_tree.specs.Symbols.{Kind, Part, Parts, at, no_parts, part_and}
-use Rattle.lalrpop_norm_theory.specs.Symbols.{Terminal, quoted, regex, bare, error_terminal, ArgumentPattern, ArgumentPatterns, name_pattern, tuple_pattern, no_patterns, pattern_and, Wrapper, chosen, named, tuple, ClosedSymbol, ClosedSymbols, terminal, error, reference, call, group, star, plus, question, wrapped, lookahead, lookbehind, no_symbols, symbol_and}
+use Rattle.lalrpop_norm_theory.specs.Symbols.{Terminal, quoted, regex, bare, error_terminal, ClosedPattern, ClosedPatterns, name_pattern, tuple_pattern, no_patterns, pattern_and, Wrapper, chosen, named, tuple, ClosedSymbol, ClosedSymbols, terminal, error, reference, call, group, star, plus, question, wrapped, lookahead, lookbehind, no_symbols, symbol_and}
 use Rattle.lalrpop_norm_theory.proofs.SameLemmas.{symbol_test}
 use Rattle.lalrpop_norm_model.specs.Occurrences.{count_part, count_parts}
-use Rattle.lalrpop_norm_model.specs.Reading.{terminal_of, literal_terminal, pattern_of, patterns_of, repeat_of, read_kind, read_part, read_parts}
+use Rattle.lalrpop_norm_model.specs.Reading.{terminal_of, literal_terminal, closed_pattern_of, closed_patterns_of, repeat_of, read_kind, read_part, read_parts}
 use Rattle.lalrpop_norm_model.specs.MadeRules.{flat_reader}
 use Rattle.lalrpop_norm_model.specs.PlainRules.{same_apart_from_spans}
 use Rattle.lalrpop_norm_expand.specs.Apart.{nowhere, unplaced_kind, unplaced, all_unplaced}
@@ -29,7 +29,7 @@ mutual
   kind_closed b a before after (written.repeated op p) = ap (repeat_of op) (part_closed b a before after p)
   kind_closed b a before after (written.chosen p) = ap (wrapped chosen) (part_closed b a before after p)
   kind_closed b a before after (written.named n p) = ap (wrapped (named n.mutable n.name)) (part_closed b a before after p)
-  kind_closed b a before after (written.tupled ns p) = ap (wrapped (tuple (patterns_of ns))) (part_closed b a before after p)
+  kind_closed b a before after (written.tupled ns p) = ap (wrapped (tuple (closed_patterns_of ns))) (part_closed b a before after p)
   kind_closed b a before after written.lookahead = refl
   kind_closed b a before after written.lookbehind = refl
   kind_closed b a before after written.error_terminal = refl
@@ -53,11 +53,11 @@ terminal_back (bare a) = Bare a
 terminal_back error_terminal = Error
 
 mutual
-  pattern_back : ArgumentPattern → written.ArgumentPattern
+  pattern_back : ClosedPattern → written.ArgumentPattern
   pattern_back (name_pattern m n) = written.one_name (record { mutable = m; name = n })
   pattern_back (tuple_pattern ps) = written.several (patterns_back ps)
 
-  patterns_back : ArgumentPatterns → written.ArgumentPatterns
+  patterns_back : ClosedPatterns → written.ArgumentPatterns
   patterns_back no_patterns = written.no_arguments
   patterns_back (pattern_and p ps) = written.argument_and (pattern_back p) (patterns_back ps)
 
@@ -98,11 +98,11 @@ terminal_is Error = refl
 mutual
   unfolding pattern_back patterns_back
 
-  pattern_is : (p : written.ArgumentPattern) → pattern_back (pattern_of p) ≡ p
+  pattern_is : (p : written.ArgumentPattern) → pattern_back (closed_pattern_of p) ≡ p
   pattern_is (written.one_name n) = refl
   pattern_is (written.several ps) = ap written.several (patterns_are ps)
 
-  patterns_are : (ps : written.ArgumentPatterns) → patterns_back (patterns_of ps) ≡ ps
+  patterns_are : (ps : written.ArgumentPatterns) → patterns_back (closed_patterns_of ps) ≡ ps
   patterns_are written.no_arguments = refl
   patterns_are (written.argument_and p ps) = ap₂ written.argument_and (pattern_is p) (patterns_are ps)
 

@@ -12,7 +12,8 @@ use Rattle.lalrpop_norm_faults.specs.declared.failure.NormFailure.{NormFailure}
 use Rattle.lalrpop_norm_faults.specs.declared.kind.FaultKind.TheVariants.{RecursionCap}
 use Rattle.lalrpop_norm_faults.specs.Faults.{IsFirst, Refuses}
 use Rattle.lalrpop_norm_faults.proofs.FaultLemmas.{exit_at}
-use Rattle.lalrpop_norm_expand.specs.Expansion.{span_of, unmade, past_cap}
+use Rattle.lalrpop_norm_model.specs.MadeRules.{span_of}
+use Rattle.lalrpop_norm_expand.specs.Expansion.{unmade, past_cap}
 use Rattle.lalrpop_norm_expand.specs.Making.{made}
 use Rattle.lalrpop_norm_expand.proofs.SymbolLemmas.{part_is}
 

@@ -18,7 +18,7 @@ use Rattle.lalrpop_norm_tree.specs.Symbols.{kind_step, expr_step, macro_step, re
 use Rattle.lalrpop_norm_expand.specs.declared.macro_expand.content.Form.{Form}
 use Rattle.lalrpop_norm_expand.specs.declared.macro_expand.content.Form.TheVariants as form
 use Rattle.lalrpop_norm_expand.specs.Apart.{nowhere, unplaced_kind, unplaced, all_unplaced}
-use Rattle.lalrpop_norm_expand.specs.Contents.{Marks, marks_of, inside_of}
+use Rattle.lalrpop_norm_expand.specs.Contents.{Marks, marks_of, parts_inside}
 
 -- ---- a kind apart from spans is made of what it holds
 
@@ -53,7 +53,7 @@ repeat_made op.Star p = refl
 repeat_made op.Plus p = refl
 repeat_made op.Question p = refl
 
-kind_made : (k : Kind) → made_of (marks_of k) (all_unplaced (inside_of k)) ≡ unplaced_kind k
+kind_made : (k : Kind) → made_of (marks_of k) (all_unplaced (parts_inside k)) ≡ unplaced_kind k
 kind_made (group ps) = refl
 kind_made (ambiguous_id a) = refl
 kind_made (terminal t) = refl
@@ -67,7 +67,7 @@ kind_made lookahead = refl
 kind_made lookbehind = refl
 kind_made error_terminal = refl
 
-pub same_made : (k l : Kind) → marks_of k ≡ marks_of l → all_unplaced (inside_of k) ≡ all_unplaced (inside_of l) → unplaced_kind k ≡ unplaced_kind l
+pub same_made : (k l : Kind) → marks_of k ≡ marks_of l → all_unplaced (parts_inside k) ≡ all_unplaced (parts_inside l) → unplaced_kind k ≡ unplaced_kind l
 same_made k l m i = sym (kind_made k) ∙ ap₂ made_of m i ∙ kind_made l
 
 -- ---- and it holds them
@@ -86,7 +86,7 @@ marks_kept lookahead = refl
 marks_kept lookbehind = refl
 marks_kept error_terminal = refl
 
-inside_kept : (k : Kind) → inside_of (unplaced_kind k) ≡ all_unplaced (inside_of k)
+inside_kept : (k : Kind) → parts_inside (unplaced_kind k) ≡ all_unplaced (parts_inside k)
 inside_kept (group ps) = refl
 inside_kept (ambiguous_id a) = refl
 inside_kept (terminal t) = refl
@@ -103,8 +103,8 @@ inside_kept error_terminal = refl
 pub same_marks : (k l : Kind) → unplaced_kind k ≡ unplaced_kind l → marks_of k ≡ marks_of l
 same_marks k l e = sym (marks_kept k) ∙ ap marks_of e ∙ marks_kept l
 
-pub same_inside : (k l : Kind) → unplaced_kind k ≡ unplaced_kind l → all_unplaced (inside_of k) ≡ all_unplaced (inside_of l)
-same_inside k l e = sym (inside_kept k) ∙ ap inside_of e ∙ inside_kept l
+pub same_inside : (k l : Kind) → unplaced_kind k ≡ unplaced_kind l → all_unplaced (parts_inside k) ≡ all_unplaced (parts_inside l)
+same_inside k l e = sym (inside_kept k) ∙ ap parts_inside e ∙ inside_kept l
 
 -- ---- what is inside, against a list
 
@@ -133,10 +133,10 @@ error_seen = ap kind_view (sym rolls-Error) ∙ fold-roll-SymbolKind Kind Parts 
 -- a kind without symbols inside
 pub leaf_inside : (k : SymbolKind) →
     ((x : Atom) × (k ≡ kind.AmbiguousId x)) ⊎ (((x : TerminalString) × (k ≡ kind.Terminal x)) ⊎ (((x : NonterminalString) × (k ≡ kind.Nonterminal x)) ⊎ ((k ≡ kind.Lookahead) ⊎ ((k ≡ kind.Lookbehind) ⊎ (k ≡ kind.Error))))) →
-    inside_of (kind_view k) ≡ no_parts
-leaf_inside k (inl p) = rw p.1 (ap inside_of (ambiguous_seen p.0))
-leaf_inside k (inr (inl p)) = rw p.1 (ap inside_of (terminal_seen p.0))
-leaf_inside k (inr (inr (inl p))) = rw p.1 (ap inside_of (nonterminal_seen p.0))
-leaf_inside k (inr (inr (inr (inl e)))) = rw e (ap inside_of lookahead_seen)
-leaf_inside k (inr (inr (inr (inr (inl e))))) = rw e (ap inside_of lookbehind_seen)
-leaf_inside k (inr (inr (inr (inr (inr e))))) = rw e (ap inside_of error_seen)
+    parts_inside (kind_view k) ≡ no_parts
+leaf_inside k (inl p) = rw p.1 (ap parts_inside (ambiguous_seen p.0))
+leaf_inside k (inr (inl p)) = rw p.1 (ap parts_inside (terminal_seen p.0))
+leaf_inside k (inr (inr (inl p))) = rw p.1 (ap parts_inside (nonterminal_seen p.0))
+leaf_inside k (inr (inr (inr (inl e)))) = rw e (ap parts_inside lookahead_seen)
+leaf_inside k (inr (inr (inr (inr (inl e))))) = rw e (ap parts_inside lookbehind_seen)
+leaf_inside k (inr (inr (inr (inr (inr e))))) = rw e (ap parts_inside error_seen)

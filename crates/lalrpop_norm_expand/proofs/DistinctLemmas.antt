@@ -15,32 +15,18 @@ use Rattle.lalrpop_norm_faults.specs.Faults.{Fault, first}
 use Rattle.lalrpop_norm_theory.specs.Rounds.{In, IsDistinct, Round, fresh_of}
 use Rattle.lalrpop_norm_theory.proofs.RoundsLemmas.{in_left, in_right, in_cases, of_reverse}
 use Rattle.lalrpop_norm_model.specs.Grammars.{ConditionValue, is_nil}
-use Rattle.lalrpop_norm_model.specs.MadeRules.{made_rules, instance_of, macro_named}
+use Rattle.lalrpop_norm_model.specs.MadeRules.{made_rules, instance_of, macro_named, span_of}
 use Rattle.lalrpop_norm_model.specs.Expanded.{rule_names}
-use Rattle.lalrpop_norm_model.specs.PlainRules.{all_rules, rules_of, macros_of, replaced_rule, same_apart_from_spans, expansion_round, made_symbols, made_in, plain_grammar}
+use Rattle.lalrpop_norm_model.specs.PlainRules.{all_rules, rules_without_arguments, macros_of, replaced_rule, same_apart_from_spans, expansion_round, made_symbols, made_in, plain_grammar}
 use Rattle.lalrpop_norm_model.proofs.FaithfulLemmas.{plain_grammars_hold_plain_rules}
-use Rattle.lalrpop_norm_expand.specs.Expansion.{span_of, is_name, meetings, met_before, shared_in, unmade_in, faults_from, expansion_faults}
+use Rattle.lalrpop_norm_expand.specs.Expansion.{is_declared_name, meetings, met_before, shared_in, unmade_in, faults_from, expansion_faults}
 use Rattle.lalrpop_norm_expand.specs.Laws.{NamesStayDistinct}
-use Rattle.lalrpop_norm_expand.specs.Meeting.{first_of, joined_by, after_one, after, clashes, clash_faults}
-use Rattle.lalrpop_norm_expand.proofs.FreshLemmas.{Tells, none_if, or_false, none_first, after_fresh, first_same, tells_after}
+use Rattle.lalrpop_norm_expand.specs.Meeting.{first_with_text, joined_by, after_one, after, clashes, clash_faults}
+use Rattle.lalrpop_norm_faults.proofs.FaultLemmas.{none_first}
+use Rattle.lalrpop_norm_expand.proofs.FreshLemmas.{Tells, none_if, or_false, after_fresh, first_same, tells_after}
+use Rattle.lalrpop_norm_theory.proofs.MadeLemmas.{distinct_append, distinct_reverse}
 
 -- ---- distinct lists
-
-distinct_append : {A : Type 0} (xs ys : List A) → IsDistinct xs → IsDistinct ys → ((x : A) → In x xs → In x ys → ⊥) → IsDistinct (xs ++ ys)
-distinct_append [] ys d e apart = e
-distinct_append (x ∷ xs) ys d e apart = (
-  λ i. elim (in_cases x xs ys i) [ inl j ↦ d.0 j | inr j ↦ apart x (inl refl) j ],
-  distinct_append xs ys d.1 e (λ z j k. apart z (inr j) k),
-)
-
-distinct_reverse : {A : Type 0} (xs : List A) → IsDistinct xs → IsDistinct (reverse xs)
-distinct_reverse [] d = d
-distinct_reverse {A} (x ∷ xs) d =
-    rw (reverse-cons x xs) (distinct_append (reverse xs) (x ∷ []) (distinct_reverse xs d.1) (λ i. i, tt) apart)
-  where
-    apart : (z : A) → In z (reverse xs) → In z (x ∷ []) → ⊥
-    apart z i (inl e) = d.0 (subst (λ (w : A). In w xs) e (of_reverse z xs i))
-    apart z i (inr j) = j
 
 distinct_right : {A : Type 0} (xs ys : List A) → IsDistinct (xs ++ ys) → IsDistinct ys
 distinct_right [] ys d = d
@@ -60,29 +46,29 @@ map_reverse f (x ∷ xs) = rw (reverse-cons x xs, reverse-cons (f x) (map f xs),
 abbrev texts : List Part → List (List ℕ)
 texts ps = map part_text ps
 
-none_in : (t : List ℕ) (seen : List Part) → first_of t seen ≡ None → In t (texts seen) → ⊥
+none_in : (t : List ℕ) (seen : List Part) → first_with_text t seen ≡ None → In t (texts seen) → ⊥
 none_in t [] e i = i
 none_in t (y ∷ seen) e (inl q) =
     let here : bytes_eq (part_text y) t ≡ true = (bytes_eq-Decides (part_text y) t).1 (sym q) in
-    some (bytes_eq (part_text y) t) here (first_of t seen) e
+    some (bytes_eq (part_text y) t) here (first_with_text t seen) e
   where
     some : (b : Bool) → b ≡ true → (o : Option Part) → (if b then Some y else o) ≡ None → ⊥
     some true h o e = cc e
     some false h o e = cc h
-none_in t (y ∷ seen) e (inr i) = none_in t seen (rest (bytes_eq (part_text y) t) (first_of t seen) e) i
+none_in t (y ∷ seen) e (inr i) = none_in t seen (rest (bytes_eq (part_text y) t) (first_with_text t seen) e) i
   where
     rest : (b : Bool) (o : Option Part) → (if b then Some y else o) ≡ None → o ≡ None
     rest true o e = absurd (cc e)
     rest false o e = e
 
 texts_one : (seen : List Part) (x : Part) → IsDistinct (texts seen) → IsDistinct (texts (after_one seen x))
-texts_one seen x d = by (first_of (part_text x) seen) refl
+texts_one seen x d = by (first_with_text (part_text x) seen) refl
   where
-    apart : first_of (part_text x) seen ≡ None → (t : List ℕ) → In t (texts seen) → In t (part_text x ∷ []) → ⊥
+    apart : first_with_text (part_text x) seen ≡ None → (t : List ℕ) → In t (texts seen) → In t (part_text x ∷ []) → ⊥
     apart e t i (inl q) = none_in (part_text x) seen e (subst (λ (u : List ℕ). In u (texts seen)) q i)
     apart e t i (inr j) = j
 
-    by : (o : Option Part) → first_of (part_text x) seen ≡ o → IsDistinct (texts (joined_by o seen x))
+    by : (o : Option Part) → first_with_text (part_text x) seen ≡ o → IsDistinct (texts (joined_by o seen x))
     by None e = rw (map-append part_text seen (x ∷ [])) (distinct_append (texts seen) (part_text x ∷ []) d (λ i. i, tt) (apart e))
     by (Some y) e = d
 
@@ -95,7 +81,7 @@ module _ (names : List ℕ → Bool) where
   AreFree seen = (t : List ℕ) → In t (texts seen) → names t ≡ false
 
   free_one : (seen : List Part) (x : Part) → names (part_text x) ≡ false → AreFree seen → AreFree (after_one seen x)
-  free_one seen x here h = by (first_of (part_text x) seen)
+  free_one seen x here h = by (first_with_text (part_text x) seen)
     where
       last : (t : List ℕ) → In t (part_text x ∷ []) → names t ≡ false
       last t (inl e) = ap names e ∙ here
@@ -193,10 +179,10 @@ filter_distinct p (r ∷ rs) d = by (p r) (filter_distinct p rs d.1)
     by true deeper = (λ i. d.0 (filter_in p rs (name_of r) i), deeper)
     by false deeper = deeper
 
-is_name_in : (t : List ℕ) (ns : List (List ℕ)) → In t ns → is_name ns t ≡ true
+is_name_in : (t : List ℕ) (ns : List (List ℕ)) → In t ns → is_declared_name ns t ≡ true
 is_name_in t [] i = absurd i
-is_name_in t (n ∷ ns) (inl e) = ap (λ b. b || is_name ns t) ((bytes_eq-Decides t n).1 e)
-is_name_in t (n ∷ ns) (inr i) = or_right (bytes_eq t n) (is_name ns t) (is_name_in t ns i)
+is_name_in t (n ∷ ns) (inl e) = ap (λ b. b || is_declared_name ns t) ((bytes_eq-Decides t n).1 e)
+is_name_in t (n ∷ ns) (inr i) = or_right (bytes_eq t n) (is_declared_name ns t) (is_name_in t ns i)
   where
     or_right : (a b : Bool) → b ≡ true → (a || b) ≡ true
     or_right true b h = refl
@@ -230,7 +216,7 @@ module _ (value : ConditionValue) (g : GrammarData) where
   ]
 
   abbrev is_declared : List ℕ → Bool
-  is_declared = is_name (rule_names g)
+  is_declared = is_declared_name (rule_names g)
 
   record Kept (k : ℕ) : Type 0 where
     distinct : IsDistinct (texts (round k).seen)
@@ -290,13 +276,13 @@ module _ (value : ConditionValue) (g : GrammarData) where
       let (apart, inside) = texts_made limit quiet in
       let (made, texts_of) = names_are_texts value (macros_of g) (made_symbols value g limit) apart in
       let K : Kept limit = kept limit quiet in
-      let same : rule_names (plain_grammar value g limit) ≡ map name_of (rules_of g) ++ map name_of (made_in value g limit) =
+      let same : rule_names (plain_grammar value g limit) ≡ map name_of (rules_without_arguments g) ++ map name_of (made_in value g limit) =
       ap (map name_of) (plain_grammars_hold_plain_rules value g limit)
-      ∙ map-append name_of (map replaced_rule (rules_of g)) (map replaced_rule (made_in value g limit))
-      ∙ ap (λ ns. ns ++ map name_of (map replaced_rule (made_in value g limit))) (names_replaced (rules_of g))
-      ∙ ap (λ ns. map name_of (rules_of g) ++ ns) (names_replaced (made_in value g limit)) in
+      ∙ map-append name_of (map replaced_rule (rules_without_arguments g)) (map replaced_rule (made_in value g limit))
+      ∙ ap (λ ns. ns ++ map name_of (map replaced_rule (made_in value g limit))) (names_replaced (rules_without_arguments g))
+      ∙ ap (λ ns. map name_of (rules_without_arguments g) ++ ns) (names_replaced (made_in value g limit)) in
       subst (λ (ns : List (List ℕ)). IsDistinct ns) (sym same)
-      (distinct_append (map name_of (rules_of g)) (map name_of (made_in value g limit)) (filter_distinct (λ r. is_nil r.args) (all_rules g) d) made
+      (distinct_append (map name_of (rules_without_arguments g)) (map name_of (made_in value g limit)) (filter_distinct (λ r. is_nil r.args) (all_rules g) d) made
       (λ t i j.
       let declared : is_declared t ≡ true = is_name_in t (rule_names g) (filter_in (λ r. is_nil r.args) (all_rules g) t i) in
       let free : is_declared t ≡ false = K.free t (inside t (texts_of t j)) in

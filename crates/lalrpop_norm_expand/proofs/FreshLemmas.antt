@@ -13,12 +13,14 @@ use Rattle.lalrpop_norm_theory.proofs.SameLemmas.{symbol_test}
 use Rattle.lalrpop_norm_theory.proofs.RoundsLemmas.{fresh_append}
 use Rattle.lalrpop_norm_model.specs.Reading.{read_part}
 use Rattle.lalrpop_norm_model.specs.ClosedTexts.{closed_text}
-use Rattle.lalrpop_norm_model.specs.MadeRules.{flat_reader}
+use Rattle.lalrpop_norm_model.specs.MadeRules.{flat_reader, span_of}
 use Rattle.lalrpop_norm_model.specs.PlainRules.{same_apart_from_spans}
 use Rattle.lalrpop_norm_model.proofs.TextLemmas.{part_displayed}
-use Rattle.lalrpop_norm_expand.specs.Expansion.{span_of, is_name, has_other, shared_names}
+use Rattle.lalrpop_norm_expand.specs.Expansion.{is_declared_name, has_other, shared_names}
 use Rattle.lalrpop_norm_expand.proofs.IndexLemmas.{first_more, first_at, text_cases}
-use Rattle.lalrpop_norm_expand.specs.Meeting.{first_of, joined_by, after_one, after, differs, clashes, clash_faults}
+use Rattle.lalrpop_norm_expand.specs.Meeting.{first_with_text, joined_by, after_one, after, differs, clashes, clash_faults}
+use Rattle.lalrpop_norm_theory.proofs.BoolLemmas.{or_nothing, not_false}
+use Rattle.lalrpop_norm_faults.proofs.FaultLemmas.{none_first}
 
 -- ---- sameness
 
@@ -46,18 +48,14 @@ pub false_where : (b : Bool) → (b ≡ true → ⊥) → b ≡ false
 false_where true n = absurd (n refl)
 false_where false n = refl
 
-true_of_not : (b : Bool) → not b ≡ false → b ≡ true
-true_of_not true e = refl
-true_of_not false e = absurd (cc e)
-
 -- ---- what is new
 
 first_here : (seen : List Part) (x y : Part) (b : Bool) → bytes_eq (part_text y) (part_text x) ≡ b →
-    differs (cond b (Some y) (first_of (part_text x) seen)) x ≡ false →
-    (differs (first_of (part_text x) seen) x ≡ false → is_in same_apart_from_spans x seen ≡ is_some (first_of (part_text x) seen)) →
-    (same_apart_from_spans x y || is_in same_apart_from_spans x seen) ≡ is_some (cond b (Some y) (first_of (part_text x) seen))
+    differs (cond b (Some y) (first_with_text (part_text x) seen)) x ≡ false →
+    (differs (first_with_text (part_text x) seen) x ≡ false → is_in same_apart_from_spans x seen ≡ is_some (first_with_text (part_text x) seen)) →
+    (same_apart_from_spans x y || is_in same_apart_from_spans x seen) ≡ is_some (cond b (Some y) (first_with_text (part_text x) seen))
 first_here seen x y true e d deeper =
-    let same : same_apart_from_spans x y ≡ true = closed_same x y (sym (same_closed y x (true_of_not (same_apart_from_spans y x) d))) in
+    let same : same_apart_from_spans x y ≡ true = closed_same x y (sym (same_closed y x (not_false (same_apart_from_spans y x) d))) in
     ap (λ b. b || is_in same_apart_from_spans x seen) same
 first_here seen x y false e d deeper =
     let apart : same_apart_from_spans x y ≡ false = false_where (same_apart_from_spans x y)
@@ -65,14 +63,14 @@ first_here seen x y false e d deeper =
     ap (λ b. b || is_in same_apart_from_spans x seen) apart ∙ deeper d
 
 -- where the first of its text is the same, a symbol was met exactly where one of its text was
-is_in_first : (seen : List Part) (x : Part) → differs (first_of (part_text x) seen) x ≡ false →
-    is_in same_apart_from_spans x seen ≡ is_some (first_of (part_text x) seen)
+is_in_first : (seen : List Part) (x : Part) → differs (first_with_text (part_text x) seen) x ≡ false →
+    is_in same_apart_from_spans x seen ≡ is_some (first_with_text (part_text x) seen)
 is_in_first [] x h = refl
 is_in_first (y ∷ seen) x h = first_here seen x y (bytes_eq (part_text y) (part_text x)) refl h (is_in_first seen x)
 
-one_fresh : (seen : List Part) (x : Part) → differs (first_of (part_text x) seen) x ≡ false →
+one_fresh : (seen : List Part) (x : Part) → differs (first_with_text (part_text x) seen) x ≡ false →
     after_one seen x ≡ seen ++ fresh_of same_apart_from_spans seen (x ∷ [])
-one_fresh seen x h = cases (first_of (part_text x) seen) (is_in same_apart_from_spans x seen) (is_in_first seen x h)
+one_fresh seen x h = cases (first_with_text (part_text x) seen) (is_in same_apart_from_spans x seen) (is_in_first seen x h)
   where
     cases : (o : Option Part) (b : Bool) → b ≡ is_some o → joined_by o seen x ≡ seen ++ (if b then [] else x ∷ [])
     cases None b e = rw e refl
@@ -92,7 +90,7 @@ module _ (names : List ℕ → Bool) where
   after_fresh seen [] h = sym (append-nil seen)
   after_fresh seen (x ∷ xs) h =
       let (free, rest) = none_if (clashes names seen x) (SharedName, span_of x) (clash_faults names (after_one seen x) xs) h in
-      let one = one_fresh seen x (or_false (names (part_text x)) (differs (first_of (part_text x) seen) x) free).1 in
+      let one = one_fresh seen x (or_false (names (part_text x)) (differs (first_with_text (part_text x) seen) x) free).1 in
       after_fresh (after_one seen x) xs rest
       ∙ ap (λ s. s ++ fresh_of same_apart_from_spans s xs) one
       ∙ append_assoc seen (fresh_of same_apart_from_spans seen (x ∷ [])) _
@@ -102,15 +100,11 @@ module _ (names : List ℕ → Bool) where
 
 -- the symbols kept, one of each text, tell of each symbol what all that were met tell
 abbrev pub Tells : List Part → List Part → Type 0
-Tells seen met = (z : Part) → has_other met z ≡ differs (first_of (part_text z) seen) z
+Tells seen met = (z : Part) → has_other met z ≡ differs (first_with_text (part_text z) seen) z
 
 or_assoc : (a b c : Bool) → (a || (b || c)) ≡ ((a || b) || c)
 or_assoc true b c = refl
 or_assoc false b c = refl
-
-or_none : (a : Bool) → (a || false) ≡ a
-or_none true = refl
-or_none false = refl
 
 or_twice : (a : Bool) → (a || a) ≡ a
 or_twice true = refl
@@ -120,42 +114,42 @@ abbrev other : Part → Part → Bool
 other z y = bytes_eq (part_text y) (part_text z) && not (same_apart_from_spans y z)
 
 has_other_more : (met : List Part) (x z : Part) → has_other (met ++ x ∷ []) z ≡ (has_other met z || other z x)
-has_other_more [] x z = or_none (other z x)
+has_other_more [] x z = or_nothing (other z x)
 has_other_more (y ∷ met) x z = ap (λ b. other z y || b) (has_other_more met x z) ∙ or_assoc (other z y) (has_other met z) (other z x)
 
 same_along : (y x z : Part) → same_apart_from_spans y x ≡ true → same_apart_from_spans x z ≡ same_apart_from_spans y z
 same_along y x z e = ap (λ g. same_symbol g (closed z)) (sym (same_closed y x e))
 
-module _ (seen met : List Part) (x z : Part) (h : has_other met z ≡ differs (first_of (part_text z) seen) z)
-    (d : differs (first_of (part_text x) seen) x ≡ false) where
-  tells_apart : (part_text x ≡ part_text z → ⊥) → (has_other met z || other z x) ≡ differs (first_of (part_text z) (after_one seen x)) z
+module _ (seen met : List Part) (x z : Part) (h : has_other met z ≡ differs (first_with_text (part_text z) seen) z)
+    (d : differs (first_with_text (part_text x) seen) x ≡ false) where
+  tells_apart : (part_text x ≡ part_text z → ⊥) → (has_other met z || other z x) ≡ differs (first_with_text (part_text z) (after_one seen x)) z
   tells_apart n =
       let off : bytes_eq (part_text x) (part_text z) ≡ false = false_where _ (λ e. n (text_is _ _ e)) in
       ap (λ b. has_other met z || (b && not (same_apart_from_spans x z))) off
-      ∙ or_none (has_other met z)
+      ∙ or_nothing (has_other met z)
       ∙ h
-      ∙ ap (λ o. differs o z) (sym (kept (first_of (part_text x) seen)))
+      ∙ ap (λ o. differs o z) (sym (kept (first_with_text (part_text x) seen)))
     where
-      kept : (o : Option Part) → first_of (part_text z) (joined_by o seen x) ≡ first_of (part_text z) seen
+      kept : (o : Option Part) → first_with_text (part_text z) (joined_by o seen x) ≡ first_with_text (part_text z) seen
       kept None = first_more (part_text z) seen x n
       kept (Some y) = refl
 
-  tells_alike : part_text x ≡ part_text z → (has_other met z || other z x) ≡ differs (first_of (part_text z) (after_one seen x)) z
+  tells_alike : part_text x ≡ part_text z → (has_other met z || other z x) ≡ differs (first_with_text (part_text z) (after_one seen x)) z
   tells_alike e =
       ap (λ b. has_other met z || (b && not (same_apart_from_spans x z))) (is_text _ _ e)
-      ∙ ap (λ b. b || not (same_apart_from_spans x z)) (h ∙ ap (λ t. differs (first_of t seen) z) (sym e))
-      ∙ cases (first_of (part_text x) seen) refl
-      ∙ ap (λ t. differs (first_of t (after_one seen x)) z) e
+      ∙ ap (λ b. b || not (same_apart_from_spans x z)) (h ∙ ap (λ t. differs (first_with_text t seen) z) (sym e))
+      ∙ cases (first_with_text (part_text x) seen) refl
+      ∙ ap (λ t. differs (first_with_text t (after_one seen x)) z) e
     where
-      cases : (o : Option Part) → first_of (part_text x) seen ≡ o →
-          (differs (first_of (part_text x) seen) z || not (same_apart_from_spans x z)) ≡ differs (first_of (part_text x) (joined_by (first_of (part_text x) seen) seen x)) z
+      cases : (o : Option Part) → first_with_text (part_text x) seen ≡ o →
+          (differs (first_with_text (part_text x) seen) z || not (same_apart_from_spans x z)) ≡ differs (first_with_text (part_text x) (joined_by (first_with_text (part_text x) seen) seen x)) z
       cases None q =
           rw (q, first_at seen x q) refl
       cases (Some y) q =
-          let same : same_apart_from_spans y x ≡ true = true_of_not _ (sym (ap (λ o. differs o x) q) ∙ d) in
+          let same : same_apart_from_spans y x ≡ true = not_false _ (sym (ap (λ o. differs o x) q) ∙ d) in
           rw (q, q, same_along y x z same) (or_twice (not (same_apart_from_spans y z)))
 
-tells_more : (seen met : List Part) (x : Part) → Tells seen met → differs (first_of (part_text x) seen) x ≡ false → Tells (after_one seen x) (met ++ x ∷ [])
+tells_more : (seen met : List Part) (x : Part) → Tells seen met → differs (first_with_text (part_text x) seen) x ≡ false → Tells (after_one seen x) (met ++ x ∷ [])
 tells_more seen met x h d z = has_other_more met x z ∙ elim (text_cases (part_text x) (part_text z)) [
   | inl e ↦ tells_alike seen met x z (h z) d e
   | inr n ↦ tells_apart seen met x z (h z) d n
@@ -165,11 +159,7 @@ head_same : (b : Bool) (f : Fault) (fs gs : List Fault) → (b ≡ false → fir
 head_same true f fs gs h = refl
 head_same false f fs gs h = h refl
 
-pub none_first : (fs : List Fault) → first fs ≡ None → fs ≡ []
-none_first [] e = refl
-none_first (f ∷ fs) e = absurd (cc e)
-
-module _ (names : List ℕ → Bool) (ns : List (List ℕ)) (agree : names ≡ is_name ns) where
+module _ (names : List ℕ → Bool) (ns : List (List ℕ)) (agree : names ≡ is_declared_name ns) where
   -- the faults of the code begin as those of the definition
   pub first_same : (seen met xs : List Part) → Tells seen met → first (clash_faults names seen xs) ≡ first (shared_names ns met xs)
   first_same seen met [] h = refl

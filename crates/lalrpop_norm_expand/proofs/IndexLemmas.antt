@@ -4,14 +4,14 @@ use Rattle.std.proofs.lemmas.List.{length-append}
 use Rattle.std.proofs.lemmas.Slice.Eq.{bytes_eq-Decides}
 use Rattle.lalrpop_norm_tree.specs.Symbols.{Part}
 use Rattle.lalrpop_norm_tree.specs.SymbolTexts.{part_text}
-use Rattle.lalrpop_norm_expand.specs.Meeting.{first_of}
+use Rattle.lalrpop_norm_expand.specs.Meeting.{first_with_text}
 
 -- places that lead to the first symbol of each text
 pub record AtPlaces (place : List ℕ → Option ℕ) (seen : List Part) : Type 0 where
-  pub finds : (t : List ℕ) → option_and_then (λ i. slice_get seen i) (place t) ≡ first_of t seen
+  pub finds : (t : List ℕ) → option_and_then (λ i. slice_get seen i) (place t) ≡ first_with_text t seen
   pub in_range : (t : List ℕ) (i : ℕ) → place t ≡ Some i → i < length seen
 
-pub first_more : (t : List ℕ) (seen : List Part) (x : Part) → (part_text x ≡ t → ⊥) → first_of t (seen ++ x ∷ []) ≡ first_of t seen
+pub first_more : (t : List ℕ) (seen : List Part) (x : Part) → (part_text x ≡ t → ⊥) → first_with_text t (seen ++ x ∷ []) ≡ first_with_text t seen
 first_more t [] x n = rw (false_of (bytes_eq (part_text x) t) (λ e. n ((bytes_eq-Decides (part_text x) t).0 e))) refl
   where
     false_of : (b : Bool) → (b ≡ true → ⊥) → b ≡ false
@@ -19,10 +19,10 @@ first_more t [] x n = rw (false_of (bytes_eq (part_text x) t) (λ e. n ((bytes_e
     false_of false n = refl
 first_more t (y ∷ seen) x n = ap (λ o. cond (bytes_eq (part_text y) t) (Some y) o) (first_more t seen x n)
 
-pub first_at : (seen : List Part) (x : Part) → first_of (part_text x) seen ≡ None → first_of (part_text x) (seen ++ x ∷ []) ≡ Some x
+pub first_at : (seen : List Part) (x : Part) → first_with_text (part_text x) seen ≡ None → first_with_text (part_text x) (seen ++ x ∷ []) ≡ Some x
 first_at [] x e = rw ((bytes_eq-Decides (part_text x) (part_text x)).1 refl) refl
 first_at (y ∷ seen) x e =
-    cases (bytes_eq (part_text y) (part_text x)) (first_of (part_text x) seen) (first_of (part_text x) (seen ++ x ∷ [])) e (λ h. first_at seen x h)
+    cases (bytes_eq (part_text y) (part_text x)) (first_with_text (part_text x) seen) (first_with_text (part_text x) (seen ++ x ∷ [])) e (λ h. first_at seen x h)
   where
     cases : (b : Bool) (o p : Option Part) → cond b (Some y) o ≡ None → (o ≡ None → p ≡ Some x) → cond b (Some y) p ≡ Some x
     cases true o p e f = cc
@@ -50,13 +50,13 @@ text_cases s t = by (bytes_eq s t) refl
     by false e = inr (λ q. let h : bytes_eq s t ≡ true = (bytes_eq-Decides s t).1 q in cc)
 
 -- a symbol of a new text is put last
-pub at_places_more : (place more : List ℕ → Option ℕ) (seen : List Part) (x : Part) → AtPlaces place seen → first_of (part_text x) seen ≡ None →
+pub at_places_more : (place more : List ℕ → Option ℕ) (seen : List Part) (x : Part) → AtPlaces place seen → first_with_text (part_text x) seen ≡ None →
     more (part_text x) ≡ Some (length seen) →
     ((t : List ℕ) → (t ≡ part_text x → ⊥) → more t ≡ place t) →
     AtPlaces more (seen ++ x ∷ [])
 at_places_more place more seen x h new here others = record {
   finds = λ t. elim (text_cases (part_text x) t) [
-    | inl e ↦ subst (λ (u : List ℕ). option_and_then (λ i. slice_get (seen ++ x ∷ []) i) (more u) ≡ first_of u (seen ++ x ∷ [])) e
+    | inl e ↦ subst (λ (u : List ℕ). option_and_then (λ i. slice_get (seen ++ x ∷ []) i) (more u) ≡ first_with_text u (seen ++ x ∷ [])) e
         (rw here (get_last seen x ∙ sym (first_at seen x new)))
     | inr n ↦ rw (others t (λ e. n (sym e))) (option_left (place t) seen x (h.in_range t) ∙ h.finds t ∙ sym (first_more t seen x n))
   ];

@@ -13,8 +13,8 @@ use Rattle.lalrpop_norm_theory.specs.Same.{same_symbol}
 use Rattle.lalrpop_norm_model.specs.PlainRules.{same_apart_from_spans, met, all_met}
 use Rattle.lalrpop_norm_expand.specs.declared.macro_expand.expander.Expander.{Expander}
 use Rattle.lalrpop_norm_expand.specs.Apart.{unplaced, all_unplaced}
-use Rattle.lalrpop_norm_expand.specs.Expansion.{span_of}
-use Rattle.lalrpop_norm_expand.specs.Meeting.{met_inside, own, itself, inside, own_text, first_of, joined_by, after_one, after, differs, clashes, clash_faults, was_met, were_met, were_met_inside, seen_of, names_of, has_key, IsExpander, Meets, refused_by}
+use Rattle.lalrpop_norm_model.specs.MadeRules.{span_of}
+use Rattle.lalrpop_norm_expand.specs.Meeting.{met_inside, own, met_itself, inside, own_text, first_with_text, joined_by, after_one, after, differs, clashes, clash_faults, was_met, were_met, were_met_inside, seen_of, is_taken_by, has_key, IsExpander, Meets, refused_by}
 use Rattle.lalrpop_norm_expand.proofs.ApartLemmas.{part_closed, unplaced_same}
 use Rattle.lalrpop_norm_expand.proofs.FreshLemmas.{closed, closed_same, closed_text_same, none_if, or_false}
 use Rattle.lalrpop_norm_expand.proofs.IndexLemmas.{first_at}
@@ -47,12 +47,12 @@ tails x y xs ys h = cc
 some_of : {A : Type 0} (x y : A) → Some x ≡ Some y → x ≡ y
 some_of x y h = cc
 
-first_stays : (t : List ℕ) (seen more : List Part) (y : Part) → first_of t seen ≡ Some y → first_of t (seen ++ more) ≡ Some y
+first_stays : (t : List ℕ) (seen more : List Part) (y : Part) → first_with_text t seen ≡ Some y → first_with_text t (seen ++ more) ≡ Some y
 first_stays t [] more y e = absurd (cc e)
 first_stays t (x ∷ seen) more y e = by (bytes_eq (part_text x) t) (first_stays t seen more y) e
   where
-    by : (b : Bool) → (first_of t seen ≡ Some y → first_of t (seen ++ more) ≡ Some y)
-        → cond b (Some x) (first_of t seen) ≡ Some y → cond b (Some x) (first_of t (seen ++ more)) ≡ Some y
+    by : (b : Bool) → (first_with_text t seen ≡ Some y → first_with_text t (seen ++ more) ≡ Some y)
+        → cond b (Some x) (first_with_text t seen) ≡ Some y → cond b (Some x) (first_with_text t (seen ++ more)) ≡ Some y
     by true deeper h = h
     by false deeper h = deeper h
 
@@ -60,16 +60,16 @@ module _ (names : List ℕ → Bool) where
   -- a symbol that was met: which one of its text was met first
   pub record Found (seen : List Part) (x : Part) : Type 0 where
     pub one : Part
-    pub is_first : first_of (part_text x) seen ≡ Some one
+    pub is_first : first_with_text (part_text x) seen ≡ Some one
     pub free : (names (part_text x) || not (same_apart_from_spans one x)) ≡ false
 
-  found_by : (seen : List Part) (x : Part) (o : Option Part) → first_of (part_text x) seen ≡ o →
+  found_by : (seen : List Part) (x : Part) (o : Option Part) → first_with_text (part_text x) seen ≡ o →
       (is_some o && not (names (part_text x) || differs o x)) ≡ true → Found seen x
   found_by seen x None e h = absurd (cc h)
   found_by seen x (Some y) e h = record { one = y; is_first = e; free = false_of_not (names (part_text x) || not (same_apart_from_spans y x)) h }
 
   found : (seen : List Part) (x : Part) → was_met names seen x ≡ true → Found seen x
-  found seen x h = found_by seen x (first_of (part_text x) seen) refl h
+  found seen x h = found_by seen x (first_with_text (part_text x) seen) refl h
 
   met_by : (seen : List Part) (x : Part) → Found seen x → was_met names seen x ≡ true
   met_by seen x f =
@@ -98,7 +98,7 @@ module _ (names : List ℕ → Bool) where
       and_from _ _ (all_stay seen more (inside y) p.0) (inside_stay seen more ys p.1)
 
   stays_one : (seen : List Part) (x z : Part) → was_met names seen z ≡ true → was_met names (after_one seen x) z ≡ true
-  stays_one seen x z h = by (first_of (part_text x) seen)
+  stays_one seen x z h = by (first_with_text (part_text x) seen)
     where
       by : (o : Option Part) → was_met names (joined_by o seen x) z ≡ true
       by None = stays seen (x ∷ []) z h
@@ -111,11 +111,11 @@ module _ (names : List ℕ → Bool) where
   -- ---- what is met was met then
 
   met_once : (seen : List Part) (x : Part) → clashes names seen x ≡ false → was_met names (after_one seen x) x ≡ true
-  met_once seen x h = by (first_of (part_text x) seen) refl
+  met_once seen x h = by (first_with_text (part_text x) seen) refl
     where
-      by : (o : Option Part) → first_of (part_text x) seen ≡ o → was_met names (joined_by o seen x) x ≡ true
+      by : (o : Option Part) → first_with_text (part_text x) seen ≡ o → was_met names (joined_by o seen x) x ≡ true
       by None e =
-          let f = or_false (names (part_text x)) (differs (first_of (part_text x) seen) x) h in
+          let f = or_false (names (part_text x)) (differs (first_with_text (part_text x) seen) x) h in
           let same : same_apart_from_spans x x ≡ true = closed_same x x refl in
           met_by (seen ++ x ∷ []) x (record {
             one = x;
@@ -159,7 +159,7 @@ module _ (names : List ℕ → Bool) where
       let texts : part_text x ≡ part_text y = closed_text_same x y e in
       met_by seen y (record {
         one = f.one;
-        is_first = ap (λ t. first_of t seen) (sym texts) ∙ f.is_first;
+        is_first = ap (λ t. first_with_text t seen) (sym texts) ∙ f.is_first;
         free = ap (λ t. names t || not (same_apart_from_spans f.one y)) (sym texts)
             ∙ ap (λ (g : ClosedSymbol). names (part_text x) || not (same_symbol (closed f.one) g)) (sym e) ∙ f.free;
       })
@@ -227,13 +227,13 @@ inside_same p q e =
 -- ---- so what is inside was met
 
 module _ (names : List ℕ → Bool) where
-  inward_first : (seen ys : List Part) (t : List ℕ) (y : Part) → were_met_inside names seen ys ≡ true → first_of t ys ≡ Some y →
+  inward_first : (seen ys : List Part) (t : List ℕ) (y : Part) → were_met_inside names seen ys ≡ true → first_with_text t ys ≡ Some y →
       were_met names seen (inside y) ≡ true
   inward_first seen [] t y h e = absurd (cc e)
   inward_first seen (z ∷ ys) t y h e = by (bytes_eq (part_text z) t) (inward_first seen ys t y (and_parts _ _ h).1) e
     where
-      by : (b : Bool) → (first_of t ys ≡ Some y → were_met names seen (inside y) ≡ true)
-          → cond b (Some z) (first_of t ys) ≡ Some y → were_met names seen (inside y) ≡ true
+      by : (b : Bool) → (first_with_text t ys ≡ Some y → were_met names seen (inside y) ≡ true)
+          → cond b (Some z) (first_with_text t ys) ≡ Some y → were_met names seen (inside y) ≡ true
       by true deeper k = subst (λ (w : Part). were_met names seen (inside w) ≡ true) (some_of z y k) (and_parts _ _ h).0
       by false deeper k = deeper k
 
@@ -256,7 +256,7 @@ module _ (names : List ℕ → Bool) where
 
 -- ---- symbols that are made into rules
 
-own_is : (p : Part) (t : List ℕ) → own_text p ≡ Some t → (t ≡ part_text p) × (itself p ≡ p ∷ [])
+own_is : (p : Part) (t : List ℕ) → own_text p ≡ Some t → (t ≡ part_text p) × (met_itself p ≡ p ∷ [])
 own_is (at s (group ps)) t e = (cc e, refl)
 own_is (at s (call n ps)) t e = (cc e, refl)
 own_is (at s (repeated op p)) t e = (cc e, refl)
@@ -273,10 +273,10 @@ own_is (at s error_terminal) t e = absurd (cc e)
 pub own_is_text : (p : Part) (t : List ℕ) → Some t ≡ own_text p → t ≡ part_text p
 own_is_text p t e = (own_is p t (sym e)).0
 
-pub own_is_one : (p : Part) (t : List ℕ) → Some t ≡ own_text p → itself p ≡ p ∷ []
+pub own_is_one : (p : Part) (t : List ℕ) → Some t ≡ own_text p → met_itself p ≡ p ∷ []
 own_is_one p t e = (own_is p t (sym e)).1
 
-pub own_is_none : (p : Part) → None ≡ own_text p → itself p ≡ []
+pub own_is_none : (p : Part) → None ≡ own_text p → met_itself p ≡ []
 own_is_none (at s (group ps)) e = absurd (cc e)
 own_is_none (at s (call n ps)) e = absurd (cc e)
 own_is_none (at s (repeated op p)) e = absurd (cc e)
@@ -292,31 +292,31 @@ own_is_none (at s error_terminal) e = refl
 
 -- where the symbol was met, so was all that it meets
 pub all_was_met : (e : Expander) (s : Symbol) (t : List ℕ) → IsExpander e → Some t ≡ own_text (symbol_view s) →
-    was_met (names_of e) (seen_of e) (symbol_view s) ≡ true → were_met (names_of e) (seen_of e) (met (symbol_view s)) ≡ true
+    was_met (is_taken_by e) (seen_of e) (symbol_view s) ≡ true → were_met (is_taken_by e) (seen_of e) (met (symbol_view s)) ≡ true
 all_was_met e s t ix own h =
     let split : met (symbol_view s) ≡ inside_of_kind ++ symbol_view s ∷ [] =
     met_is s ∙ ap (λ (ps : List Part). met_inside (kind_view s.kind) ++ ps) (own_is_one (symbol_view s) t own) in
-    subst (λ (ps : List Part). were_met (names_of e) (seen_of e) ps ≡ true) (sym split)
-    (were_both (names_of e) (seen_of e) inside_of_kind (symbol_view s ∷ [])
-    (subst (λ (p : Part). were_met (names_of e) (seen_of e) (inside p) ≡ true) (part_is s) (inside_met (names_of e) (seen_of e) (symbol_view s) ix.inward h))
+    subst (λ (ps : List Part). were_met (is_taken_by e) (seen_of e) ps ≡ true) (sym split)
+    (were_both (is_taken_by e) (seen_of e) inside_of_kind (symbol_view s ∷ [])
+    (subst (λ (p : Part). were_met (is_taken_by e) (seen_of e) (inside p) ≡ true) (part_is s) (inside_met (is_taken_by e) (seen_of e) (symbol_view s) ix.inward h))
     (and_from _ _ h refl))
   where
     inside_of_kind : List Part
     inside_of_kind = met_inside (kind_view s.kind)
 
 -- then nothing is refused, and nothing changes
-pub nothing_refused : (e : Expander) (xs : List Part) → were_met (names_of e) (seen_of e) xs ≡ true → refused_by e xs ≡ []
-nothing_refused e xs h = (quiet (names_of e) (seen_of e) xs h).0
+pub nothing_refused : (e : Expander) (xs : List Part) → were_met (is_taken_by e) (seen_of e) xs ≡ true → refused_by e xs ≡ []
+nothing_refused e xs h = (quiet (is_taken_by e) (seen_of e) xs h).0
 
-pub nothing_changes : (e : Expander) (xs : List Part) → IsExpander e → were_met (names_of e) (seen_of e) xs ≡ true → Meets e e xs
-nothing_changes e xs ix h = record { seen = sym (quiet (names_of e) (seen_of e) xs h).1; names = refl; indexed = ix }
+pub nothing_changes : (e : Expander) (xs : List Part) → IsExpander e → were_met (is_taken_by e) (seen_of e) xs ≡ true → Meets e e xs
+nothing_changes e xs ix h = record { seen = sym (quiet (is_taken_by e) (seen_of e) xs h).1; names = refl; indexed = ix }
 
 -- what was met without a fault was met
 pub met_now : (a b : Expander) (s : Symbol) → Meets a b (met_inside (kind_view s.kind)) → refused_by a (met_inside (kind_view s.kind)) ≡ [] →
-    were_met (names_of b) (seen_of b) (inside (symbol_view s)) ≡ true
+    were_met (is_taken_by b) (seen_of b) (inside (symbol_view s)) ≡ true
 met_now a b s h none =
     let xs = met_inside (kind_view s.kind) in
-    let there : were_met (names_of a) (after (seen_of a) xs) xs ≡ true = met_then (names_of a) (seen_of a) xs none in
-    let names : names_of b ≡ names_of a = ap has_key h.names in
+    let there : were_met (is_taken_by a) (after (seen_of a) xs) xs ≡ true = met_then (is_taken_by a) (seen_of a) xs none in
+    let names : is_taken_by b ≡ is_taken_by a = ap has_key h.names in
     let same : inside (symbol_view s) ≡ xs = ap inside (part_is s) in
     rw (names, h.seen, same) there

@@ -8,8 +8,8 @@ use Rattle.lalrpop_norm_faults.specs.declared.kind.FaultKind.TheVariants.{Shared
 use Rattle.lalrpop_norm_faults.specs.Faults.{Fault, fault_if, IsFirst, Refuses}
 use Rattle.lalrpop_norm_faults.proofs.FaultLemmas.{exit_at}
 use Rattle.lalrpop_norm_expand.specs.declared.macro_expand.expander.Expander.{Expander}
-use Rattle.lalrpop_norm_expand.specs.Expansion.{span_of}
-use Rattle.lalrpop_norm_expand.specs.Meeting.{after, after_one, clashes, clash_faults, seen_of, has_key, names_of, Meets, refused_by}
+use Rattle.lalrpop_norm_model.specs.MadeRules.{span_of}
+use Rattle.lalrpop_norm_expand.specs.Meeting.{after, after_one, clashes, clash_faults, seen_of, has_key, is_taken_by, Meets, refused_by}
 
 pub after_both : (seen xs ys : List Part) → after seen (xs ++ ys) ≡ after (after seen xs) ys
 after_both seen [] ys = refl
@@ -33,8 +33,8 @@ meets_both a b c xs ys h k = record {
 -- what is refused once some were met is refused where all are
 pub refused_both : (a b : Expander) (xs ys : List Part) → Meets a b xs → refused_by a (xs ++ ys) ≡ refused_by a xs ++ refused_by b ys
 refused_both a b xs ys h =
-    clash_both (names_of a) (seen_of a) xs ys
-    ∙ ap (λ s. refused_by a xs ++ clash_faults (names_of a) s ys) (sym h.seen)
+    clash_both (is_taken_by a) (seen_of a) xs ys
+    ∙ ap (λ s. refused_by a xs ++ clash_faults (is_taken_by a) s ys) (sym h.seen)
     ∙ ap (λ n. refused_by a xs ++ clash_faults (has_key n) (seen_of b) ys) (sym h.names)
 
 pub refused_later : (a b : Expander) (xs ys : List Part) → Meets a b xs → refused_by a xs ≡ [] → refused_by a (xs ++ ys) ≡ refused_by b ys
@@ -51,5 +51,5 @@ on_ok_more (Err e) P Q f h = tt
 pub exit_first : {T : Type 0} (a : Expander) (xs ys : List Part) (r : Result T NormFailure) (e : NormFailure) →
     IsErrAnd r (λ x. x ≡ e) → IsFirst (refused_by a xs) e → Refuses r (refused_by a (xs ++ ys))
 exit_first a xs ys r e from first =
-    exit_at r e (refused_by a xs) (clash_faults (names_of a) (after (seen_of a) xs) ys) (refused_by a (xs ++ ys)) from first
-    (clash_both (names_of a) (seen_of a) xs ys)
+    exit_at r e (refused_by a xs) (clash_faults (is_taken_by a) (after (seen_of a) xs) ys) (refused_by a (xs ++ ys)) from first
+    (clash_both (is_taken_by a) (seen_of a) xs ys)

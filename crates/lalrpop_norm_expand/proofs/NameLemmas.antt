@@ -1,5 +1,5 @@
 -- Names that are added one after another, against the list that they come from.
-use Rattle.std.proofs.Common.{◌≡◌, ℕ, Bool, true, false, List, [], ◌∷◌, ◌++◌, map, refl, sym, ap, ◌∙◌, nat_cmp}
+use Rattle.std.proofs.Common.{◌≡◌, ℕ, Bool, List, [], ◌∷◌, ◌++◌, map, refl, sym, ap, ◌∙◌, nat_cmp}
 use Rattle.std.specs.Prelude.{◌||◌, flat_map}
 use Rattle.std.proofs.Math.Path.{fun_ext}
 use Rattle.std.specs.declared.cmp.Ordering.{Ordering}
@@ -14,31 +14,12 @@ use Rattle.std.proofs.lemmas.Map.Text.{is_eq-slice_cmp}
 use Rattle.lalrpop_norm_tree.specs.Items.{RuleData, ItemData, GrammarData, match_item, extern_item, intern_item, rule_item, use_item}
 use Rattle.lalrpop_norm_model.specs.Expanded.{rule_names}
 use Rattle.lalrpop_norm_model.specs.PlainRules.{rule_of_item}
-use Rattle.lalrpop_norm_expand.specs.Expansion.{is_name}
+use Rattle.lalrpop_norm_expand.specs.Expansion.{is_declared_name}
 use Rattle.lalrpop_norm_expand.specs.Making.{item_names, with_names}
+use Rattle.lalrpop_norm_theory.proofs.BoolLemmas.{or_swap, or_nothing, or_twice, or_moved}
 
 abbrev compare : List ℕ → List ℕ → Ordering
 compare = slice_cmp nat_cmp
-
-or_twice : (a b : Bool) → (a || b) ≡ (a || (a || b))
-or_twice true b = refl
-or_twice false b = refl
-
-or_swap : (a b c : Bool) → (a || (b || c)) ≡ (b || (a || c))
-or_swap true true c = refl
-or_swap true false c = refl
-or_swap false true c = refl
-or_swap false false c = refl
-
-or_moved : (a b c : Bool) → (b || (a || c)) ≡ ((a || b) || c)
-or_moved true true c = refl
-or_moved true false c = refl
-or_moved false true c = refl
-or_moved false false c = refl
-
-or_false : (a : Bool) → (a || false) ≡ a
-or_false true = refl
-or_false false = refl
 
 any_at : (p : List ℕ → Bool) (x : List ℕ) (xs : List (List ℕ)) (k : List ℕ) (o : Ordering) → compare k x ≡ o →
     list_any p (insert_key compare xs k) ≡ (p k || list_any p xs) →
@@ -57,9 +38,9 @@ any_with p keys (n ∷ ns) =
     any_with p (insert_key compare keys n) ns ∙ ap (λ b. list_any p ns || b) (any_insert p keys n) ∙ or_moved (p n) (list_any p ns) (list_any p keys)
 
 -- names that were added to none are those of the list
-pub added_names : (ns : List (List ℕ)) → (λ (t : List ℕ). list_any (is_at (compare t)) (with_names [] ns)) ≡ is_name ns
+pub added_names : (ns : List (List ℕ)) → (λ (t : List ℕ). list_any (is_at (compare t)) (with_names [] ns)) ≡ is_declared_name ns
 added_names ns =
-    fun_ext (λ t. any_with (is_at (compare t)) [] ns ∙ or_false (list_any (is_at (compare t)) ns) ∙ ap (λ p. list_any p ns) (fun_ext (is_eq-slice_cmp t)))
+    fun_ext (λ t. any_with (is_at (compare t)) [] ns ∙ or_nothing (list_any (is_at (compare t)) ns) ∙ ap (λ p. list_any p ns) (fun_ext (is_eq-slice_cmp t)))
 
 pub with_both : (keys ns ms : List (List ℕ)) → with_names keys (ns ++ ms) ≡ with_names (with_names keys ns) ms
 with_both keys [] ms = refl

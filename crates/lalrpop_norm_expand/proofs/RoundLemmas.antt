@@ -16,22 +16,19 @@ use Rattle.lalrpop_norm_theory.specs.Rounds.{Round, fresh_of}
 use Rattle.lalrpop_norm_model.specs.Grammars.{ConditionValue, is_nil}
 use Rattle.lalrpop_norm_model.specs.MadeRules.{made_rules}
 use Rattle.lalrpop_norm_model.specs.Expanded.{rule_names}
-use Rattle.lalrpop_norm_model.specs.PlainRules.{met_in_rule, met_by_made, rule_of_item, macros_of, same_apart_from_spans, expansion_round, made_symbols, made_in, IsWhole, plain_item, plain_grammar, replaced_rule}
+use Rattle.lalrpop_norm_model.specs.PlainRules.{met_in_rule, met_by_made, rule_of_item, macros_of, same_apart_from_spans, expansion_round, made_symbols, made_in, IsEnded, plain_item, plain_grammar, replaced_rule}
 use Rattle.lalrpop_norm_expand.specs.declared.macro_expand.expander.Expander.{Expander}
-use Rattle.lalrpop_norm_expand.specs.Expansion.{is_name, shared_names, meetings, met_before, shared_in, unmade, unmade_in, past_cap, faults_from, expansion_faults, macro_faults}
+use Rattle.lalrpop_norm_expand.specs.Expansion.{is_declared_name, shared_names, meetings, met_before, shared_in, unmade, unmade_in, past_cap, faults_from, expansion_faults, later_macro_faults}
 use Rattle.lalrpop_norm_expand.specs.Making.{made, replaced_item, met_in_item, item_macros}
-use Rattle.lalrpop_norm_expand.specs.Meeting.{after, seen_of, names_of, Meets, refused_by}
+use Rattle.lalrpop_norm_expand.specs.Meeting.{after, seen_of, is_taken_by, Meets, refused_by}
 use Rattle.lalrpop_norm_expand.proofs.FreshLemmas.{Tells, after_fresh, first_same, quiet_same, tells_after}
+use Rattle.lalrpop_norm_util.proofs.ListLemmas.{flat_same}
 
 pub err_refuses : {T : Type 0} (r : Result T NormFailure) (e : NormFailure) (fs : List Fault) → IsErrAnd r (λ x. x ≡ e) → IsFirst fs e → Refuses r fs
 err_refuses (Ok x) e fs from h = absurd from
 err_refuses (Err x) e fs from h = rw from h
 
 -- ---- rules
-
-flat_same : {A B : Type 0} (f h : A → List B) → ((x : A) → f x ≡ h x) → (xs : List A) → flat_map f xs ≡ flat_map h xs
-flat_same f h e [] = refl
-flat_same f h e (x ∷ xs) = ap₂ ◌++◌ (e x) (flat_same f h e xs)
 
 rules_met : (rs : List RuleData) → flat_map met_in_item (map rule_item rs) ≡ flat_map met_in_rule rs
 rules_met [] = refl
@@ -113,14 +110,14 @@ viewed : (is : List GrammarItem) → flat_map (λ i. item_macros (item_view i)) 
 viewed [] = refl
 viewed (i ∷ is) = ap (λ fs. item_macros (item_view i) ++ fs) (viewed is)
 
-pub macro_faults_are : (g : Grammar) → flat_map (λ i. item_macros (item_view i)) g.items.items ≡ macro_faults (grammar_view g)
+pub macro_faults_are : (g : Grammar) → flat_map (λ i. item_macros (item_view i)) g.items.items ≡ later_macro_faults (grammar_view g)
 macro_faults_are g = viewed g.items.items ∙ macros_are (map item_view g.items.items)
 
 no_rules : (rs : List RuleData) → map not_yet rs ≡ [] → rs ≡ []
 no_rules [] e = refl
 no_rules (r ∷ rs) e = absurd (cc e)
 
-pub no_macros : (g : GrammarData) → macro_faults g ≡ [] → macros_of g ≡ []
+pub no_macros : (g : GrammarData) → later_macro_faults g ≡ [] → macros_of g ≡ []
 no_macros g e = no_rules (macros_of g) e
 
 -- ---- rounds
@@ -166,12 +163,12 @@ module _ (value : ConditionValue) (g : GrammarData) (none : macros_of g ≡ []) 
   faults_begin k zero = (past_cap (round k).fresh, refl)
   faults_begin k (suc left) = (unmade_in value g k ++ faults_from value g (suc k) left, refl)
 
-  module _ (limit left k : ℕ) (e : Expander) (done pending : List ItemData) (names : names_of e ≡ is_name (rule_names g))
+  module _ (limit left k : ℕ) (e : Expander) (done pending : List ItemData) (names : is_taken_by e ≡ is_declared_name (rule_names g))
       (h : AtRound value g limit left k (seen_of e) done pending) where
     first_shared : first (refused_by e (flat_map met_in_item pending)) ≡ first (shared_in value g k)
     first_shared =
         ap (λ xs. first (refused_by e xs)) h.reads
-        ∙ first_same (names_of e) (rule_names g) names (seen_of e) (met_before value g k) (meetings value g k) h.tells
+        ∙ first_same (is_taken_by e) (rule_names g) names (seen_of e) (met_before value g k) (meetings value g k) h.tells
 
     -- F37 in the round
     pub shared_refused : (f : NormFailure) → IsFirst (refused_by e (flat_map met_in_item pending)) f → IsFirst (expansion_faults value g limit) f
@@ -185,7 +182,7 @@ module _ (value : ConditionValue) (g : GrammarData) (none : macros_of g ≡ []) 
       quiet_here = ap (refused_by e) (sym h.reads) ∙ quiet
 
       shared_none : shared_in value g k ≡ []
-      shared_none = quiet_same (names_of e) (rule_names g) names (seen_of e) (met_before value g k) (meetings value g k) h.tells quiet_here
+      shared_none = quiet_same (is_taken_by e) (rule_names g) names (seen_of e) (met_before value g k) (meetings value g k) h.tells quiet_here
 
       all_seen : seen_of f ≡ after (seen_of e) (meetings value g k)
       all_seen = m.seen ∙ ap (after (seen_of e)) h.reads
@@ -194,14 +191,14 @@ module _ (value : ConditionValue) (g : GrammarData) (none : macros_of g ≡ []) 
       pub kept_next : seen_of f ≡ (round k).seen ++ (round k).fresh
       kept_next =
           all_seen
-          ∙ after_fresh (names_of e) (seen_of e) (meetings value g k) quiet_here
+          ∙ after_fresh (is_taken_by e) (seen_of e) (meetings value g k) quiet_here
           ∙ ap (λ s. s ++ fresh_of same_apart_from_spans s (meetings value g k)) h.kept
           ∙ ap (λ fs. (round k).seen ++ fs) (sym (fresh_is k))
 
       tells_next : Tells (seen_of f) (met_before value g (suc k))
       tells_next =
           subst (λ (s : List Part). Tells s (met_before value g (suc k))) (sym all_seen)
-          (tells_after (names_of e) (rule_names g) names (seen_of e) (met_before value g k) (meetings value g k) h.tells quiet_here)
+          (tells_after (is_taken_by e) (rule_names g) names (seen_of e) (met_before value g k) (meetings value g k) h.tells quiet_here)
 
       -- those past the place where the round began are new
       pub new_ones : (from : ℕ) → from ≡ length (seen_of e) → drop from (seen_of f) ≡ (round k).fresh
@@ -280,11 +277,11 @@ module _ (value : ConditionValue) (g : GrammarData) (none : macros_of g ≡ []) 
 
   pub record IsDone (limit : ℕ) (made : List ItemData) : Type 0 where
     pub faultless : expansion_faults value g limit ≡ []
-    pub whole : IsWhole value g limit
+    pub whole : IsEnded value g limit
     pub items : made ≡ (plain_grammar value g limit).items
 
   -- a round with nothing new is the last
-  pub last_round : (limit left k : ℕ) (e : Expander) (done pending : List ItemData) (names : names_of e ≡ is_name (rule_names g)) →
+  pub last_round : (limit left k : ℕ) (e : Expander) (done pending : List ItemData) (names : is_taken_by e ≡ is_declared_name (rule_names g)) →
       AtRound value g limit left k (seen_of e) done pending → (f : Expander) → Meets e f (flat_map met_in_item pending) →
       refused_by e (flat_map met_in_item pending) ≡ [] → limit ≡ k + left → length (seen_of f) ≡ length (seen_of e) →
       (later : List ItemData) → later ≡ done ++ map replaced_item pending → IsDone limit later

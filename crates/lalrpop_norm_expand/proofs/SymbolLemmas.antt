@@ -11,14 +11,14 @@ use Rattle.lalrpop_norm_faults.specs.declared.failure.NormFailure.{NormFailure}
 use Rattle.lalrpop_norm_faults.specs.Faults.{IsFirst, Refuses}
 use Rattle.lalrpop_norm_model.specs.PlainRules.{met, all_met}
 use Rattle.lalrpop_norm_expand.specs.declared.macro_expand.expander.Expander.{Expander}
-use Rattle.lalrpop_norm_expand.specs.Meeting.{met_inside, own, itself, Meets, refused_by}
+use Rattle.lalrpop_norm_expand.specs.Meeting.{met_inside, own, met_itself, Meets, refused_by}
 use Rattle.lalrpop_norm_expand.proofs.MeetingLemmas.{meets_both, refused_later, refuses_same, exit_first}
 
 pub part_is : (s : Symbol) → symbol_view s ≡ at s.span (kind_view s.kind)
 part_is s = fold_out-Symbol Kind Parts Call Again Part kind_step expr_step macro_step repeat_step symbol_step s
 
 -- a symbol meets what is inside it, then itself
-pub met_is : (s : Symbol) → met (symbol_view s) ≡ met_inside (kind_view s.kind) ++ itself (symbol_view s)
+pub met_is : (s : Symbol) → met (symbol_view s) ≡ met_inside (kind_view s.kind) ++ met_itself (symbol_view s)
 met_is s = rw (part_is s) (by s.span (kind_view s.kind))
   where
     by : (p : _) (k : Kind) → met (at p k) ≡ met_inside k ++ own p k
@@ -74,12 +74,12 @@ module _ (ss : List Symbol) (i : ℕ) (s : Symbol) (l : i < length ss) (e : s �
 pub symbol_exit : {T : Type 0} (a : Expander) (s : Symbol) (r : Result T NormFailure) (e : NormFailure) →
     IsErrAnd r (λ x. x ≡ e) → IsFirst (refused_by a (met_inside (kind_view s.kind))) e → Refuses r (refused_by a (met (symbol_view s)))
 symbol_exit a s r e from first =
-    refuses_same r _ _ (ap (refused_by a) (sym (met_is s))) (exit_first a (met_inside (kind_view s.kind)) (itself (symbol_view s)) r e from first)
+    refuses_same r _ _ (ap (refused_by a) (sym (met_is s))) (exit_first a (met_inside (kind_view s.kind)) (met_itself (symbol_view s)) r e from first)
 
 pub symbol_refuses : {T : Type 0} (a b : Expander) (s : Symbol) (r : Result T NormFailure) → Meets a b (met_inside (kind_view s.kind)) →
-    refused_by a (met_inside (kind_view s.kind)) ≡ [] → Refuses r (refused_by b (itself (symbol_view s))) → Refuses r (refused_by a (met (symbol_view s)))
+    refused_by a (met_inside (kind_view s.kind)) ≡ [] → Refuses r (refused_by b (met_itself (symbol_view s))) → Refuses r (refused_by a (met (symbol_view s)))
 symbol_refuses a b s r h none k =
     refuses_same r _ _ (sym (ap (refused_by a) (met_is s) ∙ refused_later a b _ _ h none)) k
 
-pub symbol_met : (a b c : Expander) (s : Symbol) → Meets a b (met_inside (kind_view s.kind)) → Meets b c (itself (symbol_view s)) → Meets a c (met (symbol_view s))
+pub symbol_met : (a b c : Expander) (s : Symbol) → Meets a b (met_inside (kind_view s.kind)) → Meets b c (met_itself (symbol_view s)) → Meets a c (met (symbol_view s))
 symbol_met a b c s h k = rw (met_is s) (meets_both a b c _ _ h k)

@@ -20,10 +20,10 @@ pub record Marks : Type 0 where
 abbrev pub marked : Form → List ℕ → Marks
 marked f t = record { form = f; mutable = false; text = t; terminal = None; patterns = no_arguments }
 
-abbrev pub repeat_form : RepeatOp → Form
-repeat_form op.Star = form.Star
-repeat_form op.Plus = form.Plus
-repeat_form op.Question = form.Question
+abbrev pub form_of_repeat : RepeatOp → Form
+form_of_repeat op.Star = form.Star
+form_of_repeat op.Plus = form.Plus
+form_of_repeat op.Question = form.Question
 
 -- an identifier counts as the name of a rule
 abbrev pub marks_of : Kind → Marks
@@ -32,7 +32,7 @@ marks_of (ambiguous_id a) = marked form.Rule a
 marks_of (terminal t) = record { form = form.Terminal; mutable = false; text = []; terminal = Some t; patterns = no_arguments }
 marks_of (nonterminal n) = marked form.Rule n
 marks_of (call n ps) = marked form.Call n
-marks_of (repeated op p) = marked (repeat_form op) []
+marks_of (repeated op p) = marked (form_of_repeat op) []
 marks_of (chosen p) = marked form.Chosen []
 marks_of (named n p) = record { form = form.Named; mutable = n.mutable; text = n.name; terminal = None; patterns = no_arguments }
 marks_of (tupled ns p) = record { form = form.Tuple; mutable = false; text = []; terminal = None; patterns = ns }
@@ -40,19 +40,19 @@ marks_of lookahead = marked form.Lookahead []
 marks_of lookbehind = marked form.Lookbehind []
 marks_of error_terminal = marked form.Error []
 
-abbrev pub inside_of : Kind → Parts
-inside_of (group ps) = ps
-inside_of (call n ps) = ps
-inside_of (repeated op p) = part_and p no_parts
-inside_of (chosen p) = part_and p no_parts
-inside_of (named n p) = part_and p no_parts
-inside_of (tupled ns p) = part_and p no_parts
-inside_of (ambiguous_id a) = no_parts
-inside_of (terminal t) = no_parts
-inside_of (nonterminal n) = no_parts
-inside_of lookahead = no_parts
-inside_of lookbehind = no_parts
-inside_of error_terminal = no_parts
+abbrev pub parts_inside : Kind → Parts
+parts_inside (group ps) = ps
+parts_inside (call n ps) = ps
+parts_inside (repeated op p) = part_and p no_parts
+parts_inside (chosen p) = part_and p no_parts
+parts_inside (named n p) = part_and p no_parts
+parts_inside (tupled ns p) = part_and p no_parts
+parts_inside (ambiguous_id a) = no_parts
+parts_inside (terminal t) = no_parts
+parts_inside (nonterminal n) = no_parts
+parts_inside lookahead = no_parts
+parts_inside lookbehind = no_parts
+parts_inside error_terminal = no_parts
 
 -- the marks that a value of the program holds
 abbrev pub marks_seen : Content → Marks

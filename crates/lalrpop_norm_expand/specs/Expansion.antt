@@ -1,7 +1,6 @@
 -- The faults of an expansion, round by round: what `expand_macros` refuses.
 use Rattle.std.specs.Prelude.{ℕ, zero, suc, Bool, not, ◌&&◌, ◌||◌, List, [], ◌∷◌, ◌++◌, flat_map, bytes_eq, map}
 use Rattle.std.specs.List.{list_any}
-use Rattle.lalrpop_norm_parts.specs.declared.names.Span.{Span}
 use Rattle.lalrpop_norm_tree.specs.Symbols.{Part, group, ambiguous_id, terminal, nonterminal, call, repeated, chosen, named, tupled, lookahead, lookbehind, error_terminal, at}
 use Rattle.lalrpop_norm_tree.specs.SymbolTexts.{part_text}
 use Rattle.lalrpop_norm_tree.specs.Items.{RuleData, GrammarData}
@@ -10,16 +9,14 @@ use Rattle.lalrpop_norm_faults.specs.Faults.{Fault, fault_if}
 use Rattle.lalrpop_norm_theory.specs.Rounds.{rules_made}
 use Rattle.lalrpop_norm_model.specs.Grammars.{ConditionValue}
 use Rattle.lalrpop_norm_model.specs.MadeRules.{some_name_value}
-use Rattle.lalrpop_norm_model.specs.PlainRules.{met_in_rule, met_by_made, rules_of, macros_of, same_apart_from_spans, expansion_round}
+use Rattle.lalrpop_norm_model.specs.PlainRules.{met_in_rule, met_by_made, rules_without_arguments, macros_of, same_apart_from_spans, expansion_round}
 use Rattle.lalrpop_norm_model.specs.Expanded.{rule_names}
-
-abbrev pub span_of : Part → Span
-span_of (at s k) = s
+use Rattle.lalrpop_norm_model.specs.MadeRules.{span_of}
 
 -- ---- F37: shared names
 
-abbrev pub is_name : List (List ℕ) → List ℕ → Bool
-is_name names t = list_any (bytes_eq t) names
+abbrev pub is_declared_name : List (List ℕ) → List ℕ → Bool
+is_declared_name names t = list_any (bytes_eq t) names
 
 -- one of the symbols met has its text and is not the same, spans aside
 abbrev pub has_other : List Part → Part → Bool
@@ -30,11 +27,11 @@ has_other met x = list_any (λ y. bytes_eq (part_text y) (part_text x) && not (s
 abbrev pub shared_names : List (List ℕ) → List Part → List Part → List Fault
 shared_names names met [] = []
 shared_names names met (x ∷ xs) =
-    fault_if (is_name names (part_text x) || has_other met x) (SharedName, span_of x) ++ shared_names names (met ++ x ∷ []) xs
+    fault_if (is_declared_name names (part_text x) || has_other met x) (SharedName, span_of x) ++ shared_names names (met ++ x ∷ []) xs
 
 -- what round k + 1 meets: round 1 in the rules of the grammar, each later one in those that the round before made
 abbrev pub meetings : ConditionValue → GrammarData → ℕ → List Part
-meetings value g zero = flat_map met_in_rule (rules_of g)
+meetings value g zero = flat_map met_in_rule (rules_without_arguments g)
 meetings value g (suc k) = flat_map (met_by_made value (macros_of g)) (rules_made (expansion_round value g k))
 
 -- all that is met in the first rounds
@@ -87,5 +84,5 @@ abbrev pub expansion_faults : ConditionValue → GrammarData → ℕ → List Fa
 expansion_faults value g limit = faults_from value g 0 limit
 
 -- In this stage of the library no macro is taken: F0 at each.
-abbrev pub macro_faults : GrammarData → List Fault
-macro_faults g = map (λ (r : RuleData). (NotYet, r.span)) (macros_of g)
+abbrev pub later_macro_faults : GrammarData → List Fault
+later_macro_faults g = map (λ (r : RuleData). (NotYet, r.span)) (macros_of g)

@@ -64,6 +64,6 @@ types_code (t ∷ []) = codes "<>"
 types_code ts = codes "(<>)"
 
 -- what is in a symbol, if it is chosen
-abbrev pub chosen_in : Kind → List Kind
-chosen_in (chosen p) = kind_of p ∷ []
-chosen_in _ = []
+abbrev pub chosen_kinds_in : Kind → List Kind
+chosen_kinds_in (chosen p) = kind_of p ∷ []
+chosen_kinds_in _ = []

@@ -12,7 +12,7 @@ use Rattle.lalrpop_norm_faults.specs.declared.kind.FaultKind.TheVariants.{Shared
 use Rattle.lalrpop_norm_faults.specs.Faults.{Fault, fault_if}
 use Rattle.lalrpop_norm_model.specs.PlainRules.{same_apart_from_spans, met, all_met}
 use Rattle.lalrpop_norm_expand.specs.declared.macro_expand.expander.Expander.{Expander}
-use Rattle.lalrpop_norm_expand.specs.Expansion.{span_of}
+use Rattle.lalrpop_norm_model.specs.MadeRules.{span_of}
 
 -- ---- what a symbol meets
 
@@ -46,8 +46,8 @@ own s (named n p) = []
 own s (tupled ns p) = []
 own s error_terminal = []
 
-abbrev pub itself : Part → List Part
-itself (at s k) = own s k
+abbrev pub met_itself : Part → List Part
+met_itself (at s k) = own s k
 
 abbrev pub inside : Part → List Part
 inside (at s k) = met_inside k
@@ -70,9 +70,9 @@ own_text (at s error_terminal) = None
 -- ---- symbols met one after another
 
 -- the first symbol of that text
-abbrev pub first_of : List ℕ → List Part → Option Part
-first_of t [] = None
-first_of t (p ∷ ps) = if bytes_eq (part_text p) t then Some p else first_of t ps
+abbrev pub first_with_text : List ℕ → List Part → Option Part
+first_with_text t [] = None
+first_with_text t (p ∷ ps) = if bytes_eq (part_text p) t then Some p else first_with_text t ps
 
 abbrev pub joined_by : Option Part → List Part → Part → List Part
 joined_by None seen x = seen ++ x ∷ []
@@ -80,7 +80,7 @@ joined_by (Some y) seen x = seen
 
 -- the symbols met, once one more is met: the first of each text stays
 abbrev pub after_one : List Part → Part → List Part
-after_one seen x = joined_by (first_of (part_text x) seen) seen x
+after_one seen x = joined_by (first_with_text (part_text x) seen) seen x
 
 abbrev pub after : List Part → List Part → List Part
 after seen [] = seen
@@ -92,7 +92,7 @@ differs (Some y) x = not (same_apart_from_spans y x)
 
 -- its text is a name, or that of a symbol that is not the same
 abbrev pub clashes : (List ℕ → Bool) → List Part → Part → Bool
-clashes names seen x = names (part_text x) || differs (first_of (part_text x) seen) x
+clashes names seen x = names (part_text x) || differs (first_with_text (part_text x) seen) x
 
 abbrev pub clash_faults : (List ℕ → Bool) → List Part → List Part → List Fault
 clash_faults names seen [] = []
@@ -100,7 +100,7 @@ clash_faults names seen (x ∷ xs) = fault_if (clashes names seen x) (SharedName
 
 -- a symbol of its text was met that is the same, and its text is no name
 abbrev pub was_met : (List ℕ → Bool) → List Part → Part → Bool
-was_met names seen x = is_some (first_of (part_text x) seen) && not (clashes names seen x)
+was_met names seen x = is_some (first_with_text (part_text x) seen) && not (clashes names seen x)
 
 abbrev pub were_met : (List ℕ → Bool) → List Part → List Part → Bool
 were_met names seen [] = true
@@ -117,17 +117,17 @@ seen_of e = map symbol_view e.met.items
 abbrev pub has_key : BTreeSet (List ℕ) → List ℕ → Bool
 has_key s t = list_any (is_at (slice_cmp nat_cmp t)) s.keys
 
-abbrev pub names_of : Expander → List ℕ → Bool
-names_of e = has_key e.names
+abbrev pub is_taken_by : Expander → List ℕ → Bool
+is_taken_by e = has_key e.names
 
-abbrev pub place_of : Expander → List ℕ → Option ℕ
-place_of e t = get (slice_cmp nat_cmp) e.places t
+abbrev pub place_noted : Expander → List ℕ → Option ℕ
+place_noted e t = get (slice_cmp nat_cmp) e.places t
 
 -- the places lead to the symbols by their texts, and what is inside a symbol that was met was met
 pub record IsExpander (e : Expander) : Type 0 where
-  pub finds : (t : List ℕ) → option_and_then (λ i. slice_get (seen_of e) i) (place_of e t) ≡ first_of t (seen_of e)
-  pub in_range : (t : List ℕ) (i : ℕ) → place_of e t ≡ Some i → i < length e.met.items
-  pub inward : were_met_inside (names_of e) (seen_of e) (seen_of e) ≡ true
+  pub finds : (t : List ℕ) → option_and_then (λ i. slice_get (seen_of e) i) (place_noted e t) ≡ first_with_text t (seen_of e)
+  pub in_range : (t : List ℕ) (i : ℕ) → place_noted e t ≡ Some i → i < length e.met.items
+  pub inward : were_met_inside (is_taken_by e) (seen_of e) (seen_of e) ≡ true
 
 -- the symbols were met
 pub record Meets (before later : Expander) (xs : List Part) : Type 0 where
@@ -137,4 +137,4 @@ pub record Meets (before later : Expander) (xs : List Part) : Type 0 where
 
 -- what is refused where they are met
 abbrev pub refused_by : Expander → List Part → List Fault
-refused_by e xs = clash_faults (names_of e) (seen_of e) xs
+refused_by e xs = clash_faults (is_taken_by e) (seen_of e) xs

@@ -7,8 +7,8 @@ ghost use Rattle.std.specs.Prelude.{◌≡◌, ◌<◌, ◌≤◌, ◌++◌, [],
 ghost use Rattle.lalrpop_norm_tree.specs.Items.{item_view, rule_item, grammar_view};
 ghost use Rattle.lalrpop_norm_faults.specs.Faults.{Refuses, IsFirst};
 ghost use Rattle.lalrpop_norm_model.specs.Grammars.{ConditionValue};
-ghost use Rattle.lalrpop_norm_model.specs.PlainRules.{macros_of, IsWhole, plain_grammar};
-ghost use Rattle.lalrpop_norm_expand.specs.Expansion.{unmade, past_cap, expansion_faults, macro_faults};
+ghost use Rattle.lalrpop_norm_model.specs.PlainRules.{macros_of, IsEnded, plain_grammar};
+ghost use Rattle.lalrpop_norm_expand.specs.Expansion.{unmade, past_cap, expansion_faults, later_macro_faults};
 ghost use Rattle.lalrpop_norm_expand.specs.Making.{made, item_macros};
 ghost use Rattle.lalrpop_norm_expand.specs.Meeting.{seen_of};
 
@@ -94,7 +94,7 @@ fn refuse_macros(alloc: Global, items: &[GrammarItem]) -> NormResult<()>
 fn expand_rounds(alloc: Global, grammar: Grammar, limit: u16) -> NormResult<Grammar>
     requires { macros_of (grammar_view grammar) ≡ [] }
     ensures refuses { (value : ConditionValue) → Refuses result (expansion_faults value (grammar_view grammar) limit) }
-    ensures whole { (value : ConditionValue) → IfOk result (λ made. IsWhole value (grammar_view grammar) limit) }
+    ensures whole { (value : ConditionValue) → IfOk result (λ made. IsEnded value (grammar_view grammar) limit) }
     ensures plain { (value : ConditionValue) → IfOk result (λ made. grammar_view made ≡ plain_grammar value (grammar_view grammar) limit) }
 {
     let names = declared_names(alloc, &grammar.items)?;
@@ -133,9 +133,9 @@ pub fn expand_macros(alloc: Global, grammar: Grammar, limit: u16) -> NormResult<
     // Ok exactly where no fault stands, and a refusal names the first one, memory aside. No condition is asked for where
     // there is no macro, so these hold whatever the value of conditions.
     ensures refuses { (value : ConditionValue) →
-        Refuses result (macro_faults (grammar_view grammar) ++ expansion_faults value (grammar_view grammar) limit) }
+        Refuses result (later_macro_faults (grammar_view grammar) ++ expansion_faults value (grammar_view grammar) limit) }
     // No round after the first `limit` has a new symbol.
-    ensures whole { (value : ConditionValue) → IfOk result (λ made. IsWhole value (grammar_view grammar) limit) }
+    ensures whole { (value : ConditionValue) → IfOk result (λ made. IsEnded value (grammar_view grammar) limit) }
     ensures plain { (value : ConditionValue) → IfOk result (λ made. grammar_view made ≡ plain_grammar value (grammar_view grammar) limit) }
 {
     refuse_macros(alloc, &grammar.items)?;

@@ -1,28 +1,10 @@
--- Features by name, lists of what is kept, and the enabled grammar in two steps.
-use Rattle.std.proofs.Common.{◌≡◌, ℕ, Bool, true, false, List, [], ◌∷◌, ◌++◌, Option, Some, None, map, nat_cmp, bytes_eq, refl, sym, ap}
-use Rattle.std.specs.Prelude.{String, filter, flat_map, string_bytes, if◌then◌else◌}
-use Rattle.std.specs.List.{list_any}
-use Rattle.std.specs.BTreeMap.{is_at}
-use Rattle.std.specs.Cmp.Lexicographic.{slice_cmp}
-use Rattle.std.specs.declared.alloc.Global.{Global}
-use Rattle.std.proofs.lemmas.Bool.Decides.{same_from_decides}
-use Rattle.std.proofs.lemmas.Slice.Eq.{bytes_eq-Decides}
-use Rattle.std.proofs.lemmas.Map.Text.{is_eq-slice_cmp}
+-- Lists of what is kept, and the enabled grammar in two steps.
+use Rattle.std.proofs.Common.{◌≡◌, Bool, true, false, List, [], ◌∷◌, ◌++◌, Option, Some, None, map, refl, sym, ap}
+use Rattle.std.specs.Prelude.{filter, flat_map, if◌then◌else◌}
 use Rattle.lalrpop_norm_tree.specs.Items.{AlternativeData, RuleData, ItemData, match_item, extern_item, intern_item, rule_item, use_item}
-use Rattle.lalrpop_norm_model.specs.Features.{Features, is_one_of, is_active}
+use Rattle.lalrpop_norm_model.specs.Features.{Features, is_active}
 use Rattle.lalrpop_norm_model.specs.Enabled.{if_active, present, enabled_rule, enabled_extern, enabled_item}
 use Rattle.lalrpop_norm_front.specs.EnabledItems.{active_alternatives, stays, trimmed}
-
-turned : (xs ys : List ℕ) → bytes_eq xs ys ≡ bytes_eq ys xs
-turned xs ys =
-    let other = bytes_eq-Decides ys xs in
-    same_from_decides _ _ (bytes_eq-Decides xs ys) ((λ e. sym (other.0 e)), λ e. other.1 (sym e))
-
--- a set of texts holds a name where one of its texts is that name
-pub found_in_set : (name : List ℕ) (ks : List (String Global)) →
-    list_any (is_at (λ k. slice_cmp nat_cmp name (string_bytes k))) ks ≡ is_one_of name (map string_bytes ks)
-found_in_set name [] = refl
-found_in_set name (k ∷ ks) = rw (is_eq-slice_cmp name (string_bytes k), turned name (string_bytes k), found_in_set name ks) refl
 
 kept_viewed : {X Y : Type 0} (view : X → Y) (x : X) (b : Bool) (xs : List X) (ys : List Y) → map view xs ≡ ys →
     map view (if b then x ∷ xs else xs) ≡ (if b then view x ∷ ys else ys)

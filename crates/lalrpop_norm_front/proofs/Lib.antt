@@ -1,9 +1,3 @@
-pub mod Slots
 pub mod EnabledLemmas
 pub mod CallLemmas
-pub mod LevelNameLemmas
-pub mod LevelFaultLemmas
-pub mod SettledLemmas
-pub mod PrecedenceLemmas
-pub mod PrecedenceExamples
 pub mod PlaceLemmas

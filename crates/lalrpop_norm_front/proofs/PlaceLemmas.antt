@@ -13,15 +13,11 @@ use Rattle.lalrpop_norm_model.specs.TokenFaults.{each_after}
 use Rattle.lalrpop_norm_front.specs.declared.prevalidate.Place.{Place}
 use Rattle.lalrpop_norm_front.specs.declared.prevalidate.Blocks.{Blocks}
 use Rattle.lalrpop_norm_front.specs.CfgFaults.{cfg_faults}
-use Rattle.lalrpop_norm_front.specs.GrammarFaults.{is_known_on_rule, attribute_name, attribute_list, attribute_faults, attributes_faults, is_known_type, associated_faults, types_faults, is_match, is_extern, item_faults, items_faults}
+use Rattle.lalrpop_norm_front.specs.GrammarFaults.{is_known_on_rule, attribute_name, attribute_list, rule_attribute_faults, attributes_faults, is_known_type, associated_faults, types_faults, is_match, is_extern, item_faults, items_faults}
 use Rattle.lalrpop_norm_front.specs.Walks.{attributes_along, types_along, items_along}
+use Rattle.lalrpop_norm_theory.proofs.BoolLemmas.{or_swap}
 
 -- ---- names
-
-or_swap : (a b c : Bool) → (a || (b || c)) ≡ (b || (a || c))
-or_swap true true c = refl
-or_swap true false c = refl
-or_swap false b c = refl
 
 or_turned : (a b : Bool) → (a || b) ≡ (b || a)
 or_turned true true = refl
@@ -41,8 +37,8 @@ same_more x xs ys same n = one_more n x xs ∙ ap (λ b. bytes_eq x n || b) (sam
 
 -- ---- attributes of a rule
 
-attribute_same : (public : Bool) (xs ys : List (List ℕ)) → SameNames xs ys → (a : AttributeData) → attribute_faults public xs a ≡ attribute_faults public ys a
-unfolding attribute_faults
+attribute_same : (public : Bool) (xs ys : List (List ℕ)) → SameNames xs ys → (a : AttributeData) → rule_attribute_faults public xs a ≡ rule_attribute_faults public ys a
+unfolding rule_attribute_faults
 attribute_same public xs ys same (attribute s n x) =
     ap (λ b. fault_if (not (is_known_on_rule n)) (UnknownRuleAttribute, s)
     ++ (fault_if b (RepeatedRuleAttribute, s)
@@ -50,7 +46,7 @@ attribute_same public xs ys same (attribute s n x) =
     ++ (if bytes_eq n (codes "cfg") then cfg_faults s x else [])))) (same n)
 
 attributes_from : (public : Bool) (names : List (List ℕ)) (before : List AttributeData) → SameNames names (map attribute_name before) → (xs : Attributes) →
-    attributes_along public names xs ≡ each_after (λ b a. attribute_faults public (map attribute_name b) a) before (attribute_list xs)
+    attributes_along public names xs ≡ each_after (λ b a. rule_attribute_faults public (map attribute_name b) a) before (attribute_list xs)
 attributes_from public names before same no_attributes = refl
 attributes_from public names before same (attribute_and a rest) =
     ap₂ ◌++◌ (attribute_same public names (map attribute_name before) same a)

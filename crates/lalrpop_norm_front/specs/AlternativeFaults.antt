@@ -4,33 +4,30 @@ use Rattle.lalrpop_norm_parts.specs.declared.names.Span.{Span}
 use Rattle.lalrpop_norm_tree.specs.Accessors.{or_else}
 use Rattle.lalrpop_norm_parts.specs.Attributes.{Attributes, attribute, no_attributes, attribute_and}
 use Rattle.lalrpop_norm_tree.specs.Items.{Action, user_code, fallible_code, lookahead_code, lookbehind_code, AlternativeData}
-use Rattle.lalrpop_norm_tree.specs.Symbols.{Kind, named, tupled, Part, at, Parts, no_parts, part_and}
+use Rattle.lalrpop_norm_tree.specs.Symbols.{Kind, named, tupled, at, Parts, no_parts, part_and}
 use Rattle.lalrpop_norm_faults.specs.declared.kind.FaultKind.TheVariants.{AlternativeAttribute, NamedWithoutAction, AnonymousInBraces, WrittenLookaround}
 use Rattle.lalrpop_norm_faults.specs.Faults.{Fault, fault_if}
 use Rattle.lalrpop_norm_front.specs.declared.prevalidate.Place.{Place}
-use Rattle.lalrpop_norm_front.specs.Braces.{presence, is_in_braces}
+use Rattle.lalrpop_norm_util.specs.Braces.{presence, is_in_braces}
 use Rattle.lalrpop_norm_front.specs.SymbolFaults.{list_faults}
+use Rattle.lalrpop_norm_model.specs.MadeRules.{span_of}
 
 abbrev pub is_known_on_alternative : List ℕ → Bool
 is_known_on_alternative name = bytes_eq name (codes "precedence") || bytes_eq name (codes "assoc") || bytes_eq name (codes "cfg")
 
 -- F13
-abbrev pub unknown_faults : Attributes → List Fault
-unknown_faults no_attributes = []
-unknown_faults (attribute_and (attribute s name x) rest) = fault_if (not (is_known_on_alternative name)) (AlternativeAttribute, s) ++ unknown_faults rest
+abbrev pub unknown_alternative_faults : Attributes → List Fault
+unknown_alternative_faults no_attributes = []
+unknown_alternative_faults (attribute_and (attribute s name x) rest) = fault_if (not (is_known_on_alternative name)) (AlternativeAttribute, s) ++ unknown_alternative_faults rest
 
--- where the symbol inside a named or tuple symbol stands
-abbrev pub place_of : Part → Span
-place_of (at s k) = s
-
-abbrev pub inside_of : Kind → Option Span
-inside_of (named n p) = Some (place_of p)
-inside_of (tupled ps p) = Some (place_of p)
-inside_of k = None
+abbrev pub place_inside : Kind → Option Span
+place_inside (named n p) = Some (span_of p)
+place_inside (tupled ps p) = Some (span_of p)
+place_inside k = None
 
 abbrev pub first_inside : Parts → Option Span
 first_inside no_parts = None
-first_inside (part_and (at s k) ps) = or_else (inside_of k) (first_inside ps)
+first_inside (part_and (at s k) ps) = or_else (place_inside k) (first_inside ps)
 
 -- F14: a value with a name, and no code
 abbrev pub lacking_faults : Option Span → List Fault
@@ -38,17 +35,17 @@ lacking_faults None = []
 lacking_faults (Some s) = (NamedWithoutAction, s) ∷ []
 
 -- F15
-abbrev pub code_faults : Span → Option Span → List ℕ → List Fault
-code_faults s (Some inside) code = []
-code_faults s None code = fault_if (is_in_braces (presence code)) (AnonymousInBraces, s)
+abbrev pub between_braces_faults : Span → Option Span → List ℕ → List Fault
+between_braces_faults s (Some inside) code = []
+between_braces_faults s None code = fault_if (is_in_braces (presence code)) (AnonymousInBraces, s)
 
 -- F24, else F14 or F15
 abbrev pub action_faults : Span → Option Span → Option Action → List Fault
 action_faults s inside None = lacking_faults inside
-action_faults s inside (Some (user_code code)) = code_faults s inside code
-action_faults s inside (Some (fallible_code code)) = code_faults s inside code
+action_faults s inside (Some (user_code code)) = between_braces_faults s inside code
+action_faults s inside (Some (fallible_code code)) = between_braces_faults s inside code
 action_faults s inside (Some lookahead_code) = (WrittenLookaround, s) ∷ []
 action_faults s inside (Some lookbehind_code) = (WrittenLookaround, s) ∷ []
 
 unfoldable pub alternative_faults : Place → AlternativeData → List Fault
-alternative_faults c a = list_faults c a.parts ++ (unknown_faults a.attributes ++ action_faults a.span (first_inside a.parts) a.action)
+alternative_faults c a = list_faults c a.parts ++ (unknown_alternative_faults a.attributes ++ action_faults a.span (first_inside a.parts) a.action)

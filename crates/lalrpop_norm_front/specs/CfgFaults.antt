@@ -20,24 +20,24 @@ empty_faults s (attribute_and a rest) = []
 
 abbrev mutual
   pub test_faults : AttributeData → List Fault
-  test_faults (attribute s name x) = argument_faults (test_of name) s x
+  test_faults (attribute s name x) = test_argument_faults (test_of name) s x
 
-  pub argument_faults : Test → Span → Argument → List Fault
-  argument_faults Feature s (equal t) = []
-  argument_faults Feature s empty = (MalformedCfg, s) ∷ []
-  argument_faults Feature s (paren xs) = (MalformedCfg, s) ∷ []
-  argument_faults Not s (paren xs) = first_faults s xs
-  argument_faults Not s empty = (MalformedCfg, s) ∷ []
-  argument_faults Not s (equal t) = (MalformedCfg, s) ∷ []
-  argument_faults Several s (paren xs) = empty_faults s xs ++ tests_faults xs
-  argument_faults Several s empty = (MalformedCfg, s) ∷ []
-  argument_faults Several s (equal t) = (MalformedCfg, s) ∷ []
-  argument_faults Unknown s x = (MalformedCfg, s) ∷ []
+  pub test_argument_faults : Test → Span → Argument → List Fault
+  test_argument_faults Feature s (equal t) = []
+  test_argument_faults Feature s empty = (MalformedCfg, s) ∷ []
+  test_argument_faults Feature s (paren xs) = (MalformedCfg, s) ∷ []
+  test_argument_faults Not s (paren xs) = first_test_faults s xs
+  test_argument_faults Not s empty = (MalformedCfg, s) ∷ []
+  test_argument_faults Not s (equal t) = (MalformedCfg, s) ∷ []
+  test_argument_faults Several s (paren xs) = empty_faults s xs ++ tests_faults xs
+  test_argument_faults Several s empty = (MalformedCfg, s) ∷ []
+  test_argument_faults Several s (equal t) = (MalformedCfg, s) ∷ []
+  test_argument_faults Unknown s x = (MalformedCfg, s) ∷ []
 
   -- the first one is judged, and has to be there
-  pub first_faults : Span → Attributes → List Fault
-  first_faults s no_attributes = (MalformedCfg, s) ∷ []
-  first_faults s (attribute_and a rest) = test_faults a
+  pub first_test_faults : Span → Attributes → List Fault
+  first_test_faults s no_attributes = (MalformedCfg, s) ∷ []
+  first_test_faults s (attribute_and a rest) = test_faults a
 
   pub tests_faults : Attributes → List Fault
   tests_faults no_attributes = []
@@ -45,4 +45,4 @@ abbrev mutual
 
 -- a `cfg` is judged as `not` is: its first argument, which has to be there
 abbrev pub cfg_faults : Span → Argument → List Fault
-cfg_faults s x = argument_faults Not s x
+cfg_faults s x = test_argument_faults Not s x

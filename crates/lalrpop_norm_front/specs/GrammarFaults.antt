@@ -21,7 +21,7 @@ use Rattle.lalrpop_norm_front.specs.declared.prevalidate.Blocks.{Blocks}
 use Rattle.lalrpop_norm_front.specs.SymbolFaults.{terminal_faults}
 use Rattle.lalrpop_norm_front.specs.AlternativeFaults.{alternative_faults}
 use Rattle.lalrpop_norm_front.specs.CfgFaults.{cfg_faults}
-use Rattle.lalrpop_norm_levels.specs.LevelFaults.{level_faults}
+use Rattle.lalrpop_norm_precedence.specs.LevelFaults.{level_faults}
 use Rattle.lalrpop_norm_front.specs.TypeFaults.{some_holds, clause_holds, pattern_holds}
 
 -- ---- rules
@@ -30,8 +30,8 @@ abbrev pub is_known_on_rule : List ℕ → Bool
 is_known_on_rule name = bytes_eq name (codes "inline") || bytes_eq name (codes "cfg")
 
 -- one attribute of a rule, after those of some names: F8, F9, F10, F11
-unfoldable pub attribute_faults : Bool → List (List ℕ) → AttributeData → List Fault
-attribute_faults public before (attribute s name x) =
+unfoldable pub rule_attribute_faults : Bool → List (List ℕ) → AttributeData → List Fault
+rule_attribute_faults public before (attribute s name x) =
     fault_if (not (is_known_on_rule name)) (UnknownRuleAttribute, s)
     ++ (fault_if (is_one_of name before) (RepeatedRuleAttribute, s)
     ++ (fault_if (bytes_eq name (codes "inline") && public) (InlineOnPublic, s)
@@ -46,7 +46,7 @@ attribute_list (attribute_and a rest) = a ∷ attribute_list rest
 
 -- each attribute after those before it
 abbrev pub attributes_faults : Bool → Attributes → List Fault
-attributes_faults public xs = each_after (λ before a. attribute_faults public (map attribute_name before) a) [] (attribute_list xs)
+attributes_faults public xs = each_after (λ before a. rule_attribute_faults public (map attribute_name before) a) [] (attribute_list xs)
 
 -- F7, F23, then attributes, levels, alternatives
 unfoldable pub rule_faults : Place → RuleData → List Fault
@@ -66,13 +66,13 @@ mapping_faults (Unmapped l s) = []
 mapping_faults (CatchAll s) = []
 
 -- F3 at the other block
-abbrev pub beside_faults : Option Span → List Fault
-beside_faults None = []
-beside_faults (Some s) = (MatchWithExtern, s) ∷ []
+abbrev pub match_beside_extern_faults : Option Span → List Fault
+match_beside_extern_faults None = []
+match_beside_extern_faults (Some s) = (MatchWithExtern, s) ∷ []
 
 -- a match block, after another one or not: F2, F3, mappings
 unfoldable pub match_faults : Blocks → Bool → MatchTokenData → List Fault
-match_faults b seen m = fault_if seen (SecondMatch, m.span) ++ (beside_faults b.first_enum ++ flat_map (flat_map mapping_faults) m.contents)
+match_faults b seen m = fault_if seen (SecondMatch, m.span) ++ (match_beside_extern_faults b.first_enum ++ flat_map (flat_map mapping_faults) m.contents)
 
 abbrev pub is_known_type : List ℕ → Bool
 is_known_type name = bytes_eq name (codes "Location") || bytes_eq name (codes "Error")
@@ -101,7 +101,7 @@ enum_faults (Some e) = fault_if (holds_symbol e.type_name) (WrittenOfSymbol, e.t
 unfoldable pub extern_faults : Blocks → Bool → ExternTokenData → List Fault
 extern_faults b seen t =
     fault_if seen (SecondExtern, t.span)
-    ++ ((if is_some t.enum_token then beside_faults b.first_match else [])
+    ++ ((if is_some t.enum_token then match_beside_extern_faults b.first_match else [])
     ++ (types_faults t.associated_types ++ enum_faults t.enum_token))
 
 -- ---- items
@@ -164,9 +164,9 @@ blocks_in g = record { first_match = match_span (first_of match_token_of g.items
 -- ---- the grammar
 
 -- F1
-abbrev pub unknown_faults : Attributes → List Fault
-unknown_faults no_attributes = []
-unknown_faults (attribute_and (attribute s name x) rest) = fault_if (not (is_known_name name)) (GrammarAttribute, s) ++ unknown_faults rest
+abbrev pub unknown_grammar_faults : Attributes → List Fault
+unknown_grammar_faults no_attributes = []
+unknown_grammar_faults (attribute_and (attribute s name x) rest) = fault_if (not (is_known_name name)) (GrammarAttribute, s) ++ unknown_grammar_faults rest
 
 -- F23 at the grammar
 abbrev pub parameter_faults : Span → ParameterData → List Fault
@@ -177,7 +177,7 @@ clause_faults s w = fault_if (clause_holds w) (WrittenOfSymbol, s)
 
 abbrev pub validate_faults : GrammarData → List Fault
 validate_faults g =
-    unknown_faults g.attributes
+    unknown_grammar_faults g.attributes
     ++ (flat_map (parameter_faults g.span) g.parameters
     ++ (flat_map (clause_faults g.span) g.where_clauses
     ++ items_faults (place_in g) (blocks_in g) g.span g.items))

@@ -1,12 +1,7 @@
-pub mod Braces
-pub mod Sessions
 pub mod EnabledItems
 pub mod SymbolFaults
 pub mod AlternativeFaults
 pub mod CfgFaults
 pub mod TypeFaults
 pub mod GrammarFaults
-pub mod ExprSymbols
-pub mod PrecedenceFaults
-pub mod MacroLevels
 pub mod Walks

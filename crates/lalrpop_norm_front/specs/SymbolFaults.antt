@@ -9,6 +9,7 @@ use Rattle.lalrpop_norm_tree.specs.Symbols.{Kind, group, ambiguous_id, terminal,
 use Rattle.lalrpop_norm_faults.specs.declared.kind.FaultKind.TheVariants.{ErrorWithAscent, MacroWithoutArguments, NoLocation, WrittenErrorTerminal, ChosenWithNamed, NameTwice}
 use Rattle.lalrpop_norm_front.specs.declared.prevalidate.Place.{Place}
 use Rattle.lalrpop_norm_faults.specs.Faults.{Fault, fault_if}
+use Rattle.lalrpop_norm_util.specs.Values.{is_chosen_kind}
 
 -- a call without arguments
 unfoldable pub call_faults : Span → Parts → List Fault
@@ -20,10 +21,6 @@ terminal_faults s (Literal l) = []
 terminal_faults s (Bare n) = []
 terminal_faults s Error = (WrittenErrorTerminal, s) ∷ []
 
-abbrev pub is_chosen : Kind → Bool
-is_chosen (chosen p) = true
-is_chosen k = false
-
 abbrev pub name_of : Kind → Option (List ℕ)
 name_of (named n p) = Some n.name
 name_of k = None
@@ -31,20 +28,20 @@ name_of k = None
 -- the first chosen symbol
 abbrev pub first_chosen : Parts → Option Span
 first_chosen no_parts = None
-first_chosen (part_and (at s k) ps) = if is_chosen k then Some s else first_chosen ps
+first_chosen (part_and (at s k) ps) = if is_chosen_kind k then Some s else first_chosen ps
 
 abbrev pub has_named : Parts → Bool
 has_named no_parts = false
 has_named (part_and (at s k) ps) = if is_some (name_of k) then true else has_named ps
 
-abbrev pub is_name : List ℕ → Option (List ℕ) → Bool
-is_name name None = false
-is_name name (Some n) = bytes_eq name n
+abbrev pub is_that_name : List ℕ → Option (List ℕ) → Bool
+is_that_name name None = false
+is_that_name name (Some n) = bytes_eq name n
 
 -- the first symbol of that name
 abbrev pub named_at : List ℕ → Parts → Option Span
 named_at name no_parts = None
-named_at name (part_and (at s k) ps) = if is_name name (name_of k) then Some s else named_at name ps
+named_at name (part_and (at s k) ps) = if is_that_name name (name_of k) then Some s else named_at name ps
 
 -- a name with the place of the second symbol of that name, if there is one
 abbrev pub again : Option (List ℕ) → Parts → Option (List ℕ × Span)
@@ -52,15 +49,15 @@ again None ps = None
 again (Some n) ps = option_map (λ s. (n, s)) (named_at n ps)
 
 -- of two repeated names the lesser, and of one name the earlier place
-abbrev pub lesser : Option (List ℕ × Span) → Option (List ℕ × Span) → Option (List ℕ × Span)
-lesser None r = r
-lesser (Some n) None = Some n
-lesser (Some n) (Some r) = if is_lt (slice_cmp nat_cmp r.0 n.0) then Some r else Some n
+abbrev pub lesser_name : Option (List ℕ × Span) → Option (List ℕ × Span) → Option (List ℕ × Span)
+lesser_name None r = r
+lesser_name (Some n) None = Some n
+lesser_name (Some n) (Some r) = if is_lt (slice_cmp nat_cmp r.0 n.0) then Some r else Some n
 
 -- the least name that two symbols have, with the place of the second of them
 abbrev pub least_twice : Parts → Option (List ℕ × Span)
 least_twice no_parts = None
-least_twice (part_and (at s k) ps) = lesser (again (name_of k) ps) (least_twice ps)
+least_twice (part_and (at s k) ps) = lesser_name (again (name_of k) ps) (least_twice ps)
 
 abbrev pub mixed_faults : Option Span → Bool → List Fault
 mixed_faults (Some s) true = (ChosenWithNamed, s) ∷ []

@@ -1,12 +1,10 @@
-//! The first passes over a written grammar, the session, and how code is read.
+//! The first passes over a written grammar.
 #![tactic(auto)]
 
 pub mod cond_comp;
-pub mod norm_util;
-pub mod precedence;
 pub mod prevalidate;
-mod session;
 
 pub use lalrpop_norm_faults::{FaultKind, NormError, NormFailure, NormResult, refusal};
-pub use lalrpop_norm_names::resolve;
-pub use session::Session;
+pub use lalrpop_norm_precedence::precedence;
+pub use lalrpop_norm_resolve::resolve;
+pub use lalrpop_norm_util::{Session, norm_util};

@@ -6,7 +6,7 @@ ghost use Rattle.lalrpop_norm_parts.specs.Bounds.{where_clause_view};
 ghost use Rattle.lalrpop_norm_tree.specs.Items.{extern_token_view, grammar_view, item_view};
 ghost use Rattle.lalrpop_norm_tree.specs.Types.{parameter_view, type_view};
 ghost use Rattle.lalrpop_norm_faults.specs.Faults.{Refuses};
-ghost use Rattle.lalrpop_norm_front.specs.GrammarFaults.{is_match, is_extern, item_faults, items_faults, ascent_named, ascent_asked, is_asked, lacks_location, place_in, blocks_in, unknown_faults, parameter_faults, clause_faults, validate_faults};
+ghost use Rattle.lalrpop_norm_front.specs.GrammarFaults.{is_match, is_extern, item_faults, items_faults, ascent_named, ascent_asked, is_asked, lacks_location, place_in, blocks_in, unknown_grammar_faults, parameter_faults, clause_faults, validate_faults};
 
 mod alternatives;
 mod cfg;
@@ -59,7 +59,7 @@ pub fn validate(alloc: Global, grammar: &Grammar) -> NormResult<()>
 }
 
 fn validate_attributes(alloc: Global, attributes: &[Attribute]) -> NormResult<()>
-    ensures { Refuses result (unknown_faults (attributes_view attributes.now)) }
+    ensures { Refuses result (unknown_grammar_faults (attributes_view attributes.now)) }
 {
     for attribute in attributes {
         if !is_known_attribute(attribute) {

@@ -1,8 +1,8 @@
 -- Grammars whose conversions are all active.
-use Rattle.std.proofs.Common.{◌≡◌, ◌∙◌, Bool, true, false, cond, List, [], ◌∷◌, ◌++◌, map, Option, Some, None, refl, sym, ap, option_map}
+use Rattle.std.proofs.Common.{◌≡◌, ◌∙◌, Bool, true, false, cond, List, [], ◌∷◌, ◌++◌, map, Option, Some, None, refl, ap, option_map}
 use Rattle.std.specs.Prelude.{filter, flat_map}
 use Rattle.std.specs.List.{AllByRecursion}
-use Rattle.lalrpop_norm_tree.specs.Items.{ItemData, match_item, extern_item, intern_item, rule_item, use_item, ConversionData, EnumTokenData, ExternTokenData, RuleData, GrammarData}
+use Rattle.lalrpop_norm_tree.specs.Items.{ItemData, match_item, extern_item, intern_item, rule_item, use_item, ConversionData, EnumTokenData, ExternTokenData, GrammarData}
 use Rattle.lalrpop_norm_model.specs.Enabled.{enabled_enum, enabled_extern, enabled_rule, enabled_item, enabled_grammar}
 use Rattle.lalrpop_norm_model.specs.Features.{Features, is_active}
 use Rattle.lalrpop_norm_late.specs.Active.{active_item, active_grammar}

@@ -11,8 +11,8 @@ use Rattle.lalrpop_norm_tree.specs.Accessors.{is_public}
 use Rattle.lalrpop_norm_tree.specs.Items.{RuleData}
 use Rattle.lalrpop_norm_repr.specs.Productions.{EntryData}
 use Rattle.lalrpop_norm_repr.specs.Tables.{found}
-use Rattle.lalrpop_norm_late.specs.Lowering.{public_rules, start_name, start_names, start_rows, rule_rows, sorted_onto}
-use Rattle.lalrpop_norm_late.specs.Shape.{Clause, start_clause, rule_clauses, clauses_of, start_entry_of, rule_entry_of, entries_of, starts_of, IsNameTable}
+use Rattle.lalrpop_norm_late.specs.Lowering.{public_rules_in, start_name, start_names, start_rows, rule_rows, sorted_onto}
+use Rattle.lalrpop_norm_late.specs.Shape.{OwnedAlternative, start_clause, rule_clauses, alternatives_in_order, start_entry_of, rule_entry_of, lowered_entries, starts_of, IsNameTable}
 use Rattle.lalrpop_norm_late.proofs.ClauseLemmas.{has_name, or_neither, append_same, AreApart, LackNames, LackStarts, AllApart, apart_all, rule_rows_named, start_rows_named}
 use Rattle.lalrpop_norm_late.proofs.KeyLaws.{same_name, names_decide, name_table, sorted_joined}
 
@@ -46,22 +46,22 @@ each_named rs = all_by (Contains rs) (λ r. IsNamedIn rs r.name) (named_in rs) r
 
 -- ---- public rules
 
-pub public_all : (P : RuleData → Type 0) (rs : List RuleData) → AllByRecursion (λ r. is_public r.visibility ≡ true → P r) rs → AllByRecursion P (public_rules rs)
+pub public_all : (P : RuleData → Type 0) (rs : List RuleData) → AllByRecursion (λ r. is_public r.visibility ≡ true → P r) rs → AllByRecursion P (public_rules_in rs)
 public_all P [] h = tt
 public_all P (r ∷ rs) h = by (is_public r.visibility) refl (public_all P rs h.1)
   where
-    by : (b : Bool) → is_public r.visibility ≡ b → AllByRecursion P (public_rules rs) → AllByRecursion P (cond b (r ∷ public_rules rs) (public_rules rs))
+    by : (b : Bool) → is_public r.visibility ≡ b → AllByRecursion P (public_rules_in rs) → AllByRecursion P (cond b (r ∷ public_rules_in rs) (public_rules_in rs))
     by true is rest = (h.0 is, rest)
     by false is rest = rest
 
-pub kept_public : (P : RuleData → Type 0) (rs : List RuleData) → AllByRecursion P rs → AllByRecursion P (public_rules rs)
+pub kept_public : (P : RuleData → Type 0) (rs : List RuleData) → AllByRecursion P rs → AllByRecursion P (public_rules_in rs)
 kept_public P rs h = public_all P rs (all_by P (λ r. is_public r.visibility ≡ true → P r) (λ r p _. p) rs h)
 
-pub public_apart : (rs : List RuleData) → AllApart rs → AllApart (public_rules rs)
+pub public_apart : (rs : List RuleData) → AllApart rs → AllApart (public_rules_in rs)
 public_apart [] h = tt
 public_apart (r ∷ rs) h = by (is_public r.visibility) (public_apart rs h.1)
   where
-    by : (b : Bool) → AllApart (public_rules rs) → AllApart (cond b (r ∷ public_rules rs) (public_rules rs))
+    by : (b : Bool) → AllApart (public_rules_in rs) → AllApart (cond b (r ∷ public_rules_in rs) (public_rules_in rs))
     by true rest = (kept_public (λ s. bytes_eq r.name.0 s.name.0 ≡ false) rs h.0, rest)
     by false rest = rest
 
@@ -75,7 +75,7 @@ lack_no_starts : (prefix : List ℕ) (rs : List RuleData) → LackStarts prefix 
 lack_no_starts prefix [] = tt
 lack_no_starts prefix (r ∷ rs) = (refl, lack_no_starts prefix rs)
 
-lack_one : (n : NonterminalString) (c : Clause) (rs : List RuleData) (cs : List Clause) → c.0 ≡ n → AreApart n rs → LackNames rs cs → LackNames rs (c ∷ cs)
+lack_one : (n : NonterminalString) (c : OwnedAlternative) (rs : List RuleData) (cs : List OwnedAlternative) → c.0 ≡ n → AreApart n rs → LackNames rs cs → LackNames rs (c ∷ cs)
 lack_one n c [] cs e h i = tt
 lack_one n c (r ∷ rs) cs e h i = (
   or_neither (bytes_eq r.name.0 c.0.0) (has_name r.name cs) (ap (λ (m : NonterminalString). bytes_eq r.name.0 m.0) e ∙ nat_list_eq_equiv.symm r.name.0 n.0 ∙ h.0) i.0,
@@ -130,32 +130,32 @@ starts_beside prefix rules (p ∷ public) h = (apart_keys (start_name prefix p.n
 
 -- ---- tables
 
-entry_keys : (clauses : List Clause) (rs : List RuleData) → keys_of (map (rule_entry_of clauses) rs) ≡ rule_keys rs
+entry_keys : (clauses : List OwnedAlternative) (rs : List RuleData) → keys_of (map (rule_entry_of clauses) rs) ≡ rule_keys rs
 unfolding rule_keys
 entry_keys clauses [] = refl
 entry_keys clauses (r ∷ rs) = ap (λ ks. r.name ∷ ks) (entry_keys clauses rs)
 
-start_entry_keys : (prefix : List ℕ) (clauses : List Clause) (rs : List RuleData) → keys_of (map (start_entry_of prefix clauses) rs) ≡ start_keys prefix rs
+start_entry_keys : (prefix : List ℕ) (clauses : List OwnedAlternative) (rs : List RuleData) → keys_of (map (start_entry_of prefix clauses) rs) ≡ start_keys prefix rs
 unfolding start_keys
 start_entry_keys prefix clauses [] = refl
 start_entry_keys prefix clauses (r ∷ rs) = ap (λ ks. start_name prefix r.name ∷ ks) (start_entry_keys prefix clauses rs)
 
-pub entries_distinct : (prefix : List ℕ) (rules : List RuleData) → AllApart rules → AllByRecursion (λ p. AreApart (start_name prefix p.name) rules) (public_rules rules) → IsDistinct same_name (keys_of (entries_of prefix rules))
+pub entries_distinct : (prefix : List ℕ) (rules : List RuleData) → AllApart rules → AllByRecursion (λ p. AreApart (start_name prefix p.name) rules) (public_rules_in rules) → IsDistinct same_name (keys_of (lowered_entries prefix rules))
 entries_distinct prefix rules apart starts =
-    let clauses : List Clause = clauses_of prefix rules in
-    let public : List RuleData = public_rules rules in
-    let keys : start_keys prefix public ++ rule_keys rules ≡ keys_of (entries_of prefix rules) =
+    let clauses : List OwnedAlternative = alternatives_in_order prefix rules in
+    let public : List RuleData = public_rules_in rules in
+    let keys : start_keys prefix public ++ rule_keys rules ≡ keys_of (lowered_entries prefix rules) =
     sym (map-append (λ (e : NonterminalString × EntryData). e.0) (map (start_entry_of prefix clauses) public) (map (rule_entry_of clauses) rules)
     ∙ ap (λ ks. ks ++ keys_of (map (rule_entry_of clauses) rules)) (start_entry_keys prefix clauses public) ∙ ap (λ ks. start_keys prefix public ++ ks) (entry_keys clauses rules)) in
     subst (IsDistinct same_name) keys
     (distinct_join same_name (start_keys prefix public) (rule_keys rules) (start_keys_distinct prefix public (public_apart rules apart)) (rule_keys_distinct rules apart) (starts_beside prefix rules public starts))
 
 -- the counted rows of nonterminals are the entries
-pub entries_counted : (prefix : List ℕ) (rules : List RuleData) → AllApart rules → AllByRecursion (λ p. AreApart (start_name prefix p.name) rules) (public_rules rules)
-    → sorted_onto (sorted_onto [] (start_rows prefix 0 (public_rules rules))) (rule_rows (length (public_rules rules)) rules) ≡ sorted_onto [] (entries_of prefix rules)
+pub entries_counted : (prefix : List ℕ) (rules : List RuleData) → AllApart rules → AllByRecursion (λ p. AreApart (start_name prefix p.name) rules) (public_rules_in rules)
+    → sorted_onto (sorted_onto [] (start_rows prefix 0 (public_rules_in rules))) (rule_rows (length (public_rules_in rules)) rules) ≡ sorted_onto [] (lowered_entries prefix rules)
 entries_counted prefix rules apart starts =
-    let public : List RuleData = public_rules rules in
-    let clauses : List Clause = clauses_of prefix rules in
+    let public : List RuleData = public_rules_in rules in
+    let clauses : List OwnedAlternative = alternatives_in_order prefix rules in
     sorted_joined (start_rows prefix 0 public) (rule_rows (length public) rules)
     ∙ ap (λ rows. sorted_onto [] (rows ++ rule_rows (length public) rules))
     (start_rows_named prefix [] public (flat_map rule_clauses rules) clauses refl (lack_no_starts prefix public)
@@ -173,10 +173,10 @@ unfolding rule_keys
 start_name_keys prefix [] = refl
 start_name_keys prefix (r ∷ rs) = ap (λ ks. r.name ∷ ks) (start_name_keys prefix rs)
 
-pub starts_table : (prefix : List ℕ) (rules : List RuleData) → AllApart rules → IsNameTable (starts_of prefix rules) (sorted_onto [] (start_names prefix (public_rules rules)))
+pub starts_table : (prefix : List ℕ) (rules : List RuleData) → AllApart rules → IsNameTable (starts_of prefix rules) (sorted_onto [] (start_names prefix (public_rules_in rules)))
 starts_table prefix rules apart =
-    subst (λ rows. IsNameTable (starts_of prefix rules) (sorted_onto [] rows)) (sym (start_names_are prefix (public_rules rules)))
-    (name_table (starts_of prefix rules) (subst (IsDistinct same_name) (sym (start_name_keys prefix (public_rules rules))) (rule_keys_distinct (public_rules rules) (public_apart rules apart))))
+    subst (λ rows. IsNameTable (starts_of prefix rules) (sorted_onto [] rows)) (sym (start_names_are prefix (public_rules_in rules)))
+    (name_table (starts_of prefix rules) (subst (IsDistinct same_name) (sym (start_name_keys prefix (public_rules_in rules))) (rule_keys_distinct (public_rules_in rules) (public_apart rules apart))))
 
 -- ---- a start symbol leads to its rule
 

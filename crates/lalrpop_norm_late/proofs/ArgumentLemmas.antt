@@ -4,33 +4,20 @@ use Rattle.std.specs.Prelude.{filter, unwrap_or}
 use Rattle.std.specs.List.{list_any, enumerate_from}
 use Rattle.std.proofs.lemmas.List.{append_assoc, length-append, take_at}
 use Rattle.std.proofs.lemmas.List.Elements.{filter-append, filter_agree}
-use Rattle.lalrpop_norm_tree.specs.Symbols.{ArgumentPattern, Kind, group, ambiguous_id, terminal, nonterminal, call, repeated, chosen, named, tupled, lookahead, lookbehind, error_terminal, Part, at, Parts, no_parts, part_and}
+use Rattle.lalrpop_norm_tree.specs.Symbols.{ArgumentPattern, Part, Parts, no_parts, part_and}
 use Rattle.lalrpop_norm_model.specs.MadeRules.{names_value, some_name_value}
-use Rattle.lalrpop_norm_late.specs.Sources.{is_chosen, source_name, plain_name}
-use Rattle.lalrpop_norm_late.specs.Naming.{has_chosen, is_source, source_pattern, names_from, source_names, patterns_from, argument_patterns}
-use Rattle.lalrpop_norm_late.specs.Arguments.{part_list, has_pattern, written_pattern, is_source_of, sources_before, pattern_at_place, patterns, name_given, names}
+use Rattle.lalrpop_norm_util.specs.Values.{is_chosen, has_chosen}
+use Rattle.lalrpop_norm_late.specs.Sources.{source_name, plain_name}
+use Rattle.lalrpop_norm_late.specs.Naming.{is_source, source_pattern, names_from, source_names, patterns_from, argument_patterns}
+use Rattle.lalrpop_norm_late.specs.Arguments.{part_list, written_pattern, is_source_of, sources_before, pattern_at_place, patterns, name_given, names}
 
 chosen_listed : (ps : Parts) → list_any is_chosen (part_list ps) ≡ has_chosen ps
 chosen_listed no_parts = refl
 chosen_listed (part_and p ps) = ap (λ b. is_chosen p || b) (chosen_listed ps)
 
-pub names_shown : (p : Part) → names_value p ≡ has_pattern p
-names_shown (at s (group ps)) = refl
-names_shown (at s (ambiguous_id a)) = refl
-names_shown (at s (terminal t)) = refl
-names_shown (at s (nonterminal n)) = refl
-names_shown (at s (call n ps)) = refl
-names_shown (at s (repeated o p)) = refl
-names_shown (at s (chosen p)) = refl
-names_shown (at s (named n p)) = refl
-names_shown (at s (tupled ns p)) = refl
-names_shown (at s lookahead) = refl
-names_shown (at s lookbehind) = refl
-names_shown (at s error_terminal) = refl
-
-pub named_listed : (ps : Parts) → list_any has_pattern (part_list ps) ≡ some_name_value ps
+pub named_listed : (ps : Parts) → list_any names_value (part_list ps) ≡ some_name_value ps
 named_listed no_parts = refl
-named_listed (part_and p ps) = ap (λ b. has_pattern p || b) (named_listed ps) ∙ ap (λ b. b || some_name_value ps) (sym (names_shown p))
+named_listed (part_and p ps) = ap (λ b. names_value p || b) (named_listed ps)
 
 source_as_counted : (ps : Parts) (p : Part) → is_source_of (part_list ps) p ≡ is_source (some_name_value ps) (has_chosen ps) p
 source_as_counted ps p = rw (named_listed ps, chosen_listed ps) refl

@@ -1,7 +1,7 @@
 -- The actions that are made, against what is asked of them.
-use Rattle.std.proofs.Common.{◌≡◌, ◌∙◌, ℕ, List, [], ◌∷◌, ◌++◌, map, Option, Some, None, refl, sym, ap, subst}
+use Rattle.std.proofs.Common.{◌≡◌, ℕ, List, [], ◌∷◌, ◌++◌, map, Option, Some, None, refl, sym, ap, subst}
 use Rattle.std.specs.Prelude.{flat_map}
-use Rattle.std.specs.List.{list_any, AllByRecursion, AllZip}
+use Rattle.std.specs.List.{AllByRecursion, AllZip}
 use Rattle.lalrpop_norm_parts.specs.declared.names.NonterminalString.{NonterminalString}
 use Rattle.lalrpop_norm_tree.specs.Items.{Action, user_code, fallible_code, lookahead_code, lookbehind_code, AlternativeData, RuleData}
 use Rattle.lalrpop_norm_parts.specs.Reprs.{ReprData}
@@ -9,13 +9,13 @@ use Rattle.lalrpop_norm_model.specs.LoweringFaults.{code_faults}
 use Rattle.lalrpop_norm_model.specs.MadeRules.{some_name_value}
 use Rattle.lalrpop_norm_repr.specs.Actions.{user}
 use Rattle.lalrpop_norm_repr.specs.Tables.{TypeTable, type_of}
-use Rattle.lalrpop_norm_late.specs.Arguments.{part_list, has_pattern, names, IsFilled}
+use Rattle.lalrpop_norm_late.specs.Arguments.{part_list, names, IsFilled}
 use Rattle.lalrpop_norm_late.specs.Code.{written_code}
 use Rattle.lalrpop_norm_late.specs.Lowering.{start_name, start_alternative, lowered_symbols, type_or_unit, rule_type}
 use Rattle.lalrpop_norm_late.specs.Made.{user_body, body, made_action, made_starts, made_actions}
 use Rattle.lalrpop_norm_late.specs.Naming.{source_names}
 use Rattle.lalrpop_norm_late.specs.Shape.{start_clause, rule_clauses, IsCodeOf, IsKindOf, IsActionOf}
-use Rattle.lalrpop_norm_late.specs.Slots.{filled}
+use Rattle.lalrpop_norm_late.specs.Slots.{filled_code}
 use Rattle.lalrpop_norm_late.proofs.ActionLemmas.{HasTypes, IsStartReady, zip_types, zip_append}
 use Rattle.lalrpop_norm_late.proofs.ArgumentLemmas.{named_listed, patterns_counted, names_counted}
 use Rattle.lalrpop_norm_late.proofs.SlotLemmas.{is_filled}
@@ -29,12 +29,12 @@ pub record IsSound (types new : TypeTable) (a : AlternativeData) : Type 0 where
 code_made : (prefix : List ℕ) (types new : TypeTable) (type : ReprData) (a : AlternativeData) → IsSound types new a → IsCodeOf prefix new type a (user_body prefix types type a)
 code_made prefix types new type a sound =
     let ns : List (List ℕ) = source_names prefix a.parts in
-    let code : List ℕ = filled (some_name_value a.parts) (source_names prefix a.parts) (written_code type (source_names prefix a.parts) a.action) in
-    let is : IsFilled (some_name_value a.parts) (source_names prefix a.parts) (written_code type (source_names prefix a.parts) a.action) (filled (some_name_value a.parts) (source_names prefix a.parts) (written_code type (source_names prefix a.parts) a.action)) =
+    let code : List ℕ = filled_code (some_name_value a.parts) (source_names prefix a.parts) (written_code type (source_names prefix a.parts) a.action) in
+    let is : IsFilled (some_name_value a.parts) (source_names prefix a.parts) (written_code type (source_names prefix a.parts) a.action) (filled_code (some_name_value a.parts) (source_names prefix a.parts) (written_code type (source_names prefix a.parts) a.action)) =
     is_filled (some_name_value a.parts) (source_names prefix a.parts) (written_code type (source_names prefix a.parts) a.action) (enough prefix type ns a sound.counted) in
     record {
       argument_types = map (type_or_unit types) (lowered_symbols a.parts);
-      code = filled (some_name_value a.parts) (source_names prefix a.parts) (written_code type (source_names prefix a.parts) a.action);
+      code = filled_code (some_name_value a.parts) (source_names prefix a.parts) (written_code type (source_names prefix a.parts) a.action);
       is = ap (λ ps. user ps (map (type_or_unit types) (lowered_symbols a.parts)) code) (patterns_counted prefix a.parts);
       typed = zip_types types new (lowered_symbols a.parts) sound.typed;
       filled = subst (λ b. IsFilled b (names prefix (part_list a.parts)) (written_code type (names prefix (part_list a.parts)) a.action) code) (sym (named_listed a.parts))

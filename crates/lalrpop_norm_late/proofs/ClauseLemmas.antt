@@ -11,7 +11,8 @@ use Rattle.lalrpop_norm_parts.specs.Attributes.{no_attributes}
 use Rattle.lalrpop_norm_tree.specs.Items.{AlternativeData, RuleData}
 use Rattle.lalrpop_norm_repr.specs.Productions.{ProductionData, EntryData}
 use Rattle.lalrpop_norm_late.specs.Lowering.{start_name, start_alternative, production_of, productions_from, start_rows, rule_rows}
-use Rattle.lalrpop_norm_late.specs.Shape.{Clause, start_clause, rule_clauses, productions_named, start_entry_of, rule_entry_of}
+use Rattle.lalrpop_norm_late.specs.Shape.{OwnedAlternative, start_clause, rule_clauses, productions_named, start_entry_of, rule_entry_of}
+use Rattle.lalrpop_norm_theory.proofs.BoolLemmas.{left_false, right_false}
 
 pub enumerate_append : {A : Type 0} (k : ℕ) (xs ys : List A) → enumerate_from k (xs ++ ys) ≡ enumerate_from k xs ++ enumerate_from (k + length xs) ys
 enumerate_append k [] ys = ap (λ n. enumerate_from n ys) (omega arith)
@@ -21,39 +22,31 @@ enumerate_append k (x ∷ xs) ys =
 
 -- ---- the productions of a name, from number k on
 
-abbrev pub named_from : NonterminalString → ℕ → List Clause → List ProductionData
+abbrev pub named_from : NonterminalString → ℕ → List OwnedAlternative → List ProductionData
 named_from n k cs = map (λ e. production_of n e.0 e.1.1) (filter (λ e. bytes_eq n.0 e.1.0.0) (enumerate_from k cs))
 
-abbrev pub has_name : NonterminalString → List Clause → Bool
+abbrev pub has_name : NonterminalString → List OwnedAlternative → Bool
 has_name n cs = list_any (λ c. bytes_eq n.0 c.0.0) cs
 
-named_append : (n : NonterminalString) (k : ℕ) (xs ys : List Clause) → named_from n k (xs ++ ys) ≡ named_from n k xs ++ named_from n (k + length xs) ys
+named_append : (n : NonterminalString) (k : ℕ) (xs ys : List OwnedAlternative) → named_from n k (xs ++ ys) ≡ named_from n k xs ++ named_from n (k + length xs) ys
 named_append n k xs ys =
-    let test : ℕ × Clause → Bool = λ (e : ℕ × Clause). bytes_eq n.0 e.1.0.0 in
-    let made : ℕ × Clause → ProductionData = λ (e : ℕ × Clause). production_of n e.0 e.1.1 in
-    ap (λ (es : List (ℕ × Clause)). map made (filter test es)) (enumerate_append k xs ys)
+    let test : ℕ × OwnedAlternative → Bool = λ (e : ℕ × OwnedAlternative). bytes_eq n.0 e.1.0.0 in
+    let made : ℕ × OwnedAlternative → ProductionData = λ (e : ℕ × OwnedAlternative). production_of n e.0 e.1.1 in
+    ap (λ (es : List (ℕ × OwnedAlternative)). map made (filter test es)) (enumerate_append k xs ys)
     ∙ ap (map made) (filter-append test (enumerate_from k xs) (enumerate_from (k + length xs) ys))
     ∙ map-append made (filter test (enumerate_from k xs)) (filter test (enumerate_from (k + length xs) ys))
-
-pub or_left : (a b : Bool) → (a || b) ≡ false → a ≡ false
-or_left true b h = cc
-or_left false b h = refl
-
-pub or_right : (a b : Bool) → (a || b) ≡ false → b ≡ false
-or_right true b h = cc
-or_right false b h = h
 
 pub or_neither : (a b : Bool) → a ≡ false → b ≡ false → (a || b) ≡ false
 or_neither true b h i = cc
 or_neither false b h i = i
 
-named_none : (n : NonterminalString) (k : ℕ) (cs : List Clause) → has_name n cs ≡ false → named_from n k cs ≡ []
+named_none : (n : NonterminalString) (k : ℕ) (cs : List OwnedAlternative) → has_name n cs ≡ false → named_from n k cs ≡ []
 named_none n k [] h = refl
 named_none n k (c ∷ cs) h =
-    let made : List (ℕ × Clause) → List ProductionData = map (λ (e : ℕ × Clause). production_of n e.0 e.1.1) in
-    let rest : List (ℕ × Clause) = filter (λ (e : ℕ × Clause). bytes_eq n.0 e.1.0.0) (enumerate_from (k + 1) cs) in
-    ap (λ b. made (cond b ((k, c) ∷ rest) rest)) (or_left (bytes_eq n.0 c.0.0) (has_name n cs) h)
-    ∙ named_none n (k + 1) cs (or_right (bytes_eq n.0 c.0.0) (has_name n cs) h)
+    let made : List (ℕ × OwnedAlternative) → List ProductionData = map (λ (e : ℕ × OwnedAlternative). production_of n e.0 e.1.1) in
+    let rest : List (ℕ × OwnedAlternative) = filter (λ (e : ℕ × OwnedAlternative). bytes_eq n.0 e.1.0.0) (enumerate_from (k + 1) cs) in
+    ap (λ b. made (cond b ((k, c) ∷ rest) rest)) (left_false (bytes_eq n.0 c.0.0) (has_name n cs) h)
+    ∙ named_none n (k + 1) cs (right_false (bytes_eq n.0 c.0.0) (has_name n cs) h)
 
 same_bytes : (a : List ℕ) → bytes_eq a a ≡ true
 same_bytes a = nat_list_eq_equiv.refl a
@@ -61,13 +54,13 @@ same_bytes a = nat_list_eq_equiv.refl a
 named_all : (n : NonterminalString) (k : ℕ) (alts : List AlternativeData) → named_from n k (map (λ a. (n, a)) alts) ≡ productions_from n k alts
 named_all n k [] = refl
 named_all n k (a ∷ alts) =
-    let made : List (ℕ × Clause) → List ProductionData = map (λ (e : ℕ × Clause). production_of n e.0 e.1.1) in
-    let rest : List (ℕ × Clause) = filter (λ (e : ℕ × Clause). bytes_eq n.0 e.1.0.0) (enumerate_from (k + 1) (map (λ (b : AlternativeData). (n, b)) alts)) in
+    let made : List (ℕ × OwnedAlternative) → List ProductionData = map (λ (e : ℕ × OwnedAlternative). production_of n e.0 e.1.1) in
+    let rest : List (ℕ × OwnedAlternative) = filter (λ (e : ℕ × OwnedAlternative). bytes_eq n.0 e.1.0.0) (enumerate_from (k + 1) (map (λ (b : AlternativeData). (n, b)) alts)) in
     ap (λ b. made (cond b ((k, (n, a)) ∷ rest) rest)) (same_bytes n.0)
     ∙ ap (λ ps. production_of n k a ∷ ps) (named_all n (k + 1) alts)
 
 -- the productions of a name that only one stretch of the list has
-named_between : (n : NonterminalString) (before here after : List Clause) (ps : List ProductionData) → has_name n before ≡ false → has_name n after ≡ false → named_from n (length before) here ≡ ps
+named_between : (n : NonterminalString) (before here after : List OwnedAlternative) (ps : List ProductionData) → has_name n before ≡ false → has_name n after ≡ false → named_from n (length before) here ≡ ps
     → productions_named n (before ++ (here ++ after)) ≡ ps
 named_between n before here after ps none_before none_after is =
     named_append n 0 before (here ++ after)
@@ -83,22 +76,22 @@ named_between n before here after ps none_before none_after is =
 abbrev pub AreApart : NonterminalString → List RuleData → Type 0
 AreApart n rs = AllByRecursion (λ r. bytes_eq n.0 r.name.0 ≡ false) rs
 
-abbrev pub LackNames : List RuleData → List Clause → Type 0
+abbrev pub LackNames : List RuleData → List OwnedAlternative → Type 0
 LackNames rs cs = AllByRecursion (λ r. has_name r.name cs ≡ false) rs
 
 apart_here : (n m : NonterminalString) (alts : List AlternativeData) → bytes_eq n.0 m.0 ≡ false → has_name n (map (λ a. (m, a)) alts) ≡ false
 apart_here n m [] h = refl
 apart_here n m (a ∷ alts) h = or_neither (bytes_eq n.0 m.0) (has_name n (map (λ b. (m, b)) alts)) h (apart_here n m alts h)
 
-has_append : (n : NonterminalString) (xs ys : List Clause) → has_name n xs ≡ false → has_name n ys ≡ false → has_name n (xs ++ ys) ≡ false
+has_append : (n : NonterminalString) (xs ys : List OwnedAlternative) → has_name n xs ≡ false → has_name n ys ≡ false → has_name n (xs ++ ys) ≡ false
 has_append n [] ys h i = i
-has_append n (x ∷ xs) ys h i = or_neither (bytes_eq n.0 x.0.0) (has_name n (xs ++ ys)) (or_left (bytes_eq n.0 x.0.0) (has_name n xs) h) (has_append n xs ys (or_right (bytes_eq n.0 x.0.0) (has_name n xs) h) i)
+has_append n (x ∷ xs) ys h i = or_neither (bytes_eq n.0 x.0.0) (has_name n (xs ++ ys)) (left_false (bytes_eq n.0 x.0.0) (has_name n xs) h) (has_append n xs ys (right_false (bytes_eq n.0 x.0.0) (has_name n xs) h) i)
 
 pub apart_all : (n : NonterminalString) (rs : List RuleData) → AreApart n rs → has_name n (flat_map rule_clauses rs) ≡ false
 apart_all n [] h = refl
 apart_all n (r ∷ rs) h = has_append n (rule_clauses r) (flat_map rule_clauses rs) (apart_here n r.name r.alternatives h.0) (apart_all n rs h.1)
 
-lack_more : (r : RuleData) (rs : List RuleData) (cs : List Clause) → AreApart r.name rs → LackNames rs cs → LackNames rs (cs ++ rule_clauses r)
+lack_more : (r : RuleData) (rs : List RuleData) (cs : List OwnedAlternative) → AreApart r.name rs → LackNames rs cs → LackNames rs (cs ++ rule_clauses r)
 lack_more r [] cs h i = tt
 lack_more r (s ∷ rs) cs h i = (
   has_append s.name cs (rule_clauses r) i.0 (apart_here s.name r.name r.alternatives (nat_list_eq_equiv.symm s.name.0 r.name.0 ∙ h.0)),
@@ -111,7 +104,7 @@ AllApart [] = Unit {0}
 AllApart (r ∷ rs) = AreApart r.name rs × AllApart rs
 
 -- the counted rows of rules are those by places
-pub rule_rows_named : (before : List Clause) (rs : List RuleData) (clauses : List Clause) → before ++ flat_map rule_clauses rs ≡ clauses → LackNames rs before → AllApart rs
+pub rule_rows_named : (before : List OwnedAlternative) (rs : List RuleData) (clauses : List OwnedAlternative) → before ++ flat_map rule_clauses rs ≡ clauses → LackNames rs before → AllApart rs
     → rule_rows (length before) rs ≡ map (rule_entry_of clauses) rs
 rule_rows_named before [] clauses e lack apart = refl
 rule_rows_named before (r ∷ rs) clauses e lack apart =
@@ -132,10 +125,10 @@ append_same [] a b = refl
 append_same (x ∷ p) a b = ap (λ t. t && bytes_eq (p ++ a) (p ++ b)) (nat_eq_equiv.refl x) ∙ append_same p a b
 
 module _ (prefix : List ℕ) where
-  abbrev pub LackStarts : List RuleData → List Clause → Type 0
+  abbrev pub LackStarts : List RuleData → List OwnedAlternative → Type 0
   LackStarts rs cs = AllByRecursion (λ r. has_name (start_name prefix r.name) cs ≡ false) rs
 
-  lack_start : (r : RuleData) (rs : List RuleData) (cs : List Clause) → AreApart r.name rs → LackStarts rs cs → LackStarts rs (cs ++ start_clause prefix r ∷ [])
+  lack_start : (r : RuleData) (rs : List RuleData) (cs : List OwnedAlternative) → AreApart r.name rs → LackStarts rs cs → LackStarts rs (cs ++ start_clause prefix r ∷ [])
   lack_start r [] cs h i = tt
   lack_start r (s ∷ rs) cs h i = (
     has_append (start_name prefix s.name) cs (start_clause prefix r ∷ []) i.0
@@ -148,12 +141,12 @@ module _ (prefix : List ℕ) where
   starts_apart r (s ∷ rs) h =
       or_neither (bytes_eq (prefix ++ r.name.0) (prefix ++ s.name.0)) (has_name (start_name prefix r.name) (map (start_clause prefix) rs)) (append_same prefix r.name.0 s.name.0 ∙ h.0) (starts_apart r rs h.1)
 
-  pub start_rows_named : (before : List Clause) (rs : List RuleData) (after clauses : List Clause) → before ++ (map (start_clause prefix) rs ++ after) ≡ clauses → LackStarts rs before → LackStarts rs after → AllApart rs
+  pub start_rows_named : (before : List OwnedAlternative) (rs : List RuleData) (after clauses : List OwnedAlternative) → before ++ (map (start_clause prefix) rs ++ after) ≡ clauses → LackStarts rs before → LackStarts rs after → AllApart rs
       → start_rows prefix (length before) rs ≡ map (start_entry_of prefix clauses) rs
   start_rows_named before [] after clauses e lack lack_after apart = refl
   start_rows_named before (r ∷ rs) after clauses e lack lack_after apart =
       let n : NonterminalString = start_name prefix r.name in
-      let one : List Clause = start_clause prefix r ∷ [] in
+      let one : List OwnedAlternative = start_clause prefix r ∷ [] in
       let here : productions_named n clauses ≡ production_of n (length before) (start_alternative r) ∷ [] =
       ap (productions_named n) (sym e)
       ∙ named_between n before one (map (start_clause prefix) rs ++ after) (production_of n (length before) (start_alternative r) ∷ []) lack.0

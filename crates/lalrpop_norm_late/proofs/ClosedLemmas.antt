@@ -23,11 +23,12 @@ use Rattle.lalrpop_norm_repr.specs.Lowered.{LoweredGrammar}
 use Rattle.lalrpop_norm_repr.specs.Productions.{EntryData}
 use Rattle.lalrpop_norm_repr.specs.Tables.{TypeTable, type_of, found}
 use Rattle.lalrpop_norm_late.specs.Arguments.{part_list, patterns, pattern_at_place}
-use Rattle.lalrpop_norm_late.specs.Lowering.{public_rules, lowered_symbols, production_of}
-use Rattle.lalrpop_norm_late.specs.Shape.{Clause, clauses_of, IsCodeOf, IsKindOf, IsActionOf, productions_named, start_entry_of, rule_entry_of, entries_of, name_cmp}
+use Rattle.lalrpop_norm_late.specs.Lowering.{public_rules_in, lowered_symbols, production_of}
+use Rattle.lalrpop_norm_late.specs.Shape.{OwnedAlternative, alternatives_in_order, IsCodeOf, IsKindOf, IsActionOf, productions_named, start_entry_of, rule_entry_of, lowered_entries, name_cmp}
 use Rattle.lalrpop_norm_late.proofs.ApartLemmas.{IsNamedIn}
 use Rattle.lalrpop_norm_late.proofs.ClauseLemmas.{named_from}
 use Rattle.lalrpop_norm_late.proofs.KeyLaws.{same_name, names_decide, names_total, found_is}
+use Rattle.lalrpop_norm_util.proofs.ListLemmas.{some_inner}
 
 -- ---- lists
 
@@ -65,11 +66,11 @@ kind_arguments prefix types type a kind (Some lookbehind_code) h = subst (HasArg
 
 -- ---- productions of a name
 
-abbrev pub IsDefinedClause : LoweredGrammar → Clause → Type 0
+abbrev pub IsDefinedClause : LoweredGrammar → OwnedAlternative → Type 0
 IsDefinedClause l c = AllByRecursion (IsDefined l) (lowered_symbols c.1.parts)
 
 module _ (prefix : List ℕ) (l : LoweredGrammar) (n : NonterminalString) where
-  closed_one : (k : ℕ) (c : Clause) (d : ActionData) → bytes_eq n.0 c.0.0 ≡ true → slice_get l.actions k ≡ Some d → IsActionOf prefix l.types c d → IsDefinedClause l c → IsClosedProduction l n (production_of n k c.1)
+  closed_one : (k : ℕ) (c : OwnedAlternative) (d : ActionData) → bytes_eq n.0 c.0.0 ≡ true → slice_get l.actions k ≡ Some d → IsActionOf prefix l.types c d → IsDefinedClause l c → IsClosedProduction l n (production_of n k c.1)
   closed_one k c d is at h defined = record {
     nonterminal = refl;
     symbols = All-from_recursion (IsDefined l) (lowered_symbols c.1.parts) defined;
@@ -79,14 +80,14 @@ module _ (prefix : List ℕ) (l : LoweredGrammar) (n : NonterminalString) where
     arguments = kind_arguments prefix l.types d.ret_type c.1 d.kind c.1.action h.kind;
   }
 
-  pub closed_from : (k : ℕ) (cs : List Clause) (ds : List ActionData) → ((i : ℕ) (d : ActionData) → slice_get ds i ≡ Some d → slice_get l.actions (k + i) ≡ Some d) → AllZip (IsActionOf prefix l.types) cs ds → AllByRecursion (IsDefinedClause l) cs
+  pub closed_from : (k : ℕ) (cs : List OwnedAlternative) (ds : List ActionData) → ((i : ℕ) (d : ActionData) → slice_get ds i ≡ Some d → slice_get l.actions (k + i) ≡ Some d) → AllZip (IsActionOf prefix l.types) cs ds → AllByRecursion (IsDefinedClause l) cs
       → AllByRecursion (IsClosedProduction l n) (named_from n k cs)
   closed_from k [] ds stand h defined = tt
   closed_from k (c ∷ cs) [] stand h defined = absurd h
   closed_from k (c ∷ cs) (d ∷ ds) stand h defined =
       by (bytes_eq n.0 c.0.0) refl (closed_from (k + 1) cs ds (λ i e at. ap (slice_get l.actions) (omega arith) ∙ stand (suc i) e at) h.1 defined.1)
     where
-      rest : List (ℕ × Clause)
+      rest : List (ℕ × OwnedAlternative)
       rest = filter (λ e. bytes_eq n.0 e.1.0.0) (enumerate_from (k + 1) cs)
 
       here : slice_get l.actions k ≡ Some d
@@ -99,27 +100,24 @@ module _ (prefix : List ℕ) (l : LoweredGrammar) (n : NonterminalString) where
 
 -- ---- looking up
 
-abbrev pub HoldsNamed : List Clause → NonterminalString × EntryData → Type 0
+abbrev pub HoldsNamed : List OwnedAlternative → NonterminalString × EntryData → Type 0
 HoldsNamed clauses r = r.1.productions ≡ productions_named r.0 clauses
 
-pub all_hold : (prefix : List ℕ) (rules : List RuleData) → AllByRecursion (HoldsNamed (clauses_of prefix rules)) (entries_of prefix rules)
+pub all_hold : (prefix : List ℕ) (rules : List RuleData) → AllByRecursion (HoldsNamed (alternatives_in_order prefix rules)) (lowered_entries prefix rules)
 all_hold prefix rules =
-    let clauses : List Clause = clauses_of prefix rules in
-    join_all (HoldsNamed clauses) (map (start_entry_of prefix clauses) (public_rules rules)) (map (rule_entry_of clauses) rules) (starts (public_rules rules)) (each rules)
+    let clauses : List OwnedAlternative = alternatives_in_order prefix rules in
+    join_all (HoldsNamed clauses) (map (start_entry_of prefix clauses) (public_rules_in rules)) (map (rule_entry_of clauses) rules) (starts (public_rules_in rules)) (each rules)
   where
-    starts : (rs : List RuleData) → AllByRecursion (HoldsNamed (clauses_of prefix rules)) (map (start_entry_of prefix (clauses_of prefix rules)) rs)
+    starts : (rs : List RuleData) → AllByRecursion (HoldsNamed (alternatives_in_order prefix rules)) (map (start_entry_of prefix (alternatives_in_order prefix rules)) rs)
     starts [] = tt
     starts (r ∷ rs) = (refl, starts rs)
 
-    each : (rs : List RuleData) → AllByRecursion (HoldsNamed (clauses_of prefix rules)) (map (rule_entry_of (clauses_of prefix rules)) rs)
+    each : (rs : List RuleData) → AllByRecursion (HoldsNamed (alternatives_in_order prefix rules)) (map (rule_entry_of (alternatives_in_order prefix rules)) rs)
     each [] = tt
     each (r ∷ rs) = (refl, each rs)
 
-pub some_inner : {A : Type 0} (x y : A) → Some x ≡ Some y → x ≡ y
-some_inner x y h = cc
-
 -- what is found has the productions of that name
-pub found_holds : (clauses : List Clause) (n : NonterminalString) (e : EntryData) (rows : List (NonterminalString × EntryData)) → AllByRecursion (HoldsNamed clauses) rows → found n rows ≡ Some e → e.productions ≡ productions_named n clauses
+pub found_holds : (clauses : List OwnedAlternative) (n : NonterminalString) (e : EntryData) (rows : List (NonterminalString × EntryData)) → AllByRecursion (HoldsNamed clauses) rows → found n rows ≡ Some e → e.productions ≡ productions_named n clauses
 found_holds clauses n e [] h is = cc
 found_holds clauses n e (r ∷ rows) h is = by (bytes_eq n.0 r.0.0) refl is (found_holds clauses n e rows h.1)
   where
@@ -137,7 +135,7 @@ found_at_place rows sorted i r at =
     ∙ tests_agree (same_name r.0) (eq_by_cmp name_cmp r.0) (λ x. sym (is_eq-slice_cmp r.0.0 x.0)) rows
     ∙ lookup_from_place (eq_by_cmp_equiv names_total) rows i r.0 r.1 (IsDistinct-from_sorted name_cmp (keys_of rows) sorted) at
 
-pub entry_some : (clauses : List Clause) (n : NonterminalString) (rs : List RuleData) → IsNamedIn rs n → IsSome (found n (map (rule_entry_of clauses) rs))
+pub entry_some : (clauses : List OwnedAlternative) (n : NonterminalString) (rs : List RuleData) → IsNamedIn rs n → IsSome (found n (map (rule_entry_of clauses) rs))
 entry_some clauses n [] h = cc
 entry_some clauses n (r ∷ rs) h = by (bytes_eq n.0 r.name.0) h (entry_some clauses n rs)
   where

@@ -1,22 +1,16 @@
 -- Codes and their first `<>`.
-use Rattle.std.proofs.Common.{◌≡◌, ◌∙◌, ℕ, Bool, true, false, cond, ◌&&◌, List, [], ◌∷◌, ◌++◌, drop, Option, Some, None, refl, sym, ap, codes, option_map, eqb, subst}
+use Rattle.std.proofs.Common.{◌≡◌, ◌∙◌, ℕ, Bool, true, false, cond, List, [], ◌∷◌, ◌++◌, drop, Option, Some, None, refl, sym, ap, codes, option_map, eqb, subst}
 use Rattle.std.proofs.lemmas.Bool.Decides.{Decides-eqb}
-use Rattle.lalrpop_norm_front.specs.Braces.{is_slot, around_slot}
-
-both : (a b : Bool) → (a && b) ≡ true → (a ≡ true) × (b ≡ true)
-both true true h = (refl, refl)
-both true false h = cc
-both false b h = cc
-
-some_inner : {A : Type 0} (x y : A) → Some x ≡ Some y → x ≡ y
-some_inner x y h = cc
+use Rattle.lalrpop_norm_util.specs.Braces.{is_slot, around_slot}
+use Rattle.lalrpop_norm_theory.proofs.BoolLemmas.{both_true}
+use Rattle.lalrpop_norm_util.proofs.ListLemmas.{some_inner}
 
 -- a slot at the front
 pub slot_front : (s : List ℕ) → is_slot s ≡ true → s ≡ codes "<>" ++ drop 2 s
 slot_front [] h = cc
 slot_front (a ∷ []) h = cc
 slot_front (a ∷ b ∷ rest) h =
-    let hs = both (eqb a 60) (eqb b 62) h in
+    let hs = both_true (eqb a 60) (eqb b 62) h in
     let first : a ≡ 60 = (Decides-eqb a 60).0 hs.0 in
     let second : b ≡ 62 = (Decides-eqb b 62).0 hs.1 in
     cc

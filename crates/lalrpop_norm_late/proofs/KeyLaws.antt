@@ -21,7 +21,7 @@ use Rattle.lalrpop_norm_parts.specs.declared.names.TerminalString.TheVariants.{L
 use Rattle.lalrpop_norm_repr.specs.Tables.{found, found_terminal, same_literal, same_terminal}
 use Rattle.lalrpop_norm_repr.proofs.TableLemmas.{terminals_same}
 use Rattle.lalrpop_norm_late.specs.Conversions.{literal_cmp, terminal_cmp, sorted_terminals}
-use Rattle.lalrpop_norm_late.specs.Lowering.{sorted_onto, with_row}
+use Rattle.lalrpop_norm_late.specs.Lowering.{sorted_onto, with_entry}
 use Rattle.lalrpop_norm_late.specs.Shape.{name_cmp, IsNameTable, IsTerminalTable}
 use Rattle.lalrpop_norm_late.proofs.TableLemmas.{put_all, put_more, put_sorted, put_lookup}
 
@@ -65,7 +65,7 @@ found_is n (r ∷ rs) = ap (λ o. cond (bytes_eq n.0 r.0.0) (Some r.1) o) (found
 
 sorted_is : {V : Type 0} (es rs : List (NonterminalString × V)) → sorted_onto es rs ≡ put_all name_cmp es rs
 sorted_is es [] = refl
-sorted_is es (r ∷ rs) = sorted_is (with_row es r) rs
+sorted_is es (r ∷ rs) = sorted_is (with_entry es r) rs
 
 pub sorted_joined : {V : Type 0} (xs ys : List (NonterminalString × V)) → sorted_onto (sorted_onto [] xs) ys ≡ sorted_onto [] (xs ++ ys)
 sorted_joined xs ys = sorted_is (sorted_onto [] xs) ys ∙ ap (λ es. put_all name_cmp es ys) (sorted_is [] xs) ∙ put_more name_cmp [] xs ys ∙ sym (sorted_is [] (xs ++ ys))

@@ -1,5 +1,4 @@
 pub mod LoopLemmas
-pub mod NamingLemmas
 pub mod PatternLemmas
 pub mod PatternLevels
 pub mod ArgumentLemmas

@@ -1,5 +1,5 @@
 -- Rows and attributes, one after the other.
-use Rattle.std.proofs.Common.{◌≡◌, ◌∙◌, ℕ, Bool, true, List, [], ◌∷◌, ◌++◌, ◌||◌, ◌&&◌, map, refl, sym, ap, append_assoc}
+use Rattle.std.proofs.Common.{◌≡◌, ◌∙◌, ℕ, Bool, true, List, [], ◌∷◌, ◌++◌, ◌||◌, map, refl, sym, ap, append_assoc}
 use Rattle.std.specs.Prelude.{fold}
 use Rattle.std.specs.BTreeMap.{insert_entry}
 use Rattle.std.specs.List.{list_any, AllByRecursion}
@@ -13,7 +13,7 @@ use Rattle.lalrpop_norm_parts.specs.declared.attribute.AttributeArg.TheFolds.{fo
 use Rattle.lalrpop_norm_parts.specs.Attributes.{Argument, AttributeData, attribute, attribute_and, argument_step, attribute_step, argument_view, attribute_view, attributes_view}
 use Rattle.lalrpop_norm_tree.specs.declared.symbol.Symbol.{Symbol}
 use Rattle.lalrpop_norm_tree.specs.declared.symbol.SymbolKind.TheFolds.{fold_out-Symbol}
-use Rattle.lalrpop_norm_tree.specs.Symbols.{Kind, Part, Parts, Call, Again, kind_step, expr_step, macro_step, repeat_step, symbol_step, at, kind_view, symbol_view}
+use Rattle.lalrpop_norm_tree.specs.Symbols.{Kind, Part, Parts, Call, Again, kind_step, expr_step, macro_step, repeat_step, symbol_step, symbol_view}
 use Rattle.lalrpop_norm_model.specs.Expanded.{is_known, all_known}
 use Rattle.lalrpop_norm_model.specs.MadeRules.{span_of}
 use Rattle.lalrpop_norm_model.specs.LoweringFaults.{last_of, span_over}
@@ -21,7 +21,7 @@ use Rattle.lalrpop_norm_model.specs.Sources.{Source}
 use Rattle.lalrpop_norm_late.specs.Carried.{attribute_names}
 use Rattle.lalrpop_norm_late.specs.Slots.{end_of}
 use Rattle.lalrpop_norm_late.specs.Conversions.{sorted_terminals, terminal_cmp}
-use Rattle.lalrpop_norm_late.proofs.SymbolCases.{both}
+use Rattle.lalrpop_norm_theory.proofs.BoolLemmas.{both_true}
 
 pub keys_more : {V : Type 0} (xs ys : List (TerminalString × V)) → keys_of (xs ++ ys) ≡ keys_of xs ++ keys_of ys
 keys_more xs ys = map-append (λ r. r.0) xs ys
@@ -46,7 +46,7 @@ names_cons a rest = ap (λ x. attribute_names (attribute_and x (attributes_view 
 
 pub known_each : (xs : List Attribute) → all_known (attributes_view xs) ≡ true → AllByRecursion (λ a. is_known_name a.id ≡ true) xs
 known_each [] h = tt
-known_each (a ∷ rest) h = let hs = both (is_known (attribute_view a)) (all_known (attributes_view rest)) h in (sym (ap is_known (attribute_is a)) ∙ hs.0, known_each rest hs.1)
+known_each (a ∷ rest) h = let hs = both_true (is_known (attribute_view a)) (all_known (attributes_view rest)) h in (sym (ap is_known (attribute_is a)) ∙ hs.0, known_each rest hs.1)
 
 pub names_any : (test : List ℕ → Bool) (xs : List Attribute) → list_any test (attribute_names (attributes_view xs)) ≡ list_any (λ a. test a.id) xs
 names_any test [] = refl

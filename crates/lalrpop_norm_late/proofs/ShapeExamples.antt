@@ -26,8 +26,9 @@ use Rattle.lalrpop_norm_repr.specs.Productions.{ProductionData, EntryData}
 use Rattle.lalrpop_norm_repr.specs.Tables.{TypeTable, found_terminal, new_table}
 use Rattle.lalrpop_norm_late.specs.Carried.{entry_rows, internal_pattern, lowered_clauses, asks_lalr, asked_code}
 use Rattle.lalrpop_norm_late.specs.Lowering.{start_alternative}
-use Rattle.lalrpop_norm_late.specs.Shape.{clauses_of, productions_named, entries_of}
+use Rattle.lalrpop_norm_late.specs.Shape.{alternatives_in_order, productions_named, lowered_entries}
 use Rattle.lalrpop_norm_late.specs.Sources.{plain_name}
+use Rattle.lalrpop_norm_util.proofs.ListLemmas.{some_inner}
 
 -- ---- the rule and its clauses
 
@@ -53,7 +54,7 @@ rule : RuleData
 rule = record { visibility = everywhere None; name = S; attributes = no_attributes; span = rule_span; args = []; type_decl = Some (written.tuple written.no_types); alternatives = body ∷ [] }
 
 -- the start symbol is first, then the alternative
-clauses_are : clauses_of (codes "__") (rule ∷ []) ≡ (start, start_alternative rule) ∷ (S, body) ∷ []
+clauses_are : alternatives_in_order (codes "__") (rule ∷ []) ≡ (start, start_alternative rule) ∷ (S, body) ∷ []
 unfolding rule start S
 clauses_are = refl
 
@@ -63,11 +64,11 @@ start_production = record { nonterminal = start; symbols = Nonterminal S ∷ [];
 body_production : ProductionData
 body_production = record { nonterminal = S; symbols = Terminal a ∷ []; action = record { 0 = 1 }; span = body_span }
 
-rule_productions : productions_named S (clauses_of (codes "__") (rule ∷ [])) ≡ body_production ∷ []
+rule_productions : productions_named S (alternatives_in_order (codes "__") (rule ∷ [])) ≡ body_production ∷ []
 unfolding rule start S body body_production
 rule_productions = refl
 
-start_productions : productions_named start (clauses_of (codes "__") (rule ∷ [])) ≡ start_production ∷ []
+start_productions : productions_named start (alternatives_in_order (codes "__") (rule ∷ [])) ≡ start_production ∷ []
 unfolding rule start S start_production
 start_productions = refl
 
@@ -79,7 +80,7 @@ start_entry = record { visibility = everywhere None; span = rule_span; attribute
 rule_entry : EntryData
 rule_entry = record { visibility = everywhere None; span = rule_span; attributes = no_attributes; productions = body_production ∷ [] }
 
-entries_are : entries_of (codes "__") (rule ∷ []) ≡ (start, start_entry) ∷ (S, rule_entry) ∷ []
+entries_are : lowered_entries (codes "__") (rule ∷ []) ≡ (start, start_entry) ∷ (S, rule_entry) ∷ []
 unfolding rule start S body body_production start_production start_entry rule_entry
 entries_are = refl
 
@@ -138,9 +139,6 @@ start_closed = record {
   answers = refl;
   arguments = (refl, (refl, tt));
 }
-
-some_inner : {A : Type 0} (x y : A) → Some x ≡ Some y → x ≡ y
-some_inner x y h = cc
 
 abbrev numbers : List (TerminalString × ℕ)
 numbers = (a, 0) ∷ []

@@ -1,15 +1,15 @@
 -- Codes cut at their `<>`, and filled.
-use Rattle.std.proofs.Common.{◌≡◌, ◌∙◌, ℕ, suc, ◌+◌, Bool, true, false, cond, not, ◌||◌, ◌&&◌, List, [], ◌∷◌, ◌++◌, length, map, drop, ◌<◌, Option, Some, None, refl, sym, ap, subst, codes, option_map, arith, length-append, add-one}
-use Rattle.std.specs.Prelude.{All, flat_map, zip, replicate, nat_eq, nat_le, if◌then◌else◌}
+use Rattle.std.proofs.Common.{◌≡◌, ◌∙◌, ℕ, suc, ◌+◌, Bool, true, false, cond, ◌||◌, ◌&&◌, List, [], ◌∷◌, ◌++◌, length, map, drop, ◌<◌, Option, Some, None, refl, sym, ap, subst, codes, option_map, arith, length-append, add-one}
+use Rattle.std.specs.Prelude.{flat_map, zip, replicate, nat_eq, nat_le}
 use Rattle.std.specs.List.{starts_with, AllByRecursion}
 use Rattle.std.specs.Cmp.{nat_eq_equiv}
 use Rattle.std.proofs.lemmas.List.{length-map, map-append, append_assoc}
 use Rattle.std.proofs.lemmas.List.Elements.{All-from_recursion}
 use Rattle.lalrpop_norm_parts.specs.Texts.{joined}
-use Rattle.lalrpop_norm_front.specs.Braces.{is_slot, around_slot}
+use Rattle.lalrpop_norm_util.specs.Braces.{is_slot, around_slot}
 use Rattle.lalrpop_norm_model.specs.LoweringFaults.{slots}
-use Rattle.lalrpop_norm_late.specs.Arguments.{ArePieces, in_slots, IsFilled}
-use Rattle.lalrpop_norm_late.specs.Slots.{Cut, cut_with, cut, pieces, in_order, filled}
+use Rattle.lalrpop_norm_late.specs.Arguments.{in_slots, IsFilled}
+use Rattle.lalrpop_norm_late.specs.Slots.{Cut, cut_with, cut, pieces, in_order, filled_code}
 use Rattle.lalrpop_norm_late.proofs.CodeLemmas.{first_slot, slot_front, not_in_front}
 
 -- ---- slots
@@ -124,7 +124,7 @@ alike x [] = refl
 alike x (o ∷ os) = ap (λ (xs : List ℕ). x ++ o ++ xs) (alike x os)
 
 -- where there are names enough, the code is filled
-pub is_filled : (is_named : Bool) (ns : List (List ℕ)) (code : List ℕ) → length (in_slots is_named ns (slots code)) ≡ slots code → IsFilled is_named ns code (filled is_named ns code)
+pub is_filled : (is_named : Bool) (ns : List (List ℕ)) (code : List ℕ) → length (in_slots is_named ns (slots code)) ≡ slots code → IsFilled is_named ns code (filled_code is_named ns code)
 is_filled is_named ns code enough = record {
   first = (cut code).0;
   others = (cut code).1;
@@ -177,12 +177,12 @@ module _ {X : Type 0} (f : X → List ℕ) (b : Bool) (ns : List (List ℕ)) (co
   same_test : (b || nat_le (length ps) 2) ≡ (b || nat_le (slots code) 1)
   same_test = ap (λ n. b || nat_le n 2) long_pieces ∙ ap (λ t. b || t) (one_fewer (slots code))
 
-  pub alike_filled : (b || nat_le (length ps) 2) ≡ true → joined (joined (codes ", ") ns) (map f ps) ≡ filled b ns code
+  pub alike_filled : (b || nat_le (length ps) 2) ≡ true → joined (joined (codes ", ") ns) (map f ps) ≡ filled_code b ns code
   alike_filled h =
       ap (joined (joined (codes ", ") ns)) is
       ∙ ap (λ t. cond t (joined (joined (codes ", ") ns) (pieces code)) (in_order ns (pieces code))) (sym (sym same_test ∙ h))
 
-  pub in_order_filled : (b || nat_le (length ps) 2) ≡ false → in_order ns (map f ps) ≡ filled b ns code
+  pub in_order_filled : (b || nat_le (length ps) 2) ≡ false → in_order ns (map f ps) ≡ filled_code b ns code
   in_order_filled h =
       ap (in_order ns) is
       ∙ ap (λ t. cond t (joined (joined (codes ", ") ns) (pieces code)) (in_order ns (pieces code))) (sym (sym same_test ∙ h))

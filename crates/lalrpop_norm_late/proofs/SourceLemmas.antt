@@ -1,23 +1,24 @@
 -- Sources as lowering reads them, and as the faults of lowering name them.
-use Rattle.std.proofs.Common.{◌≡◌, ◌∙◌, ℕ, suc, ◌+◌, Bool, true, false, cond, not, ◌||◌, ◌&&◌, List, [], ◌∷◌, ◌++◌, length, map, Option, Some, None, refl, sym, ap, subst, ◌≤◌, codes, add-one, arith}
+use Rattle.std.proofs.Common.{◌≡◌, ◌∙◌, ℕ, suc, ◌+◌, Bool, true, false, cond, not, ◌||◌, ◌&&◌, List, [], ◌∷◌, length, map, Option, Some, None, refl, sym, ap, subst, ◌≤◌, codes, add-one, arith}
 use Rattle.std.specs.Prelude.{replicate, nat_eq, nat_le}
 use Rattle.std.proofs.lemmas.Bool.Decides.{Decides-eqb}
 use Rattle.std.proofs.lemmas.List.{length-replicate}
-use Rattle.lalrpop_norm_parts.specs.declared.names.Span.{Span}
-use Rattle.lalrpop_norm_tree.specs.Symbols.{Kind, chosen, named, tupled, Part, at, Parts, no_parts, part_and}
+use Rattle.lalrpop_norm_tree.specs.Symbols.{chosen, named, tupled, at, Parts, no_parts, part_and}
 use Rattle.lalrpop_norm_tree.specs.Items.{Action, user_code, fallible_code, lookahead_code, lookbehind_code, AlternativeData}
 use Rattle.lalrpop_norm_parts.specs.Reprs.{ReprData, tuple, slice, nominal, associated, of_lifetime, reference, trait_object, function, no_reprs, repr_and}
 use Rattle.lalrpop_norm_parts.specs.Texts.{joined}
-use Rattle.lalrpop_norm_faults.specs.Faults.{Fault, fault_if}
+use Rattle.lalrpop_norm_faults.specs.Faults.{fault_if}
 use Rattle.lalrpop_norm_faults.specs.declared.kind.FaultKind.TheVariants.{Placeholders}
 use Rattle.lalrpop_norm_late.specs.Slots.{count_faults}
-use Rattle.lalrpop_norm_front.specs.ExprSymbols.{Placed, NamedPart, named_parts, chosen_parts, all_parts, SymbolsSeen, with_names, without_names, without_any, with_any, analyzed_symbols}
+use Rattle.lalrpop_norm_util.specs.ExprSymbols.{Placed, NamedPart, named_parts, chosen_parts, all_parts, SymbolsSeen, with_names, without_names, without_any, with_any, analyzed_symbols}
 use Rattle.lalrpop_norm_model.specs.LoweringFaults.{slots, code_in, code_faults, span_over}
 use Rattle.lalrpop_norm_model.specs.MadeRules.{some_name_value, if_any}
 use Rattle.lalrpop_norm_model.specs.Sources.{Source, named_sources, chosen_sources, all_sources, sources}
 use Rattle.lalrpop_norm_late.specs.Arguments.{in_slots}
 use Rattle.lalrpop_norm_late.specs.Code.{sources_code, absent_code, written_code}
-use Rattle.lalrpop_norm_late.specs.Naming.{has_chosen, names_from, source_names}
+use Rattle.lalrpop_norm_util.specs.Values.{has_chosen}
+use Rattle.lalrpop_norm_late.specs.Naming.{names_from, source_names}
+use Rattle.lalrpop_norm_faults.proofs.FaultLemmas.{not_fault}
 
 -- ---- how many there are
 
@@ -130,10 +131,6 @@ few_absent (reference l m t) ns = few_sources ns
 few_absent (trait_object p ts) ns = few_sources ns
 few_absent (function fs p ts r) ns = few_sources ns
 
-unfaulty : (b : Bool) (f : Fault) → fault_if b f ≡ [] → b ≡ false
-unfaulty true f h = cc
-unfaulty false f h = refl
-
 -- where it is not so that several `<>` are not as many as the sources
 written_enough : (is_named : Bool) (ns : List (List ℕ)) (n m : ℕ) → (is_named ≡ false → length ns ≡ m) → (not is_named && (nat_le 2 n && not (nat_eq n m))) ≡ false → length (in_slots is_named ns n) ≡ n
 written_enough true ns n m long h = replicated n (joined (codes ", ") ns)
@@ -151,7 +148,7 @@ written_enough false ns n m long h = by (nat_le n 1) refl (nat_le 2 n) refl (nat
 
 pub enough : (prefix : List ℕ) (type : ReprData) (ns : List (List ℕ)) (a : AlternativeData) → code_faults a ≡ []
     → length (in_slots (some_name_value a.parts) (source_names prefix a.parts) (slots (written_code type ns a.action))) ≡ slots (written_code type ns a.action)
-enough prefix type ns a h = by a.action (unfaulty _ _ h)
+enough prefix type ns a h = by a.action (not_fault _ _ h)
   where
     by : (o : Option Action) → (not (some_name_value a.parts) && (nat_le 2 (slots (code_in o)) && not (nat_eq (slots (code_in o)) (length (sources a.parts))))) ≡ false
         → length (in_slots (some_name_value a.parts) (source_names prefix a.parts) (slots (written_code type ns o))) ≡ slots (written_code type ns o)

@@ -1,7 +1,6 @@
 -- What holds of the terminals and nonterminals of plain symbols holds of what they are lowered to.
-use Rattle.std.proofs.Common.{◌≡◌, ◌∙◌, ℕ, Bool, true, false, ◌||◌, ◌&&◌, List, [], ◌∷◌, ◌++◌, refl, sym, ap, inl, inr}
+use Rattle.std.proofs.Common.{◌≡◌, ◌∙◌, ℕ, Bool, true, false, ◌||◌, List, [], ◌∷◌, refl, sym, ap, inl, inr}
 use Rattle.std.specs.List.{list_any, AllByRecursion}
-use Rattle.lalrpop_norm_parts.specs.declared.names.TerminalLiteral.{TerminalLiteral}
 use Rattle.lalrpop_norm_parts.specs.declared.names.TerminalString.{TerminalString}
 use Rattle.lalrpop_norm_parts.specs.declared.names.TerminalString.TheVariants as terminal_string
 use Rattle.lalrpop_norm_tree.specs.Items.{AlternativeData, RuleData}
@@ -14,11 +13,7 @@ use Rattle.lalrpop_norm_repr.specs.declared.symbol.Symbol.{Symbol}
 use Rattle.lalrpop_norm_repr.specs.declared.symbol.Symbol.TheVariants.{Nonterminal, Terminal}
 use Rattle.lalrpop_norm_late.specs.Carried.{is_error_kind, is_error, any_error, uses_recovery}
 use Rattle.lalrpop_norm_late.specs.Lowering.{lowered_kind, lowered_symbol, lowered_symbols}
-
-pub both : (a b : Bool) → (a && b) ≡ true → (a ≡ true) × (b ≡ true)
-both true true h = (refl, refl)
-both true false h = cc
-both false b h = cc
+use Rattle.lalrpop_norm_theory.proofs.BoolLemmas.{both_true}
 
 pub or_first : (a b : Bool) → a ≡ true → (a || b) ≡ true
 or_first true b h = refl
@@ -58,7 +53,7 @@ mutual
 pub parts_by : (P : Symbol → Type 0) (ps : Parts) → are_plain ps ≡ true → AtNames P (names_in_parts ps) → AtTerminals P (terminals_in_parts ps) → AtError P (any_error ps) → AllByRecursion P (lowered_symbols ps)
 parts_by P no_parts h ns ts e = tt
 parts_by P (part_and p ps) h ns ts e =
-    let hs = both (is_plain p) (are_plain ps) h in (
+    let hs = both_true (is_plain p) (are_plain ps) h in (
       part_by P p hs.0 (λ n i. ns n (in_left n (names_in p) (names_in_parts ps) i)) (λ t i. ts t (in_left t (terminals_in p) (terminals_in_parts ps) i)) (λ i. e (or_first (is_error p) (any_error ps) i)),
       parts_by P ps hs.1 (λ n i. ns n (in_right n (names_in p) (names_in_parts ps) i)) (λ t i. ts t (in_right t (terminals_in p) (terminals_in_parts ps) i)) (λ i. e (or_second (is_error p) (any_error ps) i)),
     )

@@ -1,6 +1,6 @@
 -- Terminals and their tokens: as they are counted, and as the grammar's active conversions or entries.
-use Rattle.std.proofs.Common.{◌≡◌, ◌∙◌, ℕ, suc, ◌+◌, ◌≤◌, ◌<◌, Bool, true, false, cond, List, [], ◌∷◌, ◌++◌, length, map, get_or, Option, Some, None, refl, sym, ap, subst, option_map, inl, inr, ◌⊎◌, arith, Decides}
-use Rattle.std.specs.Prelude.{All, Contains, flat_map, filter, filter_map, option_to_list}
+use Rattle.std.proofs.Common.{◌≡◌, ◌∙◌, ℕ, suc, ◌+◌, ◌≤◌, ◌<◌, Bool, true, false, cond, List, [], ◌∷◌, ◌++◌, length, map, Option, Some, None, refl, sym, ap, subst, option_map, inl, inr, ◌⊎◌, arith}
+use Rattle.std.specs.Prelude.{Contains, flat_map, filter, filter_map, option_to_list}
 use Rattle.std.specs.List.{cons_option, enumerate_from, AllByRecursion}
 use Rattle.std.specs.List as lists
 use Rattle.std.specs.Map.{keys_of}
@@ -12,20 +12,21 @@ use Rattle.lalrpop_norm_parts.specs.declared.names.Span.{Span}
 use Rattle.lalrpop_norm_parts.specs.declared.names.TerminalString.{TerminalString}
 use Rattle.lalrpop_norm_parts.specs.declared.names.TerminalString.TheVariants.{Error}
 use Rattle.lalrpop_norm_tree.specs.Accessors.{or_else, first_of, enum_token_of, intern_token_of}
-use Rattle.lalrpop_norm_tree.specs.Items.{ItemData, match_item, extern_item, intern_item, rule_item, use_item, ConversionData, EnumTokenData, ExternTokenData, InternTokenData, GrammarData, RuleData}
+use Rattle.lalrpop_norm_tree.specs.Items.{ItemData, match_item, extern_item, intern_item, rule_item, use_item, ConversionData, EnumTokenData, InternTokenData, GrammarData}
 use Rattle.lalrpop_norm_tree.specs.LoweredTypes.{repr_of}
 use Rattle.lalrpop_norm_tree.specs.Types.{TypeData}
 use Rattle.lalrpop_norm_theory.specs.Rounds.{In, IsDistinct}
 use Rattle.lalrpop_norm_theory.proofs.RoundsLemmas.{in_left, in_right, in_cases}
 use Rattle.lalrpop_norm_model.specs.Enabled.{enabled_enum}
 use Rattle.lalrpop_norm_model.specs.Entries.{user_names}
-use Rattle.lalrpop_norm_model.specs.Expanded.{types_in_enum, types_in_extern, enum_in, intern_in, enums, interns, converted, mapped as all_mapped, terminals_converted, terminals_with, terminals_of, IsExpanded, IsTyped}
+use Rattle.lalrpop_norm_model.specs.Expanded.{types_in_enum, types_in_extern, enum_in, intern_in, enums, interns, terminals_converted, terminals_with, terminals_of, IsExpanded}
 use Rattle.lalrpop_norm_model.specs.Features.{Features, is_active}
-use Rattle.lalrpop_norm_model.specs.TerminalTypes.{chosen_in, extern_enum, entries_of, intern_entries}
+use Rattle.lalrpop_norm_model.specs.TerminalTypes.{chosen_in_pattern, entries_of}
 use Rattle.lalrpop_norm_repr.specs.Tables.{same_terminal}
 use Rattle.lalrpop_norm_late.specs.Active.{active_item, active_grammar}
-use Rattle.lalrpop_norm_late.specs.Carried.{TokenRow, internal_pattern, terminal_named, item_tokens, tokens_of}
-use Rattle.lalrpop_norm_late.specs.Conversions.{conversions_in, mapped}
+use Rattle.lalrpop_norm_late.specs.Carried.{TokenRow, internal_pattern, terminal_of_mapping, item_tokens, tokens_of}
+use Rattle.lalrpop_norm_model.specs.Scopes.{conversions_in}
+use Rattle.lalrpop_norm_late.specs.Conversions.{mapped_pattern}
 use Rattle.lalrpop_norm_late.specs.Made.{conversion_rows, row_named, row_of_entry, entry_rows_from, token_rows, made_tokens}
 use Rattle.lalrpop_norm_late.specs.Typing.{lowered_type}
 use Rattle.lalrpop_norm_late.proofs.KeyLaws.{terminals_decide}
@@ -37,32 +38,32 @@ abbrev active : Features → List ConversionData → List ConversionData
 active fs cs = filter (λ (c : ConversionData). is_active fs c.attributes) cs
 
 abbrev row_read : ConversionData → TokenRow
-row_read c = (c.from, mapped repr_of c.to)
+row_read c = (c.from, mapped_pattern repr_of c.to)
 
 abbrev chosen_types : List ConversionData → List TypeData
-chosen_types cs = flat_map (λ (c : ConversionData). chosen_in c.to) cs
+chosen_types cs = flat_map (λ (c : ConversionData). chosen_in_pattern c.to) cs
 
 conversions_read : (fs : Features) (cs : List ConversionData) → AreRead (chosen_types cs) → conversion_rows fs cs ≡ map row_read (active fs cs)
 conversions_read fs [] h = refl
 conversions_read fs (c ∷ cs) h =
-    by (is_active fs c.attributes) (conversions_read fs cs (λ t i. h t (in_right t (chosen_in c.to) (chosen_types cs) i)))
+    by (is_active fs c.attributes) (conversions_read fs cs (λ t i. h t (in_right t (chosen_in_pattern c.to) (chosen_types cs) i)))
   where
     by : (b : Bool) → conversion_rows fs cs ≡ map row_read (active fs cs)
-        → cond b ((c.from, mapped lowered_type c.to) ∷ conversion_rows fs cs) (conversion_rows fs cs) ≡ map row_read (cond b (c ∷ active fs cs) (active fs cs))
+        → cond b ((c.from, mapped_pattern lowered_type c.to) ∷ conversion_rows fs cs) (conversion_rows fs cs) ≡ map row_read (cond b (c ∷ active fs cs) (active fs cs))
     by true deeper =
-        ap (λ p. (c.from, p) ∷ conversion_rows fs cs) (read_pattern c.to (λ t i. h t (in_left t (chosen_in c.to) (chosen_types cs) i)))
+        ap (λ p. (c.from, p) ∷ conversion_rows fs cs) (read_pattern c.to (λ t i. h t (in_left t (chosen_in_pattern c.to) (chosen_types cs) i)))
         ∙ ap (λ (rows : List TokenRow). row_read c ∷ rows) deeper
     by false deeper = deeper
 
-entries_listed : (span : Span) (k : ℕ) (es : List MatchEntry) → entry_rows_from span k es ≡ filter_map (λ e. option_map (λ t. (t, internal_pattern span e.0)) (terminal_named e.1.user_name)) (enumerate_from k es)
+entries_listed : (span : Span) (k : ℕ) (es : List MatchEntry) → entry_rows_from span k es ≡ filter_map (λ e. option_map (λ t. (t, internal_pattern span e.0)) (terminal_of_mapping e.1.user_name)) (enumerate_from k es)
 entries_listed span k [] = refl
-entries_listed span k (e ∷ es) = by (terminal_named e.user_name) (entries_listed span (k + 1) es)
+entries_listed span k (e ∷ es) = by (terminal_of_mapping e.user_name) (entries_listed span (k + 1) es)
   where
     rest : List TokenRow
-    rest = filter_map (λ x. option_map (λ t. (t, internal_pattern span x.0)) (terminal_named x.1.user_name)) (enumerate_from (k + 1) es)
+    rest = filter_map (λ x. option_map (λ t. (t, internal_pattern span x.0)) (terminal_of_mapping x.1.user_name)) (enumerate_from (k + 1) es)
 
-    by : (o : Option TerminalString) → entry_rows_from span (k + 1) es ≡ filter_map (λ x. option_map (λ t. (t, internal_pattern span x.0)) (terminal_named x.1.user_name)) (enumerate_from (k + 1) es)
-        → row_named span k o ++ entry_rows_from span (k + 1) es ≡ cons_option (option_map (λ t. (t, internal_pattern span k)) o) (filter_map (λ x. option_map (λ t. (t, internal_pattern span x.0)) (terminal_named x.1.user_name)) (enumerate_from (k + 1) es))
+    by : (o : Option TerminalString) → entry_rows_from span (k + 1) es ≡ filter_map (λ x. option_map (λ t. (t, internal_pattern span x.0)) (terminal_of_mapping x.1.user_name)) (enumerate_from (k + 1) es)
+        → row_named span k o ++ entry_rows_from span (k + 1) es ≡ cons_option (option_map (λ t. (t, internal_pattern span k)) o) (filter_map (λ x. option_map (λ t. (t, internal_pattern span x.0)) (terminal_of_mapping x.1.user_name)) (enumerate_from (k + 1) es))
     by None deeper = deeper
     by (Some t) deeper = ap (λ (rows : List TokenRow). (t, internal_pattern span k) ∷ rows) deeper
 
@@ -100,7 +101,7 @@ conversion_keys fs [] = refl
 conversion_keys fs (c ∷ cs) = by (is_active fs c.attributes) (conversion_keys fs cs)
   where
     by : (b : Bool) → keys_of (conversion_rows fs cs) ≡ terminals_converted (active fs cs)
-        → keys_of (cond b ((c.from, mapped lowered_type c.to) ∷ conversion_rows fs cs) (conversion_rows fs cs)) ≡ terminals_converted (cond b (c ∷ active fs cs) (active fs cs))
+        → keys_of (cond b ((c.from, mapped_pattern lowered_type c.to) ∷ conversion_rows fs cs) (conversion_rows fs cs)) ≡ terminals_converted (cond b (c ∷ active fs cs) (active fs cs))
     by true deeper = ap (λ (ts : List TerminalString). c.from ∷ ts) deeper
     by false deeper = deeper
 
@@ -111,7 +112,7 @@ entry_keys span k (e ∷ es) =
     ∙ ap (λ (ts : List TerminalString). keys_of (row_of_entry span k e) ++ ts) (entry_keys span (k + 1) es)
     ∙ ap (λ (ts : List TerminalString). ts ++ user_names es) (by e.user_name)
   where
-    by : (m : MatchMapping) → keys_of (row_named span k (terminal_named m)) ≡ Rattle.lalrpop_norm_model.specs.Entries.terminal_named m
+    by : (m : MatchMapping) → keys_of (row_named span k (terminal_of_mapping m)) ≡ Rattle.lalrpop_norm_model.specs.Entries.terminal_named m
     by (mapping.Terminal t) = refl
     by mapping.Skip = refl
 

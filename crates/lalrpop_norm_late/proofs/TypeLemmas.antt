@@ -1,18 +1,17 @@
 -- Where no symbol stands in a type, it is lowered as it is read.
-use Rattle.std.proofs.Common.{◌≡◌, ◌∙◌, Bool, false, cond, List, [], ◌∷◌, ◌++◌, map, Option, Some, None, refl, sym, ap, option_map, inl, inr}
+use Rattle.std.proofs.Common.{◌≡◌, ◌∙◌, false, cond, List, [], ◌∷◌, ◌++◌, map, Option, Some, None, refl, sym, ap, option_map, inl, inr}
 use Rattle.std.specs.Prelude.{flat_map, option_to_list}
 use Rattle.lalrpop_norm_parts.specs.Bounds.{BoundParameterData, lifetime_parameter, type_parameter, associated_type, BoundData, lifetime_bound, function_bound, trait_bound, WhereClauseData, lifetime_clause, type_clause}
 use Rattle.lalrpop_norm_tree.specs.LoweredTypes.{holds_symbol, repr_of}
 use Rattle.lalrpop_norm_parts.specs.Patterns.{PatternKindData, enumerated, structured, path, tuple, tuple_struct, number, underscore, dot_dot, chosen, character, text, PatternData, pattern_at, Patterns, no_patterns, pattern_and, Fields, no_fields, field_and}
-use Rattle.lalrpop_norm_parts.specs.Reprs.{has_bound}
+use Rattle.lalrpop_norm_parts.specs.Reprs.{has_bound, unit_type}
 use Rattle.lalrpop_norm_tree.specs.Types.{TypeData, ParameterData}
 use Rattle.lalrpop_norm_theory.specs.Rounds.{In}
 use Rattle.lalrpop_norm_theory.proofs.RoundsLemmas.{in_left, in_right}
 use Rattle.lalrpop_norm_model.specs.Expanded.{types_in_parameter, types_in_bound, types_in_clause}
-use Rattle.lalrpop_norm_model.specs.TerminalTypes.{chosen_in, chosen_in_kind, chosen_in_all, chosen_in_fields}
-use Rattle.lalrpop_norm_repr.specs.Tables.{unit_type}
+use Rattle.lalrpop_norm_model.specs.TerminalTypes.{chosen_in_pattern, chosen_in_kind, chosen_in_all, chosen_in_fields}
 use Rattle.lalrpop_norm_late.specs.Carried.{lowered_parameter, lowered_bound_parameter, lowered_bound, lowered_clauses, under}
-use Rattle.lalrpop_norm_late.specs.Conversions.{mapped, mapped_kind, mapped_patterns, mapped_fields}
+use Rattle.lalrpop_norm_late.specs.Conversions.{mapped_pattern, mapped_kind, mapped_patterns, mapped_fields}
 use Rattle.lalrpop_norm_late.specs.Made.{made_parameter, made_bound_parameter, made_bound, made_clauses}
 use Rattle.lalrpop_norm_late.specs.Typing.{lowered_type}
 
@@ -51,20 +50,20 @@ mutual
   read_kind (character a) h = refl
   read_kind (text a) h = refl
 
-  pub read_pattern : (p : PatternData TypeData) → AreRead (chosen_in p) → mapped lowered_type p ≡ mapped repr_of p
+  pub read_pattern : (p : PatternData TypeData) → AreRead (chosen_in_pattern p) → mapped_pattern lowered_type p ≡ mapped_pattern repr_of p
   read_pattern (pattern_at s k) h = ap (pattern_at s) (read_kind k h)
 
   read_patterns : (ps : Patterns TypeData) → AreRead (chosen_in_all ps) → mapped_patterns lowered_type ps ≡ mapped_patterns repr_of ps
   read_patterns no_patterns h = refl
   read_patterns (pattern_and p ps) h =
-      ap (λ q. pattern_and q (mapped_patterns lowered_type ps)) (read_pattern p (read_left (chosen_in p) (chosen_in_all ps) h))
-      ∙ ap (pattern_and (mapped repr_of p)) (read_patterns ps (read_right (chosen_in p) (chosen_in_all ps) h))
+      ap (λ q. pattern_and q (mapped_patterns lowered_type ps)) (read_pattern p (read_left (chosen_in_pattern p) (chosen_in_all ps) h))
+      ∙ ap (pattern_and (mapped_pattern repr_of p)) (read_patterns ps (read_right (chosen_in_pattern p) (chosen_in_all ps) h))
 
   read_fields : (fs : Fields TypeData) → AreRead (chosen_in_fields fs) → mapped_fields lowered_type fs ≡ mapped_fields repr_of fs
   read_fields no_fields h = refl
   read_fields (field_and s n p fs) h =
-      ap (λ q. field_and s n q (mapped_fields lowered_type fs)) (read_pattern p (read_left (chosen_in p) (chosen_in_fields fs) h))
-      ∙ ap (field_and s n (mapped repr_of p)) (read_fields fs (read_right (chosen_in p) (chosen_in_fields fs) h))
+      ap (λ q. field_and s n q (mapped_fields lowered_type fs)) (read_pattern p (read_left (chosen_in_pattern p) (chosen_in_fields fs) h))
+      ∙ ap (field_and s n (mapped_pattern repr_of p)) (read_fields fs (read_right (chosen_in_pattern p) (chosen_in_fields fs) h))
 
 -- ---- parameters and where clauses
 

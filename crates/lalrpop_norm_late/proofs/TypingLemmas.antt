@@ -7,9 +7,9 @@ use Rattle.std.specs.Map.{keys_of}
 use Rattle.lalrpop_norm_parts.specs.declared.names.NonterminalString.{NonterminalString}
 use Rattle.lalrpop_norm_tree.specs.Accessors.{or_else}
 use Rattle.lalrpop_norm_tree.specs.Items.{RuleData}
-use Rattle.lalrpop_norm_parts.specs.Reprs.{ReprData}
-use Rattle.lalrpop_norm_repr.specs.Tables.{TypeTable, type_of, found, unit_type}
-use Rattle.lalrpop_norm_late.specs.Lowering.{start_name, rule_type, public_rules}
+use Rattle.lalrpop_norm_parts.specs.Reprs.{ReprData, unit_type}
+use Rattle.lalrpop_norm_repr.specs.Tables.{TypeTable, type_of, found}
+use Rattle.lalrpop_norm_late.specs.Lowering.{start_name, rule_type, public_rules_in}
 use Rattle.lalrpop_norm_late.specs.Shape.{name_cmp, rules_of_starts, HasStartTypes}
 use Rattle.lalrpop_norm_late.specs.Typing.{start_types, AddsTypes}
 
@@ -31,9 +31,9 @@ starts_found prefix types n (r ∷ rs) h =
     ap (λ o. cond (bytes_eq n.0 (prefix ++ r.name.0)) (Some (rule_type types r)) o) (starts_found prefix types n rs h.1)
     ∙ cond_seen (λ (m : NonterminalString). type_of m types) (bytes_eq n.0 (prefix ++ r.name.0)) r.name (found n (map {B = NonterminalString × NonterminalString} (λ s. (start_name prefix s.name, s.name)) rs)) (Some (rule_type types r)) (sym h.0)
 
-pub start_types_added : (prefix : List ℕ) (rules : List RuleData) (types new : TypeTable) → AreTyped types (public_rules rules) → AddsTypes types new (start_types prefix types (public_rules rules)) → IsStrictlySortedBy name_cmp (keys_of new.nonterminals) → HasStartTypes prefix rules types new
+pub start_types_added : (prefix : List ℕ) (rules : List RuleData) (types new : TypeTable) → AreTyped types (public_rules_in rules) → AddsTypes types new (start_types prefix types (public_rules_in rules)) → IsStrictlySortedBy name_cmp (keys_of new.nonterminals) → HasStartTypes prefix rules types new
 start_types_added prefix rules types new typed added in_order = record {
-  names = λ n. added.names n ∙ ap (or_else (type_of n types)) (starts_found prefix types n (public_rules rules) typed);
+  names = λ n. added.names n ∙ ap (or_else (type_of n types)) (starts_found prefix types n (public_rules_in rules) typed);
   in_order = in_order;
   rest = added.rest;
 }

@@ -1,12 +1,14 @@
 -- The arguments of an alternative's code: which symbols give it values, under which names, and the code itself. All of it by
 -- places, which count from 0.
-use Rattle.std.specs.Prelude.{◌≡◌, ℕ, Bool, true, ◌||◌, List, [], ◌∷◌, ◌++◌, length, map, filter, take, zip, flat_map, replicate, nat_le, All, Option, Some, None, is_some, unwrap_or, if◌then◌else◌, codes}
+use Rattle.std.specs.Prelude.{◌≡◌, ℕ, Bool, true, ◌||◌, List, [], ◌∷◌, ◌++◌, length, map, filter, take, zip, flat_map, replicate, nat_le, All, Option, Some, None, unwrap_or, if◌then◌else◌, codes}
 use Rattle.std.specs.List.{list_any, enumerate_from}
-use Rattle.lalrpop_norm_front.specs.Braces.{around_slot}
+use Rattle.lalrpop_norm_util.specs.Braces.{around_slot}
 use Rattle.lalrpop_norm_tree.specs.Symbols.{ArgumentPattern, one_name, several, Kind, named, tupled, Part, at, Parts, no_parts, part_and}
 use Rattle.lalrpop_norm_parts.specs.Texts.{joined}
 use Rattle.lalrpop_norm_tree.specs.SymbolTexts.{tuple_text}
-use Rattle.lalrpop_norm_late.specs.Sources.{is_chosen, source_name, plain_name}
+use Rattle.lalrpop_norm_model.specs.MadeRules.{names_value}
+use Rattle.lalrpop_norm_util.specs.Values.{is_chosen}
+use Rattle.lalrpop_norm_late.specs.Sources.{source_name, plain_name}
 
 -- the symbols of an alternative
 abbrev pub part_list : Parts → List Part
@@ -24,13 +26,10 @@ kind_pattern _ = None
 abbrev pub written_pattern : Part → Option ArgumentPattern
 written_pattern (at s k) = kind_pattern k
 
-abbrev pub has_pattern : Part → Bool
-has_pattern p = is_some (written_pattern p)
-
 -- which of the symbols are sources: the named and tuple ones if there are any, else the chosen ones if there are any, else all
 abbrev pub is_source_of : List Part → Part → Bool
 is_source_of ps p =
-    if list_any has_pattern ps then has_pattern p
+    if list_any names_value ps then names_value p
     else (if list_any is_chosen ps then is_chosen p else true)
 
 -- ---- patterns and names

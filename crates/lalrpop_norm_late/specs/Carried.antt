@@ -19,7 +19,8 @@ use Rattle.lalrpop_norm_parts.specs.Reprs.{ReprData, of_lifetime, reference, nam
 use Rattle.lalrpop_norm_tree.specs.Symbols.{Kind, group, ambiguous_id, terminal, nonterminal, call, repeated, chosen, named, tupled, lookahead, lookbehind, error_terminal, Part, at, Parts, no_parts, part_and}
 use Rattle.lalrpop_norm_tree.specs.Types.{TypeData, ParameterData}
 use Rattle.lalrpop_norm_repr.specs.Lowered.{LoweredParameter}
-use Rattle.lalrpop_norm_late.specs.Conversions.{conversions_in, mapped}
+use Rattle.lalrpop_norm_model.specs.Scopes.{conversions_in}
+use Rattle.lalrpop_norm_late.specs.Conversions.{mapped_pattern}
 
 -- ---- tokens
 
@@ -36,16 +37,16 @@ abbrev pub internal_pattern : Span → ℕ → PatternData ReprData
 internal_pattern span i =
     pattern_at span (tuple_struct (named_path (codes "Token")) (pattern_and (pattern_at span (number i)) (pattern_and (pattern_at span (chosen_type input_type)) no_patterns)))
 
-abbrev pub terminal_named : MatchMapping → Option TerminalString
-terminal_named (mapping.Terminal t) = Some t
-terminal_named mapping.Skip = None
+abbrev pub terminal_of_mapping : MatchMapping → Option TerminalString
+terminal_of_mapping (mapping.Terminal t) = Some t
+terminal_of_mapping mapping.Skip = None
 
 -- the entries of a tokenizer that name a terminal, each with its own place
 abbrev pub entry_rows : Span → List MatchEntry → List TokenRow
-entry_rows span entries = filter_map (λ e. option_map (λ t. (t, internal_pattern span e.0)) (terminal_named e.1.user_name)) (enumerate_from 0 entries)
+entry_rows span entries = filter_map (λ e. option_map (λ t. (t, internal_pattern span e.0)) (terminal_of_mapping e.1.user_name)) (enumerate_from 0 entries)
 
 abbrev pub item_tokens : Span → ItemData → List TokenRow
-item_tokens span (extern_item t) = map (λ c. (c.from, mapped repr_of c.to)) (conversions_in t.enum_token)
+item_tokens span (extern_item t) = map (λ c. (c.from, mapped_pattern repr_of c.to)) (conversions_in t.enum_token)
 item_tokens span (intern_item t) = entry_rows span t.match_entries
 item_tokens span _ = []
 

@@ -8,23 +8,24 @@ use Rattle.lalrpop_norm_parts.specs.declared.names.TerminalString.TheVariants as
 use Rattle.lalrpop_norm_tree.specs.Accessors.{rule_of, is_public}
 use Rattle.lalrpop_norm_parts.specs.Attributes.{no_attributes}
 use Rattle.lalrpop_norm_tree.specs.Items.{Action, fallible_code, AlternativeData, RuleData, ItemData}
-use Rattle.lalrpop_norm_parts.specs.Reprs.{ReprData}
+use Rattle.lalrpop_norm_parts.specs.Reprs.{ReprData, unit_type}
 use Rattle.lalrpop_norm_tree.specs.Symbols.{Kind, group, ambiguous_id, terminal, nonterminal, call, repeated, chosen, named, tupled, lookahead, lookbehind, error_terminal, Part, at, Parts, no_parts, part_and}
 use Rattle.lalrpop_norm_tree.specs.SymbolTexts.{kind_text}
 use Rattle.lalrpop_norm_repr.specs.declared.symbol.Symbol.{Symbol}
 use Rattle.lalrpop_norm_repr.specs.declared.symbol.Symbol.TheVariants.{Nonterminal, Terminal}
 use Rattle.lalrpop_norm_repr.specs.Productions.{ProductionData, EntryData}
-use Rattle.lalrpop_norm_repr.specs.Tables.{TypeTable, type_of, type_of_terminal, unit_type}
+use Rattle.lalrpop_norm_repr.specs.Tables.{TypeTable, type_of}
+use Rattle.lalrpop_norm_repr.specs.SymbolTypes.{symbol_type}
 
 -- ---- rules
 
 -- the rules of a grammar, in item order
-abbrev pub rules_of : List ItemData → List RuleData
-rules_of items = filter_map rule_of items
+abbrev pub rules_among : List ItemData → List RuleData
+rules_among items = filter_map rule_of items
 
-abbrev pub public_rules : List RuleData → List RuleData
-public_rules [] = []
-public_rules (r ∷ rs) = if is_public r.visibility then r ∷ public_rules rs else public_rules rs
+abbrev pub public_rules_in : List RuleData → List RuleData
+public_rules_in [] = []
+public_rules_in (r ∷ rs) = if is_public r.visibility then r ∷ public_rules_in rs else public_rules_in rs
 
 -- the start symbol of a public rule
 abbrev pub start_name : List ℕ → NonterminalString → NonterminalString
@@ -60,13 +61,8 @@ abbrev pub lowered_symbols : Parts → List Symbol
 lowered_symbols no_parts = []
 lowered_symbols (part_and p ps) = lowered_symbol p ∷ lowered_symbols ps
 
--- the type of a symbol by the table, if it has one
-abbrev pub symbol_type : TypeTable → Symbol → Option ReprData
-symbol_type types (Terminal t) = Some (type_of_terminal t types)
-symbol_type types (Nonterminal n) = type_of n types
-
 abbrev pub type_or_unit : TypeTable → Symbol → ReprData
-type_or_unit types s = unwrap_or (symbol_type types s) unit_type
+type_or_unit types s = unwrap_or (symbol_type s types) unit_type
 
 -- ---- actions and productions
 
@@ -90,20 +86,20 @@ rule_type types r = unwrap_or (type_of r.name types) unit_type
 -- ---- start symbols first, then the alternatives in item order
 
 -- a row of the nonterminals
-abbrev pub Row : Type 0
-Row = NonterminalString × EntryData
+abbrev pub EntryRow : Type 0
+EntryRow = NonterminalString × EntryData
 
 abbrev pub start_entry : List ℕ → ℕ → RuleData → EntryData
 start_entry prefix k r = record { visibility = r.visibility; span = r.span; attributes = no_attributes; productions = production_of (start_name prefix r.name) k (start_alternative r) ∷ [] }
 
-abbrev pub start_rows : List ℕ → ℕ → List RuleData → List Row
+abbrev pub start_rows : List ℕ → ℕ → List RuleData → List EntryRow
 start_rows prefix k [] = []
 start_rows prefix k (r ∷ rs) = (start_name prefix r.name, start_entry prefix k r) ∷ start_rows prefix (k + 1) rs
 
 abbrev pub rule_entry : ℕ → RuleData → EntryData
 rule_entry k r = record { visibility = r.visibility; span = r.span; attributes = r.attributes; productions = productions_from r.name k r.alternatives }
 
-abbrev pub rule_rows : ℕ → List RuleData → List Row
+abbrev pub rule_rows : ℕ → List RuleData → List EntryRow
 rule_rows k [] = []
 rule_rows k (r ∷ rs) = (r.name, rule_entry k r) ∷ rule_rows (k + length r.alternatives) rs
 
@@ -114,10 +110,10 @@ start_names prefix (r ∷ rs) = (r.name, start_name prefix r.name) ∷ start_nam
 
 -- ---- tables sorted by names
 
-abbrev pub with_row : {V : Type 0} → List (NonterminalString × V) → NonterminalString × V → List (NonterminalString × V)
-with_row rows r = insert_entry (λ (a : NonterminalString) (b : NonterminalString). slice_cmp nat_cmp a.0 b.0) rows r.0 r.1
+abbrev pub with_entry : {V : Type 0} → List (NonterminalString × V) → NonterminalString × V → List (NonterminalString × V)
+with_entry rows r = insert_entry (λ (a : NonterminalString) (b : NonterminalString). slice_cmp nat_cmp a.0 b.0) rows r.0 r.1
 
 -- the rows in the order of their names, a later one in the place of an earlier one of its name
 abbrev pub sorted_onto : {V : Type 0} → List (NonterminalString × V) → List (NonterminalString × V) → List (NonterminalString × V)
 sorted_onto rows [] = rows
-sorted_onto rows (r ∷ rs) = sorted_onto (with_row rows r) rs
+sorted_onto rows (r ∷ rs) = sorted_onto (with_entry rows r) rs

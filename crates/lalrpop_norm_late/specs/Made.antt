@@ -1,21 +1,19 @@
 -- What lowering makes, as it counts: the words of the code, from which the promises are proved.
-use Rattle.std.specs.Prelude.{◌≡◌, ℕ, ◌+◌, Bool, List, [], ◌∷◌, ◌++◌, length, map, filter_map, flat_map, Option, Some, None, option_map, if◌then◌else◌}
+use Rattle.std.specs.Prelude.{◌≡◌, ℕ, ◌+◌, List, [], ◌∷◌, ◌++◌, length, map, filter_map, flat_map, Option, Some, None, option_map, if◌then◌else◌}
 use Rattle.std.specs.List.Sorted.{IsStrictlySortedBy}
 use Rattle.std.specs.Map.{keys_of}
 use Rattle.lalrpop_norm_tree.specs.declared.items.MatchEntry.{MatchEntry}
-use Rattle.lalrpop_norm_parts.specs.declared.names.NonterminalString.{NonterminalString}
 use Rattle.lalrpop_norm_parts.specs.declared.names.Span.{Span}
 use Rattle.lalrpop_norm_parts.specs.declared.names.TerminalString.{TerminalString}
 use Rattle.lalrpop_norm_parts.specs.declared.names.TerminalString.TheVariants as terminal_string
 use Rattle.lalrpop_norm_tree.specs.Accessors.{first_of, intern_token_of}
 use Rattle.lalrpop_norm_parts.specs.Bounds.{BoundParameterData, lifetime_parameter, type_parameter, associated_type, BoundData, lifetime_bound, function_bound, trait_bound, WhereClauseData, lifetime_clause, type_clause}
-use Rattle.lalrpop_norm_tree.specs.Items.{Action, user_code, fallible_code, lookahead_code, lookbehind_code, AlternativeData, RuleData, ConversionData, ItemData, match_item, extern_item, intern_item, rule_item, use_item, GrammarData}
-use Rattle.lalrpop_norm_parts.specs.Patterns.{PatternData}
+use Rattle.lalrpop_norm_tree.specs.Items.{Action, lookahead_code, lookbehind_code, AlternativeData, RuleData, ConversionData, ItemData, match_item, extern_item, intern_item, rule_item, use_item, GrammarData}
 use Rattle.lalrpop_norm_parts.specs.Reprs.{ReprData, of_lifetime, LoweredClause, has_bound}
 use Rattle.lalrpop_norm_tree.specs.Types.{TypeData, ParameterData}
 use Rattle.lalrpop_norm_faults.specs.Faults.{Fault}
 use Rattle.lalrpop_norm_model.specs.Features.{Features, is_active}
-use Rattle.lalrpop_norm_model.specs.LoweringFaults.{start_faults, code_faults, number_faults}
+use Rattle.lalrpop_norm_model.specs.LoweringFaults.{start_faults, code_faults, action_number_faults}
 use Rattle.lalrpop_norm_model.specs.MadeRules.{some_name_value}
 use Rattle.lalrpop_norm_model.specs.TypeTables.{Table}
 use Rattle.lalrpop_norm_repr.specs.declared.action.LookaroundActionFnDefn.TheVariants.{Lookahead, Lookbehind}
@@ -23,12 +21,13 @@ use Rattle.lalrpop_norm_repr.specs.Actions.{ActionData, ActionKindData, user, lo
 use Rattle.lalrpop_norm_repr.specs.Lowered.{LoweredGrammar, LoweredParameter}
 use Rattle.lalrpop_norm_repr.specs.Orders.{name_cmp}
 use Rattle.lalrpop_norm_repr.specs.Tables.{TypeTable, type_of}
-use Rattle.lalrpop_norm_late.specs.Carried.{TokenRow, internal_pattern, terminal_named, under, uses_recovery, use_of, asks_lalr, asked_code}
+use Rattle.lalrpop_norm_late.specs.Carried.{TokenRow, internal_pattern, terminal_of_mapping, under, uses_recovery, use_of, asks_lalr, asked_code}
 use Rattle.lalrpop_norm_late.specs.Code.{written_code}
-use Rattle.lalrpop_norm_late.specs.Conversions.{conversions_in, mapped, sorted_terminals, numbered}
-use Rattle.lalrpop_norm_late.specs.Lowering.{rules_of, public_rules, start_alternative, lowered_symbols, type_or_unit, is_fallible, rule_type, start_names, start_rows, rule_rows, sorted_onto}
+use Rattle.lalrpop_norm_model.specs.Scopes.{conversions_in}
+use Rattle.lalrpop_norm_late.specs.Conversions.{mapped_pattern, sorted_terminals, numbered_terminals}
+use Rattle.lalrpop_norm_late.specs.Lowering.{rules_among, public_rules_in, start_alternative, lowered_symbols, type_or_unit, is_fallible, rule_type, start_names, start_rows, rule_rows, sorted_onto}
 use Rattle.lalrpop_norm_late.specs.Naming.{argument_patterns, source_names}
-use Rattle.lalrpop_norm_late.specs.Slots.{filled}
+use Rattle.lalrpop_norm_late.specs.Slots.{filled_code}
 use Rattle.lalrpop_norm_late.specs.Typing.{lowered_type, start_types, AddsTypes}
 
 -- ---- actions
@@ -37,7 +36,7 @@ use Rattle.lalrpop_norm_late.specs.Typing.{lowered_type, start_types, AddsTypes}
 abbrev pub user_body : List ℕ → TypeTable → ReprData → AlternativeData → ActionKindData
 user_body prefix types type a =
     user (argument_patterns prefix a.parts) (map (type_or_unit types) (lowered_symbols a.parts))
-    (filled (some_name_value a.parts) (source_names prefix a.parts) (written_code type (source_names prefix a.parts) a.action))
+    (filled_code (some_name_value a.parts) (source_names prefix a.parts) (written_code type (source_names prefix a.parts) a.action))
 
 abbrev pub body : List ℕ → TypeTable → ReprData → AlternativeData → Option Action → ActionKindData
 body prefix types type a (Some lookahead_code) = lookaround Lookahead
@@ -59,31 +58,31 @@ made_actions prefix types (r ∷ rs) = map (made_action prefix types (rule_type 
 -- ---- faults
 
 -- the type of each name by the table
-abbrev pub type_in : TypeTable → Table
-type_in types = λ n. type_of (record { 0 = n }) types
+abbrev pub types_by_name : TypeTable → Table
+types_by_name types = λ n. type_of (record { 0 = n }) types
 
 -- each alternative with the number of its action, from k on
 abbrev pub alternatives_faults : ℕ → List AlternativeData → List Fault
 alternatives_faults k [] = []
-alternatives_faults k (a ∷ rest) = code_faults a ++ number_faults k a.span ++ alternatives_faults (k + 1) rest
+alternatives_faults k (a ∷ rest) = code_faults a ++ action_number_faults k a.span ++ alternatives_faults (k + 1) rest
 
 abbrev pub made_starts_faults : List ℕ → TypeTable → ℕ → List RuleData → List Fault
 made_starts_faults prefix types k [] = []
-made_starts_faults prefix types k (r ∷ rs) = start_faults prefix (type_in types) r ++ number_faults k r.span ++ made_starts_faults prefix types (k + 1) rs
+made_starts_faults prefix types k (r ∷ rs) = start_faults prefix (types_by_name types) r ++ action_number_faults k r.span ++ made_starts_faults prefix types (k + 1) rs
 
 abbrev pub made_rules_faults : ℕ → List RuleData → List Fault
 made_rules_faults k [] = []
 made_rules_faults k (r ∷ rs) = alternatives_faults k r.alternatives ++ made_rules_faults (k + length r.alternatives) rs
 
 abbrev pub made_faults : List ℕ → TypeTable → List RuleData → List Fault
-made_faults prefix types rules = made_starts_faults prefix types 0 (public_rules rules) ++ made_rules_faults (length (public_rules rules)) rules
+made_faults prefix types rules = made_starts_faults prefix types 0 (public_rules_in rules) ++ made_rules_faults (length (public_rules_in rules)) rules
 
 -- ---- tokens
 
 -- the active conversions
 abbrev pub conversion_rows : Features → List ConversionData → List TokenRow
 conversion_rows fs [] = []
-conversion_rows fs (c ∷ cs) = if is_active fs c.attributes then (c.from, mapped lowered_type c.to) ∷ conversion_rows fs cs else conversion_rows fs cs
+conversion_rows fs (c ∷ cs) = if is_active fs c.attributes then (c.from, mapped_pattern lowered_type c.to) ∷ conversion_rows fs cs else conversion_rows fs cs
 
 abbrev pub row_named : Span → ℕ → Option TerminalString → List TokenRow
 row_named span k None = []
@@ -91,7 +90,7 @@ row_named span k (Some t) = (t, internal_pattern span k) ∷ []
 
 -- the entry of number k, if it names a terminal
 abbrev pub row_of_entry : Span → ℕ → MatchEntry → List TokenRow
-row_of_entry span k e = row_named span k (terminal_named e.user_name)
+row_of_entry span k e = row_named span k (terminal_of_mapping e.user_name)
 
 abbrev pub entry_rows_from : Span → ℕ → List MatchEntry → List TokenRow
 entry_rows_from span k [] = []
@@ -108,7 +107,7 @@ abbrev pub made_tokens : Features → GrammarData → List TokenRow
 made_tokens fs g = flat_map (token_rows fs g.span) g.items
 
 abbrev pub made_terminals : Features → GrammarData → List TerminalString
-made_terminals fs g = keys_of (made_tokens fs g) ++ (if uses_recovery (rules_of g.items) then terminal_string.Error ∷ [] else [])
+made_terminals fs g = keys_of (made_tokens fs g) ++ (if uses_recovery (rules_among g.items) then terminal_string.Error ∷ [] else [])
 
 -- ---- the head
 
@@ -133,18 +132,18 @@ made_clauses (type_clause fs t bs) = map (λ b. under fs (has_bound (lowered_typ
 
 -- what lowering makes of the grammar, where `types` is the table of its rules
 pub record IsMade (fs : Features) (g : GrammarData) (types : TypeTable) (l : LoweredGrammar) : Type 0 where
-  pub actions : l.actions ≡ made_starts g.prefix types (public_rules (rules_of g.items)) ++ made_actions g.prefix types (rules_of g.items)
-  pub nonterminals : l.nonterminals ≡ sorted_onto (sorted_onto [] (start_rows g.prefix 0 (public_rules (rules_of g.items)))) (rule_rows (length (public_rules (rules_of g.items))) (rules_of g.items))
-  pub start_nonterminals : l.start_nonterminals ≡ sorted_onto [] (start_names g.prefix (public_rules (rules_of g.items)))
+  pub actions : l.actions ≡ made_starts g.prefix types (public_rules_in (rules_among g.items)) ++ made_actions g.prefix types (rules_among g.items)
+  pub nonterminals : l.nonterminals ≡ sorted_onto (sorted_onto [] (start_rows g.prefix 0 (public_rules_in (rules_among g.items)))) (rule_rows (length (public_rules_in (rules_among g.items))) (rules_among g.items))
+  pub start_nonterminals : l.start_nonterminals ≡ sorted_onto [] (start_names g.prefix (public_rules_in (rules_among g.items)))
   pub all_terminals : l.terminals.all ≡ made_terminals fs g
-  pub terminal_numbers : l.terminals.bits ≡ sorted_terminals [] (numbered 0 (made_terminals fs g))
+  pub terminal_numbers : l.terminals.bits ≡ sorted_terminals [] (numbered_terminals 0 (made_terminals fs g))
   pub conversions : l.conversions ≡ sorted_terminals [] (made_tokens fs g)
-  pub start_symbol_types : AddsTypes types l.types (start_types g.prefix types (public_rules (rules_of g.items)))
+  pub start_symbol_types : AddsTypes types l.types (start_types g.prefix types (public_rules_in (rules_among g.items)))
   pub names_in_order : IsStrictlySortedBy name_cmp (keys_of l.types.nonterminals)
   pub prefix : l.prefix ≡ g.prefix
   pub lalr : l.algorithm.lalr ≡ asks_lalr g.attributes
   pub codegen : l.algorithm.codegen ≡ asked_code g.attributes
-  pub uses_error_recovery : l.uses_error_recovery ≡ uses_recovery (rules_of g.items)
+  pub uses_error_recovery : l.uses_error_recovery ≡ uses_recovery (rules_among g.items)
   pub uses : l.uses ≡ filter_map use_of g.items
   pub type_parameters : l.type_parameters ≡ g.type_parameters
   pub parameters : l.parameters ≡ map made_parameter g.parameters

@@ -1,23 +1,14 @@
 -- The names and patterns of sources, counted along the symbols.
-use Rattle.std.specs.Prelude.{ℕ, ◌+◌, Bool, true, false, ◌||◌, List, [], ◌∷◌, unwrap_or, if◌then◌else◌, codes}
-use Rattle.lalrpop_norm_tree.specs.Symbols.{ArgumentPattern, Kind, named, tupled, Part, Parts, no_parts, part_and}
-use Rattle.lalrpop_norm_model.specs.MadeRules.{some_name_value}
-use Rattle.lalrpop_norm_late.specs.Arguments.{has_pattern, written_pattern, name_given}
-use Rattle.lalrpop_norm_late.specs.Sources.{is_chosen, source_name, plain_name}
-
--- a name, or a tuple of names, stands before the symbol
-abbrev pub is_naming : Kind → Bool
-is_naming (named n p) = true
-is_naming (tupled ns p) = true
-is_naming k = false
-
-abbrev pub has_chosen : Parts → Bool
-has_chosen no_parts = false
-has_chosen (part_and p ps) = is_chosen p || has_chosen ps
+use Rattle.std.specs.Prelude.{ℕ, ◌+◌, Bool, true, List, [], ◌∷◌, unwrap_or, if◌then◌else◌, codes}
+use Rattle.lalrpop_norm_tree.specs.Symbols.{ArgumentPattern, Part, Parts, no_parts, part_and}
+use Rattle.lalrpop_norm_model.specs.MadeRules.{names_value, some_name_value}
+use Rattle.lalrpop_norm_util.specs.Values.{is_chosen, has_chosen}
+use Rattle.lalrpop_norm_late.specs.Arguments.{written_pattern, name_given}
+use Rattle.lalrpop_norm_late.specs.Sources.{source_name, plain_name}
 
 -- the named and tuple symbols if there are any, else the chosen ones if there are any, else each
 abbrev pub is_source : Bool → Bool → Part → Bool
-is_source some_named some_chosen p = if some_named then has_pattern p else (if some_chosen then is_chosen p else true)
+is_source some_named some_chosen p = if some_named then names_value p else (if some_chosen then is_chosen p else true)
 
 -- the pattern of source j: its own, or its number behind the prefix
 abbrev pub source_pattern : List ℕ → ℕ → Part → ArgumentPattern

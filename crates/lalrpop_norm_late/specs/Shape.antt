@@ -10,6 +10,7 @@ use Rattle.lalrpop_norm_tree.specs.Accessors.{first_of, intern_token_of, or_else
 use Rattle.lalrpop_norm_parts.specs.Attributes.{no_attributes}
 use Rattle.lalrpop_norm_tree.specs.Items.{Action, user_code, fallible_code, lookahead_code, lookbehind_code, AlternativeData, RuleData, GrammarData}
 use Rattle.lalrpop_norm_parts.specs.Reprs.{ReprData}
+use Rattle.lalrpop_norm_model.specs.MadeRules.{names_value}
 use Rattle.lalrpop_norm_repr.specs.declared.action.LookaroundActionFnDefn.TheVariants.{Lookahead, Lookbehind}
 use Rattle.lalrpop_norm_repr.specs.Actions.{ActionData, ActionKindData, user, lookaround}
 use Rattle.lalrpop_norm_repr.specs.Lowered.{LoweredGrammar}
@@ -17,27 +18,27 @@ pub use Rattle.lalrpop_norm_repr.specs.Orders.{name_cmp}
 use Rattle.lalrpop_norm_repr.specs.Productions.{ProductionData, EntryData}
 use Rattle.lalrpop_norm_repr.specs.SymbolTypes.{symbol_type}
 use Rattle.lalrpop_norm_repr.specs.Tables.{TypeTable, type_of, found, found_terminal}
-use Rattle.lalrpop_norm_late.specs.Arguments.{part_list, has_pattern, patterns, names, IsFilled}
+use Rattle.lalrpop_norm_late.specs.Arguments.{part_list, patterns, names, IsFilled}
 use Rattle.lalrpop_norm_late.specs.Carried.{tokens_of, uses_recovery, lowered_parameter, lowered_clauses, use_of, asks_lalr, asked_code}
 use Rattle.lalrpop_norm_late.specs.Code.{written_code}
 use Rattle.lalrpop_norm_late.specs.Conversions.{terminal_cmp}
-use Rattle.lalrpop_norm_late.specs.Lowering.{public_rules, start_name, start_alternative, lowered_symbols, is_fallible, production_of}
+use Rattle.lalrpop_norm_late.specs.Lowering.{public_rules_in, start_name, start_alternative, lowered_symbols, is_fallible, production_of}
 
 -- ---- alternatives in their order
 
 -- an alternative of the nonterminal of that name
-abbrev pub Clause : Type 0
-Clause = NonterminalString × AlternativeData
+abbrev pub OwnedAlternative : Type 0
+OwnedAlternative = NonterminalString × AlternativeData
 
-abbrev pub start_clause : List ℕ → RuleData → Clause
+abbrev pub start_clause : List ℕ → RuleData → OwnedAlternative
 start_clause prefix r = (start_name prefix r.name, start_alternative r)
 
-abbrev pub rule_clauses : RuleData → List Clause
+abbrev pub rule_clauses : RuleData → List OwnedAlternative
 rule_clauses r = map (λ a. (r.name, a)) r.alternatives
 
 -- for each public rule its start symbol, then for each rule its alternatives. Action k belongs to the k-th of them, from 0
-abbrev pub clauses_of : List ℕ → List RuleData → List Clause
-clauses_of prefix rules = map (start_clause prefix) (public_rules rules) ++ flat_map rule_clauses rules
+abbrev pub alternatives_in_order : List ℕ → List RuleData → List OwnedAlternative
+alternatives_in_order prefix rules = map (start_clause prefix) (public_rules_in rules) ++ flat_map rule_clauses rules
 
 -- ---- actions
 
@@ -48,7 +49,7 @@ pub record IsCodeOf (prefix : List ℕ) (types : TypeTable) (type : ReprData) (a
   pub is : kind ≡ user (patterns prefix (part_list a.parts)) argument_types code
   -- each argument has the type of its symbol
   pub typed : AllZip (λ s t. symbol_type s types ≡ Some t) (lowered_symbols a.parts) argument_types
-  pub filled : IsFilled (list_any has_pattern (part_list a.parts)) (names prefix (part_list a.parts)) (written_code type (names prefix (part_list a.parts)) a.action) code
+  pub filled : IsFilled (list_any names_value (part_list a.parts)) (names prefix (part_list a.parts)) (written_code type (names prefix (part_list a.parts)) a.action) code
 
 -- what the action of an alternative does
 abbrev pub IsKindOf : List ℕ → TypeTable → ReprData → AlternativeData → ActionKindData → Option Action → Type 0
@@ -59,7 +60,7 @@ IsKindOf prefix types type a kind (Some (fallible_code c)) = IsCodeOf prefix typ
 IsKindOf prefix types type a kind None = IsCodeOf prefix types type a kind
 
 -- the action answers its nonterminal's type, and may fail exactly where its code was written so
-pub record IsActionOf (prefix : List ℕ) (types : TypeTable) (c : Clause) (d : ActionData) : Type 0 where
+pub record IsActionOf (prefix : List ℕ) (types : TypeTable) (c : OwnedAlternative) (d : ActionData) : Type 0 where
   pub answers : type_of c.0 types ≡ Some d.ret_type
   pub fallible : d.fallible ≡ is_fallible c.1.action
   pub kind : IsKindOf prefix types d.ret_type c.1 d.kind c.1.action
@@ -67,23 +68,23 @@ pub record IsActionOf (prefix : List ℕ) (types : TypeTable) (c : Clause) (d : 
 -- ---- nonterminals
 
 -- the productions of a name: of the alternatives that have it, in order, each with its number
-abbrev pub productions_named : NonterminalString → List Clause → List ProductionData
+abbrev pub productions_named : NonterminalString → List OwnedAlternative → List ProductionData
 productions_named n clauses = map (λ e. production_of n e.0 e.1.1) (filter (λ e. bytes_eq n.0 e.1.0.0) (enumerate_from 0 clauses))
 
 -- a start symbol has its rule's visibility and span, and no attributes
-abbrev pub start_entry_of : List ℕ → List Clause → RuleData → NonterminalString × EntryData
+abbrev pub start_entry_of : List ℕ → List OwnedAlternative → RuleData → NonterminalString × EntryData
 start_entry_of prefix clauses r =
     let n = start_name prefix r.name in
     (n, record { visibility = r.visibility; span = r.span; attributes = no_attributes; productions = productions_named n clauses })
 
-abbrev pub rule_entry_of : List Clause → RuleData → NonterminalString × EntryData
+abbrev pub rule_entry_of : List OwnedAlternative → RuleData → NonterminalString × EntryData
 rule_entry_of clauses r = (r.name, record { visibility = r.visibility; span = r.span; attributes = r.attributes; productions = productions_named r.name clauses })
 
 -- the start symbols of public rules, and the rules
-abbrev pub entries_of : List ℕ → List RuleData → List (NonterminalString × EntryData)
-entries_of prefix rules =
-    let clauses = clauses_of prefix rules in
-    map (start_entry_of prefix clauses) (public_rules rules) ++ map (rule_entry_of clauses) rules
+abbrev pub lowered_entries : List ℕ → List RuleData → List (NonterminalString × EntryData)
+lowered_entries prefix rules =
+    let clauses = alternatives_in_order prefix rules in
+    map (start_entry_of prefix clauses) (public_rules_in rules) ++ map (rule_entry_of clauses) rules
 
 -- ---- tables
 
@@ -98,8 +99,8 @@ pub record IsTerminalTable {V : Type 0} (rows table : List (TerminalString × V)
   pub in_order : IsStrictlySortedBy terminal_cmp (keys_of table)
 
 -- the terminals with tokens in their order, then the error terminal where `!` stands
-abbrev pub terminals_in : GrammarData → List RuleData → List TerminalString
-terminals_in g rules = keys_of (tokens_of g) ++ (if uses_recovery rules then terminal_string.Error ∷ [] else [])
+abbrev pub terminals_to_number : GrammarData → List RuleData → List TerminalString
+terminals_to_number g rules = keys_of (tokens_of g) ++ (if uses_recovery rules then terminal_string.Error ∷ [] else [])
 
 -- each number is the place of its terminal, and there is no other
 pub record AreNumbers (all : List TerminalString) (numbers : List (TerminalString × ℕ)) : Type 0 where
@@ -108,11 +109,11 @@ pub record AreNumbers (all : List TerminalString) (numbers : List (TerminalStrin
 
 -- the start symbol of each public rule
 abbrev pub starts_of : List ℕ → List RuleData → List (NonterminalString × NonterminalString)
-starts_of prefix rules = map (λ r. (r.name, start_name prefix r.name)) (public_rules rules)
+starts_of prefix rules = map (λ r. (r.name, start_name prefix r.name)) (public_rules_in rules)
 
 -- the rule of each start symbol
 abbrev pub rules_of_starts : List ℕ → List RuleData → List (NonterminalString × NonterminalString)
-rules_of_starts prefix rules = map (λ r. (start_name prefix r.name, r.name)) (public_rules rules)
+rules_of_starts prefix rules = map (λ r. (start_name prefix r.name, r.name)) (public_rules_in rules)
 
 -- each name keeps its type, and each start symbol has its rule's, in the order of names
 pub record HasStartTypes (prefix : List ℕ) (rules : List RuleData) (types new : TypeTable) : Type 0 where
@@ -124,10 +125,10 @@ pub record HasStartTypes (prefix : List ℕ) (rules : List RuleData) (types new 
 
 -- what the grammar with these rules is lowered to, where `table` has the types of its rules. Its conversions are all active
 pub record IsLoweringOf (g : GrammarData) (rules : List RuleData) (table : TypeTable) (l : LoweredGrammar) : Type 0 where
-  pub actions : AllZip (IsActionOf g.prefix l.types) (clauses_of g.prefix rules) l.actions
-  pub nonterminals : IsNameTable (entries_of g.prefix rules) l.nonterminals
+  pub actions : AllZip (IsActionOf g.prefix l.types) (alternatives_in_order g.prefix rules) l.actions
+  pub nonterminals : IsNameTable (lowered_entries g.prefix rules) l.nonterminals
   pub start_nonterminals : IsNameTable (starts_of g.prefix rules) l.start_nonterminals
-  pub all_terminals : l.terminals.all ≡ terminals_in g rules
+  pub all_terminals : l.terminals.all ≡ terminals_to_number g rules
   pub terminal_numbers : AreNumbers l.terminals.all l.terminals.bits
   pub conversions : IsTerminalTable (tokens_of g) l.conversions
   pub types : HasStartTypes g.prefix rules table l.types

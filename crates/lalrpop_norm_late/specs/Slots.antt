@@ -1,6 +1,6 @@
 -- Codes cut at their `<>`, and with their `<>` replaced.
 use Rattle.std.specs.Prelude.{ℕ, Bool, true, false, not, ◌||◌, List, [], ◌∷◌, ◌++◌, length, drop, flat_map, zip, nat_eq, nat_le, if◌then◌else◌, codes}
-use Rattle.lalrpop_norm_front.specs.Braces.{is_slot}
+use Rattle.lalrpop_norm_util.specs.Braces.{is_slot}
 use Rattle.lalrpop_norm_parts.specs.declared.names.Span.{Span}
 use Rattle.lalrpop_norm_faults.specs.Faults.{Fault, fault_if}
 use Rattle.lalrpop_norm_faults.specs.declared.kind.FaultKind.TheVariants.{Placeholders}
@@ -32,8 +32,8 @@ in_order ns (p ∷ ps) = p ++ flat_map (λ e. e.0 ++ e.1) (zip ns ps)
 
 -- The code with each `<>` replaced by all names, joined by `, `, where symbols are named or there is at most one `<>`; else with
 -- the names in their places, in order.
-abbrev pub filled : Bool → List (List ℕ) → List ℕ → List ℕ
-filled is_named ns code =
+abbrev pub filled_code : Bool → List (List ℕ) → List ℕ → List ℕ
+filled_code is_named ns code =
     if is_named || nat_le (slots code) 1 then joined (joined (codes ", ") ns) (pieces code)
     else in_order ns (pieces code)
 

@@ -4,9 +4,9 @@ use Rattle.lalrpop_norm_parts.specs.declared.names.NonterminalString.{Nontermina
 use Rattle.lalrpop_norm_tree.specs.Accessors.{or_else}
 use Rattle.lalrpop_norm_tree.specs.Items.{RuleData}
 use Rattle.lalrpop_norm_tree.specs.LoweredTypes.{holds_symbol, repr_of}
-use Rattle.lalrpop_norm_parts.specs.Reprs.{ReprData}
+use Rattle.lalrpop_norm_parts.specs.Reprs.{ReprData, unit_type}
 use Rattle.lalrpop_norm_tree.specs.Types.{TypeData}
-use Rattle.lalrpop_norm_repr.specs.Tables.{TypeTable, type_of, found, unit_type}
+use Rattle.lalrpop_norm_repr.specs.Tables.{TypeTable, type_of, found}
 use Rattle.lalrpop_norm_late.specs.Lowering.{start_name, rule_type}
 
 -- a written type lowered; one that holds a symbol, which no plain grammar has, counts as unit

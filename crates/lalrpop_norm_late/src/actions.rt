@@ -3,12 +3,12 @@ ghost use Rattle.std.specs.Prelude.{◌≡◌, IfOk, length, map, option_map};
 ghost use Rattle.lalrpop_norm_faults.specs.Faults.{Refuses};
 ghost use Rattle.lalrpop_norm_tree.specs.Items.{action_view};
 ghost use Rattle.lalrpop_norm_parts.specs.Reprs.{repr_view};
-ghost use Rattle.lalrpop_norm_model.specs.LoweringFaults.{number_faults};
+ghost use Rattle.lalrpop_norm_model.specs.LoweringFaults.{action_number_faults};
 ghost use Rattle.lalrpop_norm_repr.specs.Tables.{type_table};
 ghost use Rattle.lalrpop_norm_late.specs.Lowering.{is_fallible, type_or_unit};
 
 use crate::typing::unit_type;
-use lalrpop_norm_front::{FaultKind, NormResult, refusal};
+use lalrpop_norm_faults::{FaultKind, NormResult, refusal};
 use lalrpop_norm_repr::grammar::repr::{ActionFn, ActionFnDefn, Symbol, TypeRepr, Types};
 use lalrpop_norm_tree::grammar::parse_tree::{ActionKind, NoMemory, Span};
 use std::alloc::Global;
@@ -22,7 +22,7 @@ pub(crate) fn next_action(
     actions: &[ActionFnDefn],
     span: Span,
 ) -> NormResult<ActionFn>
-    ensures refuses { Refuses result (number_faults (length actions.now) span) }
+    ensures refuses { Refuses result (action_number_faults (length actions.now) span) }
     ensures number { IfOk result (λ a. a ≡ record { 0 = length actions.now }) }
 {
     let number = actions.len();

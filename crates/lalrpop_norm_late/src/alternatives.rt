@@ -4,7 +4,7 @@ ghost use Rattle.lalrpop_norm_faults.specs.Faults.{Refuses};
 ghost use Rattle.lalrpop_norm_tree.specs.Items.{alternative_view};
 ghost use Rattle.lalrpop_norm_tree.specs.Symbols.{expr_view};
 ghost use Rattle.lalrpop_norm_parts.specs.Reprs.{repr_view};
-ghost use Rattle.lalrpop_norm_model.specs.LoweringFaults.{code_faults, number_faults};
+ghost use Rattle.lalrpop_norm_model.specs.LoweringFaults.{code_faults, action_number_faults};
 ghost use Rattle.lalrpop_norm_repr.specs.Actions.{action_defn_view};
 ghost use Rattle.lalrpop_norm_repr.specs.Productions.{production_view};
 ghost use Rattle.lalrpop_norm_repr.specs.Tables.{type_table};
@@ -15,7 +15,7 @@ use crate::actions::next_action;
 use crate::bodies::made_action;
 use crate::placeholders::check_code;
 use crate::symbols::lowered_symbols;
-use lalrpop_norm_front::NormResult;
+use lalrpop_norm_faults::NormResult;
 use lalrpop_norm_repr::grammar::repr::{
     ActionFn, ActionFnDefn, Production, Symbol, TypeRepr, Types,
 };
@@ -32,7 +32,7 @@ pub(crate) fn lower_alternative(
     alternative: &Alternative,
     actions: &mut Vec<ActionFnDefn>,
 ) -> NormResult<Production>
-    ensures refuses { Refuses result (code_faults (alternative_view alternative.now) ++ number_faults (vec_len actions.old) alternative.now.span) }
+    ensures refuses { Refuses result (code_faults (alternative_view alternative.now) ++ action_number_faults (vec_len actions.old) alternative.now.span) }
     ensures lowered { IfOk result (λ p.
         production_view p ≡ production_of name.now (vec_len actions.old) (alternative_view alternative.now)) }
     ensures adds { OnOk result (map action_defn_view actions.new.items
@@ -49,7 +49,7 @@ fn action_of(
     alternative: &Alternative,
     actions: &[ActionFnDefn],
 ) -> NormResult<ActionFn>
-    ensures refuses { Refuses result (code_faults (alternative_view alternative.now) ++ number_faults (length actions.now) alternative.now.span) }
+    ensures refuses { Refuses result (code_faults (alternative_view alternative.now) ++ action_number_faults (length actions.now) alternative.now.span) }
     ensures number { IfOk result (λ a. a ≡ record { 0 = length actions.now }) }
     ensures counted { OnOk result (code_faults (alternative_view alternative.now) ≡ []) }
 {

@@ -1,14 +1,14 @@
 //! The arguments of an action: which symbols its code gets, and their names.
 ghost use Rattle.std.specs.Prelude.{◌≡◌, ◌++◌, IfOk, map, string_bytes};
-ghost use Rattle.lalrpop_norm_tree.specs.Symbols.{kind_view, symbol_view, parts_view, argument_pattern_view};
-ghost use Rattle.lalrpop_norm_model.specs.MadeRules.{names_value, some_name_value};
-ghost use Rattle.lalrpop_norm_late.specs.Arguments.{has_pattern, name_given};
-ghost use Rattle.lalrpop_norm_late.specs.Sources.{is_chosen, is_chosen_kind, source_name, plain_name};
-ghost use Rattle.lalrpop_norm_late.specs.Naming.{is_naming, has_chosen, is_source, source_pattern, argument_patterns, source_names};
+ghost use Rattle.lalrpop_norm_tree.specs.Symbols.{symbol_view, parts_view, argument_pattern_view};
+ghost use Rattle.lalrpop_norm_late.specs.Arguments.{name_given};
+ghost use Rattle.lalrpop_norm_late.specs.Sources.{source_name, plain_name};
+ghost use Rattle.lalrpop_norm_late.specs.Naming.{is_source, source_pattern, argument_patterns, source_names};
 
 use lalrpop_norm_tree::grammar::parse_tree::{
     ArgPattern, Atom, Name, NoMemory, Symbol, SymbolKind,
 };
+use lalrpop_norm_util::norm_util::{has_chosen, has_name_value, is_chosen, names_value};
 use std::alloc::Global;
 
 /// The arguments of an action.
@@ -31,7 +31,7 @@ pub(crate) fn arguments_of(
         map argument_pattern_view a.patterns.items ≡ argument_patterns prefix.now (parts_view symbols.now)) }
     ensures names { IfOk result (λ a. a.names.items ≡ source_names prefix.now (parts_view symbols.now)) }
 {
-    let some_named = has_names(symbols);
+    let some_named = has_name_value(symbols);
     let some_chosen = has_chosen(symbols);
     let mut patterns = Vec::new(alloc);
     let mut names = Vec::new(alloc);
@@ -102,83 +102,10 @@ fn is_source(some_named: bool, some_chosen: bool, symbol: &Symbol) -> bool
     ensures { result ≡ is_source some_named some_chosen (symbol_view symbol.now) }
 {
     if some_named {
-        has_pattern(symbol)
+        names_value(symbol)
     } else if some_chosen {
         is_chosen(symbol)
     } else {
         true
-    }
-}
-
-/// Whether a named or tuple symbol stands among the symbols.
-pub(crate) fn has_names(symbols: &[Symbol]) -> bool
-    ensures { result ≡ some_name_value (parts_view symbols.now) }
-{
-    for symbol in symbols {
-        if has_pattern(symbol) {
-            return true;
-        }
-    }
-    false
-}
-
-fn has_pattern(symbol: &Symbol) -> bool
-    ensures shown { result ≡ has_pattern (symbol_view symbol.now) }
-    ensures named { result ≡ names_value (symbol_view symbol.now) }
-{
-    is_naming(&symbol.kind)
-}
-
-fn is_naming(kind: &SymbolKind) -> bool
-    ensures { result ≡ is_naming (kind_view kind.now) }
-{
-    match kind {
-        SymbolKind::Name(_, _) | SymbolKind::Tuple(_, _) => true,
-        SymbolKind::Expr(_)
-        | SymbolKind::AmbiguousId(_)
-        | SymbolKind::Terminal(_)
-        | SymbolKind::Nonterminal(_)
-        | SymbolKind::Macro(_)
-        | SymbolKind::Repeat(_)
-        | SymbolKind::Choose(_)
-        | SymbolKind::Lookahead
-        | SymbolKind::Lookbehind
-        | SymbolKind::Error => false,
-    }
-}
-
-fn has_chosen(symbols: &[Symbol]) -> bool
-    ensures { result ≡ has_chosen (parts_view symbols.now) }
-{
-    for symbol in symbols {
-        if is_chosen(symbol) {
-            return true;
-        }
-    }
-    false
-}
-
-fn is_chosen(symbol: &Symbol) -> bool
-    ensures { result ≡ is_chosen (symbol_view symbol.now) }
-{
-    is_chosen_kind(&symbol.kind)
-}
-
-fn is_chosen_kind(kind: &SymbolKind) -> bool
-    ensures { result ≡ is_chosen_kind (kind_view kind.now) }
-{
-    match kind {
-        SymbolKind::Choose(_) => true,
-        SymbolKind::Expr(_)
-        | SymbolKind::AmbiguousId(_)
-        | SymbolKind::Terminal(_)
-        | SymbolKind::Nonterminal(_)
-        | SymbolKind::Macro(_)
-        | SymbolKind::Repeat(_)
-        | SymbolKind::Name(_, _)
-        | SymbolKind::Tuple(_, _)
-        | SymbolKind::Lookahead
-        | SymbolKind::Lookbehind
-        | SymbolKind::Error => false,
     }
 }

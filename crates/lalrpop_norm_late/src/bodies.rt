@@ -10,7 +10,7 @@ ghost use Rattle.lalrpop_norm_late.specs.Lowering.{lowered_symbols};
 ghost use Rattle.lalrpop_norm_late.specs.Made.{made_action, body, user_body};
 
 use crate::actions::{is_fallible, symbol_types};
-use crate::arguments::{arguments_of, has_names};
+use crate::arguments::arguments_of;
 use crate::code::written_code;
 use crate::placeholders::filled;
 use lalrpop_norm_repr::grammar::repr::{
@@ -18,6 +18,7 @@ use lalrpop_norm_repr::grammar::repr::{
     UserActionFnDefn,
 };
 use lalrpop_norm_tree::grammar::parse_tree::{ActionKind, Alternative, NoMemory};
+use lalrpop_norm_util::norm_util::has_name_value;
 use std::alloc::Global;
 
 /// The action of an alternative of a rule of that type, which it answers.
@@ -85,7 +86,7 @@ fn user_body(
         action_kind_view k ≡ user_body prefix.now (type_table types.now) (repr_view ty.now) (alternative_view alternative.now)) }
 {
     let arguments = arguments_of(alloc, prefix, &alternative.expr.symbols)?;
-    let is_named = has_names(&alternative.expr.symbols);
+    let is_named = has_name_value(&alternative.expr.symbols);
     let written = written_code(ty, &arguments.names, &alternative.action);
     let code = filled(alloc, is_named, &arguments.names, written)?;
     let arg_types = symbol_types(alloc, types, symbols)?;

@@ -2,7 +2,7 @@
 ghost use Rattle.std.specs.Prelude.{◌≡◌, option_map};
 ghost use Rattle.lalrpop_norm_tree.specs.Items.{action_view};
 ghost use Rattle.lalrpop_norm_parts.specs.Reprs.{repr_view};
-ghost use Rattle.lalrpop_norm_front.specs.Braces.{around_slot};
+ghost use Rattle.lalrpop_norm_util.specs.Braces.{around_slot};
 ghost use Rattle.lalrpop_norm_late.specs.Code.{absent_code, written_code};
 
 use lalrpop_norm_tree::grammar::parse_tree::{ActionKind, Atom};

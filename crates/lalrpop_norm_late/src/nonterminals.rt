@@ -4,16 +4,16 @@ ghost use Rattle.lalrpop_norm_faults.specs.Faults.{Refuses};
 ghost use Rattle.lalrpop_norm_parts.specs.Attributes.{no_attributes};
 ghost use Rattle.lalrpop_norm_parts.specs.Reprs.{repr_view};
 ghost use Rattle.lalrpop_norm_tree.specs.Items.{rule_view};
-ghost use Rattle.lalrpop_norm_model.specs.LoweringFaults.{start_faults, number_faults};
+ghost use Rattle.lalrpop_norm_model.specs.LoweringFaults.{start_faults, action_number_faults};
 ghost use Rattle.lalrpop_norm_repr.specs.Actions.{action_defn_view};
 ghost use Rattle.lalrpop_norm_repr.specs.Productions.{nonterminal_data_view, production_view};
 ghost use Rattle.lalrpop_norm_repr.specs.Tables.{type_table, rows};
 ghost use Rattle.lalrpop_norm_late.specs.Lowering.{rule_type, rule_entry, rule_rows, start_entry, start_rows, start_name, start_alternative, production_of, productions_from, sorted_onto};
-ghost use Rattle.lalrpop_norm_late.specs.Made.{type_in, alternatives_faults, made_starts_faults, made_rules_faults, made_action, made_starts, made_actions};
+ghost use Rattle.lalrpop_norm_late.specs.Made.{types_by_name, alternatives_faults, made_starts_faults, made_rules_faults, made_action, made_starts, made_actions};
 
 use crate::alternatives::{lower_alternative, lower_alternatives};
 use crate::starts::{insert, rule_type, start_alternative, start_name};
-use lalrpop_norm_front::{FaultKind, NormResult, refusal};
+use lalrpop_norm_faults::{FaultKind, NormResult, refusal};
 use lalrpop_norm_parts::attribute::copy::copy_attributes;
 use lalrpop_norm_repr::grammar::repr::{
     ActionFnDefn, NonterminalData, Production, TypeRepr, Types,
@@ -32,7 +32,7 @@ fn check_start(
     name: &NonterminalString,
 ) -> NormResult<()>
     requires { name.now ≡ start_name prefix.now rule.now.name }
-    ensures { Refuses result (start_faults prefix.now (type_in (type_table types.now)) (rule_view rule.now)) }
+    ensures { Refuses result (start_faults prefix.now (types_by_name (type_table types.now)) (rule_view rule.now)) }
 {
     if types.lookup_nonterminal_type(name).is_none() {
         return Ok(());
@@ -54,7 +54,7 @@ fn lower_start(
     actions: &mut Vec<ActionFnDefn>,
 ) -> NormResult<NonterminalData>
     requires { name.now ≡ start_name prefix.now rule.now.name }
-    ensures refuses { Refuses result (start_faults prefix.now (type_in (type_table types.now)) (rule_view rule.now) ++ number_faults (vec_len actions.old) rule.now.span) }
+    ensures refuses { Refuses result (start_faults prefix.now (types_by_name (type_table types.now)) (rule_view rule.now) ++ action_number_faults (vec_len actions.old) rule.now.span) }
     ensures lowered { IfOk result (λ n.
         nonterminal_data_view n ≡ start_entry prefix.now (vec_len actions.old) (rule_view rule.now)) }
     ensures adds { OnOk result (map action_defn_view actions.new.items ≡ map action_defn_view actions.old.items
@@ -75,7 +75,7 @@ fn start_production(
     name: &NonterminalString,
     actions: &mut Vec<ActionFnDefn>,
 ) -> NormResult<Production>
-    ensures refuses { Refuses result (number_faults (vec_len actions.old) rule.now.span) }
+    ensures refuses { Refuses result (action_number_faults (vec_len actions.old) rule.now.span) }
     ensures lowered { IfOk result (λ p.
         production_view p ≡ production_of name.now (vec_len actions.old) (start_alternative (rule_view rule.now))) }
     ensures adds { OnOk result (map action_defn_view actions.new.items ≡ map action_defn_view actions.old.items
@@ -96,7 +96,7 @@ fn production_of_start(
     ty: &TypeRepr,
     actions: &mut Vec<ActionFnDefn>,
 ) -> NormResult<Production>
-    ensures refuses { Refuses result (number_faults (vec_len actions.old) rule.now.span) }
+    ensures refuses { Refuses result (action_number_faults (vec_len actions.old) rule.now.span) }
     ensures lowered { IfOk result (λ p.
         production_view p ≡ production_of name.now (vec_len actions.old) (start_alternative (rule_view rule.now))) }
     ensures adds { OnOk result (map action_defn_view actions.new.items ≡ map action_defn_view actions.old.items

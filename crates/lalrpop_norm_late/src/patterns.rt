@@ -4,7 +4,7 @@ ghost use Rattle.lalrpop_norm_parts.specs.Paths.{path_view};
 ghost use Rattle.lalrpop_norm_parts.specs.Patterns.{pattern_view, pattern_kind_view, patterns_view, field_view, fields_view, enumerated, structured, tuple_struct};
 ghost use Rattle.lalrpop_norm_parts.specs.Reprs.{repr_view};
 ghost use Rattle.lalrpop_norm_tree.specs.Types.{type_view};
-ghost use Rattle.lalrpop_norm_late.specs.Conversions.{mapped, mapped_kind, mapped_patterns, mapped_fields, mapped_field};
+ghost use Rattle.lalrpop_norm_late.specs.Conversions.{mapped_pattern, mapped_kind, mapped_patterns, mapped_fields, mapped_field};
 ghost use Rattle.lalrpop_norm_late.specs.Typing.{lowered_type};
 
 use crate::typing::lowered_type;
@@ -19,7 +19,7 @@ pub(crate) fn lowered_pattern(
     alloc: Global,
     pattern: &Pattern<TypeRef>,
 ) -> Result<Pattern<TypeRepr>, NoMemory>
-    ensures { IfOk result (λ p. pattern_view repr_view p ≡ mapped lowered_type (pattern_view type_view pattern.now)) }
+    ensures { IfOk result (λ p. pattern_view repr_view p ≡ mapped_pattern lowered_type (pattern_view type_view pattern.now)) }
 {
     let kind = lowered_kind(alloc, &pattern.kind)?;
     Ok(Pattern {

@@ -6,14 +6,14 @@ ghost use Rattle.lalrpop_norm_tree.specs.Symbols.{symbol_view};
 ghost use Rattle.lalrpop_norm_parts.specs.Texts.{joined};
 ghost use Rattle.lalrpop_norm_model.specs.LoweringFaults.{slots, code_in, code_faults, span_over};
 ghost use Rattle.lalrpop_norm_late.specs.Arguments.{in_slots};
-ghost use Rattle.lalrpop_norm_late.specs.Slots.{pieces, in_order, filled, count_faults, end_of};
+ghost use Rattle.lalrpop_norm_late.specs.Slots.{pieces, in_order, filled_code, count_faults, end_of};
 
 use crate::code::split_at_slot;
-use lalrpop_norm_front::norm_util::{Symbols, analyze_expr};
-use lalrpop_norm_front::{FaultKind, NormResult, refusal};
+use lalrpop_norm_faults::{FaultKind, NormResult, refusal};
 use lalrpop_norm_tree::grammar::parse_tree::{
     ActionKind, Alternative, Atom, NoMemory, Span, Symbol,
 };
+use lalrpop_norm_util::norm_util::{Symbols, analyze_expr};
 use std::alloc::Global;
 
 /// Refuses an alternative without named and tuple symbols whose code has several `<>`, not as many as it has sources.
@@ -101,7 +101,7 @@ pub(crate) fn filled(
     code: &str,
 ) -> Result<String, NoMemory>
     requires { length (in_slots is_named names.now (slots code.now)) ≡ slots code.now }
-    ensures { IfOk result (λ s. string_bytes s ≡ filled is_named names.now code.now) }
+    ensures { IfOk result (λ s. string_bytes s ≡ filled_code is_named names.now code.now) }
 {
     let pieces = pieces(alloc, code)?;
     if is_alike(is_named, &pieces) {

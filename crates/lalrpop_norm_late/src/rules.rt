@@ -2,7 +2,7 @@
 ghost use Rattle.std.specs.Prelude.{◌≡◌, [], ◌∷◌, ◌++◌, IfOk, OnOk, map, option_to_list};
 ghost use Rattle.lalrpop_norm_tree.specs.Accessors.{rule_of};
 ghost use Rattle.lalrpop_norm_tree.specs.Items.{rule_view, item_view};
-ghost use Rattle.lalrpop_norm_late.specs.Lowering.{rules_of, public_rules};
+ghost use Rattle.lalrpop_norm_late.specs.Lowering.{rules_among, public_rules_in};
 
 use lalrpop_norm_tree::grammar::parse_tree::{GrammarItem, NoMemory, NonterminalData};
 use std::alloc::Global;
@@ -12,7 +12,7 @@ pub(crate) fn rules_of(
     alloc: Global,
     items: &[GrammarItem],
 ) -> Result<Vec<&NonterminalData>, NoMemory>
-    ensures { IfOk result (λ rs. map (λ r. rule_view r.now) rs.items ≡ rules_of (map item_view items.now)) }
+    ensures { IfOk result (λ rs. map (λ r. rule_view r.now) rs.items ≡ rules_among (map item_view items.now)) }
 {
     let mut rules = Vec::new(alloc);
     for item in items {
@@ -41,7 +41,7 @@ pub(crate) fn public_rules<'g>(
     alloc: Global,
     rules: &[&'g NonterminalData],
 ) -> Result<Vec<&'g NonterminalData>, NoMemory>
-    ensures { IfOk result (λ rs. map (λ r. rule_view r.now) rs.items ≡ public_rules (map (λ r. rule_view r.now) rules.now)) }
+    ensures { IfOk result (λ rs. map (λ r. rule_view r.now) rs.items ≡ public_rules_in (map (λ r. rule_view r.now) rules.now)) }
 {
     let mut chosen = Vec::new(alloc);
     for rule in rules {
@@ -56,7 +56,7 @@ fn add_public<'g>(
     rule: &'g NonterminalData,
 ) -> Result<(), NoMemory>
     ensures { OnOk result (map (λ r. rule_view r.now) chosen.new.items
-        ≡ map (λ r. rule_view r.now) chosen.old.items ++ public_rules (rule_view rule.now ∷ [])) }
+        ≡ map (λ r. rule_view r.now) chosen.old.items ++ public_rules_in (rule_view rule.now ∷ [])) }
 {
     if rule.visibility.is_pub() {
         chosen.push(rule)?;

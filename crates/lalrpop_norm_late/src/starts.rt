@@ -5,7 +5,7 @@ ghost use Rattle.lalrpop_norm_parts.specs.Reprs.{repr_view};
 ghost use Rattle.lalrpop_norm_tree.specs.Symbols.{expr_view, symbol_view, nonterminal, at, part_and, no_parts};
 ghost use Rattle.lalrpop_norm_repr.specs.Productions.{nonterminal_data_view};
 ghost use Rattle.lalrpop_norm_repr.specs.Tables.{type_table, rows};
-ghost use Rattle.lalrpop_norm_late.specs.Lowering.{rule_type, start_name, start_names, start_alternative, with_row, sorted_onto};
+ghost use Rattle.lalrpop_norm_late.specs.Lowering.{rule_type, start_name, start_names, start_alternative, with_entry, sorted_onto};
 
 use crate::typing::unit_type;
 use lalrpop_norm_repr::grammar::repr::{NonterminalData, TypeRepr, Types};
@@ -92,7 +92,7 @@ pub(crate) fn insert(
     entry: NonterminalData,
 ) -> Result<(), NoMemory>
     ensures { OnOk result (rows nonterminal_data_view nonterminals.new
-        ≡ with_row (rows nonterminal_data_view nonterminals.old) (name, nonterminal_data_view entry)) }
+        ≡ with_entry (rows nonterminal_data_view nonterminals.old) (name, nonterminal_data_view entry)) }
 {
     nonterminals.insert(name, entry)?;
     Ok(())

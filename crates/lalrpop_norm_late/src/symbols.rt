@@ -1,9 +1,9 @@
 //! The symbols of productions.
 ghost use Rattle.std.specs.Prelude.{◌≡◌, IfOk, map, unwrap_or};
-ghost use Rattle.lalrpop_norm_parts.specs.Reprs.{repr_view};
+ghost use Rattle.lalrpop_norm_parts.specs.Reprs.{repr_view, unit_type};
 ghost use Rattle.lalrpop_norm_tree.specs.Symbols.{kind_view, symbol_view, parts_view};
 ghost use Rattle.lalrpop_norm_tree.specs.SymbolTexts.{kind_text};
-ghost use Rattle.lalrpop_norm_repr.specs.Tables.{type_table, unit_type};
+ghost use Rattle.lalrpop_norm_repr.specs.Tables.{type_table};
 ghost use Rattle.lalrpop_norm_late.specs.Lowering.{lowered_kind, lowered_symbol, lowered_symbols, type_or_unit};
 
 use lalrpop_norm_repr::grammar::repr::{Symbol, TypeRepr, Types};

@@ -3,7 +3,7 @@ ghost use Rattle.std.specs.Prelude.{◌≡◌, [], IfOk, OnOk};
 ghost use Rattle.lalrpop_norm_parts.specs.Patterns.{pattern_view};
 ghost use Rattle.lalrpop_norm_parts.specs.Reprs.{repr_view};
 ghost use Rattle.lalrpop_norm_repr.specs.Tables.{rows};
-ghost use Rattle.lalrpop_norm_late.specs.Conversions.{sorted_terminals, numbered, terminal_cmp};
+ghost use Rattle.lalrpop_norm_late.specs.Conversions.{sorted_terminals, numbered_terminals, terminal_cmp};
 ghost use Rattle.std.specs.BTreeMap.{insert_entry};
 
 use lalrpop_norm_repr::grammar::repr::{TerminalString, TypeRepr};
@@ -16,7 +16,7 @@ pub(crate) fn numbers_of(
     alloc: Global,
     terminals: &[TerminalString],
 ) -> Result<BTreeMap<TerminalString, usize>, NoMemory>
-    ensures { IfOk result (λ m. m.entries ≡ sorted_terminals [] (numbered 0 terminals.now)) }
+    ensures { IfOk result (λ m. m.entries ≡ sorted_terminals [] (numbered_terminals 0 terminals.now)) }
 {
     let mut numbers = BTreeMap::new(alloc);
     for number in 0..terminals.len() {

@@ -7,22 +7,21 @@ ghost use Rattle.lalrpop_norm_tree.specs.LoweredTypes.{named_path};
 ghost use Rattle.lalrpop_norm_parts.specs.Paths.{path_view};
 ghost use Rattle.lalrpop_norm_parts.specs.Patterns.{pattern_view, patterns_view, pattern_at, pattern_and, no_patterns, number, chosen};
 ghost use Rattle.lalrpop_norm_parts.specs.Reprs.{repr_view};
-ghost use Rattle.lalrpop_norm_front.specs.Sessions.{features_view};
+ghost use Rattle.lalrpop_norm_util.specs.Sessions.{features_view};
 ghost use Rattle.lalrpop_norm_repr.specs.Tables.{rows};
 ghost use Rattle.lalrpop_norm_late.specs.Carried.{input_type, internal_pattern};
-ghost use Rattle.lalrpop_norm_late.specs.Conversions.{sorted_terminals, numbered, terminal_cmp};
+ghost use Rattle.lalrpop_norm_late.specs.Conversions.{sorted_terminals, numbered_terminals, terminal_cmp};
 ghost use Rattle.lalrpop_norm_late.specs.Made.{conversion_rows, row_of_entry, entry_rows_from, token_rows, made_tokens};
 
 use crate::patterns::lowered_pattern;
 use crate::terminals::{insert, numbers_of};
-use lalrpop_norm_front::Session;
-use lalrpop_norm_front::cond_comp::cfg_active;
 use lalrpop_norm_repr::grammar::repr::{TerminalSet, TerminalString, TypeRepr};
 use lalrpop_norm_tree::grammar::parse_tree::{
     Atom, Conversion, Grammar, GrammarItem, Lifetime, MatchEntry, MatchMapping, NoMemory, Path,
     Span,
 };
 use lalrpop_norm_tree::grammar::pattern::{Pattern, PatternKind};
+use lalrpop_norm_util::{Session, cfg_active};
 use std::alloc::Global;
 use std::collections::BTreeMap;
 
@@ -44,7 +43,7 @@ pub(crate) fn terminals_of<L>(
 ) -> Result<(TerminalSet, BTreeMap<TerminalString, Pattern<TypeRepr>>), NoMemory>
     ensures all { IfOk result (λ t. t.0.all.items ≡ keys_of (made_tokens (features_view session.now.features) (grammar_view grammar.now))
         ++ (if recovers then TerminalString.Error ∷ [] else [])) }
-    ensures bits { IfOk result (λ t. t.0.bits.entries ≡ sorted_terminals [] (numbered 0 t.0.all.items)) }
+    ensures bits { IfOk result (λ t. t.0.bits.entries ≡ sorted_terminals [] (numbered_terminals 0 t.0.all.items)) }
     ensures patterns { IfOk result (λ t. rows (pattern_view repr_view) t.1
         ≡ sorted_terminals [] (made_tokens (features_view session.now.features) (grammar_view grammar.now))) }
 {
@@ -230,7 +229,7 @@ fn terminal_set(
     recovers: bool,
 ) -> Result<TerminalSet, NoMemory>
     ensures all { IfOk result (λ s. s.all.items ≡ all.items ++ (if recovers then TerminalString.Error ∷ [] else [])) }
-    ensures bits { IfOk result (λ s. s.bits.entries ≡ sorted_terminals [] (numbered 0 s.all.items)) }
+    ensures bits { IfOk result (λ s. s.bits.entries ≡ sorted_terminals [] (numbered_terminals 0 s.all.items)) }
 {
     if recovers {
         all.push(TerminalString::Error)?;

@@ -1,9 +1,9 @@
 //! The types of start symbols, and written types lowered.
 ghost use Rattle.std.specs.Prelude.{◌≡◌, [], ◌∷◌, IfOk, OnOk, map};
 ghost use Rattle.lalrpop_norm_tree.specs.Items.{rule_view};
-ghost use Rattle.lalrpop_norm_parts.specs.Reprs.{repr_view};
+ghost use Rattle.lalrpop_norm_parts.specs.Reprs.{repr_view, unit_type};
 ghost use Rattle.lalrpop_norm_tree.specs.Types.{type_view};
-ghost use Rattle.lalrpop_norm_repr.specs.Tables.{type_table, unit_type};
+ghost use Rattle.lalrpop_norm_repr.specs.Tables.{type_table};
 ghost use Rattle.lalrpop_norm_late.specs.Lowering.{rule_type, start_name};
 ghost use Rattle.lalrpop_norm_late.specs.Typing.{lowered_type, start_types, AddsTypes};
 

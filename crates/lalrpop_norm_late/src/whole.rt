@@ -2,7 +2,7 @@
 ghost use Rattle.std.specs.Prelude.{◌≡◌, ◌++◌, IfOk, [], length, map, true};
 ghost use Rattle.lalrpop_norm_faults.specs.Faults.{Refuses};
 ghost use Rattle.lalrpop_norm_tree.specs.Items as written;
-ghost use Rattle.lalrpop_norm_front.specs.Sessions.{features_view};
+ghost use Rattle.lalrpop_norm_util.specs.Sessions.{features_view};
 ghost use Rattle.lalrpop_norm_model.specs.Expanded.{IsExpanded, IsTyped, all_known};
 ghost use Rattle.lalrpop_norm_model.specs.LoweringFaults.{lowering_faults};
 ghost use Rattle.lalrpop_norm_model.specs.PlainRules.{all_rules};
@@ -12,8 +12,8 @@ ghost use Rattle.lalrpop_norm_repr.specs.Productions.{nonterminal_data_view};
 ghost use Rattle.lalrpop_norm_repr.specs.Closed.{IsClosed};
 ghost use Rattle.lalrpop_norm_repr.specs.Tables.{type_table, rows};
 ghost use Rattle.lalrpop_norm_late.specs.Active.{active_grammar};
-ghost use Rattle.lalrpop_norm_late.specs.Lowering.{rules_of, public_rules, start_rows, rule_rows, sorted_onto};
-ghost use Rattle.lalrpop_norm_late.specs.Made.{type_in, made_faults, made_starts_faults, made_rules_faults, made_starts, made_actions, IsMade};
+ghost use Rattle.lalrpop_norm_late.specs.Lowering.{rules_among, public_rules_in, start_rows, rule_rows, sorted_onto};
+ghost use Rattle.lalrpop_norm_late.specs.Made.{types_by_name, made_faults, made_starts_faults, made_rules_faults, made_starts, made_actions, IsMade};
 ghost use Rattle.lalrpop_norm_late.specs.Shape.{IsLoweringOf};
 
 use crate::head::{algorithm_of, head_of, signature_of};
@@ -23,11 +23,12 @@ use crate::rules::{public_rules, rules_of};
 use crate::starts::start_table;
 use crate::tokens::terminals_of;
 use crate::typing::add_start_types;
-use lalrpop_norm_front::{NormResult, Session};
+use lalrpop_norm_faults::NormResult;
 use lalrpop_norm_repr::grammar::repr::{
     ActionFnDefn, Grammar, NonterminalData, NonterminalString, Types,
 };
 use lalrpop_norm_tree::grammar::parse_tree as pt;
+use lalrpop_norm_util::Session;
 use std::alloc::Global;
 use std::collections::BTreeMap;
 
@@ -49,11 +50,11 @@ pub fn lower<L>(
     types: Types,
 ) -> NormResult<Grammar>
     requires expanded { IsExpanded (written.grammar_view grammar.now) }
-    requires typed { IsTyped (features_view session.now.features) (written.grammar_view grammar.now) (type_in (type_table types)) }
-    ensures refuses { Refuses result (lowering_faults (written.grammar_view grammar.now) (type_in (type_table types))) }
+    requires typed { IsTyped (features_view session.now.features) (written.grammar_view grammar.now) (types_by_name (type_table types)) }
+    ensures refuses { Refuses result (lowering_faults (written.grammar_view grammar.now) (types_by_name (type_table types))) }
     ensures lowered { IfOk result (λ l. IsLoweringOf (active_grammar (features_view session.now.features) (written.grammar_view grammar.now))
-        (all_rules (written.grammar_view grammar.now)) (type_table types) (lowered.grammar_view l)) }
-    ensures closed { IfOk result (λ l. IsClosed (lowered.grammar_view l)) }
+        (all_rules (written.grammar_view grammar.now)) (type_table types) (lowered.lowered_grammar_view l)) }
+    ensures closed { IfOk result (λ l. IsClosed (lowered.lowered_grammar_view l)) }
 {
     let rules = rules_of(alloc, &grammar.items)?;
     let public = public_rules(alloc, &rules)?;
@@ -70,10 +71,10 @@ fn lower_over<L>(
     public: &[&pt::NonterminalData],
 ) -> NormResult<Grammar>
     requires known { all_known (written.grammar_view grammar.now).attributes ≡ true }
-    requires rules { map (λ r. written.rule_view r.now) rules.now ≡ rules_of (written.grammar_view grammar.now).items }
-    requires public { map (λ r. written.rule_view r.now) public.now ≡ public_rules (rules_of (written.grammar_view grammar.now).items) }
-    ensures refuses { Refuses result (made_faults (written.grammar_view grammar.now).prefix (type_table types) (rules_of (written.grammar_view grammar.now).items)) }
-    ensures lowered { IfOk result (λ l. IsMade (features_view session.now.features) (written.grammar_view grammar.now) (type_table types) (lowered.grammar_view l)) }
+    requires rules { map (λ r. written.rule_view r.now) rules.now ≡ rules_among (written.grammar_view grammar.now).items }
+    requires public { map (λ r. written.rule_view r.now) public.now ≡ public_rules_in (rules_among (written.grammar_view grammar.now).items) }
+    ensures refuses { Refuses result (made_faults (written.grammar_view grammar.now).prefix (type_table types) (rules_among (written.grammar_view grammar.now).items)) }
+    ensures lowered { IfOk result (λ l. IsMade (features_view session.now.features) (written.grammar_view grammar.now) (type_table types) (lowered.lowered_grammar_view l)) }
 {
     let prefix = grammar.prefix.as_str();
     let produced = produce(alloc, prefix, &types, rules, public)?;

@@ -9,15 +9,15 @@ use Rattle.lalrpop_norm_tree.specs.Items.{AlternativeData, RuleData, AssociatedT
 use Rattle.lalrpop_norm_tree.specs.LoweredTypes.{repr_of}
 use Rattle.lalrpop_norm_parts.specs.Paths.{PathData}
 use Rattle.lalrpop_norm_parts.specs.Reprs as lowered
-use Rattle.lalrpop_norm_parts.specs.Reprs.{ReprData}
+use Rattle.lalrpop_norm_parts.specs.Reprs.{ReprData, unit_type, static_str}
 use Rattle.lalrpop_norm_tree.specs.Symbols.{Kind, Part, group, ambiguous_id, terminal, nonterminal, call, repeated, chosen, named, tupled, lookahead, lookbehind, error_terminal, at}
 use Rattle.lalrpop_norm_tree.specs.Types.{TypeData, TypesData, MaybeType, tuple, slice, nominal, reference, trait_object, of_lifetime, id, of_symbol, function, no_types, type_and, no_type, returns}
 use Rattle.lalrpop_norm_model.specs.PlainRules.{all_rules, rule_of_item}
 use Rattle.lalrpop_norm_model.specs.Entries.{user_names}
-use Rattle.lalrpop_norm_model.specs.TerminalTypes.{unit_type, static_str, input_str, extern_enum, first_extern, declared_under, entries_of, location_with, location_type, token_with, token_type, error_type, recovery_type, rows_with, terminal_rows, row_of, terminal_type}
-use Rattle.lalrpop_norm_model.specs.TypeRelation.{associated_in, associated_of, Clause, makes, locates, alternative_clause, clauses}
+use Rattle.lalrpop_norm_model.specs.TerminalTypes.{input_str, extern_enum, first_extern, declared_under, entries_of, location_with, declared_location, token_with, token_type, error_type, recovery_type, rows_with, terminal_rows, row_of, terminal_type}
+use Rattle.lalrpop_norm_model.specs.TypeRelation.{associated_in, associated_of, TypeClause, makes, locates, alternative_clause, type_clauses}
 use Rattle.lalrpop_norm_model.specs.TypeTables.{Table, kind_value, part_value, path_value, both, type_value, types_value, return_value, clause_value}
-use Rattle.lalrpop_norm_model.specs.TypeRounds.{Row, table_of, first_value, taken, visit, visits, round, rounds}
+use Rattle.lalrpop_norm_model.specs.TypeRounds.{TypeRow, table_of, first_value, taken, visit, visits, round, type_rounds}
 use Rattle.lalrpop_norm_model.specs.TuplePatterns.{rule_misfits, pattern_misfits}
 use Rattle.lalrpop_norm_model.specs.InferenceFaults.{is_undeclared, undeclared, lacking, inferred_table, untyped_rules, is_other, clause_disagrees, disagreeing_in, disagreeing, inference_faults}
 use Rattle.lalrpop_norm_model.specs.CheckedTokens.{with_tokens}
@@ -27,7 +27,7 @@ pub record LooksSame (g h : GrammarData) : Type 0 where
   pub rules : all_rules g ≡ all_rules h
   pub terminals : (t : TerminalString) → terminal_type g t ≡ terminal_type h t
   pub recovery : recovery_type g ≡ recovery_type h
-  pub location : location_type g ≡ location_type h
+  pub location : declared_location g ≡ declared_location h
   pub parameters : g.type_parameters ≡ h.type_parameters
 
 module _ (g h : GrammarData) (s : LooksSame g h) where
@@ -76,32 +76,32 @@ module _ (g h : GrammarData) (s : LooksSame g h) where
     return_same f no_type = refl
     return_same f (returns t) = ap (λ v. option_map lowered.returns v) (type_same f t)
 
-  clause_same : (f : Table) (c : Clause) → clause_value g f c ≡ clause_value h f c
+  clause_same : (f : Table) (c : TypeClause) → clause_value g f c ≡ clause_value h f c
   clause_same f (makes t) = type_same f t
   clause_same f locates = s.location
 
   -- ---- rounds
 
-  first_same : (f : Table) (cs : List Clause) → first_value g f cs ≡ first_value h f cs
+  first_same : (f : Table) (cs : List TypeClause) → first_value g f cs ≡ first_value h f cs
   first_same f [] = refl
   first_same f (c ∷ cs) = ap (λ v. or_else v (first_value g f cs)) (clause_same f c) ∙ ap (λ v. or_else (clause_value h f c) v) (first_same f cs)
 
-  visit_same : (rows : List Row) (r : RuleData) → visit g rows r ≡ visit h rows r
-  visit_same rows r = ap (λ v. taken rows r.name.0 (table_of rows r.name.0) v) (first_same (table_of rows) (clauses r))
+  visit_same : (rows : List TypeRow) (r : RuleData) → visit g rows r ≡ visit h rows r
+  visit_same rows r = ap (λ v. taken rows r.name.0 (table_of rows r.name.0) v) (first_same (table_of rows) (type_clauses r))
 
-  visits_same : (rows : List Row) (rs : List RuleData) → visits g rows rs ≡ visits h rows rs
+  visits_same : (rows : List TypeRow) (rs : List RuleData) → visits g rows rs ≡ visits h rows rs
   visits_same rows [] = refl
   visits_same rows (r ∷ rs) = ap (λ x. visits g x rs) (visit_same rows r) ∙ visits_same (visit h rows r) rs
 
-  round_same : (rows : List Row) → round g rows ≡ round h rows
+  round_same : (rows : List TypeRow) → round g rows ≡ round h rows
   round_same rows = visits_same rows (all_rules g) ∙ ap (λ rs. visits h rows rs) s.rules
 
-  rounds_same : (k : ℕ) → rounds g k ≡ rounds h k
+  rounds_same : (k : ℕ) → type_rounds g k ≡ type_rounds h k
   rounds_same zero = refl
-  rounds_same (suc k) = ap (λ rows. round g rows) (rounds_same k) ∙ round_same (rounds h k)
+  rounds_same (suc k) = ap (λ rows. round g rows) (rounds_same k) ∙ round_same (type_rounds h k)
 
   table_same : inferred_table g ≡ inferred_table h
-  table_same = ap table_of (ap (λ (rs : List RuleData). rounds g (length rs)) s.rules ∙ rounds_same (length (all_rules h)))
+  table_same = ap table_of (ap (λ (rs : List RuleData). type_rounds g (length rs)) s.rules ∙ rounds_same (length (all_rules h)))
 
   -- ---- faults
 
@@ -113,7 +113,7 @@ module _ (g h : GrammarData) (s : LooksSame g h) where
       ap (λ rs. filter (λ (r : RuleData). is_none (inferred_table g r.name.0)) rs) s.rules
       ∙ ap (λ (f : Table). filter (λ (r : RuleData). is_none (f r.name.0)) (all_rules h)) table_same
 
-  disagrees_same : (r : RuleData) (c : Option Clause) → clause_disagrees g r c ≡ clause_disagrees h r c
+  disagrees_same : (r : RuleData) (c : Option TypeClause) → clause_disagrees g r c ≡ clause_disagrees h r c
   disagrees_same r None = refl
   disagrees_same r (Some c) =
       ap (λ v. is_other v (inferred_table g r.name.0)) (clause_same (inferred_table g) c)
@@ -173,7 +173,7 @@ module _ (t u : InternTokenData) (entries : t.match_entries ≡ u.match_entries)
     location_case (Some e) = declared_beside (codes "Location")
     location_case None = refl
 
-    location_beside : location_type (with_tokens t g) ≡ location_type (with_tokens u g)
+    location_beside : declared_location (with_tokens t g) ≡ declared_location (with_tokens u g)
     location_beside = ap (λ o. location_with o (with_tokens t g)) enum_beside ∙ location_case (extern_enum (with_tokens u g))
 
     token_beside : token_type (with_tokens t g) ≡ token_type (with_tokens u g)
@@ -190,8 +190,8 @@ module _ (t u : InternTokenData) (entries : t.match_entries ≡ u.match_entries)
     recovery_beside : recovery_type (with_tokens t g) ≡ recovery_type (with_tokens u g)
     recovery_beside =
         ap (λ x. recovery_of x (token_type (with_tokens t g)) (error_type (with_tokens t g))) location_beside
-        ∙ (ap (λ x. recovery_of (location_type (with_tokens u g)) x (error_type (with_tokens t g))) token_beside
-        ∙ ap (λ x. recovery_of (location_type (with_tokens u g)) (token_type (with_tokens u g)) x) error_beside)
+        ∙ (ap (λ x. recovery_of (declared_location (with_tokens u g)) x (error_type (with_tokens t g))) token_beside
+        ∙ ap (λ x. recovery_of (declared_location (with_tokens u g)) (token_type (with_tokens u g)) x) error_beside)
 
     rows_case : (o : Option EnumTokenData) → rows_with o (with_tokens t g) ≡ rows_with o (with_tokens u g)
     rows_case (Some e) = refl

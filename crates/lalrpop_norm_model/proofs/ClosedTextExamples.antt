@@ -8,7 +8,7 @@ use Rattle.lalrpop_norm_parts.specs.declared.names.TerminalString.TheVariants.{L
 use Rattle.lalrpop_norm_parts.specs.declared.names.TerminalLiteral.TheVariants.{Regex}
 use Rattle.lalrpop_norm_tree.specs.Symbols as written
 use Rattle.lalrpop_norm_tree.specs.Symbols.{Kind, argument_patterns_of, one_name, several}
-use Rattle.lalrpop_norm_theory.specs.Symbols.{Name, quoted, regex, bare, error_terminal, ArgumentPatterns, name_pattern, tuple_pattern, no_patterns, pattern_and, chosen, named, tuple, ClosedSymbol, terminal, error, reference, call, group, star, plus, question, wrapped, lookahead, lookbehind, no_symbols, symbol_and, only}
+use Rattle.lalrpop_norm_theory.specs.Symbols.{Name, quoted, regex, bare, error_terminal, ClosedPatterns, name_pattern, tuple_pattern, no_patterns, pattern_and, chosen, named, tuple, ClosedSymbol, terminal, error, reference, call, group, star, plus, question, wrapped, lookahead, lookbehind, no_symbols, symbol_and, only}
 use Rattle.lalrpop_norm_model.specs.Reading.{Reader, read_kind}
 use Rattle.lalrpop_norm_model.specs.MadeRules.{flat_reader}
 use Rattle.lalrpop_norm_model.specs.ClosedTexts.{closed_text, level_name, text_in}
@@ -70,7 +70,7 @@ text_of_mutable : text (wrapped (named true (codes "x")) (reference (codes "Y") 
 text_of_mutable = refl
 
 -- (a, (mut b, c)):Y and ():Y
-abbrev patterns : ArgumentPatterns
+abbrev patterns : ClosedPatterns
 patterns = pattern_and (name_pattern false (codes "a"))
     (pattern_and (tuple_pattern (pattern_and (name_pattern true (codes "b")) (pattern_and (name_pattern false (codes "c")) no_patterns))) no_patterns)
 

@@ -12,7 +12,7 @@ use Rattle.lalrpop_norm_tree.specs.declared.items.MatchMapping.TheVariants.{Term
 use Rattle.lalrpop_norm_tree.specs.Items.{GrammarData}
 use Rattle.lalrpop_norm_tree.specs.Symbols.{Kind, terminal, chosen, at}
 use Rattle.lalrpop_norm_theory.specs.Rounds.{In}
-use Rattle.lalrpop_norm_model.specs.Entries.{IsEntry, written, added, AreEntries, itself, match_entries, catch_all, entry_cmp}
+use Rattle.lalrpop_norm_model.specs.Entries.{IsEntry, written, added, AreEntries, own_mapping, match_entries, catch_all, entry_cmp}
 use Rattle.lalrpop_norm_model.proofs.ListLemmas.{texts_differ}
 use Rattle.lalrpop_norm_model.proofs.ExampleGrammars.{nowhere, quoted, pattern, plain, a_rule, match_tokens, a_grammar, of_rules}
 
@@ -36,7 +36,7 @@ words = of_rules (match_tokens ((Mapped (Regex (codes "(?i)BEGIN")) (Terminal (q
 
 abbrev pub words_entries : List MatchEntry
 words_entries =
-    entry 2 (Regex (codes "[a-zA-Z]+")) (itself (Regex (codes "[a-zA-Z]+")))
+    entry 2 (Regex (codes "[a-zA-Z]+")) (own_mapping (Regex (codes "[a-zA-Z]+")))
     ∷ entry 4 (Regex (codes "(?i)BEGIN")) (Terminal (quoted (codes "BEGIN")))
     ∷ entry 5 (Quoted (codes "+")) (Terminal (quoted (codes "+"))) ∷ []
 
@@ -129,7 +129,7 @@ abbrev bare : GrammarData
 bare = of_rules [] (a_rule (codes "S") None (plain (terminal (quoted (codes "b")) ∷ terminal (pattern (codes "a")) ∷ terminal (quoted (codes "b")) ∷ []) ∷ []) ∷ [])
 
 abbrev bare_entries : List MatchEntry
-bare_entries = entry 0 (Regex (codes "a")) (itself (Regex (codes "a"))) ∷ entry 1 (Quoted (codes "b")) (itself (Quoted (codes "b"))) ∷ []
+bare_entries = entry 0 (Regex (codes "a")) (own_mapping (Regex (codes "a"))) ∷ entry 1 (Quoted (codes "b")) (own_mapping (Quoted (codes "b"))) ∷ []
 
 bare_given : {e : MatchEntry} → IsEntry bare e → In e bare_entries
 bare_given (written e i) = absurd i
@@ -159,5 +159,5 @@ last_counts = refl
 none_let_in : catch_all (a_grammar (match_tokens ((Mapped (Regex (codes "s")) Skip nowhere ∷ []) ∷ []) ∷ [])) ≡ None
 none_let_in = refl
 
-skipped : match_entries (a_grammar (match_tokens ((Mapped (Regex (codes "s")) Skip nowhere ∷ Unmapped (Quoted (codes "a")) nowhere ∷ []) ∷ []) ∷ [])) ≡ entry 2 (Regex (codes "s")) Skip ∷ entry 3 (Quoted (codes "a")) (itself (Quoted (codes "a"))) ∷ []
+skipped : match_entries (a_grammar (match_tokens ((Mapped (Regex (codes "s")) Skip nowhere ∷ Unmapped (Quoted (codes "a")) nowhere ∷ []) ∷ []) ∷ [])) ≡ entry 2 (Regex (codes "s")) Skip ∷ entry 3 (Quoted (codes "a")) (own_mapping (Quoted (codes "a"))) ∷ []
 skipped = refl

@@ -11,7 +11,7 @@ use Rattle.lalrpop_norm_parts.specs.Attributes.{AttributeData, Attributes, attri
 use Rattle.lalrpop_norm_tree.specs.Symbols.{Part, Parts, terminal, nonterminal, at, no_parts, part_and}
 use Rattle.lalrpop_norm_tree.specs.Items.{AlternativeData, RuleData, GrammarData, rule_item, private}
 use Rattle.lalrpop_norm_theory.specs.Symbols as closed
-use Rattle.lalrpop_norm_theory.specs.Symbols.{ClosedSymbols, reference, symbol_and, only}
+use Rattle.lalrpop_norm_theory.specs.Symbols.{reference, symbol_and, only}
 use Rattle.lalrpop_norm_theory.specs.Rounds.{In, IsDistinct}
 use Rattle.lalrpop_norm_model.specs.Enabled.{all_places}
 use Rattle.lalrpop_norm_model.specs.Levels.{Leveled, with_levels, levels_of, previous_level}

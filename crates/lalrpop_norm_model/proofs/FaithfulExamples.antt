@@ -18,7 +18,7 @@ use Rattle.lalrpop_norm_model.specs.WrittenRules.{WrittenRule, flat_rules}
 use Rattle.lalrpop_norm_model.specs.Scoped.{are_scoped}
 use Rattle.lalrpop_norm_model.specs.ClosedTexts.{text_in}
 use Rattle.lalrpop_norm_model.specs.MadeRules.{star_rule}
-use Rattle.lalrpop_norm_model.specs.PlainRules.{plain_grammar, IsWhole}
+use Rattle.lalrpop_norm_model.specs.PlainRules.{plain_grammar, IsEnded}
 use Rattle.lalrpop_norm_model.specs.PlainTables.{IsSettled, flat_meaning, closed, closed_parts, plain_table}
 use Rattle.lalrpop_norm_model.specs.Expanded.{rule_names}
 use Rattle.lalrpop_norm_model.proofs.ExampleWords.{nowhere, here, literal, optional, name, starred, name_before, symbols, alternative, rule, macro_rule, rules_alone, example_value}
@@ -92,7 +92,7 @@ small = rules_alone
 small_settled : IsSettled small
 small_settled = settled_by small refl refl refl
 
-small_whole : IsWhole example_value small 2
+small_whole : IsEnded example_value small 2
 small_whole = refl
 
 -- its plain rules are those of S, A, M<A*>, A*, A+ and @L

@@ -5,7 +5,7 @@ use Rattle.lalrpop_norm_tree.specs.Items.{RuleData, ItemData, GrammarData, match
 use Rattle.lalrpop_norm_theory.specs.Symbols.{Name, ClosedSymbol, reference}
 use Rattle.lalrpop_norm_theory.specs.Rounds.{In, IsDistinct}
 use Rattle.lalrpop_norm_theory.specs.Meaning.{Meaning}
-use Rattle.lalrpop_norm_theory.specs.LoweredTrees.{LoweredGrammar}
+use Rattle.lalrpop_norm_theory.specs.LoweredTrees.{ProductionTable}
 use Rattle.lalrpop_norm_theory.specs.Clauses.{clauses}
 use Rattle.lalrpop_norm_theory.specs.Met.{expansion, expanded_symbols, IsKnown, IsResolvedIn}
 use Rattle.lalrpop_norm_theory.specs.Tables.{OneRuleAName, table}
@@ -14,7 +14,7 @@ use Rattle.lalrpop_norm_theory.proofs.Expansion.{expansions_one_to_one}
 use Rattle.lalrpop_norm_model.specs.WrittenRules.{flat_rules}
 use Rattle.lalrpop_norm_model.specs.Grammars.{is_nil, ConditionValue}
 use Rattle.lalrpop_norm_model.specs.ClosedTexts.{text_in}
-use Rattle.lalrpop_norm_model.specs.PlainRules.{replaced_rule, rule_of_item, rules_of, made_in, plain_item, plain_rules}
+use Rattle.lalrpop_norm_model.specs.PlainRules.{replaced_rule, rule_of_item, rules_without_arguments, made_in, plain_item, plain_rules}
 use Rattle.lalrpop_norm_model.specs.Origins.{plain_symbols}
 use Rattle.lalrpop_norm_model.specs.PlainTables.{IsSettled, flat_meaning, declared, plain_table}
 use Rattle.lalrpop_norm_model.specs.Laws.{PlainGrammarsHoldPlainRules, DistinctNamesMeanOneRule, PlainRulesAreFaithful}
@@ -90,8 +90,8 @@ module _ (value : ConditionValue) (g : GrammarData) (S : IsSettled g) where
   declared_reference : (P : ClosedSymbol → Type 0) → ((n : Name) → In (reference n None) (declared g) → P (reference n None)) →
       (s : ClosedSymbol) → In s (declared g) → P s
   declared_reference P h s i =
-      let same : declared g ≡ map (λ (r : RuleData). reference r.name.0 None) (rules_of g) = (rules_are_read value g S).0 in
-      let r = of_map (λ (d : RuleData). reference d.name.0 None) s (rules_of g) (subst (λ (gs : List ClosedSymbol). In s gs) same i) in
+      let same : declared g ≡ map (λ (r : RuleData). reference r.name.0 None) (rules_without_arguments g) = (rules_are_read value g S).0 in
+      let r = of_map (λ (d : RuleData). reference d.name.0 None) s (rules_without_arguments g) (subst (λ (gs : List ClosedSymbol). In s gs) same i) in
       subst P (sym r.2) (h r.0.name.0 (subst (λ (x : ClosedSymbol). In x (declared g)) r.2 i))
 
   module _ (n : ℕ) (none : (expansion (flat_meaning value g) (declared g) n).fresh ≡ [])
@@ -99,7 +99,7 @@ module _ (value : ConditionValue) (g : GrammarData) (S : IsSettled g) where
     known_faithful : (s : ClosedSymbol) → IsKnown (declared g) (expanded_symbols (flat_meaning value g) (declared g) n) s →
         OneToOne (flat_meaning value g) (text_in (flat_rules g)) (plain_table value g n) s
     known_faithful s k =
-        subst (λ (P : LoweredGrammar). OneToOne (flat_meaning value g) (text_in (flat_rules g)) P s)
+        subst (λ (P : ProductionTable). OneToOne (flat_meaning value g) (text_in (flat_rules g)) P s)
         (ap table (sym (plain_rules_are_read value g S n).1))
         (expansions_one_to_one (flat_meaning value g) (meanings_have_levels value (flat_rules g)).0 (meanings_have_levels value (flat_rules g)).1
         (declared g) (meanings_are_resolved value (flat_rules g) S.scoped)

@@ -8,7 +8,7 @@ use Rattle.lalrpop_norm_theory.specs.Symbols.{Name}
 use Rattle.lalrpop_norm_theory.specs.Rounds.{In, IsDistinct}
 use Rattle.lalrpop_norm_model.specs.Enabled.{all_places}
 use Rattle.lalrpop_norm_model.specs.Scopes.{globals}
-use Rattle.lalrpop_norm_model.specs.WrittenRules.{WrittenRule, leveled_rule, flat_rule, rules_through, leveled_rules, flat_rules, rule_named}
+use Rattle.lalrpop_norm_model.specs.WrittenRules.{WrittenRule, written_rule_with_levels, flat_rule, rules_through, leveled_rules, flat_rules, rule_named}
 use Rattle.lalrpop_norm_model.specs.LevelRules.{level_rules, level_items, leveled_grammar}
 use Rattle.lalrpop_norm_model.specs.PlainRules.{rule_of_item, all_rules}
 use Rattle.lalrpop_norm_model.specs.Expanded.{rule_names}
@@ -112,7 +112,7 @@ found_through f e ds d h i =
 
 module _ (g : GrammarData) where
   abbrev pub as_leveled : RuleData → WrittenRule
-  as_leveled d = leveled_rule (globals g) d (all_places d)
+  as_leveled d = written_rule_with_levels (globals g) d (all_places d)
 
   abbrev pub as_flat : RuleData → WrittenRule
   as_flat d = flat_rule (globals g) d (all_places d)

@@ -8,14 +8,15 @@ use Rattle.lalrpop_norm_theory.specs.Rounds.{In, IsDistinct}
 use Rattle.lalrpop_norm_model.specs.PlainRules.{all_rules}
 use Rattle.lalrpop_norm_model.specs.Expanded.{rule_names}
 use Rattle.lalrpop_norm_model.specs.SameTypes.{same_type}
-use Rattle.lalrpop_norm_model.specs.TypeRelation.{IsRule, Clause, makes, alternative_clause, clauses_of, clauses, HasOneType}
-use Rattle.lalrpop_norm_model.specs.TypeTables.{clause_value, IsClosed, IsTable}
+use Rattle.lalrpop_norm_model.specs.TypeRelation.{IsRule, TypeClause, makes, alternative_clause, type_clauses_of, type_clauses, HasOneType}
+use Rattle.lalrpop_norm_model.specs.TypeTables.{clause_value, IsClosedTable, IsTable}
 use Rattle.lalrpop_norm_model.specs.TypeRounds.{inferred}
 use Rattle.lalrpop_norm_model.specs.InferenceFaults.{is_undeclared, undeclared, inferred_table, untyped_rules, is_other, clause_disagrees, disagreeing_in, disagreeing}
 use Rattle.lalrpop_norm_model.proofs.SameTypeLemmas.{type_sound, type_same}
 use Rattle.lalrpop_norm_model.proofs.TypeRoundLemmas.{IsFull, one_exactly, one_table}
 use Rattle.lalrpop_norm_model.proofs.TypeEndLemmas.{inferred_end}
 use Rattle.lalrpop_norm_model.proofs.TypeFedLemmas.{own_fed}
+use Rattle.lalrpop_norm_theory.proofs.BoolLemmas.{not_false}
 
 -- ---- lists
 
@@ -110,10 +111,6 @@ pub what_some : {A : Type 0} (v : Option A) → IsSome v → (x : A) × (v ≡ S
 what_some None s = absurd cc
 what_some (Some x) s = (x, refl)
 
-not_false : (b : Bool) → not b ≡ false → b ≡ true
-not_false true e = refl
-not_false false e = absurd cc
-
 not_other : (v w : Option ReprData) → is_other v w ≡ false → (x : ReprData) → v ≡ Some x → w ≡ Some x
 not_other None w e x d = absurd cc
 not_other (Some y) None e x d = absurd cc
@@ -134,22 +131,22 @@ none_untyped g full = all_fail (λ (r : RuleData). is_none (inferred_table g r.n
 -- ---- alternatives that disagree
 
 declared_agrees : (g : GrammarData) → IsDistinct (rule_names g) → IsFull g (inferred_table g) → (r : RuleData) → IsRule g r → (t : TypeData) → r.type_decl ≡ Some t →
-    (c : Clause) → In c (makes t ∷ []) → (x : ReprData) → clause_value g (inferred_table g) c ≡ Some x → inferred_table g r.name.0 ≡ Some x
+    (c : TypeClause) → In c (makes t ∷ []) → (x : ReprData) → clause_value g (inferred_table g) c ≡ Some x → inferred_table g r.name.0 ≡ Some x
 declared_agrees g distinct full r rule t d c (inr i) x e = absurd i
 declared_agrees g distinct full r rule t d c (inl is) x e =
     let y = what_some (inferred_table g r.name.0) (full r rule) in
     let own = own_fed g (inferred g) distinct (inferred_end g) r rule y.0 y.1 in
-    let among : In own.0 (makes t ∷ []) = subst (λ o. In own.0 (clauses_of o r.alternatives)) d own.1 in
+    let among : In own.0 (makes t ∷ []) = subst (λ o. In own.0 (type_clauses_of o r.alternatives)) d own.1 in
     let same : own.0 ≡ c = only own.0 among ∙ sym is in
     let mine : clause_value g (inferred_table g) c ≡ Some y.0 = subst (λ b. clause_value g (inferred_table g) b ≡ Some y.0) same own.2 in
     y.1 ∙ (sym mine ∙ e)
   where
-    only : (b : Clause) → In b (makes t ∷ []) → b ≡ makes t
+    only : (b : TypeClause) → In b (makes t ∷ []) → b ≡ makes t
     only b (inl same) = same
     only b (inr i) = absurd i
 
 undeclared_agrees : (g : GrammarData) → disagreeing g ≡ [] → (r : RuleData) → IsRule g r → r.type_decl ≡ None →
-    (c : Clause) → In c (filter_map alternative_clause r.alternatives) → (x : ReprData) → clause_value g (inferred_table g) c ≡ Some x → inferred_table g r.name.0 ≡ Some x
+    (c : TypeClause) → In c (filter_map alternative_clause r.alternatives) → (x : ReprData) → clause_value g (inferred_table g) c ≡ Some x → inferred_table g r.name.0 ≡ Some x
 undeclared_agrees g e r rule d c i x h =
     let standing = in_filter is_undeclared (all_rules g) r rule (rw d refl) in
     let agreeing : disagreeing_in g r ≡ [] = none_made (disagreeing_in g) (undeclared g) e r standing in
@@ -160,21 +157,21 @@ undeclared_agrees g e r rule d c i x h =
     not_other (clause_value g (inferred_table g) c) (inferred_table g r.name.0) not x h
 
 closed_case : (g : GrammarData) → IsDistinct (rule_names g) → IsFull g (inferred_table g) → disagreeing g ≡ [] → (r : RuleData) → IsRule g r → (d : Option TypeData) → r.type_decl ≡ d →
-    (c : Clause) → In c (clauses_of d r.alternatives) → (x : ReprData) → clause_value g (inferred_table g) c ≡ Some x → inferred_table g r.name.0 ≡ Some x
+    (c : TypeClause) → In c (type_clauses_of d r.alternatives) → (x : ReprData) → clause_value g (inferred_table g) c ≡ Some x → inferred_table g r.name.0 ≡ Some x
 closed_case g distinct full e r rule (Some t) d c i x h = declared_agrees g distinct full r rule t d c i x h
 closed_case g distinct full e r rule None d c i x h = undeclared_agrees g e r rule d c i x h
 
-all_agree : (g : GrammarData) → IsDistinct (rule_names g) → IsFull g (inferred_table g) → disagreeing g ≡ [] → IsClosed g (inferred_table g)
+all_agree : (g : GrammarData) → IsDistinct (rule_names g) → IsFull g (inferred_table g) → disagreeing g ≡ [] → IsClosedTable g (inferred_table g)
 all_agree g distinct full e r rule c i x h = closed_case g distinct full e r rule r.type_decl refl c i x h
 
-clause_case : (g : GrammarData) → IsClosed g (inferred_table g) → (r : RuleData) → IsRule g r → r.type_decl ≡ None → (a : AlternativeData) → In a r.alternatives →
-    (v : Option Clause) → alternative_clause a ≡ v → clause_disagrees g r v ≡ false
+clause_case : (g : GrammarData) → IsClosedTable g (inferred_table g) → (r : RuleData) → IsRule g r → r.type_decl ≡ None → (a : AlternativeData) → In a r.alternatives →
+    (v : Option TypeClause) → alternative_clause a ≡ v → clause_disagrees g r v ≡ false
 clause_case g closed r rule d a i None e = refl
 clause_case g closed r rule d a i (Some c) e =
-    let among : In c (clauses r) = subst (λ o. In c (clauses_of o r.alternatives)) (sym d) (made_in alternative_clause r.alternatives a c i e) in
+    let among : In c (type_clauses r) = subst (λ o. In c (type_clauses_of o r.alternatives)) (sym d) (made_in alternative_clause r.alternatives a c i e) in
     agrees_not_other (clause_value g (inferred_table g) c) (inferred_table g r.name.0) (closed r rule c among)
 
-none_disagrees : (g : GrammarData) → IsClosed g (inferred_table g) → disagreeing g ≡ []
+none_disagrees : (g : GrammarData) → IsClosedTable g (inferred_table g) → disagreeing g ≡ []
 none_disagrees g closed = all_empty (disagreeing_in g) (undeclared g) (λ r i.
     let rule = in_filtered is_undeclared (all_rules g) r i in
     all_fail (λ (a : AlternativeData). clause_disagrees g r (alternative_clause a)) r.alternatives

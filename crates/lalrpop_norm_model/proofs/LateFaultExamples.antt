@@ -7,7 +7,7 @@ use Rattle.lalrpop_norm_tree.specs.Types.{TypeData, id, tuple, no_types}
 use Rattle.lalrpop_norm_faults.specs.Faults.{Fault, first}
 use Rattle.lalrpop_norm_faults.specs.declared.kind.FaultKind.TheVariants.{NoAlternatives, OnlyCoded, NotGrounded, Disagreement, TupleOverSymbol, TupleOverType, TupleLength, Placeholders, StartTaken, TooManyActions}
 use Rattle.lalrpop_norm_model.specs.InferenceFaults.{inferred_table, inference_faults}
-use Rattle.lalrpop_norm_model.specs.LoweringFaults.{slots, number_faults, lowering_faults}
+use Rattle.lalrpop_norm_model.specs.LoweringFaults.{slots, action_number_faults, lowering_faults}
 use Rattle.lalrpop_norm_model.proofs.ExampleWords.{span, name_before}
 use Rattle.lalrpop_norm_model.proofs.ExampleGrammars.{quoted, with_code, a_rule, tok_tokens, of_rules}
 
@@ -228,8 +228,8 @@ starts_first = refl
 
 -- ---- lowering: numbers
 
-last_number : number_faults 4294967295 (span 1 2) ≡ []
+last_number : action_number_faults 4294967295 (span 1 2) ≡ []
 last_number = refl
 
-past_the_last : number_faults 4294967296 (span 1 2) ≡ (TooManyActions, span 1 2) ∷ []
+past_the_last : action_number_faults 4294967296 (span 1 2) ≡ (TooManyActions, span 1 2) ∷ []
 past_the_last = refl

@@ -12,10 +12,10 @@ use Rattle.lalrpop_norm_theory.specs.Leveled.{level_reference, leveled_symbols}
 use Rattle.lalrpop_norm_model.specs.Enabled.{all_places, present}
 use Rattle.lalrpop_norm_model.specs.Scopes.{globals, sense_of, resolved_alternative, resolved_rule, resolved_item, resolved_grammar}
 use Rattle.lalrpop_norm_model.specs.Levels.{Leveled, has_levels, with_levels, highest_level, previous_level}
-use Rattle.lalrpop_norm_model.specs.WrittenRules.{WrittenRule, resolved_places, leveled_rule, leveled_rules, rule_named}
+use Rattle.lalrpop_norm_model.specs.WrittenRules.{WrittenRule, resolved_places, written_rule_with_levels, leveled_rules, rule_named}
 use Rattle.lalrpop_norm_model.specs.Occurrences.{own_bound}
 use Rattle.lalrpop_norm_model.specs.Reading.{read_all}
-use Rattle.lalrpop_norm_model.specs.Grammars.{is_nil, is_macro, is_own_level, bound_of, own_bound_in, rule_reader, parts_at, rule_parts, place_count, previous_bound, ConditionValue, meaning}
+use Rattle.lalrpop_norm_model.specs.Grammars.{is_nil, has_arguments, is_own_level, bound_of, own_bound_in, rule_reader, parts_at, rule_parts, place_count, previous_bound, ConditionValue, meaning}
 use Rattle.lalrpop_norm_model.specs.ClosedTexts.{level_name, named_level, level_names}
 use Rattle.lalrpop_norm_model.specs.MadeRules.{flat_reader}
 use Rattle.lalrpop_norm_model.specs.LevelRules.{leveled_parts, level_of_rule, level_alternative, step_alternatives, of_level, level_rule}
@@ -49,7 +49,7 @@ module _ (rs : List WrittenRule) where
   -- a reference from elsewhere keeps its name
   pub others_named : (n : Name) (o : Option WrittenRule) → rule_named rs n ≡ o → level_reference (level_names rs) n (bound_of o) ≡ n
   others_named n None e = refl
-  others_named n (Some s) e = by s.has_levels (is_macro s)
+  others_named n (Some s) e = by s.has_levels (has_arguments s)
     where
       by : (x y : Bool) → level_reference (level_names rs) n (if x && not y then Some (highest_level s.places) else None) ≡ n
       by true false = ap (λ o. named_level o n (highest_level s.places)) e ∙ name_highest n (highest_level s.places)
@@ -170,7 +170,7 @@ resolved_rule_places g e d i =
     somes (resolved_alternative (sense_of (globals g) d.args)) d.alternatives ∙ ap (map Some) (ap alternatives_in item)
 
 pub leveled_whole : (g : GrammarData) → resolved_grammar g ≡ g → (d : RuleData) → In (rule_item d) g.items → has_levels (all_places d) ≡ true →
-    leveled_rule (globals g) d (all_places d) ≡ whole (leveled_rules g) d (with_levels (all_places d))
+    written_rule_with_levels (globals g) d (all_places d) ≡ whole (leveled_rules g) d (with_levels (all_places d))
 leveled_whole g e d i h =
     ap₂ (λ (b : Bool) ps. record { name = d.name.0; args = d.args; has_levels = b; places = with_levels ps }) h (resolved_rule_places g e d i)
 
@@ -178,10 +178,10 @@ pub level_rules_are_read : LevelRulesAreRead
 level_rules_are_read value g e S d i found h plain l =
     level_read (leveled_rules g) d (with_levels (all_places d)) (found ∙ ap Some is) plain scoped value l
   where
-    is : leveled_rule (globals g) d (all_places d) ≡ whole (leveled_rules g) d (with_levels (all_places d))
+    is : written_rule_with_levels (globals g) d (all_places d) ≡ whole (leveled_rules g) d (with_levels (all_places d))
     is = leveled_whole g e d i h
 
     scoped : (a : Leveled) → In (Some a) (with_levels (all_places d)) → are_scoped (leveled_rules g) d.args a.alternative.parts ≡ true
     scoped a j =
-        S (leveled_rule (globals g) d (all_places d)) a (rule_found (leveled_rules g) d.name.0 (leveled_rule (globals g) d (all_places d)) found).0
+        S (written_rule_with_levels (globals g) d (all_places d)) a (rule_found (leveled_rules g) d.name.0 (written_rule_with_levels (globals g) d (all_places d)) found).0
         (subst (λ (r : WrittenRule). In (Some a) r.places) (sym is) j)

@@ -8,7 +8,7 @@ use Rattle.lalrpop_norm_tree.specs.Symbols.{Kind}
 use Rattle.lalrpop_norm_tree.specs.Items.{InternTokenData, GrammarData}
 use Rattle.lalrpop_norm_faults.specs.Faults.{Fault, MayBeTold}
 use Rattle.lalrpop_norm_faults.specs.declared.kind.FaultKind.TheVariants.{BadRegex, RegexFeature, Ambiguity, NoMapping}
-use Rattle.lalrpop_norm_model.specs.Entries.{itself, written}
+use Rattle.lalrpop_norm_model.specs.Entries.{own_mapping, written}
 use Rattle.lalrpop_norm_model.specs.Lexers.{look_around, Lexer}
 use Rattle.lalrpop_norm_model.specs.CheckedTokens.{with_tokens, IsEntered, IsChecked}
 use Rattle.lalrpop_norm_model.specs.InferenceFaults.{inference_faults}
@@ -61,7 +61,7 @@ ambiguity = by_ambiguity (place 5) (record {
   all_entries = words_are;
   of_entries = (refl, (refl, (refl, tt)));
   ambiguity = record { first_in_range = omega arith; second_in_range = omega arith; differ = zero_not_one; ambiguous = (refl, refl) };
-  place = record { entry = entry 2 (Regex (codes "[a-zA-Z]+")) (itself (Regex (codes "[a-zA-Z]+"))); at_index = refl; place = refl };
+  place = record { entry = entry 2 (Regex (codes "[a-zA-Z]+")) (own_mapping (Regex (codes "[a-zA-Z]+"))); at_index = refl; place = refl };
 })
 
 -- entry 1: told at its match item
@@ -83,9 +83,9 @@ open_group uses = of_rules (match_tokens ((Unmapped (Regex (codes "(")) (place 1
 
 bad_text : (uses : List Kind) → LexerRefuses strict (open_group uses) (BadRegex, place 1)
 bad_text uses = by_text (place 1) (record {
-  entry = entry 2 (Regex (codes "(")) (itself (Regex (codes "(")));
+  entry = entry 2 (Regex (codes "(")) (own_mapping (Regex (codes "(")));
   text = codes "(";
-  is_entry = written (entry 2 (Regex (codes "(")) (itself (Regex (codes "(")))) (inl refl);
+  is_entry = written (entry 2 (Regex (codes "(")) (own_mapping (Regex (codes "(")))) (inl refl);
   literal = refl;
   bad = refl;
   place = refl;

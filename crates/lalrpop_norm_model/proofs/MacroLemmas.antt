@@ -14,7 +14,7 @@ use Rattle.lalrpop_norm_model.specs.Levels.{every, Leveled, has_levels, level_at
 use Rattle.lalrpop_norm_model.specs.WrittenRules.{WrittenRule, leveled_rules, flat_rules, rule_named}
 use Rattle.lalrpop_norm_model.specs.Occurrences.{own_bound}
 use Rattle.lalrpop_norm_model.specs.Reading.{read_name, read_all}
-use Rattle.lalrpop_norm_model.specs.Grammars.{is_nil, bound_of, bound_argument, fits, value_of, is_true, macro_reader, instance_at, instance_parts, instance_count, ConditionValue, meaning}
+use Rattle.lalrpop_norm_model.specs.Grammars.{is_nil, bound_of, bound_argument, arguments_fit, value_of, is_true, macro_reader, instance_at, instance_parts, instance_count, ConditionValue, meaning}
 use Rattle.lalrpop_norm_model.specs.ClosedTexts.{level_name, level_names}
 use Rattle.lalrpop_norm_model.specs.LevelRules.{without_first, is_own, level_of_rule, level_alternative, step_alternatives, of_level, level_rule, level_rules, leveled_grammar}
 use Rattle.lalrpop_norm_model.specs.PlainRules.{all_rules}
@@ -28,7 +28,7 @@ use Rattle.lalrpop_norm_model.proofs.LevelGrammarLemmas.{no_levels_found, places
 
 -- ---- arguments
 
-fits_leveled : (l : Name → ℕ → Name) (params : List NonterminalString) (args : ClosedSymbols) → fits params (leveled_symbols l args) ≡ fits params args
+fits_leveled : (l : Name → ℕ → Name) (params : List NonterminalString) (args : ClosedSymbols) → arguments_fit params (leveled_symbols l args) ≡ arguments_fit params args
 fits_leveled l [] no_symbols = refl
 fits_leveled l [] (symbol_and x xs) = refl
 fits_leveled l (a ∷ params) no_symbols = refl
@@ -246,7 +246,7 @@ module _ (g : GrammarData) (N : HasLevelNames g) where
     pub macro_instance : (k : ℕ) → instance_parts value hs (leveled_symbols l args) k (Some there) ≡ option_map (leveled_symbols l) (instance_parts value rs args k (Some here))
     macro_instance k =
         ap (λ (b : Bool). if not (is_nil d.args) && b then instance_at value hs there (leveled_symbols l args) (slice_get there.places k) else None) (fits_leveled l d.args args)
-        ∙ instance_by (not (is_nil d.args) && fits d.args args) (instance_at value hs there (leveled_symbols l args) (slice_get there.places k))
+        ∙ instance_by (not (is_nil d.args) && arguments_fit d.args args) (instance_at value hs there (leveled_symbols l args) (slice_get there.places k))
         (instance_at value rs here args (slice_get here.places k))
         (macro_at 0 d.alternatives (λ x h. h) k
         ∙ ap (λ qs. option_map (leveled_symbols l) (instance_at value rs here args (slice_get qs k))) (sym (places_are g N d i)))

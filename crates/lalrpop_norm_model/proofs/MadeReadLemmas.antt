@@ -8,21 +8,21 @@ use Rattle.lalrpop_norm_parts.specs.declared.names.NonterminalString.{Nontermina
 use Rattle.lalrpop_norm_tree.specs.declared.symbol.RepeatOp.{RepeatOp}
 use Rattle.lalrpop_norm_tree.specs.declared.symbol.RepeatOp.TheVariants.{Star, Plus, Question}
 use Rattle.lalrpop_norm_tree.specs.Symbols as written
-use Rattle.lalrpop_norm_tree.specs.Symbols.{Kind, Part, Parts, at, no_parts, part_and}
+use Rattle.lalrpop_norm_tree.specs.Symbols.{Part, Parts, at, no_parts, part_and}
 use Rattle.lalrpop_norm_tree.specs.Items.{lookahead_code, lookbehind_code, AlternativeData, RuleData, ItemData, GrammarData, match_item, extern_item, intern_item, rule_item, use_item}
 use Rattle.lalrpop_norm_tree.specs.SymbolTexts.{kind_text, part_text}
 use Rattle.lalrpop_norm_theory.specs.Symbols.{Name, ClosedSymbols, reference, call, plus, no_symbols, symbol_and}
 use Rattle.lalrpop_norm_theory.specs.Rounds.{In, IsDistinct}
 use Rattle.lalrpop_norm_theory.specs.Meaning.{Meaning}
 use Rattle.lalrpop_norm_theory.specs.Clauses.{Clause, numbered, step_clauses, clauses}
-use Rattle.lalrpop_norm_theory.specs.Met.{IsExpanded}
+use Rattle.lalrpop_norm_theory.specs.Met.{BecomesRule}
 use Rattle.lalrpop_norm_model.specs.Enabled.{all_places, present}
 use Rattle.lalrpop_norm_model.specs.Scopes.{globals, resolved_grammar}
 use Rattle.lalrpop_norm_model.specs.Levels.{Leveled, every, without_levels}
 use Rattle.lalrpop_norm_model.specs.WrittenRules.{WrittenRule, flat_rule, flat_rules, rule_named}
 use Rattle.lalrpop_norm_model.specs.Occurrences.{count_part}
 use Rattle.lalrpop_norm_model.specs.Reading.{read_parts, read_all}
-use Rattle.lalrpop_norm_model.specs.Grammars.{is_nil, is_own_level, bound_of, own_bound_in, rule_reader, parts_at, rule_parts, place_count, previous_bound, fits, is_true, instance_at, instance_parts, instance_count, ConditionValue, meaning, references}
+use Rattle.lalrpop_norm_model.specs.Grammars.{is_nil, is_own_level, bound_of, own_bound_in, rule_reader, parts_at, rule_parts, place_count, previous_bound, arguments_fit, is_true, instance_at, instance_parts, instance_count, ConditionValue, meaning, references}
 use Rattle.lalrpop_norm_model.specs.Scoped.{takes, is_macro_for, is_scoped, are_scoped}
 use Rattle.lalrpop_norm_model.specs.MadeRules.{argument_kind, flat_reader, instance_alternative, instance_alternatives, instance_rule, instance_of, macro_named, group_rule, star_rule, plus_rule, question_rule, location_rule, made_rules}
 use Rattle.lalrpop_norm_model.specs.PlainRules.{rule_of_item, all_rules, macros_of}
@@ -158,7 +158,7 @@ references_are (d ∷ ds) = by (is_nil d.args) (references_are ds)
 
 -- ---- clauses
 
-fits_read : (params : List NonterminalString) (before after : ℕ) (ps : Parts) → fits params (read_parts flat_reader before after ps) ≡ takes params ps
+fits_read : (params : List NonterminalString) (before after : ℕ) (ps : Parts) → arguments_fit params (read_parts flat_reader before after ps) ≡ takes params ps
 fits_read [] before after no_parts = refl
 fits_read [] before after (part_and p ps) = refl
 fits_read (a ∷ params) before after no_parts = refl
@@ -214,7 +214,7 @@ module _ (value : ConditionValue) (ds : List RuleData) where
         meaning_read.call_parts n (read_all flat_reader ps) (0 + i) ≡ instance_read x
     call_parts_at i x e =
         let same : 0 + i ≡ i = omega arith in
-        let fit : fits d.args (read_all flat_reader ps) ≡ true = fits_read d.args 0 0 ps ∙ fitting in
+        let fit : arguments_fit d.args (read_all flat_reader ps) ≡ true = fits_read d.args 0 0 ps ∙ fitting in
         rw same (ap (instance_parts value (map flat_of ds) (read_all flat_reader ps) i) found
         ∙ rw (has_arguments, fit) (ap (instance_at value (map flat_of ds) (flat_of d) (read_all flat_reader ps)) e))
 
@@ -286,7 +286,7 @@ module _ (value : ConditionValue) (ds : List RuleData) where
   )
   repeat_made s Question p = (question_rule s p, refl, whole_rule meaning_read (at s (written.repeated Question p)) (question_rule s p) refl refl)
 
-  pub rule_made : (p : Part) → is_scoped (map flat_of ds) [] p ≡ true → IsExpanded (closed p) → OneRule p
+  pub rule_made : (p : Part) → is_scoped (map flat_of ds) [] p ≡ true → BecomesRule (closed p) → OneRule p
   rule_made (at s (written.group ps)) h e = (group_rule s ps, refl, whole_rule meaning_read _ _ refl refl)
   rule_made (at s (written.call n ps)) h e =
       let c = called_of ds n ps (and_parts (is_macro_for ps (rule_named (map flat_of ds) n)) (are_scoped (map flat_of ds) [] ps) h).0 in (

@@ -11,7 +11,7 @@ use Rattle.lalrpop_norm_tree.specs.Symbols.{Kind, Part, Parts, at, no_parts, par
 use Rattle.lalrpop_norm_tree.specs.Items.{lookahead_code, lookbehind_code, AlternativeData, RuleData}
 use Rattle.lalrpop_norm_theory.specs.Symbols.{Name}
 use Rattle.lalrpop_norm_theory.specs.Rounds.{In}
-use Rattle.lalrpop_norm_theory.specs.Met.{IsExpanded}
+use Rattle.lalrpop_norm_theory.specs.Met.{BecomesRule}
 use Rattle.lalrpop_norm_theory.proofs.RoundsLemmas.{in_cases}
 use Rattle.lalrpop_norm_model.specs.Scopes.{is_argument}
 use Rattle.lalrpop_norm_model.specs.Levels.{every, without_levels}
@@ -28,7 +28,7 @@ use Rattle.lalrpop_norm_model.proofs.MadeReadLemmas.{flat_of, macros_in, plain_i
 module _ (rs : List WrittenRule) where
   -- a symbol without arguments, whose names have a meaning, and of which a rule is made
   abbrev pub IsMade : Part → Type 0
-  IsMade p = (is_scoped rs [] p ≡ true) × IsExpanded (closed p)
+  IsMade p = (is_scoped rs [] p ≡ true) × BecomesRule (closed p)
 
   -- ---- what is met
 
@@ -39,7 +39,7 @@ module _ (rs : List WrittenRule) where
       here (inl e) = subst (λ (y : Part). IsMade y) (sym e) h
       here (inr e) = absurd e
 
-  repeat_expanded : (s : Span) (op : RepeatOp) (p : Part) → IsExpanded (closed (at s (written.repeated op p)))
+  repeat_expanded : (s : Span) (op : RepeatOp) (p : Part) → BecomesRule (closed (at s (written.repeated op p)))
   repeat_expanded s Star p = tt
   repeat_expanded s Plus p = tt
   repeat_expanded s Question p = tt

@@ -8,7 +8,7 @@ use Rattle.lalrpop_norm_theory.specs.Meaning.{HasCounts, HasLevels}
 use Rattle.lalrpop_norm_model.specs.Levels.{Leveled, previous_level}
 use Rattle.lalrpop_norm_model.specs.WrittenRules.{WrittenRule, rule_named}
 use Rattle.lalrpop_norm_model.specs.Reading.{read_all}
-use Rattle.lalrpop_norm_model.specs.Grammars.{is_macro, level_within, is_within, is_own_level, rule_reader, parts_at, rule_parts, place_count, instance_count, previous_bound, depth_of, fits, is_true, macro_reader, instance_at, instance_parts, ConditionValue, meaning}
+use Rattle.lalrpop_norm_model.specs.Grammars.{has_arguments, level_within, is_within, is_own_level, rule_reader, parts_at, rule_parts, place_count, instance_count, previous_bound, depth_of, arguments_fit, is_true, macro_reader, instance_at, instance_parts, ConditionValue, meaning}
 use Rattle.lalrpop_norm_model.specs.Laws.{MeaningsHaveLevels}
 use Rattle.lalrpop_norm_model.proofs.LevelLemmas.{at_in, place_has_level, previous_is, has_previous}
 
@@ -16,14 +16,14 @@ use Rattle.lalrpop_norm_model.proofs.LevelLemmas.{at_in, place_has_level, previo
 
 -- an alternative of a rule that passes, and what it is read as
 pub record Passing (rs : List WrittenRule) (passes : WrittenRule → ℕ → Bool) (k : ℕ) (r : WrittenRule) (parts : ClosedSymbols) : Type 0 where
-  pub is_rule : is_macro r ≡ false
+  pub is_rule : has_arguments r ≡ false
   pub alternative : Leveled
   pub there : slice_get r.places k ≡ Some (Some alternative)
   pub passing : passes r alternative.level ≡ true
   pub read : read_all (rule_reader rs r alternative) alternative.alternative.parts ≡ parts
 
 at_place : (rs : List WrittenRule) (passes : WrittenRule → ℕ → Bool) (k : ℕ) (r : WrittenRule) (parts : ClosedSymbols) →
-    is_macro r ≡ false → (p : Option (Option Leveled)) → slice_get r.places k ≡ p → parts_at rs r (passes r) p ≡ Some parts → Passing rs passes k r parts
+    has_arguments r ≡ false → (p : Option (Option Leveled)) → slice_get r.places k ≡ p → parts_at rs r (passes r) p ≡ Some parts → Passing rs passes k r parts
 at_place rs passes k r parts m None e h = absurd (grind arith)
 at_place rs passes k r parts m (Some None) e h = absurd (grind arith)
 at_place rs passes k r parts m (Some (Some a)) e h = by (passes r a.level) refl h
@@ -32,14 +32,14 @@ at_place rs passes k r parts m (Some (Some a)) e h = by (passes r a.level) refl 
     by true t h = record { is_rule = m; alternative = a; there = e; passing = t; read = cc h }
     by false t h = absurd (grind arith)
 
-in_rule : (rs : List WrittenRule) (passes : WrittenRule → ℕ → Bool) (k : ℕ) (r : WrittenRule) (parts : ClosedSymbols) (b : Bool) → is_macro r ≡ b →
+in_rule : (rs : List WrittenRule) (passes : WrittenRule → ℕ → Bool) (k : ℕ) (r : WrittenRule) (parts : ClosedSymbols) (b : Bool) → has_arguments r ≡ b →
     (if b then None else parts_at rs r (passes r) (slice_get r.places k)) ≡ Some parts → Passing rs passes k r parts
 in_rule rs passes k r parts true m h = absurd (grind arith)
 in_rule rs passes k r parts false m h = at_place rs passes k r parts m (slice_get r.places k) refl h
 
 pub passing_of : (rs : List WrittenRule) (passes : WrittenRule → ℕ → Bool) (k : ℕ) (r : WrittenRule) (parts : ClosedSymbols) →
     rule_parts rs passes k (Some r) ≡ Some parts → Passing rs passes k r parts
-passing_of rs passes k r parts h = in_rule rs passes k r parts (is_macro r) refl h
+passing_of rs passes k r parts h = in_rule rs passes k r parts (has_arguments r) refl h
 
 -- the same alternative by another test that it passes
 also_passing : (rs : List WrittenRule) (passes others : WrittenRule → ℕ → Bool) (k : ℕ) (r : WrittenRule) (parts : ClosedSymbols) →
@@ -56,7 +56,7 @@ not_passing rs passes others k r parts h t = rw (h.is_rule, h.there, t) refl
 -- a rule with a level below
 pub record Lower (r : WrittenRule) (b c : Option ℕ) : Type 0 where
   pub leveled : r.has_levels ≡ true
-  pub is_rule : is_macro r ≡ false
+  pub is_rule : has_arguments r ≡ false
   pub level : ℕ
   pub is : c ≡ Some level
   pub below : previous_level r.places (level_within r b) ≡ Some level
@@ -65,7 +65,7 @@ some_level_below : (o : Option ℕ) (c : Option ℕ) → option_map Some o ≡ S
 some_level_below None c h = absurd (grind arith)
 some_level_below (Some l) c h = (l, refl, sym (cc h))
 
-lower_by : (r : WrittenRule) (b c : Option ℕ) (x y : Bool) → r.has_levels ≡ x → is_macro r ≡ y →
+lower_by : (r : WrittenRule) (b c : Option ℕ) (x y : Bool) → r.has_levels ≡ x → has_arguments r ≡ y →
     (if x && not y then option_map Some (previous_level r.places (level_within r b)) else None) ≡ Some c → Lower r b c
 lower_by r b c true false e m h =
     let s = some_level_below (previous_level r.places (level_within r b)) c h in
@@ -74,7 +74,7 @@ lower_by r b c true true e m h = absurd (grind arith)
 lower_by r b c false y e m h = absurd (grind arith)
 
 pub lower_of : (r : WrittenRule) (b c : Option ℕ) → previous_bound (Some r) b ≡ Some c → Lower r b c
-lower_of r b c h = lower_by r b c r.has_levels (is_macro r) refl refl h
+lower_of r b c h = lower_by r b c r.has_levels (has_arguments r) refl refl h
 
 -- levels within a bound, in a rule with levels
 within_by : (r : WrittenRule) (b : Option ℕ) (l : ℕ) → r.has_levels ≡ true → is_within b r l ≡ true → l ≤ level_within r b
@@ -92,7 +92,7 @@ is_own r b l i = or_right (not r.has_levels) (nat_eq l (level_within r b)) i
 own_within : (l m : ℕ) → nat_eq l m ≡ true → nat_le l m ≡ true
 own_within l m e = le-leb l m (let same : l ≡ m = eqb-true l m e in omega arith)
 
-previous_from : (r : WrittenRule) (b : Option ℕ) (l : ℕ) → r.has_levels ≡ true → is_macro r ≡ false →
+previous_from : (r : WrittenRule) (b : Option ℕ) (l : ℕ) → r.has_levels ≡ true → has_arguments r ≡ false →
     previous_level r.places (level_within r b) ≡ Some l → previous_bound (Some r) b ≡ Some (Some l)
 previous_from r b l e m h = rw (e, m) (ap (option_map Some) h)
 
@@ -196,15 +196,15 @@ rule_counted rs passes k parts (Some r) h =
 
 -- an alternative of a macro, and what it is read as
 pub record Instance (value : ConditionValue) (rs : List WrittenRule) (args : ClosedSymbols) (k : ℕ) (r : WrittenRule) (parts : ClosedSymbols) : Type 0 where
-  pub called : is_macro r ≡ true
-  pub fitting : fits r.args args ≡ true
+  pub called : has_arguments r ≡ true
+  pub fitting : arguments_fit r.args args ≡ true
   pub alternative : Leveled
   pub there : slice_get r.places k ≡ Some (Some alternative)
   pub holds : is_true value r.args args alternative.alternative.condition ≡ true
   pub read : read_all (macro_reader rs r args) alternative.alternative.parts ≡ parts
 
 instance_here : (value : ConditionValue) (rs : List WrittenRule) (args : ClosedSymbols) (k : ℕ) (r : WrittenRule) (parts : ClosedSymbols) →
-    is_macro r ≡ true → fits r.args args ≡ true → (p : Option (Option Leveled)) → slice_get r.places k ≡ p → instance_at value rs r args p ≡ Some parts →
+    has_arguments r ≡ true → arguments_fit r.args args ≡ true → (p : Option (Option Leveled)) → slice_get r.places k ≡ p → instance_at value rs r args p ≡ Some parts →
     Instance value rs args k r parts
 instance_here value rs args k r parts m f None e h = absurd (grind arith)
 instance_here value rs args k r parts m f (Some None) e h = absurd (grind arith)
@@ -216,7 +216,7 @@ instance_here value rs args k r parts m f (Some (Some a)) e h = by (is_true valu
     by false t h = absurd (grind arith)
 
 instance_by : (value : ConditionValue) (rs : List WrittenRule) (args : ClosedSymbols) (k : ℕ) (r : WrittenRule) (parts : ClosedSymbols) (x y : Bool) →
-    is_macro r ≡ x → fits r.args args ≡ y → (if x && y then instance_at value rs r args (slice_get r.places k) else None) ≡ Some parts →
+    has_arguments r ≡ x → arguments_fit r.args args ≡ y → (if x && y then instance_at value rs r args (slice_get r.places k) else None) ≡ Some parts →
     Instance value rs args k r parts
 instance_by value rs args k r parts true true m f h = instance_here value rs args k r parts m f (slice_get r.places k) refl h
 instance_by value rs args k r parts true false m f h = absurd (grind arith)
@@ -224,7 +224,7 @@ instance_by value rs args k r parts false y m f h = absurd (grind arith)
 
 pub instance_of : (value : ConditionValue) (rs : List WrittenRule) (args : ClosedSymbols) (k : ℕ) (r : WrittenRule) (parts : ClosedSymbols) →
     instance_parts value rs args k (Some r) ≡ Some parts → Instance value rs args k r parts
-instance_of value rs args k r parts h = instance_by value rs args k r parts (is_macro r) (fits r.args args) refl refl h
+instance_of value rs args k r parts h = instance_by value rs args k r parts (has_arguments r) (arguments_fit r.args args) refl refl h
 
 macro_counted : (value : ConditionValue) (rs : List WrittenRule) (args : ClosedSymbols) (k : ℕ) (parts : ClosedSymbols) (o : Option WrittenRule) →
     instance_parts value rs args k o ≡ Some parts → k < instance_count o

@@ -5,7 +5,7 @@ use Rattle.std.proofs.lemmas.List.{map-append}
 use Rattle.lalrpop_norm_tree.specs.declared.symbol.RepeatOp.{RepeatOp}
 use Rattle.lalrpop_norm_tree.specs.declared.symbol.RepeatOp.TheVariants.{Star, Plus, Question}
 use Rattle.lalrpop_norm_tree.specs.Symbols as written
-use Rattle.lalrpop_norm_tree.specs.Symbols.{Kind, Part, Parts, at, no_parts, part_and}
+use Rattle.lalrpop_norm_tree.specs.Symbols.{Part, Parts, at, no_parts, part_and}
 use Rattle.lalrpop_norm_tree.specs.Items.{AlternativeData, RuleData}
 use Rattle.lalrpop_norm_theory.specs.Symbols.{ClosedSymbol, ClosedSymbols, terminal, error, reference, call, group, star, plus, question, wrapped, lookahead, lookbehind, no_symbols, symbol_and}
 use Rattle.lalrpop_norm_theory.specs.Rounds.{In}
@@ -17,7 +17,7 @@ use Rattle.lalrpop_norm_model.specs.Occurrences.{count_part, count_parts}
 use Rattle.lalrpop_norm_model.specs.Reading.{repeat_of, read_part, read_parts}
 use Rattle.lalrpop_norm_model.specs.Grammars.{meaning, references}
 use Rattle.lalrpop_norm_model.specs.MadeRules.{flat_reader}
-use Rattle.lalrpop_norm_model.specs.PlainRules.{met, all_met, met_in_rule, rules_of}
+use Rattle.lalrpop_norm_model.specs.PlainRules.{met, all_met, met_in_rule, rules_without_arguments}
 use Rattle.lalrpop_norm_model.specs.PlainTables.{closed, closed_parts, unwrapped, all_unwrapped}
 use Rattle.lalrpop_norm_model.specs.Laws.{MetIsRead}
 use Rattle.lalrpop_norm_model.proofs.PutInLemmas.{flat_part, flat_parts}
@@ -113,7 +113,7 @@ one_rule_met M g r e = map-append closed (met_in_rule r) [] ∙ ap (λ gs. gs ++
 pub met_is_read : MetIsRead
 met_is_read value g S = (
   λ p. met_read 0 0 p,
-  rules_met M (rules_of g) (λ r i. rule_met M (reference r.name.0 None) r (held r.alternatives (clauses M (reference r.name.0 None)) (read.1 r i)))
+  rules_met M (rules_without_arguments g) (λ r i. rule_met M (reference r.name.0 None) r (held r.alternatives (clauses M (reference r.name.0 None)) (read.1 r i)))
       ∙ ap (flat_map (rule_meets M)) (sym read.0),
   λ p h x. (let (r, made, is) = made_rules_are_read value g S.resolved S.scoped p h x in
       ap (λ rs. map closed (flat_map met_in_rule rs)) made ∙ one_rule_met M (closed p) r (rule_met M (closed p) r is.clauses_held)),
@@ -122,7 +122,7 @@ met_is_read value g S = (
     M : Meaning
     M = meaning value (flat_rules g)
 
-    read : (references (flat_rules g) ≡ map (λ (r : RuleData). reference r.name.0 None) (rules_of g))
-        × ((r : RuleData) → In r (rules_of g) →
+    read : (references (flat_rules g) ≡ map (λ (r : RuleData). reference r.name.0 None) (rules_without_arguments g))
+        × ((r : RuleData) → In r (rules_without_arguments g) →
         map closed_parts r.alternatives ≡ map (λ (c : Clause). c.parts) (clauses (meaning value (flat_rules g)) (reference r.name.0 None)))
     read = rules_are_read value g S

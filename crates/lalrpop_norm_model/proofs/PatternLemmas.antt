@@ -8,8 +8,9 @@ use Rattle.lalrpop_norm_faults.specs.declared.kind.FaultKind.TheVariants.{TupleL
 use Rattle.lalrpop_norm_model.specs.MadeRules.{kind_of}
 use Rattle.lalrpop_norm_model.specs.PlainRules.{all_rules}
 use Rattle.lalrpop_norm_model.specs.TypeTables.{Table, IsTable}
-use Rattle.lalrpop_norm_model.specs.TuplePatterns.{fits, fit_all, as_many, misfits, misfits_of, Pattern, tuple_symbols, PatternFits, PatternsFit, over_found, over_kind, symbol_misfits, alternative_misfits, rule_misfits, pattern_misfits}
+use Rattle.lalrpop_norm_model.specs.TuplePatterns.{pattern_fits, fit_all, as_many, misfits, misfits_of, Pattern, tuple_symbols, PatternFits, PatternsFit, over_found, over_kind, symbol_misfits, alternative_misfits, rule_misfits, pattern_misfits}
 use Rattle.lalrpop_norm_model.proofs.InferenceLemmas.{both_empty, none_made, all_empty}
+use Rattle.lalrpop_norm_theory.proofs.BoolLemmas.{both_true}
 
 -- ---- patterns and types
 
@@ -17,15 +18,11 @@ empty_if : (b : Bool) (ms : List FaultKind) → (if b then ms else TupleLength �
 empty_if true ms e = (refl, e)
 empty_if false ms e = absurd cc
 
-both_true : (a b : Bool) → a ≡ true → b ≡ true → (a && b) ≡ true
-both_true a b e f = rw (e, f) refl
-
-each_true : (a b : Bool) → (a && b) ≡ true → (a ≡ true) × (b ≡ true)
-each_true true b e = (refl, e)
-each_true false b e = absurd cc
+both_hold : (a b : Bool) → a ≡ true → b ≡ true → (a && b) ≡ true
+both_hold a b e f = rw (e, f) refl
 
 mutual
-  fit_from : (p : ArgumentPattern) (x : ReprData) → misfits p x ≡ [] → fits p x ≡ true
+  fit_from : (p : ArgumentPattern) (x : ReprData) → misfits p x ≡ [] → pattern_fits p x ≡ true
   fit_from (one_name n) x e = refl
   fit_from (several ps) (tuple ts) e =
       let h = empty_if (as_many ps ts) (misfits_of ps ts) e in
@@ -38,10 +35,10 @@ mutual
   fit_all_from (argument_and p ps) no_reprs c e = absurd cc
   fit_all_from (argument_and p ps) (repr_and x xs) c e =
       let h = both_empty (misfits p x) (misfits_of ps xs) e in
-      both_true (fits p x) (fit_all ps xs) (fit_from p x h.0) (fit_all_from ps xs c h.1)
+      both_hold (pattern_fits p x) (fit_all ps xs) (fit_from p x h.0) (fit_all_from ps xs c h.1)
 
 mutual
-  from_fit : (p : ArgumentPattern) (x : ReprData) → fits p x ≡ true → misfits p x ≡ []
+  from_fit : (p : ArgumentPattern) (x : ReprData) → pattern_fits p x ≡ true → misfits p x ≡ []
   from_fit (one_name n) x e = refl
   from_fit (several ps) (tuple ts) e = let h = from_fit_all ps ts e in rw (h.0, h.1) refl
   from_fit (several ps) _ e = absurd cc
@@ -51,7 +48,7 @@ mutual
   from_fit_all no_arguments (repr_and x xs) e = absurd cc
   from_fit_all (argument_and p ps) no_reprs e = absurd cc
   from_fit_all (argument_and p ps) (repr_and x xs) e =
-      let h = each_true (fits p x) (fit_all ps xs) e in
+      let h = both_true (pattern_fits p x) (fit_all ps xs) e in
       let rest = from_fit_all ps xs h.1 in
       (rest.0, rw (from_fit p x h.0, rest.1) refl)
 

@@ -12,9 +12,9 @@ use Rattle.lalrpop_norm_theory.specs.Symbols.{Name, ClosedSymbol, ClosedSymbols,
 use Rattle.lalrpop_norm_theory.specs.Rounds.{In}
 use Rattle.lalrpop_norm_theory.specs.Meaning.{Meaning}
 use Rattle.lalrpop_norm_theory.specs.LoweredTrees.{nonterminal_symbol, Origin}
-use Rattle.lalrpop_norm_theory.specs.Clauses.{Clause, clauses, symbol_of, symbols_of, production_of}
-use Rattle.lalrpop_norm_theory.specs.Met.{IsExpanded}
-use Rattle.lalrpop_norm_theory.specs.Tables.{rule_of}
+use Rattle.lalrpop_norm_theory.specs.Clauses.{Clause, clauses, symbol_of, symbols_of, clause_production}
+use Rattle.lalrpop_norm_theory.specs.Met.{BecomesRule}
+use Rattle.lalrpop_norm_theory.specs.Tables.{rule_of_symbol}
 use Rattle.lalrpop_norm_model.specs.WrittenRules.{WrittenRule, flat_rules}
 use Rattle.lalrpop_norm_model.specs.Occurrences.{count_part, count_parts}
 use Rattle.lalrpop_norm_model.specs.Reading.{repeat_of, read_kind, read_part, read_parts}
@@ -23,9 +23,9 @@ use Rattle.lalrpop_norm_model.specs.Scoped.{is_scoped}
 use Rattle.lalrpop_norm_model.specs.ClosedTexts.{reference_name, text_in}
 use Rattle.lalrpop_norm_model.specs.Replaced.{replaced_kind, replaced, all_replaced}
 use Rattle.lalrpop_norm_model.specs.MadeRules.{flat_reader, made_rules}
-use Rattle.lalrpop_norm_model.specs.PlainRules.{replaced_alternative, replaced_rule, rules_of, macros_of, made_symbols, plain_rules}
+use Rattle.lalrpop_norm_model.specs.PlainRules.{replaced_alternative, replaced_rule, rules_without_arguments, macros_of, made_symbols, plain_rules}
 use Rattle.lalrpop_norm_model.specs.Origins.{rule_origins, plain_symbols}
-use Rattle.lalrpop_norm_model.specs.PlainTables.{IsSettled, closed, closed_parts, unwrapped, all_unwrapped, lowered_kind, lowered_part, lowered_parts, productions_from, rules_from}
+use Rattle.lalrpop_norm_model.specs.PlainTables.{IsSettled, closed, closed_parts, unwrapped, all_unwrapped, plain_symbol_kind, lowered_part, lowered_parts, productions_with_origins, rules_from}
 use Rattle.lalrpop_norm_model.specs.Laws.{PlainRulesAreRead}
 use Rattle.lalrpop_norm_model.proofs.TextLemmas.{kind_displayed, part_displayed}
 use Rattle.lalrpop_norm_model.proofs.MadeReadLemmas.{held, made_rules_are_read, rules_are_read}
@@ -44,7 +44,7 @@ module _ (rs : List WrittenRule) where
   repeat_named Question g = refl
 
   mutual
-    kind_lowered : (before after : ℕ) (k : Kind) → lowered_kind (replaced_kind k) ≡ symbol_of (text_in rs) (read_kind flat_reader before after k)
+    kind_lowered : (before after : ℕ) (k : Kind) → plain_symbol_kind (replaced_kind k) ≡ symbol_of (text_in rs) (read_kind flat_reader before after k)
     kind_lowered before after (written.group ps) = by_text before after (written.group ps)
     kind_lowered before after (written.call n ps) = by_text before after (written.call n ps)
     kind_lowered before after (written.repeated op p) =
@@ -130,7 +130,7 @@ module _ (M : Meaning) (name : ClosedSymbol → Name) where
   -- alternatives with the symbols of the clauses take the origins of these, and leave the rest
   origins_taken : (xs : List AlternativeData) (cs : List Clause) (more : List Origin) →
       map (λ (a : AlternativeData). lowered_parts a.parts) xs ≡ map (λ (c : Clause). symbols_of name c.parts) cs →
-      (productions_from (map (λ (c : Clause). c.origin) cs ++ more) xs ≡ map (production_of name) cs)
+      (productions_with_origins (map (λ (c : Clause). c.origin) cs ++ more) xs ≡ map (clause_production name) cs)
       × (drop (length xs) (map (λ (c : Clause). c.origin) cs ++ more) ≡ more)
   origins_taken [] [] more e = (refl, refl)
   origins_taken [] (c ∷ cs) more e = absurd (cc e)
@@ -141,7 +141,7 @@ module _ (M : Meaning) (name : ClosedSymbol → Name) where
       (ap₂ (λ ss ps. record { origin = c.origin; symbols = ss } ∷ ps) here rest.0, rest.1)
 
   pub rules_read : (rs : List RuleData) (gs : List ClosedSymbol) → AllFit M name rs gs →
-      rules_from (flat_map (rule_origins M) gs) rs ≡ map (rule_of M name) gs
+      rules_from (flat_map (rule_origins M) gs) rs ≡ map (rule_of_symbol M name) gs
   rules_read [] [] f = refl
   rules_read [] (g ∷ gs) f = absurd f
   rules_read (r ∷ rs) [] f = absurd f
@@ -172,7 +172,7 @@ module _ (value : ConditionValue) (g : GrammarData) (S : IsSettled g) where
   abbrev M : Meaning
   M = meaning value (flat_rules g)
 
-  written_fit : (ds : List RuleData) → ((r : RuleData) → In r ds → In r (rules_of g)) →
+  written_fit : (ds : List RuleData) → ((r : RuleData) → In r ds → In r (rules_without_arguments g)) →
       AllFit M (text_in (flat_rules g)) (map replaced_rule ds) (map (λ (r : RuleData). reference r.name.0 None) ds)
   written_fit [] f = tt
   written_fit (r ∷ ds) f = (
@@ -181,7 +181,7 @@ module _ (value : ConditionValue) (g : GrammarData) (S : IsSettled g) where
     written_fit ds (λ d i. f d (inr i)),
   )
 
-  made_fit : (ps : List Part) → ((p : Part) → In p ps → (is_scoped (flat_rules g) [] p ≡ true) × IsExpanded (closed p)) →
+  made_fit : (ps : List Part) → ((p : Part) → In p ps → (is_scoped (flat_rules g) [] p ≡ true) × BecomesRule (closed p)) →
       AllFit M (text_in (flat_rules g)) (map replaced_rule (flat_map (made_rules value (macros_of g)) ps)) (map closed ps)
   made_fit [] f = tt
   made_fit (p ∷ ps) f =
@@ -196,8 +196,8 @@ module _ (value : ConditionValue) (g : GrammarData) (S : IsSettled g) where
   plain_fit n =
       subst (λ (gs : List ClosedSymbol). AllFit M (text_in (flat_rules g)) (plain_rules value g n) gs)
       (ap₂ ◌++◌ (sym (rules_are_read value g S).0) (rounds_are_read value g S n).0)
-      (both_fit M (text_in (flat_rules g)) (map replaced_rule (rules_of g)) _ (map (λ (r : RuleData). reference r.name.0 None) (rules_of g)) _
-      (written_fit (rules_of g) (λ r i. i)) (made_fit (made_symbols value g n) (made_symbols_are_scoped value g S n)))
+      (both_fit M (text_in (flat_rules g)) (map replaced_rule (rules_without_arguments g)) _ (map (λ (r : RuleData). reference r.name.0 None) (rules_without_arguments g)) _
+      (written_fit (rules_without_arguments g) (λ r i. i)) (made_fit (made_symbols value g n) (made_symbols_are_scoped value g S n)))
 
 pub plain_rules_are_read : PlainRulesAreRead
 plain_rules_are_read value g S n = (

@@ -11,7 +11,7 @@ use Rattle.lalrpop_norm_tree.specs.Symbols.{Kind, Part, group, call, chosen, nam
 use Rattle.lalrpop_norm_tree.specs.Types.{TypeData, tuple, nominal, id, of_symbol, types_of}
 use Rattle.lalrpop_norm_tree.specs.Items.{user_code, lookahead_code, AlternativeData, RuleData, ItemData, everywhere, extern_item, use_item, rule_item, GrammarData}
 use Rattle.lalrpop_norm_model.specs.Replaced.{replaced, all_replaced}
-use Rattle.lalrpop_norm_model.specs.PlainRules.{plain_rules, plain_grammar, IsWhole}
+use Rattle.lalrpop_norm_model.specs.PlainRules.{plain_rules, plain_grammar, IsEnded}
 use Rattle.lalrpop_norm_model.proofs.ExampleWords.{span, literal, name, bare, identifier, starred, plussed, optional, name_before, symbols, alternative, rule, macro_rule, conversion, extern_of, grammar_of, rules_alone, example_value, conditional_macro}
 
 abbrev token : ℕ → ℕ → List ℕ → Part
@@ -71,10 +71,10 @@ repeat_grammar : plain_grammar example_value repeat 2 ≡
 unfolding chars encode
 repeat_grammar = refl
 
-two_rounds : IsWhole example_value repeat 2
+two_rounds : IsEnded example_value repeat 2
 two_rounds = refl
 
-one_round : IsWhole example_value repeat 1 → ⊥
+one_round : IsEnded example_value repeat 1 → ⊥
 one_round h = cc h
 
 -- ---- a group in a repeat

@@ -10,7 +10,7 @@ use Rattle.lalrpop_norm_model.specs.Enabled.{all_places}
 use Rattle.lalrpop_norm_model.specs.Scopes.{globals}
 use Rattle.lalrpop_norm_model.specs.WrittenRules.{WrittenRule, rules_through, flat_rule, flat_rules, rule_named}
 use Rattle.lalrpop_norm_model.specs.Occurrences.{count_part, count_parts}
-use Rattle.lalrpop_norm_model.specs.Reading.{Reader, patterns_of, repeat_of, read_name, read_kind, read_part, read_parts, read_all}
+use Rattle.lalrpop_norm_model.specs.Reading.{Reader, closed_patterns_of, repeat_of, read_name, read_kind, read_part, read_parts, read_all}
 use Rattle.lalrpop_norm_model.specs.Grammars.{bound_of, bound_argument, macro_reader}
 use Rattle.lalrpop_norm_model.specs.MadeRules.{kind_of, argument_kind, or_name, kind_put_in, put_in, all_put_in, flat_reader}
 use Rattle.lalrpop_norm_model.specs.PlainRules.{rule_of_item, all_rules}
@@ -30,7 +30,7 @@ module _ (Q R : Reader) (same : (n : Name) (b a before after : ℕ) → read_nam
     kind_agrees b a before after (written.repeated op p) = ap (repeat_of op) (part_agrees b a before after p)
     kind_agrees b a before after (written.chosen p) = ap (wrapped chosen) (part_agrees b a before after p)
     kind_agrees b a before after (written.named n p) = ap (wrapped (named n.mutable n.name)) (part_agrees b a before after p)
-    kind_agrees b a before after (written.tupled ns p) = ap (wrapped (tuple (patterns_of ns))) (part_agrees b a before after p)
+    kind_agrees b a before after (written.tupled ns p) = ap (wrapped (tuple (closed_patterns_of ns))) (part_agrees b a before after p)
     kind_agrees b a before after written.lookahead = refl
     kind_agrees b a before after written.lookbehind = refl
     kind_agrees b a before after written.error_terminal = refl
@@ -67,7 +67,7 @@ module _ (Q R : Reader) (argument : Name → Option Kind)
     kind_put b a before after (written.repeated op p) = ap (repeat_of op) (part_put b a before after p)
     kind_put b a before after (written.chosen p) = ap (wrapped chosen) (part_put b a before after p)
     kind_put b a before after (written.named n p) = ap (wrapped (named n.mutable n.name)) (part_put b a before after p)
-    kind_put b a before after (written.tupled ns p) = ap (wrapped (tuple (patterns_of ns))) (part_put b a before after p)
+    kind_put b a before after (written.tupled ns p) = ap (wrapped (tuple (closed_patterns_of ns))) (part_put b a before after p)
     kind_put b a before after written.lookahead = refl
     kind_put b a before after written.lookbehind = refl
     kind_put b a before after written.error_terminal = refl

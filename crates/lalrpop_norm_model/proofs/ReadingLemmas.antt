@@ -12,7 +12,7 @@ use Rattle.lalrpop_norm_theory.specs.Leveled.{leveled_symbol, leveled_symbols}
 use Rattle.lalrpop_norm_model.specs.Scopes.{is_argument, Sense, resolved_kind, resolved_part, resolved_parts}
 use Rattle.lalrpop_norm_model.specs.WrittenRules.{WrittenRule, rule_named}
 use Rattle.lalrpop_norm_model.specs.Occurrences.{count_part, count_parts}
-use Rattle.lalrpop_norm_model.specs.Reading.{Reader, patterns_of, repeat_of, read_name, read_kind, read_part, read_parts}
+use Rattle.lalrpop_norm_model.specs.Reading.{Reader, closed_patterns_of, repeat_of, read_name, read_kind, read_part, read_parts}
 use Rattle.lalrpop_norm_model.specs.Scoped.{is_scoped_kind, is_scoped, are_scoped, is_macro_for}
 use Rattle.lalrpop_norm_model.specs.LevelRules.{leveled_kind, leveled_part, leveled_parts}
 
@@ -39,7 +39,7 @@ module _ (rs : List WrittenRule) (args : List NonterminalString) (l : Name → �
         repeat_leveled l op (read_part R before after p) ∙ ap (repeat_of op) (part_leveled before after b a p h)
     kind_leveled before after b a (written.chosen p) h = ap (wrapped chosen) (part_leveled before after b a p h)
     kind_leveled before after b a (written.named n p) h = ap (wrapped (named n.mutable n.name)) (part_leveled before after b a p h)
-    kind_leveled before after b a (written.tupled ns p) h = ap (wrapped (tuple (patterns_of ns))) (part_leveled before after b a p h)
+    kind_leveled before after b a (written.tupled ns p) h = ap (wrapped (tuple (closed_patterns_of ns))) (part_leveled before after b a p h)
     kind_leveled before after b a written.lookahead h = refl
     kind_leveled before after b a written.lookbehind h = refl
     kind_leveled before after b a written.error_terminal h = refl
@@ -100,7 +100,7 @@ module _ (R Q : Reader) (same : (n : Name) (before after b a : ℕ) → read_nam
     kind_alike before after b a (written.repeated op p) = ap (repeat_of op) (part_alike before after b a p)
     kind_alike before after b a (written.chosen p) = ap (wrapped chosen) (part_alike before after b a p)
     kind_alike before after b a (written.named n p) = ap (wrapped (named n.mutable n.name)) (part_alike before after b a p)
-    kind_alike before after b a (written.tupled ns p) = ap (wrapped (tuple (patterns_of ns))) (part_alike before after b a p)
+    kind_alike before after b a (written.tupled ns p) = ap (wrapped (tuple (closed_patterns_of ns))) (part_alike before after b a p)
     kind_alike before after b a written.lookahead = refl
     kind_alike before after b a written.lookbehind = refl
     kind_alike before after b a written.error_terminal = refl

@@ -9,7 +9,7 @@ use Rattle.lalrpop_norm_model.specs.Enabled.{present}
 use Rattle.lalrpop_norm_model.specs.Levels.{Leveled}
 use Rattle.lalrpop_norm_model.specs.WrittenRules.{WrittenRule, rule_named, written_rules}
 use Rattle.lalrpop_norm_model.specs.Reading.{read_all}
-use Rattle.lalrpop_norm_model.specs.Grammars.{ConditionValue, is_macro, is_own_level, rule_reader, parts_at, rule_parts, place_count, instance_count, fits, is_true, macro_reader, instance_at, instance_parts, previous_bound, meaning}
+use Rattle.lalrpop_norm_model.specs.Grammars.{ConditionValue, has_arguments, is_own_level, rule_reader, parts_at, rule_parts, place_count, instance_count, arguments_fit, is_true, macro_reader, instance_at, instance_parts, previous_bound, meaning}
 use Rattle.lalrpop_norm_model.specs.Renumbered.{closed_up, rank_in, rank_of, rank_by, ranked_clause}
 use Rattle.lalrpop_norm_model.specs.Laws.{ClausesOnlyRenumber}
 use Rattle.lalrpop_norm_model.proofs.RenumberedLemmas.{disabled_are_left_out, named_closed, previous_closed, reader_same, macro_same, own_same}
@@ -74,20 +74,20 @@ module _ (rs : List WrittenRule) (n : Name) where
 
   module _ (b : Option ℕ) where
     abbrev own_of : WrittenRule → Leveled → Option ClosedSymbols
-    own_of r a = if is_macro r then None else (if is_own_level b r a.level then Some (read_all (rule_reader rs r a) a.alternative.parts) else None)
+    own_of r a = if has_arguments r then None else (if is_own_level b r a.level then Some (read_all (rule_reader rs r a) a.alternative.parts) else None)
 
     own_before : (r : WrittenRule) (p : Option (Option Leveled)) →
-        (if is_macro r then None else parts_at rs r (is_own_level b r) p) ≡ parts_where (own_of r) p
-    own_before r None = no_parts (is_macro r)
-    own_before r (Some None) = no_parts (is_macro r)
+        (if has_arguments r then None else parts_at rs r (is_own_level b r) p) ≡ parts_where (own_of r) p
+    own_before r None = no_parts (has_arguments r)
+    own_before r (Some None) = no_parts (has_arguments r)
     own_before r (Some (Some a)) = refl
 
     own_after : (r : WrittenRule) (p : Option (Option Leveled)) →
-        (if is_macro r then None else parts_at cs (closed_up r) (is_own_level b (closed_up r)) p) ≡ parts_where (own_of r) p
-    own_after r None = no_parts (is_macro r)
-    own_after r (Some None) = no_parts (is_macro r)
+        (if has_arguments r then None else parts_at cs (closed_up r) (is_own_level b (closed_up r)) p) ≡ parts_where (own_of r) p
+    own_after r None = no_parts (has_arguments r)
+    own_after r (Some None) = no_parts (has_arguments r)
     own_after r (Some (Some a)) =
-        ap₂ (λ m R. if is_macro r then None else (if m then Some (read_all R a.alternative.parts) else None)) (own_same rs b r a.level) (reader_same rs r a)
+        ap₂ (λ m R. if has_arguments r then None else (if m then Some (read_all R a.alternative.parts) else None)) (own_same rs b r a.level) (reader_same rs r a)
 
     own_by : (o : Option WrittenRule) → rule_named rs n ≡ o →
         numbered n (λ k. rule_parts cs (is_own_level b) k (option_map closed_up o)) 0 (place_count (option_map closed_up o))
@@ -121,21 +121,21 @@ module _ (rs : List WrittenRule) (n : Name) where
   module _ (value : ConditionValue) (args : ClosedSymbols) where
     abbrev instance_of_macro : WrittenRule → Leveled → Option ClosedSymbols
     instance_of_macro r a =
-        if is_macro r && fits r.args args then
+        if has_arguments r && arguments_fit r.args args then
         (if is_true value r.args args a.alternative.condition then Some (read_all (macro_reader rs r args) a.alternative.parts) else None) else None
 
     instance_before : (r : WrittenRule) (p : Option (Option Leveled)) →
-        (if is_macro r && fits r.args args then instance_at value rs r args p else None) ≡ parts_where (instance_of_macro r) p
-    instance_before r None = no_parts (is_macro r && fits r.args args)
-    instance_before r (Some None) = no_parts (is_macro r && fits r.args args)
+        (if has_arguments r && arguments_fit r.args args then instance_at value rs r args p else None) ≡ parts_where (instance_of_macro r) p
+    instance_before r None = no_parts (has_arguments r && arguments_fit r.args args)
+    instance_before r (Some None) = no_parts (has_arguments r && arguments_fit r.args args)
     instance_before r (Some (Some a)) = refl
 
     instance_after : (r : WrittenRule) (p : Option (Option Leveled)) →
-        (if is_macro r && fits r.args args then instance_at value cs (closed_up r) args p else None) ≡ parts_where (instance_of_macro r) p
-    instance_after r None = no_parts (is_macro r && fits r.args args)
-    instance_after r (Some None) = no_parts (is_macro r && fits r.args args)
+        (if has_arguments r && arguments_fit r.args args then instance_at value cs (closed_up r) args p else None) ≡ parts_where (instance_of_macro r) p
+    instance_after r None = no_parts (has_arguments r && arguments_fit r.args args)
+    instance_after r (Some None) = no_parts (has_arguments r && arguments_fit r.args args)
     instance_after r (Some (Some a)) =
-        ap (λ R. if is_macro r && fits r.args args then (if is_true value r.args args a.alternative.condition then Some (read_all R a.alternative.parts) else None) else None)
+        ap (λ R. if has_arguments r && arguments_fit r.args args then (if is_true value r.args args a.alternative.condition then Some (read_all R a.alternative.parts) else None) else None)
         (macro_same rs r args)
 
     counted : (r : WrittenRule) → rule_named rs n ≡ Some r → (m : Bool) →
@@ -154,7 +154,7 @@ module _ (rs : List WrittenRule) (n : Name) where
         numbered n (λ k. instance_parts value cs args k (option_map closed_up o)) 0 (instance_count (option_map closed_up o))
         ≡ map (ranked_clause (rank_by rs)) (numbered n (λ k. instance_parts value rs args k o) 0 (instance_count o))
     instances_by None e = refl
-    instances_by (Some r) e = counted r e (is_macro r)
+    instances_by (Some r) e = counted r e (has_arguments r)
 
     instances_ranked :
         numbered n (λ k. instance_parts value cs args k (rule_named cs n)) 0 (instance_count (rule_named cs n))

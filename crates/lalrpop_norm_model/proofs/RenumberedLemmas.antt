@@ -8,10 +8,10 @@ use Rattle.lalrpop_norm_model.specs.Features.{Features, is_active}
 use Rattle.lalrpop_norm_model.specs.Enabled.{Places, if_active, present, enabled_places, all_places, enabled_rule, enabled_item, enabled_grammar}
 use Rattle.lalrpop_norm_model.specs.Scopes.{Global, Sense, globals, sense_of, resolved_alternative, resolved_rule, resolved_item}
 use Rattle.lalrpop_norm_model.specs.Levels.{Leveled, has_level_attribute, has_levels, leveled_at, map_numbered, with_levels, levels_of, rising, greatest, below}
-use Rattle.lalrpop_norm_model.specs.WrittenRules.{WrittenRule, leveled_rule, rules_through, rule_named, written_rules}
+use Rattle.lalrpop_norm_model.specs.WrittenRules.{WrittenRule, written_rule_with_levels, rules_through, rule_named, written_rules}
 use Rattle.lalrpop_norm_model.specs.Occurrences.{own_bound}
 use Rattle.lalrpop_norm_model.specs.Reading.{Reader, read_all}
-use Rattle.lalrpop_norm_model.specs.Grammars.{ConditionValue, is_macro, level_within, is_within, is_own_level, bound_of, rule_reader, rule_parts, place_count, instance_count, previous_bound, depth_of, bound_argument, macro_reader, instance_parts, meaning, references, rule_roots, roots}
+use Rattle.lalrpop_norm_model.specs.Grammars.{ConditionValue, has_arguments, level_within, is_within, is_own_level, bound_of, rule_reader, rule_parts, place_count, instance_count, previous_bound, depth_of, bound_argument, macro_reader, instance_parts, meaning, references, rule_roots, roots}
 use Rattle.lalrpop_norm_model.specs.Renumbered.{closed_up, rank_in, rank_of, rank_by, AreRanked, IsRenumbered}
 use Rattle.lalrpop_norm_model.specs.Laws.{DisabledAreLeftOut, RanksCountEnabled, DisabledOnlyRenumber}
 use Rattle.lalrpop_norm_model.proofs.MeaningLemmas.{passing_of, instance_of}
@@ -41,7 +41,7 @@ all_leveled qs k (x ∷ xs) = ap (λ ys. leveled_at qs k (Some x) ∷ ys) (all_l
 
 module _ (fs : Features) (ds : List Global) where
   rule_closed : (r : RuleData) →
-      leveled_rule ds (resolved_rule ds (enabled_rule fs r)) (all_places (resolved_rule ds (enabled_rule fs r))) ≡ closed_up (leveled_rule ds r (enabled_places fs r))
+      written_rule_with_levels ds (resolved_rule ds (enabled_rule fs r)) (all_places (resolved_rule ds (enabled_rule fs r))) ≡ closed_up (written_rule_with_levels ds r (enabled_places fs r))
   rule_closed r =
       let sense = sense_of ds r.args in
       let ps = enabled_places fs r in
@@ -53,18 +53,18 @@ module _ (fs : Features) (ds : List Global) where
       by b ps = record { name = r.name.0; args = r.args; has_levels = b; places = ps }
 
   rules_closed : (items : List ItemData) →
-      rules_through (λ r. leveled_rule ds r (all_places r) ∷ []) (map (resolved_item ds) (flat_map (enabled_item fs) items))
-      ≡ map closed_up (rules_through (λ r. if is_active fs r.attributes then leveled_rule ds r (enabled_places fs r) ∷ [] else []) items)
+      rules_through (λ r. written_rule_with_levels ds r (all_places r) ∷ []) (map (resolved_item ds) (flat_map (enabled_item fs) items))
+      ≡ map closed_up (rules_through (λ r. if is_active fs r.attributes then written_rule_with_levels ds r (enabled_places fs r) ∷ [] else []) items)
   rules_closed [] = refl
   rules_closed (rule_item r ∷ items) = by (is_active fs r.attributes) (rules_closed items)
     where
       by : (b : Bool) →
-          rules_through (λ d. leveled_rule ds d (all_places d) ∷ []) (map (resolved_item ds) (flat_map (enabled_item fs) items))
-          ≡ map closed_up (rules_through (λ d. if is_active fs d.attributes then leveled_rule ds d (enabled_places fs d) ∷ [] else []) items) →
-          rules_through (λ d. leveled_rule ds d (all_places d) ∷ [])
+          rules_through (λ d. written_rule_with_levels ds d (all_places d) ∷ []) (map (resolved_item ds) (flat_map (enabled_item fs) items))
+          ≡ map closed_up (rules_through (λ d. if is_active fs d.attributes then written_rule_with_levels ds d (enabled_places fs d) ∷ [] else []) items) →
+          rules_through (λ d. written_rule_with_levels ds d (all_places d) ∷ [])
           (map (resolved_item ds) ((if b then rule_item (enabled_rule fs r) ∷ [] else []) ++ flat_map (enabled_item fs) items))
-          ≡ map closed_up ((if b then leveled_rule ds r (enabled_places fs r) ∷ [] else [])
-          ++ rules_through (λ d. if is_active fs d.attributes then leveled_rule ds d (enabled_places fs d) ∷ [] else []) items)
+          ≡ map closed_up ((if b then written_rule_with_levels ds r (enabled_places fs r) ∷ [] else [])
+          ++ rules_through (λ d. if is_active fs d.attributes then written_rule_with_levels ds d (enabled_places fs d) ∷ [] else []) items)
       by true h = ap₂ ◌∷◌ (rule_closed r) h
       by false h = h
   rules_closed (match_item m ∷ items) = rules_closed items
@@ -75,7 +75,7 @@ module _ (fs : Features) (ds : List Global) where
 pub disabled_are_left_out : DisabledAreLeftOut
 disabled_are_left_out fs g =
     let ds = globals (enabled_grammar fs g) in
-    ap (λ es. rules_through (λ r. leveled_rule es r (all_places r) ∷ []) (map (resolved_item ds) (enabled_grammar fs g).items))
+    ap (λ es. rules_through (λ r. written_rule_with_levels es r (all_places r) ∷ []) (map (resolved_item ds) (enabled_grammar fs g).items))
     (same_globals ds (enabled_grammar fs g))
     ∙ rules_closed fs ds g.items
 
@@ -157,12 +157,12 @@ within_closed r (Some b) = refl
 
 bound_closed : (o : Option WrittenRule) → bound_of (option_map closed_up o) ≡ bound_of o
 bound_closed None = refl
-bound_closed (Some r) = ap (λ (l : ℕ). if r.has_levels && not (is_macro r) then Some l else None) (within_closed r None)
+bound_closed (Some r) = ap (λ (l : ℕ). if r.has_levels && not (has_arguments r) then Some l else None) (within_closed r None)
 
 pub previous_closed : (b : Option ℕ) (o : Option WrittenRule) → previous_bound (option_map closed_up o) b ≡ previous_bound o b
 previous_closed b None = refl
 previous_closed b (Some r) =
-    ap₂ (λ (ls : List ℕ) (l : ℕ). if r.has_levels && not (is_macro r) then option_map Some (greatest (below l ls)) else None) (levels_closed r) (within_closed r b)
+    ap₂ (λ (ls : List ℕ) (l : ℕ). if r.has_levels && not (has_arguments r) then option_map Some (greatest (below l ls)) else None) (levels_closed r) (within_closed r b)
 
 depth_closed : (b : Option ℕ) (o : Option WrittenRule) → depth_of (option_map closed_up o) b ≡ depth_of o b
 depth_closed b None = refl
@@ -174,7 +174,7 @@ rule_count_closed (Some r) = count_closed r.places
 
 macro_count_closed : (o : Option WrittenRule) → instance_count (option_map closed_up o) ≡ rank_of o (instance_count o)
 macro_count_closed None = refl
-macro_count_closed (Some r) = by (is_macro r)
+macro_count_closed (Some r) = by (has_arguments r)
   where
     by : (b : Bool) → (if b then length (map Some (present r.places)) else 0) ≡ rank_in r.places (if b then length r.places else 0)
     by true = count_closed r.places
@@ -196,7 +196,7 @@ references_closed [] = refl
 references_closed (r ∷ rs) = ap₂ ◌++◌ (ap by (levels_closed r)) (references_closed rs)
   where
     by : List ℕ → List ClosedSymbol
-    by ls = if is_macro r then [] else (if r.has_levels then map (λ l. reference r.name (Some l)) ls else reference r.name None ∷ [])
+    by ls = if has_arguments r then [] else (if r.has_levels then map (λ l. reference r.name (Some l)) ls else reference r.name None ∷ [])
 
 roots_closed : (rs : List WrittenRule) → roots (map closed_up rs) ≡ roots rs
 roots_closed [] = refl
@@ -250,7 +250,7 @@ module _ (rs : List WrittenRule) where
     rule_reached r j parts h =
         let p = passing_of cs passes j (closed_up r) parts h in
         let (k, e, i) = reached_at r.places j p.alternative p.there in
-        let rule : is_macro r ≡ false = p.is_rule in (
+        let rule : has_arguments r ≡ false = p.is_rule in (
           k,
           e,
           rw (rule, i, sym (same r p.alternative.level) ∙ p.passing)
@@ -296,7 +296,7 @@ module _ (rs : List WrittenRule) where
     macro_reached r j parts h =
         let p = instance_of value cs args j (closed_up r) parts h in
         let (k, e, i) = reached_at r.places j p.alternative p.there in
-        let called : is_macro r ≡ true = p.called in (
+        let called : has_arguments r ≡ true = p.called in (
           k,
           e,
           rw (called, p.fitting, i, p.holds)

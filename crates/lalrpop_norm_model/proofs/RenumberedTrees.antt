@@ -3,7 +3,7 @@ use Rattle.std.proofs.Common.{◌≡◌, ℕ, List, ◌∷◌, ◌++◌, map, Op
 use Rattle.std.proofs.lemmas.List.{map-append}
 use Rattle.lalrpop_norm_theory.specs.Symbols.{Name, ClosedSymbol, ClosedSymbols, terminal, error, reference, call, group, star, plus, question, wrapped, lookahead, lookbehind, no_symbols, symbol_and}
 use Rattle.lalrpop_norm_theory.specs.Meaning.{Meaning}
-use Rattle.lalrpop_norm_theory.specs.LoweredTrees.{LoweredGrammar}
+use Rattle.lalrpop_norm_theory.specs.LoweredTrees.{ProductionTable}
 use Rattle.lalrpop_norm_theory.specs.Met.{IsResolvedIn}
 use Rattle.lalrpop_norm_theory.specs.Pairs.{Pairs}
 use Rattle.lalrpop_norm_theory.specs.Laws.{OneToOne, LevelsAreTwoSteps}
@@ -226,7 +226,7 @@ trees_only_renumber value fs g =
 
 -- ---- lowered trees
 
-module _ (M N : Meaning) (rank : Name → ℕ → ℕ) (T : TreesAreRenumbered M N rank) (name : ClosedSymbol → Name) (P : LoweredGrammar) (s : ClosedSymbol)
+module _ (M N : Meaning) (rank : Name → ℕ → ℕ) (T : TreesAreRenumbered M N rank) (name : ClosedSymbol → Name) (P : ProductionTable) (s : ClosedSymbol)
     (O : OneToOne N name P s) where
   one_to_one_by_rank : OneToOneByRank M N rank name P s
   one_to_one_by_rank = record {

@@ -8,7 +8,7 @@ use Rattle.lalrpop_norm_tree.specs.Symbols.{Kind, Part, group, terminal, call, c
 use Rattle.lalrpop_norm_tree.specs.Items.{RuleData, GrammarData}
 use Rattle.lalrpop_norm_tree.specs.SymbolTexts.{kind_text}
 use Rattle.lalrpop_norm_model.specs.MadeRules.{kind_of}
-use Rattle.lalrpop_norm_model.specs.PlainRules.{met, same_apart_from_spans, expansion_round, made_symbols, made_in, IsWhole}
+use Rattle.lalrpop_norm_model.specs.PlainRules.{met, same_apart_from_spans, expansion_round, made_symbols, made_in, IsEnded}
 use Rattle.lalrpop_norm_model.proofs.ExampleWords.{span, literal, name, starred, plussed, optional, name_before, alternative, rule, macro_rule, rules_alone, example_value}
 
 -- ---- nested macros
@@ -73,10 +73,10 @@ fourth_round : new_in 3 ≡ []
 fourth_round = refl
 
 -- so three rounds are enough, and two are not: the call of C in the body of B still waits
-three_are_enough : IsWhole example_value nested 3
+three_are_enough : IsEnded example_value nested 3
 three_are_enough = refl
 
-two_are_not : IsWhole example_value nested 2 → ⊥
+two_are_not : IsEnded example_value nested 2 → ⊥
 two_are_not h = cc h
 
 -- the rules of a round stand in the reverse order of meeting
@@ -106,7 +106,7 @@ nothing_made = refl
 no_rounds : made_from (at (span 4 8) (starred (token 4 7 (codes "a"))) ∷ []) 0 ≡ []
 no_rounds = refl
 
-without_expansion : IsWhole example_value (rules_alone (rule (span 0 1) (codes "A") (alternative (span 4 7) [] (parts_of (token 4 7 (codes "a") ∷ [])) ∷ []) ∷ [])) 0
+without_expansion : IsEnded example_value (rules_alone (rule (span 0 1) (codes "A") (alternative (span 4 7) [] (parts_of (token 4 7 (codes "a") ∷ [])) ∷ []) ∷ [])) 0
 without_expansion = refl
 
 -- "a"* "b" "a"*: of two meetings the first counts, and X+ stands where X* was met

@@ -14,7 +14,7 @@ use Rattle.lalrpop_norm_theory.proofs.ViewedLemmas.{same_view, fresh_viewed}
 use Rattle.lalrpop_norm_model.specs.WrittenRules.{WrittenRule, flat_rules}
 use Rattle.lalrpop_norm_model.specs.Grammars.{ConditionValue, meaning, references}
 use Rattle.lalrpop_norm_model.specs.Scoped.{IsScoped}
-use Rattle.lalrpop_norm_model.specs.PlainRules.{met_in_rule, met_by_made, all_rules, rules_of, macros_of, expansion_round, made_symbols}
+use Rattle.lalrpop_norm_model.specs.PlainRules.{met_in_rule, met_by_made, all_rules, rules_without_arguments, macros_of, expansion_round, made_symbols}
 use Rattle.lalrpop_norm_model.specs.PlainTables.{IsSettled, closed}
 use Rattle.lalrpop_norm_model.specs.Laws.{RoundsAreRead, MadeSymbolsAreScoped}
 use Rattle.lalrpop_norm_model.proofs.MadeReadLemmas.{flat_of, flat_rules_resolved}
@@ -88,7 +88,7 @@ module _ (value : ConditionValue) (g : GrammarData) (S : IsSettled g) where
   same_rules : flat_rules g ≡ map flat_of (all_rules g)
   same_rules = flat_rules_resolved g S.resolved
 
-  begins : (p : Part) → In p (flat_map met_in_rule (rules_of g)) → IsMade (flat_rules g) p
+  begins : (p : Part) → In p (flat_map met_in_rule (rules_without_arguments g)) → IsMade (flat_rules g) p
   begins p i = subst (λ (rs : List WrittenRule). IsMade rs p) (sym same_rules) (start_made value (all_rules g) (subst IsScoped same_rules S.scoped) p i)
 
   within : (p : Part) → IsMade (flat_rules g) p → (q : Part) → In q (met_by_made value (macros_of g) p) → IsMade (flat_rules g) q
@@ -102,7 +102,7 @@ module _ (value : ConditionValue) (g : GrammarData) (S : IsSettled g) where
   agree : (p : Part) → IsMade (flat_rules g) p → map closed (met_by_made value (macros_of g) p) ≡ meets_read (closed p)
   agree p h = (met_is_read value g S).2 p h.0 h.1
 
-  start_read : map closed (flat_map met_in_rule (rules_of g)) ≡ flat_map meets_read (references (flat_rules g))
+  start_read : map closed (flat_map met_in_rule (rules_without_arguments g)) ≡ flat_map meets_read (references (flat_rules g))
   start_read = (met_is_read value g S).1
 
   rounds_read : (k : ℕ) →
@@ -110,7 +110,7 @@ module _ (value : ConditionValue) (g : GrammarData) (S : IsSettled g) where
       × (map closed (expansion_round value g k).fresh ≡ (expansion (meaning value (flat_rules g)) (references (flat_rules g)) k).fresh)
   rounds_read k =
       let r = rounds_viewed closed same_symbol (met_by_made value (macros_of g)) meets_read (IsMade (flat_rules g)) agree within
-      (flat_map met_in_rule (rules_of g)) begins k in (
+      (flat_map met_in_rule (rules_without_arguments g)) begins k in (
         r.0 ∙ ap (λ start. (rounds same_symbol meets_read start k).seen) start_read,
         r.1 ∙ ap (λ start. (rounds same_symbol meets_read start k).fresh) start_read,
       )
@@ -118,13 +118,13 @@ module _ (value : ConditionValue) (g : GrammarData) (S : IsSettled g) where
   made_read : (n : ℕ) → map closed (made_symbols value g n) ≡ expanded_symbols (meaning value (flat_rules g)) (references (flat_rules g)) n
   made_read n =
       made_viewed closed same_symbol (met_by_made value (macros_of g)) meets_read (IsMade (flat_rules g)) agree within
-      (flat_map met_in_rule (rules_of g)) begins n
+      (flat_map met_in_rule (rules_without_arguments g)) begins n
       ∙ ap (λ start. all_rules_made same_symbol meets_read start n) start_read
 
   pub made_scoped : (n : ℕ) (p : Part) → In p (made_symbols value g n) → IsMade (flat_rules g) p
   made_scoped n p i =
       made_within closed same_symbol (met_by_made value (macros_of g)) meets_read (IsMade (flat_rules g)) agree within
-      (flat_map met_in_rule (rules_of g)) begins n p i
+      (flat_map met_in_rule (rules_without_arguments g)) begins n p i
 
 pub rounds_are_read : RoundsAreRead
 rounds_are_read value g S n = (

@@ -6,7 +6,8 @@ use Rattle.lalrpop_norm_parts.specs.declared.names.TypeParameter.{TypeParameter}
 use Rattle.lalrpop_norm_parts.specs.declared.names.TypeParameter.TheVariants as parameter
 use Rattle.lalrpop_norm_parts.specs.Paths.{PathData}
 use Rattle.lalrpop_norm_parts.specs.Reprs.{ReprData, Reprs, MaybeRepr, tuple, slice, nominal, associated, of_lifetime, reference, trait_object, function, no_reprs, repr_and, no_repr, returns}
-use Rattle.lalrpop_norm_model.specs.SameTypes.{same_flag, same_lifetime, same_parameter, all_same, same_path, same_type, same_types, same_return}
+use Rattle.lalrpop_norm_theory.specs.Same.{same_flag}
+use Rattle.lalrpop_norm_model.specs.SameTypes.{same_lifetime, same_parameter, all_same, same_path, same_type, same_types, same_return}
 
 -- ---- small parts
 

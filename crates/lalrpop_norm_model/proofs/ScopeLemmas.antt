@@ -16,7 +16,7 @@ use Rattle.lalrpop_norm_model.specs.Scopes.{is_argument}
 use Rattle.lalrpop_norm_model.specs.WrittenRules.{WrittenRule, rule_named}
 use Rattle.lalrpop_norm_model.specs.Occurrences.{count_part, count_parts, first_current, bound_at, own_bound}
 use Rattle.lalrpop_norm_model.specs.Reading.{Reader, repeat_of, read_name, read_kind, read_part, read_parts}
-use Rattle.lalrpop_norm_model.specs.Grammars.{is_nil, is_macro, level_within, is_within, bound_of, own_bound_in, rule_reader, rule_parts, previous_bound, bound_argument, fits, macro_reader, instance_parts, ConditionValue, meaning, rule_references, references}
+use Rattle.lalrpop_norm_model.specs.Grammars.{is_nil, has_arguments, level_within, is_within, bound_of, own_bound_in, rule_reader, rule_parts, previous_bound, bound_argument, arguments_fit, macro_reader, instance_parts, ConditionValue, meaning, rule_references, references}
 use Rattle.lalrpop_norm_model.specs.Scoped.{is_rule, is_scoped_kind, is_scoped, are_scoped, is_macro_for, IsScoped}
 use Rattle.lalrpop_norm_model.specs.Laws.{MeaningsAreResolved}
 use Rattle.lalrpop_norm_model.proofs.LevelLemmas.{in_map, at_in, place_has_level, greatest_is, has_greatest, previous_is}
@@ -55,14 +55,14 @@ rule_found (r ∷ rs) n s h = found_by n r s rs (bytes_eq r.name n) refl (rule_f
 
 -- ---- declared references
 
-declared_level : (rs : List WrittenRule) (r : WrittenRule) (l : ℕ) → In r rs → is_macro r ≡ false → r.has_levels ≡ true →
+declared_level : (rs : List WrittenRule) (r : WrittenRule) (l : ℕ) → In r rs → has_arguments r ≡ false → r.has_levels ≡ true →
     In l (levels_of r.places) → In (reference r.name (Some l)) (references rs)
 declared_level rs r l i m e h = in_flat rule_references r rs (reference r.name (Some l)) i here
   where
     here : In (reference r.name (Some l)) (rule_references r)
     here = rw (m, e) (in_map (λ (k : ℕ). reference r.name (Some k)) l (levels_of r.places) h)
 
-declared_name : (rs : List WrittenRule) (r : WrittenRule) → In r rs → is_macro r ≡ false → r.has_levels ≡ false →
+declared_name : (rs : List WrittenRule) (r : WrittenRule) → In r rs → has_arguments r ≡ false → r.has_levels ≡ false →
     In (reference r.name None) (references rs)
 declared_name rs r i m e = in_flat rule_references r rs (reference r.name None) i here
   where
@@ -84,7 +84,7 @@ highest_there r h =
     by (Some k) m e h = (greatest_is (levels_of r.places) k e).0
 
 module _ (rs : List WrittenRule) (S : IsScoped rs) where
-  bound_by : (r : WrittenRule) (x y : Bool) → In r rs → r.has_levels ≡ x → is_macro r ≡ y → not y ≡ true →
+  bound_by : (r : WrittenRule) (x y : Bool) → In r rs → r.has_levels ≡ x → has_arguments r ≡ y → not y ≡ true →
       In (reference r.name (if x && not y then Some (highest_level r.places) else None)) (references rs)
   bound_by r true false i e m h = declared_level rs r (highest_level r.places) i m e (highest_there r (S.some_level r i e))
   bound_by r false false i e m h = declared_name rs r i m e
@@ -95,7 +95,7 @@ module _ (rs : List WrittenRule) (S : IsScoped rs) where
   bound_declared n (Some r) e h =
       let f = rule_found rs n r e in
       subst (λ (m : Name). In (reference m (bound_of (Some r))) (references rs)) f.1
-      (bound_by r r.has_levels (is_macro r) f.0 refl refl h)
+      (bound_by r r.has_levels (has_arguments r) f.0 refl refl h)
 
   -- ---- symbols read
 
@@ -156,14 +156,14 @@ module _ (rs : List WrittenRule) (S : IsScoped rs) where
   own_level r side current before after (Some l) e h =
       either r side current l before after h (previous_is r.places current l e).0
 
-  own_declared : (r : WrittenRule) (a : Leveled) (before after : ℕ) → In r rs → is_macro r ≡ false → In a.level (levels_of r.places) →
+  own_declared : (r : WrittenRule) (a : Leveled) (before after : ℕ) → In r rs → has_arguments r ≡ false → In a.level (levels_of r.places) →
       (b : Bool) → r.has_levels ≡ b →
       In (reference r.name (if b then Some (own_bound a.side a.level (previous_level r.places a.level) before after) else None)) (references rs)
   own_declared r a before after i m h true e =
       declared_level rs r _ i m e (own_level r a.side a.level before after (previous_level r.places a.level) refl h)
   own_declared r a before after i m h false e = declared_name rs r i m e
 
-  rule_name_by : (r : WrittenRule) (a : Leveled) (n : Name) (before after : ℕ) → In r rs → is_macro r ≡ false → In a.level (levels_of r.places) →
+  rule_name_by : (r : WrittenRule) (a : Leveled) (n : Name) (before after : ℕ) → In r rs → has_arguments r ≡ false → In a.level (levels_of r.places) →
       is_rule (rule_named rs n) ≡ true → (b : Bool) → bytes_eq n r.name ≡ b →
       In (reference n (if b then own_bound_in r a before after else bound_of (rule_named rs n))) (references rs)
   rule_name_by r a n before after i m h s true e =
@@ -200,7 +200,7 @@ module _ (rs : List WrittenRule) (S : IsScoped rs) where
   bound_here g o y true h i = inr (g, refl, h)
   bound_here g o y false h i = i
 
-  argument_by : (args : List NonterminalString) (gs : ClosedSymbols) (n : Name) → fits args gs ≡ true → AreResolvedIn (references rs) gs →
+  argument_by : (args : List NonterminalString) (gs : ClosedSymbols) (n : Name) → arguments_fit args gs ≡ true → AreResolvedIn (references rs) gs →
       Bound (bound_argument args gs n) (is_argument args n)
   argument_by [] no_symbols n f h = inl (refl, refl)
   argument_by [] (symbol_and g gs) n f h = absurd (cc f)
@@ -208,7 +208,7 @@ module _ (rs : List WrittenRule) (S : IsScoped rs) where
   argument_by (a ∷ args) (symbol_and g gs) n f h =
       bound_here g (bound_argument args gs n) (is_argument args n) (bytes_eq a.0 n) h.0 (argument_by args gs n f h.1)
 
-  macro_name : (args : List NonterminalString) (gs : ClosedSymbols) (n : Name) → fits args gs ≡ true → AreResolvedIn (references rs) gs →
+  macro_name : (args : List NonterminalString) (gs : ClosedSymbols) (n : Name) → arguments_fit args gs ≡ true → AreResolvedIn (references rs) gs →
       (is_argument args n || is_rule (rule_named rs n)) ≡ true →
       IsResolvedIn (references rs) (unwrap_or (bound_argument args gs n) (reference n (bound_of (rule_named rs n))))
   macro_name args gs n f h s = elim (argument_by args gs n f h) [

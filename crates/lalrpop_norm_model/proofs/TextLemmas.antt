@@ -10,29 +10,29 @@ use Rattle.lalrpop_norm_tree.specs.declared.symbol.RepeatOp.TheVariants.{Star, P
 use Rattle.lalrpop_norm_tree.specs.Symbols.{ArgumentPattern, one_name, several, ArgumentPatterns, no_arguments, argument_and, Kind, group, ambiguous_id, terminal, nonterminal, call, repeated, chosen, named, tupled, lookahead, lookbehind, error_terminal, Part, at, Parts, no_parts, part_and}
 use Rattle.lalrpop_norm_parts.specs.Texts as displayed
 use Rattle.lalrpop_norm_parts.specs.Texts.{joined}
-use Rattle.lalrpop_norm_tree.specs.SymbolTexts.{kind_text, part_text, part_texts, op_text, name_text, argument_pattern_text, argument_pattern_texts, tuple_text}
+use Rattle.lalrpop_norm_tree.specs.SymbolTexts.{kind_text, part_text, part_texts, op_text, name_text, argument_pattern_text, argument_pattern_texts}
 use Rattle.lalrpop_norm_theory.specs.Symbols.{Name, ClosedSymbol}
 use Rattle.lalrpop_norm_model.specs.Occurrences.{count_part, count_parts}
-use Rattle.lalrpop_norm_model.specs.Reading.{literal_terminal, terminal_of, pattern_of, patterns_of, repeat_of, read_kind, read_part, read_parts}
-use Rattle.lalrpop_norm_model.specs.ClosedTexts.{terminal_text, pattern_text, pattern_texts, closed_text, closed_texts, reference_name}
+use Rattle.lalrpop_norm_model.specs.Reading.{literal_terminal, terminal_of, closed_pattern_of, closed_patterns_of, repeat_of, read_kind, read_part, read_parts}
+use Rattle.lalrpop_norm_model.specs.ClosedTexts.{closed_terminal_text, closed_pattern_text, closed_pattern_texts, closed_text, closed_texts, reference_name}
 use Rattle.lalrpop_norm_model.specs.MadeRules.{flat_reader}
 use Rattle.lalrpop_norm_model.specs.Laws.{TextsAreDisplayed, TextsInGrammars}
 
-literal_displayed : (l : TerminalLiteral) → terminal_text (literal_terminal l) ≡ displayed.literal_text l
+literal_displayed : (l : TerminalLiteral) → closed_terminal_text (literal_terminal l) ≡ displayed.literal_text l
 literal_displayed (Quoted a) = refl
 literal_displayed (Regex a) = refl
 
-terminal_displayed : (t : TerminalString) → terminal_text (terminal_of t) ≡ displayed.terminal_text t
+terminal_displayed : (t : TerminalString) → closed_terminal_text (terminal_of t) ≡ displayed.terminal_text t
 terminal_displayed (Literal l) = literal_displayed l
 terminal_displayed (Bare a) = refl
 terminal_displayed Error = refl
 
 mutual
-  pattern_displayed : (p : ArgumentPattern) → pattern_text (pattern_of p) ≡ argument_pattern_text p
+  pattern_displayed : (p : ArgumentPattern) → closed_pattern_text (closed_pattern_of p) ≡ argument_pattern_text p
   pattern_displayed (one_name n) = refl
   pattern_displayed (several ps) = ap (λ ts. codes "(" ++ joined (codes ", ") ts ++ codes ")") (patterns_displayed ps)
 
-  patterns_displayed : (ps : ArgumentPatterns) → pattern_texts (patterns_of ps) ≡ argument_pattern_texts ps
+  patterns_displayed : (ps : ArgumentPatterns) → closed_pattern_texts (closed_patterns_of ps) ≡ argument_pattern_texts ps
   patterns_displayed no_arguments = refl
   patterns_displayed (argument_and p ps) = ap₂ ◌∷◌ (pattern_displayed p) (patterns_displayed ps)
 

@@ -6,13 +6,13 @@ use Rattle.lalrpop_norm_faults.proofs.FindingLemmas.{sure_all, sure_append}
 use Rattle.lalrpop_norm_model.specs.TerminalTypes.{extern_enum}
 use Rattle.lalrpop_norm_model.specs.Lexers.{Lexer}
 use Rattle.lalrpop_norm_model.specs.CheckedTokens.{IsEnteredWith, IsEntered, IsCheckedWith, IsChecked}
-use Rattle.lalrpop_norm_model.specs.TokenFaults.{enum_faults, entry_faults, input_faults, token_faults_with, token_faults}
+use Rattle.lalrpop_norm_model.specs.TokenFaults.{checked_enum_faults, entry_faults, input_faults, token_faults_with, token_faults}
 use Rattle.lalrpop_norm_model.specs.LexerFaults.{LexerRefuses, LexerPlace, at_lexer, StandsAtLexer, token_findings_with, token_findings}
 
 -- ---- sure faults
 
 sure_case : (e : Option EnumTokenData) (g : GrammarData) → sure_ones (token_findings_with e g) ≡ token_faults_with e g
-sure_case (Some e) g = sure_all LexerPlace (enum_faults e g)
+sure_case (Some e) g = sure_all LexerPlace (checked_enum_faults e g)
 sure_case None g =
     sure_append (map sure (entry_faults g)) (maybe at_lexer ∷ map sure (input_faults g))
     ∙ (ap (λ xs. xs ++ sure_ones {P = LexerPlace} (map sure (input_faults g))) (sure_all LexerPlace (entry_faults g))
@@ -42,7 +42,7 @@ told_beside e all before f Refused none (inr h) = inr (none, h.0, h.1)
 
 told_case : {R : Type 0} (l : Lexer R) (e : Option EnumTokenData) (g : GrammarData) (f : Fault) → MayBeTold (StandsAtLexer l g) (token_findings_with e g) f →
     (first (token_faults_with e g) ≡ Some f) ⊎ ((e ≡ None) × (entry_faults g ≡ []) × LexerRefuses l g f)
-told_case l (Some e) g f h = inl (told_first (StandsAtLexer l g) (enum_faults e g) f h)
+told_case l (Some e) g f h = inl (told_first (StandsAtLexer l g) (checked_enum_faults e g) f h)
 told_case l None g f h =
     told_beside None (entry_faults g ++ input_faults g) (entry_faults g) f (LexerRefuses l g f) refl
     (told_around (StandsAtLexer l g) (entry_faults g) at_lexer (input_faults g) f h)

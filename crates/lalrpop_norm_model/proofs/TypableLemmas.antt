@@ -6,7 +6,7 @@ use Rattle.lalrpop_norm_faults.specs.declared.kind.FaultKind.TheVariants.{NotGro
 use Rattle.lalrpop_norm_model.specs.Expanded.{rule_names}
 use Rattle.lalrpop_norm_model.specs.Grammars.{is_nil}
 use Rattle.lalrpop_norm_model.specs.PlainRules.{all_rules}
-use Rattle.lalrpop_norm_model.specs.TypeRelation.{IsRule, Clause, clauses}
+use Rattle.lalrpop_norm_model.specs.TypeRelation.{IsRule, TypeClause, type_clauses}
 use Rattle.lalrpop_norm_model.specs.TypeRounds.{inferred}
 use Rattle.lalrpop_norm_model.specs.TuplePatterns.{IsTypable, pattern_misfits}
 use Rattle.lalrpop_norm_model.specs.InferenceFaults.{is_undeclared, undeclared, lacking, inferred_table, untyped_rules, disagreeing, inference_faults}
@@ -18,7 +18,7 @@ use Rattle.lalrpop_norm_model.proofs.PatternLemmas.{no_map, patterns_exactly}
 -- ---- rules without a clause have no type
 
 -- a rule with a type in the table has a clause
-some_clause : (g : GrammarData) → IsDistinct (rule_names g) → untyped_rules g ≡ [] → (r : RuleData) → IsRule g r → (c : Clause) × In c (clauses r)
+some_clause : (g : GrammarData) → IsDistinct (rule_names g) → untyped_rules g ≡ [] → (r : RuleData) → IsRule g r → (c : TypeClause) × In c (type_clauses r)
 some_clause g distinct e r rule =
     let x = what_some (inferred_table g r.name.0) (all_typed g e r rule) in
     let own = own_fed g (inferred g) distinct (inferred_end g) r rule x.0 x.1 in
@@ -29,8 +29,8 @@ not_nil [] x i = absurd i
 not_nil (y ∷ xs) x i = refl
 
 -- a rule with a clause lacks nothing
-lacks_none : (r : RuleData) (c : Clause) → In c (clauses r) → lacking r ≡ []
-lacks_none r c i = rw (not_nil (clauses r) c i) refl
+lacks_none : (r : RuleData) (c : TypeClause) → In c (type_clauses r) → lacking r ≡ []
+lacks_none r c i = rw (not_nil (type_clauses r) c i) refl
 
 -- Where each rule has a type none lacks what gives one.
 pub none_lacking : (g : GrammarData) → IsDistinct (rule_names g) → untyped_rules g ≡ [] → flat_map lacking (undeclared g) ≡ []

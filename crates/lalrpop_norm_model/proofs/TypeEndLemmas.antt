@@ -5,8 +5,8 @@ use Rattle.lalrpop_norm_tree.specs.Items.{RuleData, GrammarData}
 use Rattle.lalrpop_norm_parts.specs.Reprs.{ReprData}
 use Rattle.lalrpop_norm_theory.specs.Rounds.{In}
 use Rattle.lalrpop_norm_model.specs.PlainRules.{all_rules}
-use Rattle.lalrpop_norm_model.specs.TypeRelation.{clauses}
-use Rattle.lalrpop_norm_model.specs.TypeRounds.{Row, table_of, first_value, taken, visit, visits, round, rounds, IsEnd, inferred}
+use Rattle.lalrpop_norm_model.specs.TypeRelation.{type_clauses}
+use Rattle.lalrpop_norm_model.specs.TypeRounds.{TypeRow, table_of, first_value, taken, visit, visits, round, type_rounds, IsEnd, inferred}
 
 -- ---- how many rules have no type
 
@@ -14,7 +14,7 @@ abbrev counted : Option ReprData → ℕ → ℕ
 counted None k = suc k
 counted (Some x) k = k
 
-abbrev untyped : List Row → List RuleData → ℕ
+abbrev untyped : List TypeRow → List RuleData → ℕ
 untyped rows [] = 0
 untyped rows (r ∷ rs) = counted (table_of rows r.name.0) (untyped rows rs)
 
@@ -32,7 +32,7 @@ put_some : (b : Bool) (x : ReprData) (v : Option ReprData) → IsSome v → IsSo
 put_some true x v s = refl
 put_some false x v s = s
 
-row_less : (rows : List Row) (n : List ℕ) (x : ReprData) (rs : List RuleData) → untyped ((n, x) ∷ rows) rs ≤ untyped rows rs
+row_less : (rows : List TypeRow) (n : List ℕ) (x : ReprData) (rs : List RuleData) → untyped ((n, x) ∷ rows) rs ≤ untyped rows rs
 row_less rows n x [] = le_refl 0
 row_less rows n x (r ∷ rs) =
     counted_less (table_of rows r.name.0) (table_of ((n, x) ∷ rows) r.name.0) _ _ (put_some (bytes_eq n r.name.0) x (table_of rows r.name.0)) (row_less rows n x rs)
@@ -48,16 +48,16 @@ counted_later None (Some y) k m more lt = le_trans lt (le_of_lt (lt-suc_self m))
 counted_later (Some x) None k m more lt = let s = more refl in absurd cc
 counted_later (Some x) (Some y) k m more lt = lt
 
-row_some : (rows : List Row) (n : List ℕ) (x : ReprData) → IsSome (table_of ((n, x) ∷ rows) n)
+row_some : (rows : List TypeRow) (n : List ℕ) (x : ReprData) → IsSome (table_of ((n, x) ∷ rows) n)
 row_some rows n x = rw ((bytes_eq-Decides n n).1 refl) refl
 
-none_fewer : (rows : List Row) (n : List ℕ) (x : ReprData) (r : RuleData) (k m : ℕ) (v : Option ReprData) → table_of rows r.name.0 ≡ v → v ≡ None → n ≡ r.name.0 → k ≤ m →
+none_fewer : (rows : List TypeRow) (n : List ℕ) (x : ReprData) (r : RuleData) (k m : ℕ) (v : Option ReprData) → table_of rows r.name.0 ≡ v → v ≡ None → n ≡ r.name.0 → k ≤ m →
     counted (table_of ((n, x) ∷ rows) r.name.0) k < counted v m
 none_fewer rows n x r k m (Some y) is none same le = absurd cc
 none_fewer rows n x r k m None is none same le =
     counted_fewer (table_of ((n, x) ∷ rows) r.name.0) k m (subst (λ a. IsSome (table_of ((n, x) ∷ rows) a)) same (row_some rows n x)) le
 
-row_fewer : (rows : List Row) (x : ReprData) (r : RuleData) (rs : List RuleData) → In r rs → table_of rows r.name.0 ≡ None →
+row_fewer : (rows : List TypeRow) (x : ReprData) (r : RuleData) (rs : List RuleData) → In r rs → table_of rows r.name.0 ≡ None →
     untyped ((r.name.0, x) ∷ rows) rs < untyped rows rs
 row_fewer rows x r [] i e = absurd i
 row_fewer rows x r (s ∷ rs) (inl same) e =
@@ -70,31 +70,31 @@ row_fewer rows x r (s ∷ rs) (inr i) e =
 -- ---- visits
 
 -- nothing is added, or fewer rules have no type
-abbrev Progress : List RuleData → List Row → List Row → Type 0
+abbrev Progress : List RuleData → List TypeRow → List TypeRow → Type 0
 Progress rs before later = (later ≡ before) ⊎ (untyped later rs < untyped before rs)
 
-taken_progress : (rows : List Row) (r : RuleData) (rs : List RuleData) → In r rs → (v w : Option ReprData) → table_of rows r.name.0 ≡ v →
+taken_progress : (rows : List TypeRow) (r : RuleData) (rs : List RuleData) → In r rs → (v w : Option ReprData) → table_of rows r.name.0 ≡ v →
     Progress rs rows (taken rows r.name.0 v w)
 taken_progress rows r rs i (Some y) w e = inl refl
 taken_progress rows r rs i None (Some x) e = inr (row_fewer rows x r rs i e)
 taken_progress rows r rs i None None e = inl refl
 
-visit_progress : (g : GrammarData) (rows : List Row) (r : RuleData) (rs : List RuleData) → In r rs → Progress rs rows (visit g rows r)
-visit_progress g rows r rs i = taken_progress rows r rs i (table_of rows r.name.0) (first_value g (table_of rows) (clauses r)) refl
+visit_progress : (g : GrammarData) (rows : List TypeRow) (r : RuleData) (rs : List RuleData) → In r rs → Progress rs rows (visit g rows r)
+visit_progress g rows r rs i = taken_progress rows r rs i (table_of rows r.name.0) (first_value g (table_of rows) (type_clauses r)) refl
 
-progress_after : (rs : List RuleData) (a b c : List Row) → Progress rs a b → Progress rs b c → Progress rs a c
+progress_after : (rs : List RuleData) (a b c : List TypeRow) → Progress rs a b → Progress rs b c → Progress rs a c
 progress_after rs a b c (inl e) (inl f) = inl (f ∙ e)
 progress_after rs a b c (inl e) (inr lt) = inr (subst (λ x. untyped c rs < untyped x rs) e lt)
 progress_after rs a b c (inr lt) (inl f) = inr (subst (λ x. untyped x rs < untyped a rs) (sym f) lt)
 progress_after rs a b c (inr lt) (inr more) = inr (lt_trans more lt)
 
-visits_progress : (g : GrammarData) (rows : List Row) (all rs : List RuleData) → ((r : RuleData) → In r rs → In r all) → Progress all rows (visits g rows rs)
+visits_progress : (g : GrammarData) (rows : List TypeRow) (all rs : List RuleData) → ((r : RuleData) → In r rs → In r all) → Progress all rows (visits g rows rs)
 visits_progress g rows all [] within = inl refl
 visits_progress g rows all (r ∷ rs) within =
     progress_after all rows (visit g rows r) (visits g (visit g rows r) rs) (visit_progress g rows r all (within r (inl refl)))
     (visits_progress g (visit g rows r) all rs (λ s i. within s (inr i)))
 
-round_progress : (g : GrammarData) (rows : List Row) → Progress (all_rules g) rows (round g rows)
+round_progress : (g : GrammarData) (rows : List TypeRow) → Progress (all_rules g) rows (round g rows)
 round_progress g rows = visits_progress g rows (all_rules g) (all_rules g) (λ r i. i)
 
 -- ---- the end
@@ -105,16 +105,16 @@ none_typed (r ∷ rs) = ap suc (none_typed rs)
 
 -- after k rounds nothing is added any more, or k rules at least have a type
 abbrev After : GrammarData → ℕ → Type 0
-After g k = (round g (rounds g k) ≡ rounds g k) ⊎ (untyped (rounds g k) (all_rules g) + k ≤ length (all_rules g))
+After g k = (round g (type_rounds g k) ≡ type_rounds g k) ⊎ (untyped (type_rounds g k) (all_rules g) + k ≤ length (all_rules g))
 
-after_case : (g : GrammarData) (k : ℕ) → After g k → Progress (all_rules g) (rounds g k) (rounds g (suc k)) → After g (suc k)
+after_case : (g : GrammarData) (k : ℕ) → After g k → Progress (all_rules g) (type_rounds g k) (type_rounds g (suc k)) → After g (suc k)
 after_case g k (inl quiet) p = inl (ap (round g) quiet)
 after_case g k (inr few) (inl quiet) = inl (ap (round g) quiet)
 after_case g k (inr few) (inr fewer) = inr (omega (arith, few, fewer))
 
 after : (g : GrammarData) (k : ℕ) → After g k
 after g zero = inr (omega (arith, none_typed (all_rules g)))
-after g (suc k) = after_case g k (after g k) (round_progress g (rounds g k))
+after g (suc k) = after_case g k (after g k) (round_progress g (type_rounds g k))
 
 end_case : (g : GrammarData) → After g (length (all_rules g)) → Progress (all_rules g) (inferred g) (round g (inferred g)) → round g (inferred g) ≡ inferred g
 end_case g (inl quiet) p = quiet

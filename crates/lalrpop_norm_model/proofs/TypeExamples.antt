@@ -3,12 +3,12 @@ use Rattle.std.proofs.Common.{ℕ, List, [], ◌∷◌, Some, None, codes, inl, 
 use Rattle.lalrpop_norm_parts.specs.Accessors.{path_of}
 use Rattle.lalrpop_norm_tree.specs.Items.{GrammarData, RuleData, lookahead_code, lookbehind_code}
 use Rattle.lalrpop_norm_parts.specs.Reprs as lowered
-use Rattle.lalrpop_norm_parts.specs.Reprs.{ReprData, reprs_of, named_repr}
+use Rattle.lalrpop_norm_parts.specs.Reprs.{ReprData, reprs_of, named_repr, unit_type, static_str}
 use Rattle.lalrpop_norm_tree.specs.Symbols.{Kind, terminal, nonterminal, chosen, error_terminal}
 use Rattle.lalrpop_norm_tree.specs.Types.{nominal, id, of_symbol, types_of}
-use Rattle.lalrpop_norm_model.specs.TerminalTypes.{unit_type, static_str, token_of_input}
+use Rattle.lalrpop_norm_model.specs.TerminalTypes.{token_of_input}
 use Rattle.lalrpop_norm_model.specs.TypeRelation.{Has}
-use Rattle.lalrpop_norm_model.specs.TypeRounds.{Row}
+use Rattle.lalrpop_norm_model.specs.TypeRounds.{TypeRow}
 use Rattle.lalrpop_norm_model.proofs.TableTests.{AllHad, had_by, Typing, typing}
 use Rattle.lalrpop_norm_model.proofs.ExampleGrammars.{quoted, a_part, plain, coded, with_code, a_rule, extern_tokens, converts, declares, tok_tokens, tok, of_rules}
 
@@ -45,7 +45,7 @@ declared = of_rules (tok_tokens (codes "Hi" ∷ codes "Ho" ∷ []) ∷ [])
     ∷ a_rule (codes "Y") (Some (id (codes "Foo"))) (plain (literal (codes "Hi") ∷ []) ∷ [])
     ∷ a_rule (codes "Z") None (plain (literal (codes "Ho") ∷ []) ∷ []) ∷ [])
 
-abbrev declared_rows : List Row
+abbrev declared_rows : List TypeRow
 declared_rows = (codes "Y", named_repr (codes "Foo")) ∷ (codes "Z", tok) ∷ []
 
 declared_had : AllHad declared declared_rows
@@ -76,7 +76,7 @@ option_tok = applied (codes "Option" ∷ []) (tok ∷ [])
 abbrev vector_option : ReprData
 vector_option = applied vector (option_tok ∷ [])
 
-abbrev repeats_rows : List Row
+abbrev repeats_rows : List TypeRow
 repeats_rows = (codes "A", vector_option) ∷ (codes "Z*", vector_option) ∷ (codes "Z", option_tok) ∷ (codes "\"Hi\"?", option_tok) ∷ []
 
 repeats_had : AllHad repeats repeats_rows
@@ -109,7 +109,7 @@ usize = named_repr (codes "usize")
 abbrev located : ReprData
 located = tuple_of (usize ∷ tok ∷ usize ∷ [])
 
-abbrev locations_rows : List Row
+abbrev locations_rows : List TypeRow
 locations_rows = (codes "@L", usize) ∷ (codes "@R", usize) ∷ []
 
 locations_had : AllHad spanned locations_rows
@@ -145,10 +145,10 @@ tuples = of_rules (tok_tokens (codes "a" ∷ codes "b" ∷ codes "c" ∷ []) ∷
 abbrev three_tok : ReprData
 three_tok = tuple_of (tok ∷ tok ∷ tok ∷ [])
 
-abbrev bar_rows : List Row
+abbrev bar_rows : List TypeRow
 bar_rows = (codes "Bar", three_tok) ∷ []
 
-abbrev tuples_rows : List Row
+abbrev tuples_rows : List TypeRow
 tuples_rows = (codes "Nil", unit_type) ∷ (codes "Foo", named_repr (codes "String")) ∷ (codes "Bam", tuple_of (tok ∷ three_tok ∷ [])) ∷ bar_rows
 
 bar_had : AllHad tuples bar_rows
@@ -181,7 +181,7 @@ conversions = of_rules (extern_tokens [] (converts (quoted (codes "n")) (id (cod
     ∷ converts (quoted (codes "p")) (id (codes "i32") ∷ id (codes "u8") ∷ []) ∷ []) ∷ [])
     (a_rule (codes "N") None (plain (literal (codes "n") ∷ []) ∷ []) ∷ a_rule (codes "P") None (plain (literal (codes "p") ∷ []) ∷ []) ∷ [])
 
-abbrev conversions_rows : List Row
+abbrev conversions_rows : List TypeRow
 conversions_rows = (codes "N", named_repr (codes "i32")) ∷ (codes "P", tuple_of (named_repr (codes "i32") ∷ named_repr (codes "u8") ∷ [])) ∷ []
 
 conversions_types : Typing conversions conversions_rows

@@ -4,15 +4,14 @@ use Rattle.lalrpop_norm_parts.specs.declared.names.TypeParameter.TheVariants as 
 use Rattle.lalrpop_norm_parts.specs.Accessors.{path_of}
 use Rattle.lalrpop_norm_tree.specs.Items.{RuleData, GrammarData, lookahead_code}
 use Rattle.lalrpop_norm_parts.specs.Reprs as lowered
-use Rattle.lalrpop_norm_parts.specs.Reprs.{ReprData, named_repr}
+use Rattle.lalrpop_norm_parts.specs.Reprs.{ReprData, named_repr, unit_type}
 use Rattle.lalrpop_norm_tree.specs.Symbols.{ArgumentPattern, ArgumentPatterns, one_name, several, no_arguments, argument_and, nonterminal, tupled}
 use Rattle.lalrpop_norm_tree.specs.Types.{id, tuple, nominal, of_symbol, types_of, no_types}
 use Rattle.lalrpop_norm_faults.specs.declared.kind.FaultKind.TheVariants.{TupleLength, Disagreement}
-use Rattle.lalrpop_norm_model.specs.TerminalTypes.{unit_type}
 use Rattle.lalrpop_norm_model.specs.TypeRelation.{Has, IsFunctional, IsTotal}
-use Rattle.lalrpop_norm_model.specs.TuplePatterns.{fits, PatternsFit, pattern_misfits}
+use Rattle.lalrpop_norm_model.specs.TuplePatterns.{pattern_fits, PatternsFit, pattern_misfits}
 use Rattle.lalrpop_norm_model.specs.InferenceFaults.{inference_faults, disagreeing as disagreeing_alternatives, untyped_rules, inferred_table}
-use Rattle.lalrpop_norm_model.specs.TypeRounds.{Row, table_of}
+use Rattle.lalrpop_norm_model.specs.TypeRounds.{TypeRow, table_of}
 use Rattle.lalrpop_norm_model.proofs.TypeLemmas.{none_had}
 use Rattle.lalrpop_norm_model.proofs.TableTests.{AllHad, had_by, Typing, typing, stuck_by_rules}
 use Rattle.lalrpop_norm_model.proofs.ExampleGrammars.{nowhere, a_part, plain, with_code, coded, a_rule, tok_tokens, tok, of_rules}
@@ -31,7 +30,7 @@ disagreeing = of_rules (tok_tokens (codes "x" ∷ codes "y" ∷ codes "c" ∷ []
     ∷ a_rule (codes "B") None (plain (nonterminal (codes "A") ∷ nonterminal (codes "C") ∷ []) ∷ plain (literal (codes "y") ∷ []) ∷ [])
     ∷ a_rule (codes "C") None (plain (literal (codes "c") ∷ []) ∷ []) ∷ [])
 
-abbrev disagreeing_rows : List Row
+abbrev disagreeing_rows : List TypeRow
 disagreeing_rows = (codes "A", tok) ∷ (codes "C", tok) ∷ []
 
 disagreeing_had : AllHad disagreeing disagreeing_rows
@@ -165,16 +164,16 @@ foo_types = typing foo ((codes "Foo", named_repr (codes "String")) ∷ (codes "B
     (had_by foo [] tt _ _ _ (inl refl) (inl refl) refl, (had_by foo [] tt _ _ _ (inr (inl refl)) (inl refl) refl, tt))
     ((refl, tt), ((refl, tt), tt)) (refl, (refl, tt))
 
-two_for_three : fits (several (pair (one (codes "a")) (one (codes "b")))) three ≡ false
+two_for_three : pattern_fits (several (pair (one (codes "a")) (one (codes "b")))) three ≡ false
 two_for_three = refl
 
-nested_fits : fits (several (pair (one (codes "a")) (several (pair (one (codes "b")) (one (codes "c")))))) (tuple_of (tok ∷ tuple_of (tok ∷ tok ∷ []) ∷ [])) ≡ true
+nested_fits : pattern_fits (several (pair (one (codes "a")) (several (pair (one (codes "b")) (one (codes "c")))))) (tuple_of (tok ∷ tuple_of (tok ∷ tok ∷ []) ∷ [])) ≡ true
 nested_fits = refl
 
-nested_short : fits (several (pair (one (codes "a")) (several (pair (one (codes "b")) (one (codes "c")))))) (tuple_of (tok ∷ three ∷ [])) ≡ false
+nested_short : pattern_fits (several (pair (one (codes "a")) (several (pair (one (codes "b")) (one (codes "c")))))) (tuple_of (tok ∷ three ∷ [])) ≡ false
 nested_short = refl
 
-over_token : fits (several (pair (one (codes "a")) (one (codes "b")))) tok ≡ false
+over_token : pattern_fits (several (pair (one (codes "a")) (one (codes "b")))) tok ≡ false
 over_token = refl
 
 foo_is_not : PatternsFit foo → ⊥
@@ -183,8 +182,8 @@ foo_is_not h =
     let n : codes "Bar" ≡ p.name = cc in
     let had : Has foo (codes "Bar") p.type = subst (λ m. Has foo m p.type) (sym n) p.has in
     let x : p.type ≡ three = foo_types.one.functional (codes "Bar") p.type three had ((foo_types.table (codes "Bar") three).0 refl) in
-    let not : fits (several (pair (one (codes "a")) (one (codes "b")))) p.type ≡ false = rw x two_for_three in
-    let is : fits (several (pair (one (codes "a")) (one (codes "b")))) p.type ≡ true = p.fitting in
+    let not : pattern_fits (several (pair (one (codes "a")) (one (codes "b")))) p.type ≡ false = rw x two_for_three in
+    let is : pattern_fits (several (pair (one (codes "a")) (one (codes "b")))) p.type ≡ true = p.fitting in
     cc
 
 -- ---- where inference refuses

@@ -4,15 +4,15 @@ use Rattle.std.proofs.lemmas.Slice.Eq.{bytes_eq-Decides}
 use Rattle.lalrpop_norm_tree.specs.Items.{RuleData, GrammarData}
 use Rattle.lalrpop_norm_parts.specs.Paths.{PathData}
 use Rattle.lalrpop_norm_parts.specs.Reprs as lowered
-use Rattle.lalrpop_norm_parts.specs.Reprs.{ReprData, Reprs, MaybeRepr}
+use Rattle.lalrpop_norm_parts.specs.Reprs.{ReprData, Reprs}
 use Rattle.lalrpop_norm_tree.specs.Symbols.{Kind, group, ambiguous_id, terminal, nonterminal, call, repeated, chosen, named, tupled, lookahead, lookbehind, error_terminal, at}
 use Rattle.lalrpop_norm_tree.specs.Types.{TypeData, TypesData, MaybeType, tuple, slice, nominal, reference, trait_object, of_lifetime, id, of_symbol, function, no_types, type_and, no_type, returns}
 use Rattle.lalrpop_norm_theory.specs.Rounds.{In, IsDistinct}
 use Rattle.lalrpop_norm_model.specs.PlainRules.{all_rules}
 use Rattle.lalrpop_norm_model.specs.Expanded.{rule_names}
-use Rattle.lalrpop_norm_model.specs.TypeRelation.{associated_of, IsRule, Clause, makes, locates, clauses}
+use Rattle.lalrpop_norm_model.specs.TypeRelation.{associated_of, IsRule, TypeClause, makes, locates, type_clauses}
 use Rattle.lalrpop_norm_model.specs.TypeTables.{Table, kind_value, path_value, both, type_value, types_value, return_value, clause_value}
-use Rattle.lalrpop_norm_model.specs.TypeRounds.{Row, table_of, first_value, taken, visit, visits, rounds, IsEnd}
+use Rattle.lalrpop_norm_model.specs.TypeRounds.{TypeRow, table_of, first_value, taken, visit, visits, type_rounds, IsEnd}
 use Rattle.lalrpop_norm_model.proofs.TypeRoundLemmas.{first_made}
 
 -- ---- values grow with the table
@@ -75,7 +75,7 @@ mutual
   return_more g f h grows no_type x e = e
   return_more g f h grows (returns t) x e = map_more lowered.returns (type_value g f t) (type_value g h t) (type_more g f h grows t) x e
 
-clause_more : (g : GrammarData) (f h : Table) → Grows f h → (c : Clause) → More (clause_value g f c) (clause_value g h c)
+clause_more : (g : GrammarData) (f h : Table) → Grows f h → (c : TypeClause) → More (clause_value g f c) (clause_value g h c)
 clause_more g f h grows (makes t) x e = type_more g f h grows t x e
 clause_more g f h grows locates x e = e
 
@@ -86,15 +86,15 @@ pub record IsFed (g : GrammarData) (f : Table) (n : List ℕ) (x : ReprData) : T
   pub rule : RuleData
   pub stands : IsRule g rule
   pub name : rule.name.0 ≡ n
-  pub clause : Clause
-  pub among : In clause (clauses rule)
+  pub clause : TypeClause
+  pub among : In clause (type_clauses rule)
   pub value : clause_value g f clause ≡ Some x
 
-abbrev AllFed : GrammarData → Table → List Row → Type 0
+abbrev AllFed : GrammarData → Table → List TypeRow → Type 0
 AllFed g f [] = Unit {0}
 AllFed g f (r ∷ rows) = IsFed g f r.0 r.1 × AllFed g f rows
 
-fed_more : (g : GrammarData) (f h : Table) → Grows f h → (rows : List Row) → AllFed g f rows → AllFed g h rows
+fed_more : (g : GrammarData) (f h : Table) → Grows f h → (rows : List TypeRow) → AllFed g f rows → AllFed g h rows
 fed_more g f h grows [] a = tt
 fed_more g f h grows (r ∷ rows) a = (
   record {
@@ -108,7 +108,7 @@ fed_more g f h grows (r ∷ rows) a = (
   fed_more g f h grows rows a.1,
 )
 
-row_grows_case : (rows : List Row) (n : List ℕ) (x : ReprData) → table_of rows n ≡ None → (m : List ℕ) (b : Bool) → bytes_eq n m ≡ b →
+row_grows_case : (rows : List TypeRow) (n : List ℕ) (x : ReprData) → table_of rows n ≡ None → (m : List ℕ) (b : Bool) → bytes_eq n m ≡ b →
     More (table_of rows m) (if b then Some x else table_of rows m)
 row_grows_case rows n x none m true e y d =
     let same : n ≡ m = (bytes_eq-Decides n m).0 e in
@@ -116,44 +116,44 @@ row_grows_case rows n x none m true e y d =
     absurd cc
 row_grows_case rows n x none m false e y d = d
 
-row_grows : (rows : List Row) (n : List ℕ) (x : ReprData) → table_of rows n ≡ None → Grows (table_of rows) (table_of ((n, x) ∷ rows))
+row_grows : (rows : List TypeRow) (n : List ℕ) (x : ReprData) → table_of rows n ≡ None → Grows (table_of rows) (table_of ((n, x) ∷ rows))
 row_grows rows n x none m = row_grows_case rows n x none m (bytes_eq n m) refl
 
-taken_fed : (g : GrammarData) (rows : List Row) (r : RuleData) (v w : Option ReprData) → IsRule g r → AllFed g (table_of rows) rows → table_of rows r.name.0 ≡ v →
-    first_value g (table_of rows) (clauses r) ≡ w → AllFed g (table_of (taken rows r.name.0 v w)) (taken rows r.name.0 v w)
+taken_fed : (g : GrammarData) (rows : List TypeRow) (r : RuleData) (v w : Option ReprData) → IsRule g r → AllFed g (table_of rows) rows → table_of rows r.name.0 ≡ v →
+    first_value g (table_of rows) (type_clauses r) ≡ w → AllFed g (table_of (taken rows r.name.0 v w)) (taken rows r.name.0 v w)
 taken_fed g rows r (Some y) w rule fed e d = fed
 taken_fed g rows r None None rule fed e d = fed
 taken_fed g rows r None (Some x) rule fed e d =
-    let m = first_made g (table_of rows) (clauses r) x d in
+    let m = first_made g (table_of rows) (type_clauses r) x d in
     let grows : Grows (table_of rows) (table_of ((r.name.0, x) ∷ rows)) = row_grows rows r.name.0 x e in (
       record { rule = r; stands = rule; name = refl; clause = m.0; among = m.1; value = clause_more g (table_of rows) (table_of ((r.name.0, x) ∷ rows)) grows m.0 x m.2 },
       fed_more g (table_of rows) (table_of ((r.name.0, x) ∷ rows)) grows rows fed,
     )
 
-visits_fed : (g : GrammarData) (rows : List Row) (rs : List RuleData) → ((r : RuleData) → In r rs → IsRule g r) → AllFed g (table_of rows) rows →
+visits_fed : (g : GrammarData) (rows : List TypeRow) (rs : List RuleData) → ((r : RuleData) → In r rs → IsRule g r) → AllFed g (table_of rows) rows →
     AllFed g (table_of (visits g rows rs)) (visits g rows rs)
 visits_fed g rows [] all fed = fed
 visits_fed g rows (r ∷ rs) all fed =
     visits_fed g (visit g rows r) rs (λ s i. all s (inr i))
-    (taken_fed g rows r (table_of rows r.name.0) (first_value g (table_of rows) (clauses r)) (all r (inl refl)) fed refl refl)
+    (taken_fed g rows r (table_of rows r.name.0) (first_value g (table_of rows) (type_clauses r)) (all r (inl refl)) fed refl refl)
 
-rounds_fed : (g : GrammarData) (k : ℕ) → AllFed g (table_of (rounds g k)) (rounds g k)
+rounds_fed : (g : GrammarData) (k : ℕ) → AllFed g (table_of (type_rounds g k)) (type_rounds g k)
 rounds_fed g zero = tt
-rounds_fed g (suc k) = visits_fed g (rounds g k) (all_rules g) (λ r i. i) (rounds_fed g k)
+rounds_fed g (suc k) = visits_fed g (type_rounds g k) (all_rules g) (λ r i. i) (rounds_fed g k)
 
-row_fed : (g : GrammarData) (f : Table) (r : Row) (n : List ℕ) (x : ReprData) (b : Bool) (rest : Option ReprData) → bytes_eq r.0 n ≡ b → IsFed g f r.0 r.1 →
+row_fed : (g : GrammarData) (f : Table) (r : TypeRow) (n : List ℕ) (x : ReprData) (b : Bool) (rest : Option ReprData) → bytes_eq r.0 n ≡ b → IsFed g f r.0 r.1 →
     (rest ≡ Some x → IsFed g f n x) → (if b then Some r.1 else rest) ≡ Some x → IsFed g f n x
 row_fed g f r n x true rest is fed other e =
     let same : r.1 ≡ x = cc in
     subst (λ y. IsFed g f n y) same (subst (λ m. IsFed g f m r.1) ((bytes_eq-Decides r.0 n).0 is) fed)
 row_fed g f r n x false rest is fed other e = other e
 
-found_fed : (g : GrammarData) (f : Table) (rows : List Row) → AllFed g f rows → (n : List ℕ) (x : ReprData) → table_of rows n ≡ Some x → IsFed g f n x
+found_fed : (g : GrammarData) (f : Table) (rows : List TypeRow) → AllFed g f rows → (n : List ℕ) (x : ReprData) → table_of rows n ≡ Some x → IsFed g f n x
 found_fed g f [] a n x e = absurd cc
 found_fed g f (r ∷ rows) a n x e = row_fed g f r n x (bytes_eq r.0 n) (table_of rows n) refl a.0 (found_fed g f rows a.1 n x) e
 
 -- each type where the rounds end is fed
-pub end_fed : (g : GrammarData) (rows : List Row) → IsEnd g rows → (n : List ℕ) (x : ReprData) → table_of rows n ≡ Some x → IsFed g (table_of rows) n x
+pub end_fed : (g : GrammarData) (rows : List TypeRow) → IsEnd g rows → (n : List ℕ) (x : ReprData) → table_of rows n ≡ Some x → IsFed g (table_of rows) n x
 end_fed g rows end = found_fed g (table_of rows) rows (subst (λ s. AllFed g (table_of s) s) (sym end.reached) (rounds_fed g end.count))
 
 -- ---- declared types
@@ -179,9 +179,9 @@ one_of_name (q ∷ rs) d r s (inr i) (inl b) e =
 one_of_name (q ∷ rs) d r s (inr i) (inr j) e = one_of_name rs d.1 r s i j e
 
 -- where names are distinct, each type in the table is made by a clause of the rule itself
-pub own_fed : (g : GrammarData) (rows : List Row) → IsDistinct (rule_names g) → IsEnd g rows → (r : RuleData) → IsRule g r → (x : ReprData) →
-    table_of rows r.name.0 ≡ Some x → (c : Clause) × In c (clauses r) × (clause_value g (table_of rows) c ≡ Some x)
+pub own_fed : (g : GrammarData) (rows : List TypeRow) → IsDistinct (rule_names g) → IsEnd g rows → (r : RuleData) → IsRule g r → (x : ReprData) →
+    table_of rows r.name.0 ≡ Some x → (c : TypeClause) × In c (type_clauses r) × (clause_value g (table_of rows) c ≡ Some x)
 own_fed g rows distinct end r rule x e =
     let fed = end_fed g rows end r.name.0 x e in
     let same : fed.rule ≡ r = one_of_name (all_rules g) distinct fed.rule r fed.stands rule fed.name in
-    (fed.clause, subst (λ q. In fed.clause (clauses q)) same fed.among, fed.value)
+    (fed.clause, subst (λ q. In fed.clause (type_clauses q)) same fed.among, fed.value)

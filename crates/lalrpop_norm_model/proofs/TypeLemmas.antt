@@ -8,8 +8,8 @@ use Rattle.lalrpop_norm_parts.specs.Reprs.{ReprData, Reprs, MaybeRepr}
 use Rattle.lalrpop_norm_tree.specs.Symbols.{Kind, group, ambiguous_id, terminal, nonterminal, call, repeated, chosen, named, tupled, lookahead, lookbehind, error_terminal, at}
 use Rattle.lalrpop_norm_tree.specs.Types.{TypeData, TypesData, MaybeType, tuple, slice, nominal, reference, trait_object, of_lifetime, id, of_symbol, function, no_types, type_and, no_type, returns}
 use Rattle.lalrpop_norm_model.specs.TerminalTypes.{terminal_type, recovery_type}
-use Rattle.lalrpop_norm_model.specs.TypeRelation.{associated_of, Clause, makes, locates, Has, by_clause, Makes, makes_type, makes_location, Gives, of_terminal, of_error, of_nonterminal, of_chosen, of_named, of_tupled, Means, means_symbol, means_associated, means_nominal, means_name, means_tuple, means_slice, means_reference, means_object, means_lifetime, means_function, MeanAll, mean_none, mean_and, MeansReturn, means_nothing, means_returned, IsFunctional}
-use Rattle.lalrpop_norm_model.specs.TypeTables.{Table, kind_value, path_value, both, type_value, types_value, return_value, clause_value, IsSound, IsClosed, IsStuck, IsTable}
+use Rattle.lalrpop_norm_model.specs.TypeRelation.{associated_of, TypeClause, makes, locates, Has, by_clause, Makes, makes_type, makes_location, Gives, of_terminal, of_error, of_nonterminal, of_chosen, of_named, of_tupled, Means, means_symbol, means_associated, means_nominal, means_name, means_tuple, means_slice, means_reference, means_object, means_lifetime, means_function, MeanAll, mean_none, mean_and, MeansReturn, means_nothing, means_returned, IsFunctional}
+use Rattle.lalrpop_norm_model.specs.TypeTables.{Table, kind_value, path_value, both, type_value, types_value, return_value, clause_value, IsSound, IsClosedTable, IsStuck, IsTable}
 
 -- ---- options
 
@@ -94,21 +94,21 @@ mutual
   return_means g f sound (returns t) y e =
       map_made lowered.returns (MeansReturn g (returns t)) (type_value g f t) (λ x h. means_returned t x (value_means g f sound t x h)) y e
 
-pub clause_makes : (g : GrammarData) (f : Table) → IsSound g f → (c : Clause) (x : ReprData) → clause_value g f c ≡ Some x → Makes g c x
+pub clause_makes : (g : GrammarData) (f : Table) → IsSound g f → (c : TypeClause) (x : ReprData) → clause_value g f c ≡ Some x → Makes g c x
 clause_makes g f sound (makes t) x e = makes_type t x (value_means g f sound t x e)
 clause_makes g f sound locates x e = makes_location x e
 
 -- ---- a closed table holds each type that is had
 
 mutual
-  pub has_typed : (g : GrammarData) (f : Table) → IsClosed g f → {n : List ℕ} {x : ReprData} → Has g n x → f n ≡ Some x
+  pub has_typed : (g : GrammarData) (f : Table) → IsClosedTable g f → {n : List ℕ} {x : ReprData} → Has g n x → f n ≡ Some x
   has_typed g f closed (by_clause r c x rule i m) = closed r rule c i x (makes_value g f closed m)
 
-  pub makes_value : (g : GrammarData) (f : Table) → IsClosed g f → {c : Clause} {x : ReprData} → Makes g c x → clause_value g f c ≡ Some x
+  pub makes_value : (g : GrammarData) (f : Table) → IsClosedTable g f → {c : TypeClause} {x : ReprData} → Makes g c x → clause_value g f c ≡ Some x
   makes_value g f closed (makes_type t x m) = means_value g f closed m
   makes_value g f closed (makes_location x there) = there
 
-  pub gives_value : (g : GrammarData) (f : Table) → IsClosed g f → {k : Kind} {x : ReprData} → Gives g k x → kind_value g f k ≡ Some x
+  pub gives_value : (g : GrammarData) (f : Table) → IsClosedTable g f → {k : Kind} {x : ReprData} → Gives g k x → kind_value g f k ≡ Some x
   gives_value g f closed (of_terminal t) = refl
   gives_value g f closed of_error = refl
   gives_value g f closed (of_nonterminal n x h) = has_typed g f closed h
@@ -116,7 +116,7 @@ mutual
   gives_value g f closed (of_named n s k x h) = gives_value g f closed h
   gives_value g f closed (of_tupled ns s k x h) = gives_value g f closed h
 
-  pub means_value : (g : GrammarData) (f : Table) → IsClosed g f → {t : TypeData} {x : ReprData} → Means g t x → type_value g f t ≡ Some x
+  pub means_value : (g : GrammarData) (f : Table) → IsClosedTable g f → {t : TypeData} {x : ReprData} → Means g t x → type_value g f t ≡ Some x
   means_value g f closed (means_symbol k x h) = gives_value g f closed h
   means_value g f closed (means_associated p ts a b is) = rw is refl
   means_value g f closed (means_nominal p ts xs is hs) = rw (is, mean_values g f closed hs) refl
@@ -128,11 +128,11 @@ mutual
   means_value g f closed (means_lifetime l) = refl
   means_value g f closed (means_function fs p ts r xs y hs h) = rw (mean_values g f closed hs, means_return g f closed h) refl
 
-  pub mean_values : (g : GrammarData) (f : Table) → IsClosed g f → {ts : TypesData} {xs : Reprs} → MeanAll g ts xs → types_value g f ts ≡ Some xs
+  pub mean_values : (g : GrammarData) (f : Table) → IsClosedTable g f → {ts : TypesData} {xs : Reprs} → MeanAll g ts xs → types_value g f ts ≡ Some xs
   mean_values g f closed mean_none = refl
   mean_values g f closed (mean_and t ts x xs h hs) = rw (means_value g f closed h, mean_values g f closed hs) refl
 
-  pub means_return : (g : GrammarData) (f : Table) → IsClosed g f → {r : MaybeType} {y : MaybeRepr} → MeansReturn g r y → return_value g f r ≡ Some y
+  pub means_return : (g : GrammarData) (f : Table) → IsClosedTable g f → {r : MaybeType} {y : MaybeRepr} → MeansReturn g r y → return_value g f r ≡ Some y
   means_return g f closed means_nothing = refl
   means_return g f closed (means_returned t x h) = ap (option_map lowered.returns) (means_value g f closed h)
 
@@ -146,7 +146,7 @@ mutual
   pub has_some : (g : GrammarData) (f : Table) → IsStuck g f → {n : List ℕ} {x : ReprData} → Has g n x → IsSome (f n)
   has_some g f stuck (by_clause r c x rule i m) = stuck r rule c i (makes_some g f stuck m)
 
-  pub makes_some : (g : GrammarData) (f : Table) → IsStuck g f → {c : Clause} {x : ReprData} → Makes g c x → IsSome (clause_value g f c)
+  pub makes_some : (g : GrammarData) (f : Table) → IsStuck g f → {c : TypeClause} {x : ReprData} → Makes g c x → IsSome (clause_value g f c)
   makes_some g f stuck (makes_type t x m) = means_some g f stuck m
   makes_some g f stuck (makes_location x there) = rw there refl
 
@@ -183,11 +183,11 @@ mutual
 -- ---- what follows
 
 -- a sound and closed table is the relation
-pub table_is : (g : GrammarData) (f : Table) → IsSound g f → IsClosed g f → IsTable g f
+pub table_is : (g : GrammarData) (f : Table) → IsSound g f → IsClosedTable g f → IsTable g f
 table_is g f sound closed n x = (sound n x, has_typed g f closed)
 
 -- where a table is closed, no name has two types
-pub closed_functional : (g : GrammarData) (f : Table) → IsClosed g f → IsFunctional g
+pub closed_functional : (g : GrammarData) (f : Table) → IsClosedTable g f → IsFunctional g
 closed_functional g f closed n x y h k =
     let a = has_typed g f closed h in
     let b = has_typed g f closed k in

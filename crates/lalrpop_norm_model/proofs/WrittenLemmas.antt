@@ -9,7 +9,7 @@ use Rattle.lalrpop_norm_model.specs.Features.{is_active}
 use Rattle.lalrpop_norm_model.specs.Enabled.{Places, enabled_places, all_places, enabled_grammar}
 use Rattle.lalrpop_norm_model.specs.Scopes.{Global, globals, sense_of, resolved_alternative}
 use Rattle.lalrpop_norm_model.specs.Levels.{every, Leveled, first_named, value_under, number_of, has_level_attribute, stated_level, level_stated, has_levels, leveled_at, level_at, map_numbered, with_levels, without_levels, levels_of}
-use Rattle.lalrpop_norm_model.specs.WrittenRules.{WrittenRule, resolved_places, leveled_rule, flat_rule, rules_through, leveled_rules}
+use Rattle.lalrpop_norm_model.specs.WrittenRules.{WrittenRule, resolved_places, written_rule_with_levels, flat_rule, rules_through, leveled_rules}
 use Rattle.lalrpop_norm_model.specs.Stated.{IsRising, HasLevel}
 use Rattle.lalrpop_norm_model.specs.Scoped.{NamesAreScoped, IsScoped}
 use Rattle.lalrpop_norm_model.specs.Laws.{AreScopedByNames, ScopedAsWritten}
@@ -125,10 +125,10 @@ module _ (ds : List Global) (d : RuleData) (ps : Places) where
       by k (Some b) is =
           sym e ∙ ap level_in is ∙ level_zero h k
 
-  leveled_one : (leveled_rule ds d ps).has_levels ≡ false → length (levels_of (leveled_rule ds d ps).places) ≤ 1
+  leveled_one : (written_rule_with_levels ds d ps).has_levels ≡ false → length (levels_of (written_rule_with_levels ds d ps).places) ≤ 1
   leveled_one h = no_two (with_levels qs) (all_zero h)
 
-  pub leveled_some : (leveled_rule ds d ps).has_levels ≡ true → 0 < length (levels_of (leveled_rule ds d ps).places)
+  pub leveled_some : (written_rule_with_levels ds d ps).has_levels ≡ true → 0 < length (levels_of (written_rule_with_levels ds d ps).places)
   leveled_some h =
       let (a, i) = has_some ps h in
       let j = in_map (option_map (resolved_alternative (sense_of ds d.args))) (Some a) ps i in
@@ -155,11 +155,11 @@ scoped_by rs some one = ((λ names. record { names = names; some_level = some })
 abbrev LeveledFit : WrittenRule → Type 0
 LeveledFit r = (r.has_levels ≡ true → 0 < length (levels_of r.places)) × (r.has_levels ≡ false → length (levels_of r.places) ≤ 1)
 
-leveled_fit : (ds : List Global) (d : RuleData) (ps : Places) (r : WrittenRule) → In r (leveled_rule ds d ps ∷ []) → LeveledFit r
+leveled_fit : (ds : List Global) (d : RuleData) (ps : Places) (r : WrittenRule) → In r (written_rule_with_levels ds d ps ∷ []) → LeveledFit r
 leveled_fit ds d ps r (inl e) = subst LeveledFit (sym e) (leveled_some ds d ps, leveled_one ds d ps)
 leveled_fit ds d ps r (inr h) = absurd h
 
-active_fit : (ds : List Global) (d : RuleData) (ps : Places) (r : WrittenRule) (b : Bool) → In r (if b then leveled_rule ds d ps ∷ [] else []) → LeveledFit r
+active_fit : (ds : List Global) (d : RuleData) (ps : Places) (r : WrittenRule) (b : Bool) → In r (if b then written_rule_with_levels ds d ps ∷ [] else []) → LeveledFit r
 active_fit ds d ps r true h = leveled_fit ds d ps r h
 active_fit ds d ps r false h = absurd h
 
@@ -176,12 +176,12 @@ through_fit f items fit =
 
 pub scoped_as_written : ScopedAsWritten
 scoped_as_written fs g = (
-  through_fit (λ d. if is_active fs d.attributes then leveled_rule (globals (enabled_grammar fs g)) d (enabled_places fs d) ∷ [] else []) g.items
+  through_fit (λ d. if is_active fs d.attributes then written_rule_with_levels (globals (enabled_grammar fs g)) d (enabled_places fs d) ∷ [] else []) g.items
       (λ d r h. active_fit (globals (enabled_grammar fs g)) d (enabled_places fs d) r (is_active fs d.attributes) h),
-  through_fit (λ d. leveled_rule (globals g) d (all_places d) ∷ []) g.items (λ d r h. leveled_fit (globals g) d (all_places d) r h),
+  through_fit (λ d. written_rule_with_levels (globals g) d (all_places d) ∷ []) g.items (λ d r h. leveled_fit (globals g) d (all_places d) r h),
   through_fit (λ d. flat_rule (globals g) d (all_places d) ∷ []) g.items (λ d r h. flat_fit (globals g) d (all_places d) r h),
 )
 
 pub scoped_by_names : (g : GrammarData) → NamesAreScoped (leveled_rules g) → IsScoped (leveled_rules g)
 scoped_by_names g names =
-    (through_fit (λ d. leveled_rule (globals g) d (all_places d) ∷ []) g.items (λ d r h. leveled_fit (globals g) d (all_places d) r h)).0 names
+    (through_fit (λ d. written_rule_with_levels (globals g) d (all_places d) ∷ []) g.items (λ d r h. leveled_fit (globals g) d (all_places d) r h)).0 names

@@ -1,36 +1,36 @@
 -- The text of a closed symbol: as it is displayed, with arguments put in and each bounded reference as the name of its level.
 use Rattle.std.specs.Prelude.{ℕ, Bool, List, [], ◌∷◌, ◌++◌, Option, Some, None, codes, decimal, nat_eq, if◌then◌else◌}
 use Rattle.lalrpop_norm_parts.specs.Texts.{escape, joined}
-use Rattle.lalrpop_norm_theory.specs.Symbols.{Name, Terminal, quoted, regex, bare, error_terminal, ArgumentPattern, ArgumentPatterns, name_pattern, tuple_pattern, no_patterns, pattern_and, Wrapper, chosen, named, tuple, ClosedSymbol, ClosedSymbols, terminal, error, reference, call, group, star, plus, question, wrapped, lookahead, lookbehind, no_symbols, symbol_and}
+use Rattle.lalrpop_norm_theory.specs.Symbols.{Name, Terminal, quoted, regex, bare, error_terminal, ClosedPattern, ClosedPatterns, name_pattern, tuple_pattern, no_patterns, pattern_and, Wrapper, chosen, named, tuple, ClosedSymbol, ClosedSymbols, terminal, error, reference, call, group, star, plus, question, wrapped, lookahead, lookbehind, no_symbols, symbol_and}
 use Rattle.lalrpop_norm_model.specs.Levels.{highest_level}
 use Rattle.lalrpop_norm_model.specs.WrittenRules.{WrittenRule, rule_named}
 
-abbrev pub terminal_text : Terminal → Name
-terminal_text (quoted a) = codes "\"" ++ escape a ++ codes "\""
-terminal_text (regex a) = codes "r#\"" ++ escape a ++ codes "\"#"
-terminal_text (bare a) = a
-terminal_text error_terminal = codes "error"
+abbrev pub closed_terminal_text : Terminal → Name
+closed_terminal_text (quoted a) = codes "\"" ++ escape a ++ codes "\""
+closed_terminal_text (regex a) = codes "r#\"" ++ escape a ++ codes "\"#"
+closed_terminal_text (bare a) = a
+closed_terminal_text error_terminal = codes "error"
 
-abbrev pub name_text : Bool → Name → Name
-name_text mutable n = (if mutable then codes "mut " else []) ++ n
+abbrev pub closed_name_text : Bool → Name → Name
+closed_name_text mutable n = (if mutable then codes "mut " else []) ++ n
 
 abbrev mutual
-  pub pattern_text : ArgumentPattern → Name
-  pattern_text (name_pattern m n) = name_text m n
-  pattern_text (tuple_pattern ps) = codes "(" ++ joined (codes ", ") (pattern_texts ps) ++ codes ")"
+  pub closed_pattern_text : ClosedPattern → Name
+  closed_pattern_text (name_pattern m n) = closed_name_text m n
+  closed_pattern_text (tuple_pattern ps) = codes "(" ++ joined (codes ", ") (closed_pattern_texts ps) ++ codes ")"
 
-  pub pattern_texts : ArgumentPatterns → List Name
-  pattern_texts no_patterns = []
-  pattern_texts (pattern_and p ps) = pattern_text p ∷ pattern_texts ps
+  pub closed_pattern_texts : ClosedPatterns → List Name
+  closed_pattern_texts no_patterns = []
+  closed_pattern_texts (pattern_and p ps) = closed_pattern_text p ∷ closed_pattern_texts ps
 
 abbrev pub wrapped_text : Wrapper → Name → Name
 wrapped_text chosen t = codes "<" ++ t ++ codes ">"
-wrapped_text (named m n) t = name_text m n ++ codes ":" ++ t
-wrapped_text (tuple ps) t = codes "(" ++ joined (codes ", ") (pattern_texts ps) ++ codes ")" ++ codes ":" ++ t
+wrapped_text (named m n) t = closed_name_text m n ++ codes ":" ++ t
+wrapped_text (tuple ps) t = codes "(" ++ joined (codes ", ") (closed_pattern_texts ps) ++ codes ")" ++ codes ":" ++ t
 
 abbrev mutual
   pub closed_text : (Name → Option ℕ → Name) → ClosedSymbol → Name
-  closed_text name (terminal a) = terminal_text a
+  closed_text name (terminal a) = closed_terminal_text a
   closed_text name error = codes "error"
   closed_text name (reference n b) = name n b
   closed_text name (call n gs) = n ++ codes "<" ++ joined (codes ", ") (closed_texts name gs) ++ codes ">"

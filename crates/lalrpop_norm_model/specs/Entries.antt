@@ -32,12 +32,12 @@ abbrev pub entry_in : ℕ → TerminalLiteral → MatchMapping → MatchEntry
 entry_in precedence l m = record { precedence = 2 * precedence + base_precedence l; match_literal = l; user_name = m }
 
 -- what a literal is that names itself
-abbrev pub itself : TerminalLiteral → MatchMapping
-itself l = Terminal (Literal l)
+abbrev pub own_mapping : TerminalLiteral → MatchMapping
+own_mapping l = Terminal (Literal l)
 
 abbrev pub item_entries : ℕ → MatchItem → List MatchEntry
 item_entries precedence (Mapped l m s) = entry_in precedence l m ∷ []
-item_entries precedence (Unmapped l s) = entry_in precedence l (itself l) ∷ []
+item_entries precedence (Unmapped l s) = entry_in precedence l (own_mapping l) ∷ []
 item_entries precedence (CatchAll s) = []
 
 abbrev pub group_entries : List (List MatchItem) → List MatchEntry
@@ -95,7 +95,7 @@ user_names es = flat_map (λ (e : MatchEntry). terminal_named e.user_name) es
 pub data IsEntry (g : GrammarData) : MatchEntry → Type 0 where
   written : (e : MatchEntry) → In e (match_entries g) → IsEntry g e
   added : (l : TerminalLiteral) (precedence : ℕ) → In (Literal l) (terminals_used g) → (In (Literal l) (user_names (match_entries g)) → ⊥) →
-      catch_all g ≡ Some precedence → IsEntry g (entry_in precedence l (itself l))
+      catch_all g ≡ Some precedence → IsEntry g (entry_in precedence l (own_mapping l))
 
 -- terminals stand before what is skipped
 abbrev pub mapping_cmp : MatchMapping → MatchMapping → Ordering

@@ -15,7 +15,7 @@ use Rattle.lalrpop_norm_model.specs.Features.{Features, is_active}
 use Rattle.lalrpop_norm_model.specs.PlainRules.{all_rules}
 use Rattle.lalrpop_norm_model.specs.Entries.{group_entries, user_names}
 use Rattle.lalrpop_norm_model.specs.Terminals.{terminals_used}
-use Rattle.lalrpop_norm_model.specs.TerminalTypes.{chosen_in, extern_enum, intern_entries}
+use Rattle.lalrpop_norm_model.specs.TerminalTypes.{chosen_in_pattern, extern_enum, intern_entries}
 use Rattle.lalrpop_norm_model.specs.TypeRelation.{IsRule}
 
 -- ---- plain symbols, and the names in them
@@ -142,8 +142,8 @@ abbrev pub converted : GrammarData → List TerminalString
 converted g = flat_map (λ (e : EnumTokenData). terminals_converted e.conversions) (enums g)
 
 -- the terminals that mappings name, in match blocks and in entries
-abbrev pub mapped : GrammarData → List TerminalString
-mapped g =
+abbrev pub mapped_terminals : GrammarData → List TerminalString
+mapped_terminals g =
     flat_map (λ (m : MatchTokenData). user_names (group_entries m.contents)) (match_blocks g)
     ++ flat_map (λ (t : InternTokenData). user_names t.match_entries) (interns g)
 
@@ -164,7 +164,7 @@ types_in_clause (lifetime_clause l ls) = []
 types_in_clause (type_clause fs t bs) = t ∷ flat_map types_in_bound bs
 
 abbrev pub types_in_enum : EnumTokenData → List TypeData
-types_in_enum e = e.type_name ∷ flat_map (λ (c : ConversionData). chosen_in c.to) e.conversions
+types_in_enum e = e.type_name ∷ flat_map (λ (c : ConversionData). chosen_in_pattern c.to) e.conversions
 
 abbrev pub types_in_extern : ItemData → List TypeData
 types_in_extern (extern_item t) =
@@ -201,7 +201,7 @@ pub record IsExpanded (g : GrammarData) : Type 0 where
   pub names_have_rules : (n : List ℕ) → In n (names_used g) → In n (rule_names g)
   -- nothing names the error terminal
   pub no_error_converted : In Error (converted g) → ⊥
-  pub no_error_mapped : In Error (mapped g) → ⊥
+  pub no_error_mapped : In Error (mapped_terminals g) → ⊥
   -- an extern enum stands alone, and there is at most one of each
   pub one_enum : length (enums g) ≤ 1
   pub one_match : length (match_blocks g) ≤ 1

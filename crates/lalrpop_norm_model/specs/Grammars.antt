@@ -15,8 +15,8 @@ is_nil [] = true
 is_nil (x ∷ xs) = false
 
 -- a rule with arguments is a macro
-abbrev pub is_macro : WrittenRule → Bool
-is_macro r = not (is_nil r.args)
+abbrev pub has_arguments : WrittenRule → Bool
+has_arguments r = not (is_nil r.args)
 
 -- the level that a bound stands for; without one it is the highest
 abbrev pub level_within : WrittenRule → Option ℕ → ℕ
@@ -34,7 +34,7 @@ is_own_level b r l = not r.has_levels || nat_eq l (level_within r b)
 -- the bound of a reference to a rule from elsewhere: its highest level, if it has levels
 abbrev pub bound_of : Option WrittenRule → Option ℕ
 bound_of None = None
-bound_of (Some r) = if r.has_levels && not (is_macro r) then Some (highest_level r.places) else None
+bound_of (Some r) = if r.has_levels && not (has_arguments r) then Some (highest_level r.places) else None
 
 -- ---- rules
 
@@ -59,7 +59,7 @@ parts_at rs r passes None = None
 
 abbrev pub rule_parts : List WrittenRule → (WrittenRule → ℕ → Bool) → ℕ → Option WrittenRule → Option ClosedSymbols
 rule_parts rs passes k None = None
-rule_parts rs passes k (Some r) = if is_macro r then None else parts_at rs r (passes r) (slice_get r.places k)
+rule_parts rs passes k (Some r) = if has_arguments r then None else parts_at rs r (passes r) (slice_get r.places k)
 
 abbrev pub place_count : Option WrittenRule → ℕ
 place_count None = 0
@@ -68,7 +68,7 @@ place_count (Some r) = length r.places
 -- the bound one level down, in a rule that has levels and is no macro
 abbrev pub previous_bound : Option WrittenRule → Option ℕ → Option (Option ℕ)
 previous_bound None b = None
-previous_bound (Some r) b = if r.has_levels && not (is_macro r) then option_map Some (previous_level r.places (level_within r b)) else None
+previous_bound (Some r) b = if r.has_levels && not (has_arguments r) then option_map Some (previous_level r.places (level_within r b)) else None
 
 abbrev pub depth_of : Option WrittenRule → Option ℕ → ℕ
 depth_of None b = 0
@@ -112,19 +112,19 @@ instance_at value rs r args (Some None) = None
 instance_at value rs r args None = None
 
 -- one closed symbol for each argument
-abbrev pub fits : List NonterminalString → ClosedSymbols → Bool
-fits [] no_symbols = true
-fits (a ∷ rest) (symbol_and g gs) = fits rest gs
-fits _ _ = false
+abbrev pub arguments_fit : List NonterminalString → ClosedSymbols → Bool
+arguments_fit [] no_symbols = true
+arguments_fit (a ∷ rest) (symbol_and g gs) = arguments_fit rest gs
+arguments_fit _ _ = false
 
 -- the numbers of a macro's alternatives; what is no macro has none here
 abbrev pub instance_count : Option WrittenRule → ℕ
 instance_count None = 0
-instance_count (Some r) = if is_macro r then length r.places else 0
+instance_count (Some r) = if has_arguments r then length r.places else 0
 
 abbrev pub instance_parts : ConditionValue → List WrittenRule → ClosedSymbols → ℕ → Option WrittenRule → Option ClosedSymbols
 instance_parts value rs args k None = None
-instance_parts value rs args k (Some r) = if is_macro r && fits r.args args then instance_at value rs r args (slice_get r.places k) else None
+instance_parts value rs args k (Some r) = if has_arguments r && arguments_fit r.args args then instance_at value rs r args (slice_get r.places k) else None
 
 -- ---- the meaning
 
@@ -144,7 +144,7 @@ meaning value rs = record {
 -- a rule with levels declares one reference for each, rising; one without declares itself; a macro none
 abbrev pub rule_references : WrittenRule → List ClosedSymbol
 rule_references r =
-    if is_macro r then [] else
+    if has_arguments r then [] else
     (if r.has_levels then map (λ l. reference r.name (Some l)) (levels_of r.places) else reference r.name None ∷ [])
 
 abbrev pub references : List WrittenRule → List ClosedSymbol
@@ -152,7 +152,7 @@ references rs = flat_map rule_references rs
 
 -- rules taken by themselves, without a bound
 abbrev pub rule_roots : WrittenRule → List ClosedSymbol
-rule_roots r = if is_macro r then [] else reference r.name None ∷ []
+rule_roots r = if has_arguments r then [] else reference r.name None ∷ []
 
 abbrev pub roots : List WrittenRule → List ClosedSymbol
 roots rs = flat_map rule_roots rs

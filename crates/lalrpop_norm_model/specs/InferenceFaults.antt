@@ -7,7 +7,7 @@ use Rattle.lalrpop_norm_faults.specs.declared.kind.FaultKind.TheVariants.{NoAlte
 use Rattle.lalrpop_norm_model.specs.Grammars.{is_nil}
 use Rattle.lalrpop_norm_model.specs.PlainRules.{all_rules}
 use Rattle.lalrpop_norm_model.specs.SameTypes.{same_type}
-use Rattle.lalrpop_norm_model.specs.TypeRelation.{Clause, alternative_clause, clauses}
+use Rattle.lalrpop_norm_model.specs.TypeRelation.{TypeClause, alternative_clause, type_clauses}
 use Rattle.lalrpop_norm_model.specs.TypeTables.{Table, clause_value}
 use Rattle.lalrpop_norm_model.specs.TypeRounds.{table_of, inferred}
 use Rattle.lalrpop_norm_model.specs.TuplePatterns.{pattern_misfits}
@@ -28,7 +28,7 @@ lack_of r (a ∷ rest) = (OnlyCoded, a.span) ∷ []
 
 -- what an undeclared rule lacks
 abbrev pub lacking : RuleData → List Fault
-lacking r = if is_nil (clauses r) then lack_of r r.alternatives else []
+lacking r = if is_nil (type_clauses r) then lack_of r r.alternatives else []
 
 -- ---- types where the rounds end
 
@@ -46,7 +46,7 @@ is_other None v = false
 is_other (Some x) None = true
 is_other (Some x) (Some y) = not (same_type x y)
 
-abbrev pub clause_disagrees : GrammarData → RuleData → Option Clause → Bool
+abbrev pub clause_disagrees : GrammarData → RuleData → Option TypeClause → Bool
 clause_disagrees g r None = false
 clause_disagrees g r (Some c) = is_other (clause_value g (inferred_table g) c) (inferred_table g r.name.0)
 

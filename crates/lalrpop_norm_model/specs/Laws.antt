@@ -8,14 +8,14 @@ use Rattle.lalrpop_norm_model.specs.Scopes.{Global, globals, resolved_grammar}
 use Rattle.lalrpop_norm_model.specs.Levels.{every, Leveled, level_at, side_at, leveled_at, has_levels, with_levels, levels_of, highest_level, previous_level}
 use Rattle.lalrpop_norm_model.specs.Stated.{IsRising, HasLevel, IsBelow, IsHighest, IsStatedLevel, NoLevelIsStated, IsStatedSide, NoSideIsStated, handed_on}
 use Rattle.lalrpop_norm_theory.specs.Meaning.{HasCounts, HasLevels}
-use Rattle.lalrpop_norm_theory.specs.Met.{meets, rule_meets, expansion, expanded_symbols, IsExpanded, IsKnown, IsResolved, IsResolvedIn}
+use Rattle.lalrpop_norm_theory.specs.Met.{meets, rule_meets, expansion, expanded_symbols, BecomesRule, IsKnown, IsResolved, IsResolvedIn}
 use Rattle.lalrpop_norm_tree.specs.Symbols.{Kind, Part, Parts}
-use Rattle.lalrpop_norm_theory.specs.LoweredTrees.{LoweredGrammar}
+use Rattle.lalrpop_norm_theory.specs.LoweredTrees.{ProductionTable}
 use Rattle.lalrpop_norm_theory.specs.Tables.{Realizes}
 use Rattle.lalrpop_norm_theory.specs.Laws.{PairsInTwoSteps}
 use Rattle.lalrpop_norm_tree.specs.SymbolTexts.{kind_text}
-use Rattle.lalrpop_norm_model.specs.WrittenRules.{WrittenRule, leveled_rule, rule_named, written_rules, leveled_rules, flat_rules}
-use Rattle.lalrpop_norm_model.specs.Grammars.{ConditionValue, is_nil, is_macro, fits, rule_reader, macro_reader, meaning, references, roots}
+use Rattle.lalrpop_norm_model.specs.WrittenRules.{WrittenRule, written_rule_with_levels, rule_named, written_rules, leveled_rules, flat_rules}
+use Rattle.lalrpop_norm_model.specs.Grammars.{ConditionValue, is_nil, has_arguments, arguments_fit, rule_reader, macro_reader, meaning, references, roots}
 use Rattle.lalrpop_norm_model.specs.Scoped.{is_scoped, are_scoped, NamesAreScoped, IsScoped}
 use Rattle.lalrpop_norm_model.specs.Occurrences.{count_parts}
 use Rattle.lalrpop_norm_model.specs.Bounds.{all_bounds_to, bounds_by, IsTrue}
@@ -25,11 +25,11 @@ use Rattle.lalrpop_norm_model.specs.MadeRules.{argument_kind, put_in, flat_reade
 use Rattle.lalrpop_norm_model.specs.LevelRules.{level_rule, leveled_grammar}
 use Rattle.lalrpop_norm_theory.specs.Symbols.{Name, ClosedSymbol, ClosedSymbols, reference}
 use Rattle.lalrpop_norm_theory.specs.Clauses.{Clause, clauses}
-use Rattle.lalrpop_norm_model.specs.PlainRules.{met, met_in_rule, met_by_made, rules_of, macros_of, expansion_round, made_symbols, IsWhole, all_rules, plain_grammar, plain_rules}
+use Rattle.lalrpop_norm_model.specs.PlainRules.{met, met_in_rule, met_by_made, rules_without_arguments, macros_of, expansion_round, made_symbols, IsEnded, all_rules, plain_grammar, plain_rules}
 use Rattle.lalrpop_norm_model.specs.Origins.{plain_symbols, plain_origins}
 use Rattle.lalrpop_norm_model.specs.PlainTables.{IsSettled, flat_meaning, declared, closed, closed_parts, IsRuleOf, rules_from, plain_table}
 use Rattle.lalrpop_norm_theory.specs.Leveled.{leveled_symbols, leveled_symbol, IsLeveled, recomposed}
-use Rattle.lalrpop_norm_theory.specs.Tables.{OneRuleAName, rule_of}
+use Rattle.lalrpop_norm_theory.specs.Tables.{OneRuleAName, rule_of_symbol}
 use Rattle.lalrpop_norm_theory.specs.Laws.{OneToOne, level_named}
 use Rattle.lalrpop_norm_model.specs.Expanded.{rule_names}
 use Rattle.lalrpop_norm_model.specs.TuplePatterns.{IsTypable}
@@ -103,7 +103,7 @@ BoundsAreBySide = (rs : List WrittenRule) (r : WrittenRule) (a : Leveled) (previ
 -- An alternative of a macro is there for arguments that fit exactly where its condition is true.
 abbrev pub ConditionsDecide : Type 0
 ConditionsDecide = (value : ConditionValue) (rs : List WrittenRule) (n : Name) (r : WrittenRule) (args : ClosedSymbols) (k : ℕ) (a : Leveled) →
-    rule_named rs n ≡ Some r → is_macro r ≡ true → fits r.args args ≡ true → slice_get r.places k ≡ Some (Some a) →
+    rule_named rs n ≡ Some r → has_arguments r ≡ true → arguments_fit r.args args ≡ true → slice_get r.places k ≡ Some (Some a) →
     ((parts : ClosedSymbols) × ((meaning value rs).call_parts n args k ≡ Some parts)) ↔ IsTrue value r.args args a.alternative.condition
 
 -- ---- enabled and resolved
@@ -128,7 +128,7 @@ DisabledAreLeftOut = (fs : Features) (g : GrammarData) → leveled_rules (prepar
 -- The rank of a place is the number of enabled alternatives written before it.
 abbrev pub RanksCountEnabled : Type 0
 RanksCountEnabled = (fs : Features) (ds : List Global) (r : RuleData) (k : ℕ) →
-    rank_in (leveled_rule ds r (enabled_places fs r)).places k ≡ length (filter (λ a. is_active fs a.attributes) (take k r.alternatives))
+    rank_in (written_rule_with_levels ds r (enabled_places fs r)).places k ≡ length (filter (λ a. is_active fs a.attributes) (take k r.alternatives))
 
 -- Disabled alternatives only renumber: the grammar that the pass on levels gets is the written one, each alternative with its rank
 -- for its number. The references that it declares and its roots are the same.
@@ -156,7 +156,7 @@ TreesOnlyRenumber = (value : ConditionValue) (fs : Features) (g : GrammarData) �
 -- its level: the level's own alternatives in order, then the step to the level below.
 abbrev pub LevelRulesAreRead : Type 0
 LevelRulesAreRead = (value : ConditionValue) (g : GrammarData) → resolved_grammar g ≡ g → NamesAreScoped (leveled_rules g) →
-    (d : RuleData) → In (rule_item d) g.items → rule_named (leveled_rules g) d.name.0 ≡ Some (leveled_rule (globals g) d (all_places d)) →
+    (d : RuleData) → In (rule_item d) g.items → rule_named (leveled_rules g) d.name.0 ≡ Some (written_rule_with_levels (globals g) d (all_places d)) →
     has_levels (all_places d) ≡ true → is_nil d.args ≡ true → (l : ℕ) →
     map (λ a. read_all flat_reader a.parts) (level_rule d (with_levels (all_places d)) l).alternatives
     ≡ map (λ c. leveled_symbols (level_names (leveled_rules g)) c.parts) (clauses (meaning value (leveled_rules g)) (reference d.name.0 (Some l)))
@@ -172,7 +172,7 @@ GrammarsAreLeveled = (value : ConditionValue) (g : GrammarData) → HasLevelName
 -- of each resolved symbol pair in two steps, from bounds to levels and from levels to the lowered grammar.
 abbrev pub LevelsAreSteps : Type 0
 LevelsAreSteps = (value : ConditionValue) (g : GrammarData) → HasLevelNames g →
-    (name : ClosedSymbol → Name) (P : LoweredGrammar) (declared met : List ClosedSymbol) →
+    (name : ClosedSymbol → Name) (P : ProductionTable) (declared met : List ClosedSymbol) →
     Realizes (meaning value (flat_rules (leveled_grammar g))) name P (IsKnown declared met) →
     (x : ClosedSymbol) → IsResolvedIn (references (leveled_rules g)) x → IsKnown declared met (leveled_symbol (level_names (leveled_rules g)) x) →
     PairsInTwoSteps (meaning value (leveled_rules g)) (meaning value (flat_rules (leveled_grammar g)))
@@ -182,7 +182,7 @@ LevelsAreSteps = (value : ConditionValue) (g : GrammarData) → HasLevelNames g 
 -- levels, the written trees of each resolved symbol, by the written numbers, stand one to one with the derivation trees.
 abbrev pub WrittenTreesAreLowered : Type 0
 WrittenTreesAreLowered = (value : ConditionValue) (fs : Features) (g : GrammarData) → HasLevelNames (prepared_grammar fs g) →
-    (name : ClosedSymbol → Name) (P : LoweredGrammar) (declared met : List ClosedSymbol) →
+    (name : ClosedSymbol → Name) (P : ProductionTable) (declared met : List ClosedSymbol) →
     Realizes (meaning value (flat_rules (leveled_grammar (prepared_grammar fs g)))) name P (IsKnown declared met) →
     (x : ClosedSymbol) → IsResolvedIn (references (written_rules fs g)) x →
     IsKnown declared met (leveled_symbol (level_names (leveled_rules (prepared_grammar fs g))) x) →
@@ -200,28 +200,28 @@ ArgumentsArePutIn = (g : GrammarData) (r : WrittenRule) (args : Parts) (p : Part
 -- One rule is made of each symbol that a rule is made of, and it is the rule of that symbol.
 abbrev pub MadeRulesAreRead : Type 0
 MadeRulesAreRead = (value : ConditionValue) (g : GrammarData) → resolved_grammar g ≡ g → IsScoped (flat_rules g) →
-    (p : Part) → is_scoped (flat_rules g) [] p ≡ true → IsExpanded (closed p) →
+    (p : Part) → is_scoped (flat_rules g) [] p ≡ true → BecomesRule (closed p) →
     (r : RuleData) × (made_rules value (macros_of g) p ≡ r ∷ []) × IsRuleOf (flat_meaning value g) p r
 
 -- The rules without arguments declare the references, in order, and their alternatives hold the clauses of these.
 abbrev pub RulesAreRead : Type 0
 RulesAreRead = (value : ConditionValue) (g : GrammarData) → IsSettled g →
-    (declared g ≡ map (λ (r : RuleData). reference r.name.0 None) (rules_of g))
-    × ((r : RuleData) → In r (rules_of g) →
+    (declared g ≡ map (λ (r : RuleData). reference r.name.0 None) (rules_without_arguments g))
+    × ((r : RuleData) → In r (rules_without_arguments g) →
     map closed_parts r.alternatives ≡ map (λ (c : Clause). c.parts) (clauses (flat_meaning value g) (reference r.name.0 None)))
 
 -- What is met in a symbol, in the rules of a grammar and in the rule of a symbol is what the closed symbols meet.
 abbrev pub MetIsRead : Type 0
 MetIsRead = (value : ConditionValue) (g : GrammarData) → IsSettled g →
     ((p : Part) → map closed (met p) ≡ meets (closed p))
-    × (map closed (flat_map met_in_rule (rules_of g)) ≡ flat_map (rule_meets (flat_meaning value g)) (declared g))
-    × ((p : Part) → is_scoped (flat_rules g) [] p ≡ true → IsExpanded (closed p) →
+    × (map closed (flat_map met_in_rule (rules_without_arguments g)) ≡ flat_map (rule_meets (flat_meaning value g)) (declared g))
+    × ((p : Part) → is_scoped (flat_rules g) [] p ≡ true → BecomesRule (closed p) →
     map closed (met_by_made value (macros_of g) p) ≡ rule_meets (flat_meaning value g) (closed p))
 
 -- Each symbol that is made into a rule is a call, group, repeat or lookaround, and its names have a meaning without arguments.
 abbrev pub MadeSymbolsAreScoped : Type 0
 MadeSymbolsAreScoped = (value : ConditionValue) (g : GrammarData) → IsSettled g → (n : ℕ) (p : Part) → In p (made_symbols value g n) →
-    (is_scoped (flat_rules g) [] p ≡ true) × IsExpanded (closed p)
+    (is_scoped (flat_rules g) [] p ≡ true) × BecomesRule (closed p)
 
 -- Read, the symbols made in the first rounds are the expanded ones, each round is the round of the closed symbols, and a round
 -- has nothing new in the one exactly where it has nothing new in the other.
@@ -230,7 +230,7 @@ RoundsAreRead = (value : ConditionValue) (g : GrammarData) → IsSettled g → (
     (map closed (made_symbols value g n) ≡ expanded_symbols (flat_meaning value g) (declared g) n)
     × (map closed (expansion_round value g n).seen ≡ (expansion (flat_meaning value g) (declared g) n).seen)
     × (map closed (expansion_round value g n).fresh ≡ (expansion (flat_meaning value g) (declared g) n).fresh)
-    × (IsWhole value g n ↔ ((expansion (flat_meaning value g) (declared g) n).fresh ≡ []))
+    × (IsEnded value g n ↔ ((expansion (flat_meaning value g) (declared g) n).fresh ≡ []))
 
 -- In every grammar the text of a closed symbol without bounds is the text that its written symbol is displayed with.
 abbrev pub TextsInGrammars : Type 0
@@ -243,7 +243,7 @@ PlainRulesAreRead = (value : ConditionValue) (g : GrammarData) → IsSettled g �
     (length (plain_origins (flat_meaning value g) (declared g) n)
     ≡ length (flat_map (λ (r : RuleData). r.alternatives) (plain_rules value g n)))
     × (rules_from (plain_origins (flat_meaning value g) (declared g) n) (plain_rules value g n)
-    ≡ map (rule_of (flat_meaning value g) (text_in (flat_rules g))) (plain_symbols (flat_meaning value g) (declared g) n))
+    ≡ map (rule_of_symbol (flat_meaning value g) (text_in (flat_rules g))) (plain_symbols (flat_meaning value g) (declared g) n))
 
 -- The rules of the grammar of plain rules are the plain rules.
 abbrev pub PlainGrammarsHoldPlainRules : Type 0
@@ -257,7 +257,7 @@ DistinctNamesMeanOneRule = (value : ConditionValue) (g : GrammarData) → IsSett
 -- Where round n + 1 has nothing new and each name means one rule, the written trees of each declared reference, and of each known
 -- symbol, stand one to one with its derivation trees by the plain rules.
 abbrev pub PlainRulesAreFaithful : Type 0
-PlainRulesAreFaithful = (value : ConditionValue) (g : GrammarData) → IsSettled g → (n : ℕ) → IsWhole value g n →
+PlainRulesAreFaithful = (value : ConditionValue) (g : GrammarData) → IsSettled g → (n : ℕ) → IsEnded value g n →
     OneRuleAName (flat_meaning value g) (text_in (flat_rules g)) (plain_symbols (flat_meaning value g) (declared g) n) →
     ((s : ClosedSymbol) → In s (declared g) → OneToOne (flat_meaning value g) (text_in (flat_rules g)) (plain_table value g n) s)
     × ((s : ClosedSymbol) → IsKnown (declared g) (expanded_symbols (flat_meaning value g) (declared g) n) s →

@@ -17,7 +17,7 @@ use Rattle.lalrpop_norm_model.specs.Entries.{match_entries, catch_all, user_name
 use Rattle.lalrpop_norm_model.specs.TerminalTypes.{extern_enum}
 use Rattle.lalrpop_norm_model.specs.Lexers.{Feature, Lexer, HasFeatureAt, IsAmbiguity}
 use Rattle.lalrpop_norm_model.specs.CheckedTokens.{AreRegexes, precedences}
-use Rattle.lalrpop_norm_model.specs.TokenFaults.{literals_of, match_items, places_used, enum_faults, entry_faults, input_faults}
+use Rattle.lalrpop_norm_model.specs.TokenFaults.{literals_of, match_items, places_used, checked_enum_faults, entry_faults, input_faults}
 
 -- ---- where a literal stands
 
@@ -92,7 +92,7 @@ abbrev pub StandsAtLexer : {R : Type 0} → Lexer R → GrammarData → LexerPla
 StandsAtLexer l g at_lexer f = LexerRefuses l g f
 
 abbrev pub token_findings_with : Option EnumTokenData → GrammarData → List (Finding LexerPlace)
-token_findings_with (Some e) g = map sure (enum_faults e g)
+token_findings_with (Some e) g = map sure (checked_enum_faults e g)
 token_findings_with None g = map sure (entry_faults g) ++ maybe at_lexer ∷ map sure (input_faults g)
 
 -- beside internal tokens the lexer is asked once the entries stand, and before what is declared is looked at

@@ -55,8 +55,8 @@ start_faults prefix types r = fault_if (not (is_none (types (prefix ++ r.name.0)
 -- ---- numbers of actions
 
 -- an action is numbered by 32 bits
-abbrev pub number_faults : ℕ → Span → List Fault
-number_faults number s = fault_if (nat_le 4294967296 number) (TooManyActions, s)
+abbrev pub action_number_faults : ℕ → Span → List Fault
+action_number_faults number s = fault_if (nat_le 4294967296 number) (TooManyActions, s)
 
 -- ---- all of them
 
@@ -66,6 +66,6 @@ all_alternatives g = flat_map (λ (r : RuleData). r.alternatives) (all_rules g)
 -- start symbols, then alternatives, each with the number of its action; its number is looked at last
 abbrev pub lowering_faults : GrammarData → Table → List Fault
 lowering_faults g types =
-    flat_map (λ (e : ℕ × RuleData). start_faults g.prefix types e.1 ++ number_faults e.0 e.1.span) (enumerate_from 0 (public_rules g))
-    ++ flat_map (λ (e : ℕ × AlternativeData). code_faults e.1 ++ number_faults e.0 e.1.span)
+    flat_map (λ (e : ℕ × RuleData). start_faults g.prefix types e.1 ++ action_number_faults e.0 e.1.span) (enumerate_from 0 (public_rules g))
+    ++ flat_map (λ (e : ℕ × AlternativeData). code_faults e.1 ++ action_number_faults e.0 e.1.span)
     (enumerate_from (length (public_rules g)) (all_alternatives g))

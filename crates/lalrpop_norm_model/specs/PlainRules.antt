@@ -64,26 +64,26 @@ abbrev pub all_rules : GrammarData → List RuleData
 all_rules g = flat_map rule_of_item g.items
 
 -- rules without arguments, and macros
-abbrev pub rules_of : GrammarData → List RuleData
-rules_of g = filter (λ r. is_nil r.args) (all_rules g)
+abbrev pub rules_without_arguments : GrammarData → List RuleData
+rules_without_arguments g = filter (λ r. is_nil r.args) (all_rules g)
 
 abbrev pub macros_of : GrammarData → List RuleData
 macros_of g = filter (λ r. not (is_nil r.args)) (all_rules g)
 
 -- what is new in round k + 1, and what was before: round 1 reads the rules of the grammar, each later one those made before it
 abbrev pub expansion_round : ConditionValue → GrammarData → ℕ → Round Part
-expansion_round value g k = rounds same_apart_from_spans (met_by_made value (macros_of g)) (flat_map met_in_rule (rules_of g)) k
+expansion_round value g k = rounds same_apart_from_spans (met_by_made value (macros_of g)) (flat_map met_in_rule (rules_without_arguments g)) k
 
 -- the symbols that are made into rules in the first `count` rounds, in the order in which their rules stand
 abbrev pub made_symbols : ConditionValue → GrammarData → ℕ → List Part
-made_symbols value g count = all_rules_made same_apart_from_spans (met_by_made value (macros_of g)) (flat_map met_in_rule (rules_of g)) count
+made_symbols value g count = all_rules_made same_apart_from_spans (met_by_made value (macros_of g)) (flat_map met_in_rule (rules_without_arguments g)) count
 
 abbrev pub made_in : ConditionValue → GrammarData → ℕ → List RuleData
 made_in value g count = flat_map (made_rules value (macros_of g)) (made_symbols value g count)
 
 -- no round after the first `count` has a new symbol
-abbrev pub IsWhole : ConditionValue → GrammarData → ℕ → Type 0
-IsWhole value g count = (expansion_round value g count).fresh ≡ []
+abbrev pub IsEnded : ConditionValue → GrammarData → ℕ → Type 0
+IsEnded value g count = (expansion_round value g count).fresh ≡ []
 
 -- ---- the grammar of plain rules
 
@@ -100,4 +100,4 @@ abbrev pub plain_grammar : ConditionValue → GrammarData → ℕ → GrammarDat
 plain_grammar value g count = record g { items = flat_map plain_item g.items ++ map (λ r. rule_item (replaced_rule r)) (made_in value g count) }
 
 abbrev pub plain_rules : ConditionValue → GrammarData → ℕ → List RuleData
-plain_rules value g count = map replaced_rule (rules_of g) ++ map replaced_rule (made_in value g count)
+plain_rules value g count = map replaced_rule (rules_without_arguments g) ++ map replaced_rule (made_in value g count)

@@ -7,7 +7,7 @@ use Rattle.lalrpop_norm_tree.specs.SymbolTexts.{kind_text, part_text}
 use Rattle.lalrpop_norm_theory.specs.Symbols as theory
 use Rattle.lalrpop_norm_theory.specs.Symbols.{ClosedSymbol, ClosedSymbols, wrapped, no_symbols, symbol_and}
 use Rattle.lalrpop_norm_theory.specs.Meaning.{Meaning}
-use Rattle.lalrpop_norm_theory.specs.LoweredTrees.{LoweredSymbol, terminal_symbol, nonterminal_symbol, Origin, Production, LoweredGrammar}
+use Rattle.lalrpop_norm_theory.specs.LoweredTrees.{LoweredSymbol, terminal_symbol, nonterminal_symbol, Origin, Production, ProductionTable}
 use Rattle.lalrpop_norm_theory.specs.Clauses.{Clause, clauses}
 use Rattle.lalrpop_norm_theory.specs.Rounds.{IsDistinct}
 use Rattle.lalrpop_norm_theory.specs.Tables.{Rule, table}
@@ -70,39 +70,39 @@ pub record IsRuleOf (M : Meaning) (p : Part) (r : RuleData) : Type 0 where
 -- The symbol that a plain symbol is in a production: a terminal, `!` as the error terminal, a wrapped symbol as what is in it, any
 -- other as the nonterminal of its text.
 abbrev mutual
-  pub lowered_kind : Kind → LoweredSymbol
-  lowered_kind (terminal t) = terminal_symbol (terminal_of t)
-  lowered_kind error_terminal = terminal_symbol theory.error_terminal
-  lowered_kind (chosen p) = lowered_part p
-  lowered_kind (named n p) = lowered_part p
-  lowered_kind (tupled ns p) = lowered_part p
-  lowered_kind (nonterminal n) = nonterminal_symbol n
-  lowered_kind (ambiguous_id a) = nonterminal_symbol a
-  lowered_kind (group ps) = nonterminal_symbol (kind_text (group ps))
-  lowered_kind (call n ps) = nonterminal_symbol (kind_text (call n ps))
-  lowered_kind (repeated op p) = nonterminal_symbol (kind_text (repeated op p))
-  lowered_kind lookahead = nonterminal_symbol (kind_text lookahead)
-  lowered_kind lookbehind = nonterminal_symbol (kind_text lookbehind)
+  pub plain_symbol_kind : Kind → LoweredSymbol
+  plain_symbol_kind (terminal t) = terminal_symbol (terminal_of t)
+  plain_symbol_kind error_terminal = terminal_symbol theory.error_terminal
+  plain_symbol_kind (chosen p) = lowered_part p
+  plain_symbol_kind (named n p) = lowered_part p
+  plain_symbol_kind (tupled ns p) = lowered_part p
+  plain_symbol_kind (nonterminal n) = nonterminal_symbol n
+  plain_symbol_kind (ambiguous_id a) = nonterminal_symbol a
+  plain_symbol_kind (group ps) = nonterminal_symbol (kind_text (group ps))
+  plain_symbol_kind (call n ps) = nonterminal_symbol (kind_text (call n ps))
+  plain_symbol_kind (repeated op p) = nonterminal_symbol (kind_text (repeated op p))
+  plain_symbol_kind lookahead = nonterminal_symbol (kind_text lookahead)
+  plain_symbol_kind lookbehind = nonterminal_symbol (kind_text lookbehind)
 
   pub lowered_part : Part → LoweredSymbol
-  lowered_part (at s k) = lowered_kind k
+  lowered_part (at s k) = plain_symbol_kind k
 
 abbrev pub lowered_parts : Parts → List LoweredSymbol
 lowered_parts no_parts = []
 lowered_parts (part_and p ps) = lowered_part p ∷ lowered_parts ps
 
 -- alternatives as productions, each with the next of the origins
-abbrev pub productions_from : List Origin → List AlternativeData → List Production
-productions_from origins [] = []
-productions_from [] (a ∷ xs) = []
-productions_from (o ∷ origins) (a ∷ xs) = record { origin = o; symbols = lowered_parts a.parts } ∷ productions_from origins xs
+abbrev pub productions_with_origins : List Origin → List AlternativeData → List Production
+productions_with_origins origins [] = []
+productions_with_origins [] (a ∷ xs) = []
+productions_with_origins (o ∷ origins) (a ∷ xs) = record { origin = o; symbols = lowered_parts a.parts } ∷ productions_with_origins origins xs
 
 -- rules as those of a lowered grammar, where the origins are one for each alternative, in order
 abbrev pub rules_from : List Origin → List RuleData → List Rule
 rules_from origins [] = []
 rules_from origins (r ∷ rs) =
-    record { name = r.name.0; productions = productions_from origins r.alternatives } ∷ rules_from (drop (length r.alternatives) origins) rs
+    record { name = r.name.0; productions = productions_with_origins origins r.alternatives } ∷ rules_from (drop (length r.alternatives) origins) rs
 
 -- the plain rules after the first `count` rounds, by name, each alternative with the origin of its clause
-abbrev pub plain_table : ConditionValue → GrammarData → ℕ → LoweredGrammar
+abbrev pub plain_table : ConditionValue → GrammarData → ℕ → ProductionTable
 plain_table value g count = table (rules_from (plain_origins (flat_meaning value g) (declared g) count) (plain_rules value g count))

@@ -8,7 +8,7 @@ use Rattle.lalrpop_norm_tree.specs.declared.symbol.RepeatOp.{RepeatOp}
 use Rattle.lalrpop_norm_tree.specs.declared.symbol.RepeatOp.TheVariants.{Star, Plus, Question}
 use Rattle.lalrpop_norm_tree.specs.Symbols as written
 use Rattle.lalrpop_norm_tree.specs.Symbols.{Kind, Part, Parts, at, no_parts, part_and}
-use Rattle.lalrpop_norm_theory.specs.Symbols.{Name, Terminal, quoted, regex, bare, error_terminal, ArgumentPattern, ArgumentPatterns, name_pattern, tuple_pattern, no_patterns, pattern_and, chosen, named, tuple, ClosedSymbol, ClosedSymbols, terminal, error, reference, call, group, star, plus, question, wrapped, lookahead, lookbehind, no_symbols, symbol_and}
+use Rattle.lalrpop_norm_theory.specs.Symbols.{Name, Terminal, quoted, regex, bare, error_terminal, ClosedPattern, ClosedPatterns, name_pattern, tuple_pattern, no_patterns, pattern_and, chosen, named, tuple, ClosedSymbol, ClosedSymbols, terminal, error, reference, call, group, star, plus, question, wrapped, lookahead, lookbehind, no_symbols, symbol_and}
 use Rattle.lalrpop_norm_model.specs.Occurrences.{count_part, count_parts}
 
 abbrev pub literal_terminal : TerminalLiteral → Terminal
@@ -22,13 +22,13 @@ terminal_of (Bare a) = bare a
 terminal_of Error = error_terminal
 
 abbrev mutual
-  pub pattern_of : written.ArgumentPattern → ArgumentPattern
-  pattern_of (written.one_name n) = name_pattern n.mutable n.name
-  pattern_of (written.several ps) = tuple_pattern (patterns_of ps)
+  pub closed_pattern_of : written.ArgumentPattern → ClosedPattern
+  closed_pattern_of (written.one_name n) = name_pattern n.mutable n.name
+  closed_pattern_of (written.several ps) = tuple_pattern (closed_patterns_of ps)
 
-  pub patterns_of : written.ArgumentPatterns → ArgumentPatterns
-  patterns_of written.no_arguments = no_patterns
-  patterns_of (written.argument_and p ps) = pattern_and (pattern_of p) (patterns_of ps)
+  pub closed_patterns_of : written.ArgumentPatterns → ClosedPatterns
+  closed_patterns_of written.no_arguments = no_patterns
+  closed_patterns_of (written.argument_and p ps) = pattern_and (closed_pattern_of p) (closed_patterns_of ps)
 
 abbrev pub repeat_of : RepeatOp → ClosedSymbol → ClosedSymbol
 repeat_of Star x = star x
@@ -61,7 +61,7 @@ abbrev mutual
   read_kind r before after (written.repeated op p) = repeat_of op (read_part r before after p)
   read_kind r before after (written.chosen p) = wrapped chosen (read_part r before after p)
   read_kind r before after (written.named n p) = wrapped (named n.mutable n.name) (read_part r before after p)
-  read_kind r before after (written.tupled ns p) = wrapped (tuple (patterns_of ns)) (read_part r before after p)
+  read_kind r before after (written.tupled ns p) = wrapped (tuple (closed_patterns_of ns)) (read_part r before after p)
   read_kind r before after written.lookahead = lookahead
   read_kind r before after written.lookbehind = lookbehind
   read_kind r before after written.error_terminal = error

@@ -6,11 +6,11 @@ use Rattle.lalrpop_norm_theory.specs.Rounds.{In}
 use Rattle.lalrpop_norm_model.specs.Scopes.{is_argument}
 use Rattle.lalrpop_norm_model.specs.Levels.{Leveled, levels_of}
 use Rattle.lalrpop_norm_model.specs.WrittenRules.{WrittenRule, rule_named}
-use Rattle.lalrpop_norm_model.specs.Grammars.{is_macro}
+use Rattle.lalrpop_norm_model.specs.Grammars.{has_arguments}
 
 abbrev pub is_rule : Option WrittenRule → Bool
 is_rule None = false
-is_rule (Some r) = not (is_macro r)
+is_rule (Some r) = not (has_arguments r)
 
 -- one symbol for each argument
 abbrev pub takes : List NonterminalString → Parts → Bool
@@ -20,7 +20,7 @@ takes _ _ = false
 
 abbrev pub is_macro_for : Parts → Option WrittenRule → Bool
 is_macro_for ps None = false
-is_macro_for ps (Some r) = is_macro r && takes r.args ps
+is_macro_for ps (Some r) = has_arguments r && takes r.args ps
 
 -- Each name in a symbol is one of the arguments or a rule without arguments, each call names a macro with that many arguments,
 -- and no identifier is left open.

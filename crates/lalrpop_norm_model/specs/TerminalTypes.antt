@@ -10,14 +10,11 @@ use Rattle.lalrpop_norm_tree.specs.Items.{AssociatedTypeData, ConversionData, En
 use Rattle.lalrpop_norm_tree.specs.LoweredTypes.{repr_of}
 use Rattle.lalrpop_norm_parts.specs.Patterns.{PatternKindData, enumerated, structured, path, tuple, tuple_struct, number, underscore, dot_dot, chosen, character, text, PatternData, pattern_at, Patterns, no_patterns, pattern_and, Fields, no_fields, field_and}
 use Rattle.lalrpop_norm_parts.specs.Reprs as lowered
-use Rattle.lalrpop_norm_parts.specs.Reprs.{ReprData, nominal, reference, of_lifetime, no_reprs, repr_and, reprs_of, named_repr}
+use Rattle.lalrpop_norm_parts.specs.Reprs.{ReprData, nominal, reference, of_lifetime, no_reprs, repr_and, reprs_of, named_repr, unit_type, static_str}
 use Rattle.lalrpop_norm_model.specs.Entries.{user_names}
 use Rattle.lalrpop_norm_model.specs.Terminals.{same_terminal}
 
 -- ---- types with a name
-
-abbrev pub unit_type : ReprData
-unit_type = lowered.tuple no_reprs
 
 abbrev pub input_lifetime : Lifetime
 input_lifetime = record { 0 = codes "'input" }
@@ -28,10 +25,6 @@ str_at l = reference (Some l) false (named_repr (codes "str"))
 -- `&'input str`
 abbrev pub input_str : ReprData
 input_str = str_at input_lifetime
-
--- `&'static str`
-abbrev pub static_str : ReprData
-static_str = str_at (record { 0 = codes "'static" })
 
 -- `Token<'input>`
 abbrev pub token_of_input : ReprData
@@ -57,8 +50,8 @@ location_with (Some e) g = declared_under (codes "Location") g
 location_with None g = Some (named_repr (codes "usize"))
 
 -- the type of a location: the one that is declared beside an extern enum, if any; `usize` where tokens are internal
-abbrev pub location_type : GrammarData → Option ReprData
-location_type g = location_with (extern_enum g) g
+abbrev pub declared_location : GrammarData → Option ReprData
+declared_location g = location_with (extern_enum g) g
 
 abbrev pub token_with : Option EnumTokenData → ReprData
 token_with (Some e) = repr_of e.type_name
@@ -76,7 +69,7 @@ error_type g = unwrap_or (declared_under (codes "Error") g) static_str
 abbrev pub recovery_type : GrammarData → ReprData
 recovery_type g =
     nominal (path_of ((g.prefix ++ codes "lalrpop_util") ∷ codes "ErrorRecovery" ∷ []))
-    (repr_and (unwrap_or (location_type g) unit_type) (repr_and (token_type g) (repr_and (error_type g) no_reprs)))
+    (repr_and (unwrap_or (declared_location g) unit_type) (repr_and (token_type g) (repr_and (error_type g) no_reprs)))
 
 -- ---- chosen types of patterns
 
@@ -95,16 +88,16 @@ abbrev mutual
   chosen_in_kind (character a) = []
   chosen_in_kind (text a) = []
 
-  pub chosen_in : {T : Type 0} → PatternData T → List T
-  chosen_in (pattern_at s k) = chosen_in_kind k
+  pub chosen_in_pattern : {T : Type 0} → PatternData T → List T
+  chosen_in_pattern (pattern_at s k) = chosen_in_kind k
 
   pub chosen_in_all : {T : Type 0} → Patterns T → List T
   chosen_in_all no_patterns = []
-  chosen_in_all (pattern_and p ps) = chosen_in p ++ chosen_in_all ps
+  chosen_in_all (pattern_and p ps) = chosen_in_pattern p ++ chosen_in_all ps
 
   pub chosen_in_fields : {T : Type 0} → Fields T → List T
   chosen_in_fields no_fields = []
-  chosen_in_fields (field_and s n p fs) = chosen_in p ++ chosen_in_fields fs
+  chosen_in_fields (field_and s n p fs) = chosen_in_pattern p ++ chosen_in_fields fs
 
 -- one type bare, several as a tuple; nothing of none
 abbrev pub type_of_chosen : List ReprData → Option ReprData
@@ -115,16 +108,16 @@ type_of_chosen (t ∷ u ∷ ts) = Some (lowered.tuple (reprs_of (t ∷ u ∷ ts)
 -- ---- terminals
 
 -- a terminal with a type of its own
-abbrev pub Row : Type 0
-Row = TerminalString × ReprData
+abbrev pub TerminalRow : Type 0
+TerminalRow = TerminalString × ReprData
 
-abbrev pub row_for : TerminalString → Option ReprData → List Row
+abbrev pub row_for : TerminalString → Option ReprData → List TerminalRow
 row_for t None = []
 row_for t (Some x) = (t, x) ∷ []
 
 -- a conversion that chooses types gives these to its terminal
-abbrev pub conversion_row : ConversionData → List Row
-conversion_row c = row_for c.from (type_of_chosen (map repr_of (chosen_in c.to)))
+abbrev pub conversion_row : ConversionData → List TerminalRow
+conversion_row c = row_for c.from (type_of_chosen (map repr_of (chosen_in_pattern c.to)))
 
 abbrev pub entries_of : Option InternTokenData → List MatchEntry
 entries_of None = []
@@ -135,16 +128,16 @@ abbrev pub intern_entries : GrammarData → List MatchEntry
 intern_entries g = entries_of (first_of intern_token_of g.items)
 
 -- with an extern enum the conversions' rows; else `&'input str` for each terminal that an entry names
-abbrev pub rows_with : Option EnumTokenData → GrammarData → List Row
+abbrev pub rows_with : Option EnumTokenData → GrammarData → List TerminalRow
 rows_with (Some e) g = flat_map conversion_row e.conversions
 rows_with None g = map (λ t. (t, input_str)) (user_names (intern_entries g))
 
 -- the terminals with a type of their own: the error terminal, and those of the grammar
-abbrev pub terminal_rows : GrammarData → List Row
+abbrev pub terminal_rows : GrammarData → List TerminalRow
 terminal_rows g = (Error, recovery_type g) ∷ rows_with (extern_enum g) g
 
 -- what stands first in the rows for a terminal
-abbrev pub row_of : TerminalString → List Row → Option ReprData
+abbrev pub row_of : TerminalString → List TerminalRow → Option ReprData
 row_of t [] = None
 row_of t (r ∷ rows) = if same_terminal r.0 t then Some r.1 else row_of t rows
 

@@ -33,14 +33,14 @@ literals_of (Unmapped l s) = l ∷ []
 literals_of (CatchAll s) = []
 
 -- the terminals that an item names, whatever its precedence
-abbrev pub names_of : MatchItem → List TerminalString
-names_of i = user_names (item_entries 0 i)
+abbrev pub names_mapped_by : MatchItem → List TerminalString
+names_mapped_by i = user_names (item_entries 0 i)
 
 -- an item whose literal, or whose terminal, an item before it has
-abbrev pub item_faults : List MatchItem → MatchItem → List Fault
-item_faults before i =
+abbrev pub match_item_faults : List MatchItem → MatchItem → List Fault
+match_item_faults before i =
     fault_if (list_any (λ l. list_any (same_literal l) (flat_map literals_of before)) (literals_of i)) (LiteralTwice, match_item_span i)
-    ++ fault_if (list_any (λ t. list_any (same_terminal t) (flat_map names_of before)) (names_of i)) (TerminalTwice, match_item_span i)
+    ++ fault_if (list_any (λ t. list_any (same_terminal t) (flat_map names_mapped_by before)) (names_mapped_by i)) (TerminalTwice, match_item_span i)
 
 abbrev pub items_of : Option MatchTokenData → List MatchItem
 items_of None = []
@@ -53,8 +53,8 @@ match_items g = items_of (match_block g)
 -- ---- conversions
 
 -- a conversion whose terminal one before it has
-abbrev pub conversion_faults : List ConversionData → ConversionData → List Fault
-conversion_faults before c = fault_if (list_any (λ (b : ConversionData). same_terminal c.from b.from) before) (TerminalTwice, c.span)
+abbrev pub repeated_conversion_faults : List ConversionData → ConversionData → List Fault
+repeated_conversion_faults before c = fault_if (list_any (λ (b : ConversionData). same_terminal c.from b.from) before) (TerminalTwice, c.span)
 
 -- ---- symbols
 
@@ -108,19 +108,19 @@ input_faults g =
 -- ---- all of them
 
 -- conversions, then the terminals used: each has a conversion
-abbrev pub enum_faults : EnumTokenData → GrammarData → List Fault
-enum_faults e g =
-    each_after conversion_faults [] e.conversions
+abbrev pub checked_enum_faults : EnumTokenData → GrammarData → List Fault
+checked_enum_faults e g =
+    each_after repeated_conversion_faults [] e.conversions
     ++ flat_map (λ p. fault_if (not (has_conversion e.conversions p.0)) (NoPattern, p.1)) (places_used g)
 
 -- the match block, then the terminals used: each has an entry
 abbrev pub entry_faults : GrammarData → List Fault
 entry_faults g =
-    each_after item_faults [] (match_items g)
+    each_after match_item_faults [] (match_items g)
     ++ flat_map (λ p. fault_if (not (has_entry g p.0)) (NoMapping, p.1)) (places_used g)
 
 abbrev pub token_faults_with : Option EnumTokenData → GrammarData → List Fault
-token_faults_with (Some e) g = enum_faults e g
+token_faults_with (Some e) g = checked_enum_faults e g
 token_faults_with None g = entry_faults g ++ input_faults g
 
 -- with an extern enum its conversions and the symbols; else the match block, the symbols, what is declared

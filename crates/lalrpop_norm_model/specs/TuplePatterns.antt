@@ -20,13 +20,13 @@ in_tuple test _ = false
 
 -- a name fits each type, and a tuple pattern a tuple type of as many types, which its patterns fit in turn
 abbrev mutual
-  pub fits : ArgumentPattern → ReprData → Bool
-  fits (one_name n) x = true
-  fits (several ps) x = in_tuple (fit_all ps) x
+  pub pattern_fits : ArgumentPattern → ReprData → Bool
+  pattern_fits (one_name n) x = true
+  pattern_fits (several ps) x = in_tuple (fit_all ps) x
 
   pub fit_all : ArgumentPatterns → Reprs → Bool
   fit_all no_arguments no_reprs = true
-  fit_all (argument_and p ps) (repr_and x xs) = fits p x && fit_all ps xs
+  fit_all (argument_and p ps) (repr_and x xs) = pattern_fits p x && fit_all ps xs
   fit_all _ _ = false
 
 -- ---- what does not fit
@@ -69,7 +69,7 @@ pub record PatternFits (g : GrammarData) (p : Pattern) : Type 0 where
   pub type : ReprData
   pub nonterminal_below : kind_of p.1 ≡ nonterminal name
   pub has : Has g name type
-  pub fitting : fits (several p.0) type ≡ true
+  pub fitting : pattern_fits (several p.0) type ≡ true
 
 -- each tuple symbol of an alternative fits
 abbrev pub PatternsFit : GrammarData → Type 0

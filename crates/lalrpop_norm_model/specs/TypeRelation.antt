@@ -16,7 +16,7 @@ use Rattle.lalrpop_norm_tree.specs.Types.{TypeData, TypesData, MaybeType, tuple,
 use Rattle.lalrpop_norm_theory.specs.Rounds.{In}
 use Rattle.lalrpop_norm_model.specs.PlainRules.{all_rules}
 use Rattle.lalrpop_norm_model.specs.Sources.{is_default, default_type, is_lookaround}
-use Rattle.lalrpop_norm_model.specs.TerminalTypes.{terminal_type, recovery_type, location_type}
+use Rattle.lalrpop_norm_model.specs.TerminalTypes.{terminal_type, recovery_type, declared_location}
 
 -- ---- associated types
 
@@ -43,33 +43,33 @@ abbrev pub IsRule : GrammarData → RuleData → Type 0
 IsRule g r = In r (all_rules g)
 
 -- A clause of a rule, by which it has a type: it makes a written type, or it gives a location.
-pub data Clause : Type 0 where
-  makes : TypeData → Clause
-  locates : Clause
+pub data TypeClause : Type 0 where
+  makes : TypeData → TypeClause
+  locates : TypeClause
 
 -- the clause of an alternative: a default one makes the type of its sources, a lookaround gives a location; any other has none
-abbrev pub alternative_clause : AlternativeData → Option Clause
+abbrev pub alternative_clause : AlternativeData → Option TypeClause
 alternative_clause a = if is_default a then Some (makes (default_type a)) else (if is_lookaround a then Some locates else None)
 
-abbrev pub clauses_of : Option TypeData → List AlternativeData → List Clause
-clauses_of (Some t) alternatives = makes t ∷ []
-clauses_of None alternatives = filter_map alternative_clause alternatives
+abbrev pub type_clauses_of : Option TypeData → List AlternativeData → List TypeClause
+type_clauses_of (Some t) alternatives = makes t ∷ []
+type_clauses_of None alternatives = filter_map alternative_clause alternatives
 
 -- the clauses of a rule: its declared type alone; without one, those of its alternatives in order
-abbrev pub clauses : RuleData → List Clause
-clauses r = clauses_of r.type_decl r.alternatives
+abbrev pub type_clauses : RuleData → List TypeClause
+type_clauses r = type_clauses_of r.type_decl r.alternatives
 
 -- ---- the relation
 
 mutual
   -- a rule of that name has the type x
   pub data Has (g : GrammarData) : List ℕ → ReprData → Type 0 where
-    by_clause : (r : RuleData) (c : Clause) (x : ReprData) → IsRule g r → In c (clauses r) → Makes g c x → Has g r.name.0 x
+    by_clause : (r : RuleData) (c : TypeClause) (x : ReprData) → IsRule g r → In c (type_clauses r) → Makes g c x → Has g r.name.0 x
 
   -- a clause makes the type x
-  pub data Makes (g : GrammarData) : Clause → ReprData → Type 0 where
+  pub data Makes (g : GrammarData) : TypeClause → ReprData → Type 0 where
     makes_type : (t : TypeData) (x : ReprData) → Means g t x → Makes g (makes t) x
-    makes_location : (x : ReprData) → location_type g ≡ Some x → Makes g locates x
+    makes_location : (x : ReprData) → declared_location g ≡ Some x → Makes g locates x
 
   -- a symbol gives the type x
   pub data Gives (g : GrammarData) : Kind → ReprData → Type 0 where

@@ -8,8 +8,8 @@ use Rattle.lalrpop_norm_parts.specs.Reprs.{ReprData, Reprs, MaybeRepr}
 use Rattle.lalrpop_norm_tree.specs.Symbols.{Kind, Part, group, ambiguous_id, terminal, nonterminal, call, repeated, chosen, named, tupled, lookahead, lookbehind, error_terminal, at}
 use Rattle.lalrpop_norm_tree.specs.Types.{TypeData, TypesData, MaybeType, tuple, slice, nominal, reference, trait_object, of_lifetime, id, of_symbol, function, no_types, type_and, no_type, returns}
 use Rattle.lalrpop_norm_theory.specs.Rounds.{In}
-use Rattle.lalrpop_norm_model.specs.TerminalTypes.{terminal_type, recovery_type, location_type}
-use Rattle.lalrpop_norm_model.specs.TypeRelation.{associated_of, IsRule, Clause, makes, locates, clauses, Has}
+use Rattle.lalrpop_norm_model.specs.TerminalTypes.{terminal_type, recovery_type, declared_location}
+use Rattle.lalrpop_norm_model.specs.TypeRelation.{associated_of, IsRule, TypeClause, makes, locates, type_clauses, Has}
 
 -- a table: the type of each name that has one
 abbrev pub Table : Type 0
@@ -67,21 +67,21 @@ abbrev mutual
   return_value g f (returns t) = option_map lowered.returns (type_value g f t)
 
 -- what a clause makes of the table
-abbrev pub clause_value : GrammarData → Table → Clause → Option ReprData
+abbrev pub clause_value : GrammarData → Table → TypeClause → Option ReprData
 clause_value g f (makes t) = type_value g f t
-clause_value g f locates = location_type g
+clause_value g f locates = declared_location g
 
 -- each type in the table is had
 abbrev pub IsSound : GrammarData → Table → Type 0
 IsSound g f = (n : List ℕ) (x : ReprData) → f n ≡ Some x → Has g n x
 
 -- each type that a clause makes of the table is its rule's in it
-abbrev pub IsClosed : GrammarData → Table → Type 0
-IsClosed g f = (r : RuleData) → IsRule g r → (c : Clause) → In c (clauses r) → (x : ReprData) → clause_value g f c ≡ Some x → f r.name.0 ≡ Some x
+abbrev pub IsClosedTable : GrammarData → Table → Type 0
+IsClosedTable g f = (r : RuleData) → IsRule g r → (c : TypeClause) → In c (type_clauses r) → (x : ReprData) → clause_value g f c ≡ Some x → f r.name.0 ≡ Some x
 
 -- each rule of which a clause makes a type of the table has one in it
 abbrev pub IsStuck : GrammarData → Table → Type 0
-IsStuck g f = (r : RuleData) → IsRule g r → (c : Clause) → In c (clauses r) → IsSome (clause_value g f c) → IsSome (f r.name.0)
+IsStuck g f = (r : RuleData) → IsRule g r → (c : TypeClause) → In c (type_clauses r) → IsSome (clause_value g f c) → IsSome (f r.name.0)
 
 -- the table is the relation
 abbrev pub IsTable : GrammarData → Table → Type 0

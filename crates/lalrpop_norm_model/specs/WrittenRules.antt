@@ -18,8 +18,8 @@ abbrev pub resolved_places : List Global → RuleData → Places → Places
 resolved_places ds r ps = map (option_map (resolved_alternative (sense_of ds r.args))) ps
 
 -- with the levels that its alternatives state
-abbrev pub leveled_rule : List Global → RuleData → Places → WrittenRule
-leveled_rule ds r ps = record { name = r.name.0; args = r.args; has_levels = has_levels ps; places = with_levels (resolved_places ds r ps) }
+abbrev pub written_rule_with_levels : List Global → RuleData → Places → WrittenRule
+written_rule_with_levels ds r ps = record { name = r.name.0; args = r.args; has_levels = has_levels ps; places = with_levels (resolved_places ds r ps) }
 
 -- whatever its alternatives state
 abbrev pub flat_rule : List Global → RuleData → Places → WrittenRule
@@ -36,11 +36,11 @@ rules_through f (use_item u ∷ items) = rules_through f items
 
 -- the enabled rules of a written grammar, as `normalize` reads it
 abbrev pub written_rules : Features → GrammarData → List WrittenRule
-written_rules fs g = rules_through (λ r. if is_active fs r.attributes then leveled_rule (globals (enabled_grammar fs g)) r (enabled_places fs r) ∷ [] else []) g.items
+written_rules fs g = rules_through (λ r. if is_active fs r.attributes then written_rule_with_levels (globals (enabled_grammar fs g)) r (enabled_places fs r) ∷ [] else []) g.items
 
 -- all rules, with their levels, as the pass on levels reads its argument; what it makes of them is `leveled_grammar`
 abbrev pub leveled_rules : GrammarData → List WrittenRule
-leveled_rules g = rules_through (λ r. leveled_rule (globals g) r (all_places r) ∷ []) g.items
+leveled_rules g = rules_through (λ r. written_rule_with_levels (globals g) r (all_places r) ∷ []) g.items
 
 -- all rules without levels, as the expansion of macros reads its argument
 abbrev pub flat_rules : GrammarData → List WrittenRule

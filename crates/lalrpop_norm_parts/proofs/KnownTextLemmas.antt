@@ -22,7 +22,7 @@ use Rattle.lalrpop_norm_parts.specs.declared.path.Path.{Path}
 use Rattle.lalrpop_norm_parts.specs.Paths.{path_view}
 use Rattle.lalrpop_norm_parts.specs.TypeTexts.{forall_text, path_text}
 use Rattle.lalrpop_norm_parts.specs.Texts.{joined}
-use Rattle.lalrpop_norm_parts.specs.KnownTexts.{each_after, joined_known, angled_known, bounds_known}
+use Rattle.lalrpop_norm_parts.specs.KnownTexts.{texts_after, joined_known, angled_known, bounds_known}
 
 -- ---- texts that may be open
 
@@ -41,18 +41,18 @@ then_nothing None = refl
 then_nothing (Some a) = ap Some (append-nil a)
 
 -- one more text at the end
-each_after-end : (separator : List ℕ) (ts : List (Option (List ℕ))) (u : Option (List ℕ)) → each_after separator (ts ++ u ∷ []) ≡ each_after separator ts ++? (Some separator ++? u)
+each_after-end : (separator : List ℕ) (ts : List (Option (List ℕ))) (u : Option (List ℕ)) → texts_after separator (ts ++ u ∷ []) ≡ texts_after separator ts ++? (Some separator ++? u)
 each_after-end separator [] u = then_nothing (Some separator ++? u) ∙ sym (nothing_then _)
 each_after-end separator (t ∷ ts) u = rw (each_after-end separator ts u) (sym (known_assoc (Some separator ++? t) _ _))
 
 module _ {X : Type 0} (text : X → Option (List ℕ)) (separator : List ℕ) where
-  each_after-push : (xs : List X) (x : X) → each_after separator (map text (xs ++ x ∷ [])) ≡ each_after separator (map text xs) ++? (Some separator ++? text x)
+  each_after-push : (xs : List X) (x : X) → texts_after separator (map text (xs ++ x ∷ [])) ≡ texts_after separator (map text xs) ++? (Some separator ++? text x)
   each_after-push [] x = then_nothing (Some separator ++? text x) ∙ sym (nothing_then _)
   each_after-push (y ∷ xs) x = rw (each_after-push xs x) (sym (known_assoc (Some separator ++? text y) _ _))
 
   -- one more
   pub each_after-more : (xs : List X) (i : ℕ) (x : X) → i < length xs → x ≡ get_or xs i x
-      → each_after separator (map text (take (i + 1) xs)) ≡ each_after separator (map text (take i xs)) ++? (Some separator ++? text x)
+      → texts_after separator (map text (take (i + 1) xs)) ≡ texts_after separator (map text (take i xs)) ++? (Some separator ++? text x)
   each_after-more xs i x h e = rw (take_more xs i x h, ← e, each_after-push (take i xs) x)
 
 pub map_same : {A : Type 0} (xs : List A) → map (λ x. x) xs ≡ xs
@@ -129,14 +129,14 @@ module _ {W : Type 0} (took : W → List ℕ → W → Type 0) where
   module _ {X : Type 0} (text : X → Option (List ℕ)) (separator : List ℕ) where
     pub joined_shown : (f g h : Formatter W) (xs : List X) (x : X) (others : List X) (i : ℕ) → xs ≡ x ∷ others → length others ≤ i
         → IfSome (text x) (λ a. IsPlainFormatter f → true ≡ true → HasWritten took f a g)
-        → (IsPlainFormatter g → IfSome (each_after separator (map text (take i others))) (λ b. HasWritten took g b h))
+        → (IsPlainFormatter g → IfSome (texts_after separator (map text (take i others))) (λ b. HasWritten took g b h))
         → IfSome (joined_known separator (map text xs)) (λ c. IsPlainFormatter f → true ≡ true → HasWritten took f c h)
     joined_shown f g h xs x others i e all first rest =
-        rw e (first_shown_then f g h (text x) (each_after separator (map text others)) first (rw (take_all i others all) at rest))
+        rw e (first_shown_then f g h (text x) (texts_after separator (map text others)) first (rw (take_all i others all) at rest))
 
 -- where each has a text, those texts
 module _ {X : Type 0} (text : X → List ℕ) (separator : List ℕ) where
-  each_after-known : (xs : List X) → each_after separator (map (λ x. Some (text x)) xs) ≡ Some (flat_map (λ u. separator ++ u) (map text xs))
+  each_after-known : (xs : List X) → texts_after separator (map (λ x. Some (text x)) xs) ≡ Some (flat_map (λ u. separator ++ u) (map text xs))
   each_after-known [] = refl
   each_after-known (x ∷ xs) = rw (each_after-known xs)
 

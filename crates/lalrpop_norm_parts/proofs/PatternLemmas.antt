@@ -9,7 +9,7 @@ use Rattle.lalrpop_norm_parts.specs.declared.pattern.PatternKind.TheOpen.{Patter
 use Rattle.lalrpop_norm_parts.specs.declared.pattern.PatternKind.TheVariants as variant
 use Rattle.lalrpop_norm_parts.specs.declared.pattern.PatternKind.TheViews.{rolls-Enum, rolls-Struct, rolls-TupleStruct}
 use Rattle.lalrpop_norm_parts.specs.Paths.{path_view}
-use Rattle.lalrpop_norm_parts.specs.Patterns.{PatternKindData, enumerated, structured, tuple_struct, FieldData, PatternData, kind_step, field_step, pattern_step, SamePatternKind, pattern_kind_view, pattern_view, field_view, patterns_view, fields_view, SamePattern, SamePatterns, SameField, SameFields}
+use Rattle.lalrpop_norm_parts.specs.Patterns.{PatternKindData, enumerated, structured, tuple_struct, FieldData, PatternData, pattern_kind_step, field_step, pattern_step, SamePatternKind, pattern_kind_view, pattern_view, field_view, patterns_view, fields_view, SamePattern, SamePatterns, SameField, SameFields}
 
 pub same_more : {T : Type 0} (R : T → T → Type 0) (ps qs : List (Pattern T)) (p q : Pattern T) → SamePatterns R (patterns_view (λ t. t) ps) (patterns_view (λ t. t) qs) → SamePattern R (pattern_view (λ t. t) p) (pattern_view (λ t. t) q) → SamePatterns R (patterns_view (λ t. t) (ps ++ p ∷ [])) (patterns_view (λ t. t) (qs ++ q ∷ []))
 same_more R [] [] p q h k = (k, tt)
@@ -26,13 +26,13 @@ same_more_fields R (x ∷ ps) (y ∷ qs) p q h k = (h.0, h.1, h.2, same_more_fie
 -- one level of a pattern as data
 module _ {T : Type 0} where
   enumerated_seen : (p : Path) (ps : Vec (Pattern T) Global) → pattern_kind_view (λ (t : T). t) (variant.Enum p ps) ≡ enumerated (path_view p) (patterns_view (λ t. t) ps.items)
-  enumerated_seen p ps = ap (pattern_kind_view (λ (t : T). t)) (sym (rolls-Enum p ps)) ∙ fold-roll-PatternKind T (PatternKindData T) (FieldData T) (PatternData T) (kind_step (λ (t : T). t)) (field_step (λ (t : T). t)) (pattern_step (λ (t : T). t)) (PatternKind-F.Enum p ps)
+  enumerated_seen p ps = ap (pattern_kind_view (λ (t : T). t)) (sym (rolls-Enum p ps)) ∙ fold-roll-PatternKind T (PatternKindData T) (FieldData T) (PatternData T) (pattern_kind_step (λ (t : T). t)) (field_step (λ (t : T). t)) (pattern_step (λ (t : T). t)) (PatternKind-F.Enum p ps)
 
   structured_seen : (p : Path) (fs : Vec (FieldPattern T) Global) (rest : Bool) → pattern_kind_view (λ (t : T). t) (variant.Struct p fs rest) ≡ structured (path_view p) (fields_view (λ t. t) fs.items) rest
-  structured_seen p fs rest = ap (pattern_kind_view (λ (t : T). t)) (sym (rolls-Struct p fs rest)) ∙ fold-roll-PatternKind T (PatternKindData T) (FieldData T) (PatternData T) (kind_step (λ (t : T). t)) (field_step (λ (t : T). t)) (pattern_step (λ (t : T). t)) (PatternKind-F.Struct p fs rest)
+  structured_seen p fs rest = ap (pattern_kind_view (λ (t : T). t)) (sym (rolls-Struct p fs rest)) ∙ fold-roll-PatternKind T (PatternKindData T) (FieldData T) (PatternData T) (pattern_kind_step (λ (t : T). t)) (field_step (λ (t : T). t)) (pattern_step (λ (t : T). t)) (PatternKind-F.Struct p fs rest)
 
   tuple_struct_seen : (p : Path) (ps : Vec (Pattern T) Global) → pattern_kind_view (λ (t : T). t) (variant.TupleStruct p ps) ≡ tuple_struct (path_view p) (patterns_view (λ t. t) ps.items)
-  tuple_struct_seen p ps = ap (pattern_kind_view (λ (t : T). t)) (sym (rolls-TupleStruct p ps)) ∙ fold-roll-PatternKind T (PatternKindData T) (FieldData T) (PatternData T) (kind_step (λ (t : T). t)) (field_step (λ (t : T). t)) (pattern_step (λ (t : T). t)) (PatternKind-F.TupleStruct p ps)
+  tuple_struct_seen p ps = ap (pattern_kind_view (λ (t : T). t)) (sym (rolls-TupleStruct p ps)) ∙ fold-roll-PatternKind T (PatternKindData T) (FieldData T) (PatternData T) (pattern_kind_step (λ (t : T). t)) (field_step (λ (t : T). t)) (pattern_step (λ (t : T). t)) (PatternKind-F.TupleStruct p ps)
 
 -- what is made of copied parts is a copy
 kind_copied : {T E : Type 0} (R : T → T → Type 0) (r : Result (PatternKind T) E) (from to : PatternKindData T) → IfOk r (λ k. pattern_kind_view (λ t. t) k ≡ to) → SamePatternKind R from to → IfOk r (λ k. SamePatternKind R from (pattern_kind_view (λ t. t) k))

@@ -8,7 +8,7 @@ use Rattle.lalrpop_norm_parts.specs.declared.pattern.PatternKind.TheFolds.{ind-P
 use Rattle.lalrpop_norm_parts.specs.declared.pattern.PatternKind.TheOpen.{PatternKind-F, FieldPattern-F, Pattern-F}
 use Rattle.lalrpop_norm_parts.specs.declared.pattern.PatternKind.TheViews.{roll-PatternKind, roll-FieldPattern, roll-Pattern, rolls-struct-Pattern}
 use Rattle.lalrpop_norm_parts.specs.Paths.{path_view}
-use Rattle.lalrpop_norm_parts.specs.Patterns.{PatternKindData, enumerated, structured, path, tuple, tuple_struct, number, underscore, dot_dot, chosen, character, text, PatternData, pattern_at, Patterns, no_patterns, pattern_and, Fields, no_fields, field_and, FieldData, patterns_of, fields_of, kind_step, field_step, pattern_step, pattern_kind_view, field_view, pattern_view, SamePatternKind, SamePattern, SamePatterns, SameFields}
+use Rattle.lalrpop_norm_parts.specs.Patterns.{PatternKindData, enumerated, structured, path, tuple, tuple_struct, number, underscore, dot_dot, chosen, character, text, PatternData, pattern_at, Patterns, no_patterns, pattern_and, Fields, no_fields, field_and, FieldData, patterns_of, fields_of, pattern_kind_step, field_step, pattern_step, pattern_kind_view, field_view, pattern_view, SamePatternKind, SamePattern, SamePatterns, SameFields}
 
 -- each chosen part through f
 abbrev mutual
@@ -101,7 +101,7 @@ each_field f (e ∷ es) =
 abbrev kind_parts : {T V : Type 0} (f : T → V) (y : PatternKind-F T ((k : PatternKind T) × KindClaim f k) ((d : FieldPattern T) × FieldClaim f d) ((p : Pattern T) × PatternClaim f p)) → PatternKind-F T (PatternKind T) (FieldPattern T) (Pattern T)
 kind_parts {T} f y = map-PatternKind T ((k : PatternKind T) × KindClaim f k) ((d : FieldPattern T) × FieldClaim f d) ((p : Pattern T) × PatternClaim f p) (PatternKind T) (FieldPattern T) (Pattern T) (λ e. e.0) (λ e. e.0) (λ e. e.0) y
 
-kind_layer : {T V : Type 0} (f : T → V) (y : PatternKind-F T ((k : PatternKind T) × KindClaim f k) ((d : FieldPattern T) × FieldClaim f d) ((p : Pattern T) × PatternClaim f p)) → kind_step f (map-PatternKind T (PatternKind T) (FieldPattern T) (Pattern T) (PatternKindData V) (FieldData V) (PatternData V) (pattern_kind_view f) (field_view f) (pattern_view f) (kind_parts f y)) ≡ mapped_kind f (kind_step (λ (t : T). t) (map-PatternKind T (PatternKind T) (FieldPattern T) (Pattern T) (PatternKindData T) (FieldData T) (PatternData T) (pattern_kind_view (λ (t : T). t)) (field_view (λ (t : T). t)) (pattern_view (λ (t : T). t)) (kind_parts f y)))
+kind_layer : {T V : Type 0} (f : T → V) (y : PatternKind-F T ((k : PatternKind T) × KindClaim f k) ((d : FieldPattern T) × FieldClaim f d) ((p : Pattern T) × PatternClaim f p)) → pattern_kind_step f (map-PatternKind T (PatternKind T) (FieldPattern T) (Pattern T) (PatternKindData V) (FieldData V) (PatternData V) (pattern_kind_view f) (field_view f) (pattern_view f) (kind_parts f y)) ≡ mapped_kind f (pattern_kind_step (λ (t : T). t) (map-PatternKind T (PatternKind T) (FieldPattern T) (Pattern T) (PatternKindData T) (FieldData T) (PatternData T) (pattern_kind_view (λ (t : T). t)) (field_view (λ (t : T). t)) (pattern_view (λ (t : T). t)) (kind_parts f y)))
 kind_layer f (PatternKind-F.Enum p ps) = ap (enumerated (path_view p)) (each_pattern f ps.items)
 kind_layer f (PatternKind-F.Struct p fs rest) = ap (λ gs. structured (path_view p) gs rest) (each_field f fs.items)
 kind_layer f (PatternKind-F.Path p) = refl
@@ -116,23 +116,23 @@ kind_layer f (PatternKind-F.String s) = refl
 
 kind_claim : {T V : Type 0} (f : T → V) (y : PatternKind-F T ((k : PatternKind T) × KindClaim f k) ((d : FieldPattern T) × FieldClaim f d) ((p : Pattern T) × PatternClaim f p)) → KindClaim f (roll-PatternKind T (kind_parts f y))
 kind_claim {T} {V} f y =
-    fold-roll-PatternKind T (PatternKindData V) (FieldData V) (PatternData V) (kind_step f) (field_step f) (pattern_step f) (kind_parts f y)
+    fold-roll-PatternKind T (PatternKindData V) (FieldData V) (PatternData V) (pattern_kind_step f) (field_step f) (pattern_step f) (kind_parts f y)
     ∙ kind_layer f y
-    ∙ ap (mapped_kind f) (sym (fold-roll-PatternKind T (PatternKindData T) (FieldData T) (PatternData T) (kind_step (λ (t : T). t)) (field_step (λ (t : T). t)) (pattern_step (λ (t : T). t)) (kind_parts f y)))
+    ∙ ap (mapped_kind f) (sym (fold-roll-PatternKind T (PatternKindData T) (FieldData T) (PatternData T) (pattern_kind_step (λ (t : T). t)) (field_step (λ (t : T). t)) (pattern_step (λ (t : T). t)) (kind_parts f y)))
 
 field_claim : {T V : Type 0} (f : T → V) (y : FieldPattern-F T ((k : PatternKind T) × KindClaim f k) ((d : FieldPattern T) × FieldClaim f d) ((p : Pattern T) × PatternClaim f p)) → FieldClaim f (roll-FieldPattern T (map-FieldPattern T ((k : PatternKind T) × KindClaim f k) ((d : FieldPattern T) × FieldClaim f d) ((p : Pattern T) × PatternClaim f p) (PatternKind T) (FieldPattern T) (Pattern T) (λ e. e.0) (λ e. e.0) (λ e. e.0) y))
 field_claim {T} {V} f y =
     let parts : FieldPattern-F T (PatternKind T) (FieldPattern T) (Pattern T) = map-FieldPattern T ((k : PatternKind T) × KindClaim f k) ((d : FieldPattern T) × FieldClaim f d) ((p : Pattern T) × PatternClaim f p) (PatternKind T) (FieldPattern T) (Pattern T) (λ e. e.0) (λ e. e.0) (λ e. e.0) y in
-    fold-roll-FieldPattern T (PatternKindData V) (FieldData V) (PatternData V) (kind_step f) (field_step f) (pattern_step f) parts
+    fold-roll-FieldPattern T (PatternKindData V) (FieldData V) (PatternData V) (pattern_kind_step f) (field_step f) (pattern_step f) parts
     ∙ ap (λ (d : PatternData V). let r : FieldData V = record { span = y.field_span; name = y.field_name; pattern = d } in r) y.pattern.1
-    ∙ ap (mapped_field f) (sym (fold-roll-FieldPattern T (PatternKindData T) (FieldData T) (PatternData T) (kind_step (λ (t : T). t)) (field_step (λ (t : T). t)) (pattern_step (λ (t : T). t)) parts))
+    ∙ ap (mapped_field f) (sym (fold-roll-FieldPattern T (PatternKindData T) (FieldData T) (PatternData T) (pattern_kind_step (λ (t : T). t)) (field_step (λ (t : T). t)) (pattern_step (λ (t : T). t)) parts))
 
 pattern_claim : {T V : Type 0} (f : T → V) (y : Pattern-F T ((k : PatternKind T) × KindClaim f k) ((d : FieldPattern T) × FieldClaim f d) ((p : Pattern T) × PatternClaim f p)) → PatternClaim f (roll-Pattern T (map-Pattern T ((k : PatternKind T) × KindClaim f k) ((d : FieldPattern T) × FieldClaim f d) ((p : Pattern T) × PatternClaim f p) (PatternKind T) (FieldPattern T) (Pattern T) (λ e. e.0) (λ e. e.0) (λ e. e.0) y))
 pattern_claim {T} {V} f y =
     let parts : Pattern-F T (PatternKind T) (FieldPattern T) (Pattern T) = map-Pattern T ((k : PatternKind T) × KindClaim f k) ((d : FieldPattern T) × FieldClaim f d) ((p : Pattern T) × PatternClaim f p) (PatternKind T) (FieldPattern T) (Pattern T) (λ e. e.0) (λ e. e.0) (λ e. e.0) y in
-    fold-roll-Pattern T (PatternKindData V) (FieldData V) (PatternData V) (kind_step f) (field_step f) (pattern_step f) parts
+    fold-roll-Pattern T (PatternKindData V) (FieldData V) (PatternData V) (pattern_kind_step f) (field_step f) (pattern_step f) parts
     ∙ ap (λ (k : PatternKindData V). pattern_at y.span k) y.kind.1
-    ∙ ap (mapped f) (sym (fold-roll-Pattern T (PatternKindData T) (FieldData T) (PatternData T) (kind_step (λ (t : T). t)) (field_step (λ (t : T). t)) (pattern_step (λ (t : T). t)) parts))
+    ∙ ap (mapped f) (sym (fold-roll-Pattern T (PatternKindData T) (FieldData T) (PatternData T) (pattern_kind_step (λ (t : T). t)) (field_step (λ (t : T). t)) (pattern_step (λ (t : T). t)) parts))
 
 view_mapped : {T V : Type 0} (f : T → V) (p : Pattern T) → PatternClaim f p
 view_mapped {T} f p =
@@ -151,4 +151,4 @@ pub pattern_seen : {T V : Type 0} (f : T → V) (s : Span) (k : PatternKind T) �
 pattern_seen {T} {V} f s k =
     let x : Pattern-F T (PatternKind T) (FieldPattern T) (Pattern T) = record { span = s; kind = k } in
     ap (pattern_view f) (sym (rolls-struct-Pattern x))
-    ∙ fold-roll-Pattern T (PatternKindData V) (FieldData V) (PatternData V) (kind_step f) (field_step f) (pattern_step f) x
+    ∙ fold-roll-Pattern T (PatternKindData V) (FieldData V) (PatternData V) (pattern_kind_step f) (field_step f) (pattern_step f) x

@@ -47,18 +47,18 @@ fields_of [] = no_fields
 fields_of (f ∷ fs) = field_and f.span f.name f.pattern (fields_of fs)
 
 -- one level of a pattern, with what is inside already seen as data, and each chosen part through f
-abbrev pub kind_step : {T V : Type 0} → (T → V) → PatternKind-F T (PatternKindData V) (FieldData V) (PatternData V) → PatternKindData V
-kind_step f (PatternKind-F.Enum p ps) = enumerated (path_view p) (patterns_of ps.items)
-kind_step f (PatternKind-F.Struct p fs rest) = structured (path_view p) (fields_of fs.items) rest
-kind_step f (PatternKind-F.Path p) = path (path_view p)
-kind_step f (PatternKind-F.Tuple ps) = tuple (patterns_of ps.items)
-kind_step f (PatternKind-F.TupleStruct p ps) = tuple_struct (path_view p) (patterns_of ps.items)
-kind_step f (PatternKind-F.Usize n) = number n
-kind_step f PatternKind-F.Underscore = underscore
-kind_step f PatternKind-F.DotDot = dot_dot
-kind_step f (PatternKind-F.Choose t) = chosen (f t)
-kind_step f (PatternKind-F.CharLiteral a) = character a
-kind_step f (PatternKind-F.String s) = text (string_bytes s)
+abbrev pub pattern_kind_step : {T V : Type 0} → (T → V) → PatternKind-F T (PatternKindData V) (FieldData V) (PatternData V) → PatternKindData V
+pattern_kind_step f (PatternKind-F.Enum p ps) = enumerated (path_view p) (patterns_of ps.items)
+pattern_kind_step f (PatternKind-F.Struct p fs rest) = structured (path_view p) (fields_of fs.items) rest
+pattern_kind_step f (PatternKind-F.Path p) = path (path_view p)
+pattern_kind_step f (PatternKind-F.Tuple ps) = tuple (patterns_of ps.items)
+pattern_kind_step f (PatternKind-F.TupleStruct p ps) = tuple_struct (path_view p) (patterns_of ps.items)
+pattern_kind_step f (PatternKind-F.Usize n) = number n
+pattern_kind_step f PatternKind-F.Underscore = underscore
+pattern_kind_step f PatternKind-F.DotDot = dot_dot
+pattern_kind_step f (PatternKind-F.Choose t) = chosen (f t)
+pattern_kind_step f (PatternKind-F.CharLiteral a) = character a
+pattern_kind_step f (PatternKind-F.String s) = text (string_bytes s)
 
 abbrev pub field_step : {T V : Type 0} → (T → V) → FieldPattern-F T (PatternKindData V) (FieldData V) (PatternData V) → FieldData V
 field_step f p = record { span = p.field_span; name = p.field_name; pattern = p.pattern }
@@ -68,13 +68,13 @@ pattern_step f p = pattern_at p.span p.kind
 
 -- a pattern with each chosen part seen through f
 abbrev pub pattern_kind_view : {T V : Type 0} → (T → V) → PatternKind T → PatternKindData V
-pattern_kind_view {T} {V} f = fold-PatternKind T (PatternKindData V) (FieldData V) (PatternData V) (kind_step f) (field_step f) (pattern_step f)
+pattern_kind_view {T} {V} f = fold-PatternKind T (PatternKindData V) (FieldData V) (PatternData V) (pattern_kind_step f) (field_step f) (pattern_step f)
 
 abbrev pub pattern_view : {T V : Type 0} → (T → V) → Pattern T → PatternData V
-pattern_view {T} {V} f = fold-Pattern T (PatternKindData V) (FieldData V) (PatternData V) (kind_step f) (field_step f) (pattern_step f)
+pattern_view {T} {V} f = fold-Pattern T (PatternKindData V) (FieldData V) (PatternData V) (pattern_kind_step f) (field_step f) (pattern_step f)
 
 abbrev pub field_view : {T V : Type 0} → (T → V) → FieldPattern T → FieldData V
-field_view {T} {V} f = fold-FieldPattern T (PatternKindData V) (FieldData V) (PatternData V) (kind_step f) (field_step f) (pattern_step f)
+field_view {T} {V} f = fold-FieldPattern T (PatternKindData V) (FieldData V) (PatternData V) (pattern_kind_step f) (field_step f) (pattern_step f)
 
 abbrev pub patterns_view : {T V : Type 0} → (T → V) → List (Pattern T) → Patterns V
 patterns_view f ps = patterns_of (map (pattern_view f) ps)

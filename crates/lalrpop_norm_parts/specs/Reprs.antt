@@ -1,5 +1,5 @@
 -- Lowered types and where clauses as plain data.
-use Rattle.std.specs.Prelude.{ℕ, Bool, false, List, [], ◌∷◌, map, Option, Some, None, option_map}
+use Rattle.std.specs.Prelude.{ℕ, Bool, false, List, [], ◌∷◌, map, Option, Some, None, option_map, codes}
 use Rattle.lalrpop_norm_parts.specs.declared.names.Lifetime.{Lifetime}
 use Rattle.lalrpop_norm_parts.specs.declared.names.TypeParameter.{TypeParameter}
 use Rattle.lalrpop_norm_parts.specs.declared.lowered.NominalTypeRepr.{NominalTypeRepr}
@@ -87,3 +87,11 @@ lowered_clause_step (WhereClause-F.Bound t b) = has_bound (repr_view t) (bound_v
 
 abbrev pub lowered_where_clause_view : WhereClause → LoweredClause
 lowered_where_clause_view = fold-WhereClause LoweredClause lowered_clause_step
+
+-- `()`
+abbrev pub unit_type : ReprData
+unit_type = tuple no_reprs
+
+-- `&'static str`
+abbrev pub static_str : ReprData
+static_str = reference (Some (record { 0 = codes "'static" })) false (named_repr (codes "str"))

@@ -29,6 +29,6 @@ action_of a g = slice_get g.actions (action_index a)
 abbrev pub parameter_refs : List LoweredParameter → List ℕ
 parameter_refs ps = flat_map (λ p. p.name ++ codes ", ") ps
 
-abbrev pub is_name : TypeParameter → Bool
-is_name (Lifetime l) = false
-is_name (Id a) = true
+abbrev pub is_type_name : TypeParameter → Bool
+is_type_name (Lifetime l) = false
+is_type_name (Id a) = true

@@ -46,8 +46,8 @@ pub record LoweredGrammar : Type 0 where
   pub types : TypeTable
   pub module_attributes : List (List ℕ)
 
-abbrev pub grammar_view : Grammar → LoweredGrammar
-grammar_view g = record {
+abbrev pub lowered_grammar_view : Grammar → LoweredGrammar
+lowered_grammar_view g = record {
   prefix = string_bytes g.prefix;
   algorithm = g.algorithm;
   uses_error_recovery = g.uses_error_recovery;

@@ -10,5 +10,5 @@ abbrev pub symbol_type : Symbol → TypeTable → Option ReprData
 symbol_type (Nonterminal n) table = type_of n table
 symbol_type (Terminal t) table = Some (type_of_terminal t table)
 
-abbrev pub IsTyped : Symbol → TypeTable → Type 0
-IsTyped s table = IsSome (symbol_type s table)
+abbrev pub HasSymbolType : Symbol → TypeTable → Type 0
+HasSymbolType s table = IsSome (symbol_type s table)

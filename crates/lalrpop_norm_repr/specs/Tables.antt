@@ -6,7 +6,7 @@ use Rattle.lalrpop_norm_parts.specs.declared.names.NonterminalString.{Nontermina
 use Rattle.lalrpop_norm_parts.specs.declared.names.TerminalString.{TerminalString}
 use Rattle.lalrpop_norm_parts.specs.declared.names.TerminalString.TheVariants as terminal
 pub use Rattle.lalrpop_norm_parts.specs.Terminals.{same_literal, same_terminal}
-use Rattle.lalrpop_norm_parts.specs.Reprs.{ReprData, tuple, nominal, reference, no_reprs, repr_and, repr_view, named_repr}
+use Rattle.lalrpop_norm_parts.specs.Reprs.{ReprData, tuple, nominal, no_reprs, repr_and, repr_view, unit_type, static_str}
 use Rattle.lalrpop_norm_repr.specs.declared.types.Types.{Types}
 
 -- the rows of a map, each value seen through f
@@ -57,13 +57,6 @@ listed_type terminal t = found_terminal terminal t.terminals
 -- the type of a terminal's token
 abbrev pub type_of_terminal : TerminalString → TypeTable → ReprData
 type_of_terminal terminal t = unwrap_or (listed_type terminal t) t.token
-
-abbrev pub unit_type : ReprData
-unit_type = tuple no_reprs
-
--- `&'static str`
-abbrev pub static_str : ReprData
-static_str = reference (Some (record { 0 = codes "'static" })) false (named_repr (codes "str"))
 
 -- the type of a location, the unit type if none is declared
 abbrev pub location_type : TypeTable → ReprData

@@ -2,7 +2,7 @@
 ghost use Rattle.std.specs.Prelude.{◌≡◌, ◌↔◌, Some, IsTrue};
 ghost use Rattle.lalrpop_norm_parts.specs.Reprs.{repr_view};
 ghost use Rattle.lalrpop_norm_repr.specs.Tables.{type_table};
-ghost use Rattle.lalrpop_norm_repr.specs.SymbolTypes.{IsTyped, symbol_type};
+ghost use Rattle.lalrpop_norm_repr.specs.SymbolTypes.{HasSymbolType, symbol_type};
 ghost use Rattle.lalrpop_norm_repr.specs.Productions.{IsTerminal};
 ghost use Rattle.lalrpop_norm_repr.specs.ReprTexts.{symbol_text};
 
@@ -33,7 +33,7 @@ impl Symbol {
 
     /// The symbol's type in the table, in which a nonterminal has one (`lookup_nonterminal_type` tells).
     pub fn ty<'ty>(&self, types: &'ty Types) -> &'ty TypeRepr
-        requires { IsTyped self.now (type_table types.now) }
+        requires { HasSymbolType self.now (type_table types.now) }
         ensures { Some (repr_view result.now) ≡ symbol_type self.now (type_table types.now) }
     {
         match self {

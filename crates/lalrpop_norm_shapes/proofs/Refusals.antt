@@ -8,7 +8,7 @@ use Rattle.serde_json.specs.View.{view, items_view, items_of}
 use Rattle.serde_json.specs.declared.value.Value.{Value}
 use Rattle.lalrpop_norm_shapes.specs.Weight.{weight, items_weight}
 use Rattle.lalrpop_norm_shapes.specs.Parts.{is_null, is_pair, is_variant, is_no_members, starts_with, are_keys, has_fields}
-use Rattle.lalrpop_norm_shapes.specs.Shapes.{Name, natural, absent, Place, Held, Arrays, shape, struct_of, each, row, place, fits, fits_items, fits_members, struct, variants, arrayed, optional, Shape, is}
+use Rattle.lalrpop_norm_shapes.specs.Shapes.{ShapeName, natural, absent, Place, Held, Arrays, shape, struct_of, each, row, place, fits, fits_items, fits_members, struct, variants, arrayed, optional, Shape, is}
 
 pub not_pair : (vs : List Value) → length vs ≢ 2 → is_pair (array (items_view vs)) ≡ false
 not_pair [] other = refl
@@ -154,7 +154,7 @@ item_weight [] i d h = absurd (omega arith)
 item_weight (v ∷ vs) zero d h = omega arith
 item_weight (v ∷ vs) (suc i) d h = let later = item_weight vs i d (omega arith) in omega arith
 
-pub no_item : (n : Name) (vs : List Value) (i : ℕ) (d : Value) → i < length vs → is n (view (get_or vs i d)) ≡ false → fits_items (each n) (items_view vs) ≡ false
+pub no_item : (n : ShapeName) (vs : List Value) (i : ℕ) (d : Value) → i < length vs → is n (view (get_or vs i d)) ≡ false → fits_items (each n) (items_view vs) ≡ false
 no_item n [] i d h e = absurd (omega arith)
 no_item n (v ∷ vs) zero d h e = rw e refl
 no_item n (v ∷ vs) (suc i) d h e = and_false _ _ (no_item n vs i d (omega arith) e)
@@ -168,7 +168,7 @@ lighter v vs i x is h at =
     omega arith
 
 -- a list with a refused item is refused
-pub no_list : (n : Name) (v : Data) (vs : List Value) (i : ℕ) (x : Value) → v ≡ array (items_view vs) → i < length vs → x ≡ get_or vs i x → is n (view x) ≡ false → fits (arrayed (each n)) v ≡ false
+pub no_list : (n : ShapeName) (v : Data) (vs : List Value) (i : ℕ) (x : Value) → v ≡ array (items_view vs) → i < length vs → x ≡ get_or vs i x → is n (view x) ≡ false → fits (arrayed (each n)) v ≡ false
 no_list n v vs i x is h at refused = rw is (no_item n vs i x h (ap (λ y. fits (shape n) (view y)) (sym at) ∙ refused))
 
 -- a list that was read to its end

@@ -5,7 +5,7 @@ use Rattle.std.proofs.lemmas.Option.{slice_get-map}
 use Rattle.lalrpop_norm_theory.specs.Symbols.{Name, ClosedSymbol, ClosedSymbols, reference, call, group, star, plus, question, lookahead, lookbehind}
 use Rattle.lalrpop_norm_theory.specs.Meaning.{Meaning, HasCounts, HasLevels}
 use Rattle.lalrpop_norm_theory.specs.WrittenTrees.{WrittenTree, WrittenTrees, list, no_trees, tree_and, append}
-use Rattle.lalrpop_norm_theory.specs.LoweredTrees.{LoweredTree, LoweredTrees, lowered_node, no_lowered, lowered_and, LoweredGrammar, Origin, IsDerivation}
+use Rattle.lalrpop_norm_theory.specs.LoweredTrees.{LoweredTree, LoweredTrees, lowered_node, no_lowered, lowered_and, ProductionTable, Origin, IsDerivation}
 use Rattle.lalrpop_norm_theory.specs.Clauses.{Clause, clauses, symbol_of, IsNonterminal}
 use Rattle.lalrpop_norm_theory.specs.Pairs.{Pairs, AllPairs, terminal_pair, error_pair, wrapped_pair, lookahead_pair, lookbehind_pair, group_pair, rule_pair, step_pair, call_pair, star_empty_pair, star_some_pair, plus_one_pair, plus_more_pair, question_some_pair, question_empty_pair, no_pairs, pair_and}
 use Rattle.lalrpop_norm_theory.specs.Translations.{made_by, written_tree, written_each, lowered_tree}
@@ -27,7 +27,7 @@ unleveled_append : (origin : Name → ℕ → Origin) (ts ss : WrittenTrees) →
 unleveled_append origin no_trees ss = refl
 unleveled_append origin (tree_and t ts) ss = ap (tree_and (unleveled_tree origin t)) (unleveled_append origin ts ss)
 
-module _ (L : Meaning) (name : ClosedSymbol → Name) (P : LoweredGrammar) (origin : Name → ℕ → Origin) (Known : ClosedSymbol → Type 0)
+module _ (L : Meaning) (name : ClosedSymbol → Name) (P : ProductionTable) (origin : Name → ℕ → Origin) (Known : ClosedSymbol → Type 0)
     (R : Realizes L name P Known) where
   composed_node : (g : ClosedSymbol) → IsNonterminal g → Known g → (p : ℕ) (c : Clause) → slice_get (clauses L g) p ≡ Some c →
       (us : LoweredTrees) (ts : WrittenTrees) → written_each (recomposed origin P) us ≡ ts →
@@ -79,7 +79,7 @@ module _ (L : Meaning) (name : ClosedSymbol → Name) (P : LoweredGrammar) (orig
 
 module _ (M L : Meaning) (l : Name → ℕ → Name) (origin : Name → ℕ → Origin) (references : List ClosedSymbol)
     (D : IsResolved M references) (I : IsLeveled M L l origin references)
-    (C : HasCounts M) (V : HasLevels M) (B : HasCounts L) (W : HasLevels L) (name : ClosedSymbol → Name) (P : LoweredGrammar)
+    (C : HasCounts M) (V : HasLevels M) (B : HasCounts L) (W : HasLevels L) (name : ClosedSymbol → Name) (P : ProductionTable)
     (Known : ClosedSymbol → Type 0) (R : Realizes L name P Known) (g : ClosedSymbol) (r : IsResolvedIn references g)
     (k : Known (leveled_symbol l g)) where
   abbrev Whole : ClosedSymbol → Type 0

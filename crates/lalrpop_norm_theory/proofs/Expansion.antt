@@ -6,7 +6,7 @@ use Rattle.lalrpop_norm_theory.specs.Meaning.{Meaning}
 use Rattle.lalrpop_norm_theory.specs.Clauses.{Clause, clauses}
 use Rattle.lalrpop_norm_theory.specs.Rounds.{In, Chain}
 use Rattle.lalrpop_norm_theory.specs.Same.{same_symbol}
-use Rattle.lalrpop_norm_theory.specs.Met.{meets, meets_all, rule_meets, expansion, expanded_symbols, IsExpanded, AreDeclaredIn, IsResolvedIn}
+use Rattle.lalrpop_norm_theory.specs.Met.{meets, meets_all, rule_meets, expansion, expanded_symbols, BecomesRule, AreDeclaredIn, IsResolvedIn}
 use Rattle.lalrpop_norm_theory.specs.Laws.{RoundsAreShortestChains, RoundsAreInOrder, NothingNewIsWhole, IsWhole, ExpansionsStand, ExpansionsAreOneToOne}
 use Rattle.lalrpop_norm_theory.proofs.RoundsLemmas.{After, after_rounds, fresh_is_new, closed, in_left, in_right, in_cases, in_reverse, of_reverse, in_flat, of_flat}
 use Rattle.lalrpop_norm_theory.proofs.TableLemmas.{rules_realize}
@@ -25,15 +25,15 @@ rounds_in_order M declared = (
 )
 
 -- what is met last is the symbol itself
-met_itself : (g h : ClosedSymbol) → IsExpanded g → In h (g ∷ []) → IsExpanded h
-met_itself g h e (inl s) = subst (λ (x : ClosedSymbol). IsExpanded x) s' e
+met_itself : (g h : ClosedSymbol) → BecomesRule g → In h (g ∷ []) → BecomesRule h
+met_itself g h e (inl s) = subst (λ (x : ClosedSymbol). BecomesRule x) s' e
   where
     s' : g ≡ h
     s' = cc s
 met_itself g h e (inr i) = absurd i
 
 mutual
-  meets_expanded : (g h : ClosedSymbol) → In h (meets g) → IsExpanded h
+  meets_expanded : (g h : ClosedSymbol) → In h (meets g) → BecomesRule h
   meets_expanded (terminal a) h i = absurd i
   meets_expanded error h i = absurd i
   meets_expanded (reference n b) h i = absurd i
@@ -61,19 +61,19 @@ mutual
   meets_expanded lookahead h i = met_itself lookahead h tt i
   meets_expanded lookbehind h i = met_itself lookbehind h tt i
 
-  all_meet_expanded : (gs : ClosedSymbols) (h : ClosedSymbol) → In h (meets_all gs) → IsExpanded h
+  all_meet_expanded : (gs : ClosedSymbols) (h : ClosedSymbol) → In h (meets_all gs) → BecomesRule h
   all_meet_expanded no_symbols h i = absurd i
   all_meet_expanded (symbol_and g gs) h i = elim (in_cases h (meets g) _ i) [
     | inl j ↦ meets_expanded g h j
     | inr j ↦ all_meet_expanded gs h j
   ]
 
-rule_meets_expanded : (M : Meaning) (g h : ClosedSymbol) → In h (rule_meets M g) → IsExpanded h
+rule_meets_expanded : (M : Meaning) (g h : ClosedSymbol) → In h (rule_meets M g) → BecomesRule h
 rule_meets_expanded M g h i =
     let (c, there, j) = of_flat (λ (c : Clause). meets_all c.parts) h (clauses M g) i in all_meet_expanded c.parts h j
 
 chain_expanded : (M : Meaning) (declared : List ClosedSymbol) (k : ℕ) (h : ClosedSymbol) →
-    Chain (rule_meets M) (flat_map (rule_meets M) declared) k h → IsExpanded h
+    Chain (rule_meets M) (flat_map (rule_meets M) declared) k h → BecomesRule h
 chain_expanded M declared zero h i = let (g, there, j) = of_flat (rule_meets M) h declared i in rule_meets_expanded M g h j
 chain_expanded M declared (suc k) h (g, c, i) = rule_meets_expanded M g h i
 

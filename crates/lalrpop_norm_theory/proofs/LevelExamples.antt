@@ -8,7 +8,7 @@ use Rattle.lalrpop_norm_theory.specs.LoweredTrees.{Origin, written, level_step}
 use Rattle.lalrpop_norm_theory.specs.Clauses.{Clause, clauses}
 use Rattle.lalrpop_norm_theory.specs.Rounds.{In}
 use Rattle.lalrpop_norm_theory.specs.Met.{AreResolvedIn, IsResolved, AreDeclaredIn, rule_meets}
-use Rattle.lalrpop_norm_theory.specs.Tables.{table, rule_of, Stands}
+use Rattle.lalrpop_norm_theory.specs.Tables.{table, rule_of_symbol, Stands}
 use Rattle.lalrpop_norm_theory.specs.Leveled.{level_reference, leveled_symbols, IsLeveled}
 use Rattle.lalrpop_norm_theory.specs.Laws.{PairsInTwoSteps}
 use Rattle.lalrpop_norm_theory.proofs.SameLemmas.{text_sound}
@@ -236,7 +236,7 @@ leveled_stands = record {
 
 -- so E's trees pair in two steps with those of the lowered grammar
 expression_in_two_steps : PairsInTwoSteps grammar leveled level_name origin name
-    (table (map (rule_of leveled name) (declared ++ []))) (reference expression None)
+    (table (map (rule_of_symbol leveled name) (declared ++ []))) (reference expression None)
 expression_in_two_steps = levels_two_steps grammar leveled level_name origin references grammar_resolved grammar_leveled
     grammar_counts grammar_levels leveled_counts leveled_levels name _ declared [] (rules_realize leveled name [] declared [] leveled_stands)
     (reference expression None) (inl refl) (inl refl)

@@ -4,8 +4,8 @@ use Rattle.std.specs.Prelude.{slice_get, Option, Some, None, option_map}
 use Rattle.std.proofs.lemmas.Option.{slice_get-map, slice_get_cases}
 use Rattle.lalrpop_norm_theory.specs.Symbols.{Name, ClosedSymbol, ClosedSymbols, terminal, error, reference, call, group, star, plus, question, wrapped, lookahead, lookbehind, no_symbols, symbol_and}
 use Rattle.lalrpop_norm_theory.specs.Meaning.{Meaning, HasCounts, HasLevels}
-use Rattle.lalrpop_norm_theory.specs.LoweredTrees.{Origin, LoweredGrammar, LoweredTree, LoweredTrees, lowered_leaf, lowered_node, no_lowered, lowered_and, LoweredSymbol, IsDerivation, AreDerivations, written}
-use Rattle.lalrpop_norm_theory.specs.Clauses.{Clause, clause, clause_and, clauses, numbered, own_clauses, symbol_of, symbols_of, production_of, IsNonterminal}
+use Rattle.lalrpop_norm_theory.specs.LoweredTrees.{Origin, ProductionTable, LoweredTree, LoweredTrees, lowered_leaf, lowered_node, no_lowered, lowered_and, LoweredSymbol, IsDerivation, AreDerivations, written}
+use Rattle.lalrpop_norm_theory.specs.Clauses.{Clause, clause, clause_and, clauses, numbered, own_clauses, symbol_of, symbols_of, clause_production, IsNonterminal}
 use Rattle.lalrpop_norm_theory.specs.Rounds.{In}
 use Rattle.lalrpop_norm_theory.specs.Met.{IsResolvedIn, AreResolvedIn, IsResolved}
 use Rattle.lalrpop_norm_theory.specs.Tables.{AllKnown, Realizes}
@@ -148,12 +148,12 @@ symbols_named l name no_symbols = refl
 symbols_named l name (symbol_and g gs) = ap₂ ◌∷◌ (symbol_named l name g) (symbols_named l name gs)
 
 recomposed_productions : (origin : Name → ℕ → Origin) (name : ClosedSymbol → Name) (cs : List Clause) →
-    map (recomposed_production origin) (map (production_of name) cs) ≡ map (production_of name) (map (composed_clause origin) cs)
+    map (recomposed_production origin) (map (clause_production name) cs) ≡ map (clause_production name) (map (composed_clause origin) cs)
 recomposed_productions origin name [] = refl
-recomposed_productions origin name (c ∷ cs) = ap (λ r. production_of name (composed_clause origin c) ∷ r) (recomposed_productions origin name cs)
+recomposed_productions origin name (c ∷ cs) = ap (λ r. clause_production name (composed_clause origin c) ∷ r) (recomposed_productions origin name cs)
 
 leveled_productions : (l : Name → ℕ → Name) (name : ClosedSymbol → Name) (cs : List Clause) →
-    map (production_of name) (map (leveled_clause l) cs) ≡ map (production_of (level_named l name)) cs
+    map (clause_production name) (map (leveled_clause l) cs) ≡ map (clause_production (level_named l name)) cs
 leveled_productions l name [] = refl
 leveled_productions l name (c ∷ cs) =
     ap₂ (λ ss r. record { origin = c.origin; symbols = ss } ∷ r) (sym (symbols_named l name c.parts)) (leveled_productions l name cs)
@@ -164,7 +164,7 @@ mapped_at f (Some x) y e = (x, refl, cc e)
 
 module _ (M L : Meaning) (l : Name → ℕ → Name) (origin : Name → ℕ → Origin) (declared : List ClosedSymbol)
     (I : IsLeveled M L l origin declared) (D : IsResolved M declared) (W : HasLevels M) (C : HasCounts L) (V : HasLevels L)
-    (name : ClosedSymbol → Name) (P : LoweredGrammar) (Known : ClosedSymbol → Type 0) (R : Realizes L name P Known) where
+    (name : ClosedSymbol → Name) (P : ProductionTable) (Known : ClosedSymbol → Type 0) (R : Realizes L name P Known) where
   -- the known symbols of the written grammar
   abbrev pub KnownLeveled : ClosedSymbol → Type 0
   KnownLeveled g = IsResolvedIn declared g × Known (leveled_symbol l g)
@@ -178,7 +178,7 @@ module _ (M L : Meaning) (l : Name → ℕ → Name) (origin : Name → ℕ → 
     productions = λ g n k.
         ap (map (recomposed_production origin)) (R.productions (leveled_symbol l g) (leveled_nonterminal l g n) k.1)
         ∙ recomposed_productions origin name (clauses L (leveled_symbol l g))
-        ∙ ap (map (production_of name)) (leveled_clauses M L l origin declared I C V g n k.0)
+        ∙ ap (map (clause_production name)) (leveled_clauses M L l origin declared I C V g n k.0)
         ∙ leveled_productions l name (clauses M g);
     inner = λ w g k. (k.0, R.inner w (leveled_symbol l g) k.1);
     parts_known = λ g p c k e.
@@ -194,7 +194,7 @@ module _ (M L : Meaning) (l : Name → ℕ → Name) (origin : Name → ℕ → 
 
 mutual
   -- origins are no matter for derivation trees
-  pub derivation_recomposed : (origin : Name → ℕ → Origin) (P : LoweredGrammar) (u : LoweredTree) (s : LoweredSymbol) →
+  pub derivation_recomposed : (origin : Name → ℕ → Origin) (P : ProductionTable) (u : LoweredTree) (s : LoweredSymbol) →
       IsDerivation P u s → IsDerivation (recomposed origin P) u s
   derivation_recomposed origin P (lowered_leaf a) s h = h
   derivation_recomposed origin P (lowered_node n p us) s (e, q, at, d) = (
@@ -204,7 +204,7 @@ mutual
     derivations_recomposed origin P us q.symbols d,
   )
 
-  derivations_recomposed : (origin : Name → ℕ → Origin) (P : LoweredGrammar) (us : LoweredTrees) (ss : List LoweredSymbol) →
+  derivations_recomposed : (origin : Name → ℕ → Origin) (P : ProductionTable) (us : LoweredTrees) (ss : List LoweredSymbol) →
       AreDerivations P us ss → AreDerivations (recomposed origin P) us ss
   derivations_recomposed origin P no_lowered [] h = h
   derivations_recomposed origin P no_lowered (s ∷ ss) h = h

@@ -5,9 +5,9 @@ use Rattle.lalrpop_norm_theory.specs.Symbols.{Name, ClosedSymbol, ClosedSymbols,
 use Rattle.lalrpop_norm_theory.specs.Meaning.{Meaning, HasLevels, HasCounts}
 use Rattle.lalrpop_norm_theory.specs.WrittenTrees.{WrittenTree, WrittenTrees, leaf, nothing, list, node, no_trees, tree_and, IsTreeOf, AreTreesOf, EachTreeOf, yield, yields}
 use Rattle.lalrpop_norm_theory.specs.Clauses.{own_clauses, step_clauses}
-use Rattle.lalrpop_norm_theory.specs.Translations.{place}
+use Rattle.lalrpop_norm_theory.specs.Translations.{lowered_place}
 use Rattle.lalrpop_norm_theory.specs.Leveled.{level_reference}
-use Rattle.lalrpop_norm_theory.specs.Steps.{Steps, AllSteps, EachSteps, terminal_kept, error_kept, wrapped_kept, lookahead_kept, lookbehind_kept, group_kept, star_kept, plus_kept, question_kept, call_kept, at_level, below_level, all_done, all_and, each_done, each_and, own_level, step_level, leveled_rule, leveled_tree, leveled_all, leveled_each}
+use Rattle.lalrpop_norm_theory.specs.Steps.{Steps, AllSteps, EachSteps, terminal_kept, error_kept, wrapped_kept, lookahead_kept, lookbehind_kept, group_kept, star_kept, plus_kept, question_kept, call_kept, at_level, below_level, all_done, all_and, each_done, each_and, own_level, step_level, tree_through_levels, leveled_tree, leveled_all, leveled_each}
 use Rattle.lalrpop_norm_theory.proofs.Numbered.{numbered_complete, own_clause_at, step_clause_last, left_at}
 use Rattle.lalrpop_norm_theory.proofs.PairSides.{raised}
 use Rattle.lalrpop_norm_theory.proofs.PairTranslations.{place_is}
@@ -41,17 +41,17 @@ module _ (M : Meaning) (l : Name → ℕ → Name) (V : HasLevels M) where
 module _ (M : Meaning) (l : Name → ℕ → Name) (C : HasCounts M) where
   level_own_stepped : (m : Name) (k : ℕ) (b : Option ℕ) (parts : ClosedSymbols) (ts ms : WrittenTrees) →
       M.own_parts m b k ≡ Some parts → AllSteps M l parts ts ms →
-      Steps M l (reference m b) (node m k ts) (node (level_reference l m b) (place (M.own_parts m b) 0 k) ms)
+      Steps M l (reference m b) (node m k ts) (node (level_reference l m b) (lowered_place (M.own_parts m b) 0 k) ms)
   level_own_stepped m k b parts ts ms e h =
       let z : 0 + k ≡ k = omega arith in
       let at = numbered_complete m (M.own_parts m b) 0 (M.reference_count m) k parts (rw z e) (C.of_rules m b k parts e) in
-      let at' = left_at (own_clauses M m b) (step_clauses m (M.previous m b)) (place (M.own_parts m b) 0 k) _ (rw z at at) in
-      at_level m k (place (M.own_parts m b) 0 k) b parts ts ms e at' h
+      let at' = left_at (own_clauses M m b) (step_clauses m (M.previous m b)) (lowered_place (M.own_parts m b) 0 k) _ (rw z at at) in
+      at_level m k (lowered_place (M.own_parts m b) 0 k) b parts ts ms e at' h
 
 module _ (M : Meaning) (l : Name → ℕ → Name) (C : HasCounts M) (V : HasLevels M) where
   level_rule_stepped : (m : Name) (k : ℕ) (children : ClosedSymbols → WrittenTrees) (ts : WrittenTrees) (parts : ClosedSymbols) →
       AllSteps M l parts ts (children parts) → (depth : ℕ) (b : Option ℕ) → M.depth m b ≤ depth →
-      M.reference_parts m b k ≡ Some parts → Steps M l (reference m b) (node m k ts) (leveled_rule M l m k children depth b)
+      M.reference_parts m b k ≡ Some parts → Steps M l (reference m b) (node m k ts) (tree_through_levels M l m k children depth b)
   level_rule_stepped m k children ts parts h zero b d e = elim (V.split m b k parts e) [
     | inl own ↦ rw own (level_own_stepped M l C m k b parts ts (children parts) own h)
     | inr r ↦ absurd (let deep : M.depth m r.0 < M.depth m b = V.deeper m b r.0 r.2 in omega arith)
@@ -62,7 +62,7 @@ module _ (M : Meaning) (l : Name → ℕ → Name) (C : HasCounts M) (V : HasLev
         let deep : M.depth m r.0 < M.depth m b = V.deeper m b r.0 r.2 in
         let less : M.depth m r.0 ≤ depth = omega arith in
         rw (r.1, r.2)
-        (below_level m (length (own_clauses M m b)) b r.0 (node m k ts) (leveled_rule M l m k children depth r.0) r.2 (step_place M m b r.0 r.2)
+        (below_level m (length (own_clauses M m b)) b r.0 (node m k ts) (tree_through_levels M l m k children depth r.0) r.2 (step_place M m b r.0 r.2)
         (level_rule_stepped m k children ts parts h depth r.0 less r.3))
   ]
 
@@ -97,17 +97,17 @@ module _ (M : Meaning) (l : Name → ℕ → Name) (C : HasCounts M) (V : HasLev
 module _ (M : Meaning) (l : Name → ℕ → Name) where
   leveled_own : (n : Name) (k : ℕ) (children : ClosedSymbols → WrittenTrees) (b : Option ℕ) (parts : ClosedSymbols) →
       M.own_parts n b k ≡ Some parts → (depth : ℕ) →
-      leveled_rule M l n k children depth b ≡ node (level_reference l n b) (place (M.own_parts n b) 0 k) (children parts)
+      tree_through_levels M l n k children depth b ≡ node (level_reference l n b) (lowered_place (M.own_parts n b) 0 k) (children parts)
   leveled_own n k children b parts e zero = rw e refl
   leveled_own n k children b parts e (suc depth) = rw e refl
 
   -- what stands below the own alternatives, with so many steps at most
   abbrev below_own : (n : Name) (k : ℕ) (children : ClosedSymbols → WrittenTrees) → ℕ → Option ℕ → WrittenTree
   below_own n k children zero b = nothing
-  below_own n k children (suc d) b = step_level M l n b (M.previous n b) (λ c. leveled_rule M l n k children d c)
+  below_own n k children (suc d) b = step_level M l n b (M.previous n b) (λ c. tree_through_levels M l n k children d c)
 
   unrolled : (n : Name) (k : ℕ) (children : ClosedSymbols → WrittenTrees) (d : ℕ) (b : Option ℕ) →
-      leveled_rule M l n k children d b ≡ own_level M l n k children b (M.own_parts n b k) (below_own n k children d b)
+      tree_through_levels M l n k children d b ≡ own_level M l n k children b (M.own_parts n b k) (below_own n k children d b)
   unrolled n k children zero b = refl
   unrolled n k children (suc d) b = refl
 
@@ -144,7 +144,7 @@ module _ (M : Meaning) (l : Name → ℕ → Name) (V : HasLevels M) where
 
   -- any bound on the steps serves
   enough : (n : Name) (k : ℕ) (children : ClosedSymbols → WrittenTrees) (d e : ℕ) (b : Option ℕ) →
-      M.depth n b ≤ d → M.depth n b ≤ e → leveled_rule M l n k children d b ≡ leveled_rule M l n k children e b
+      M.depth n b ≤ d → M.depth n b ≤ e → tree_through_levels M l n k children d b ≡ tree_through_levels M l n k children e b
   enough n k children d e b i m =
       unrolled M l n k children d b ∙
       ap (λ r. own_level M l n k children b (M.own_parts n b k) r) (tail_same n k children d e b i m) ∙
@@ -160,8 +160,8 @@ module _ (M : Meaning) (l : Name → ℕ → Name) (V : HasLevels M) where
       deep (M.depth n b) (V.deeper n b c e)
     where
       deep : (depth : ℕ) → M.depth n c < depth →
-          leveled_rule M l n k (λ gs. leveled_all M l ts gs) depth b ≡
-          node (level_reference l n b) (length (own_clauses M n b)) (tree_and (leveled_rule M l n k (λ gs. leveled_all M l ts gs) (M.depth n c) c) no_trees)
+          tree_through_levels M l n k (λ gs. leveled_all M l ts gs) depth b ≡
+          node (level_reference l n b) (length (own_clauses M n b)) (tree_and (tree_through_levels M l n k (λ gs. leveled_all M l ts gs) (M.depth n c) c) no_trees)
       deep zero i = absurd (omega arith)
       deep (suc d) i =
           rw (V.apart n b c k parts e at, e)

@@ -1,3 +1,4 @@
+pub mod BoolLemmas
 pub mod Numbered
 pub mod PairSides
 pub mod PairTranslations

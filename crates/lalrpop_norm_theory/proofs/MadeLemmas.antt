@@ -20,14 +20,14 @@ fresh_distinct same T seen (x ∷ met) = elim (cases_Bool (is_in same x seen)) [
   | inr e ↦ rw e (λ i. (fresh_met same T x (x ∷ seen) met i).1 (inl refl), fresh_distinct same T (x ∷ seen) met)
 ]
 
-distinct_append : {A : Type 0} (xs ys : List A) → IsDistinct xs → IsDistinct ys → ((x : A) → In x xs → In x ys → ⊥) → IsDistinct (xs ++ ys)
+pub distinct_append : {A : Type 0} (xs ys : List A) → IsDistinct xs → IsDistinct ys → ((x : A) → In x xs → In x ys → ⊥) → IsDistinct (xs ++ ys)
 distinct_append [] ys d e apart = e
 distinct_append (x ∷ xs) ys d e apart = (
   λ i. elim (in_cases x xs ys i) [ inl j ↦ d.0 j | inr j ↦ apart x (inl refl) j ],
   distinct_append xs ys d.1 e (λ z j k. apart z (inr j) k),
 )
 
-distinct_reverse : {A : Type 0} (xs : List A) → IsDistinct xs → IsDistinct (reverse xs)
+pub distinct_reverse : {A : Type 0} (xs : List A) → IsDistinct xs → IsDistinct (reverse xs)
 distinct_reverse [] d = d
 distinct_reverse {A} (x ∷ xs) d =
     rw (reverse-cons x xs) (distinct_append (reverse xs) (x ∷ []) (distinct_reverse xs d.1) (λ i. i, tt) apart)

@@ -4,7 +4,7 @@ use Rattle.std.specs.Prelude.{slice_get, Option, Some, None}
 use Rattle.lalrpop_norm_theory.specs.Symbols.{Name, ClosedSymbols}
 use Rattle.lalrpop_norm_theory.specs.LoweredTrees.{Origin, written, level_step, from_lookahead}
 use Rattle.lalrpop_norm_theory.specs.Clauses.{Clause, clause, clause_and, numbered, step_clauses}
-use Rattle.lalrpop_norm_theory.specs.Translations.{counted, place}
+use Rattle.lalrpop_norm_theory.specs.Translations.{counted, lowered_place}
 
 -- the clause of alternative k
 abbrev pub alternative_clause : Name → ℕ → ClosedSymbols → Clause
@@ -17,11 +17,11 @@ pub record Numbered (n : Name) (f : ℕ → Option ClosedSymbols) (k left p : �
   pub has : f (k + number) ≡ Some parts
   pub within : number < left
   pub is : c ≡ alternative_clause n (k + number) parts
-  pub at : place f k number ≡ p
+  pub at : lowered_place f k number ≡ p
 
 later : (n : Name) (f : ℕ → Option ClosedSymbols) (k left p q : ℕ) (c : Clause) (o : Option ClosedSymbols) →
     f k ≡ o → (h : Numbered n f (suc k) left p c) →
-    counted o (place f (suc k) h.number) ≡ q → Numbered n f k (suc left) q c
+    counted o (lowered_place f (suc k) h.number) ≡ q → Numbered n f k (suc left) q c
 later n f k left p q c o e h a = record {
   number = suc h.number;
   parts = h.parts;
@@ -59,7 +59,7 @@ numbered_sound n f k (suc left) p c h =
 -- a number with parts has a clause at its place
 pub numbered_complete : (n : Name) (f : ℕ → Option ClosedSymbols) (k left j : ℕ) (parts : ClosedSymbols) →
     f (k + j) ≡ Some parts → j < left →
-    slice_get (numbered n f k left) (place f k j) ≡ Some (alternative_clause n (k + j) parts)
+    slice_get (numbered n f k left) (lowered_place f k j) ≡ Some (alternative_clause n (k + j) parts)
 numbered_complete n f k zero j parts h l = absurd (omega arith)
 numbered_complete n f k (suc left) zero parts h l =
     let same : k + 0 ≡ k = omega arith in
@@ -70,8 +70,8 @@ numbered_complete n f k (suc left) (suc j) parts h l =
     go (f k) (rw same (numbered_complete n f (suc k) left j parts (rw same at h) (omega arith)))
   where
     go : (o : Option ClosedSymbols) →
-        slice_get (numbered n f (suc k) left) (place f (suc k) j) ≡ Some (alternative_clause n (k + suc j) parts) →
-        slice_get (clause_and n k o (numbered n f (suc k) left)) (counted o (place f (suc k) j)) ≡ Some (alternative_clause n (k + suc j) parts)
+        slice_get (numbered n f (suc k) left) (lowered_place f (suc k) j) ≡ Some (alternative_clause n (k + suc j) parts) →
+        slice_get (clause_and n k o (numbered n f (suc k) left)) (counted o (lowered_place f (suc k) j)) ≡ Some (alternative_clause n (k + suc j) parts)
     go None i = i
     go (Some q) i = i
 

@@ -5,8 +5,8 @@ use Rattle.std.proofs.lemmas.Option.{slice_get-map}
 use Rattle.lalrpop_norm_theory.specs.Symbols.{Name, ClosedSymbol, ClosedSymbols, reference, call, group, star, plus, question, lookahead, lookbehind}
 use Rattle.lalrpop_norm_theory.specs.Meaning.{Meaning, HasLevels}
 use Rattle.lalrpop_norm_theory.specs.WrittenTrees.{WrittenTree, WrittenTrees, leaf, nothing, list, node, no_trees, tree_and, IsNonempty, IsTreeOf, AreTreesOf, EachTreeOf, append}
-use Rattle.lalrpop_norm_theory.specs.LoweredTrees.{LoweredTree, LoweredTrees, lowered_node, no_lowered, lowered_and, LoweredGrammar, nonterminal_symbol, IsDerivation, AreDerivations}
-use Rattle.lalrpop_norm_theory.specs.Clauses.{Clause, clauses, symbol_of, symbols_of, production_of, IsNonterminal}
+use Rattle.lalrpop_norm_theory.specs.LoweredTrees.{LoweredTree, LoweredTrees, lowered_node, no_lowered, lowered_and, ProductionTable, nonterminal_symbol, IsDerivation, AreDerivations}
+use Rattle.lalrpop_norm_theory.specs.Clauses.{Clause, clauses, symbol_of, symbols_of, clause_production, IsNonterminal}
 use Rattle.lalrpop_norm_theory.specs.Pairs.{Pairs, AllPairs, terminal_pair, error_pair, wrapped_pair, lookahead_pair, lookbehind_pair, group_pair, rule_pair, step_pair, call_pair, star_empty_pair, star_some_pair, plus_one_pair, plus_more_pair, question_some_pair, question_empty_pair, no_pairs, pair_and}
 use Rattle.lalrpop_norm_theory.specs.Tables.{AllKnown, Realizes}
 
@@ -51,19 +51,19 @@ module _ (M : Meaning) (name : ClosedSymbol → Name) (V : HasLevels M) where
     trees_of no_pairs = tt
     trees_of (pair_and g gs t ts u us h hs) = (tree_of h, trees_of hs)
 
-module _ (M : Meaning) (name : ClosedSymbol → Name) (P : LoweredGrammar) (Known : ClosedSymbol → Type 0)
+module _ (M : Meaning) (name : ClosedSymbol → Name) (P : ProductionTable) (Known : ClosedSymbol → Type 0)
     (R : Realizes M name P Known) where
   -- the production at a clause's place
   pub production_at : (g : ClosedSymbol) → IsNonterminal g → Known g → (p : ℕ) (c : Clause) → slice_get (clauses M g) p ≡ Some c →
-      slice_get (P (name g)) p ≡ Some (production_of name c)
+      slice_get (P (name g)) p ≡ Some (clause_production name c)
   production_at g n k p c h =
-      rw (R.productions g n k, slice_get-map (production_of name) (clauses M g) p, h) refl
+      rw (R.productions g n k, slice_get-map (clause_production name) (clauses M g) p, h) refl
 
   -- a node over the children of a clause
   node_derived : (g : ClosedSymbol) → IsNonterminal g → Known g → (p : ℕ) (c : Clause) → slice_get (clauses M g) p ≡ Some c →
       (us : LoweredTrees) → AreDerivations P us (symbols_of name c.parts) → IsDerivation P (lowered_node (name g) p us) (nonterminal_symbol (name g))
   node_derived g n k p c h us d =
-      (refl, production_of name c, production_at g n k p c h, d)
+      (refl, clause_production name c, production_at g n k p c h, d)
 
   mutual
     pub derivation_of : {g : ClosedSymbol} {t : WrittenTree} {u : LoweredTree} → Pairs M name g t u → Known g → IsDerivation P u (symbol_of name g)

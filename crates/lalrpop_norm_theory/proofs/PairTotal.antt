@@ -5,10 +5,10 @@ use Rattle.std.proofs.lemmas.Option.{slice_get-map}
 use Rattle.lalrpop_norm_theory.specs.Symbols.{Name, Terminal, error_terminal, error, ClosedSymbol, ClosedSymbols, terminal, reference, call, group, star, plus, question, wrapped, lookahead, lookbehind, no_symbols, symbol_and, only}
 use Rattle.lalrpop_norm_theory.specs.Meaning.{Meaning, HasLevels, HasCounts}
 use Rattle.lalrpop_norm_theory.specs.WrittenTrees.{WrittenTree, WrittenTrees, leaf, nothing, list, node, no_trees, tree_and, IsNonempty, IsAtMostOne, IsTreeOf, AreTreesOf, EachTreeOf, append}
-use Rattle.lalrpop_norm_theory.specs.LoweredTrees.{LoweredTree, LoweredTrees, lowered_leaf, lowered_node, no_lowered, lowered_and, LoweredGrammar, Production, terminal_symbol, nonterminal_symbol, IsDerivation, AreDerivations, level_step}
-use Rattle.lalrpop_norm_theory.specs.Clauses.{Clause, clause, clauses, numbered, own_clauses, step_clauses, symbol_of, symbols_of, production_of, IsNonterminal}
+use Rattle.lalrpop_norm_theory.specs.LoweredTrees.{LoweredTree, LoweredTrees, lowered_leaf, lowered_node, no_lowered, lowered_and, ProductionTable, Production, terminal_symbol, nonterminal_symbol, IsDerivation, AreDerivations, level_step}
+use Rattle.lalrpop_norm_theory.specs.Clauses.{Clause, clause, clauses, numbered, own_clauses, step_clauses, symbol_of, symbols_of, clause_production, IsNonterminal}
 use Rattle.lalrpop_norm_theory.specs.Pairs.{Pairs, AllPairs, terminal_pair, error_pair, wrapped_pair, lookahead_pair, lookbehind_pair, group_pair, rule_pair, step_pair, call_pair, star_empty_pair, star_some_pair, plus_one_pair, plus_more_pair, question_some_pair, question_empty_pair, no_pairs, pair_and}
-use Rattle.lalrpop_norm_theory.specs.Translations.{first, elements, made_by, made_at, written_tree, written_each, place, lowered_rule, lowered_star, lowered_question, extended, left_leaning, lowered_tree, lowered_all, lowered_each}
+use Rattle.lalrpop_norm_theory.specs.Translations.{first_tree, elements, made_by, made_at, written_tree, written_each, lowered_place, lowered_rule, lowered_star, lowered_question, extended, left_leaning, lowered_tree, lowered_all, lowered_each}
 use Rattle.lalrpop_norm_theory.specs.Tables.{AllKnown, Realizes}
 use Rattle.lalrpop_norm_theory.proofs.Numbered.{alternative_clause, Numbered, numbered_sound, numbered_complete, left_at, right_at, split_at}
 use Rattle.lalrpop_norm_theory.proofs.PairSides.{tree_of}
@@ -16,12 +16,12 @@ use Rattle.lalrpop_norm_theory.proofs.PairSides.{tree_of}
 module _ (M : Meaning) (name : ClosedSymbol → Name) (C : HasCounts M) where
   own_paired : (m : Name) (k : ℕ) (b : Option ℕ) (parts : ClosedSymbols) (ts : WrittenTrees) (us : LoweredTrees) →
       M.own_parts m b k ≡ Some parts → AllPairs M name parts ts us →
-      Pairs M name (reference m b) (node m k ts) (lowered_node (name (reference m b)) (place (M.own_parts m b) 0 k) us)
+      Pairs M name (reference m b) (node m k ts) (lowered_node (name (reference m b)) (lowered_place (M.own_parts m b) 0 k) us)
   own_paired m k b parts ts us e h =
       let z : 0 + k ≡ k = omega arith in
       let at = numbered_complete m (M.own_parts m b) 0 (M.reference_count m) k parts (rw z e) (C.of_rules m b k parts e) in
-      let at' = left_at (own_clauses M m b) (step_clauses m (M.previous m b)) (place (M.own_parts m b) 0 k) _ (rw z at at) in
-      rule_pair m k (place (M.own_parts m b) 0 k) b parts ts us e at' h
+      let at' = left_at (own_clauses M m b) (step_clauses m (M.previous m b)) (lowered_place (M.own_parts m b) 0 k) _ (rw z at at) in
+      rule_pair m k (lowered_place (M.own_parts m b) 0 k) b parts ts us e at' h
 
 pub step_place : (M : Meaning) (n : Name) (b c : Option ℕ) → M.previous n b ≡ Some c →
     slice_get (clauses M (reference n b)) (length (own_clauses M n b)) ≡ Some (clause level_step (only (reference n c)))
@@ -49,11 +49,11 @@ module _ (M : Meaning) (name : ClosedSymbol → Name) (C : HasCounts M) (V : Has
 module _ (M : Meaning) (name : ClosedSymbol → Name) (C : HasCounts M) where
   call_paired : (n m : Name) (k : ℕ) (args : ClosedSymbols) (parts : ClosedSymbols) (ts : WrittenTrees) (us : LoweredTrees) → n ≡ m →
       M.call_parts m args k ≡ Some parts → AllPairs M name parts ts us →
-      Pairs M name (call m args) (node n k ts) (lowered_node (name (call m args)) (place (M.call_parts m args) 0 k) us)
+      Pairs M name (call m args) (node n k ts) (lowered_node (name (call m args)) (lowered_place (M.call_parts m args) 0 k) us)
   call_paired n m k args parts ts us same e h =
       let z : 0 + k ≡ k = omega arith in
       let at = numbered_complete m (M.call_parts m args) 0 (M.call_count m) k parts (rw z e) (C.of_calls m args k parts e) in
-      rw same (call_pair m k (place (M.call_parts m args) 0 k) args parts ts us e (rw z at at) h)
+      rw same (call_pair m k (lowered_place (M.call_parts m args) 0 k) args parts ts us e (rw z at at) h)
 
 module _ (M : Meaning) (name : ClosedSymbol → Name) where
   -- each of the trees ts pairs with the one of us at its place, as trees of x
@@ -154,17 +154,17 @@ abbrev made_clause : Option Clause → WrittenTrees → WrittenTree
 made_clause None ts = nothing
 made_clause (Some c) ts = made_by c.origin ts
 
-abbrev HasClause : (name : ClosedSymbol → Name) → LoweredGrammar → LoweredTrees → Option Clause → Type 0
+abbrev HasClause : (name : ClosedSymbol → Name) → ProductionTable → LoweredTrees → Option Clause → Type 0
 HasClause name P us None = ⊥
 HasClause name P us (Some c) = AreDerivations P us (symbols_of name c.parts)
 
-clause_of_production : (name : ClosedSymbol → Name) (P : LoweredGrammar) (us : LoweredTrees) (o : Option Clause) (q : Production) →
-    option_map (production_of name) o ≡ Some q → AreDerivations P us q.symbols → HasClause name P us o
+clause_of_production : (name : ClosedSymbol → Name) (P : ProductionTable) (us : LoweredTrees) (o : Option Clause) (q : Production) →
+    option_map (clause_production name) o ≡ Some q → AreDerivations P us q.symbols → HasClause name P us o
 clause_of_production name P us None q h d = absurd (grind arith)
 clause_of_production name P us (Some c) q h d =
-    let same : production_of name c ≡ q = cc h in subst (λ r. AreDerivations P us r.symbols) (sym same) d
+    let same : clause_production name c ≡ q = cc h in subst (λ r. AreDerivations P us r.symbols) (sym same) d
 
-made_at_mapped : (name : ClosedSymbol → Name) (ts : WrittenTrees) (o : Option Clause) → made_at (option_map (production_of name) o) ts ≡ made_clause o ts
+made_at_mapped : (name : ClosedSymbol → Name) (ts : WrittenTrees) (o : Option Clause) → made_at (option_map (clause_production name) o) ts ≡ made_clause o ts
 made_at_mapped name ts None = refl
 made_at_mapped name ts (Some c) = refl
 
@@ -181,7 +181,7 @@ list_elements M x (node n k ts) h = absurd h
 
 module _ (M : Meaning) (name : ClosedSymbol → Name) where
   -- what is known of the children: they pair, symbol by symbol
-  abbrev Children : LoweredGrammar → (ClosedSymbol → Type 0) → LoweredTrees → Type 0
+  abbrev Children : ProductionTable → (ClosedSymbol → Type 0) → LoweredTrees → Type 0
   Children P Known us = (gs : ClosedSymbols) → AreDerivations P us (symbols_of name gs) → AllKnown Known gs → AllPairs M name gs (written_each P us) us
 
 pub numbered_clause_at : (n : Name) (f : ℕ → Option ClosedSymbols) (count p : ℕ) (c : Clause) → slice_get (numbered n f 0 count) p ≡ Some c →
@@ -197,12 +197,12 @@ step_clause_at n None q c e = absurd (grind arith)
 step_clause_at n (Some b) zero c e = (b, refl, cc e)
 step_clause_at n (Some b) (suc q) c e = absurd (grind arith)
 
-module _ (M : Meaning) (name : ClosedSymbol → Name) (P : LoweredGrammar) (Known : ClosedSymbol → Type 0)
+module _ (M : Meaning) (name : ClosedSymbol → Name) (P : ProductionTable) (Known : ClosedSymbol → Type 0)
     (R : Realizes M name P Known) where
   stepped_read : (us : LoweredTrees) → Children M name P Known us → (p : ℕ) (m : Name) (b d : Option ℕ) → Known (reference m b) → M.previous m b ≡ Some d →
       slice_get (clauses M (reference m b)) p ≡ Some (clause level_step (only (reference m d))) →
       AreDerivations P us (symbols_of name (only (reference m d))) →
-      Pairs M name (reference m b) (first (written_each P us)) (lowered_node (name (reference m b)) p us)
+      Pairs M name (reference m b) (first_tree (written_each P us)) (lowered_node (name (reference m b)) p us)
   stepped_read no_lowered ih p m b d k e at h = absurd h
   stepped_read (lowered_and u no_lowered) ih p m b d k e at h =
       step_pair m p b d _ u e at (pair_first _ _ _ _ _ _ _ _ (ih (only (reference m d)) h (R.parts_known (reference m b) p _ k at))).0
@@ -237,7 +237,7 @@ module _ (M : Meaning) (name : ClosedSymbol → Name) (P : LoweredGrammar) (Know
       let d' = rw same at d in
       rw same (call_pair m j p args parts (written_each P us) us has e' (ih parts d' (R.parts_known (call m args) p _ k e')))
 
-module _ (M : Meaning) (name : ClosedSymbol → Name) (P : LoweredGrammar) (Known : ClosedSymbol → Type 0)
+module _ (M : Meaning) (name : ClosedSymbol → Name) (P : ProductionTable) (Known : ClosedSymbol → Type 0)
     (R : Realizes M name P Known) (V : HasLevels M) where
   node_read : (us : LoweredTrees) → Children M name P Known us → (p : ℕ) (g : ClosedSymbol) → IsNonterminal g → Known g →
       HasClause name P us (slice_get (clauses M g) p) →
@@ -290,8 +290,8 @@ module _ (M : Meaning) (name : ClosedSymbol → Name) (P : LoweredGrammar) (Know
       Pairs M name g (made_at (slice_get (P n) p) (written_each P us)) (lowered_node n p us)
   rule_node_read us ih n p g i k s q at d =
       let same : name g ≡ n = cc s in
-      let at' = rw (← same, R.productions g i k, slice_get-map (production_of name) (clauses M g) p) at at in
-      rw (← same, R.productions g i k, slice_get-map (production_of name) (clauses M g) p, made_at_mapped name (written_each P us) (slice_get (clauses M g) p))
+      let at' = rw (← same, R.productions g i k, slice_get-map (clause_production name) (clauses M g) p) at at in
+      rw (← same, R.productions g i k, slice_get-map (clause_production name) (clauses M g) p, made_at_mapped name (written_each P us) (slice_get (clauses M g) p))
       (node_read us ih p g i k (clause_of_production name P us (slice_get (clauses M g) p) q at' d))
 
   node_derivation : (us : LoweredTrees) → Children M name P Known us → (n : Name) (p : ℕ) (g : ClosedSymbol) → Known g → symbol_of name g ≡ nonterminal_symbol n →

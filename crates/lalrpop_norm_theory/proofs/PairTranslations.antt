@@ -4,15 +4,15 @@ use Rattle.std.specs.Prelude.{slice_get, Option, Some, None, length}
 use Rattle.lalrpop_norm_theory.specs.Symbols.{Name, error_terminal, ClosedSymbol, ClosedSymbols, reference, call, group, star, plus, question, lookahead, lookbehind, only}
 use Rattle.lalrpop_norm_theory.specs.Meaning.{Meaning, HasLevels}
 use Rattle.lalrpop_norm_theory.specs.WrittenTrees.{WrittenTree, WrittenTrees, leaf, nothing, list, node, no_trees, tree_and, IsNonempty, IsTreeOf, yield, yields, alternatives, alternatives_of, append}
-use Rattle.lalrpop_norm_theory.specs.LoweredTrees.{LoweredTree, LoweredTrees, lowered_leaf, lowered_node, no_lowered, lowered_and, LoweredGrammar, Origin, lowered_yield, lowered_yields, written_origins, written_origins_of, written_of, written}
+use Rattle.lalrpop_norm_theory.specs.LoweredTrees.{LoweredTree, LoweredTrees, lowered_leaf, lowered_node, no_lowered, lowered_and, ProductionTable, Origin, lowered_yield, lowered_yields, written_origins, written_origins_of, written_of, written}
 use Rattle.lalrpop_norm_theory.specs.Clauses.{Clause, clauses, numbered, own_clauses, IsNonterminal}
 use Rattle.lalrpop_norm_theory.specs.Pairs.{Pairs, AllPairs, terminal_pair, error_pair, wrapped_pair, lookahead_pair, lookbehind_pair, group_pair, rule_pair, step_pair, call_pair, star_empty_pair, star_some_pair, plus_one_pair, plus_more_pair, question_some_pair, question_empty_pair, no_pairs, pair_and}
-use Rattle.lalrpop_norm_theory.specs.Translations.{made_by, written_tree, written_each, place, own_node, step_node, lowered_rule, lowered_star, extended, left_leaning, lowered_tree, lowered_all, lowered_each}
+use Rattle.lalrpop_norm_theory.specs.Translations.{made_by, written_tree, written_each, lowered_place, own_node, step_node, lowered_rule, lowered_star, extended, left_leaning, lowered_tree, lowered_all, lowered_each}
 use Rattle.lalrpop_norm_theory.specs.Tables.{AllKnown, Realizes}
 use Rattle.lalrpop_norm_theory.proofs.Numbered.{alternative_clause, Numbered, numbered_sound, own_clause_at, step_clause_last}
 use Rattle.lalrpop_norm_theory.proofs.PairSides.{tree_of, production_at}
 
-module _ (M : Meaning) (name : ClosedSymbol → Name) (P : LoweredGrammar) (Known : ClosedSymbol → Type 0)
+module _ (M : Meaning) (name : ClosedSymbol → Name) (P : ProductionTable) (Known : ClosedSymbol → Type 0)
     (R : Realizes M name P Known) where
   written_node : (g : ClosedSymbol) → IsNonterminal g → Known g → (p : ℕ) (c : Clause) → slice_get (clauses M g) p ≡ Some c →
       (us : LoweredTrees) (ts : WrittenTrees) → written_each P us ≡ ts → written_tree P (lowered_node (name g) p us) ≡ made_by c.origin ts
@@ -58,10 +58,10 @@ module _ (M : Meaning) (name : ClosedSymbol → Name) (P : LoweredGrammar) (Know
 
 -- the place of an alternative in its rule
 pub place_is : (n : Name) (k p : ℕ) (f : ℕ → Option ClosedSymbols) (count : ℕ) (parts : ClosedSymbols) →
-    slice_get (numbered n f 0 count) p ≡ Some (alternative_clause n k parts) → place f 0 k ≡ p
+    slice_get (numbered n f 0 count) p ≡ Some (alternative_clause n k parts) → lowered_place f 0 k ≡ p
 place_is n k p f count parts h = children (numbered_sound n f 0 count p (alternative_clause n k parts) h)
   where
-    children : Numbered n f 0 count p (alternative_clause n k parts) → place f 0 k ≡ p
+    children : Numbered n f 0 count p (alternative_clause n k parts) → lowered_place f 0 k ≡ p
     children r =
         let z : 0 + r.number ≡ r.number = omega arith in
         let same : k ≡ 0 + r.number = ap (λ c. number_in c.origin) r.is in
@@ -93,7 +93,7 @@ star_filled name x (tree_and t ts) u h = refl
 module _ (M : Meaning) (name : ClosedSymbol → Name) where
   lowered_own : (n : Name) (k : ℕ) (children : ClosedSymbols → LoweredTrees) (b : Option ℕ) (parts : ClosedSymbols) →
       M.own_parts n b k ≡ Some parts → (depth : ℕ) →
-      lowered_rule M name n k children depth b ≡ lowered_node (name (reference n b)) (place (M.own_parts n b) 0 k) (children parts)
+      lowered_rule M name n k children depth b ≡ lowered_node (name (reference n b)) (lowered_place (M.own_parts n b) 0 k) (children parts)
   lowered_own n k children b parts e zero = rw e refl
   lowered_own n k children b parts e (suc depth) = rw e refl
 
@@ -230,7 +230,7 @@ module _ (M : Meaning) (name : ClosedSymbol → Name) where
     same_yields no_pairs = refl
     same_yields (pair_and g gs t ts u us h hs) = ap₂ (λ a b. a ++ b) (same_yield h) (same_yields hs)
 
-module _ (M : Meaning) (name : ClosedSymbol → Name) (P : LoweredGrammar) (Known : ClosedSymbol → Type 0)
+module _ (M : Meaning) (name : ClosedSymbol → Name) (P : ProductionTable) (Known : ClosedSymbol → Type 0)
     (R : Realizes M name P Known) where
   node_origins : (g : ClosedSymbol) → IsNonterminal g → Known g → (p : ℕ) (c : Clause) → slice_get (clauses M g) p ≡ Some c →
       (us : LoweredTrees) (rest : List (Name × ℕ)) → rest ≡ written_origins_of P us → written_of c.origin ++ rest ≡ written_origins P (lowered_node (name g) p us)

@@ -5,6 +5,7 @@ use Rattle.std.proofs.lemmas.Bool.{cases_Bool}
 use Rattle.std.proofs.lemmas.List.{reverse-reverse}
 use mathlib.Core.List.{reverse-cons}
 use Rattle.lalrpop_norm_theory.specs.Rounds.{In, is_in, fresh_of, Round, rounds, Chain, NewIn, IsTest}
+use Rattle.lalrpop_norm_theory.proofs.BoolLemmas.{or_swap}
 
 pub in_left : {A : Type 0} (x : A) (xs ys : List A) → In x xs → In x (xs ++ ys)
 in_left x [] ys h = absurd h
@@ -216,11 +217,6 @@ pub fresh_same : {A : Type 0} (same : A → A → Bool) (s r xs : List A) → ((
 fresh_same same s r [] h = refl
 fresh_same same s r (x ∷ xs) h =
     rw (h x, fresh_same same s r xs h, fresh_same same (x ∷ s) (x ∷ r) xs (λ z. ap (λ b. same z x || b) (h z))) refl
-
-or_swap : (a b c : Bool) → (a || (b || c)) ≡ (b || (a || c))
-or_swap true true c = refl
-or_swap true false c = refl
-or_swap false b c = refl
 
 in_append : {A : Type 0} (same : A → A → Bool) (x : A) (s r : List A) → is_in same x (s ++ r) ≡ (is_in same x s || is_in same x r)
 in_append same x [] r = refl

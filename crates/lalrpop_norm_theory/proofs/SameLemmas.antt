@@ -3,9 +3,9 @@ use Rattle.std.proofs.Common.{◌≡◌, ℕ, List, refl, ap, ap₂}
 use Rattle.std.specs.Prelude.{Bool, true, false, bytes_eq, Option, Some, None}
 use Rattle.std.proofs.lemmas.Bool.{eqb-true, eq-eqb, and_parts, and_from}
 use Rattle.std.proofs.lemmas.Slice.Eq.{bytes_eq-Decides}
-use Rattle.lalrpop_norm_theory.specs.Symbols.{Terminal, quoted, regex, bare, error_terminal, ArgumentPattern, ArgumentPatterns, name_pattern, tuple_pattern, no_patterns, pattern_and, Wrapper, chosen, named, tuple, ClosedSymbol, ClosedSymbols, terminal, error, reference, call, group, star, plus, question, wrapped, lookahead, lookbehind, no_symbols, symbol_and}
+use Rattle.lalrpop_norm_theory.specs.Symbols.{Terminal, quoted, regex, bare, error_terminal, ClosedPattern, ClosedPatterns, name_pattern, tuple_pattern, no_patterns, pattern_and, Wrapper, chosen, named, tuple, ClosedSymbol, ClosedSymbols, terminal, error, reference, call, group, star, plus, question, wrapped, lookahead, lookbehind, no_symbols, symbol_and}
 use Rattle.lalrpop_norm_theory.specs.Rounds.{IsTest}
-use Rattle.lalrpop_norm_theory.specs.Same.{same_terminal, same_flag, same_bound, same_pattern, same_patterns, same_wrapper, same_symbol, same_symbols}
+use Rattle.lalrpop_norm_theory.specs.Same.{same_closed_terminal, same_flag, same_bound, same_pattern, same_patterns, same_wrapper, same_symbol, same_symbols}
 
 pub text_sound : (a b : List ℕ) → bytes_eq a b ≡ true → a ≡ b
 text_sound a b e = (bytes_eq-Decides a b).0 e
@@ -13,14 +13,14 @@ text_sound a b e = (bytes_eq-Decides a b).0 e
 pub text_same : (a : List ℕ) → bytes_eq a a ≡ true
 text_same a = (bytes_eq-Decides a a).1 refl
 
-terminal_sound : (a b : Terminal) → same_terminal a b ≡ true → a ≡ b
+terminal_sound : (a b : Terminal) → same_closed_terminal a b ≡ true → a ≡ b
 terminal_sound (quoted a) (quoted b) e = ap quoted (text_sound a b e)
 terminal_sound (regex a) (regex b) e = ap regex (text_sound a b e)
 terminal_sound (bare a) (bare b) e = ap bare (text_sound a b e)
 terminal_sound error_terminal error_terminal e = refl
 terminal_sound _ _ e = absurd (cc e)
 
-terminal_same : (a : Terminal) → same_terminal a a ≡ true
+terminal_same : (a : Terminal) → same_closed_terminal a a ≡ true
 terminal_same (quoted a) = text_same a
 terminal_same (regex a) = text_same a
 terminal_same (bare a) = text_same a
@@ -47,24 +47,24 @@ bound_same None = refl
 bound_same (Some a) = eq-eqb a a refl
 
 mutual
-  pattern_sound : (p q : ArgumentPattern) → same_pattern p q ≡ true → p ≡ q
+  pattern_sound : (p q : ClosedPattern) → same_pattern p q ≡ true → p ≡ q
   pattern_sound (name_pattern m a) (name_pattern n b) e =
       let r = and_parts _ _ e in ap₂ name_pattern (flag_sound m n r.0) (text_sound a b r.1)
   pattern_sound (tuple_pattern p) (tuple_pattern q) e = ap tuple_pattern (patterns_sound p q e)
   pattern_sound _ _ e = absurd (cc e)
 
-  patterns_sound : (p q : ArgumentPatterns) → same_patterns p q ≡ true → p ≡ q
+  patterns_sound : (p q : ClosedPatterns) → same_patterns p q ≡ true → p ≡ q
   patterns_sound no_patterns no_patterns e = refl
   patterns_sound (pattern_and p ps) (pattern_and q qs) e =
       let r = and_parts _ _ e in ap₂ pattern_and (pattern_sound p q r.0) (patterns_sound ps qs r.1)
   patterns_sound _ _ e = absurd (cc e)
 
 mutual
-  pattern_same : (p : ArgumentPattern) → same_pattern p p ≡ true
+  pattern_same : (p : ClosedPattern) → same_pattern p p ≡ true
   pattern_same (name_pattern m a) = and_from _ _ (flag_same m) (text_same a)
   pattern_same (tuple_pattern p) = patterns_same p
 
-  patterns_same : (p : ArgumentPatterns) → same_patterns p p ≡ true
+  patterns_same : (p : ClosedPatterns) → same_patterns p p ≡ true
   patterns_same no_patterns = refl
   patterns_same (pattern_and p ps) = and_from _ _ (pattern_same p) (patterns_same ps)
 

@@ -6,7 +6,7 @@ use Rattle.lalrpop_norm_theory.specs.Meaning.{Meaning, HasLevels, HasCounts}
 use Rattle.lalrpop_norm_theory.specs.WrittenTrees.{WrittenTree, WrittenTrees, leaf, nothing, list, node, no_trees, tree_and, IsNonempty, IsAtMostOne, IsTreeOf, AreTreesOf, EachTreeOf, alternatives, alternatives_of}
 use Rattle.lalrpop_norm_theory.specs.LoweredTrees.{Origin, level_step}
 use Rattle.lalrpop_norm_theory.specs.Clauses.{Clause, clause, clauses, own_clauses, step_clauses}
-use Rattle.lalrpop_norm_theory.specs.Translations.{first, made_by}
+use Rattle.lalrpop_norm_theory.specs.Translations.{first_tree, made_by}
 use Rattle.lalrpop_norm_theory.specs.Rounds.{In}
 use Rattle.lalrpop_norm_theory.specs.Met.{IsResolvedIn, AreResolvedIn, IsResolved}
 use Rattle.lalrpop_norm_theory.specs.Leveled.{level_reference, leveled_symbol, leveled_symbols, IsLeveled}
@@ -150,7 +150,7 @@ module _ (M L : Meaning) (l : Name → ℕ → Name) (origin : Name → ℕ → 
   step_unleveled : (ms : WrittenTrees) → Below ms → (n : Name) (p : ℕ) (b c : Option ℕ) → In (reference n b) declared →
       M.previous n b ≡ Some c → slice_get (clauses M (reference n b)) p ≡ Some (clause level_step (only (reference n c))) →
       AreTreesOf L ms (leveled_symbols l (only (reference n c))) →
-      Steps M l (reference n b) (first (unleveled_each origin ms)) (node (level_reference l n b) p ms)
+      Steps M l (reference n b) (first_tree (unleveled_each origin ms)) (node (level_reference l n b) p ms)
   step_unleveled no_trees a n p b c r e at h = absurd h
   step_unleveled (tree_and m no_trees) a n p b c r e at h =
       below_level n p b c (unleveled_tree origin m) m e at

@@ -4,10 +4,10 @@ use Rattle.std.specs.Prelude.{slice_get, Some, bytes_eq, true}
 use Rattle.std.proofs.lemmas.Bool.{cases_Bool}
 use Rattle.lalrpop_norm_theory.specs.Symbols.{Name, ClosedSymbol, ClosedSymbols, terminal, error, reference, call, group, star, plus, question, wrapped, lookahead, lookbehind, no_symbols, symbol_and}
 use Rattle.lalrpop_norm_theory.specs.Meaning.{Meaning}
-use Rattle.lalrpop_norm_theory.specs.Clauses.{Clause, clauses, production_of, IsNonterminal}
+use Rattle.lalrpop_norm_theory.specs.Clauses.{Clause, clauses, clause_production, IsNonterminal}
 use Rattle.lalrpop_norm_theory.specs.Rounds.{In, IsDistinct}
 use Rattle.lalrpop_norm_theory.specs.Met.{meets, meets_all, clauses_meet, IsKnown, IsDeclaredIn, AreDeclaredIn}
-use Rattle.lalrpop_norm_theory.specs.Tables.{AllKnown, Realizes, OneRuleAName, Stands, table, rule_of}
+use Rattle.lalrpop_norm_theory.specs.Tables.{AllKnown, Realizes, OneRuleAName, Stands, table, rule_of_symbol}
 use Rattle.lalrpop_norm_theory.specs.Laws.{RulesRealize}
 use Rattle.lalrpop_norm_theory.proofs.RoundsLemmas.{in_left, in_right, in_cases}
 use Rattle.lalrpop_norm_theory.proofs.SameLemmas.{text_sound, text_same}
@@ -15,7 +15,7 @@ use Rattle.lalrpop_norm_theory.proofs.SameLemmas.{text_sound, text_same}
 -- the rule that stands under a symbol's name is the symbol's
 named_rule : (M : Meaning) (name : ClosedSymbol → Name) (gs : List ClosedSymbol) (g : ClosedSymbol) → In g gs →
     ((h : ClosedSymbol) → In h gs → name h ≡ name g → clauses M h ≡ clauses M g) →
-    table (map (rule_of M name) gs) (name g) ≡ map (production_of name) (clauses M g)
+    table (map (rule_of_symbol M name) gs) (name g) ≡ map (clause_production name) (clauses M g)
 named_rule M name [] g i d = absurd i
 named_rule M name (h ∷ gs) g i d = elim (cases_Bool (bytes_eq (name h) (name g))) [
   | inl e ↦ (let same : clauses M h ≡ clauses M g = d h (inl refl) (text_sound (name h) (name g) e) in rw (e, same) refl)
@@ -102,7 +102,7 @@ module _ (M : Meaning) (name : ClosedSymbol → Name) (roots declared met : List
     | inr m ↦ (g, in_right g declared met m, refl, refl)
   ]
 
-  pub rules_realize_known : Realizes M name (table (map (rule_of M name) (declared ++ met))) (IsKnown (roots ++ declared) met)
+  pub rules_realize_known : Realizes M name (table (map (rule_of_symbol M name) (declared ++ met))) (IsKnown (roots ++ declared) met)
   rules_realize_known = record {
     productions = λ g n k.
         let (h, here, same, alike) = listed g n k in

@@ -3,11 +3,11 @@ use Rattle.std.proofs.Common.{◌≡◌, ℕ, zero, suc, List, [], ◌∷◌, re
 use Rattle.std.specs.Prelude.{Some, None}
 use Rattle.lalrpop_norm_theory.specs.Symbols.{Name, error_terminal, chosen, ClosedSymbol, ClosedSymbols, terminal, error, reference, call, group, star, plus, question, wrapped, no_symbols, symbol_and, only}
 use Rattle.lalrpop_norm_theory.specs.WrittenTrees.{WrittenTree, leaf, list, node, no_trees, tree_and, IsTreeOf, yield, alternatives}
-use Rattle.lalrpop_norm_theory.specs.LoweredTrees.{LoweredTree, lowered_leaf, lowered_node, no_lowered, lowered_and, LoweredGrammar, written, level_step, from_group, star_empty, star_some, plus_one, plus_more, question_some, question_empty, IsDerivation, nonterminal_symbol, lowered_yield, written_origins}
+use Rattle.lalrpop_norm_theory.specs.LoweredTrees.{LoweredTree, lowered_leaf, lowered_node, no_lowered, lowered_and, ProductionTable, written, level_step, from_group, star_empty, star_some, plus_one, plus_more, question_some, question_empty, IsDerivation, nonterminal_symbol, lowered_yield, written_origins}
 use Rattle.lalrpop_norm_theory.specs.Clauses.{Clause, clause, clauses}
 use Rattle.lalrpop_norm_theory.specs.Pairs.{Pairs, terminal_pair, plus_one_pair, plus_more_pair}
 use Rattle.lalrpop_norm_theory.specs.Translations.{lowered_tree, written_tree}
-use Rattle.lalrpop_norm_theory.specs.Tables.{table, rule_of}
+use Rattle.lalrpop_norm_theory.specs.Tables.{table, rule_of_symbol}
 use Rattle.lalrpop_norm_theory.proofs.ExampleGrammar.{none_some, expression, pick, number, sign, within, sum_parts, grammar}
 
 -- E 0 over n, and E 1 over (E 0 over n; +; E 0 over n)
@@ -156,8 +156,8 @@ lowered_sum = lowered_node expression 0 (lowered_and stepped_number (lowered_and
 sum_lowered : lowered_tree grammar name one_sum (reference expression None) ≡ lowered_sum
 sum_lowered = refl
 
-abbrev lowered_grammar : LoweredGrammar
-lowered_grammar = table (rule_of grammar name (within 2) ∷ rule_of grammar name (within 1) ∷ [])
+abbrev lowered_grammar : ProductionTable
+lowered_grammar = table (rule_of_symbol grammar name (within 2) ∷ rule_of_symbol grammar name (within 1) ∷ [])
 
 sum_is_derivation : IsDerivation lowered_grammar lowered_sum (nonterminal_symbol expression)
 sum_is_derivation =

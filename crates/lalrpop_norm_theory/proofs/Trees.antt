@@ -3,7 +3,7 @@ use Rattle.std.proofs.Common.{◌≡◌, List, sym, ◌∙◌}
 use Rattle.lalrpop_norm_theory.specs.Symbols.{Name, Terminal, ClosedSymbol}
 use Rattle.lalrpop_norm_theory.specs.Meaning.{Meaning, HasCounts, HasLevels}
 use Rattle.lalrpop_norm_theory.specs.WrittenTrees.{WrittenTree, IsTreeOf, yield}
-use Rattle.lalrpop_norm_theory.specs.LoweredTrees.{LoweredTree, LoweredGrammar, IsDerivation, lowered_yield}
+use Rattle.lalrpop_norm_theory.specs.LoweredTrees.{LoweredTree, ProductionTable, IsDerivation, lowered_yield}
 use Rattle.lalrpop_norm_theory.specs.Clauses.{symbol_of}
 use Rattle.lalrpop_norm_theory.specs.Translations.{lowered_tree, written_tree}
 use Rattle.lalrpop_norm_theory.specs.Tables.{Realizes}
@@ -12,7 +12,7 @@ use Rattle.lalrpop_norm_theory.proofs.PairSides.{tree_of, derivation_of}
 use Rattle.lalrpop_norm_theory.proofs.PairTranslations.{written_back, lowered_to, same_yield, same_alternatives}
 use Rattle.lalrpop_norm_theory.proofs.PairTotal.{pairs_lowered, pairs_written}
 
-module _ (M : Meaning) (C : HasCounts M) (V : HasLevels M) (name : ClosedSymbol → Name) (P : LoweredGrammar)
+module _ (M : Meaning) (C : HasCounts M) (V : HasLevels M) (name : ClosedSymbol → Name) (P : ProductionTable)
     (Known : ClosedSymbol → Type 0) (R : Realizes M name P Known) (g : ClosedSymbol) (k : Known g) where
   pub one_to_one : OneToOne M name P g
   one_to_one = record {

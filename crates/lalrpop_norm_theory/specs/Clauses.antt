@@ -59,8 +59,8 @@ symbols_of name no_symbols = []
 symbols_of name (symbol_and g gs) = symbol_of name g ∷ symbols_of name gs
 
 -- a clause as a production
-abbrev pub production_of : (ClosedSymbol → Name) → Clause → Production
-production_of name c = record { origin = c.origin; symbols = symbols_of name c.parts }
+abbrev pub clause_production : (ClosedSymbol → Name) → Clause → Production
+clause_production name c = record { origin = c.origin; symbols = symbols_of name c.parts }
 
 -- the closed symbols that have a rule
 abbrev pub IsNonterminal : ClosedSymbol → Type 0

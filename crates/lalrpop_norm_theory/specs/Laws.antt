@@ -3,14 +3,14 @@ use Rattle.std.specs.Prelude.{◌≡◌, ◌↔◌, ◌<◌, ℕ, suc, List, [],
 use Rattle.lalrpop_norm_theory.specs.Symbols.{Name, Terminal, ClosedSymbol}
 use Rattle.lalrpop_norm_theory.specs.Meaning.{Meaning, HasCounts, HasLevels}
 use Rattle.lalrpop_norm_theory.specs.WrittenTrees.{WrittenTree, IsTreeOf, yield, alternatives}
-use Rattle.lalrpop_norm_theory.specs.LoweredTrees.{LoweredTree, LoweredGrammar, Origin, IsDerivation, lowered_yield, written_origins}
+use Rattle.lalrpop_norm_theory.specs.LoweredTrees.{LoweredTree, ProductionTable, Origin, IsDerivation, lowered_yield, written_origins}
 use Rattle.lalrpop_norm_theory.specs.Clauses.{symbol_of}
 use Rattle.lalrpop_norm_theory.specs.Pairs.{Pairs}
 use Rattle.lalrpop_norm_theory.specs.Translations.{lowered_tree, written_tree}
 use Rattle.lalrpop_norm_theory.specs.Rounds.{In, Chain, NewIn, IsInOrderOf, IsDistinct, IsTest}
 use Rattle.lalrpop_norm_theory.specs.Same.{same_symbol}
-use Rattle.lalrpop_norm_theory.specs.Met.{meets, rule_meets, expansion, expanded_symbols, IsExpanded, IsKnown, IsResolvedIn, IsResolved}
-use Rattle.lalrpop_norm_theory.specs.Tables.{Realizes, OneRuleAName, SharesRule, Stands, table, rule_of}
+use Rattle.lalrpop_norm_theory.specs.Met.{meets, rule_meets, expansion, expanded_symbols, BecomesRule, IsKnown, IsResolvedIn, IsResolved}
+use Rattle.lalrpop_norm_theory.specs.Tables.{Realizes, OneRuleAName, SharesRule, Stands, table, rule_of_symbol}
 use Rattle.lalrpop_norm_theory.specs.Leveled.{leveled_symbol, IsLeveled, recomposed}
 use Rattle.lalrpop_norm_theory.specs.Steps.{Steps, written_alternatives}
 
@@ -19,7 +19,7 @@ abbrev pub ExactlyOne : {A : Type 0} → (A → Type 0) → Type 0
 ExactlyOne {A} P = (x : A) × P x × ((y : A) → P y → y ≡ x)
 
 -- the written trees of g and the derivation trees of its symbol stand one to one, with the same words and alternatives
-pub record OneToOne (M : Meaning) (name : ClosedSymbol → Name) (P : LoweredGrammar) (g : ClosedSymbol) : Type 0 where
+pub record OneToOne (M : Meaning) (name : ClosedSymbol → Name) (P : ProductionTable) (g : ClosedSymbol) : Type 0 where
   pub down : (t : WrittenTree) → IsTreeOf M t g → ExactlyOne (λ u. IsDerivation P u (symbol_of name g) × Pairs M name g t u)
   pub up : (u : LoweredTree) → IsDerivation P u (symbol_of name g) → ExactlyOne (λ t. IsTreeOf M t g × Pairs M name g t u)
   pub same_yields : (t : WrittenTree) (u : LoweredTree) → Pairs M name g t u → yield t ≡ lowered_yield u
@@ -28,18 +28,18 @@ pub record OneToOne (M : Meaning) (name : ClosedSymbol → Name) (P : LoweredGra
 -- In a lowered grammar that realizes the known symbols, the trees of each known symbol are one to one.
 abbrev pub TreesAreOneToOne : Type 0
 TreesAreOneToOne = (M : Meaning) → HasCounts M → HasLevels M →
-    (name : ClosedSymbol → Name) (P : LoweredGrammar) (declared met : List ClosedSymbol) → Realizes M name P (IsKnown declared met) →
+    (name : ClosedSymbol → Name) (P : ProductionTable) (declared met : List ClosedSymbol) → Realizes M name P (IsKnown declared met) →
     (g : ClosedSymbol) → IsKnown declared met g → OneToOne M name P g
 
 -- A word has a written tree exactly where it has a lowered one.
 abbrev pub WordsAreTheSame : Type 0
 WordsAreTheSame = (M : Meaning) → HasCounts M → HasLevels M →
-    (name : ClosedSymbol → Name) (P : LoweredGrammar) (declared met : List ClosedSymbol) → Realizes M name P (IsKnown declared met) →
+    (name : ClosedSymbol → Name) (P : ProductionTable) (declared met : List ClosedSymbol) → Realizes M name P (IsKnown declared met) →
     (g : ClosedSymbol) → IsKnown declared met g → (w : List Terminal) →
     ((t : WrittenTree) × IsTreeOf M t g × (yield t ≡ w)) ↔ ((u : LoweredTree) × IsDerivation P u (symbol_of name g) × (lowered_yield u ≡ w))
 
 -- the translations answer trees that pair with their arguments, and each undoes the other
-pub record TranslationsFit (M : Meaning) (name : ClosedSymbol → Name) (P : LoweredGrammar) (g : ClosedSymbol) : Type 0 where
+pub record TranslationsFit (M : Meaning) (name : ClosedSymbol → Name) (P : ProductionTable) (g : ClosedSymbol) : Type 0 where
   pub forward : (t : WrittenTree) → IsTreeOf M t g →
       IsDerivation P (lowered_tree M name t g) (symbol_of name g) × Pairs M name g t (lowered_tree M name t g)
   pub back : (u : LoweredTree) → IsDerivation P u (symbol_of name g) →
@@ -52,13 +52,13 @@ pub record TranslationsFit (M : Meaning) (name : ClosedSymbol → Name) (P : Low
 -- In a lowered grammar that realizes the known symbols, the translations of each known symbol fit.
 abbrev pub TranslationsAreInverse : Type 0
 TranslationsAreInverse = (M : Meaning) → HasCounts M → HasLevels M →
-    (name : ClosedSymbol → Name) (P : LoweredGrammar) (declared met : List ClosedSymbol) → Realizes M name P (IsKnown declared met) →
+    (name : ClosedSymbol → Name) (P : ProductionTable) (declared met : List ClosedSymbol) → Realizes M name P (IsKnown declared met) →
     (g : ClosedSymbol) → IsKnown declared met g → TranslationsFit M name P g
 
 -- The list of rules of an expansion that stands is a lowered grammar that realizes its symbols, and the roots.
 abbrev pub RulesRealize : Type 0
 RulesRealize = (M : Meaning) (name : ClosedSymbol → Name) (roots declared met : List ClosedSymbol) → Stands M name roots declared met →
-    Realizes M name (table (map (rule_of M name) (declared ++ met))) (IsKnown (roots ++ declared) met)
+    Realizes M name (table (map (rule_of_symbol M name) (declared ++ met))) (IsKnown (roots ++ declared) met)
 
 -- the written trees of g and the trees of the grammar with levels stand one to one, with the same words and alternatives
 pub record StepsAreOneToOne (M L : Meaning) (l : Name → ℕ → Name) (origin : Name → ℕ → Origin) (g : ClosedSymbol) : Type 0 where
@@ -73,7 +73,7 @@ level_named l name g = name (leveled_symbol l g)
 
 -- The pairing made of two steps: written trees within bounds against trees of the grammar with levels L; then these against
 -- the trees of the grammar P lowered from L. The whole is the pairing itself, in P with its origins in the written grammar.
-pub record PairsInTwoSteps (M L : Meaning) (l : Name → ℕ → Name) (origin : Name → ℕ → Origin) (name : ClosedSymbol → Name) (P : LoweredGrammar) (g : ClosedSymbol) : Type 0 where
+pub record PairsInTwoSteps (M L : Meaning) (l : Name → ℕ → Name) (origin : Name → ℕ → Origin) (name : ClosedSymbol → Name) (P : ProductionTable) (g : ClosedSymbol) : Type 0 where
   pub first : StepsAreOneToOne M L l origin g
   pub second : OneToOne L name P (leveled_symbol l g)
   pub whole : OneToOne M (level_named l name) (recomposed origin P) g
@@ -86,7 +86,7 @@ pub record PairsInTwoSteps (M L : Meaning) (l : Name → ℕ → Name) (origin :
 abbrev pub LevelsAreTwoSteps : Type 0
 LevelsAreTwoSteps = (M L : Meaning) (l : Name → ℕ → Name) (origin : Name → ℕ → Origin) (references : List ClosedSymbol) →
     IsResolved M references → IsLeveled M L l origin references → HasCounts M → HasLevels M → HasCounts L → HasLevels L →
-    (name : ClosedSymbol → Name) (P : LoweredGrammar) (declared met : List ClosedSymbol) → Realizes L name P (IsKnown declared met) →
+    (name : ClosedSymbol → Name) (P : ProductionTable) (declared met : List ClosedSymbol) → Realizes L name P (IsKnown declared met) →
     (g : ClosedSymbol) → IsResolvedIn references g → IsKnown declared met (leveled_symbol l g) → PairsInTwoSteps M L l origin name P g
 
 -- What is new in round k + 1 is what has a chain of k + 1 rules and no shorter one.
@@ -120,7 +120,7 @@ pub record IsWhole (M : Meaning) (declared met : List ClosedSymbol) : Type 0 whe
   -- what a rule meets is met
   pub done : (g h : ClosedSymbol) → In g (declared ++ met) → In h (rule_meets M g) → In h met
   -- only what an expansion makes a rule of is met
-  pub expanded : (g : ClosedSymbol) → In g met → IsExpanded g
+  pub expanded : (g : ClosedSymbol) → In g met → BecomesRule g
   -- all that is met was met by a chain
   pub reached : (g : ClosedSymbol) → In g met → (k : ℕ) × Chain (rule_meets M) (flat_map (rule_meets M) declared) k g
 
@@ -147,7 +147,7 @@ ExpansionsAreOneToOne = (M : Meaning) → HasCounts M → HasLevels M → (decla
     (name : ClosedSymbol → Name) → OneRuleAName M name (declared ++ expanded_symbols M declared k) →
     (roots : List ClosedSymbol) → ((g : ClosedSymbol) → In g roots → SharesRule M name declared g) →
     (g : ClosedSymbol) → IsKnown (roots ++ declared) (expanded_symbols M declared k) g →
-    OneToOne M name (table (map (rule_of M name) (declared ++ expanded_symbols M declared k))) g
+    OneToOne M name (table (map (rule_of_symbol M name) (declared ++ expanded_symbols M declared k))) g
 
 -- Two closed symbols pass the test of sameness exactly where they are equal.
 abbrev pub SameIsEqual : Type 0

@@ -2,7 +2,7 @@
 use Rattle.std.specs.Prelude.{◌≡◌, ℕ, List, map, slice_get, Option, Some, None, option_map}
 use Rattle.lalrpop_norm_theory.specs.Symbols.{Name, ClosedSymbol, ClosedSymbols, terminal, error, reference, call, group, star, plus, question, wrapped, lookahead, lookbehind, no_symbols, symbol_and}
 use Rattle.lalrpop_norm_theory.specs.Meaning.{Meaning}
-use Rattle.lalrpop_norm_theory.specs.LoweredTrees.{Origin, Production, LoweredGrammar, written}
+use Rattle.lalrpop_norm_theory.specs.LoweredTrees.{Origin, Production, ProductionTable, written}
 use Rattle.lalrpop_norm_theory.specs.Clauses.{Clause, clauses}
 use Rattle.lalrpop_norm_theory.specs.Rounds.{In}
 
@@ -54,5 +54,5 @@ abbrev pub recomposed_production : (Name → ℕ → Origin) → Production → 
 recomposed_production origin q = record { origin = composed origin q.origin; symbols = q.symbols }
 
 -- the same productions, each with its origin in the written grammar
-abbrev pub recomposed : (Name → ℕ → Origin) → LoweredGrammar → LoweredGrammar
+abbrev pub recomposed : (Name → ℕ → Origin) → ProductionTable → ProductionTable
 recomposed origin P n = map (recomposed_production origin) (P n)

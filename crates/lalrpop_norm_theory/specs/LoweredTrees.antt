@@ -22,8 +22,8 @@ pub record Production : Type 0 where
   pub symbols : List LoweredSymbol
 
 -- a lowered grammar: the productions of each name, in order
-abbrev pub LoweredGrammar : Type 0
-LoweredGrammar = Name → List Production
+abbrev pub ProductionTable : Type 0
+ProductionTable = Name → List Production
 
 -- a leaf, or a node: a nonterminal, the place of one of its productions, and its children
 mutual
@@ -37,12 +37,12 @@ mutual
 
 -- the derivation trees of a symbol: at each node the production stands, and each child is a tree of its symbol
 abbrev mutual
-  pub IsDerivation : LoweredGrammar → LoweredTree → LoweredSymbol → Type 0
+  pub IsDerivation : ProductionTable → LoweredTree → LoweredSymbol → Type 0
   IsDerivation P (lowered_leaf a) s = s ≡ terminal_symbol a
   IsDerivation P (lowered_node n p us) s =
       (s ≡ nonterminal_symbol n) × (q : Production) × (slice_get (P n) p ≡ Some q) × AreDerivations P us q.symbols
 
-  pub AreDerivations : LoweredGrammar → LoweredTrees → List LoweredSymbol → Type 0
+  pub AreDerivations : ProductionTable → LoweredTrees → List LoweredSymbol → Type 0
   AreDerivations P no_lowered [] = Unit {0}
   AreDerivations P no_lowered (s ∷ ss) = ⊥
   AreDerivations P (lowered_and u us) [] = ⊥
@@ -70,10 +70,10 @@ written_at (Some q) = written_of q.origin
 
 -- the origins of a tree's productions that are written alternatives, a node before its children
 abbrev mutual
-  pub written_origins : LoweredGrammar → LoweredTree → List (Name × ℕ)
+  pub written_origins : ProductionTable → LoweredTree → List (Name × ℕ)
   written_origins P (lowered_leaf a) = []
   written_origins P (lowered_node n p us) = written_at (slice_get (P n) p) ++ written_origins_of P us
 
-  pub written_origins_of : LoweredGrammar → LoweredTrees → List (Name × ℕ)
+  pub written_origins_of : ProductionTable → LoweredTrees → List (Name × ℕ)
   written_origins_of P no_lowered = []
   written_origins_of P (lowered_and u us) = written_origins P u ++ written_origins_of P us

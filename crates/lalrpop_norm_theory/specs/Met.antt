@@ -43,12 +43,12 @@ abbrev pub expanded_symbols : Meaning → List ClosedSymbol → ℕ → List Clo
 expanded_symbols M declared count = all_rules_made same_symbol (rule_meets M) (flat_map (rule_meets M) declared) count
 
 -- a symbol that an expansion makes a rule of
-abbrev pub IsExpanded : ClosedSymbol → Type 0
-IsExpanded (terminal a) = ⊥
-IsExpanded error = ⊥
-IsExpanded (reference n b) = ⊥
-IsExpanded (wrapped w g) = ⊥
-IsExpanded _ = Unit {0}
+abbrev pub BecomesRule : ClosedSymbol → Type 0
+BecomesRule (terminal a) = ⊥
+BecomesRule error = ⊥
+BecomesRule (reference n b) = ⊥
+BecomesRule (wrapped w g) = ⊥
+BecomesRule _ = Unit {0}
 
 -- A symbol is known, wrappers aside: a terminal, a declared reference, or met.
 abbrev pub IsKnown : List ClosedSymbol → List ClosedSymbol → ClosedSymbol → Type 0

@@ -1,14 +1,14 @@
 -- The test whether two closed symbols are the same, by cases on their shape.
 use Rattle.std.specs.Prelude.{ℕ, Bool, true, false, not, nat_eq, bytes_eq, ◌&&◌, Option, Some, None}
-use Rattle.lalrpop_norm_theory.specs.Symbols.{Terminal, quoted, regex, bare, error_terminal, ArgumentPattern, ArgumentPatterns, name_pattern, tuple_pattern, no_patterns, pattern_and, Wrapper, chosen, named, tuple, ClosedSymbol, ClosedSymbols, terminal, error, reference, call, group, star, plus, question, wrapped, lookahead, lookbehind, no_symbols, symbol_and}
+use Rattle.lalrpop_norm_theory.specs.Symbols.{Terminal, quoted, regex, bare, error_terminal, ClosedPattern, ClosedPatterns, name_pattern, tuple_pattern, no_patterns, pattern_and, Wrapper, chosen, named, tuple, ClosedSymbol, ClosedSymbols, terminal, error, reference, call, group, star, plus, question, wrapped, lookahead, lookbehind, no_symbols, symbol_and}
 
 -- the same kind, and the same text
-abbrev pub same_terminal : Terminal → Terminal → Bool
-same_terminal (quoted a) (quoted b) = bytes_eq a b
-same_terminal (regex a) (regex b) = bytes_eq a b
-same_terminal (bare a) (bare b) = bytes_eq a b
-same_terminal error_terminal error_terminal = true
-same_terminal _ _ = false
+abbrev pub same_closed_terminal : Terminal → Terminal → Bool
+same_closed_terminal (quoted a) (quoted b) = bytes_eq a b
+same_closed_terminal (regex a) (regex b) = bytes_eq a b
+same_closed_terminal (bare a) (bare b) = bytes_eq a b
+same_closed_terminal error_terminal error_terminal = true
+same_closed_terminal _ _ = false
 
 -- both true or both false
 abbrev pub same_flag : Bool → Bool → Bool
@@ -23,12 +23,12 @@ same_bound _ _ = false
 
 -- the same names, nested alike
 abbrev mutual
-  pub same_pattern : ArgumentPattern → ArgumentPattern → Bool
+  pub same_pattern : ClosedPattern → ClosedPattern → Bool
   same_pattern (name_pattern m a) (name_pattern n b) = same_flag m n && bytes_eq a b
   same_pattern (tuple_pattern p) (tuple_pattern q) = same_patterns p q
   same_pattern _ _ = false
 
-  pub same_patterns : ArgumentPatterns → ArgumentPatterns → Bool
+  pub same_patterns : ClosedPatterns → ClosedPatterns → Bool
   same_patterns no_patterns no_patterns = true
   same_patterns (pattern_and p ps) (pattern_and q qs) = same_pattern p q && same_patterns ps qs
   same_patterns _ _ = false
@@ -43,7 +43,7 @@ same_wrapper _ _ = false
 -- the same shape, and the same parts
 abbrev mutual
   pub same_symbol : ClosedSymbol → ClosedSymbol → Bool
-  same_symbol (terminal a) (terminal b) = same_terminal a b
+  same_symbol (terminal a) (terminal b) = same_closed_terminal a b
   same_symbol error error = true
   same_symbol (reference n b) (reference m c) = bytes_eq n m && same_bound b c
   same_symbol (call n x) (call m y) = bytes_eq n m && same_symbols x y

@@ -5,7 +5,7 @@ use Rattle.lalrpop_norm_theory.specs.Meaning.{Meaning}
 use Rattle.lalrpop_norm_theory.specs.WrittenTrees.{WrittenTree, WrittenTrees, leaf, nothing, list, node, no_trees, tree_and, IsNonempty, IsAtMostOne}
 use Rattle.lalrpop_norm_theory.specs.LoweredTrees.{Origin, written, level_step, written_of}
 use Rattle.lalrpop_norm_theory.specs.Clauses.{clause, clauses, own_clauses}
-use Rattle.lalrpop_norm_theory.specs.Translations.{made_by, place}
+use Rattle.lalrpop_norm_theory.specs.Translations.{made_by, lowered_place}
 use Rattle.lalrpop_norm_theory.specs.Leveled.{level_reference}
 
 -- Steps M l g t m: the written tree t of g and the tree m of the grammar with levels are one. A node of a rule has the
@@ -69,7 +69,7 @@ abbrev mutual
 -- forward: the node of alternative k of the rule n, below the steps from the bound b to its level, `depth` of them at most
 abbrev pub own_level : Meaning → (Name → ℕ → Name) → Name → ℕ → (ClosedSymbols → WrittenTrees) → Option ℕ → Option ClosedSymbols → WrittenTree → WrittenTree
 own_level M l n k children b None below = below
-own_level M l n k children b (Some parts) below = node (level_reference l n b) (place (M.own_parts n b) 0 k) (children parts)
+own_level M l n k children b (Some parts) below = node (level_reference l n b) (lowered_place (M.own_parts n b) 0 k) (children parts)
 
 -- a step to the level below, if there is one
 abbrev pub step_level : Meaning → (Name → ℕ → Name) → Name → Option ℕ → Option (Option ℕ) → (Option ℕ → WrittenTree) → WrittenTree
@@ -77,11 +77,11 @@ step_level M l n b None below = nothing
 step_level M l n b (Some c) below = node (level_reference l n b) (length (own_clauses M n b)) (tree_and (below c) no_trees)
 
 -- own alternatives first, else a step, as often as there are levels
-abbrev pub leveled_rule : Meaning → (Name → ℕ → Name) → Name → ℕ → (ClosedSymbols → WrittenTrees) → ℕ → Option ℕ → WrittenTree
-leveled_rule M l n k children zero b = own_level M l n k children b (M.own_parts n b k) nothing
-leveled_rule M l n k children (suc depth) b =
+abbrev pub tree_through_levels : Meaning → (Name → ℕ → Name) → Name → ℕ → (ClosedSymbols → WrittenTrees) → ℕ → Option ℕ → WrittenTree
+tree_through_levels M l n k children zero b = own_level M l n k children b (M.own_parts n b k) nothing
+tree_through_levels M l n k children (suc depth) b =
     own_level M l n k children b (M.own_parts n b k)
-    (step_level M l n b (M.previous n b) (λ c. leveled_rule M l n k children depth c))
+    (step_level M l n b (M.previous n b) (λ c. tree_through_levels M l n k children depth c))
 
 -- the tree in the grammar with levels of a written tree of a closed symbol
 abbrev mutual
@@ -91,7 +91,7 @@ abbrev mutual
   leveled_tree M l (list ts) (star x) = list (leveled_each M l ts x)
   leveled_tree M l (list ts) (plus x) = list (leveled_each M l ts x)
   leveled_tree M l (list ts) (question x) = list (leveled_each M l ts x)
-  leveled_tree M l (node n k ts) (reference m b) = leveled_rule M l m k (λ gs. leveled_all M l ts gs) (M.depth m b) b
+  leveled_tree M l (node n k ts) (reference m b) = tree_through_levels M l m k (λ gs. leveled_all M l ts gs) (M.depth m b) b
   leveled_tree M l (node n k ts) (call m args) = node m k (leveled_all M l ts (unwrap_or (M.call_parts m args k) no_symbols))
   leveled_tree M l t _ = t
 

@@ -13,19 +13,19 @@ pub data Terminal : Type 0 where
 
 -- a pattern of a tuple symbol: a name, with whether it is `mut`, or a tuple of patterns
 mutual
-  pub data ArgumentPattern : Type 0 where
-    name_pattern : Bool → Name → ArgumentPattern
-    tuple_pattern : ArgumentPatterns → ArgumentPattern
+  pub data ClosedPattern : Type 0 where
+    name_pattern : Bool → Name → ClosedPattern
+    tuple_pattern : ClosedPatterns → ClosedPattern
 
-  pub data ArgumentPatterns : Type 0 where
-    no_patterns : ArgumentPatterns
-    pattern_and : ArgumentPattern → ArgumentPatterns → ArgumentPatterns
+  pub data ClosedPatterns : Type 0 where
+    no_patterns : ClosedPatterns
+    pattern_and : ClosedPattern → ClosedPatterns → ClosedPatterns
 
 -- what stands around a symbol and adds nothing to its trees: `<X>`, `<x:X>` or `<mut x:X>`, `<(x, y):X>`
 pub data Wrapper : Type 0 where
   chosen : Wrapper
   named : Bool → Name → Wrapper
-  tuple : ArgumentPatterns → Wrapper
+  tuple : ClosedPatterns → Wrapper
 
 -- A closed symbol. A reference names a nonterminal and has, as its bound, a level's number. One without a bound is that
 -- of a rule without levels, or of a rule taken by itself. `!` is a symbol of its own, and no terminal.

@@ -2,8 +2,8 @@
 use Rattle.std.specs.Prelude.{◌≡◌, ℕ, List, [], ◌∷◌, ◌++◌, map, bytes_eq, if◌then◌else◌, slice_get, Some}
 use Rattle.lalrpop_norm_theory.specs.Symbols.{Name, Wrapper, ClosedSymbol, ClosedSymbols, wrapped, no_symbols, symbol_and}
 use Rattle.lalrpop_norm_theory.specs.Meaning.{Meaning}
-use Rattle.lalrpop_norm_theory.specs.LoweredTrees.{LoweredGrammar, Production}
-use Rattle.lalrpop_norm_theory.specs.Clauses.{Clause, clauses, production_of, IsNonterminal}
+use Rattle.lalrpop_norm_theory.specs.LoweredTrees.{ProductionTable, Production}
+use Rattle.lalrpop_norm_theory.specs.Clauses.{Clause, clauses, clause_production, IsNonterminal}
 use Rattle.lalrpop_norm_theory.specs.Rounds.{In}
 use Rattle.lalrpop_norm_theory.specs.Met.{rule_meets, AreDeclaredIn}
 
@@ -14,8 +14,8 @@ AllKnown Known (symbol_and g gs) = Known g × AllKnown Known gs
 
 -- P has, under the name of each known symbol, the productions of its clauses; and what a known symbol's rule is made of is
 -- known.
-pub record Realizes (M : Meaning) (name : ClosedSymbol → Name) (P : LoweredGrammar) (Known : ClosedSymbol → Type 0) : Type 0 where
-  pub productions : (g : ClosedSymbol) → IsNonterminal g → Known g → P (name g) ≡ map (production_of name) (clauses M g)
+pub record Realizes (M : Meaning) (name : ClosedSymbol → Name) (P : ProductionTable) (Known : ClosedSymbol → Type 0) : Type 0 where
+  pub productions : (g : ClosedSymbol) → IsNonterminal g → Known g → P (name g) ≡ map (clause_production name) (clauses M g)
   pub inner : (w : Wrapper) (g : ClosedSymbol) → Known (wrapped w g) → Known g
   pub parts_known : (g : ClosedSymbol) (p : ℕ) (c : Clause) → Known g → slice_get (clauses M g) p ≡ Some c → AllKnown Known c.parts
 
@@ -25,13 +25,13 @@ pub record Rule : Type 0 where
   pub productions : List Production
 
 -- a list of rules as a lowered grammar: a name has the productions of the first rule of that name
-abbrev pub table : List Rule → LoweredGrammar
+abbrev pub table : List Rule → ProductionTable
 table [] n = []
 table (r ∷ rs) n = if bytes_eq r.name n then r.productions else table rs n
 
 -- the rule of a closed symbol under its name
-abbrev pub rule_of : Meaning → (ClosedSymbol → Name) → ClosedSymbol → Rule
-rule_of M name g = record { name = name g; productions = map (production_of name) (clauses M g) }
+abbrev pub rule_of_symbol : Meaning → (ClosedSymbol → Name) → ClosedSymbol → Rule
+rule_of_symbol M name g = record { name = name g; productions = map (clause_production name) (clauses M g) }
 
 -- each name means one rule: two symbols share a name only where they have the same clauses
 abbrev pub OneRuleAName : Meaning → (ClosedSymbol → Name) → List ClosedSymbol → Type 0

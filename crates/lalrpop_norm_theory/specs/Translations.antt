@@ -3,18 +3,18 @@ use Rattle.std.specs.Prelude.{ℕ, zero, suc, slice_get, Option, Some, None, unw
 use Rattle.lalrpop_norm_theory.specs.Symbols.{Name, error_terminal, ClosedSymbol, ClosedSymbols, terminal, error, reference, call, group, star, plus, question, wrapped, lookahead, lookbehind, no_symbols, symbol_and}
 use Rattle.lalrpop_norm_theory.specs.Meaning.{Meaning}
 use Rattle.lalrpop_norm_theory.specs.WrittenTrees.{WrittenTree, WrittenTrees, leaf, nothing, list, node, no_trees, tree_and, append}
-use Rattle.lalrpop_norm_theory.specs.LoweredTrees.{LoweredTree, LoweredTrees, lowered_leaf, lowered_node, no_lowered, lowered_and, LoweredGrammar, Production, Origin, from_start, written, level_step, from_group, star_empty, star_some, plus_one, plus_more, question_some, question_empty, from_lookahead, from_lookbehind}
+use Rattle.lalrpop_norm_theory.specs.LoweredTrees.{LoweredTree, LoweredTrees, lowered_leaf, lowered_node, no_lowered, lowered_and, ProductionTable, Production, Origin, from_start, written, level_step, from_group, star_empty, star_some, plus_one, plus_more, question_some, question_empty, from_lookahead, from_lookbehind}
 use Rattle.lalrpop_norm_theory.specs.Clauses.{own_clauses}
 
 -- the first of a list of trees
-abbrev pub first : WrittenTrees → WrittenTree
-first no_trees = nothing
-first (tree_and t ts) = t
+abbrev pub first_tree : WrittenTrees → WrittenTree
+first_tree no_trees = nothing
+first_tree (tree_and t ts) = t
 
 -- the second of a list of trees
 abbrev pub second : WrittenTrees → WrittenTree
 second no_trees = nothing
-second (tree_and t ts) = first ts
+second (tree_and t ts) = first_tree ts
 
 -- the elements of a list
 abbrev pub elements : WrittenTree → WrittenTrees
@@ -24,14 +24,14 @@ elements _ = no_trees
 -- what an origin makes of the children's trees: a start symbol and a step stand for their child, `plus_more` puts its second
 -- child at the end of its first one's list
 abbrev pub made_by : Origin → WrittenTrees → WrittenTree
-made_by from_start ts = first ts
+made_by from_start ts = first_tree ts
 made_by (written n k) ts = node n k ts
-made_by level_step ts = first ts
+made_by level_step ts = first_tree ts
 made_by from_group ts = list ts
 made_by star_empty ts = list no_trees
-made_by star_some ts = first ts
+made_by star_some ts = first_tree ts
 made_by plus_one ts = list ts
-made_by plus_more ts = list (append (elements (first ts)) (tree_and (second ts) no_trees))
+made_by plus_more ts = list (append (elements (first_tree ts)) (tree_and (second ts) no_trees))
 made_by question_some ts = list ts
 made_by question_empty ts = list no_trees
 made_by from_lookahead ts = nothing
@@ -44,11 +44,11 @@ made_at (Some q) ts = made_by q.origin ts
 
 -- the written tree that the origins make of a lowered tree
 abbrev mutual
-  pub written_tree : LoweredGrammar → LoweredTree → WrittenTree
+  pub written_tree : ProductionTable → LoweredTree → WrittenTree
   written_tree P (lowered_leaf a) = leaf a
   written_tree P (lowered_node n p us) = made_at (slice_get (P n) p) (written_each P us)
 
-  pub written_each : LoweredGrammar → LoweredTrees → WrittenTrees
+  pub written_each : ProductionTable → LoweredTrees → WrittenTrees
   written_each P no_lowered = no_trees
   written_each P (lowered_and u us) = tree_and (written_tree P u) (written_each P us)
 
@@ -58,15 +58,15 @@ counted None rest = rest
 counted (Some parts) rest = suc rest
 
 -- how many of the numbers from k on, `number` of them, have parts: the place of the clause of alternative k + number
-abbrev pub place : (ℕ → Option ClosedSymbols) → ℕ → ℕ → ℕ
-place f k zero = 0
-place f k (suc number) = counted (f k) (place f (suc k) number)
+abbrev pub lowered_place : (ℕ → Option ClosedSymbols) → ℕ → ℕ → ℕ
+lowered_place f k zero = 0
+lowered_place f k (suc number) = counted (f k) (lowered_place f (suc k) number)
 
 -- The node of alternative k of the rule n, below the steps from the bound b to its level, `depth` of them at most.
 abbrev pub own_node : Meaning → (ClosedSymbol → Name) → Name → ℕ → (ClosedSymbols → LoweredTrees) → Option ℕ → Option ClosedSymbols → LoweredTree → LoweredTree
 own_node M name n k children b None below = below
 own_node M name n k children b (Some parts) below =
-    lowered_node (name (reference n b)) (place (M.own_parts n b) 0 k) (children parts)
+    lowered_node (name (reference n b)) (lowered_place (M.own_parts n b) 0 k) (children parts)
 
 -- a step to the level below, if there is one
 abbrev pub step_node : Meaning → (ClosedSymbol → Name) → Name → Option ℕ → Option (Option ℕ) → (Option ℕ → LoweredTree) → LoweredTree
@@ -117,7 +117,7 @@ abbrev mutual
   lowered_tree M name (node n k ts) (reference m b) =
       lowered_rule M name m k (λ gs. lowered_all M name ts gs) (M.depth m b) b
   lowered_tree M name (node n k ts) (call m args) =
-      lowered_node (name (call m args)) (place (M.call_parts m args) 0 k)
+      lowered_node (name (call m args)) (lowered_place (M.call_parts m args) 0 k)
       (lowered_all M name ts (unwrap_or (M.call_parts m args k) no_symbols))
   lowered_tree M name _ _ = lowered_leaf error_terminal
 

@@ -4,7 +4,7 @@ use lalrpop_norm::normalize::cond_comp::cfg_active;
 use lalrpop_norm::normalize::norm_util::{
     AlternativeAction, Presence, Symbols, analyze_action, check_between_braces,
 };
-use lalrpop_norm_levels::precedence::{AlternativeLevel, Assoc, has_prec_attr, read_levels};
+use lalrpop_norm_precedence::precedence::{AlternativeLevel, Assoc, has_prec_attr, read_levels};
 use lalrpop_norm_print::symbols::{push_span, push_span_line, push_terminal};
 use lalrpop_norm_tree::grammar::parse_tree::{
     ActionKind, Alternative, ArgPattern, AssociatedType, Atom, Attribute, AttributeArg, Conversion,

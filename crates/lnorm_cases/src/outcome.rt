@@ -10,7 +10,7 @@ use lalrpop_norm_print::tables::{push_types, push_whole_types};
 use lalrpop_norm_print::trees::{push_tree, push_whole_tree};
 use lalrpop_norm_repr::grammar::repr::Types;
 use lalrpop_norm_tree::grammar::parse_tree::{Grammar, NoMemory};
-use lalrpop_norm_types::tyinfer::infer_types;
+use lalrpop_norm_tyinfer::tyinfer::infer_types;
 use lnorm_values::faults::push_told;
 use lnorm_values::lowered::push_lowered_copy;
 use lnorm_values::texts::push_texts;

@@ -11,7 +11,7 @@ use lalrpop_norm::normalize::prevalidate::validate;
 use lalrpop_norm::normalize::resolve::{check_globals, resolve};
 use lalrpop_norm::normalize::{NormResult, Session};
 use lalrpop_norm_expand::macro_expand::expand_macros;
-use lalrpop_norm_levels::precedence::expand_levels;
+use lalrpop_norm_precedence::precedence::expand_levels;
 use lalrpop_norm_tree::grammar::parse_tree::Grammar;
 use lnorm_values::later::with_later_parts;
 use std::alloc::Global;

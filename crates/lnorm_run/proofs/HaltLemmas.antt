@@ -7,7 +7,7 @@ use Rattle.lalrpop_norm_faults.specs.Faults.{IsFirst}
 use Rattle.lalrpop_norm_tree.specs.Items.{GrammarData}
 use Rattle.lnorm_run.specs.Answers.{IsFormOf, faults_of}
 use Rattle.lnorm_run.specs.Settings.{Settings}
-use Rattle.lnorm_run.specs.Runs.{Takes}
+use Rattle.lnorm_run.specs.Runs.{TakesInput}
 use Rattle.lnorm_run.specs.Halts.{Explains, Halts}
 use Rattle.lnorm_streams.specs.declared.halt.Halt.{Halt}
 use Rattle.lnorm_streams.specs.declared.halt.Halt.TheVariants.{Usage, NotATree, Failed, Input, Output}
@@ -15,7 +15,7 @@ use Rattle.lnorm_run.proofs.TakenLemmas.{taken_is_tree}
 
 -- where the words and the whole input were taken, and nothing was written
 pub halts_explained : (h : Halt) (words : List (List ℕ)) (s : Settings) (bytes : List ℕ) (in_old in_new out_old out_new : Option (List ℕ))
-    → Takes words in_old in_new s bytes → Keeps out_old out_new → Explains s bytes h → Halts h words in_old in_new out_old out_new
+    → TakesInput words in_old in_new s bytes → Keeps out_old out_new → Explains s bytes h → Halts h words in_old in_new out_old out_new
 halts_explained Usage words s bytes in_old in_new out_old out_new t k e = absurd e
 halts_explained NotATree words s bytes in_old in_new out_old out_new t k e = (record { settings = s; bytes = bytes; takes = t; no_tree = e; not_taken = λ f. e (taken_is_tree s bytes f) }, k)
 halts_explained (Failed (Refused x)) words s bytes in_old in_new out_old out_new t k e = (record { settings = s; bytes = bytes; takes = t; stands = e }, k)

@@ -3,7 +3,7 @@ ghost use Rattle.std.specs.Prelude.{◌≡◌, IfOk, IfErr, map, string_bytes};
 ghost use Rattle.lalrpop_norm_tree.specs.Items.{grammar_view};
 ghost use Rattle.lalrpop_norm_faults.specs.declared.failure.NormFailure.TheVariants.{Memory};
 ghost use Rattle.lnorm_run.specs.Answers.{IsAnswer, IsFormOf};
-ghost use Rattle.lalrpop_norm_repr.specs.Lowered.{grammar_view as lowered_view};
+ghost use Rattle.lalrpop_norm_repr.specs.Lowered.{lowered_grammar_view as lowered_view};
 ghost use Rattle.lnorm_run.specs.Lines.{lines};
 ghost use Rattle.lnorm_streams.specs.declared.halt.Halt.TheVariants.{Failed};
 ghost use Rattle.lnorm_run.specs.Halts.{Explains};

@@ -1,6 +1,6 @@
 //! Refusals with their messages, and sides of alternatives.
 use lalrpop_norm_faults::{FaultKind, NormFailure, refusal};
-use lalrpop_norm_levels::precedence::Assoc;
+use lalrpop_norm_precedence::precedence::Assoc;
 use lalrpop_norm_tree::grammar::parse_tree::{NoMemory, Span};
 use std::alloc::{AllocError, Global};
 

@@ -1,6 +1,6 @@
 //! Texts of the parts of a tree, and whether its copy is equal to it.
 use crate::made::{ended, push_shown};
-use lalrpop_norm_levels::precedence::has_several_levels;
+use lalrpop_norm_precedence::precedence::has_several_levels;
 use lalrpop_norm_tree::grammar::parse_tree::{
     Alternative, ArgPattern, Attribute, Grammar, GrammarItem, MatchContents, NoMemory,
     NonterminalData, Span, Symbol, SymbolKind, Tuple, is_known_attribute, read_algorithm,

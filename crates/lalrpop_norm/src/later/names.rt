@@ -4,7 +4,7 @@ ghost use Rattle.std.specs.BTreeSet.{insert_key};
 ghost use Rattle.std.specs.Ordering.{nat_cmp};
 ghost use Rattle.std.specs.Cmp.Lexicographic.{slice_cmp};
 ghost use Rattle.lalrpop_norm_tree.specs.Items.{item_view};
-ghost use Rattle.lalrpop_norm.specs.Grammars.{rules_of, names_of};
+ghost use Rattle.lalrpop_norm.specs.Grammars.{rules_among, names_of_rules};
 ghost use Rattle.lalrpop_norm.specs.Later.{has_rule};
 ghost use Rattle.lalrpop_norm.specs.LaterWalks.{Stops, with_keys, name_in};
 
@@ -23,7 +23,7 @@ fn add_name(names: &mut BTreeSet<Atom>, name: &Atom) -> Result<(), Stop>
 
 fn add_names(names: &mut BTreeSet<Atom>, items: &[GrammarItem]) -> Result<(), Stop>
     ensures memory { Stops result [] }
-    ensures adds { OnOk result (names.new.keys ≡ with_keys (slice_cmp nat_cmp) names.old.keys (names_of (rules_of (map item_view items.now)))) }
+    ensures adds { OnOk result (names.new.keys ≡ with_keys (slice_cmp nat_cmp) names.old.keys (names_of_rules (rules_among (map item_view items.now)))) }
 {
     for item in items {
         if let Some(rule) = item.as_nonterminal() {

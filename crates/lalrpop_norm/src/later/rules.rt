@@ -3,7 +3,7 @@ ghost use Rattle.std.specs.Prelude.{◌≡◌, map, option_map};
 ghost use Rattle.std.specs.List.{flat_map};
 ghost use Rattle.lalrpop_norm_tree.specs.Items.{action_view, alternative_view, rule_view};
 ghost use Rattle.lalrpop_norm_tree.specs.Types.{type_view};
-ghost use Rattle.lalrpop_norm.specs.Later.{part_of_some, declared_parts, after_slot, has_several_slots, code_parts, action_parts, alternative_parts, rule_parts};
+ghost use Rattle.lalrpop_norm.specs.Later.{part_of_some, declared_parts, after_slot, has_several_slots, code_parts, action_parts, alternative_parts, later_rule_parts};
 ghost use Rattle.lalrpop_norm.specs.LaterWalks.{Finds, terminal_in};
 
 use super::LaterPart;
@@ -102,7 +102,7 @@ pub(super) fn find_in_rule(
     converted: &BTreeSet<TerminalString>,
     rule: &NonterminalData,
 ) -> Result<(), LaterPart>
-    ensures { Finds result (rule_parts (terminal_in converted.now.keys) (rule_view rule.now)) }
+    ensures { Finds result (later_rule_parts (terminal_in converted.now.keys) (rule_view rule.now)) }
 {
     find_any(LaterPart::MacroDefinition, &rule.args)?;
     find_in_declared(converted, &rule.type_decl)?;

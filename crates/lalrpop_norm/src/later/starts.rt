@@ -2,7 +2,7 @@
 ghost use Rattle.std.specs.Prelude.{◌≡◌, ◌++◌, [], map, IfOk};
 ghost use Rattle.std.specs.List.{flat_map};
 ghost use Rattle.lalrpop_norm_tree.specs.Items.{item_view, rule_view};
-ghost use Rattle.lalrpop_norm.specs.Grammars.{rules_of};
+ghost use Rattle.lalrpop_norm.specs.Grammars.{rules_among};
 ghost use Rattle.lalrpop_norm.specs.Later.{start_parts};
 ghost use Rattle.lalrpop_norm.specs.LaterWalks.{Stops, name_in};
 
@@ -47,7 +47,7 @@ pub(super) fn find_taken_starts(
     names: &BTreeSet<Atom>,
     items: &[GrammarItem],
 ) -> Result<(), Stop>
-    ensures { Stops result (flat_map (start_parts prefix.now (name_in names.now.keys)) (rules_of (map item_view items.now))) }
+    ensures { Stops result (flat_map (start_parts prefix.now (name_in names.now.keys)) (rules_among (map item_view items.now))) }
 {
     for item in items {
         if let Some(rule) = item.as_nonterminal() {

@@ -2,16 +2,15 @@
 ghost use Rattle.std.specs.Prelude.{◌≡◌, map, OnOk, IfOk};
 ghost use Rattle.std.specs.BTreeSet.{insert_key};
 ghost use Rattle.lalrpop_norm_tree.specs.Items.{conversion_view, grammar_view};
-ghost use Rattle.lalrpop_norm_front.specs.Sessions.{features_view};
-ghost use Rattle.lalrpop_norm.specs.Grammars.{active_conversions, terminals_of, has_repeated, same_terminal};
-ghost use Rattle.lalrpop_norm.specs.Later.{part_if, names_terminal, token_parts, has_conversion};
-ghost use Rattle.lalrpop_norm.specs.LaterWalks.{Stops, has_key, with_keys, repeats, terminal_in};
+ghost use Rattle.lalrpop_norm_util.specs.Sessions.{features_view};
+ghost use Rattle.lalrpop_norm.specs.Grammars.{active_conversions, terminals_converted, has_repeated_by, same_terminal};
+ghost use Rattle.lalrpop_norm.specs.Later.{part_if, names_terminal, token_parts, has_active_conversion};
+ghost use Rattle.lalrpop_norm.specs.LaterWalks.{Stops, is_among_keys, with_keys, repeats, terminal_in};
 ghost use Rattle.lalrpop_norm_late.specs.Conversions.{terminal_cmp};
 
 use super::{LaterPart, Stop};
-use lalrpop_norm_front::Session;
-use lalrpop_norm_front::cond_comp::cfg_active;
 use lalrpop_norm_tree::grammar::parse_tree::{Conversion, Grammar, TerminalString};
+use lalrpop_norm_util::{Session, cfg_active};
 use std::alloc::Global;
 use std::collections::BTreeSet;
 
@@ -19,7 +18,7 @@ fn add_terminal(
     terminals: &mut BTreeSet<TerminalString>,
     terminal: &TerminalString,
 ) -> Result<(), Stop>
-    ensures finds { Stops result (part_if (has_key terminal_cmp terminals.old.keys terminal.now) LaterPart.RepeatedConversion) }
+    ensures finds { Stops result (part_if (is_among_keys terminal_cmp terminals.old.keys terminal.now) LaterPart.RepeatedConversion) }
     ensures adds { OnOk result (terminals.new.keys ≡ insert_key terminal_cmp terminals.old.keys terminal.now) }
 {
     let is_new = terminals.insert(terminal.clone()?)?;
@@ -35,8 +34,8 @@ fn add_terminals<L>(
     terminals: &mut BTreeSet<TerminalString>,
     conversions: &[Conversion],
 ) -> Result<(), Stop>
-    ensures finds { Stops result (part_if (repeats terminal_cmp terminals.old.keys (terminals_of (active_conversions (features_view session.now.features) (map conversion_view conversions.now)))) LaterPart.RepeatedConversion) }
-    ensures adds { OnOk result (terminals.new.keys ≡ with_keys terminal_cmp terminals.old.keys (terminals_of (active_conversions (features_view session.now.features) (map conversion_view conversions.now)))) }
+    ensures finds { Stops result (part_if (repeats terminal_cmp terminals.old.keys (terminals_converted (active_conversions (features_view session.now.features) (map conversion_view conversions.now)))) LaterPart.RepeatedConversion) }
+    ensures adds { OnOk result (terminals.new.keys ≡ with_keys terminal_cmp terminals.old.keys (terminals_converted (active_conversions (features_view session.now.features) (map conversion_view conversions.now)))) }
 {
     for conversion in conversions {
         if cfg_active(session, &conversion.attributes) {
@@ -52,7 +51,7 @@ fn converted_terminals<L>(
     session: &Session<L>,
     conversions: &[Conversion],
 ) -> Result<BTreeSet<TerminalString>, Stop>
-    ensures finds { Stops result (part_if (has_repeated same_terminal (terminals_of (active_conversions (features_view session.now.features) (map conversion_view conversions.now)))) LaterPart.RepeatedConversion) }
+    ensures finds { Stops result (part_if (has_repeated_by same_terminal (terminals_converted (active_conversions (features_view session.now.features) (map conversion_view conversions.now)))) LaterPart.RepeatedConversion) }
     ensures has { IfOk result (λ s. terminal_in s.keys ≡ names_terminal (active_conversions (features_view session.now.features) (map conversion_view conversions.now))) }
 {
     let mut terminals = BTreeSet::new(alloc);
@@ -67,7 +66,7 @@ pub(super) fn known_terminals<L>(
     grammar: &Grammar,
 ) -> Result<BTreeSet<TerminalString>, Stop>
     ensures finds { Stops result (token_parts (features_view session.now.features) (grammar_view grammar.now).items) }
-    ensures has { IfOk result (λ s. terminal_in s.keys ≡ has_conversion (features_view session.now.features) (grammar_view grammar.now).items) }
+    ensures has { IfOk result (λ s. terminal_in s.keys ≡ has_active_conversion (features_view session.now.features) (grammar_view grammar.now).items) }
 {
     match grammar.enum_token() {
         Some(tokens) => converted_terminals(alloc, session, &tokens.conversions),

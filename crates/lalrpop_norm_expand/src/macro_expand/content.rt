@@ -1,7 +1,7 @@
 //! What symbols hold: what tells them from others, and the symbols inside them.
 ghost use Rattle.std.specs.Prelude.{◌≡◌};
 ghost use Rattle.lalrpop_norm_tree.specs.Symbols.{kind_view, parts_view};
-ghost use Rattle.lalrpop_norm_expand.specs.Contents.{marked, marks_of, marks_seen, inside_of, repeat_form};
+ghost use Rattle.lalrpop_norm_expand.specs.Contents.{marked, marks_of, marks_seen, parts_inside, form_of_repeat};
 
 use lalrpop_norm_tree::grammar::parse_tree::{
     ArgPattern, RepeatOp, Symbol, SymbolKind, TerminalString,
@@ -43,7 +43,7 @@ pub(super) struct Content<'a> {
 }
 
 fn repeat_form(op: RepeatOp) -> Form
-    ensures { result ≡ repeat_form op }
+    ensures { result ≡ form_of_repeat op }
 {
     match op {
         RepeatOp::Star => Form::Star,
@@ -70,7 +70,7 @@ fn holding<'a>(form: Form, text: &'a str, symbols: &'a [Symbol]) -> Content<'a>
 /// What a symbol of that kind holds.
 pub(super) fn content_in(kind: &SymbolKind) -> Content<'_>
     ensures marks { marks_seen result ≡ marks_of (kind_view kind.now) }
-    ensures symbols { parts_view result.symbols.now ≡ inside_of (kind_view kind.now) }
+    ensures symbols { parts_view result.symbols.now ≡ parts_inside (kind_view kind.now) }
 {
     match kind {
         SymbolKind::Expr(group) => holding(Form::Group, "", &group.symbols),

@@ -4,7 +4,7 @@ ghost use Rattle.lalrpop_norm_tree.specs.Symbols.{symbol_view};
 ghost use Rattle.lalrpop_norm_tree.specs.SymbolTexts.{part_text};
 ghost use Rattle.lalrpop_norm_faults.specs.Faults.{Refuses, IsFirst};
 ghost use Rattle.lalrpop_norm_faults.specs.declared.kind.FaultKind.TheVariants.{SharedName};
-ghost use Rattle.lalrpop_norm_expand.specs.Meeting.{first_of, after_one, inside, was_met, were_met, seen_of, has_key, names_of, IsExpander, Meets, refused_by};
+ghost use Rattle.lalrpop_norm_expand.specs.Meeting.{first_with_text, after_one, inside, was_met, were_met, seen_of, has_key, is_taken_by, IsExpander, Meets, refused_by};
 
 use super::same::is_same_symbol;
 use lalrpop_norm_faults::{FaultKind, NormFailure, NormResult, refusal};
@@ -49,7 +49,7 @@ impl Expander {
     /// The symbol of that text.
     fn first(&self, name: &Atom) -> Option<&Symbol>
         requires { IsExpander self.now }
-        ensures { option_map (λ s. symbol_view s.now) result ≡ first_of name.now (seen_of self.now) }
+        ensures { option_map (λ s. symbol_view s.now) result ≡ first_with_text name.now (seen_of self.now) }
     {
         match self.places.get(name) {
             Some(place) => Some(&self.met[*place]),
@@ -62,7 +62,7 @@ impl Expander {
         requires indexed { IsExpander self.now }
         requires named { name.now ≡ part_text (symbol_view symbol.now) }
         ensures refuses { Refuses result (refused_by self.now (symbol_view symbol.now ∷ [])) }
-        ensures known { IfOk result (λ b. b ≡ is_some (first_of (part_text (symbol_view symbol.now)) (seen_of self.now))) }
+        ensures known { IfOk result (λ b. b ≡ is_some (first_with_text (part_text (symbol_view symbol.now)) (seen_of self.now))) }
     {
         if self.names.contains(name) {
             return Err(shared_name(alloc, name, symbol.span));
@@ -83,7 +83,7 @@ impl Expander {
     pub fn was_met(&self, name: &Atom, symbol: &Symbol) -> bool
         requires indexed { IsExpander self.now }
         requires named { name.now ≡ part_text (symbol_view symbol.now) }
-        ensures { result ≡ was_met (names_of self.now) (seen_of self.now) (symbol_view symbol.now) }
+        ensures { result ≡ was_met (is_taken_by self.now) (seen_of self.now) (symbol_view symbol.now) }
     {
         match self.first(name) {
             Some(other) => !self.names.contains(name) && is_same_symbol(other, symbol),
@@ -94,9 +94,9 @@ impl Expander {
     /// Puts a symbol of a new text last.
     fn put(&mut self, name: Atom, symbol: Symbol) -> Result<(), NoMemory>
         requires indexed { IsExpander self.old }
-        requires inward { were_met (names_of self.old) (seen_of self.old) (inside (symbol_view symbol)) ≡ true }
+        requires inward { were_met (is_taken_by self.old) (seen_of self.old) (inside (symbol_view symbol)) ≡ true }
         requires named { name ≡ part_text (symbol_view symbol) }
-        requires first { first_of name (seen_of self.old) ≡ None }
+        requires first { first_with_text name (seen_of self.old) ≡ None }
         ensures names { OnOk result (self.new.names ≡ self.old.names) }
         ensures seen { OnOk result (seen_of self.new ≡ after_one (seen_of self.old) (symbol_view symbol)) }
         ensures indexed { OnOk result (IsExpander self.new) }
@@ -111,7 +111,7 @@ impl Expander {
     pub fn meet(&mut self, alloc: Global, name: Atom, symbol: &Symbol) -> NormResult<()>
         requires indexed { IsExpander self.old }
         requires named { name ≡ part_text (symbol_view symbol.now) }
-        requires inward { were_met (names_of self.old) (seen_of self.old) (inside (symbol_view symbol.now)) ≡ true }
+        requires inward { were_met (is_taken_by self.old) (seen_of self.old) (inside (symbol_view symbol.now)) ≡ true }
         ensures refuses { Refuses result (refused_by self.old (symbol_view symbol.now ∷ [])) }
         ensures met { OnOk result (Meets self.old self.new (symbol_view symbol.now ∷ [])) }
     {

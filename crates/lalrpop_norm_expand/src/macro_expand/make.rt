@@ -12,13 +12,14 @@ ghost use Rattle.lalrpop_norm_expand.specs.Expansion.{unmade};
 ghost use Rattle.lalrpop_norm_expand.specs.Making.{made};
 
 use super::replaced::{name_of, replaced_kind};
-use super::sources::{group_values, has_name_value};
+use super::sources::group_values;
 use lalrpop_norm_faults::{FaultKind, NormResult, refusal};
 use lalrpop_norm_tree::grammar::parse_tree::{
     ActionKind, Alternative, Atom, Attribute, AttributeArg, ExprSymbol, GrammarItem, Name,
     NoMemory, NonterminalData, Path, RepeatOp, RepeatSymbol, Span, Symbol, SymbolKind, TypeRef,
     Visibility,
 };
+use lalrpop_norm_util::norm_util::has_name_value;
 use std::alloc::Global;
 
 // ---- rules in general

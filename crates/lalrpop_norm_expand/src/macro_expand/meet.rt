@@ -4,7 +4,7 @@ ghost use Rattle.lalrpop_norm_tree.specs.Symbols.{kind_view, symbol_view, parts_
 ghost use Rattle.lalrpop_norm_tree.specs.SymbolTexts.{part_text};
 ghost use Rattle.lalrpop_norm_faults.specs.Faults.{Refuses};
 ghost use Rattle.lalrpop_norm_model.specs.PlainRules.{met, all_met};
-ghost use Rattle.lalrpop_norm_expand.specs.Meeting.{met_inside, inside, itself, own_text, were_met, seen_of, names_of, IsExpander, Meets, refused_by};
+ghost use Rattle.lalrpop_norm_expand.specs.Meeting.{met_inside, inside, met_itself, own_text, were_met, seen_of, is_taken_by, IsExpander, Meets, refused_by};
 
 use super::expander::Expander;
 use lalrpop_norm_faults::NormResult;
@@ -65,7 +65,7 @@ fn own_text(alloc: Global, symbol: &Symbol) -> Result<Option<Atom>, NoMemory>
 fn was_met(name: &Option<Atom>, symbol: &Symbol, expander: &Expander) -> bool
     requires indexed { IsExpander expander.now }
     requires named { name.now ≡ own_text (symbol_view symbol.now) }
-    ensures { result ≡ true → were_met (names_of expander.now) (seen_of expander.now) (met (symbol_view symbol.now)) ≡ true }
+    ensures { result ≡ true → were_met (is_taken_by expander.now) (seen_of expander.now) (met (symbol_view symbol.now)) ≡ true }
 {
     match name {
         Some(name) => expander.was_met(name, symbol),
@@ -82,9 +82,9 @@ fn meet_itself(
 ) -> NormResult<()>
     requires indexed { IsExpander expander.old }
     requires named { name ≡ own_text (symbol_view symbol.now) }
-    requires inward { were_met (names_of expander.old) (seen_of expander.old) (inside (symbol_view symbol.now)) ≡ true }
-    ensures refuses { Refuses result (refused_by expander.old (itself (symbol_view symbol.now))) }
-    ensures met { OnOk result (Meets expander.old expander.new (itself (symbol_view symbol.now))) }
+    requires inward { were_met (is_taken_by expander.old) (seen_of expander.old) (inside (symbol_view symbol.now)) ≡ true }
+    ensures refuses { Refuses result (refused_by expander.old (met_itself (symbol_view symbol.now))) }
+    ensures met { OnOk result (Meets expander.old expander.new (met_itself (symbol_view symbol.now))) }
 {
     match name {
         Some(name) => expander.meet(alloc, name, symbol),

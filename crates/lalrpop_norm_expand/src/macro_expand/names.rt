@@ -4,7 +4,7 @@ ghost use Rattle.std.specs.BTreeSet.{insert_key};
 ghost use Rattle.std.specs.Ordering.{nat_cmp};
 ghost use Rattle.std.specs.Cmp.Lexicographic.{slice_cmp};
 ghost use Rattle.lalrpop_norm_tree.specs.Items.{item_view};
-ghost use Rattle.lalrpop_norm_expand.specs.Expansion.{is_name};
+ghost use Rattle.lalrpop_norm_expand.specs.Expansion.{is_declared_name};
 ghost use Rattle.lalrpop_norm_expand.specs.Making.{item_names, with_names};
 ghost use Rattle.lalrpop_norm_expand.specs.Meeting.{has_key};
 
@@ -36,7 +36,7 @@ pub(super) fn declared_names(
     alloc: Global,
     items: &[GrammarItem],
 ) -> Result<BTreeSet<Atom>, NoMemory>
-    ensures { IfOk result (λ names. has_key names ≡ is_name (flat_map item_names (map item_view items.now))) }
+    ensures { IfOk result (λ names. has_key names ≡ is_declared_name (flat_map item_names (map item_view items.now))) }
 {
     let mut names = BTreeSet::new(alloc);
     for item in items {

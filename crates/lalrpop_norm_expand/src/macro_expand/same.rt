@@ -3,7 +3,7 @@ ghost use Rattle.std.specs.Prelude.{◌≡◌, ◌↔◌, IsTrue, map, option_ma
 ghost use Rattle.lalrpop_norm_tree.specs.Symbols.{argument_pattern_view, argument_patterns_view, kind_view, symbol_view, parts_view, no_parts, part_and};
 ghost use Rattle.lalrpop_norm_model.specs.PlainRules.{same_apart_from_spans};
 ghost use Rattle.lalrpop_norm_expand.specs.Apart.{unplaced_kind, unplaced, all_unplaced, each_unplaced};
-ghost use Rattle.lalrpop_norm_expand.specs.Contents.{marks_seen, inside_of};
+ghost use Rattle.lalrpop_norm_expand.specs.Contents.{marks_seen, parts_inside};
 
 use super::content::{Content, content_in};
 use lalrpop_norm_tree::grammar::parse_tree::{ArgPattern, Symbol, SymbolKind, TerminalString};
@@ -74,7 +74,7 @@ fn is_same_kind(a: &SymbolKind, b: &SymbolKind) -> bool
 /// Whether the symbols inside the first are the same as the others.
 #[cycle(same)]
 fn are_same_inside(a: &SymbolKind, others: &[Symbol]) -> bool
-    ensures { IsTrue result ↔ (all_unplaced (inside_of (kind_view a.now)) ≡ all_unplaced (parts_view others.now)) }
+    ensures { IsTrue result ↔ (all_unplaced (parts_inside (kind_view a.now)) ≡ all_unplaced (parts_view others.now)) }
 {
     match a {
         SymbolKind::Expr(group) => are_same(&group.symbols, others),

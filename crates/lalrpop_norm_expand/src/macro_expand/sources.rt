@@ -2,42 +2,12 @@
 ghost use Rattle.std.specs.Prelude.{◌≡◌, ◌++◌, ◌∷◌, [], IfOk, OnOk, map};
 ghost use Rattle.lalrpop_norm_tree.specs.Symbols.{kind_view, symbol_view, parts_view};
 ghost use Rattle.lalrpop_norm_tree.specs.Types.{type_view};
-ghost use Rattle.lalrpop_norm_model.specs.MadeRules.{names_value, some_name_value, chosen_kinds, all_kinds, bare_or_tuple_code, group_sources, type_of_kind};
-ghost use Rattle.lalrpop_norm_expand.specs.Making.{chosen_in, types_code};
+ghost use Rattle.lalrpop_norm_model.specs.MadeRules.{chosen_kinds, all_kinds, bare_or_tuple_code, group_sources, type_of_kind};
+ghost use Rattle.lalrpop_norm_expand.specs.Making.{chosen_kinds_in, types_code};
 
 use super::replaced::replaced_kind;
 use lalrpop_norm_tree::grammar::parse_tree::{NoMemory, Symbol, SymbolKind, TypeRef};
 use std::alloc::Global;
-
-fn names_value(symbol: &Symbol) -> bool
-    ensures { result ≡ names_value (symbol_view symbol.now) }
-{
-    match &symbol.kind {
-        SymbolKind::Name(_, _) | SymbolKind::Tuple(_, _) => true,
-        SymbolKind::Expr(_)
-        | SymbolKind::AmbiguousId(_)
-        | SymbolKind::Terminal(_)
-        | SymbolKind::Nonterminal(_)
-        | SymbolKind::Macro(_)
-        | SymbolKind::Repeat(_)
-        | SymbolKind::Choose(_)
-        | SymbolKind::Lookahead
-        | SymbolKind::Lookbehind
-        | SymbolKind::Error => false,
-    }
-}
-
-/// Whether one of the symbols has a name, or a tuple of names, for its value.
-pub(super) fn has_name_value(symbols: &[Symbol]) -> bool
-    ensures { result ≡ some_name_value (parts_view symbols.now) }
-{
-    for symbol in symbols {
-        if names_value(symbol) {
-            return true;
-        }
-    }
-    false
-}
 
 fn add_type(alloc: Global, types: &mut Vec<TypeRef>, kind: &SymbolKind) -> Result<(), NoMemory>
     ensures { OnOk result (map type_view types.new.items ≡ map type_view types.old.items ++ type_of_kind (kind_view kind.now) ∷ []) }
@@ -49,7 +19,7 @@ fn add_type(alloc: Global, types: &mut Vec<TypeRef>, kind: &SymbolKind) -> Resul
 
 /// Adds the type of what a chosen symbol holds.
 fn add_chosen(alloc: Global, types: &mut Vec<TypeRef>, kind: &SymbolKind) -> Result<(), NoMemory>
-    ensures { OnOk result (map type_view types.new.items ≡ map type_view types.old.items ++ map type_of_kind (chosen_in (kind_view kind.now))) }
+    ensures { OnOk result (map type_view types.new.items ≡ map type_view types.old.items ++ map type_of_kind (chosen_kinds_in (kind_view kind.now))) }
 {
     match kind {
         SymbolKind::Choose(inner) => add_type(alloc, types, &inner.kind),

@@ -4,15 +4,15 @@ ghost use Rattle.lalrpop_norm_parts.specs.Attributes.{attributes_view};
 ghost use Rattle.lalrpop_norm_tree.specs.Items.{action_view, alternative_view};
 ghost use Rattle.lalrpop_norm_tree.specs.Symbols.{kind_view, parts_view};
 ghost use Rattle.lalrpop_norm_faults.specs.Faults.{Refuses};
-ghost use Rattle.lalrpop_norm_front.specs.AlternativeFaults.{alternative_faults, unknown_faults, is_known_on_alternative, inside_of, first_inside, action_faults, code_faults};
+ghost use Rattle.lalrpop_norm_front.specs.AlternativeFaults.{alternative_faults, unknown_alternative_faults, is_known_on_alternative, place_inside, first_inside, action_faults, between_braces_faults};
 
 use super::Place;
 use super::symbols::validate_list;
-use crate::norm_util::check_between_braces;
 use lalrpop_norm_faults::{FaultKind, NormResult, refusal};
 use lalrpop_norm_tree::grammar::parse_tree::{
     ActionKind, Alternative, Attribute, Span, Symbol, SymbolKind,
 };
+use lalrpop_norm_util::norm_util::check_between_braces;
 use std::alloc::Global;
 
 #[tactic(auto, unfolding(crate::specs::AlternativeFaults::alternative_faults))]
@@ -37,7 +37,7 @@ fn is_known(name: &str) -> bool
 }
 
 fn validate_attributes(alloc: Global, attributes: &[Attribute]) -> NormResult<()>
-    ensures { Refuses result (unknown_faults (attributes_view attributes.now)) }
+    ensures { Refuses result (unknown_alternative_faults (attributes_view attributes.now)) }
 {
     for attribute in attributes {
         if !is_known(attribute.id.as_str()) {
@@ -55,7 +55,7 @@ fn validate_attributes(alloc: Global, attributes: &[Attribute]) -> NormResult<()
 }
 
 fn inside_of(kind: &SymbolKind) -> Option<Span>
-    ensures { result ≡ inside_of (kind_view kind.now) }
+    ensures { result ≡ place_inside (kind_view kind.now) }
 {
     match kind {
         SymbolKind::Name(_, symbol) => Some(symbol.span),
@@ -115,7 +115,7 @@ fn validate_action(
 }
 
 fn validate_code(alloc: Global, span: Span, inside: Option<Span>, code: &str) -> NormResult<()>
-    ensures { Refuses result (code_faults span inside code.now) }
+    ensures { Refuses result (between_braces_faults span inside code.now) }
 {
     if inside.is_none() && check_between_braces(code).is_in_curly_brackets() {
         return Err(refusal(

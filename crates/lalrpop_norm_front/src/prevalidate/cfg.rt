@@ -2,7 +2,7 @@
 ghost use Rattle.std.specs.Prelude.{◌≡◌, [], ◌∷◌};
 ghost use Rattle.lalrpop_norm_parts.specs.Attributes.{argument_view, attribute_view, attributes_view};
 ghost use Rattle.lalrpop_norm_faults.specs.Faults.{Refuses, IsFirst};
-ghost use Rattle.lalrpop_norm_front.specs.CfgFaults.{test_of, test_faults, argument_faults, first_faults, empty_faults, tests_faults, cfg_faults};
+ghost use Rattle.lalrpop_norm_front.specs.CfgFaults.{test_of, test_faults, test_argument_faults, first_test_faults, empty_faults, tests_faults, cfg_faults};
 
 use lalrpop_norm_faults::{FaultKind, NormFailure, NormResult, refusal};
 use lalrpop_norm_tree::grammar::parse_tree::{Attribute, AttributeArg, Span};
@@ -53,7 +53,7 @@ fn check_attribute(alloc: Global, attribute: &Attribute) -> NormResult<()>
 
 #[cycle(cfg)]
 fn check_arg(alloc: Global, test: Test, span: Span, arg: &AttributeArg) -> NormResult<()>
-    ensures { Refuses result (argument_faults test span (argument_view arg.now)) }
+    ensures { Refuses result (test_argument_faults test span (argument_view arg.now)) }
 {
     match test {
         Test::Feature => match arg {
@@ -77,7 +77,7 @@ fn check_arg(alloc: Global, test: Test, span: Span, arg: &AttributeArg) -> NormR
 
 #[cycle(cfg)]
 fn check_first(alloc: Global, span: Span, attributes: &[Attribute]) -> NormResult<()>
-    ensures { Refuses result (first_faults span (attributes_view attributes.now)) }
+    ensures { Refuses result (first_test_faults span (attributes_view attributes.now)) }
 {
     match attributes.first() {
         Some(attribute) => check_attribute(alloc, attribute),

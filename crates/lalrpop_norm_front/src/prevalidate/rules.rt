@@ -5,15 +5,15 @@ ghost use Rattle.lalrpop_norm_tree.specs.Items.{alternative_view, rule_view};
 ghost use Rattle.lalrpop_norm_faults.specs.Faults.{Refuses, fault_if};
 ghost use Rattle.lalrpop_norm_model.specs.Features.{is_one_of};
 ghost use Rattle.lalrpop_norm_front.specs.AlternativeFaults.{alternative_faults};
-ghost use Rattle.lalrpop_norm_front.specs.GrammarFaults.{is_known_on_rule, attribute_faults, attributes_faults, rule_faults};
-ghost use Rattle.lalrpop_norm_levels.specs.LevelFaults.{level_faults};
+ghost use Rattle.lalrpop_norm_front.specs.GrammarFaults.{is_known_on_rule, rule_attribute_faults, attributes_faults, rule_faults};
+ghost use Rattle.lalrpop_norm_precedence.specs.LevelFaults.{level_faults};
 
 use super::Place;
 use super::alternatives::validate_alternative;
 use super::cfg::validate_cfg;
 use super::types::some_holds;
 use lalrpop_norm_faults::{FaultKind, NormResult, refusal};
-use lalrpop_norm_levels::precedence::read_levels;
+use lalrpop_norm_precedence::precedence::read_levels;
 use lalrpop_norm_tree::grammar::parse_tree::{Alternative, Atom, Attribute, NonterminalData, Span};
 use std::alloc::Global;
 
@@ -77,14 +77,14 @@ fn check_inline(alloc: Global, public: bool, attribute: &Attribute) -> NormResul
     Ok(())
 }
 
-#[tactic(auto, unfolding(crate::specs::GrammarFaults::attribute_faults))]
+#[tactic(auto, unfolding(crate::specs::GrammarFaults::rule_attribute_faults))]
 fn validate_attribute(
     alloc: Global,
     public: bool,
     before: &[Attribute],
     attribute: &Attribute,
 ) -> NormResult<()>
-    ensures { Refuses result (attribute_faults public (map (λ a. a.id) before.now) (attribute_view attribute.now)) }
+    ensures { Refuses result (rule_attribute_faults public (map (λ a. a.id) before.now) (attribute_view attribute.now)) }
 {
     check_known(alloc, attribute)?;
     check_new(alloc, before, attribute)?;

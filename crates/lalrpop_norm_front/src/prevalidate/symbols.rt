@@ -1,12 +1,13 @@
 //! Symbols.
 ghost use Rattle.std.specs.Prelude.{◌≡◌, option_map};
 ghost use Rattle.lalrpop_norm_faults.specs.Faults.{Refuses, fault_if};
-ghost use Rattle.lalrpop_norm_front.specs.SymbolFaults.{call_faults, terminal_faults, kind_faults, part_faults, parts_faults, list_faults, beside_faults, is_chosen, name_of, is_name, first_chosen, has_named, named_at, again, lesser, least_twice};
+ghost use Rattle.lalrpop_norm_front.specs.SymbolFaults.{call_faults, terminal_faults, kind_faults, part_faults, parts_faults, list_faults, beside_faults, name_of, is_that_name, first_chosen, has_named, named_at, again, lesser_name, least_twice};
 ghost use Rattle.lalrpop_norm_tree.specs.Symbols.{kind_view, symbol_view, parts_view};
 
 use super::Place;
 use lalrpop_norm_faults::{FaultKind, NormResult, refusal};
 use lalrpop_norm_tree::grammar::parse_tree::{Atom, Span, Symbol, SymbolKind, TerminalString};
+use lalrpop_norm_util::norm_util::is_chosen_kind;
 use std::alloc::Global;
 
 #[cycle(symbols)]
@@ -135,25 +136,6 @@ fn validate_beside(alloc: Global, symbols: &[Symbol]) -> NormResult<()>
     Ok(())
 }
 
-fn is_chosen(kind: &SymbolKind) -> bool
-    ensures { result ≡ is_chosen (kind_view kind.now) }
-{
-    match kind {
-        SymbolKind::Choose(_) => true,
-        SymbolKind::Expr(_)
-        | SymbolKind::AmbiguousId(_)
-        | SymbolKind::Terminal(_)
-        | SymbolKind::Nonterminal(_)
-        | SymbolKind::Macro(_)
-        | SymbolKind::Repeat(_)
-        | SymbolKind::Name(_, _)
-        | SymbolKind::Tuple(_, _)
-        | SymbolKind::Lookahead
-        | SymbolKind::Lookbehind
-        | SymbolKind::Error => false,
-    }
-}
-
 fn name_of(kind: &SymbolKind) -> Option<&Atom>
     ensures { option_map (λ a. a.now) result ≡ name_of (kind_view kind.now) }
 {
@@ -177,7 +159,7 @@ fn first_chosen(symbols: &[Symbol]) -> Option<Span>
     ensures { result ≡ first_chosen (parts_view symbols.now) }
 {
     for symbol in symbols {
-        if is_chosen(&symbol.kind) {
+        if is_chosen_kind(&symbol.kind) {
             return Some(symbol.span);
         }
     }
@@ -196,7 +178,7 @@ fn has_named(symbols: &[Symbol]) -> bool
 }
 
 fn is_name(name: &Atom, found: Option<&Atom>) -> bool
-    ensures { result ≡ is_name name.now (option_map (λ a. a.now) found.entry) }
+    ensures { result ≡ is_that_name name.now (option_map (λ a. a.now) found.entry) }
 {
     match found {
         Some(other) => name == other,
@@ -234,7 +216,7 @@ fn lesser<'a>(
     later: Option<(&'a Atom, Span)>,
 ) -> Option<(&'a Atom, Span)>
     ensures { option_map (λ r. (r.0.now, r.1)) result
-        ≡ lesser (option_map (λ r. (r.0.now, r.1)) earlier.entry) (option_map (λ r. (r.0.now, r.1)) later.entry) }
+        ≡ lesser_name (option_map (λ r. (r.0.now, r.1)) earlier.entry) (option_map (λ r. (r.0.now, r.1)) later.entry) }
 {
     match earlier {
         None => later,

@@ -3,7 +3,7 @@ ghost use Rattle.std.specs.Prelude.{◌≡◌, not, [], map, flat_map, option_ma
 ghost use Rattle.lalrpop_norm_tree.specs.Items.{associated_type_view, conversion_view, enum_token_view, extern_token_view, match_contents_view, match_token_view};
 ghost use Rattle.lalrpop_norm_faults.specs.Faults.{Refuses, fault_if};
 ghost use Rattle.lalrpop_norm_model.specs.Features.{is_one_of};
-ghost use Rattle.lalrpop_norm_front.specs.GrammarFaults.{mapping_faults, beside_faults, match_faults, is_known_type, associated_faults, types_faults, conversion_faults, enum_faults, extern_faults};
+ghost use Rattle.lalrpop_norm_front.specs.GrammarFaults.{mapping_faults, match_beside_extern_faults, match_faults, is_known_type, associated_faults, types_faults, conversion_faults, enum_faults, extern_faults};
 
 use super::Blocks;
 use super::rules::check_type;
@@ -17,7 +17,7 @@ use lalrpop_norm_tree::grammar::parse_tree::{
 use std::alloc::Global;
 
 fn check_beside(alloc: Global, other: Option<Span>) -> NormResult<()>
-    ensures { Refuses result (beside_faults other) }
+    ensures { Refuses result (match_beside_extern_faults other) }
 {
     match other {
         Some(span) => Err(refusal(
@@ -212,7 +212,7 @@ fn validate_enum(alloc: Global, tokens: &Option<EnumToken>) -> NormResult<()>
 }
 
 fn check_match(alloc: Global, blocks: Blocks, has_enum: bool) -> NormResult<()>
-    ensures { Refuses result (if has_enum then beside_faults blocks.first_match else []) }
+    ensures { Refuses result (if has_enum then match_beside_extern_faults blocks.first_match else []) }
 {
     if has_enum {
         check_beside(alloc, blocks.first_match)?;

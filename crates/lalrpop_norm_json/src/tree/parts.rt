@@ -2,7 +2,7 @@
 ghost use Rattle.std.specs.Prelude.{◌≡◌, [], ◌∷◌, ◌++◌, Ok, IfOk, IsErrOf, false};
 ghost use Rattle.serde_json.specs.Data.{Data};
 ghost use Rattle.serde_json.specs.View.{view};
-ghost use Rattle.lalrpop_norm_shapes.specs.Shapes.{Name, is, fits, place, many, maybe};
+ghost use Rattle.lalrpop_norm_shapes.specs.Shapes.{ShapeName, is, fits, place, many, maybe};
 ghost use Rattle.lalrpop_norm_json.specs.Json.{list_form, maybe_form};
 
 use lalrpop_norm_shapes::{TreeError, items, present};
@@ -13,7 +13,7 @@ use std::alloc::Global;
 pub(super) trait FromValue: Sized {
     ghost form: { Self → Data };
 
-    ghost named: { Name };
+    ghost named: { ShapeName };
 
     /// The value whose form that is.
     fn from_value(alloc: Global, value: &Value) -> Result<Self, TreeError>

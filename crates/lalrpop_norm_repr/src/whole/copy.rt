@@ -5,7 +5,7 @@ ghost use Rattle.lalrpop_norm_tree.specs.Items.{intern_token_view};
 ghost use Rattle.lalrpop_norm_parts.specs.Patterns.{pattern_view};
 ghost use Rattle.lalrpop_norm_parts.specs.Reprs.{repr_view, lowered_where_clause_view};
 ghost use Rattle.lalrpop_norm_repr.specs.Actions.{action_defn_view};
-ghost use Rattle.lalrpop_norm_repr.specs.Lowered.{grammar_view, lowered_parameter_view, terminal_set_view};
+ghost use Rattle.lalrpop_norm_repr.specs.Lowered.{lowered_grammar_view, lowered_parameter_view, terminal_set_view};
 ghost use Rattle.lalrpop_norm_repr.specs.Productions.{nonterminal_data_view};
 ghost use Rattle.lalrpop_norm_repr.specs.Tables.{rows};
 
@@ -22,7 +22,7 @@ use std::alloc::{AllocError, Global};
 use std::collections::BTreeMap;
 
 impl Clone for Grammar {
-    ghost is_clone = { λ g h. grammar_view h ≡ grammar_view g };
+    ghost is_clone = { λ g h. lowered_grammar_view h ≡ lowered_grammar_view g };
 
     fn clone(&self) -> Result<Grammar, AllocError> {
         match copy(self) {
@@ -33,7 +33,7 @@ impl Clone for Grammar {
 }
 
 fn copy(grammar: &Grammar) -> Result<Grammar, NoMemory>
-    ensures { IfOk result (λ g. grammar_view g ≡ grammar_view grammar.now) }
+    ensures { IfOk result (λ g. lowered_grammar_view g ≡ lowered_grammar_view grammar.now) }
 {
     let alloc = *grammar.uses.allocator();
     let head = copy_head(grammar)?;

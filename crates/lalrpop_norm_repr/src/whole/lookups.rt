@@ -3,8 +3,8 @@ ghost use Rattle.std.specs.Prelude.{◌≡◌, ◌<◌, Some, IfOk, IsSome, leng
 ghost use Rattle.lalrpop_norm_parts.specs.Patterns.{pattern_view};
 ghost use Rattle.lalrpop_norm_parts.specs.Reprs.{repr_view};
 ghost use Rattle.lalrpop_norm_repr.specs.Actions.{action_index};
-ghost use Rattle.lalrpop_norm_repr.specs.Lookups.{action_of, is_name, parameter_refs, pattern_of, productions_of};
-ghost use Rattle.lalrpop_norm_repr.specs.Lowered.{grammar_view, lowered_parameter_view};
+ghost use Rattle.lalrpop_norm_repr.specs.Lookups.{action_of, is_type_name, parameter_refs, pattern_of, productions_of};
+ghost use Rattle.lalrpop_norm_repr.specs.Lowered.{lowered_grammar_view, lowered_parameter_view};
 ghost use Rattle.lalrpop_norm_repr.specs.Productions.{production_view};
 
 use super::{Grammar, Parameter};
@@ -20,15 +20,15 @@ use std::alloc::Global;
 impl Grammar {
     /// The pattern of the terminal's tokens, for a terminal that has one (`conversions.contains_key` tells).
     pub fn pattern(&self, terminal: &TerminalString) -> &Pattern<TypeRepr>
-        requires { IsSome (pattern_of terminal.now (grammar_view self.now)) }
-        ensures { Some (pattern_view repr_view result.now) ≡ pattern_of terminal.now (grammar_view self.now) }
+        requires { IsSome (pattern_of terminal.now (lowered_grammar_view self.now)) }
+        ensures { Some (pattern_view repr_view result.now) ≡ pattern_of terminal.now (lowered_grammar_view self.now) }
     {
         &self.conversions[terminal]
     }
 
     /// The productions of the nonterminal, none if the grammar does not have it.
     pub fn productions_for(&self, name: &NonterminalString) -> &[Production]
-        ensures { map production_view result.now ≡ productions_of name.now (grammar_view self.now) }
+        ensures { map production_view result.now ≡ productions_of name.now (lowered_grammar_view self.now) }
     {
         match self.nonterminals.get(name) {
             Some(data) => &data.productions,
@@ -38,15 +38,15 @@ impl Grammar {
 
     /// The parameters' names, each with `, ` after it, in new memory.
     pub fn user_parameter_refs(&self, alloc: Global) -> Result<String, NoMemory>
-        ensures { IfOk result (λ s. string_bytes s ≡ parameter_refs (grammar_view self.now).parameters) }
+        ensures { IfOk result (λ s. string_bytes s ≡ parameter_refs (lowered_grammar_view self.now).parameters) }
     {
         refs(alloc, &self.parameters)
     }
 
     /// Whether the action answers a result. Its number is below that of the actions.
     pub fn action_is_fallible(&self, action: ActionFn) -> bool
-        requires { action_index action < length (grammar_view self.now).actions }
-        ensures { Some result ≡ option_map (λ d. d.fallible) (action_of action (grammar_view self.now)) }
+        requires { action_index action < length (lowered_grammar_view self.now).actions }
+        ensures { Some result ≡ option_map (λ d. d.fallible) (action_of action (lowered_grammar_view self.now)) }
     {
         self.action_fn_defns[action.index()].fallible
     }
@@ -56,7 +56,7 @@ impl Grammar {
         &self,
         alloc: Global,
     ) -> Result<Vec<&TypeParameter>, NoMemory>
-        ensures { IfOk result (λ ps. map (λ p. p.now) ps.items ≡ filter is_name (grammar_view self.now).type_parameters) }
+        ensures { IfOk result (λ ps. map (λ p. p.now) ps.items ≡ filter is_type_name (lowered_grammar_view self.now).type_parameters) }
     {
         names(alloc, &self.type_parameters)
     }
@@ -74,7 +74,7 @@ fn refs(alloc: Global, parameters: &[Parameter]) -> Result<String, NoMemory>
 }
 
 fn names(alloc: Global, parameters: &[TypeParameter]) -> Result<Vec<&TypeParameter>, NoMemory>
-    ensures { IfOk result (λ ps. map (λ p. p.now) ps.items ≡ filter is_name parameters.now) }
+    ensures { IfOk result (λ ps. map (λ p. p.now) ps.items ≡ filter is_type_name parameters.now) }
 {
     let mut names = Vec::new(alloc);
     for parameter in parameters {

@@ -3,9 +3,9 @@ use Rattle.std.proofs.lemmas.Result.{IfOk-weaker}
 use Rattle.lalrpop_norm_tree.specs.Items as written
 use Rattle.lalrpop_norm_tree.specs.Items.{GrammarData}
 use Rattle.lalrpop_norm_conditions.specs.Conditions.{comparison}
-use Rattle.lalrpop_norm_front.specs.Sessions.{features_view}
-use Rattle.lalrpop_norm_front.specs.PrecedenceFaults.{precedence_faults}
-use Rattle.lalrpop_norm_expand.specs.Expansion.{expansion_faults, macro_faults}
+use Rattle.lalrpop_norm_util.specs.Sessions.{features_view}
+use Rattle.lalrpop_norm_precedence.specs.PrecedenceFaults.{precedence_faults}
+use Rattle.lalrpop_norm_expand.specs.Expansion.{expansion_faults, later_macro_faults}
 use Rattle.lalrpop_norm_model.specs.Expanded.{IsExpanded}
 use Rattle.lalrpop_norm_model.specs.LevelRules.{leveled_grammar}
 use Rattle.lalrpop_norm_model.specs.PlainRules.{plain_grammar}
@@ -43,7 +43,7 @@ type_and_lower-requires-clause-expanded g c =
     let none = subst (λ (x : GrammarData). precedence_faults x ≡ []) c.in_ok-enabled.ensures c.in_ok-leveled.ensures.expands.0 in
     let same : written.grammar_view c.in_ok-leveled.leveled ≡ grammar_with_levels fs tree =
     c.in_ok-leveled.ensures.expands.1 ∙ ap (λ (x : GrammarData). leveled_grammar (resolved_grammar x)) c.in_ok-enabled.ensures in
-    let all = subst (λ (x : GrammarData). macro_faults x ++ expansion_faults comparison x limit ≡ []) same (c.in_ok-plain.ensures.refuses comparison) in
+    let all = subst (λ (x : GrammarData). later_macro_faults x ++ expansion_faults comparison x limit ≡ []) same (c.in_ok-plain.ensures.refuses comparison) in
     let plain = c.in_ok-plain.ensures.plain comparison ∙ ap (λ (x : GrammarData). plain_grammar comparison x limit) same in
     subst IsExpanded (sym plain) (is_expanded fs tree c.requires.taken c.in_ok-validate.ensures none limit all)
 
@@ -55,7 +55,7 @@ type_and_lower-requires-clause-typed g c =
     let none = subst (λ (x : GrammarData). precedence_faults x ≡ []) c.in_ok-enabled.ensures c.in_ok-leveled.ensures.expands.0 in
     let same : written.grammar_view c.in_ok-leveled.leveled ≡ grammar_with_levels fs tree =
     c.in_ok-leveled.ensures.expands.1 ∙ ap (λ (x : GrammarData). leveled_grammar (resolved_grammar x)) c.in_ok-enabled.ensures in
-    let all = subst (λ (x : GrammarData). macro_faults x ++ expansion_faults comparison x limit ≡ []) same (c.in_ok-plain.ensures.refuses comparison) in
+    let all = subst (λ (x : GrammarData). later_macro_faults x ++ expansion_faults comparison x limit ≡ []) same (c.in_ok-plain.ensures.refuses comparison) in
     let plain = c.in_ok-plain.ensures.plain comparison ∙ ap (λ (x : GrammarData). plain_grammar comparison x limit) same in
     subst (IsTypedByInference fs) (sym plain) (is_typed fs tree c.requires.taken c.in_ok-validate.ensures none limit all)
 
@@ -67,7 +67,7 @@ returns-clause-refuses g c =
     let none = subst (λ (x : GrammarData). precedence_faults x ≡ []) c.in_ok-enabled.ensures c.in_ok-leveled.ensures.expands.0 in
     let same : written.grammar_view c.in_ok-leveled.leveled ≡ grammar_with_levels fs tree =
     c.in_ok-leveled.ensures.expands.1 ∙ ap (λ (x : GrammarData). leveled_grammar (resolved_grammar x)) c.in_ok-enabled.ensures in
-    let all = subst (λ (x : GrammarData). macro_faults x ++ expansion_faults comparison x limit ≡ []) same (c.in_ok-plain.ensures.refuses comparison) in
+    let all = subst (λ (x : GrammarData). later_macro_faults x ++ expansion_faults comparison x limit ≡ []) same (c.in_ok-plain.ensures.refuses comparison) in
     let plain = c.in_ok-plain.ensures.plain comparison ∙ ap (λ (x : GrammarData). plain_grammar comparison x limit) same in
     late_exit fs tree c.requires.taken c.in_ok-validate.ensures none limit all c.type_and_lower.result
     (subst (λ (x : GrammarData). Refuses c.type_and_lower.result (late_faults x)) plain c.type_and_lower.ensures.refuses)
@@ -80,9 +80,9 @@ returns-clause-lowered g c =
     let none = subst (λ (x : GrammarData). precedence_faults x ≡ []) c.in_ok-enabled.ensures c.in_ok-leveled.ensures.expands.0 in
     let same : written.grammar_view c.in_ok-leveled.leveled ≡ grammar_with_levels fs tree =
     c.in_ok-leveled.ensures.expands.1 ∙ ap (λ (x : GrammarData). leveled_grammar (resolved_grammar x)) c.in_ok-enabled.ensures in
-    let all = subst (λ (x : GrammarData). macro_faults x ++ expansion_faults comparison x limit ≡ []) same (c.in_ok-plain.ensures.refuses comparison) in
+    let all = subst (λ (x : GrammarData). later_macro_faults x ++ expansion_faults comparison x limit ≡ []) same (c.in_ok-plain.ensures.refuses comparison) in
     let plain = c.in_ok-plain.ensures.plain comparison ∙ ap (λ (x : GrammarData). plain_grammar comparison x limit) same in
     IfOk-weaker c.type_and_lower.result _ _
-    (λ l h. passed fs tree c.requires.taken c.in_ok-validate.ensures none limit all (lowered.grammar_view l)
-    (subst (λ (x : GrammarData). IsTypedLowering fs x (lowered.grammar_view l)) plain h))
+    (λ l h. passed fs tree c.requires.taken c.in_ok-validate.ensures none limit all (lowered.lowered_grammar_view l)
+    (subst (λ (x : GrammarData). IsTypedLowering fs x (lowered.lowered_grammar_view l)) plain h))
     c.type_and_lower.ensures.lowered

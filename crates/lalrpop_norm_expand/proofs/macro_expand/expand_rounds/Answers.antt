@@ -5,7 +5,7 @@ use Rattle.std.proofs.lemmas.List.{length-map}
 use Rattle.lalrpop_norm_tree.specs.Symbols.{symbol_view}
 use Rattle.lalrpop_norm_tree.specs.Items.{GrammarData, item_view, grammar_view}
 use Rattle.lalrpop_norm_expand.specs.Making.{no_condition, item_names}
-use Rattle.lalrpop_norm_expand.specs.Expansion.{is_name}
+use Rattle.lalrpop_norm_expand.specs.Expansion.{is_declared_name}
 use Rattle.lalrpop_norm_expand.specs.Meeting.{seen_of, has_key}
 use Rattle.lalrpop_norm_expand.proofs.NameLemmas.{rule_names_are}
 use Rattle.lalrpop_norm_expand.proofs.RoundLemmas.{AtRound, err_refuses, first_round, shared_refused, cap_refused, unmade_refused, next_round, grown, last_round}
@@ -21,8 +21,8 @@ rounds-init c =
           ∙ ap (λ is. record g { items = map item_view is }) c.new.ensures.items;
       indexed = c.new-expander.ensures.indexed;
       names = ap has_key c.new-expander.ensures.names ∙ c.in_ok-names.ensures
-          ∙ ap (λ is. is_name (flat_map item_names (map item_view is))) c.deref.ensures.value
-          ∙ ap is_name (rule_names_are g);
+          ∙ ap (λ is. is_declared_name (flat_map item_names (map item_view is))) c.deref.ensures.value
+          ∙ ap is_declared_name (rule_names_are g);
       place = ap length (sym none);
       bound = omega arith;
       rounds = λ value.

@@ -1,4 +1,4 @@
-use Rattle.std.proofs.Common.{◌≡◌, ◌∙◌, ap, sym}
+use Rattle.std.proofs.Common.{◌∙◌, ap, sym}
 use Rattle.lalrpop_norm_tree.specs.declared.symbol.SymbolKind.TheFolds.{fold_out-ExprSymbol}
 use Rattle.lalrpop_norm_tree.specs.Items.{alternative_view}
 use Rattle.lalrpop_norm_parts.specs.Reprs.{repr_view}
@@ -12,6 +12,6 @@ pub filled-requires : goal.filled-requires
 filled-requires c =
     let parts = fold_out-ExprSymbol Kind Parts Call Again Part kind_step expr_step macro_step repeat_step symbol_step c.args.alternative.now.expr in
     enough_at c.args.prefix.now (repr_view c.args.ty.now) c.deref-3.result.now (alternative_view c.args.alternative.now) _ _ _ c.requires.counted
-    (c.has_names-is_named.ensures ∙ ap (λ ss. some_name_value (parts_view ss)) c.deref-2.ensures.value ∙ ap some_name_value (sym parts))
+    (c.has_name_value-is_named.ensures ∙ ap (λ ss. some_name_value (parts_view ss)) c.deref-2.ensures.value ∙ ap some_name_value (sym parts))
     (c.deref-4.ensures.value ∙ c.in_ok-arguments.ensures.names ∙ ap (λ ss. source_names c.args.prefix.now (parts_view ss)) c.deref.ensures.value ∙ ap (source_names c.args.prefix.now) (sym parts))
     c.written_code-written.ensures

@@ -1,5 +1,5 @@
 use Rattle.std.proofs.Common.{drop, sym}
-use Rattle.lalrpop_norm_front.proofs.Slots.{slot_found, slot_missing}
+use Rattle.lalrpop_norm_util.proofs.Slots.{slot_found, slot_missing}
 use Rattle.lalrpop_norm_late.proofs.code.split_at_slot.Goals as goal
 
 pub returns-in-Some : goal.returns-in-Some

@@ -1,12 +1,11 @@
-use Rattle.std.proofs.Common.{◌≡◌, ◌∙◌, ap, sym, subst, map}
+use Rattle.std.proofs.Common.{◌∙◌, ap, subst, map}
 use Rattle.lalrpop_norm_faults.specs.Faults.{Refuses}
 use Rattle.lalrpop_norm_tree.specs.Items.{alternative_view}
 use Rattle.lalrpop_norm_tree.specs.Symbols.{symbol_view}
-use Rattle.lalrpop_norm_front.specs.ExprSymbols.{Placed}
 use Rattle.lalrpop_norm_model.specs.LoweringFaults.{slots}
 use Rattle.lalrpop_norm_model.specs.Sources.{Source}
 use Rattle.lalrpop_norm_late.specs.Slots.{count_faults}
-use Rattle.lalrpop_norm_late.proofs.SourceLemmas.{source_of, named_clean, unnamed_faults}
+use Rattle.lalrpop_norm_late.proofs.SourceLemmas.{named_clean, unnamed_faults}
 use Rattle.lalrpop_norm_late.proofs.placeholders.check_code.Goals as goal
 
 pub returns-in-Named : goal.returns-in-Named

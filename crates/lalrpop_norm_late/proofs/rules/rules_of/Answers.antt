@@ -4,7 +4,7 @@ use Rattle.lalrpop_norm_tree.specs.declared.items.GrammarItem.{GrammarItem}
 use Rattle.lalrpop_norm_tree.specs.declared.items.NonterminalData.{NonterminalData}
 use Rattle.lalrpop_norm_tree.specs.Accessors.{rule_of}
 use Rattle.lalrpop_norm_tree.specs.Items.{item_view, rule_view}
-use Rattle.lalrpop_norm_late.proofs.LoopLemmas.{first_of_some, next_collected}
+use Rattle.lalrpop_norm_util.proofs.ListLemmas.{first_of_some, next_collected}
 use Rattle.lalrpop_norm_late.proofs.rules.rules_of.Goals as goal
 
 pub loop-item-preserved : goal.loop-item-preserved

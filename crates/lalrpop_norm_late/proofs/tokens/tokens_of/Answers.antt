@@ -1,11 +1,11 @@
-use Rattle.std.proofs.Common.{◌≡◌, ◌∙◌, ◌+◌, ◌++◌, sym, ap, map, drop, append_assoc, arith}
+use Rattle.std.proofs.Common.{◌∙◌, ◌+◌, ◌++◌, sym, ap, map, drop}
 use Rattle.std.specs.Prelude.{flat_map}
 use Rattle.std.specs.Map.{keys_of}
 use Rattle.lalrpop_norm_faults.proofs.FaultLemmas.{at_drop_item}
 use Rattle.lalrpop_norm_tree.specs.Items.{item_view}
 use Rattle.lalrpop_norm_parts.specs.Patterns.{pattern_view}
 use Rattle.lalrpop_norm_parts.specs.Reprs.{repr_view}
-use Rattle.lalrpop_norm_front.specs.Sessions.{features_view}
+use Rattle.lalrpop_norm_util.specs.Sessions.{features_view}
 use Rattle.lalrpop_norm_repr.specs.Tables.{rows}
 use Rattle.lalrpop_norm_late.specs.Conversions.{sorted_terminals}
 use Rattle.lalrpop_norm_late.specs.Made.{token_rows}

@@ -1,13 +1,13 @@
 use Rattle.std.proofs.Common.{subst}
 use Rattle.lalrpop_norm_faults.specs.Faults.{Refuses}
 use Rattle.lalrpop_norm_tree.specs.Items as written
-use Rattle.lalrpop_norm_front.specs.Sessions.{features_view}
+use Rattle.lalrpop_norm_util.specs.Sessions.{features_view}
 use Rattle.lalrpop_norm_model.specs.PlainRules.{all_rules}
 use Rattle.lalrpop_norm_repr.specs.Lowered as lowered
 use Rattle.lalrpop_norm_repr.specs.Closed.{IsClosed}
 use Rattle.lalrpop_norm_repr.specs.Tables.{type_table}
 use Rattle.lalrpop_norm_late.specs.Active.{active_grammar}
-use Rattle.lalrpop_norm_late.specs.Lowering.{rules_of}
+use Rattle.lalrpop_norm_late.specs.Lowering.{rules_among}
 use Rattle.lalrpop_norm_late.specs.Made.{made_faults, IsMade}
 use Rattle.lalrpop_norm_late.specs.Shape.{IsLoweringOf}
 use Rattle.lalrpop_norm_late.proofs.FaultCounts.{faults_same}
@@ -25,15 +25,15 @@ returns-clause-lowered g c =
     let written_one = written.grammar_view c.args.grammar.now in
     let fs = features_view c.args.session.now.features in
     let types = type_table c.args.types in
-    where_clean c.lower_over.result (made_faults written_one.prefix types (rules_of written_one.items)) (λ l. IsMade fs written_one types (lowered.grammar_view l)) (λ l. IsLoweringOf (active_grammar fs written_one) (all_rules written_one) types (lowered.grammar_view l))
+    where_clean c.lower_over.result (made_faults written_one.prefix types (rules_among written_one.items)) (λ l. IsMade fs written_one types (lowered.lowered_grammar_view l)) (λ l. IsLoweringOf (active_grammar fs written_one) (all_rules written_one) types (lowered.lowered_grammar_view l))
     c.lower_over.ensures.refuses c.lower_over.ensures.lowered
-    (λ clean l made. made_is_lowered fs written_one types c.requires.expanded c.requires.typed clean (lowered.grammar_view l) made)
+    (λ clean l made. made_is_lowered fs written_one types c.requires.expanded c.requires.typed clean (lowered.lowered_grammar_view l) made)
 
 pub returns-clause-closed : goal.returns-clause-closed
 returns-clause-closed g c =
     let written_one = written.grammar_view c.args.grammar.now in
     let fs = features_view c.args.session.now.features in
     let types = type_table c.args.types in
-    where_clean c.lower_over.result (made_faults written_one.prefix types (rules_of written_one.items)) (λ l. IsMade fs written_one types (lowered.grammar_view l)) (λ l. IsClosed (lowered.grammar_view l))
+    where_clean c.lower_over.result (made_faults written_one.prefix types (rules_among written_one.items)) (λ l. IsMade fs written_one types (lowered.lowered_grammar_view l)) (λ l. IsClosed (lowered.lowered_grammar_view l))
     c.lower_over.ensures.refuses c.lower_over.ensures.lowered
-    (λ clean l made. made_is_closed fs written_one types c.requires.expanded c.requires.typed clean (lowered.grammar_view l) made)
+    (λ clean l made. made_is_closed fs written_one types c.requires.expanded c.requires.typed clean (lowered.lowered_grammar_view l) made)

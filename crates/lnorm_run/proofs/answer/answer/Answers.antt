@@ -1,6 +1,6 @@
 use Rattle.std.proofs.lemmas.Result.{IfOk-weaker, err_from_is_err_and}
 use Rattle.lalrpop_norm_tree.specs.Items.{grammar_view}
-use Rattle.lalrpop_norm_repr.specs.Lowered.{grammar_view as lowered_view}
+use Rattle.lalrpop_norm_repr.specs.Lowered.{lowered_grammar_view as lowered_view}
 use Rattle.lnorm_run.specs.Settings.{settings_view}
 use Rattle.lnorm_run.proofs.HaltLemmas.{refused_explained}
 use Rattle.lnorm_run.proofs.answer.answer.Goals as goal

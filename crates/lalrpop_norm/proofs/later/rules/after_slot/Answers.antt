@@ -1,6 +1,6 @@
 use Rattle.std.proofs.Common.{◌≡◌, Some, drop, ap, option_map}
-use Rattle.lalrpop_norm_front.specs.Braces.{around_slot}
-use Rattle.lalrpop_norm_front.proofs.Slots.{slot_found, slot_missing}
+use Rattle.lalrpop_norm_util.specs.Braces.{around_slot}
+use Rattle.lalrpop_norm_util.proofs.Slots.{slot_found, slot_missing}
 use Rattle.lalrpop_norm.proofs.later.rules.after_slot.Goals as goal
 
 pub returns-in-Some : goal.returns-in-Some

@@ -2,7 +2,7 @@ use Rattle.std.proofs.Common.{arith, rules, ap, refl, sym, ◌∙◌}
 use Rattle.std.proofs.lemmas.Grind.{common_steps}
 use Rattle.lalrpop_norm_tree.specs.Symbols.{kind_view}
 use Rattle.lalrpop_norm_expand.specs.Apart.{all_unplaced}
-use Rattle.lalrpop_norm_expand.specs.Contents.{inside_of}
+use Rattle.lalrpop_norm_expand.specs.Contents.{parts_inside}
 use Rattle.lalrpop_norm_expand.proofs.ContentLemmas.{leaf_inside, none_inside, one_inside, same_made, same_marks, same_inside}
 use Rattle.lalrpop_norm_expand.proofs.SameLemmas.{same_length, same_at}
 use Rattle.lalrpop_norm_expand.proofs.macro_expand.same.+same.Goals as goal
@@ -18,7 +18,7 @@ is_each_same-returns-then-not-is_same t c = (
 )
 
 pub are_same_inside-returns-in-AmbiguousId : goal.are_same_inside-returns-in-AmbiguousId
-are_same_inside-returns-in-AmbiguousId t c = none_inside (inside_of (kind_view c.args.a.now)) c.args.others.now c.is_empty.result (leaf_inside c.args.a.now c.in-AmbiguousId.is) (search rules)
+are_same_inside-returns-in-AmbiguousId t c = none_inside (parts_inside (kind_view c.args.a.now)) c.args.others.now c.is_empty.result (leaf_inside c.args.a.now c.in-AmbiguousId.is) (search rules)
 
 pub is_only_same-returns-else-others-eq1 : goal.is_only_same-returns-else-others-eq1
 is_only_same-returns-else-others-eq1 t c = (λ h. absurd (grind (arith, common_steps)), λ e. rw (one_inside _ c.args.others.now e) refl)

@@ -1,7 +1,0 @@
-use Rattle.std.proofs.Common.{◌∙◌, ap, sym}
-use Rattle.lalrpop_norm_late.specs.Sources.{is_chosen}
-use Rattle.lalrpop_norm_late.proofs.NamingLemmas.{seen_at}
-use Rattle.lalrpop_norm_late.proofs.arguments.is_chosen.Goals as goal
-
-pub returns : goal.returns
-returns c = c.is_chosen_kind.ensures ∙ ap is_chosen (sym (seen_at c.args.symbol.now))

@@ -1,0 +1,13 @@
+mod NumberLemmas
+mod ReadLemmas
+mod WalkLemmas
+mod GroupLemmas
+mod KindLemmas
+mod RuleLemmas
+mod FirstLemmas
+mod SeveralLemmas
+pub mod LevelNameLemmas
+pub mod LevelFaultLemmas
+pub mod SettledLemmas
+pub mod PrecedenceLemmas
+pub mod PrecedenceExamples

@@ -1,0 +1,8 @@
+use Rattle.std.proofs.Common.{◌≡◌, map, drop}
+use Rattle.lalrpop_norm_precedence.specs.LevelFaults.{least}
+use Rattle.lalrpop_norm_precedence.specs.Handed.{alternative_level_view}
+use Rattle.lalrpop_norm_precedence.specs.declared.precedence.read.AlternativeLevel.{AlternativeLevel}
+use Rattle.lalrpop_norm_precedence.proofs.precedence.read.least.Given as goal
+
+abbrev pub invariant-loop-i : goal.invariant-loop-i
+invariant-loop-i l = l.least ≡ least (map (λ (a : AlternativeLevel). (alternative_level_view a).0) (drop l.i l.levels))

@@ -1,0 +1,55 @@
+-- The rules of levels as they are made, one after another.
+use Rattle.std.specs.Prelude.{ℕ, false, List, [], ◌∷◌, ◌++◌, map, Option, Some, None, unwrap_or, codes, if◌then◌else◌}
+use Rattle.lalrpop_norm_parts.specs.declared.attribute.Attribute.{Attribute}
+use Rattle.lalrpop_norm_parts.specs.Attributes.{Attributes, attribute_view}
+use Rattle.lalrpop_norm_tree.specs.Symbols.{Kind, nonterminal}
+use Rattle.lalrpop_norm_tree.specs.Items.{AlternativeData, RuleData}
+use Rattle.lalrpop_norm_model.specs.Levels.{Side, left, right, neither, every, Leveled, is_named, greatest}
+use Rattle.lalrpop_norm_model.specs.ClosedTexts.{level_name}
+use Rattle.lalrpop_norm_model.specs.LevelRules.{without_first, is_own, step_alternative}
+use Rattle.lalrpop_norm_precedence.specs.Substituted.{occurrence, substituted_parts}
+use Rattle.lalrpop_norm_precedence.specs.Grouped.{LevelGroup}
+
+-- what an own occurrence becomes in an alternative of a side, by how many stand before and after it
+abbrev pub kind_by_side : Side → Kind → Kind → ℕ → ℕ → Kind
+kind_by_side left current below before after = occurrence (current, below) false before
+kind_by_side right current below before after = occurrence (current, below) false after
+kind_by_side neither current below before after = below
+kind_by_side every current below before after = current
+
+-- the attributes without the first one of a name
+abbrev pub less_first : List ℕ → List Attribute → List Attribute
+less_first name [] = []
+less_first name (a ∷ rest) = if is_named name (attribute_view a) then rest else a ∷ less_first name rest
+
+abbrev pub without_level_attributes : Attributes → Attributes
+without_level_attributes xs = without_first (codes "assoc") (without_first (codes "precedence") xs)
+
+-- an alternative with these two kinds for its own occurrences
+unfoldable pub rewritten : RuleData → Kind → Kind → Leveled → AlternativeData
+rewritten r current below a = record a.alternative {
+  parts = substituted_parts (is_own r) (kind_by_side a.side current below) 0 0 a.alternative.parts;
+  attributes = without_level_attributes a.alternative.attributes;
+}
+
+unfoldable pub made_alternative : RuleData → ℕ → Option ℕ → ℕ → Leveled → AlternativeData
+made_alternative r highest previous l a =
+    rewritten r (nonterminal (level_name r.name.0 highest l)) (nonterminal (level_name r.name.0 highest (unwrap_or previous l))) a
+
+abbrev pub made_steps : RuleData → ℕ → Option ℕ → List AlternativeData
+made_steps r highest None = []
+made_steps r highest (Some l) = step_alternative r.span (level_name r.name.0 highest l) ∷ []
+
+unfoldable pub made_rule : RuleData → ℕ → Option ℕ → ℕ → List Leveled → RuleData
+made_rule r highest previous l xs = record r {
+  name = record { 0 = level_name r.name.0 highest l };
+  alternatives = map (made_alternative r highest previous l) xs ++ made_steps r highest previous;
+}
+
+abbrev pub top_of : List LevelGroup → ℕ
+top_of gs = unwrap_or (greatest (map (λ (g : LevelGroup). g.0) gs)) 0
+
+-- the level before the first of the groups is handed on
+abbrev pub made_level_rules : RuleData → ℕ → Option ℕ → List LevelGroup → List RuleData
+made_level_rules r highest previous [] = []
+made_level_rules r highest previous (g ∷ gs) = made_rule r highest previous g.0 g.1 ∷ made_level_rules r highest (Some g.0) gs

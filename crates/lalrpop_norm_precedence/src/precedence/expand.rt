@@ -1,0 +1,77 @@
+//! The pass over a grammar: names, levels, and the names of levels.
+ghost use Rattle.std.specs.Prelude.{◌≡◌, IfOk, map, flat_map};
+ghost use Rattle.lalrpop_norm_tree.specs.Items.{grammar_view, item_view, rule_view};
+ghost use Rattle.lalrpop_norm_faults.specs.Faults.{Refuses, RefusesOr};
+ghost use Rattle.lalrpop_norm_model.specs.Scopes.{resolved_grammar};
+ghost use Rattle.lalrpop_norm_model.specs.LevelRules.{leveled_grammar};
+ghost use Rattle.lalrpop_norm_precedence.specs.MacroLevels.{macro_level_faults, macro_item_faults};
+ghost use Rattle.lalrpop_norm_precedence.specs.PrecedenceFaults.{precedence_faults};
+
+use super::{expand_levels, has_several_levels};
+use lalrpop_norm_faults::{FaultKind, NormResult, refusal};
+use lalrpop_norm_resolve::resolve::{check_globals, resolve};
+use lalrpop_norm_tree::grammar::parse_tree::{Grammar, GrammarItem, NonterminalData};
+use std::alloc::Global;
+
+/// The grammar with levels: its names resolved, in the place of each rule the rules of its levels, macro definitions
+/// likewise, all else unchanged. Alternatives that are not enabled are to be taken out before.
+///
+/// A refusal is the first fault, in this order: those of names in the grammar (F25 to F32); the faults of its levels
+/// (F12), rule by rule, see [`read_levels`](super::read_levels); and those of names in the grammar with levels, where
+/// the name of a level is taken (F25), or a macro has two levels or more (F29, at the macro): a level names the one below
+/// it without arguments. The grammar is consumed, also where it is refused. The other error is want of memory.
+pub fn expand_precedence(alloc: Global, grammar: Grammar) -> NormResult<Grammar>
+    ensures expands { RefusesOr result (precedence_faults (grammar_view grammar)) (λ g. grammar_view g ≡ leveled_grammar (resolved_grammar (grammar_view grammar))) }
+    // nothing is left to resolve
+    ensures resolved { IfOk result (λ g. resolved_grammar (grammar_view g) ≡ grammar_view g) }
+{
+    let resolved = resolve(alloc, grammar)?;
+    // told only after the names of levels were looked at
+    let macros = check_macros(alloc, &resolved.items);
+    let leveled = expand_levels(alloc, resolved)?;
+    check_globals(alloc, &leveled)?;
+    macros?;
+    Ok(leveled)
+}
+
+/// Looks for a macro with two levels or more.
+fn check_macros(alloc: Global, items: &[GrammarItem]) -> NormResult<()>
+    ensures { Refuses result (flat_map macro_item_faults (map item_view items.now)) }
+{
+    for item in items {
+        check_item(alloc, item)?;
+    }
+    Ok(())
+}
+
+#[tactic(auto, unfolding(crate::specs::MacroLevels::macro_item_faults))]
+fn check_item(alloc: Global, item: &GrammarItem) -> NormResult<()>
+    ensures { Refuses result (macro_item_faults (item_view item.now)) }
+{
+    match item {
+        GrammarItem::Nonterminal(rule) => check_macro(alloc, rule),
+        GrammarItem::MatchToken(_)
+        | GrammarItem::ExternToken(_)
+        | GrammarItem::InternToken(_)
+        | GrammarItem::Use(_) => Ok(()),
+    }
+}
+
+fn check_macro(alloc: Global, rule: &NonterminalData) -> NormResult<()>
+    ensures { Refuses result (macro_level_faults (rule_view rule.now)) }
+{
+    if !rule.is_macro_def() {
+        return Ok(());
+    }
+    if has_several_levels(alloc, rule)? {
+        let name = &rule.name;
+        return Err(refusal(
+            FaultKind::NotNonterminal,
+            rule.span,
+            format!(in alloc;
+                "the macro `{name}` has two levels or more, and a level can't name the one below it without arguments"
+            ),
+        ));
+    }
+    Ok(())
+}

@@ -1,0 +1,360 @@
+//! Levels and sides as a rule's alternatives state them.
+ghost use Rattle.std.specs.Prelude.{◌≡◌, ◌^◌, None, Some, IfOk, is_some, option_map, map, flat_map, codes, nat_eq, not, if◌then◌else◌};
+ghost use Rattle.std.specs.List.{list_any};
+ghost use Rattle.lalrpop_norm_tree.specs.Accessors.{or_else};
+ghost use Rattle.lalrpop_norm_parts.specs.Attributes.{attribute_view, attributes_view};
+ghost use Rattle.lalrpop_norm_tree.specs.Items.{alternative_view, rule_view};
+ghost use Rattle.lalrpop_norm_faults.specs.Faults.{Refuses, RefusesOr};
+ghost use Rattle.lalrpop_norm_model.specs.Levels.{first_named, value_under, number_of, side_named, stated_level, stated_side, has_levels};
+ghost use Rattle.lalrpop_norm_precedence.specs.Sides.{side_of};
+ghost use Rattle.lalrpop_norm_precedence.specs.LevelFaults.{missing_level_faults, level_argument_faults, side_argument_faults, level_attribute_faults, lesser_level, least, is_narrow, is_barred, barred_faults, lowest_faults, level_faults, levels_and_sides, has_several_levels};
+ghost use Rattle.lalrpop_norm_precedence.specs.Handed.{alternative_level_view, handed_levels, handed_faults, differ};
+
+use super::attributes::{first_named, has_level_attribute};
+use super::{ASSOC_ATTR, Assoc, LVL_ARG, PREC_ATTR, SIDE_ARG};
+use lalrpop_norm_faults::{FaultKind, NormResult, refusal};
+use lalrpop_norm_tree::grammar::parse_tree::{Alternative, Attribute, NonterminalData};
+use std::alloc::{AllocError, Global};
+
+/// The level and the side of an alternative.
+#[derive(Clone, Copy, PartialEq, Eq)]
+pub struct AlternativeLevel {
+    /// The level stated last at or before the alternative: 0 to 4294967295. Where none is stated, 0.
+    pub level: u32,
+    /// The side stated last at or before the alternative and not before its level; `all` where none is.
+    pub side: Assoc,
+}
+
+/// The level and the side of each alternative of a rule, in order. All alternatives count; those that are not enabled
+/// are to be taken out before.
+///
+/// The first fault is refused, in this order: a rule with a `precedence` or an `assoc` whose first alternative has no
+/// `precedence` (F12a, at that alternative); for each alternative a level that is not `level = ".."` (F12b) or no
+/// number of 32 bits (F12c), both at the name of the `precedence`, and a side that is not `side = ".."` (F12d) or none
+/// of the four (F12e); then a side on the lowest level (F12f): any where an alternative states that level, any but
+/// `all` where it inherits it; these three at the name of the `assoc`. The other error is `Memory`.
+pub fn read_levels(alloc: Global, rule: &NonterminalData) -> NormResult<Vec<AlternativeLevel>>
+    ensures { RefusesOr result (level_faults (rule_view rule.now)) (λ levels. map alternative_level_view levels.items ≡ levels_and_sides (rule_view rule.now)) }
+{
+    check_first(alloc, &rule.alternatives)?;
+    check_attributes(alloc, &rule.alternatives)?;
+    let levels = hand_on(alloc, &rule.alternatives)?;
+    let lowest = least(&levels).unwrap_or(0);
+    check_lowest(alloc, lowest, &rule.alternatives)?;
+    Ok(levels)
+}
+
+/// Whether the alternatives of a rule have two levels or more, 0 counting where none is stated. All alternatives count;
+/// those that are not enabled are to be taken out before.
+///
+/// The only error is want of memory.
+#[tactic(auto, using(crate::proofs::SeveralLemmas::several_read))]
+pub fn has_several_levels(alloc: Global, rule: &NonterminalData) -> Result<bool, AllocError>
+    ensures { IfOk result (λ several. several ≡ has_several_levels (rule_view rule.now)) }
+{
+    if !has_levels(&rule.alternatives) {
+        return Ok(false);
+    }
+    let levels = hand_on(alloc, &rule.alternatives)?;
+    Ok(differ(&levels))
+}
+
+/// Whether some level is another than the first.
+fn differ(levels: &[AlternativeLevel]) -> bool
+    ensures { result ≡ differ (map (λ l. (alternative_level_view l).0) levels.now) }
+{
+    match levels.first() {
+        Some(first) => any_other(first.level, levels),
+        None => false,
+    }
+}
+
+fn any_other(first: u32, levels: &[AlternativeLevel]) -> bool
+    ensures { result ≡ list_any (λ l. not (nat_eq l first)) (map (λ l. (alternative_level_view l).0) levels.now) }
+{
+    for level in levels {
+        if level.level != first {
+            return true;
+        }
+    }
+    false
+}
+
+// ---- what an alternative states
+
+/// The value of the first argument, if that argument is `key = ".."` for this key.
+fn value_under<'a>(attribute: &'a Attribute, key: &str) -> Option<&'a str>
+    ensures { option_map (λ t. t.now) result ≡ value_under key.now (attribute_view attribute.now) }
+{
+    match attribute.get_arg_equal() {
+        Some((name, value)) => {
+            if name.as_str() == key {
+                Some(value)
+            } else {
+                None
+            }
+        }
+        None => None,
+    }
+}
+
+/// The number that a level is written as: decimal digits after one `+` at most, up to 4294967295.
+fn number_of(text: &str) -> Option<u32>
+    ensures { result ≡ number_of (2 ^ 32) text.now }
+{
+    text.parse::<u32>().ok()
+}
+
+fn side_named(text: &str) -> Option<Assoc>
+    ensures { option_map side_of result ≡ side_named text.now }
+{
+    text.parse::<Assoc>().ok()
+}
+
+fn stated_level(attributes: &[Attribute]) -> Option<u32>
+    ensures { result ≡ stated_level (attributes_view attributes.now) }
+{
+    match first_named(attributes, PREC_ATTR) {
+        Some(attribute) => match value_under(attribute, LVL_ARG) {
+            Some(text) => number_of(text),
+            None => None,
+        },
+        None => None,
+    }
+}
+
+fn stated_side(attributes: &[Attribute]) -> Option<Assoc>
+    ensures { option_map side_of result ≡ stated_side (attributes_view attributes.now) }
+{
+    match first_named(attributes, ASSOC_ATTR) {
+        Some(attribute) => match value_under(attribute, SIDE_ARG) {
+            Some(text) => side_named(text),
+            None => None,
+        },
+        None => None,
+    }
+}
+
+// ---- the first alternative
+
+/// Whether some alternative has a `precedence` or an `assoc`.
+pub(super) fn has_levels(alternatives: &[Alternative]) -> bool
+    ensures { result ≡ has_levels (map Some (map alternative_view alternatives.now)) }
+{
+    for alternative in alternatives {
+        if has_level_attribute(&alternative.attributes) {
+            return true;
+        }
+    }
+    false
+}
+
+fn check_first(alloc: Global, alternatives: &[Alternative]) -> NormResult<()>
+    ensures { Refuses result (missing_level_faults (map alternative_view alternatives.now)) }
+{
+    match alternatives.first() {
+        Some(first) => {
+            if has_levels(alternatives) && first_named(&first.attributes, PREC_ATTR).is_none() {
+                return Err(refusal(
+                    FaultKind::MissingLevel,
+                    first.span,
+                    format!(in alloc;
+                        "the first alternative of a rule with levels has no `precedence`"
+                    ),
+                ));
+            }
+            Ok(())
+        }
+        None => Ok(()),
+    }
+}
+
+// ---- attributes
+
+fn check_level(alloc: Global, attributes: &[Attribute]) -> NormResult<()>
+    ensures { Refuses result (level_argument_faults (first_named (codes "precedence") (attributes_view attributes.now))) }
+{
+    match first_named(attributes, PREC_ATTR) {
+        Some(attribute) => match value_under(attribute, LVL_ARG) {
+            Some(text) => {
+                if number_of(text).is_none() {
+                    return Err(refusal(
+                        FaultKind::LevelNumber,
+                        attribute.id_span,
+                        format!(in alloc; "the level `{text}` is no number from 0 to 4294967295"),
+                    ));
+                }
+                Ok(())
+            }
+            None => Err(refusal(
+                FaultKind::LevelArgument,
+                attribute.id_span,
+                format!(in alloc; "`precedence` takes `level = \"..\"`"),
+            )),
+        },
+        None => Ok(()),
+    }
+}
+
+fn check_side(alloc: Global, attributes: &[Attribute]) -> NormResult<()>
+    ensures { Refuses result (side_argument_faults (first_named (codes "assoc") (attributes_view attributes.now))) }
+{
+    match first_named(attributes, ASSOC_ATTR) {
+        Some(attribute) => match value_under(attribute, SIDE_ARG) {
+            Some(text) => {
+                if side_named(text).is_none() {
+                    return Err(refusal(
+                        FaultKind::Side,
+                        attribute.id_span,
+                        format!(in alloc;
+                            "the side `{text}` is none of `left`, `right`, `none` and `all`"
+                        ),
+                    ));
+                }
+                Ok(())
+            }
+            None => Err(refusal(
+                FaultKind::SideArgument,
+                attribute.id_span,
+                format!(in alloc; "`assoc` takes `side = \"..\"`"),
+            )),
+        },
+        None => Ok(()),
+    }
+}
+
+#[tactic(auto, unfolding(crate::specs::LevelFaults::level_attribute_faults), using(lalrpop_norm_faults::proofs::FaultLemmas::first_of_more))]
+fn check_alternative(alloc: Global, alternative: &Alternative) -> NormResult<()>
+    ensures { Refuses result (level_attribute_faults (alternative_view alternative.now)) }
+{
+    check_level(alloc, &alternative.attributes)?;
+    check_side(alloc, &alternative.attributes)?;
+    Ok(())
+}
+
+fn check_attributes(alloc: Global, alternatives: &[Alternative]) -> NormResult<()>
+    ensures { Refuses result (flat_map level_attribute_faults (map alternative_view alternatives.now)) }
+{
+    for alternative in alternatives {
+        check_alternative(alloc, alternative)?;
+    }
+    Ok(())
+}
+
+// ---- levels and sides of places
+
+fn level_after(before: Option<u32>, stated: Option<u32>) -> Option<u32>
+    ensures { result ≡ or_else stated before }
+{
+    match stated {
+        Some(level) => Some(level),
+        None => before,
+    }
+}
+
+/// A level that is stated starts anew, with the side beside it alone.
+fn side_after(before: Option<Assoc>, level: Option<u32>, stated: Option<Assoc>) -> Option<Assoc>
+    ensures { result ≡ (if is_some level then stated else or_else stated before) }
+{
+    match level {
+        Some(_) => stated,
+        None => match stated {
+            Some(side) => Some(side),
+            None => before,
+        },
+    }
+}
+
+fn hand_on(alloc: Global, alternatives: &[Alternative]) -> Result<Vec<AlternativeLevel>, AllocError>
+    ensures { IfOk result (λ levels. map alternative_level_view levels.items ≡ handed_levels None None (map alternative_view alternatives.now)) }
+{
+    let mut levels = Vec::new(alloc);
+    let mut level = None;
+    let mut side = None;
+    for alternative in alternatives {
+        let stated = stated_level(&alternative.attributes);
+        side = side_after(side, stated, stated_side(&alternative.attributes));
+        level = level_after(level, stated);
+        levels.push(AlternativeLevel {
+            level: level.unwrap_or(0),
+            side: side.unwrap_or(Assoc::FullyAssoc),
+        })?;
+    }
+    Ok(levels)
+}
+
+// ---- the lowest level
+
+fn lesser(level: u32, other: Option<u32>) -> u32
+    ensures { result ≡ lesser_level level other }
+{
+    match other {
+        Some(other) => { if other < level { other } else { level } }
+        None => level,
+    }
+}
+
+fn least(levels: &[AlternativeLevel]) -> Option<u32>
+    ensures { result ≡ least (map (λ l. (alternative_level_view l).0) levels.now) }
+{
+    let mut least = None;
+    for i in (0..levels.len()).rev() {
+        least = Some(lesser(levels[i].level, least));
+    }
+    least
+}
+
+fn is_narrow(side: Option<Assoc>) -> bool
+    ensures { result ≡ is_narrow (option_map side_of side) }
+{
+    match side {
+        Some(Assoc::Left | Assoc::Right | Assoc::NonAssoc) => true,
+        Some(Assoc::FullyAssoc) | None => false,
+    }
+}
+
+fn is_barred(alternative: &Alternative) -> bool
+    ensures { result ≡ is_barred (alternative_view alternative.now) }
+{
+    stated_level(&alternative.attributes).is_some()
+        || is_narrow(stated_side(&alternative.attributes))
+}
+
+#[tactic(auto, unfolding(crate::specs::LevelFaults::lowest_faults))]
+fn check_place(alloc: Global, lowest: u32, level: u32, alternative: &Alternative) -> NormResult<()>
+    ensures { Refuses result (lowest_faults lowest level (alternative_view alternative.now)) }
+{
+    if level == lowest {
+        check_barred(alloc, alternative)?;
+    }
+    Ok(())
+}
+
+fn check_barred(alloc: Global, alternative: &Alternative) -> NormResult<()>
+    ensures { Refuses result (barred_faults (alternative_view alternative.now) (first_named (codes "assoc") (attributes_view alternative.now.attributes.items))) }
+{
+    match first_named(&alternative.attributes, ASSOC_ATTR) {
+        Some(attribute) => {
+            if is_barred(alternative) {
+                return Err(refusal(
+                    FaultKind::SideOnLowest,
+                    attribute.id_span,
+                    format!(in alloc; "the lowest level of a rule takes no side"),
+                ));
+            }
+            Ok(())
+        }
+        None => Ok(()),
+    }
+}
+
+fn check_lowest(alloc: Global, lowest: u32, alternatives: &[Alternative]) -> NormResult<()>
+    ensures { Refuses result (handed_faults lowest None (map alternative_view alternatives.now)) }
+{
+    let mut level = None;
+    for alternative in alternatives {
+        level = level_after(level, stated_level(&alternative.attributes));
+        check_place(alloc, lowest, level.unwrap_or(0), alternative)?;
+    }
+    Ok(())
+}

@@ -1,0 +1,314 @@
+//! The rules of the levels of a rule.
+ghost use Rattle.std.specs.Prelude.{◌≡◌, ◌++◌, [], ◌∷◌, None, Some, IfOk, OnOk, map, unwrap_or};
+ghost use Rattle.lalrpop_norm_parts.specs.Attributes.{attributes_view};
+ghost use Rattle.lalrpop_norm_tree.specs.Items.{alternative_view, rule_view};
+ghost use Rattle.lalrpop_norm_tree.specs.Symbols.{nonterminal, kind_view, parts_view};
+ghost use Rattle.lalrpop_norm_faults.specs.Faults.{RefusesOr};
+ghost use Rattle.lalrpop_norm_model.specs.Levels.{greater, greatest};
+ghost use Rattle.lalrpop_norm_model.specs.Grammars.{is_nil};
+ghost use Rattle.lalrpop_norm_model.specs.ClosedTexts.{level_name};
+ghost use Rattle.lalrpop_norm_model.specs.LevelRules.{is_own, step_alternative, level_rules};
+ghost use Rattle.lalrpop_norm_precedence.specs.LevelFaults.{level_faults};
+ghost use Rattle.lalrpop_norm_precedence.specs.Substituted.{is_target, substituted_parts};
+ghost use Rattle.lalrpop_norm_precedence.specs.Grouped.{LevelGroup, marked_view, group_view};
+ghost use Rattle.lalrpop_norm_precedence.specs.Sides.{side_of};
+ghost use Rattle.lalrpop_norm_precedence.specs.Made.{kind_by_side, less_first, without_level_attributes, top_of, rewritten, made_alternative, made_steps, made_rule, made_level_rules};
+
+use super::groups::{Group, Marked, group_by_level, mark};
+use super::read::{has_levels, read_levels};
+use super::{ASSOC_ATTR, Assoc, Direction, PREC_ATTR, Substitution, replace_nonterm};
+use lalrpop_norm_faults::NormResult;
+use lalrpop_norm_tree::grammar::parse_tree::{
+    Alternative, Atom, Attribute, ExprSymbol, NoMemory, NonterminalData, NonterminalString, Span,
+    Symbol, SymbolKind,
+};
+use std::alloc::Global;
+use std::mem;
+
+/// The rules of the levels of a rule, rising; a rule without levels as it is. All its alternatives count; those that
+/// are not enabled are to be taken out before.
+///
+/// The highest level keeps the name, each other one has its number behind it. A level has its own alternatives in
+/// order, without the `precedence` and the `assoc` that were read, each own occurrence as the level that the
+/// alternative's side gives it; then, but on the lowest level, a step to the level below: its name alone, at the span
+/// of the rule, without code. All else of the rule is copied to each level. In a macro no reference is an own
+/// occurrence.
+///
+/// The errors are those of [`read_levels`](super::read_levels). The rule is consumed, also where it is refused.
+pub fn expand_nonterm(alloc: Global, rule: NonterminalData) -> NormResult<Vec<NonterminalData>>
+    ensures { RefusesOr result (level_faults (rule_view rule)) (λ rules. map rule_view rules.items ≡ level_rules (rule_view rule)) }
+{
+    let levels = read_levels(alloc, &rule)?;
+    if !has_levels(&rule.alternatives) {
+        let mut rules = Vec::new(alloc);
+        rules.push(rule)?;
+        return Ok(rules);
+    }
+    let mut head = rule;
+    let alternatives = mem::replace(&mut head.alternatives, Vec::new(alloc));
+    let marked = mark(alloc, alternatives, &levels)?;
+    let groups = group_by_level(alloc, marked)?;
+    let rules = made_rules(alloc, &head, groups)?;
+    Ok(rules)
+}
+
+/// The greatest level of some groups.
+fn greatest(groups: &[Group]) -> Option<u32>
+    ensures { result ≡ greatest (map (λ (g : LevelGroup). g.0) (map group_view groups.now)) }
+{
+    let mut top = None;
+    for i in (0..groups.len()).rev() {
+        top = Some(greater(groups[i].level, top));
+    }
+    top
+}
+
+fn greater(level: u32, other: Option<u32>) -> u32
+    ensures { result ≡ greater level other }
+{
+    match other {
+        Some(other) => { if level < other { other } else { level } }
+        None => level,
+    }
+}
+
+/// The rules of the groups, with the head of a rule whose alternatives are taken out.
+fn made_rules(
+    alloc: Global,
+    head: &NonterminalData,
+    groups: Vec<Group>,
+) -> Result<Vec<NonterminalData>, NoMemory>
+    ensures { IfOk result (λ rules. map rule_view rules.items ≡ made_level_rules (rule_view head.now) (top_of (map group_view groups.items)) None (map group_view groups.items)) }
+{
+    let highest = greatest(&groups).unwrap_or(0);
+    let mut rules = Vec::new(alloc);
+    let mut previous = None;
+    for group in groups {
+        let level = group.level;
+        rules.push(made_rule(alloc, head, highest, previous, group)?)?;
+        previous = Some(level);
+    }
+    Ok(rules)
+}
+
+#[tactic(auto, unfolding(crate::specs::Made::made_rule))]
+fn made_rule(
+    alloc: Global,
+    head: &NonterminalData,
+    highest: u32,
+    previous: Option<u32>,
+    group: Group,
+) -> Result<NonterminalData, NoMemory>
+    ensures { IfOk result (λ r. rule_view r ≡ made_rule (rule_view head.now) highest previous group.level (map marked_view group.alternatives.items)) }
+{
+    let level = group.level;
+    let name = level_name(alloc, &head.name, highest, level)?;
+    let mut alternatives = made_alternatives(
+        alloc,
+        head,
+        highest,
+        previous,
+        level,
+        group.alternatives,
+    )?;
+    push_step(alloc, head, highest, previous, &mut alternatives)?;
+    let mut rule = head.clone()?;
+    rule.name = name;
+    rule.alternatives = alternatives;
+    Ok(rule)
+}
+
+fn level_name(
+    alloc: Global,
+    name: &NonterminalString,
+    highest: u32,
+    level: u32,
+) -> Result<NonterminalString, NoMemory>
+    ensures { IfOk result (λ n. n.0 ≡ level_name name.now.0 highest level) }
+{
+    if level == highest {
+        return Ok(name.clone()?);
+    }
+    let text = format!(in alloc; "{name}{level}")?;
+    Ok(NonterminalString(Atom::new(alloc, &text)?))
+}
+
+fn level_kind(
+    alloc: Global,
+    name: &NonterminalString,
+    highest: u32,
+    level: u32,
+) -> Result<SymbolKind, NoMemory>
+    ensures { IfOk result (λ k. kind_view k ≡ nonterminal (level_name name.now.0 highest level)) }
+{
+    Ok(SymbolKind::Nonterminal(level_name(alloc, name, highest, level)?))
+}
+
+#[tactic(auto, unfolding(crate::specs::Made::made_alternative))]
+fn made_alternatives(
+    alloc: Global,
+    head: &NonterminalData,
+    highest: u32,
+    previous: Option<u32>,
+    level: u32,
+    marked: Vec<Marked>,
+) -> Result<Vec<Alternative>, NoMemory>
+    ensures { IfOk result (λ alternatives. map alternative_view alternatives.items
+        ≡ map (made_alternative (rule_view head.now) highest previous level) (map marked_view marked.items)) }
+{
+    let current = level_kind(alloc, &head.name, highest, level)?;
+    let below = level_kind(alloc, &head.name, highest, previous.unwrap_or(level))?;
+    let mut alternatives = Vec::new(alloc);
+    for alternative in marked {
+        alternatives.push(made_alternative(head, &current, &below, alternative)?)?;
+    }
+    Ok(alternatives)
+}
+
+#[tactic(auto, unfolding(crate::specs::Made::rewritten))]
+fn made_alternative(
+    head: &NonterminalData,
+    current: &SymbolKind,
+    below: &SymbolKind,
+    marked: Marked,
+) -> Result<Alternative, NoMemory>
+    ensures { IfOk result (λ a. alternative_view a ≡ rewritten (rule_view head.now) (kind_view current.now) (kind_view below.now) (marked_view marked)) }
+{
+    let mut alternative = marked.alternative;
+    replace_own(
+        head,
+        current,
+        below,
+        marked.side,
+        &mut alternative.expr.symbols,
+    )?;
+    remove_levels(&mut alternative.attributes);
+    Ok(alternative)
+}
+
+/// Takes away the `precedence` and the `assoc` that are read.
+#[tactic(auto, using(crate::proofs::KindLemmas::less_first_view))]
+fn remove_levels(attributes: &mut Vec<Attribute>)
+    ensures { attributes_view attributes.new.items ≡ without_level_attributes (attributes_view attributes.old.items) }
+{
+    remove_first(attributes, PREC_ATTR);
+    remove_first(attributes, ASSOC_ATTR);
+}
+
+/// Takes away the first attribute of a name.
+fn remove_first(attributes: &mut Vec<Attribute>, name: &str)
+    ensures { attributes.new.items ≡ less_first name.now attributes.old.items }
+{
+    for i in 0..attributes.len() {
+        if attributes[i].id.as_str() == name {
+            let _ = attributes.remove(i);
+            return;
+        }
+    }
+}
+
+/// Whether a rule is no macro.
+fn is_plain(rule: &NonterminalData) -> bool
+    ensures { result ≡ is_nil (rule_view rule.now).args }
+{
+    match rule.args.first() {
+        Some(_) => false,
+        None => true,
+    }
+}
+
+#[tactic(auto, using(crate::proofs::KindLemmas::own_of_plain, crate::proofs::KindLemmas::own_of_macro))]
+fn replace_own(
+    head: &NonterminalData,
+    current: &SymbolKind,
+    below: &SymbolKind,
+    side: Assoc,
+    symbols: &mut [Symbol],
+) -> Result<(), NoMemory>
+    ensures { OnOk result (parts_view symbols.new
+        ≡ substituted_parts (is_own (rule_view head.now)) (kind_by_side (side_of side) (kind_view current.now) (kind_view below.now)) 0 0 (parts_view symbols.old)) }
+{
+    if is_plain(head) {
+        replace_by_side(&head.name, current, below, side, symbols)?;
+    }
+    Ok(())
+}
+
+/// Replaces the own occurrences in an alternative of this side.
+#[tactic(auto, using(crate::proofs::KindLemmas::every_one))]
+fn replace_by_side(
+    target: &NonterminalString,
+    current: &SymbolKind,
+    below: &SymbolKind,
+    side: Assoc,
+    symbols: &mut [Symbol],
+) -> Result<(), NoMemory>
+    ensures { OnOk result (parts_view symbols.new
+        ≡ substituted_parts (is_target target.now.0) (kind_by_side (side_of side) (kind_view current.now) (kind_view below.now)) 0 0 (parts_view symbols.old)) }
+{
+    match side {
+        Assoc::Left => replace_nonterm(
+            target,
+            Substitution::OneThen(current, below),
+            Direction::Forward,
+            symbols,
+        ),
+        Assoc::Right => replace_nonterm(
+            target,
+            Substitution::OneThen(current, below),
+            Direction::Backward,
+            symbols,
+        ),
+        Assoc::NonAssoc => replace_nonterm(
+            target,
+            Substitution::Every(below),
+            Direction::Forward,
+            symbols,
+        ),
+        Assoc::FullyAssoc => replace_nonterm(
+            target,
+            Substitution::Every(current),
+            Direction::Forward,
+            symbols,
+        ),
+    }
+}
+
+fn push_step(
+    alloc: Global,
+    head: &NonterminalData,
+    highest: u32,
+    previous: Option<u32>,
+    alternatives: &mut Vec<Alternative>,
+) -> Result<(), NoMemory>
+    ensures { OnOk result (map alternative_view alternatives.new.items ≡ map alternative_view alternatives.old.items ++ made_steps (rule_view head.now) highest previous) }
+{
+    match previous {
+        None => Ok(()),
+        Some(level) => {
+            let name = level_name(alloc, &head.name, highest, level)?;
+            alternatives.push(step_alternative(alloc, head.span, name)?)?;
+            Ok(())
+        }
+    }
+}
+
+/// The step to another rule: its name alone.
+fn step_alternative(
+    alloc: Global,
+    span: Span,
+    name: NonterminalString,
+) -> Result<Alternative, NoMemory>
+    ensures { IfOk result (λ a. alternative_view a ≡ step_alternative span name.0) }
+{
+    let kind = SymbolKind::Nonterminal(name);
+    let mut symbols = Vec::new(alloc);
+    symbols.push(Symbol { span, kind })?;
+    Ok(Alternative {
+        span,
+        expr: ExprSymbol { symbols },
+        condition: None,
+        action: None,
+        attributes: Vec::new(alloc),
+    })
+}

@@ -1,0 +1,46 @@
+-- Definitions added to a table one after the other.
+use Rattle.std.proofs.Common.{◌≡◌, ◌+◌, ◌<◌, ℕ, List, [], ◌∷◌, ◌++◌, Result, Ok, Err, get_or, drop, length, refl, ap, sym, ◌∙◌, append_assoc}
+use Rattle.std.specs.Result.{IsErrAnd}
+use Rattle.lalrpop_norm_faults.specs.declared.failure.NormFailure.{NormFailure}
+use Rattle.lalrpop_norm_faults.specs.Faults.{Fault, IsFirst, Refuses, RefusesOr}
+use Rattle.lalrpop_norm_faults.proofs.FaultLemmas.{exit_at, at_drop_item}
+use Rattle.lalrpop_norm_model.specs.Scopes.{Global}
+use Rattle.lalrpop_norm_resolve.specs.NameTables.{NameRow, def_of, with_def, row_faults, all_rows, rows_faults}
+
+pub rows_more : (rows : List NameRow) (xs ys : List Global) → all_rows rows (xs ++ ys) ≡ all_rows (all_rows rows xs) ys
+rows_more rows [] ys = refl
+rows_more rows (x ∷ xs) ys = rows_more (with_def rows x.name (def_of x.definition)) xs ys
+
+pub faults_more : (rows : List NameRow) (xs ys : List Global) → rows_faults rows (xs ++ ys) ≡ rows_faults rows xs ++ rows_faults (all_rows rows xs) ys
+faults_more rows [] ys = refl
+faults_more rows (x ∷ xs) ys =
+    let next = with_def rows x.name (def_of x.definition) in
+    ap (λ fs. row_faults rows x.name x.span ++ fs) (faults_more next xs ys) ∙ sym (append_assoc (row_faults rows x.name x.span) (rows_faults next xs) _)
+
+-- the exit by `?` where the faults are the callee's
+pub exit_or : {T : Type 0} (r : Result T NormFailure) (e : NormFailure) (fs : List Fault) (P : T → Type 0) → IsErrAnd r (λ x. x ≡ e) → IsFirst fs e → RefusesOr r fs P
+exit_or (Ok x) e fs P from h = absurd from
+exit_or (Err x) e fs P from h = rw from h
+
+-- A loop that adds the definitions of each element: one step, and the exit by `?`. All are those of the elements in a row.
+module _ {X : Type 0} (all : List X → List Global) (each : X → List Global) (split : (y : X) (ys : List X) → all (y ∷ ys) ≡ each y ++ all ys)
+    (xs : List X) (i : ℕ) (x : X) (old new : List NameRow) (lt : i < length xs) (is : x ≡ get_or xs i x) where
+  here : all (drop i xs) ≡ each x ++ all (drop (i + 1) xs)
+  here = at_drop_item all xs i x lt is ∙ split x (drop (i + 1) xs)
+
+  pub step_rows : (end : List NameRow) → new ≡ all_rows old (each x) → all_rows old (all (drop i xs)) ≡ end → all_rows new (all (drop (i + 1) xs)) ≡ end
+  step_rows end declared done =
+      ap (λ rs. all_rows rs (all (drop (i + 1) xs))) declared ∙ sym (rows_more old (each x) (all (drop (i + 1) xs))) ∙ sym (ap (λ ds. all_rows old ds) here) ∙ done
+
+  pub step_faults : (end : List Fault) → rows_faults old (each x) ≡ [] → new ≡ all_rows old (each x) → rows_faults old (all (drop i xs)) ≡ end →
+      rows_faults new (all (drop (i + 1) xs)) ≡ end
+  step_faults end none declared sound =
+      ap (λ rs. rows_faults rs (all (drop (i + 1) xs))) declared
+      ∙ sym (ap (λ fs. fs ++ rows_faults (all_rows old (each x)) (all (drop (i + 1) xs))) none)
+      ∙ sym (faults_more old (each x) (all (drop (i + 1) xs))) ∙ sym (ap (λ ds. rows_faults old ds) here) ∙ sound
+
+  pub exit_faults : {T : Type 0} (r : Result T NormFailure) (e : NormFailure) (end : List Fault) → IsErrAnd r (λ y. y ≡ e) →
+      IsFirst (rows_faults old (each x)) e → rows_faults old (all (drop i xs)) ≡ end → Refuses r end
+  exit_faults r e end from h sound =
+      exit_at r e (rows_faults old (each x)) (rows_faults (all_rows old (each x)) (all (drop (i + 1) xs))) end from h
+      (sym sound ∙ ap (λ ds. rows_faults old ds) here ∙ faults_more old (each x) (all (drop (i + 1) xs)))

@@ -1,0 +1,32 @@
+use Rattle.std.proofs.Common.{[], ◌++◌, append-nil, map, sym, ap, ◌∙◌}
+use Rattle.std.specs.List.{flat_map}
+use Rattle.lalrpop_norm_tree.specs.Items.{item_view}
+use Rattle.lalrpop_norm_faults.proofs.FaultLemmas.{exit_at}
+use Rattle.lalrpop_norm_resolve.specs.NameFaults.{item_name_faults}
+use Rattle.lalrpop_norm_resolve.specs.NameTables.{items_globals, rows_faults, item_faults_in}
+use Rattle.lalrpop_norm_resolve.proofs.GlobalLemmas.{faults_listed, faults_in_items, resolved_by_table}
+use Rattle.lalrpop_norm_resolve.proofs.resolve.resolve_in_place.Goals as goal
+
+pub returns-in_err-globals-clause-refuses : goal.returns-in_err-globals-clause-refuses
+returns-in_err-globals-clause-refuses c =
+    let is = map item_view c.args.items.now in
+    exit_at _ _ (rows_faults [] (items_globals is)) (flat_map (item_name_faults (items_globals is)) is) _ c.from_residual.ensures.1 c.in_err-globals.ensures
+    (sym (ap (λ fs. fs ++ flat_map (item_name_faults (items_globals is)) is) (faults_listed is)))
+
+pub returns-in_err-resolve_items-clause-refuses : goal.returns-in_err-resolve_items-clause-refuses
+returns-in_err-resolve_items-clause-refuses c =
+    let is = map item_view c.args.items.now in
+    let told = c.in_ok-globals.ensures in
+    let m = c.in_ok-globals.globals in
+    exit_at _ _ (flat_map (item_faults_in m) is) [] _ c.from_residual-in_err-resolve_items.ensures.1 c.in_err-resolve_items.ensures.refuses
+    (faults_in_items m is told.1 told.0 ∙ sym (append-nil (flat_map (item_faults_in m) is)))
+
+pub returns-clause-refuses : goal.returns-clause-refuses
+returns-clause-refuses c =
+    let told = c.in_ok-globals.ensures in
+    faults_in_items c.in_ok-globals.globals (map item_view c.args.items.now) told.1 told.0 ∙ c.in_ok-resolve_items.ensures.refuses
+
+pub returns-clause-resolves : goal.returns-clause-resolves
+returns-clause-resolves c =
+    let told = c.in_ok-globals.ensures in
+    c.in_ok-resolve_items.ensures.resolves ∙ resolved_by_table c.in_ok-globals.globals (map item_view c.args.items.now) told.1 told.0

@@ -1,0 +1,85 @@
+//! Resolving names: each identifier becomes the nonterminal or the bare terminal that it means.
+//!
+//! Global names come in this order: rules, then the bare terminals of conversions, then those of match blocks. In a rule a name is
+//! the rule's argument of that name, else the global one.
+ghost use Rattle.std.specs.Prelude.{◌≡◌, [], OnOk, IfOk, map};
+ghost use Rattle.lalrpop_norm_tree.specs.Items.{grammar_view, item_view};
+ghost use Rattle.lalrpop_norm_faults.specs.Faults.{Refuses, RefusesOr};
+ghost use Rattle.lalrpop_norm_model.specs.Scopes.{globals, resolved_item, resolved_grammar};
+ghost use Rattle.lalrpop_norm_resolve.specs.NameFaults.{repeated_faults, resolve_faults};
+ghost use Rattle.lalrpop_norm_resolve.specs.NameTables.{items_globals, names_faults};
+
+mod globals;
+mod items;
+mod rules;
+mod symbols;
+
+use globals::globals_of;
+use items::resolve_items;
+use lalrpop_norm_faults::NormResult;
+use lalrpop_norm_tree::grammar::parse_tree::{Grammar, GrammarItem};
+use std::alloc::Global;
+
+/// What a name stands for.
+#[derive(Clone, Copy, Debug, PartialEq, Eq)]
+pub(crate) enum Def {
+    Terminal,
+    /// A rule without arguments.
+    Rule,
+    /// A rule with arguments, and how many.
+    Macro(usize),
+    MacroArg,
+}
+
+impl Def {
+    /// In words, for messages.
+    fn description(self) -> &'static str {
+        match self {
+            Def::Terminal => "terminal",
+            Def::Rule => "nonterminal",
+            Def::Macro(_) => "macro",
+            Def::MacroArg => "macro argument",
+        }
+    }
+}
+
+/// The grammar with each identifier in its alternatives as the nonterminal or bare terminal that it means, all else as it was.
+///
+/// A grammar is refused by the first of its faults of names (F25 to F32): a name that is defined twice, at the later definition;
+/// then rule by rule an argument that is named twice, at the rule, and a name that is not in scope or means the wrong thing, at its
+/// symbol or condition. The grammar is consumed, also where it is refused. The other error is want of memory.
+pub fn resolve(alloc: Global, grammar: Grammar) -> NormResult<Grammar>
+    ensures resolves { RefusesOr result (resolve_faults (grammar_view grammar)) (λ g. grammar_view g ≡ resolved_grammar (grammar_view grammar)) }
+    // resolving what it answers finds no fault and changes nothing
+    ensures once { IfOk result (λ g. (resolve_faults (grammar_view g) ≡ []) × (resolved_grammar (grammar_view g) ≡ grammar_view g)) }
+{
+    let grammar = resolve_names(alloc, grammar)?;
+    Ok(grammar)
+}
+
+/// Looks for a name that is defined twice among the global ones (F25), and refuses it at the later definition.
+///
+/// The other error is want of memory.
+#[tactic(auto, using(crate::proofs::GlobalLemmas::faults_listed))]
+pub fn check_globals(alloc: Global, grammar: &Grammar) -> NormResult<()>
+    ensures { Refuses result (repeated_faults [] (globals (grammar_view grammar.now))) }
+{
+    let _globals = globals_of(alloc, &grammar.items)?;
+    Ok(())
+}
+
+fn resolve_names(alloc: Global, mut grammar: Grammar) -> NormResult<Grammar>
+    ensures { RefusesOr result (resolve_faults (grammar_view grammar)) (λ g. grammar_view g ≡ resolved_grammar (grammar_view grammar)) }
+{
+    resolve_in_place(alloc, &mut grammar.items)?;
+    Ok(grammar)
+}
+
+fn resolve_in_place(alloc: Global, items: &mut [GrammarItem]) -> NormResult<()>
+    ensures refuses { Refuses result (names_faults (map item_view items.old)) }
+    ensures resolves { OnOk result (map item_view items.new ≡ map (resolved_item (items_globals (map item_view items.old))) (map item_view items.old)) }
+{
+    let globals = globals_of(alloc, items)?;
+    resolve_items(alloc, &globals, items)?;
+    Ok(())
+}

@@ -1,0 +1,287 @@
+//! Global names.
+ghost use Rattle.std.specs.Prelude.{◌≡◌, [], OnOk, flat_map, map, option_map};
+ghost use Rattle.lalrpop_norm_tree.specs.Items.{ConversionData, conversion_view, enum_token_view, item_view, match_contents_view};
+ghost use Rattle.lalrpop_norm_faults.specs.Faults.{Refuses, RefusesOr};
+ghost use Rattle.lalrpop_norm_model.specs.Scopes.{rule_definition, bare_global, match_global, conversions_in, rule_globals, conversion_globals, match_globals};
+ghost use Rattle.lalrpop_norm_resolve.specs.NameTables.{def_of, with_def, all_rows, row_faults, rows_faults, items_globals, conversion_global};
+
+use super::Def;
+use super::symbols::global;
+use lalrpop_norm_faults::{FaultKind, NormResult, refusal};
+use lalrpop_norm_tree::grammar::parse_tree::{
+    Atom, Conversion, EnumToken, GrammarItem, MatchContents, MatchItem, MatchMapping, Span,
+    TerminalString,
+};
+use std::alloc::Global;
+use std::collections::BTreeMap;
+
+/// The global names of a grammar.
+#[tactic(auto, using(crate::proofs::TableLemmas::faults_more, crate::proofs::TableLemmas::rows_more))]
+pub(crate) fn globals_of(alloc: Global, items: &[GrammarItem]) -> NormResult<BTreeMap<Atom, Def>>
+    ensures { RefusesOr result (rows_faults [] (items_globals (map item_view items.now))) (λ m. m.entries ≡ all_rows [] (items_globals (map item_view items.now))) }
+{
+    let mut globals = BTreeMap::new(alloc);
+    declare_rules(alloc, &mut globals, items)?;
+    declare_externs(alloc, &mut globals, items)?;
+    declare_matches(alloc, &mut globals, items)?;
+    Ok(globals)
+}
+
+#[tactic(auto, unfolding(crate::specs::NameTables::row_faults, crate::specs::NameTables::with_def))]
+fn declare(
+    alloc: Global,
+    globals: &mut BTreeMap<Atom, Def>,
+    span: Span,
+    name: &Atom,
+    def: Def,
+) -> NormResult<()>
+    ensures refuses { Refuses result (row_faults globals.old.entries name.now span) }
+    ensures declares { OnOk result (globals.new.entries ≡ with_def globals.old.entries name.now def) }
+{
+    match global(globals, name) {
+        Some(earlier) => {
+            let earlier = earlier.description();
+            let what = def.description();
+            Err(refusal(
+                FaultKind::NameDeclaredTwice,
+                span,
+                format!(in alloc;
+                    "`{name}` is the name of a {earlier} already, and this {what} has it too: rename one of them"
+                ),
+            ))
+        }
+        None => {
+            globals.insert(name.again(), def)?;
+            Ok(())
+        }
+    }
+}
+
+/// A rule with so many arguments.
+#[tactic(auto, using(crate::proofs::NameLemmas::macro_def))]
+fn rule_def(arity: usize) -> Def
+    ensures { result ≡ def_of (rule_definition arity) }
+{
+    if arity == 0 {
+        Def::Rule
+    } else {
+        Def::Macro(arity)
+    }
+}
+
+fn declare_rule(
+    alloc: Global,
+    globals: &mut BTreeMap<Atom, Def>,
+    item: &GrammarItem,
+) -> NormResult<()>
+    ensures refuses { Refuses result (rows_faults globals.old.entries (rule_globals (item_view item.now))) }
+    ensures declares { OnOk result (globals.new.entries ≡ all_rows globals.old.entries (rule_globals (item_view item.now))) }
+{
+    match item {
+        GrammarItem::Nonterminal(rule) => {
+            declare(
+                alloc,
+                globals,
+                rule.span,
+                &rule.name.0,
+                rule_def(rule.args.len()),
+            )?;
+            Ok(())
+        }
+        GrammarItem::MatchToken(_)
+        | GrammarItem::ExternToken(_)
+        | GrammarItem::InternToken(_)
+        | GrammarItem::Use(_) => Ok(()),
+    }
+}
+
+fn declare_rules(
+    alloc: Global,
+    globals: &mut BTreeMap<Atom, Def>,
+    items: &[GrammarItem],
+) -> NormResult<()>
+    ensures refuses { Refuses result (rows_faults globals.old.entries (flat_map rule_globals (map item_view items.now))) }
+    ensures declares { OnOk result (globals.new.entries ≡ all_rows globals.old.entries (flat_map rule_globals (map item_view items.now))) }
+{
+    for item in items {
+        declare_rule(alloc, globals, item)?;
+    }
+    Ok(())
+}
+
+/// The name of a bare terminal.
+fn declare_terminal(
+    alloc: Global,
+    globals: &mut BTreeMap<Atom, Def>,
+    terminal: &TerminalString,
+    span: Span,
+) -> NormResult<()>
+    ensures refuses { Refuses result (rows_faults globals.old.entries (bare_global terminal.now span)) }
+    ensures declares { OnOk result (globals.new.entries ≡ all_rows globals.old.entries (bare_global terminal.now span)) }
+{
+    match terminal {
+        TerminalString::Bare(name) => {
+            declare(alloc, globals, span, name, Def::Terminal)?;
+            Ok(())
+        }
+        TerminalString::Literal(_) | TerminalString::Error => Ok(()),
+    }
+}
+
+fn declare_conversions(
+    alloc: Global,
+    globals: &mut BTreeMap<Atom, Def>,
+    conversions: &[Conversion],
+) -> NormResult<()>
+    ensures refuses { Refuses result (rows_faults globals.old.entries (flat_map conversion_global (map conversion_view conversions.now))) }
+    ensures declares { OnOk result (globals.new.entries ≡ all_rows globals.old.entries (flat_map conversion_global (map conversion_view conversions.now))) }
+{
+    for conversion in conversions {
+        declare_terminal(alloc, globals, &conversion.from, conversion.span)?;
+    }
+    Ok(())
+}
+
+fn declare_enum(
+    alloc: Global,
+    globals: &mut BTreeMap<Atom, Def>,
+    tokens: &Option<EnumToken>,
+) -> NormResult<()>
+    ensures refuses { Refuses result (rows_faults globals.old.entries (flat_map conversion_global (conversions_in (option_map enum_token_view tokens.now)))) }
+    ensures declares { OnOk result (globals.new.entries ≡ all_rows globals.old.entries (flat_map conversion_global (conversions_in (option_map enum_token_view tokens.now)))) }
+{
+    match tokens {
+        Some(tokens) => {
+            declare_conversions(alloc, globals, &tokens.conversions)?;
+            Ok(())
+        }
+        None => Ok(()),
+    }
+}
+
+fn declare_extern(
+    alloc: Global,
+    globals: &mut BTreeMap<Atom, Def>,
+    item: &GrammarItem,
+) -> NormResult<()>
+    ensures refuses { Refuses result (rows_faults globals.old.entries (conversion_globals (item_view item.now))) }
+    ensures declares { OnOk result (globals.new.entries ≡ all_rows globals.old.entries (conversion_globals (item_view item.now))) }
+{
+    match item {
+        GrammarItem::ExternToken(token) => {
+            declare_enum(alloc, globals, &token.enum_token)?;
+            Ok(())
+        }
+        GrammarItem::MatchToken(_)
+        | GrammarItem::Nonterminal(_)
+        | GrammarItem::InternToken(_)
+        | GrammarItem::Use(_) => Ok(()),
+    }
+}
+
+fn declare_externs(
+    alloc: Global,
+    globals: &mut BTreeMap<Atom, Def>,
+    items: &[GrammarItem],
+) -> NormResult<()>
+    ensures refuses { Refuses result (rows_faults globals.old.entries (flat_map conversion_globals (map item_view items.now))) }
+    ensures declares { OnOk result (globals.new.entries ≡ all_rows globals.old.entries (flat_map conversion_globals (map item_view items.now))) }
+{
+    for item in items {
+        declare_extern(alloc, globals, item)?;
+    }
+    Ok(())
+}
+
+fn declare_mapping(
+    alloc: Global,
+    globals: &mut BTreeMap<Atom, Def>,
+    item: &MatchItem,
+) -> NormResult<()>
+    ensures refuses { Refuses result (rows_faults globals.old.entries (match_global item.now)) }
+    ensures declares { OnOk result (globals.new.entries ≡ all_rows globals.old.entries (match_global item.now)) }
+{
+    match item {
+        MatchItem::Mapped(_, MatchMapping::Terminal(terminal), span) => {
+            declare_terminal(alloc, globals, terminal, *span)?;
+            Ok(())
+        }
+        MatchItem::Mapped(_, MatchMapping::Skip, _)
+        | MatchItem::Unmapped(_, _)
+        | MatchItem::CatchAll(_) => Ok(()),
+    }
+}
+
+fn declare_mappings(
+    alloc: Global,
+    globals: &mut BTreeMap<Atom, Def>,
+    items: &[MatchItem],
+) -> NormResult<()>
+    ensures refuses { Refuses result (rows_faults globals.old.entries (flat_map match_global items.now)) }
+    ensures declares { OnOk result (globals.new.entries ≡ all_rows globals.old.entries (flat_map match_global items.now)) }
+{
+    for item in items {
+        declare_mapping(alloc, globals, item)?;
+    }
+    Ok(())
+}
+
+fn declare_group(
+    alloc: Global,
+    globals: &mut BTreeMap<Atom, Def>,
+    group: &MatchContents,
+) -> NormResult<()>
+    ensures refuses { Refuses result (rows_faults globals.old.entries (flat_map match_global (match_contents_view group.now))) }
+    ensures declares { OnOk result (globals.new.entries ≡ all_rows globals.old.entries (flat_map match_global (match_contents_view group.now))) }
+{
+    declare_mappings(alloc, globals, &group.items)?;
+    Ok(())
+}
+
+fn declare_groups(
+    alloc: Global,
+    globals: &mut BTreeMap<Atom, Def>,
+    groups: &[MatchContents],
+) -> NormResult<()>
+    ensures refuses { Refuses result (rows_faults globals.old.entries (flat_map (flat_map match_global) (map match_contents_view groups.now))) }
+    ensures declares { OnOk result (globals.new.entries ≡ all_rows globals.old.entries (flat_map (flat_map match_global) (map match_contents_view groups.now))) }
+{
+    for group in groups {
+        declare_group(alloc, globals, group)?;
+    }
+    Ok(())
+}
+
+fn declare_match(
+    alloc: Global,
+    globals: &mut BTreeMap<Atom, Def>,
+    item: &GrammarItem,
+) -> NormResult<()>
+    ensures refuses { Refuses result (rows_faults globals.old.entries (match_globals (item_view item.now))) }
+    ensures declares { OnOk result (globals.new.entries ≡ all_rows globals.old.entries (match_globals (item_view item.now))) }
+{
+    match item {
+        GrammarItem::MatchToken(token) => {
+            declare_groups(alloc, globals, &token.contents)?;
+            Ok(())
+        }
+        GrammarItem::ExternToken(_)
+        | GrammarItem::Nonterminal(_)
+        | GrammarItem::InternToken(_)
+        | GrammarItem::Use(_) => Ok(()),
+    }
+}
+
+fn declare_matches(
+    alloc: Global,
+    globals: &mut BTreeMap<Atom, Def>,
+    items: &[GrammarItem],
+) -> NormResult<()>
+    ensures refuses { Refuses result (rows_faults globals.old.entries (flat_map match_globals (map item_view items.now))) }
+    ensures declares { OnOk result (globals.new.entries ≡ all_rows globals.old.entries (flat_map match_globals (map item_view items.now))) }
+{
+    for item in items {
+        declare_match(alloc, globals, item)?;
+    }
+    Ok(())
+}

@@ -1,0 +1,87 @@
+//! Type inference: the type of each rule of an expanded grammar.
+ghost use Rattle.std.specs.Prelude.{◌≡◌, IfOk, map};
+ghost use Rattle.lalrpop_norm_tree.specs.Items.{grammar_view, rule_view};
+ghost use Rattle.lalrpop_norm_faults.specs.Faults.{Refuses};
+ghost use Rattle.lalrpop_norm_theory.specs.Rounds.{IsDistinct};
+ghost use Rattle.lalrpop_norm_repr.specs.Tables.{type_table};
+ghost use Rattle.lalrpop_norm_model.specs.Expanded.{rule_names};
+ghost use Rattle.lalrpop_norm_model.specs.InferenceFaults.{inference_faults};
+ghost use Rattle.lalrpop_norm_model.specs.PlainRules.{all_rules};
+ghost use Rattle.lalrpop_norm_tyinfer.specs.Filled.{HasAllRows, table_faults};
+ghost use Rattle.lalrpop_norm_tyinfer.specs.Inferred.{IsInferred};
+ghost use Rattle.lalrpop_norm_tyinfer.specs.Visits.{rule_seen, with_clauses};
+
+mod agreement;
+mod clauses;
+mod grounded;
+mod patterns;
+mod rounds;
+mod same;
+mod tokens;
+mod values;
+mod written;
+
+use agreement::check_agreement;
+use grounded::{check_clauses, check_typed};
+use lalrpop_norm_faults::NormResult;
+use lalrpop_norm_repr::grammar::repr::Types;
+use lalrpop_norm_tree::grammar::parse_tree::{Grammar, NoMemory, TypeParameter};
+use patterns::check_patterns;
+use rounds::{PlainRule, plain_rules, run_rounds};
+use std::alloc::Global;
+use tokens::token_types;
+
+/// The table of the types of a grammar's rules and terminals. A rule has the type that it declares, or else the one that its
+/// alternatives without code give. The names of the rules are distinct, as in what `expand_macros` answers.
+///
+/// Errors, of several the first in this order: F47 (`NoAlternatives`) at a rule without a declared type and without alternatives,
+/// or F48 (`OnlyCoded`) at the first alternative of one whose alternatives give no type; F49 (`NotGrounded`) at a rule that has no
+/// type; F50 (`Disagreement`) at an alternative of a rule without a declared type that gives another type than the rule has; F51
+/// (`TupleOverSymbol`), F52 (`TupleOverType`) or F53 (`TupleLength`) at the symbol that a tuple of names stands before: it is no
+/// nonterminal, its type is no tuple, or one of another length; `Memory`.
+pub fn infer_types(alloc: Global, grammar: &Grammar) -> NormResult<Types>
+    requires { IsDistinct (rule_names (grammar_view grammar.now)) }
+    ensures refuses { Refuses result (inference_faults (grammar_view grammar.now)) }
+    ensures inferred { IfOk result (λ t. IsInferred (grammar_view grammar.now) (type_table t)) }
+{
+    let rules = plain_rules(alloc, &grammar.items)?;
+    infer(alloc, grammar, &rules)
+}
+
+/// As `infer_types`, where the rules stand by.
+fn infer(alloc: Global, grammar: &Grammar, rules: &[PlainRule]) -> NormResult<Types>
+    requires seen { map rule_seen rules.now ≡ map with_clauses (all_rules (grammar_view grammar.now)) }
+    requires distinct { IsDistinct (rule_names (grammar_view grammar.now)) }
+    ensures refuses { Refuses result (inference_faults (grammar_view grammar.now)) }
+    ensures inferred { IfOk result (λ t. IsInferred (grammar_view grammar.now) (type_table t)) }
+{
+    check_clauses(alloc, rules)?;
+    let types = filled_table(alloc, grammar, rules)?;
+    check_table(alloc, &grammar.type_parameters, &types, rules)?;
+    Ok(types)
+}
+
+/// The table where the rounds end.
+fn filled_table(alloc: Global, grammar: &Grammar, rules: &[PlainRule]) -> Result<Types, NoMemory>
+    requires { map rule_seen rules.now ≡ map with_clauses (all_rules (grammar_view grammar.now)) }
+    ensures { IfOk result (λ t. HasAllRows (grammar_view grammar.now) (type_table t)) }
+{
+    let mut types = token_types(alloc, grammar)?;
+    run_rounds(alloc, &grammar.type_parameters, &mut types, rules)?;
+    types.rows_ascend();
+    Ok(types)
+}
+
+/// Refuses what the table shows: rules without a type, then alternatives that disagree, then tuples of names that do not fit.
+fn check_table(
+    alloc: Global,
+    parameters: &[TypeParameter],
+    types: &Types,
+    rules: &[PlainRule],
+) -> NormResult<()>
+    ensures { Refuses result (table_faults parameters.now (type_table types.now) (map (λ r. rule_view r.data.now) rules.now)) }
+{
+    check_typed(alloc, types, rules)?;
+    check_agreement(alloc, parameters, types, rules)?;
+    check_patterns(alloc, types, rules)
+}

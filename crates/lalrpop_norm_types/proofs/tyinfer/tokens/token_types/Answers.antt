@@ -1,5 +1,0 @@
-use Rattle.lalrpop_norm_types.proofs.TokenLemmas.{from_base}
-use Rattle.lalrpop_norm_types.proofs.tyinfer.tokens.token_types.Goals as goal
-
-pub returns : goal.returns
-returns c = from_base _ _ _ _ c.in_ok-types.ensures c.in_ok-add_token_rows.ensures

@@ -1,0 +1,4 @@
+pub mod ListLemmas
+pub mod Slots
+pub mod FeatureLemmas
+pub mod SymbolLemmas

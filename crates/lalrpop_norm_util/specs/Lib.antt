@@ -1,0 +1,4 @@
+pub mod Braces
+pub mod Sessions
+pub mod ExprSymbols
+pub mod Values
