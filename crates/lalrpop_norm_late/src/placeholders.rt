@@ -144,25 +144,13 @@ fn pieces(alloc: Global, code: &str) -> Result<Vec<&str>, NoMemory>
     ensures { IfOk result (λ ps. map (λ p. p.now) ps.items ≡ pieces code.now) }
 {
     let mut pieces = Vec::new(alloc);
-    add_pieces(code, &mut pieces)?;
-    Ok(pieces)
-}
-
-/// Adds the pieces of a code.
-fn add_pieces<'a>(code: &'a str, found: &mut Vec<&'a str>) -> Result<(), NoMemory>
-    ensures { OnOk result (map (λ p. p.now) found.new.items ≡ map (λ p. p.now) found.old.items ++ pieces code.now) }
-{
-    match split_at_slot(code) {
-        None => {
-            found.push(code)?;
-            Ok(())
-        }
-        Some((before, after)) => {
-            found.push(before)?;
-            add_pieces(after, found)?;
-            Ok(())
-        }
+    let mut rest = code;
+    while let Some((before, after)) = split_at_slot(rest) {
+        pieces.push(before)?;
+        rest = after;
     }
+    pieces.push(rest)?;
+    Ok(pieces)
 }
 
 /// The names with `, ` between each two.

@@ -1,3 +1,4 @@
+pub mod ArgumentTexts
 pub mod SymbolTexts
 pub mod TableLemmas
 pub mod SeenTypes

@@ -104,7 +104,6 @@ fn show_typed<W: fmt::Write>(
 }
 
 /// Each pattern with its type, with `, ` before it.
-#[cycle(show_others)]
 fn show_others<W: fmt::Write>(
     patterns: &[ArgPattern],
     types: &[TypeRepr],
@@ -113,15 +112,11 @@ fn show_others<W: fmt::Write>(
     ensures { WritesOnOk W.write_str_gives f.old result
         (flat_map (λ p. codes ", " ++ typed_text p) (zip (map argument_pattern_view patterns.now) (map repr_view types.now))) f.new }
 {
-    match (patterns.split_first(), types.split_first()) {
-        (Some((pattern, patterns)), Some((ty, types))) => {
-            f.write_str(", ")?;
-            show_argument(pattern, ty, f)?;
-            show_others(patterns, types, f)
-        }
-        (Some(_), None) => Ok(()),
-        (None, _) => Ok(()),
+    for (pattern, ty) in patterns.iter().zip(types) {
+        f.write_str(", ")?;
+        show_argument(pattern, ty, f)?;
     }
+    Ok(())
 }
 
 /// `p: T`.
