@@ -1,5 +1,5 @@
 -- Where a symbol was met, what is inside each one that is the same was met as well, so that meeting it changes nothing.
-use Rattle.std.proofs.Common.{◌≡◌, ℕ, List, [], ◌∷◌, ◌++◌, Bool, true, false, cond, Option, Some, None, map, bytes_eq, refl, sym, ap, ap₂, ◌∙◌, subst}
+use Rattle.std.proofs.Common.{◌≡◌, ℕ, List, [], ◌∷◌, ◌++◌, Bool, true, false, cond, Option, Some, None, map, bytes_eq, refl, sym, ap, ap₂, ◌∙◌, subst, append-nil}
 use Rattle.std.specs.Prelude.{not, ◌||◌, ◌&&◌, is_some}
 use Rattle.std.proofs.lemmas.Bool.{and_parts, and_from}
 use Rattle.std.proofs.lemmas.List.{map-append}
@@ -289,6 +289,10 @@ own_is_none (at s (chosen p)) e = refl
 own_is_none (at s (named n p)) e = refl
 own_is_none (at s (tupled ns p)) e = refl
 own_is_none (at s error_terminal) e = refl
+
+-- a symbol that is made into no rule meets what is inside it
+pub kept_meets : (s : Symbol) → None ≡ own_text (symbol_view s) → met (symbol_view s) ≡ met_inside (kind_view s.kind)
+kept_meets s e = met_is s ∙ ap (λ (ps : List Part). met_inside (kind_view s.kind) ++ ps) (own_is_none (symbol_view s) e) ∙ append-nil (met_inside (kind_view s.kind))
 
 -- where the symbol was met, so was all that it meets
 pub all_was_met : (e : Expander) (s : Symbol) (t : List ℕ) → IsExpander e → Some t ≡ own_text (symbol_view s) →

@@ -1,3 +1,4 @@
+pub mod ReplaceLemmas
 mod SameLemmas
 mod ApartLemmas
 mod BackLemmas

@@ -18,6 +18,7 @@ mod items;
 mod make;
 mod meet;
 mod names;
+mod replace;
 mod replaced;
 mod same;
 mod sources;

@@ -108,17 +108,17 @@ impl Expander {
     }
 
     /// Meets the symbol alone, whose text this is. Where one that is the same was met, nothing changes.
-    pub fn meet(&mut self, alloc: Global, name: Atom, symbol: &Symbol) -> NormResult<()>
+    pub fn meet(&mut self, alloc: Global, name: &Atom, symbol: &Symbol) -> NormResult<()>
         requires indexed { IsExpander self.old }
-        requires named { name ≡ part_text (symbol_view symbol.now) }
+        requires named { name.now ≡ part_text (symbol_view symbol.now) }
         requires inward { were_met (is_taken_by self.old) (seen_of self.old) (inside (symbol_view symbol.now)) ≡ true }
         ensures refuses { Refuses result (refused_by self.old (symbol_view symbol.now ∷ [])) }
         ensures met { OnOk result (Meets self.old self.new (symbol_view symbol.now ∷ [])) }
     {
-        if self.is_known(alloc, &name, symbol)? {
+        if self.is_known(alloc, name, symbol)? {
             return Ok(());
         }
-        self.put(name, symbol.clone()?)?;
+        self.put(name.clone()?, symbol.clone()?)?;
         Ok(())
     }
 }

@@ -7,10 +7,9 @@ ghost use Rattle.lalrpop_norm_expand.specs.Making.{replaced_item, met_in_alterna
 ghost use Rattle.lalrpop_norm_expand.specs.Meeting.{IsExpander, Meets, refused_by};
 
 use super::expander::Expander;
-use super::meet::meet_all;
-use super::replaced::all_replaced;
+use super::replace::replace_symbols;
 use lalrpop_norm_faults::NormResult;
-use lalrpop_norm_tree::grammar::parse_tree::{Alternative, ExprSymbol, GrammarItem};
+use lalrpop_norm_tree::grammar::parse_tree::{Alternative, GrammarItem};
 use std::alloc::Global;
 
 fn replace_alternative(
@@ -23,9 +22,7 @@ fn replace_alternative(
     ensures value { OnOk result (alternative_view alternative.new ≡ replaced_alternative (alternative_view alternative.old)) }
     ensures met { OnOk result (Meets expander.old expander.new (met_in_alternative (alternative_view alternative.old))) }
 {
-    meet_all(alloc, &alternative.expr.symbols, expander)?;
-    let symbols = all_replaced(alloc, &alternative.expr.symbols)?;
-    alternative.expr = ExprSymbol { symbols };
+    replace_symbols(alloc, &mut alternative.expr.symbols, expander)?;
     Ok(())
 }
 
