@@ -1,3 +1,5 @@
+mod WordLemmas
+mod CapLemmas
 pub mod WalkLemmas
 pub mod KeyLemmas
 pub mod LaterLemmas

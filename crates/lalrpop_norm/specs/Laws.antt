@@ -1,16 +1,21 @@
 -- What is proved of the whole way, each statement in one piece. The functions of the module `laws` carry them.
-use Rattle.std.specs.Prelude.{◌≡◌, ℕ, [], Some, false}
+use Rattle.std.specs.Prelude.{◌≡◌, ◌↔◌, ◌++◌, ℕ, List, [], Some, false, flat_map}
+use Rattle.lalrpop_norm_parts.specs.declared.names.Span.{Span}
+use Rattle.lalrpop_norm_faults.specs.declared.kind.FaultKind.TheVariants.{RecursionCap}
 use Rattle.lalrpop_norm_tree.specs.Items.{RuleData, GrammarData}
 use Rattle.lalrpop_norm_parts.specs.Reprs.{ReprData}
-use Rattle.lalrpop_norm_theory.specs.Symbols.{Name}
-use Rattle.lalrpop_norm_theory.specs.Rounds.{In, IsDistinct}
+use Rattle.lalrpop_norm_theory.specs.Symbols.{ClosedSymbol, Name, Terminal}
+use Rattle.lalrpop_norm_theory.specs.Met.{rule_meets}
+use Rattle.lalrpop_norm_theory.specs.Rounds.{In, IsDistinct, NewIn}
 use Rattle.lalrpop_norm_conditions.specs.Conditions.{comparison}
 use Rattle.lalrpop_norm_model.specs.Features.{Features}
+use Rattle.lalrpop_norm_model.specs.WrittenRules.{written_rules}
 use Rattle.lalrpop_norm_model.specs.Enabled.{all_places, enabled_grammar}
 use Rattle.lalrpop_norm_model.specs.Levels.{with_levels, levels_of}
 use Rattle.lalrpop_norm_model.specs.Scopes.{is_argument, resolved_grammar}
 use Rattle.lalrpop_norm_model.specs.Stated.{HasLevel}
-use Rattle.lalrpop_norm_model.specs.Grammars.{is_nil}
+use Rattle.lalrpop_norm_model.specs.Grammars.{ConditionValue, is_nil, references, roots}
+use Rattle.lalrpop_norm_model.specs.PlainTables.{IsSettled, flat_meaning, declared}
 use Rattle.lalrpop_norm_model.specs.LevelRules.{level_of_rule, leveled_grammar}
 use Rattle.lalrpop_norm_model.specs.PlainRules.{all_rules, IsEnded}
 use Rattle.lalrpop_norm_model.specs.Renumbered.{prepared_grammar}
@@ -19,11 +24,13 @@ use Rattle.lalrpop_norm_model.specs.TypeTables.{Table}
 use Rattle.lalrpop_norm_model.specs.LoweringFaults.{lowering_faults}
 use Rattle.lalrpop_norm_model.specs.CheckedTokens.{IsEntered}
 use Rattle.lalrpop_norm_resolve.specs.NameFaults.{resolve_faults}
+use Rattle.lalrpop_norm_expand.specs.Expansion.{expansion_faults}
 use Rattle.lalrpop_norm_repr.specs.Lowered.{LoweredGrammar}
 use Rattle.lalrpop_norm_repr.specs.Tables.{TypeTable}
 use Rattle.lalrpop_norm_late.specs.Lowering.{public_rules_in, start_name}
 use Rattle.lalrpop_norm_late.specs.Shape.{IsLoweringOf}
-use Rattle.lalrpop_norm.specs.Faithful.{HasFaithfulTrees, grammar_with_levels, grammar_of_plain_rules}
+use Rattle.lalrpop_norm.specs.Derivations.{IsWrittenWord, IsWordOf}
+use Rattle.lalrpop_norm.specs.Faithful.{HasFaithfulTrees, IsSymbolOf, lowered_name, written_meaning, traced_derivations, grammar_with_levels, grammar_of_plain_rules}
 
 -- no macro has two levels
 abbrev pub HasFlatMacros : GrammarData → Type 0
@@ -58,3 +65,17 @@ LoweredTreesAreFaithful = (fs : Features) (g : GrammarData) → resolve_faults (
     HasOwnNames (grammar_of_plain_rules fs g rounds) → (plain : GrammarData) → IsEntered (grammar_of_plain_rules fs g rounds) plain →
     (types : TypeTable) (l : LoweredGrammar) → IsLoweringOf plain (all_rules plain) types l →
     HasFaithfulTrees fs g (grammar_of_plain_rules fs g rounds) rounds l
+
+-- F36 stands in an expansion exactly where some symbol is new in the round after the last that may make rules: its shortest chain
+-- has one rule more than there are such rounds.
+abbrev pub CapIsExact : Type 0
+CapIsExact = (value : ConditionValue) (g : GrammarData) → IsSettled g → (limit : ℕ) →
+    ((s : Span) × In (RecursionCap, s) (expansion_faults value g limit))
+    ↔ ((x : ClosedSymbol) × NewIn (rule_meets (flat_meaning value g)) (flat_map (rule_meets (flat_meaning value g)) (declared g)) limit x)
+
+-- Where trees are faithful, each enabled written rule that is no macro has in both languages the same words, by itself and within
+-- each of its levels: the leaves of its written trees are the leaves of the derivation trees of its nonterminal.
+abbrev pub WordsAreEqual : Type 0
+WordsAreEqual = (fs : Features) (g plain : GrammarData) (rounds : ℕ) (l : LoweredGrammar) → HasFaithfulTrees fs g plain rounds l →
+    (r : RuleData) (s : ClosedSymbol) → IsSymbolOf r s → In s (roots (written_rules fs g) ++ references (written_rules fs g)) →
+    (w : List Terminal) → IsWrittenWord (written_meaning fs g) s w ↔ IsWordOf (traced_derivations fs g plain rounds l) (lowered_name fs g s).0 w

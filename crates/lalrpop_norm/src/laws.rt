@@ -1,6 +1,6 @@
 //! What is proved of the definitions alone. Each function here is a law: it does nothing, and its contract is a theorem, whose
 //! statement stands in `specs/Laws.antt`.
-ghost use Rattle.lalrpop_norm.specs.Laws.{LoweredTreesAreFaithful, MacrosHaveOneLevel, NamesAreOwn};
+ghost use Rattle.lalrpop_norm.specs.Laws.{CapIsExact, LoweredTreesAreFaithful, MacrosHaveOneLevel, NamesAreOwn, WordsAreEqual};
 
 /// The trees of what a grammar's plain rules are lowered to, once they have their tokens, stand one to one with the written trees,
 /// with the same words and the same written alternatives, for each rule by itself and within each of its levels. Each enabled public
@@ -24,4 +24,19 @@ pub fn macros_have_one_level()
 /// has the name of a rule.
 pub fn names_are_own()
     ensures { NamesAreOwn }
+{}
+
+/// F36 stands in an expansion exactly where some symbol is first met past the limit: its shortest chain of rules is longer than the
+/// number of rounds that may make rules, and it is new in the round after them.
+pub fn cap_is_exact()
+    ensures { CapIsExact }
+{
+    lalrpop_norm_model::rounds_are_read();
+    lalrpop_norm_theory::rounds_are_shortest_chains();
+}
+
+/// Where the trees of a lowered grammar are faithful, each enabled written rule that is no macro has there the words that it has as
+/// written, by itself and within each of its levels.
+pub fn words_are_equal()
+    ensures { WordsAreEqual }
 {}

@@ -1,0 +1,156 @@
+-- F36 in the list of faults.
+use Rattle.std.proofs.Common.{rules, ◌≡◌, ◌↔◌, ◌⊎◌, inl, inr, ℕ, zero, suc, ◌+◌, arith, Bool, true, false, List, [], ◌∷◌, ◌++◌, map, refl, sym, ap, subst, ◌∙◌}
+use Rattle.std.specs.Prelude.{◌||◌, flat_map}
+use Rattle.lalrpop_norm_parts.specs.declared.names.Span.{Span}
+use Rattle.lalrpop_norm_tree.specs.Symbols.{Part, group, ambiguous_id, terminal, nonterminal, call, repeated, chosen, named, tupled, lookahead, lookbehind, error_terminal, at}
+use Rattle.lalrpop_norm_tree.specs.SymbolTexts.{part_text}
+use Rattle.lalrpop_norm_tree.specs.Items.{GrammarData}
+use Rattle.lalrpop_norm_faults.specs.declared.kind.FaultKind.TheVariants.{RecursionCap, SharedName, NotYet, NamedInGroup}
+use Rattle.lalrpop_norm_faults.specs.Faults.{Fault, fault_if}
+use Rattle.lalrpop_norm_theory.specs.Laws.{RoundsAreShortestChains}
+use Rattle.lalrpop_norm_theory.specs.Met.{rule_meets, expansion}
+use Rattle.lalrpop_norm_theory.specs.Rounds.{In, NewIn, rules_made}
+use Rattle.lalrpop_norm_theory.specs.Symbols.{ClosedSymbol}
+use Rattle.lalrpop_norm_theory.specs.Meaning.{Meaning}
+use Rattle.lalrpop_norm_theory.proofs.RoundsLemmas.{in_right, in_cases}
+use Rattle.lalrpop_norm_model.specs.Expanded.{rule_names}
+use Rattle.lalrpop_norm_model.specs.Grammars.{ConditionValue}
+use Rattle.lalrpop_norm_model.specs.Laws.{RoundsAreRead}
+use Rattle.lalrpop_norm_model.specs.MadeRules.{span_of, some_name_value}
+use Rattle.lalrpop_norm_model.specs.PlainRules.{expansion_round}
+use Rattle.lalrpop_norm_model.specs.PlainTables.{IsSettled, closed, flat_meaning, declared}
+use Rattle.lalrpop_norm_expand.specs.Expansion.{met_before, meetings, is_declared_name, has_other, shared_names, shared_in, unmade, unmade_in, past_cap, faults_from, expansion_faults}
+use Rattle.lalrpop_norm.specs.Laws.{CapIsExact}
+
+-- ---- no other fault has the number of the cap
+
+not_cap : (RecursionCap ≡ SharedName) → ⊥
+not_cap e = absurd (cc e)
+
+not_group : (RecursionCap ≡ NamedInGroup) → ⊥
+not_group e = absurd (cc e)
+
+not_later : (RecursionCap ≡ NotYet) → ⊥
+not_later e = search rules
+
+abbrev cap_at : Span → Fault
+cap_at t = (RecursionCap, t)
+
+not_if : (b : Bool) (f : Fault) (t : Span) → (cap_at t ≡ f → ⊥) → In (cap_at t) (fault_if b f) → ⊥
+not_if true f t unlike (inl e) = unlike e
+not_if true f t unlike (inr i) = i
+not_if false f t unlike i = i
+
+not_shared : (names : List (List ℕ)) (met xs : List Part) (t : Span) → In (cap_at t) (shared_names names met xs) → ⊥
+not_shared names met [] t i = i
+not_shared names met (x ∷ xs) t i =
+    elim (in_cases (cap_at t) (fault_if (is_declared_name names (part_text x) || has_other met x) (SharedName, span_of x)) (shared_names names (met ++ x ∷ []) xs) i) [
+      | inl here ↦ not_if (is_declared_name names (part_text x) || has_other met x) (SharedName, span_of x) t (λ e. not_cap (ap (λ (f : Fault). f.0) e)) here
+      | inr later ↦ not_shared names (met ++ x ∷ []) xs t later
+    ]
+
+not_made : (p : Part) (t : Span) → In (cap_at t) (unmade p) → ⊥
+not_made (at s (group ps)) t i = not_if (some_name_value ps) (NamedInGroup, s) t (λ e. not_group (ap (λ (f : Fault). f.0) e)) i
+not_made (at s (call n ps)) t (inl e) = not_later (ap (λ (f : Fault). f.0) e)
+not_made (at s (call n ps)) t (inr i) = i
+not_made (at s (repeated op p)) t i = i
+not_made (at s (ambiguous_id a)) t i = i
+not_made (at s (terminal u)) t i = i
+not_made (at s (nonterminal n)) t i = i
+not_made (at s (chosen p)) t i = i
+not_made (at s (named n p)) t i = i
+not_made (at s (tupled ns p)) t i = i
+not_made (at s lookahead) t i = i
+not_made (at s lookbehind) t i = i
+not_made (at s error_terminal) t i = i
+
+none_made : (ps : List Part) (t : Span) → In (cap_at t) (flat_map unmade ps) → ⊥
+none_made [] t i = i
+none_made (p ∷ ps) t i =
+    elim (in_cases (cap_at t) (unmade p) (flat_map unmade ps) i) [
+      | inl here ↦ not_made p t here
+      | inr later ↦ none_made ps t later
+    ]
+
+-- ---- the cap stands at the last round alone
+
+abbrev at_end : ℕ → ℕ → ℕ
+at_end k zero = k
+at_end k (suc left) = at_end (suc k) left
+
+end_is : (k left : ℕ) → at_end k left ≡ k + left
+end_is k zero = sym (omega arith)
+end_is k (suc left) = end_is (suc k) left ∙ omega arith
+
+module _ (value : ConditionValue) (g : GrammarData) where
+  fresh_at : ℕ → List Part
+  fresh_at n = (expansion_round value g n).fresh
+
+  to_end : (k left : ℕ) (t : Span) → In (cap_at t) (faults_from value g k left) → In (cap_at t) (past_cap (expansion_round value g (at_end k left)).fresh)
+  to_end k zero t i =
+      elim (in_cases (cap_at t) (shared_in value g k) (past_cap (expansion_round value g k).fresh) i) [
+        | inl here ↦ absurd (not_shared (rule_names g) (met_before value g k) (meetings value g k) t here)
+        | inr cap ↦ cap
+      ]
+  to_end k (suc left) t i =
+      elim (in_cases (cap_at t) (shared_in value g k) (unmade_in value g k ++ faults_from value g (suc k) left) i) [
+        | inl here ↦ absurd (not_shared (rule_names g) (met_before value g k) (meetings value g k) t here)
+        | inr more ↦ elim (in_cases (cap_at t) (unmade_in value g k) (faults_from value g (suc k) left) more) [
+          | inl made ↦ absurd (none_made (rules_made (expansion_round value g k)) t made)
+          | inr later ↦ to_end (suc k) left t later
+        ]
+      ]
+
+  from_end : (k left : ℕ) (t : Span) → In (cap_at t) (past_cap (expansion_round value g (at_end k left)).fresh) → In (cap_at t) (faults_from value g k left)
+  from_end k zero t i = in_right (cap_at t) (shared_in value g k) (past_cap (expansion_round value g k).fresh) i
+  from_end k (suc left) t i =
+      in_right (cap_at t) (shared_in value g k) (unmade_in value g k ++ faults_from value g (suc k) left)
+      (in_right (cap_at t) (unmade_in value g k) (faults_from value g (suc k) left) (from_end (suc k) left t i))
+
+-- ---- where something is new
+
+something_new : (xs : List Part) (t : Span) → In (cap_at t) (past_cap xs) → (x : Part) × In x xs
+something_new [] t i = absurd i
+something_new (x ∷ []) t i = (x, inl refl)
+something_new (x ∷ y ∷ xs) t i = let r = something_new (y ∷ xs) t i in (r.0, inr r.1)
+
+cap_stands : (xs : List Part) (x : Part) → In x xs → (t : Span) × In (cap_at t) (past_cap xs)
+cap_stands [] x i = absurd i
+cap_stands (x ∷ []) y i = (span_of x, inl refl)
+cap_stands (x ∷ y ∷ xs) z i = cap_stands (y ∷ xs) y (inl refl)
+
+in_view : {A B : Type 0} (f : A → B) (x : A) (xs : List A) → In x xs → In (f x) (map f xs)
+in_view f x [] i = absurd i
+in_view f x (y ∷ xs) (inl e) = inl (ap f e)
+in_view f x (y ∷ xs) (inr i) = inr (in_view f x xs i)
+
+of_view : {A B : Type 0} (f : A → B) (y : B) (xs : List A) → In y (map f xs) → (x : A) × In x xs
+of_view f y [] i = absurd i
+of_view f y (x ∷ xs) (inl e) = (x, inl refl)
+of_view f y (x ∷ xs) (inr i) = let r = of_view f y xs i in (r.0, inr r.1)
+
+-- F36 stands exactly where a chain past the limit is the shortest one to some symbol
+pub cap_exact : RoundsAreRead → RoundsAreShortestChains → CapIsExact
+cap_exact read chains value g settled limit = (there, back)
+  where
+    M : Meaning
+    M = flat_meaning value g
+
+    news : map closed (expansion_round value g limit).fresh ≡ (expansion M (declared g) limit).fresh
+    news = (read value g settled limit).2
+
+    ends : at_end 0 limit ≡ limit
+    ends = end_is 0 limit ∙ omega arith
+
+    there : ((s : Span) × In (cap_at s) (expansion_faults value g limit)) → (x : ClosedSymbol) × NewIn (rule_meets M) (flat_map (rule_meets M) (declared g)) limit x
+    there h =
+        let cap = to_end value g 0 limit h.0 h.1 in
+        let new = something_new (expansion_round value g limit).fresh h.0 (subst (λ n. In (cap_at h.0) (past_cap (expansion_round value g n).fresh)) ends cap) in
+        let x = closed new.0 in
+        (x, (chains M (declared g) limit x).0 (subst (λ xs. In x xs) news (in_view closed new.0 (expansion_round value g limit).fresh new.1)))
+
+    back : ((x : ClosedSymbol) × NewIn (rule_meets M) (flat_map (rule_meets M) (declared g)) limit x) → (s : Span) × In (cap_at s) (expansion_faults value g limit)
+    back h =
+        let new = of_view closed h.0 (expansion_round value g limit).fresh (subst (λ xs. In h.0 xs) (sym news) ((chains M (declared g) limit h.0).1 h.1)) in
+        let cap = cap_stands (expansion_round value g limit).fresh new.0 new.1 in
+        (cap.0, from_end value g 0 limit cap.0 (subst (λ n. In (cap_at cap.0) (past_cap (expansion_round value g n).fresh)) (sym ends) cap.1))
