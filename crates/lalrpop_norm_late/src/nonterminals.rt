@@ -13,6 +13,7 @@ ghost use Rattle.lalrpop_norm_late.specs.Made.{types_by_name, alternatives_fault
 
 use crate::alternatives::{lower_alternative, lower_alternatives};
 use crate::starts::{insert, rule_type, start_alternative, start_name};
+use crate::typing::unit_type;
 use lalrpop_norm_faults::{FaultKind, NormResult, refusal};
 use lalrpop_norm_parts::attribute::copy::copy_attributes;
 use lalrpop_norm_repr::grammar::repr::{
@@ -82,8 +83,9 @@ fn start_production(
         ++ made_action prefix.now (type_table types.now) (rule_type (type_table types.now) (rule_view rule.now)) (start_alternative (rule_view rule.now)) ∷ []) }
     ensures count { OnOk result (vec_len actions.new ≡ vec_len actions.old + 1) }
 {
-    let ty = rule_type(alloc, types, rule)?;
-    production_of_start(alloc, prefix, types, rule, name, &ty, actions)
+    let unit = unit_type(alloc);
+    let ty = rule_type(types, rule, &unit);
+    production_of_start(alloc, prefix, types, rule, name, ty, actions)
 }
 
 /// The same, where the rule has that type.
@@ -158,13 +160,14 @@ fn rule_productions(
         ++ map (made_action prefix.now (type_table types.now) (rule_type (type_table types.now) (rule_view rule.now))) (rule_view rule.now).alternatives) }
     ensures count { OnOk result (vec_len actions.new ≡ vec_len actions.old + length (rule_view rule.now).alternatives) }
 {
-    let ty = rule_type(alloc, types, rule)?;
+    let unit = unit_type(alloc);
+    let ty = rule_type(types, rule, &unit);
     lower_alternatives(
         alloc,
         prefix,
         types,
         &rule.name,
-        &ty,
+        ty,
         &rule.alternatives,
         actions,
     )

@@ -1,13 +1,12 @@
 //! The parts of nonterminals: the types of rules, and the start symbols of public ones.
 ghost use Rattle.std.specs.Prelude.{◌≡◌, [], ◌++◌, IfOk, OnOk, map, string_bytes};
 ghost use Rattle.lalrpop_norm_tree.specs.Items.{alternative_view, rule_view};
-ghost use Rattle.lalrpop_norm_parts.specs.Reprs.{repr_view};
+ghost use Rattle.lalrpop_norm_parts.specs.Reprs.{repr_view, unit_type};
 ghost use Rattle.lalrpop_norm_tree.specs.Symbols.{expr_view, symbol_view, nonterminal, at, part_and, no_parts};
 ghost use Rattle.lalrpop_norm_repr.specs.Productions.{nonterminal_data_view};
 ghost use Rattle.lalrpop_norm_repr.specs.Tables.{type_table, rows};
 ghost use Rattle.lalrpop_norm_late.specs.Lowering.{rule_type, start_name, start_names, start_alternative, with_entry, sorted_onto};
 
-use crate::typing::unit_type;
 use lalrpop_norm_repr::grammar::repr::{NonterminalData, TypeRepr, Types};
 use lalrpop_norm_tree::grammar::parse_tree as pt;
 use lalrpop_norm_tree::grammar::parse_tree::{
@@ -16,17 +15,18 @@ use lalrpop_norm_tree::grammar::parse_tree::{
 use std::alloc::Global;
 use std::collections::BTreeMap;
 
-/// The type of a rule. Each rule of a plain grammar has one.
-pub(crate) fn rule_type(
-    alloc: Global,
-    types: &Types,
+/// The type of a rule. Each rule of a plain grammar has one; where there is none, it is `unit`.
+pub(crate) fn rule_type<'t>(
+    types: &'t Types,
     rule: &pt::NonterminalData,
-) -> Result<TypeRepr, NoMemory>
-    ensures { IfOk result (λ t. repr_view t ≡ rule_type (type_table types.now) (rule_view rule.now)) }
+    unit: &'t TypeRepr,
+) -> &'t TypeRepr
+    requires { repr_view unit.now ≡ unit_type }
+    ensures { repr_view result.now ≡ rule_type (type_table types.now) (rule_view rule.now) }
 {
     match types.lookup_nonterminal_type(&rule.name) {
-        Some(ty) => Ok(ty.clone()?),
-        None => Ok(unit_type(alloc)),
+        Some(ty) => ty,
+        None => unit,
     }
 }
 

@@ -59,7 +59,8 @@ fn start_type(
     ensures ty { IfOk result (λ r. repr_view r.1 ≡ rule_type (type_table types.now) (rule_view rule.now)) }
 {
     let name = start_name(alloc, prefix, &rule.name)?;
-    let ty = rule_type(alloc, types, rule)?;
+    let unit = unit_type(alloc);
+    let ty = rule_type(types, rule, &unit).clone()?;
     Ok((name, ty))
 }
 
