@@ -14,7 +14,7 @@ use Rattle.lalrpop_norm_faults.specs.Faults.{IsFirst, Refuses}
 use Rattle.lalrpop_norm_faults.proofs.FaultLemmas.{exit_at}
 use Rattle.lalrpop_norm_model.specs.MadeRules.{span_of}
 use Rattle.lalrpop_norm_expand.specs.Expansion.{unmade, past_cap}
-use Rattle.lalrpop_norm_expand.specs.Making.{made}
+use Rattle.lalrpop_norm_expand.specs.Making.{rules_to_read}
 use Rattle.lalrpop_norm_expand.proofs.SymbolLemmas.{part_is}
 
 view_at : (ss : List Symbol) (i : ℕ) (s : Symbol) → i < length ss → s ≡ get_or ss i s → symbol_view s ≡ get_or (map symbol_view ss) i (symbol_view s)
@@ -47,15 +47,15 @@ module _ (ss : List Symbol) (i j : ℕ) (s : Symbol) (n : j ≡ i + 1) (l : i < 
       ∙ ap (λ fs. fs ++ (unmade (symbol_view s) ++ [])) before
       ∙ ap (λ fs. fs ++ []) here
 
-  pub made_back : (old new : List ItemData) → old ≡ map rule_item (flat_map made (reverse (drop j vs))) →
-      new ≡ old ++ map rule_item (made (symbol_view s)) → new ≡ map rule_item (flat_map made (reverse (drop i vs)))
+  pub made_back : (old new : List ItemData) → old ≡ map rule_item (flat_map rules_to_read (reverse (drop j vs))) →
+      new ≡ old ++ map rule_item (rules_to_read (symbol_view s)) → new ≡ map rule_item (flat_map rules_to_read (reverse (drop i vs)))
   made_back old new before here =
       here
-      ∙ ap (λ is. is ++ map rule_item (made (symbol_view s))) before
-      ∙ sym (map-append rule_item (flat_map made (reverse (drop j vs))) (made (symbol_view s)))
+      ∙ ap (λ is. is ++ map rule_item (rules_to_read (symbol_view s))) before
+      ∙ sym (map-append rule_item (flat_map rules_to_read (reverse (drop j vs))) (rules_to_read (symbol_view s)))
       ∙ ap (map rule_item)
-      (ap (λ rs. flat_map made (reverse (drop j vs)) ++ rs) (sym (append-nil (made (symbol_view s))))
-      ∙ sym (ap (flat_map made) back_one ∙ flat_map-append made (reverse (drop j vs)) (symbol_view s ∷ [])))
+      (ap (λ rs. flat_map rules_to_read (reverse (drop j vs)) ++ rs) (sym (append-nil (rules_to_read (symbol_view s))))
+      ∙ sym (ap (flat_map rules_to_read) back_one ∙ flat_map-append rules_to_read (reverse (drop j vs)) (symbol_view s ∷ [])))
 
   pub exit_back : {T : Type 0} (from : ℕ) (r : Result T NormFailure) (f : NormFailure) → from ≤ i → flat_map unmade (reverse (drop j vs)) ≡ [] →
       IsErrAnd r (λ x. x ≡ f) → IsFirst (unmade (symbol_view s)) f → Refuses r (flat_map unmade (reverse (drop from vs)))

@@ -104,7 +104,7 @@ module _ (names : List ℕ → Bool) where
       by None = stays seen (x ∷ []) z h
       by (Some y) = h
 
-  stays_after : (seen xs : List Part) (z : Part) → was_met names seen z ≡ true → was_met names (after seen xs) z ≡ true
+  pub stays_after : (seen xs : List Part) (z : Part) → was_met names seen z ≡ true → was_met names (after seen xs) z ≡ true
   stays_after seen [] z h = h
   stays_after seen (x ∷ xs) z h = stays_after (after_one seen x) xs z (stays_one seen x z h)
 

@@ -1,3 +1,4 @@
+mod ReadLemmas
 pub mod ReplaceLemmas
 mod SameLemmas
 mod ApartLemmas

@@ -19,10 +19,11 @@ use Rattle.lalrpop_norm_model.specs.Expanded.{rule_names}
 use Rattle.lalrpop_norm_model.specs.PlainRules.{met_in_rule, met_by_made, rule_of_item, macros_of, same_apart_from_spans, expansion_round, made_symbols, made_in, IsEnded, plain_item, plain_grammar, replaced_rule}
 use Rattle.lalrpop_norm_expand.specs.declared.macro_expand.expander.Expander.{Expander}
 use Rattle.lalrpop_norm_expand.specs.Expansion.{is_declared_name, shared_names, meetings, met_before, shared_in, unmade, unmade_in, past_cap, faults_from, expansion_faults, later_macro_faults}
-use Rattle.lalrpop_norm_expand.specs.Making.{made, replaced_item, met_in_item, item_macros}
-use Rattle.lalrpop_norm_expand.specs.Meeting.{after, seen_of, is_taken_by, Meets, refused_by}
+use Rattle.lalrpop_norm_expand.specs.Making.{made, rules_to_read, replaced_item, met_in_item, item_macros}
+use Rattle.lalrpop_norm_expand.specs.Meeting.{after, clash_faults, were_met_inside, seen_of, has_key, is_taken_by, Meets, refused_by}
 use Rattle.lalrpop_norm_expand.proofs.FreshLemmas.{Tells, after_fresh, first_same, quiet_same, tells_after}
 use Rattle.lalrpop_norm_util.proofs.ListLemmas.{flat_same}
+use Rattle.lalrpop_norm_expand.proofs.ReadLemmas.{ReadsAs, reads_same, new_reads, read_replaced}
 
 pub err_refuses : {T : Type 0} (r : Result T NormFailure) (e : NormFailure) (fs : List Fault) → IsErrAnd r (λ x. x ≡ e) → IsFirst fs e → Refuses r fs
 err_refuses (Ok x) e fs from h = absurd from
@@ -40,6 +41,11 @@ replaced_rules rs = map (λ r. rule_item (replaced_rule r)) rs
 rules_replaced : (rs : List RuleData) → map replaced_item (map rule_item rs) ≡ replaced_rules rs
 rules_replaced [] = refl
 rules_replaced (r ∷ rs) = ap (λ is. rule_item (replaced_rule r) ∷ is) (rules_replaced rs)
+
+read_each_met : (xs : List Part) → flat_map met_in_rule (flat_map rules_to_read xs) ≡ flat_map (λ p. flat_map met_in_rule (rules_to_read p)) xs
+read_each_met [] = refl
+read_each_met (x ∷ xs) =
+    flat_map-append met_in_rule (rules_to_read x) (flat_map rules_to_read xs) ∙ ap (λ ps. flat_map met_in_rule (rules_to_read x) ++ ps) (read_each_met xs)
 
 made_each_met : (xs : List Part) → flat_map met_in_rule (flat_map made xs) ≡ flat_map (λ p. flat_map met_in_rule (made p)) xs
 made_each_met [] = refl
@@ -127,7 +133,7 @@ pub record AtRound (value : ConditionValue) (g : GrammarData) (limit left k : �
   pub rest : expansion_faults value g limit ≡ faults_from value g k left
   pub kept : seen ≡ (expansion_round value g k).seen
   pub tells : Tells seen (met_before value g k)
-  pub reads : flat_map met_in_item pending ≡ meetings value g k
+  pub reads : ReadsAs (is_declared_name (rule_names g)) seen (flat_map met_in_item pending) (meetings value g k)
   pub items : done ++ map replaced_item pending ≡ (plain_grammar value g k).items
 
 module _ (value : ConditionValue) (g : GrammarData) (none : macros_of g ≡ []) where
@@ -139,6 +145,9 @@ module _ (value : ConditionValue) (g : GrammarData) (none : macros_of g ≡ []) 
       rules_met (flat_map made xs)
       ∙ made_each_met xs
       ∙ flat_same (λ p. flat_map met_in_rule (made p)) (met_by_made value (macros_of g)) (λ p. ap (flat_map met_in_rule) (made_is p)) xs
+
+  made_of_each : (xs : List Part) → flat_map (λ p. flat_map met_in_rule (made p)) xs ≡ flat_map (met_by_made value (macros_of g)) xs
+  made_of_each xs = flat_same (λ p. flat_map met_in_rule (made p)) (met_by_made value (macros_of g)) (λ p. ap (flat_map met_in_rule) (made_is p)) xs
 
   made_replaced : (xs : List Part) → map replaced_item (map rule_item (flat_map made xs)) ≡ replaced_rules (flat_map (made_rules value (macros_of g)) xs)
   made_replaced xs = rules_replaced (flat_map made xs) ∙ ap replaced_rules (flat_same made (made_rules value (macros_of g)) made_is xs)
@@ -155,7 +164,7 @@ module _ (value : ConditionValue) (g : GrammarData) (none : macros_of g ≡ []) 
     rest = refl;
     kept = refl;
     tells = λ z. refl;
-    reads = items_met g.items none;
+    reads = reads_same (is_declared_name (rule_names g)) [] _ _ (items_met g.items none);
     items = items_plain g.items none ∙ sym (append-nil (flat_map plain_item g.items));
   }
 
@@ -165,9 +174,15 @@ module _ (value : ConditionValue) (g : GrammarData) (none : macros_of g ≡ []) 
 
   module _ (limit left k : ℕ) (e : Expander) (done pending : List ItemData) (names : is_taken_by e ≡ is_declared_name (rule_names g))
       (h : AtRound value g limit left k (seen_of e) done pending) where
+    refused_same : refused_by e (flat_map met_in_item pending) ≡ refused_by e (meetings value g k)
+    refused_same =
+        ap (λ n. clash_faults n (seen_of e) (flat_map met_in_item pending)) names
+        ∙ h.reads.clashes
+        ∙ sym (ap (λ n. clash_faults n (seen_of e) (meetings value g k)) names)
+
     first_shared : first (refused_by e (flat_map met_in_item pending)) ≡ first (shared_in value g k)
     first_shared =
-        ap (λ xs. first (refused_by e xs)) h.reads
+        ap first refused_same
         ∙ first_same (is_taken_by e) (rule_names g) names (seen_of e) (met_before value g k) (meetings value g k) h.tells
 
     -- F37 in the round
@@ -179,13 +194,13 @@ module _ (value : ConditionValue) (g : GrammarData) (none : macros_of g ≡ []) 
 
     module _ (f : Expander) (m : Meets e f (flat_map met_in_item pending)) (quiet : refused_by e (flat_map met_in_item pending) ≡ []) where
       quiet_here : refused_by e (meetings value g k) ≡ []
-      quiet_here = ap (refused_by e) (sym h.reads) ∙ quiet
+      quiet_here = sym refused_same ∙ quiet
 
       shared_none : shared_in value g k ≡ []
       shared_none = quiet_same (is_taken_by e) (rule_names g) names (seen_of e) (met_before value g k) (meetings value g k) h.tells quiet_here
 
       all_seen : seen_of f ≡ after (seen_of e) (meetings value g k)
-      all_seen = m.seen ∙ ap (after (seen_of e)) h.reads
+      all_seen = m.seen ∙ h.reads.met
 
       -- the symbols met are those of before and the new ones
       pub kept_next : seen_of f ≡ (round k).seen ++ (round k).fresh
@@ -232,24 +247,39 @@ module _ (value : ConditionValue) (g : GrammarData) (none : macros_of g ≡ []) 
 
       pub next_round : (from less : ℕ) (later rules : List ItemData) → from ≡ length (seen_of e) → left ≡ suc less →
           later ≡ done ++ map replaced_item pending → flat_map unmade (reverse (drop from (seen_of f))) ≡ [] →
-          rules ≡ map rule_item (flat_map made (reverse (drop from (seen_of f)))) → AtRound value g limit less (suc k) (seen_of f) later rules
+          rules ≡ map rule_item (flat_map rules_to_read (reverse (drop from (seen_of f)))) → AtRound value g limit less (suc k) (seen_of f) later rules
       next_round from less later rules here more moved unmade_none are =
           let new_rules : List RuleData = flat_map (made_rules value (macros_of g)) (reverse (round k).fresh) in
           record {
             rest = left_over from less here more ∙ ap (λ fs. fs ++ faults_from value g (suc k) less) unmade_none;
             kept = kept_next;
             tells = tells_next;
-            reads = ap (flat_map met_in_item) rules_are ∙ made_met (reverse (round k).fresh);
+            reads = record {
+              met = ap (after (seen_of f)) read ∙ reading.met ∙ ap (after (seen_of f)) (made_of_each (reverse (round k).fresh));
+              clashes = ap (clash_faults (is_declared_name (rule_names g)) (seen_of f)) read ∙ reading.clashes ∙ ap (clash_faults (is_declared_name (rule_names g)) (seen_of f)) (made_of_each (reverse (round k).fresh));
+            };
             items =
-                ap₂ ◌++◌ (moved ∙ h.items) (ap (map replaced_item) rules_are ∙ made_replaced (reverse (round k).fresh))
+                ap₂ ◌++◌ (moved ∙ h.items) (ap (map replaced_item) rules_are ∙ rules_replaced (flat_map rules_to_read (reverse (round k).fresh)) ∙ read_replaced (reverse (round k).fresh) ∙ sym (rules_replaced (flat_map made (reverse (round k).fresh))) ∙ made_replaced (reverse (round k).fresh))
                 ∙ append_assoc (flat_map plain_item g.items) (replaced_rules (made_in value g k)) (replaced_rules new_rules)
                 ∙ ap (λ rs. flat_map plain_item g.items ++ rs)
                 (sym (map-append (λ r. rule_item (replaced_rule r)) (made_in value g k) new_rules)
                 ∙ ap replaced_rules (sym (flat_map-append (made_rules value (macros_of g)) (made_symbols value g k) (reverse (round k).fresh))));
           }
         where
-          rules_are : rules ≡ map rule_item (flat_map made (reverse (round k).fresh))
-          rules_are = are ∙ ap (λ xs. map rule_item (flat_map made (reverse xs))) (new_ones from here)
+          rules_are : rules ≡ map rule_item (flat_map rules_to_read (reverse (round k).fresh))
+          rules_are = are ∙ ap (λ xs. map rule_item (flat_map rules_to_read (reverse xs))) (new_ones from here)
+
+          read : flat_map met_in_item rules ≡ flat_map (λ p. flat_map met_in_rule (rules_to_read p)) (reverse (round k).fresh)
+          read = ap (flat_map met_in_item) rules_are ∙ rules_met (flat_map rules_to_read (reverse (round k).fresh)) ∙ read_each_met (reverse (round k).fresh)
+
+          names_now : is_taken_by f ≡ is_declared_name (rule_names g)
+          names_now = ap has_key m.names ∙ names
+
+          reading : ReadsAs (is_declared_name (rule_names g)) (seen_of f) (flat_map (λ p. flat_map met_in_rule (rules_to_read p)) (reverse (round k).fresh))
+              (flat_map (λ p. flat_map met_in_rule (made p)) (reverse (round k).fresh))
+          reading =
+              new_reads (is_declared_name (rule_names g)) (seen_of f) (round k).seen (round k).fresh kept_next
+              (subst (λ n. were_met_inside n (seen_of f) (seen_of f) ≡ true) names_now m.indexed.inward)
 
   -- ---- the last round
 

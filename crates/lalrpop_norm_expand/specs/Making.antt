@@ -3,13 +3,13 @@ use Rattle.std.specs.Prelude.{false, ℕ, List, [], ◌∷◌, codes, not}
 use Rattle.std.specs.BTreeSet.{insert_key}
 use Rattle.std.specs.Ordering.{nat_cmp}
 use Rattle.std.specs.Cmp.Lexicographic.{slice_cmp}
-use Rattle.lalrpop_norm_tree.specs.Symbols.{Kind, Part, chosen}
+use Rattle.lalrpop_norm_tree.specs.Symbols.{Kind, Part, at, group, ambiguous_id, terminal, nonterminal, call, repeated, chosen, named, tupled, lookahead, lookbehind, error_terminal}
 use Rattle.lalrpop_norm_tree.specs.Items.{AlternativeData, RuleData, ItemData, match_item, extern_item, intern_item, rule_item, use_item}
 use Rattle.lalrpop_norm_tree.specs.Types.{TypeData}
 use Rattle.lalrpop_norm_faults.specs.declared.kind.FaultKind.TheVariants.{NotYet}
 use Rattle.lalrpop_norm_faults.specs.Faults.{Fault, fault_if}
 use Rattle.lalrpop_norm_model.specs.Grammars.{ConditionValue, is_nil}
-use Rattle.lalrpop_norm_model.specs.MadeRules.{kind_of, made_rules}
+use Rattle.lalrpop_norm_model.specs.MadeRules.{kind_of, group_rule, made_rules}
 use Rattle.lalrpop_norm_model.specs.PlainRules.{all_met, met_in_rule, replaced_rule}
 
 -- where no macro is defined no condition is asked for
@@ -19,6 +19,22 @@ no_condition op text pattern = false
 -- the rule of a symbol, where no macro is defined
 abbrev pub made : Part → List RuleData
 made p = made_rules no_condition [] p
+
+-- The rules of a symbol as the next round reads them. In the rule of a group the symbols are replaced already: each of them was
+-- met before the group was.
+abbrev pub rules_to_read : Part → List RuleData
+rules_to_read (at s (group ps)) = replaced_rule (group_rule s ps) ∷ []
+rules_to_read (at s (call n ps)) = made (at s (call n ps))
+rules_to_read (at s (repeated op p)) = made (at s (repeated op p))
+rules_to_read (at s lookahead) = made (at s lookahead)
+rules_to_read (at s lookbehind) = made (at s lookbehind)
+rules_to_read (at s (ambiguous_id a)) = []
+rules_to_read (at s (terminal t)) = []
+rules_to_read (at s (nonterminal n)) = []
+rules_to_read (at s (chosen p)) = []
+rules_to_read (at s (named n p)) = []
+rules_to_read (at s (tupled ns p)) = []
+rules_to_read (at s error_terminal) = []
 
 abbrev pub met_in_alternative : AlternativeData → List Part
 met_in_alternative a = all_met a.parts

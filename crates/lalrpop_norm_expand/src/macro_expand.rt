@@ -9,7 +9,7 @@ ghost use Rattle.lalrpop_norm_faults.specs.Faults.{Refuses, IsFirst};
 ghost use Rattle.lalrpop_norm_model.specs.Grammars.{ConditionValue};
 ghost use Rattle.lalrpop_norm_model.specs.PlainRules.{macros_of, IsEnded, plain_grammar};
 ghost use Rattle.lalrpop_norm_expand.specs.Expansion.{unmade, past_cap, expansion_faults, later_macro_faults};
-ghost use Rattle.lalrpop_norm_expand.specs.Making.{made, item_macros};
+ghost use Rattle.lalrpop_norm_expand.specs.Making.{rules_to_read, item_macros};
 ghost use Rattle.lalrpop_norm_expand.specs.Meeting.{seen_of};
 
 mod content;
@@ -37,7 +37,7 @@ fn make_rules(alloc: Global, expander: &Expander, from: usize) -> NormResult<Vec
     requires { from ≤ length expander.now.met.items }
     ensures refuses { Refuses result (flat_map unmade (reverse (drop from (seen_of expander.now)))) }
     ensures rules { IfOk result (λ rs. map item_view rs.items
-        ≡ map rule_item (flat_map made (reverse (drop from (seen_of expander.now))))) }
+        ≡ map rule_item (flat_map rules_to_read (reverse (drop from (seen_of expander.now))))) }
 {
     let mut rules = Vec::new(alloc);
     let mut i = expander.met.len();

@@ -9,9 +9,10 @@ ghost use Rattle.lalrpop_norm_tree.specs.SymbolTexts.{kind_text};
 ghost use Rattle.lalrpop_norm_faults.specs.Faults.{Refuses};
 ghost use Rattle.lalrpop_norm_model.specs.MadeRules.{inline_at, coded, private_rule, only_part, type_of_kind, with_name, holding, star_rule, plus_rule, question_rule, repeat_rule, group_rule, location_rule, some_name_value, bare_or_tuple, group_sources};
 ghost use Rattle.lalrpop_norm_expand.specs.Expansion.{unmade};
-ghost use Rattle.lalrpop_norm_expand.specs.Making.{made};
+ghost use Rattle.lalrpop_norm_model.specs.PlainRules.{replaced_rule};
+ghost use Rattle.lalrpop_norm_expand.specs.Making.{rules_to_read};
 
-use super::replaced::{name_of, replaced_kind};
+use super::replaced::{all_replaced, name_of, replaced_kind};
 use super::sources::group_values;
 use lalrpop_norm_faults::{FaultKind, NormResult, refusal};
 use lalrpop_norm_tree::grammar::parse_tree::{
@@ -254,19 +255,19 @@ fn bare_or_tuple(mut types: Vec<TypeRef>) -> TypeRef
     TypeRef::Tuple(types)
 }
 
-/// Of a group: its one alternative.
+/// Of a group: its one alternative, its symbols replaced. Each of them was met before the group.
 fn group_rule(
     alloc: Global,
     symbol: &Symbol,
     expr: &ExprSymbol,
 ) -> Result<NonterminalData, NoMemory>
     requires { kind_view symbol.now.kind ≡ group (expr_view expr.now) }
-    ensures { IfOk result (λ r. rule_view r ≡ group_rule symbol.now.span (expr_view expr.now)) }
+    ensures { IfOk result (λ r. rule_view r ≡ replaced_rule (group_rule symbol.now.span (expr_view expr.now))) }
 {
     let span = symbol.span;
     let (types, code) = group_values(alloc, &expr.symbols)?;
-    let copy = expr.clone()?;
-    let alternatives = vec![in alloc; coded(alloc, span, copy.symbols, code)?]?;
+    let symbols = all_replaced(alloc, &expr.symbols)?;
+    let alternatives = vec![in alloc; coded(alloc, span, symbols, code)?]?;
     let inline = inline_at(alloc, span)?;
     private_rule(
         alloc,
@@ -319,7 +320,7 @@ pub(super) fn add_rule(
     items: &mut Vec<GrammarItem>,
 ) -> NormResult<()>
     ensures refuses { Refuses result (unmade (symbol_view symbol.now)) }
-    ensures adds { OnOk result (map item_view items.new.items ≡ map item_view items.old.items ++ map rule_item (made (symbol_view symbol.now))) }
+    ensures adds { OnOk result (map item_view items.new.items ≡ map item_view items.old.items ++ map rule_item (rules_to_read (symbol_view symbol.now))) }
 {
     match &symbol.kind {
         SymbolKind::Expr(expr) => {

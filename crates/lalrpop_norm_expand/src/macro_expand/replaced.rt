@@ -1,8 +1,8 @@
 //! What stands in the place of symbols.
 ghost use Rattle.std.specs.Prelude.{◌≡◌, IfOk};
-ghost use Rattle.lalrpop_norm_tree.specs.Symbols.{chosen, named, tupled, kind_view, symbol_view, tuple_view};
+ghost use Rattle.lalrpop_norm_tree.specs.Symbols.{chosen, named, tupled, kind_view, symbol_view, parts_view, tuple_view};
 ghost use Rattle.lalrpop_norm_tree.specs.SymbolTexts.{part_text, kind_text};
-ghost use Rattle.lalrpop_norm_model.specs.Replaced.{replaced, replaced_kind};
+ghost use Rattle.lalrpop_norm_model.specs.Replaced.{replaced, replaced_kind, all_replaced};
 
 use lalrpop_norm_tree::grammar::parse_tree::{
     Atom, Name, NoMemory, NonterminalString, Symbol, SymbolKind, Tuple,
@@ -68,4 +68,15 @@ fn replaced(alloc: Global, symbol: &Symbol) -> Result<Symbol, NoMemory>
 {
     let kind = replaced_kind(alloc, &symbol.kind)?;
     Ok(Symbol::new(symbol.span, kind))
+}
+
+/// The symbols, each replaced.
+pub(super) fn all_replaced(alloc: Global, symbols: &[Symbol]) -> Result<Vec<Symbol>, NoMemory>
+    ensures { IfOk result (λ ss. parts_view ss.items ≡ all_replaced (parts_view symbols.now)) }
+{
+    let mut all = Vec::new(alloc);
+    for symbol in symbols {
+        all.push(replaced(alloc, symbol)?)?;
+    }
+    Ok(all)
 }
