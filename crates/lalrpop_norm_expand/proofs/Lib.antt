@@ -1,3 +1,4 @@
+mod ReplacedSources
 mod ReadLemmas
 pub mod ReplaceLemmas
 mod SameLemmas

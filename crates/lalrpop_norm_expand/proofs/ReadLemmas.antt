@@ -4,12 +4,12 @@ use Rattle.std.specs.List.{flat_map}
 use Rattle.std.proofs.lemmas.Bool.{and_parts, and_from}
 use Rattle.std.proofs.lemmas.List.{map-append}
 use mathlib.Core.List.{reverse-cons}
-use Rattle.lalrpop_norm_tree.specs.Symbols.{Part, Parts, group, ambiguous_id, terminal, nonterminal, call, repeated, chosen, named, tupled, lookahead, lookbehind, error_terminal, at, no_parts, part_and}
+use Rattle.lalrpop_norm_tree.specs.Symbols.{Kind, Part, Parts, group, ambiguous_id, terminal, nonterminal, call, repeated, chosen, named, tupled, lookahead, lookbehind, error_terminal, at, no_parts, part_and}
 use Rattle.lalrpop_norm_tree.specs.Items.{AlternativeData, RuleData, ItemData, rule_item}
 use Rattle.lalrpop_norm_faults.specs.Faults.{Fault}
 use Rattle.lalrpop_norm_model.specs.MadeRules.{group_rule}
 use Rattle.lalrpop_norm_model.specs.PlainRules.{met, all_met, met_in_rule, replaced_alternative, replaced_rule}
-use Rattle.lalrpop_norm_model.specs.Replaced.{replaced, all_replaced}
+use Rattle.lalrpop_norm_model.specs.Replaced.{replaced, replaced_kind, all_replaced}
 use Rattle.lalrpop_norm_expand.specs.Making.{made, rules_to_read}
 use Rattle.lalrpop_norm_expand.specs.Meeting.{inside, after, clash_faults, were_met, were_met_inside}
 use Rattle.lalrpop_norm_expand.proofs.InwardLemmas.{stays_after, quiet}
@@ -54,6 +54,20 @@ mutual
   all_twice : (ps : Parts) → all_replaced (all_replaced ps) ≡ all_replaced ps
   all_twice no_parts = refl
   all_twice (part_and p ps) = ap₂ part_and (replaced_twice p) (all_twice ps)
+
+pub kind_twice : (k : Kind) → replaced_kind (replaced_kind k) ≡ replaced_kind k
+kind_twice (group ps) = refl
+kind_twice (call n ps) = refl
+kind_twice (repeated op p) = refl
+kind_twice lookahead = refl
+kind_twice lookbehind = refl
+kind_twice (ambiguous_id a) = refl
+kind_twice (terminal t) = refl
+kind_twice (nonterminal n) = refl
+kind_twice (chosen p) = ap chosen (replaced_twice p)
+kind_twice (named n p) = ap (named n) (replaced_twice p)
+kind_twice (tupled ns p) = ap (tupled ns) (replaced_twice p)
+kind_twice error_terminal = refl
 
 alternatives_twice : (xs : List AlternativeData) → map replaced_alternative (map replaced_alternative xs) ≡ map replaced_alternative xs
 alternatives_twice [] = refl

@@ -7,9 +7,9 @@ ghost use Rattle.lalrpop_norm_parts.specs.Paths.{path_view};
 ghost use Rattle.lalrpop_norm_tree.specs.Items.{alternative_view, rule_view, item_view, rule_item, action_view};
 ghost use Rattle.lalrpop_norm_tree.specs.SymbolTexts.{kind_text};
 ghost use Rattle.lalrpop_norm_faults.specs.Faults.{Refuses};
-ghost use Rattle.lalrpop_norm_model.specs.MadeRules.{inline_at, coded, private_rule, only_part, type_of_kind, with_name, holding, star_rule, plus_rule, question_rule, repeat_rule, group_rule, location_rule, some_name_value, bare_or_tuple, group_sources};
+ghost use Rattle.lalrpop_norm_model.specs.MadeRules.{inline_at, coded, private_rule, only_part, type_of_kind, with_name, holding, star_rule, plus_rule, question_rule, repeat_rule, group_rule, location_rule, some_name_value, bare_or_tuple, bare_or_tuple_code, group_sources};
 ghost use Rattle.lalrpop_norm_expand.specs.Expansion.{unmade};
-ghost use Rattle.lalrpop_norm_model.specs.PlainRules.{replaced_rule};
+ghost use Rattle.lalrpop_norm_model.specs.PlainRules.{replaced_alternative, replaced_rule};
 ghost use Rattle.lalrpop_norm_expand.specs.Making.{rules_to_read};
 
 use super::replaced::{all_replaced, name_of, replaced_kind};
@@ -255,6 +255,21 @@ fn bare_or_tuple(mut types: Vec<TypeRef>) -> TypeRef
     TypeRef::Tuple(types)
 }
 
+/// Of the symbols of a group, at that place: its one alternative, in which they are replaced, and its type.
+fn group_parts(
+    alloc: Global,
+    span: Span,
+    symbols: &[Symbol],
+) -> Result<(Alternative, TypeRef), NoMemory>
+    ensures alternative { IfOk result (λ v. alternative_view v.0 ≡ replaced_alternative (coded span (parts_view symbols.now) (bare_or_tuple_code (group_sources (parts_view symbols.now))))) }
+    ensures ty { IfOk result (λ v. type_view v.1 ≡ bare_or_tuple (map type_of_kind (group_sources (parts_view symbols.now)))) }
+{
+    let replaced = all_replaced(alloc, symbols)?;
+    let (types, code) = group_values(alloc, &replaced)?;
+    let alternative = coded(alloc, span, replaced, code)?;
+    Ok((alternative, bare_or_tuple(types)))
+}
+
 /// Of a group: its one alternative, its symbols replaced. Each of them was met before the group.
 fn group_rule(
     alloc: Global,
@@ -265,18 +280,10 @@ fn group_rule(
     ensures { IfOk result (λ r. rule_view r ≡ replaced_rule (group_rule symbol.now.span (expr_view expr.now))) }
 {
     let span = symbol.span;
-    let (types, code) = group_values(alloc, &expr.symbols)?;
-    let symbols = all_replaced(alloc, &expr.symbols)?;
-    let alternatives = vec![in alloc; coded(alloc, span, symbols, code)?]?;
+    let (alternative, ty) = group_parts(alloc, span, &expr.symbols)?;
+    let alternatives = vec![in alloc; alternative]?;
     let inline = inline_at(alloc, span)?;
-    private_rule(
-        alloc,
-        span,
-        &symbol.kind,
-        inline,
-        Some(bare_or_tuple(types)),
-        alternatives,
-    )
+    private_rule(alloc, span, &symbol.kind, inline, Some(ty), alternatives)
 }
 
 /// Of a lookaround: an empty alternative that gives a location.
