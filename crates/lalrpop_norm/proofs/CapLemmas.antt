@@ -13,6 +13,7 @@ use Rattle.lalrpop_norm_theory.specs.Rounds.{In, NewIn, rules_made}
 use Rattle.lalrpop_norm_theory.specs.Symbols.{ClosedSymbol}
 use Rattle.lalrpop_norm_theory.specs.Meaning.{Meaning}
 use Rattle.lalrpop_norm_theory.proofs.RoundsLemmas.{in_right, in_cases}
+use Rattle.lalrpop_norm_model.proofs.LevelLemmas.{in_map, of_map}
 use Rattle.lalrpop_norm_model.specs.Expanded.{rule_names}
 use Rattle.lalrpop_norm_model.specs.Grammars.{ConditionValue}
 use Rattle.lalrpop_norm_model.specs.Laws.{RoundsAreRead}
@@ -119,16 +120,6 @@ cap_stands [] x i = absurd i
 cap_stands (x ∷ []) y i = (span_of x, inl refl)
 cap_stands (x ∷ y ∷ xs) z i = cap_stands (y ∷ xs) y (inl refl)
 
-in_view : {A B : Type 0} (f : A → B) (x : A) (xs : List A) → In x xs → In (f x) (map f xs)
-in_view f x [] i = absurd i
-in_view f x (y ∷ xs) (inl e) = inl (ap f e)
-in_view f x (y ∷ xs) (inr i) = inr (in_view f x xs i)
-
-of_view : {A B : Type 0} (f : A → B) (y : B) (xs : List A) → In y (map f xs) → (x : A) × In x xs
-of_view f y [] i = absurd i
-of_view f y (x ∷ xs) (inl e) = (x, inl refl)
-of_view f y (x ∷ xs) (inr i) = let r = of_view f y xs i in (r.0, inr r.1)
-
 -- F36 stands exactly where a chain past the limit is the shortest one to some symbol
 pub cap_exact : RoundsAreRead → RoundsAreShortestChains → CapIsExact
 cap_exact read chains value g settled limit = (there, back)
@@ -147,10 +138,10 @@ cap_exact read chains value g settled limit = (there, back)
         let cap = to_end value g 0 limit h.0 h.1 in
         let new = something_new (expansion_round value g limit).fresh h.0 (subst (λ n. In (cap_at h.0) (past_cap (expansion_round value g n).fresh)) ends cap) in
         let x = closed new.0 in
-        (x, (chains M (declared g) limit x).0 (subst (λ xs. In x xs) news (in_view closed new.0 (expansion_round value g limit).fresh new.1)))
+        (x, (chains M (declared g) limit x).0 (subst (λ xs. In x xs) news (in_map closed new.0 (expansion_round value g limit).fresh new.1)))
 
     back : ((x : ClosedSymbol) × NewIn (rule_meets M) (flat_map (rule_meets M) (declared g)) limit x) → (s : Span) × In (cap_at s) (expansion_faults value g limit)
     back h =
-        let new = of_view closed h.0 (expansion_round value g limit).fresh (subst (λ xs. In h.0 xs) (sym news) ((chains M (declared g) limit h.0).1 h.1)) in
+        let new = of_map closed h.0 (expansion_round value g limit).fresh (subst (λ xs. In h.0 xs) (sym news) ((chains M (declared g) limit h.0).1 h.1)) in
         let cap = cap_stands (expansion_round value g limit).fresh new.0 new.1 in
         (cap.0, from_end value g 0 limit cap.0 (subst (λ n. In (cap_at cap.0) (past_cap (expansion_round value g n).fresh)) (sym ends) cap.1))

@@ -30,7 +30,8 @@ use Rattle.lalrpop_norm_model.specs.PlainTables.{IsSettled}
 use Rattle.lalrpop_norm_model.specs.Expanded.{rule_names}
 use Rattle.lalrpop_norm_model.specs.LevelNames.{HasLevelNames}
 use Rattle.lalrpop_norm_model.proofs.LevelLemmas.{in_map, of_map, of_present}
-use Rattle.lalrpop_norm_model.proofs.WrittenLemmas.{in_cases, of_numbered, scoped_as_written}
+use Rattle.lalrpop_norm_model.proofs.WrittenLemmas.{of_numbered, scoped_as_written}
+use Rattle.lalrpop_norm_theory.proofs.RoundsLemmas.{in_cases}
 use Rattle.lalrpop_norm_model.proofs.GrammarLemmas.{rule_item_of, of_flat, distinct_left, leveled_from, flat_from}
 use Rattle.lalrpop_norm_model.proofs.LevelRuleLemmas.{resolved_rule_places}
 use Rattle.lalrpop_norm_model.proofs.ReadingLemmas.{parts_kept, parts_settled}

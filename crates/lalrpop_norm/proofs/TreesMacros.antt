@@ -15,7 +15,8 @@ use Rattle.lalrpop_norm_model.specs.Grammars.{is_nil}
 use Rattle.lalrpop_norm_model.specs.LevelRules.{level_of_rule, step_alternative, step_alternatives, level_rule, level_rules, leveled_grammar}
 use Rattle.lalrpop_norm_model.specs.PlainRules.{all_rules}
 use Rattle.lalrpop_norm_model.proofs.LevelLemmas.{in_map, had_level, previous_is, has_previous}
-use Rattle.lalrpop_norm_model.proofs.ScopeLemmas.{in_right, in_flat}
+use Rattle.lalrpop_norm_model.proofs.ScopeLemmas.{in_flat}
+use Rattle.lalrpop_norm_theory.proofs.RoundsLemmas.{in_right}
 use Rattle.lalrpop_norm_model.proofs.WrittenLemmas.{scoped_as_written}
 use Rattle.lalrpop_norm_model.proofs.GrammarLemmas.{all_level_rules, rule_item_of, as_leveled, leveled_in, flat_found}
 use Rattle.lalrpop_norm_model.proofs.LevelRuleLemmas.{resolved_rule_places}

@@ -10,7 +10,8 @@ use Rattle.lalrpop_norm_theory.specs.Symbols as written
 use Rattle.lalrpop_norm_theory.specs.Symbols.{Name, ClosedSymbol}
 use Rattle.lalrpop_norm_theory.specs.Meaning.{Meaning}
 use Rattle.lalrpop_norm_theory.specs.WrittenTrees.{WrittenTree, IsTreeOf, yield}
-use Rattle.lalrpop_norm_theory.specs.LoweredTrees.{LoweredSymbol, terminal_symbol, nonterminal_symbol, Origin, from_start, Production, ProductionTable, LoweredTree, IsDerivation, lowered_yield}
+use Rattle.lalrpop_norm_theory.specs.LoweredTrees.{LoweredSymbol, terminal_symbol, nonterminal_symbol, Origin, from_start}
+use Rattle.lalrpop_norm_theory.specs.LoweredTrees.{Production, ProductionTable, LoweredTree, IsDerivation, lowered_yield}
 use Rattle.lalrpop_norm_model.specs.Reading.{terminal_of}
 
 -- a symbol as trees see it

@@ -59,7 +59,8 @@ start_of fs g s = start_name g.prefix (lowered_name fs g s)
 -- start symbols, and its words are those of the written symbol.
 pub record HasStart (fs : Features) (g : GrammarData) (plain : GrammarData) (rounds : ℕ) (l : LoweredGrammar) (s : ClosedSymbol) : Type 0 where
   pub listed : found (lowered_name fs g s) l.start_nonterminals ≡ Some (start_of fs g s)
-  pub production : traced_derivations fs g plain rounds l (start_of fs g s).0 ≡ record { origin = from_start; symbols = nonterminal_symbol (lowered_name fs g s).0 ∷ [] } ∷ []
+  pub production : traced_derivations fs g plain rounds l (start_of fs g s).0
+      ≡ record { origin = from_start; symbols = nonterminal_symbol (lowered_name fs g s).0 ∷ [] } ∷ []
   pub words : (w : List Terminal) →
       IsWrittenWord (written_meaning fs g) s w ↔ IsWordOf (traced_derivations fs g plain rounds l) (start_of fs g s).0 w
 
@@ -73,9 +74,11 @@ pub record HasFaithfulTrees (fs : Features) (g : GrammarData) (plain : GrammarDa
   pub one_to_one : (s : ClosedSymbol) → In s (roots (written_rules fs g) ++ references (written_rules fs g)) →
       OneToOne (written_meaning fs g) (text_in (written_rules fs g)) (traced_derivations fs g plain rounds l) s
   pub starts : (r : RuleData) → In r (all_rules (enabled_grammar fs g)) → r.args ≡ [] → is_public r.visibility ≡ true →
-      (s : ClosedSymbol) → In s (roots (written_rules fs g) ++ references (written_rules fs g)) → IsSymbolOf r s → HasStart fs g plain rounds l s
+      (s : ClosedSymbol) → In s (roots (written_rules fs g) ++ references (written_rules fs g)) → IsSymbolOf r s →
+      HasStart fs g plain rounds l s
   pub plain_starts : (r : RuleData) → In r (public_rules_in (all_rules plain)) →
-      traced_derivations fs g plain rounds l (start_name plain.prefix r.name).0 ≡ record { origin = from_start; symbols = nonterminal_symbol r.name.0 ∷ [] } ∷ []
+      traced_derivations fs g plain rounds l (start_name plain.prefix r.name).0
+      ≡ record { origin = from_start; symbols = nonterminal_symbol r.name.0 ∷ [] } ∷ []
 
 -- ---- types
 

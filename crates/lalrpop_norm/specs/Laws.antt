@@ -30,7 +30,8 @@ use Rattle.lalrpop_norm_repr.specs.Tables.{TypeTable}
 use Rattle.lalrpop_norm_late.specs.Lowering.{public_rules_in, start_name}
 use Rattle.lalrpop_norm_late.specs.Shape.{IsLoweringOf}
 use Rattle.lalrpop_norm.specs.Derivations.{IsWrittenWord, IsWordOf}
-use Rattle.lalrpop_norm.specs.Faithful.{HasFaithfulTrees, IsSymbolOf, lowered_name, written_meaning, traced_derivations, grammar_with_levels, grammar_of_plain_rules}
+use Rattle.lalrpop_norm.specs.Faithful.{HasFaithfulTrees, IsSymbolOf, lowered_name, written_meaning, traced_derivations}
+use Rattle.lalrpop_norm.specs.Faithful.{grammar_with_levels, grammar_of_plain_rules}
 
 -- no macro has two levels
 abbrev pub HasFlatMacros : GrammarData → Type 0
@@ -44,7 +45,9 @@ HasOwnLevels g = (d : RuleData) → In d (all_rules g) → is_nil d.args ≡ fal
 
 -- Where no fault of names stands in the grammar with levels, a macro has no two levels, if no argument hides the name of a level.
 abbrev pub MacrosHaveOneLevel : Type 0
-MacrosHaveOneLevel = (g : GrammarData) → resolved_grammar g ≡ g → resolve_faults (leveled_grammar g) ≡ [] → HasOwnLevels g → HasFlatMacros g
+MacrosHaveOneLevel =
+    (g : GrammarData) → resolved_grammar g ≡ g → resolve_faults (leveled_grammar g) ≡ [] → HasOwnLevels g →
+    HasFlatMacros g
 
 -- names stand once, and no start symbol has the name of a rule
 pub record HasOwnNames (g : GrammarData) : Type 0 where
@@ -60,7 +63,9 @@ NamesAreOwn = (g : GrammarData) (types : Table) → IsDistinct (rule_names g) �
 -- these are lowered to, once they have their tokens, has trees one to one with the written ones, and each enabled public rule
 -- that is no macro has its start symbols there, with its words.
 abbrev pub LoweredTreesAreFaithful : Type 0
-LoweredTreesAreFaithful = (fs : Features) (g : GrammarData) → resolve_faults (enabled_grammar fs g) ≡ [] → HasFlatMacros (prepared_grammar fs g) →
+LoweredTreesAreFaithful =
+    (fs : Features) (g : GrammarData) → resolve_faults (enabled_grammar fs g) ≡ [] →
+    HasFlatMacros (prepared_grammar fs g) →
     resolve_faults (grammar_with_levels fs g) ≡ [] → (rounds : ℕ) → IsEnded comparison (grammar_with_levels fs g) rounds →
     HasOwnNames (grammar_of_plain_rules fs g rounds) → (plain : GrammarData) → IsEntered (grammar_of_plain_rules fs g rounds) plain →
     (types : TypeTable) (l : LoweredGrammar) → IsLoweringOf plain (all_rules plain) types l →

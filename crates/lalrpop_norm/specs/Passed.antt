@@ -18,7 +18,8 @@ use Rattle.lalrpop_norm.specs.PlainLaws.{PassesLowering}
 
 -- a grammar is typed by each table that inference may answer
 abbrev pub IsTypedByInference : Features → GrammarData → Type 0
-IsTypedByInference fs plain = (types : TypeTable) → inference_faults plain ≡ [] → IsInferred plain types → IsTyped fs plain (types_by_name types)
+IsTypedByInference fs plain =
+    (types : TypeTable) → inference_faults plain ≡ [] → IsInferred plain types → IsTyped fs plain (types_by_name types)
 
 -- the types of plain rules are inferred, and over them the active part of the grammar is lowered
 pub record IsTypedLowering (fs : Features) (plain : GrammarData) (l : LoweredGrammar) : Type 0 where

@@ -23,7 +23,8 @@ use Rattle.lalrpop_norm_late.specs.Lowering.{public_rules_in}
 use Rattle.lalrpop_norm_late.specs.Made.{types_by_name}
 use Rattle.lalrpop_norm_late.specs.Shape.{HasStartTypes, IsLoweringOf}
 use Rattle.lalrpop_norm.specs.TakenGrammars.{IsTaken}
-use Rattle.lalrpop_norm.specs.Faithful.{HasGroundedTypes, IsInferred, IsFaithful, no_lexer, grammar_with_levels, grammar_of_plain_rules}
+use Rattle.lalrpop_norm.specs.Faithful.{HasGroundedTypes, IsInferred, IsFaithful, no_lexer, grammar_with_levels}
+use Rattle.lalrpop_norm.specs.Faithful.{grammar_of_plain_rules}
 
 -- ---- what passes find
 
@@ -46,12 +47,15 @@ pub record PassesLowering (fs : Features) (g : GrammarData) (limit : ℕ) (table
 
 -- The grammar of plain rules is expanded.
 abbrev pub PlainGrammarsAreExpanded : Type 0
-PlainGrammarsAreExpanded = (fs : Features) (g : GrammarData) (limit : ℕ) → PassesExpansion fs g limit → IsExpanded (grammar_of_plain_rules fs g limit)
+PlainGrammarsAreExpanded =
+    (fs : Features) (g : GrammarData) (limit : ℕ) → PassesExpansion fs g limit →
+    IsExpanded (grammar_of_plain_rules fs g limit)
 
 -- It is typed by each table in which each of its rules has a type.
 abbrev pub PlainGrammarsAreTyped : Type 0
 PlainGrammarsAreTyped = (fs : Features) (g : GrammarData) (limit : ℕ) → PassesExpansion fs g limit → (table : List ℕ → Option ReprData) →
-    ((r : RuleData) → IsRule (grammar_of_plain_rules fs g limit) r → IsSome (table r.name.0)) → IsTyped fs (grammar_of_plain_rules fs g limit) table
+    ((r : RuleData) → IsRule (grammar_of_plain_rules fs g limit) r → IsSome (table r.name.0)) →
+    IsTyped fs (grammar_of_plain_rules fs g limit) table
 
 -- With its extern enum it has the tokens that it needs.
 abbrev pub PlainGrammarsHaveTokens : Type 0
@@ -87,5 +91,8 @@ LoweredTypesAreGrounded = (fs : Features) (g : GrammarData) (limit : ℕ) (table
 
 -- What is lowered from the plain rules, with nothing left open, is faithful.
 abbrev pub LoweredGrammarsAreFaithful : Type 0
-LoweredGrammarsAreFaithful = (fs : Features) (g : GrammarData) (limit : ℕ) (table : TypeTable) (l : LoweredGrammar) → PassesLowering fs g limit table →
-    IsLoweringOf (grammar_of_plain_rules fs g limit) (all_rules (grammar_of_plain_rules fs g limit)) table l → IsClosed l → IsFaithful no_lexer fs g l
+LoweredGrammarsAreFaithful =
+    (fs : Features) (g : GrammarData) (limit : ℕ) (table : TypeTable) (l : LoweredGrammar) →
+    PassesLowering fs g limit table →
+    IsLoweringOf (grammar_of_plain_rules fs g limit) (all_rules (grammar_of_plain_rules fs g limit)) table l → IsClosed l →
+    IsFaithful no_lexer fs g l

@@ -4,12 +4,16 @@ use Rattle.std.specs.List.{IsDistinct}
 use Rattle.lalrpop_norm_parts.specs.declared.names.TerminalString.{TerminalString}
 use Rattle.lalrpop_norm_parts.specs.declared.names.TerminalString.TheVariants.{Literal, Bare, Error}
 use Rattle.lalrpop_norm_parts.specs.Attributes.{no_attributes}
-use Rattle.lalrpop_norm_tree.specs.Items.{Action, user_code, fallible_code, lookahead_code, lookbehind_code, AlternativeData, RuleData, ConversionData, ExternTokenData, ItemData, match_item, extern_item, intern_item, rule_item, use_item, GrammarData}
+use Rattle.lalrpop_norm_tree.specs.Items.{Action, user_code, fallible_code, lookahead_code, lookbehind_code, AlternativeData}
+use Rattle.lalrpop_norm_tree.specs.Items.{RuleData, ConversionData, ExternTokenData, ItemData, match_item, extern_item}
+use Rattle.lalrpop_norm_tree.specs.Items.{intern_item, rule_item, use_item, GrammarData}
 use Rattle.lalrpop_norm_parts.specs.Patterns as pattern
-use Rattle.lalrpop_norm_tree.specs.Symbols.{Kind, group, ambiguous_id, terminal, nonterminal, call, repeated, chosen, named, tupled, lookahead, lookbehind, error_terminal, Part, at, Parts, no_parts, part_and}
+use Rattle.lalrpop_norm_tree.specs.Symbols.{Kind, group, ambiguous_id, terminal, nonterminal, call, repeated, chosen, named}
+use Rattle.lalrpop_norm_tree.specs.Symbols.{tupled, lookahead, lookbehind, error_terminal, Part, at, Parts, no_parts, part_and}
 use Rattle.lalrpop_norm_tree.specs.Types.{TypeData}
 use Rattle.lalrpop_norm_model.specs.Features.{Features}
-use Rattle.lalrpop_norm.specs.Grammars.{rules_among, externs_of, is_public, enum_of, conversions_in, conversions_of, active_conversions, terminals_converted, same_terminal}
+use Rattle.lalrpop_norm.specs.Grammars.{rules_among, externs_of, is_public, enum_of, conversions_in, conversions_of}
+use Rattle.lalrpop_norm.specs.Grammars.{active_conversions, terminals_converted, same_terminal}
 use Rattle.lalrpop_norm.specs.Later.{has_several_slots, has_rule, has_active_conversion}
 
 -- ---- symbols, where a test tells which terminals have a conversion

@@ -1,5 +1,6 @@
 -- Patterns as the crate `regex` reads them, without options.
-use Rattle.std.specs.Prelude.{◌≡◌, ℕ, Bool, false, nat_le, Option, Some, None, is_some, option_and_then, chars, if◌then◌else◌, IsCharBoundary}
+use Rattle.std.specs.Prelude.{◌≡◌, ℕ, Bool, false, nat_le, Option, Some, None, is_some, option_and_then, chars}
+use Rattle.std.specs.Prelude.{if◌then◌else◌, IsCharBoundary}
 use Rattle.regex_syntax.specs.Grammar.{read}
 use Rattle.regex.specs.Patterns.{Re, Matches, find_str, default_config}
 use Rattle.lalrpop_norm_theory.specs.Symbols.{Name}

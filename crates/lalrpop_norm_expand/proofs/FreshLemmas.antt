@@ -19,13 +19,11 @@ use Rattle.lalrpop_norm_model.proofs.TextLemmas.{part_displayed}
 use Rattle.lalrpop_norm_expand.specs.Expansion.{is_declared_name, has_other, shared_names}
 use Rattle.lalrpop_norm_expand.proofs.IndexLemmas.{first_more, first_at, text_cases}
 use Rattle.lalrpop_norm_expand.specs.Meeting.{first_with_text, joined_by, after_one, after, differs, clashes, clash_faults}
+use Rattle.lalrpop_norm_model.specs.PlainTables.{closed}
 use Rattle.lalrpop_norm_theory.proofs.BoolLemmas.{or_nothing, not_false}
 use Rattle.lalrpop_norm_faults.proofs.FaultLemmas.{none_first}
 
 -- ---- sameness
-
-abbrev pub closed : Part → ClosedSymbol
-closed p = read_part flat_reader 0 0 p
 
 pub same_closed : (p q : Part) → same_apart_from_spans p q ≡ true → closed p ≡ closed q
 same_closed p q e = symbol_test.sound (closed p) (closed q) e

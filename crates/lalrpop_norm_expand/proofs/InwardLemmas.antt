@@ -15,8 +15,9 @@ use Rattle.lalrpop_norm_expand.specs.declared.macro_expand.expander.Expander.{Ex
 use Rattle.lalrpop_norm_expand.specs.Apart.{unplaced, all_unplaced}
 use Rattle.lalrpop_norm_model.specs.MadeRules.{span_of}
 use Rattle.lalrpop_norm_expand.specs.Meeting.{met_inside, own, met_itself, inside, own_text, first_with_text, joined_by, after_one, after, differs, clashes, clash_faults, was_met, were_met, were_met_inside, seen_of, is_taken_by, has_key, IsExpander, Meets, refused_by}
+use Rattle.lalrpop_norm_model.specs.PlainTables.{closed}
 use Rattle.lalrpop_norm_expand.proofs.ApartLemmas.{part_closed, unplaced_same}
-use Rattle.lalrpop_norm_expand.proofs.FreshLemmas.{closed, closed_same, closed_text_same, none_if, or_false}
+use Rattle.lalrpop_norm_expand.proofs.FreshLemmas.{closed_same, closed_text_same, none_if, or_false}
 use Rattle.lalrpop_norm_expand.proofs.IndexLemmas.{first_at}
 use Rattle.lalrpop_norm_expand.proofs.SymbolLemmas.{part_is, met_is}
 

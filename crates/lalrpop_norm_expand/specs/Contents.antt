@@ -4,7 +4,9 @@ use Rattle.std.specs.Prelude.{ℕ, Bool, false, List, [], Option, Some, None, op
 use Rattle.lalrpop_norm_parts.specs.declared.names.TerminalString.{TerminalString}
 use Rattle.lalrpop_norm_tree.specs.declared.symbol.RepeatOp.{RepeatOp}
 use Rattle.lalrpop_norm_tree.specs.declared.symbol.RepeatOp.TheVariants as op
-use Rattle.lalrpop_norm_tree.specs.Symbols.{ArgumentPatterns, no_arguments, argument_patterns_view, Kind, Parts, group, ambiguous_id, terminal, nonterminal, call, repeated, chosen, named, tupled, lookahead, lookbehind, error_terminal, no_parts, part_and}
+use Rattle.lalrpop_norm_tree.specs.Symbols.{ArgumentPatterns, no_arguments, argument_patterns_view, Kind, Parts, group}
+use Rattle.lalrpop_norm_tree.specs.Symbols.{ambiguous_id, terminal, nonterminal, call, repeated, chosen, named, tupled, lookahead}
+use Rattle.lalrpop_norm_tree.specs.Symbols.{lookbehind, error_terminal, no_parts, part_and}
 use Rattle.lalrpop_norm_expand.specs.declared.macro_expand.content.Form.{Form}
 use Rattle.lalrpop_norm_expand.specs.declared.macro_expand.content.Form.TheVariants as form
 use Rattle.lalrpop_norm_expand.specs.declared.macro_expand.content.Content.{Content}

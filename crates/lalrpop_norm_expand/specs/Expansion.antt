@@ -1,7 +1,9 @@
 -- The faults of an expansion, round by round: what `expand_macros` refuses.
-use Rattle.std.specs.Prelude.{ℕ, zero, suc, Bool, not, ◌&&◌, ◌||◌, List, [], ◌∷◌, ◌++◌, flat_map, bytes_eq, map}
+use Rattle.std.specs.Prelude.{ℕ, zero, suc, Bool, not, ◌&&◌, ◌||◌, List, [], ◌∷◌, ◌++◌, flat_map, bytes_eq}
+use Rattle.std.specs.Prelude.{map}
 use Rattle.std.specs.List.{list_any}
-use Rattle.lalrpop_norm_tree.specs.Symbols.{Part, group, ambiguous_id, terminal, nonterminal, call, repeated, chosen, named, tupled, lookahead, lookbehind, error_terminal, at}
+use Rattle.lalrpop_norm_tree.specs.Symbols.{Part, group, ambiguous_id, terminal, nonterminal, call, repeated, chosen, named}
+use Rattle.lalrpop_norm_tree.specs.Symbols.{tupled, lookahead, lookbehind, error_terminal, at}
 use Rattle.lalrpop_norm_tree.specs.SymbolTexts.{part_text}
 use Rattle.lalrpop_norm_tree.specs.Items.{RuleData, GrammarData}
 use Rattle.lalrpop_norm_faults.specs.declared.kind.FaultKind.TheVariants.{NotYet, NamedInGroup, RecursionCap, SharedName}
@@ -9,7 +11,8 @@ use Rattle.lalrpop_norm_faults.specs.Faults.{Fault, fault_if}
 use Rattle.lalrpop_norm_theory.specs.Rounds.{rules_made}
 use Rattle.lalrpop_norm_model.specs.Grammars.{ConditionValue}
 use Rattle.lalrpop_norm_model.specs.MadeRules.{some_name_value}
-use Rattle.lalrpop_norm_model.specs.PlainRules.{met_in_rule, met_by_made, rules_without_arguments, macros_of, same_apart_from_spans, expansion_round}
+use Rattle.lalrpop_norm_model.specs.PlainRules.{met_in_rule, met_by_made, rules_without_arguments, macros_of}
+use Rattle.lalrpop_norm_model.specs.PlainRules.{same_apart_from_spans, expansion_round}
 use Rattle.lalrpop_norm_model.specs.Expanded.{rule_names}
 use Rattle.lalrpop_norm_model.specs.MadeRules.{span_of}
 

@@ -9,5 +9,7 @@ use Rattle.lalrpop_norm_expand.specs.Expansion.{expansion_faults}
 
 -- Where the names of a grammar's rules are distinct and no fault stands in its expansion, the names of the plain rules are distinct.
 abbrev pub NamesStayDistinct : Type 0
-NamesStayDistinct = (value : ConditionValue) (g : GrammarData) (limit : ℕ) → expansion_faults value g limit ≡ [] → IsDistinct (rule_names g) →
+NamesStayDistinct =
+    (value : ConditionValue) (g : GrammarData) (limit : ℕ) → expansion_faults value g limit ≡ [] →
+    IsDistinct (rule_names g) →
     IsDistinct (rule_names (plain_grammar value g limit))

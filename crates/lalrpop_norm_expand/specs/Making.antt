@@ -3,8 +3,10 @@ use Rattle.std.specs.Prelude.{false, ℕ, List, [], ◌∷◌, codes, not}
 use Rattle.std.specs.BTreeSet.{insert_key}
 use Rattle.std.specs.Ordering.{nat_cmp}
 use Rattle.std.specs.Cmp.Lexicographic.{slice_cmp}
-use Rattle.lalrpop_norm_tree.specs.Symbols.{Kind, Part, at, group, ambiguous_id, terminal, nonterminal, call, repeated, chosen, named, tupled, lookahead, lookbehind, error_terminal}
-use Rattle.lalrpop_norm_tree.specs.Items.{AlternativeData, RuleData, ItemData, match_item, extern_item, intern_item, rule_item, use_item}
+use Rattle.lalrpop_norm_tree.specs.Symbols.{Kind, Part, at, group, ambiguous_id, terminal, nonterminal, call, repeated, chosen}
+use Rattle.lalrpop_norm_tree.specs.Symbols.{named, tupled, lookahead, lookbehind, error_terminal}
+use Rattle.lalrpop_norm_tree.specs.Items.{AlternativeData, RuleData, ItemData, match_item, extern_item, intern_item, rule_item}
+use Rattle.lalrpop_norm_tree.specs.Items.{use_item}
 use Rattle.lalrpop_norm_tree.specs.Types.{TypeData}
 use Rattle.lalrpop_norm_faults.specs.declared.kind.FaultKind.TheVariants.{NotYet}
 use Rattle.lalrpop_norm_faults.specs.Faults.{Fault, fault_if}

@@ -1,8 +1,28 @@
 -- Lists of faults, and answers that name the first of one.
-use Rattle.std.specs.Prelude.{String, string_bytes, ◌≡◌, ℕ, Bool, if◌then◌else◌, List, [], ◌∷◌, ◌⊎◌, Option, Some, None, Result, Ok, Err, codes}
+use Rattle.std.specs.Prelude.{String, string_bytes, ◌≡◌, ℕ, Bool, if◌then◌else◌, List, [], ◌∷◌, ◌⊎◌}
+use Rattle.std.specs.Prelude.{Option, Some, None, Result, Ok, Err, codes}
 use Rattle.lalrpop_norm_parts.specs.declared.names.Span.{Span}
 use Rattle.lalrpop_norm_faults.specs.declared.kind.FaultKind.{FaultKind}
-use Rattle.lalrpop_norm_faults.specs.declared.kind.FaultKind.TheVariants.{NotYet, GrammarAttribute, SecondMatch, MatchWithExtern, SecondExtern, UnknownAssociatedType, RepeatedAssociatedType, PublicMacro, UnknownRuleAttribute, RepeatedRuleAttribute, InlineOnPublic, MalformedCfg, MissingLevel, LevelArgument, LevelNumber, SideArgument, Side, SideOnLowest, AlternativeAttribute, NamedWithoutAction, AnonymousInBraces, ChosenWithNamed, NameTwice, ErrorWithAscent, MacroWithoutArguments, NoLocation, WrittenIntern, WrittenErrorTerminal, WrittenOfSymbol, WrittenLookaround, NameDeclaredTwice, ArgumentTwice, NoDefinition, ConditionOnOther, NotNonterminal, NotMacro, Arity, MacroNamed, ConditionArgument, ConditionPattern, NamedInGroup, RecursionCap, SharedName, LiteralTwice, TerminalTwice, NoMapping, NoPattern, BadRegex, RegexFeature, Ambiguity, InputLifetime, InputParameter, NoAlternatives, OnlyCoded, NotGrounded, Disagreement, TupleOverSymbol, TupleOverType, TupleLength, Placeholders, StartTaken, TooManyActions}
+use Rattle.lalrpop_norm_faults.specs.declared.kind.FaultKind.TheVariants.{NotYet, GrammarAttribute, SecondMatch, MatchWithExtern}
+use Rattle.lalrpop_norm_faults.specs.declared.kind.FaultKind.TheVariants.{SecondExtern, UnknownAssociatedType}
+use Rattle.lalrpop_norm_faults.specs.declared.kind.FaultKind.TheVariants.{RepeatedAssociatedType, PublicMacro}
+use Rattle.lalrpop_norm_faults.specs.declared.kind.FaultKind.TheVariants.{UnknownRuleAttribute, RepeatedRuleAttribute}
+use Rattle.lalrpop_norm_faults.specs.declared.kind.FaultKind.TheVariants.{InlineOnPublic, MalformedCfg, MissingLevel}
+use Rattle.lalrpop_norm_faults.specs.declared.kind.FaultKind.TheVariants.{LevelArgument, LevelNumber, SideArgument, Side}
+use Rattle.lalrpop_norm_faults.specs.declared.kind.FaultKind.TheVariants.{SideOnLowest, AlternativeAttribute, NamedWithoutAction}
+use Rattle.lalrpop_norm_faults.specs.declared.kind.FaultKind.TheVariants.{AnonymousInBraces, ChosenWithNamed, NameTwice}
+use Rattle.lalrpop_norm_faults.specs.declared.kind.FaultKind.TheVariants.{ErrorWithAscent, MacroWithoutArguments, NoLocation}
+use Rattle.lalrpop_norm_faults.specs.declared.kind.FaultKind.TheVariants.{WrittenIntern, WrittenErrorTerminal, WrittenOfSymbol}
+use Rattle.lalrpop_norm_faults.specs.declared.kind.FaultKind.TheVariants.{WrittenLookaround, NameDeclaredTwice, ArgumentTwice}
+use Rattle.lalrpop_norm_faults.specs.declared.kind.FaultKind.TheVariants.{NoDefinition, ConditionOnOther, NotNonterminal}
+use Rattle.lalrpop_norm_faults.specs.declared.kind.FaultKind.TheVariants.{NotMacro, Arity, MacroNamed, ConditionArgument}
+use Rattle.lalrpop_norm_faults.specs.declared.kind.FaultKind.TheVariants.{ConditionPattern, NamedInGroup, RecursionCap}
+use Rattle.lalrpop_norm_faults.specs.declared.kind.FaultKind.TheVariants.{SharedName, LiteralTwice, TerminalTwice, NoMapping}
+use Rattle.lalrpop_norm_faults.specs.declared.kind.FaultKind.TheVariants.{NoPattern, BadRegex, RegexFeature, Ambiguity}
+use Rattle.lalrpop_norm_faults.specs.declared.kind.FaultKind.TheVariants.{InputLifetime, InputParameter, NoAlternatives}
+use Rattle.lalrpop_norm_faults.specs.declared.kind.FaultKind.TheVariants.{OnlyCoded, NotGrounded, Disagreement, TupleOverSymbol}
+use Rattle.lalrpop_norm_faults.specs.declared.kind.FaultKind.TheVariants.{TupleOverType, TupleLength, Placeholders, StartTaken}
+use Rattle.lalrpop_norm_faults.specs.declared.kind.FaultKind.TheVariants.{TooManyActions}
 use Rattle.std.specs.declared.alloc.AllocError.{AllocError}
 use Rattle.std.specs.declared.alloc.Global.{Global}
 use Rattle.lalrpop_norm_faults.specs.declared.failure.NormError.{NormError}

@@ -5,7 +5,8 @@ use Rattle.lalrpop_norm_tree.specs.Accessors.{or_else}
 use Rattle.lalrpop_norm_parts.specs.Attributes.{Attributes, attribute, no_attributes, attribute_and}
 use Rattle.lalrpop_norm_tree.specs.Items.{Action, user_code, fallible_code, lookahead_code, lookbehind_code, AlternativeData}
 use Rattle.lalrpop_norm_tree.specs.Symbols.{Kind, named, tupled, at, Parts, no_parts, part_and}
-use Rattle.lalrpop_norm_faults.specs.declared.kind.FaultKind.TheVariants.{AlternativeAttribute, NamedWithoutAction, AnonymousInBraces, WrittenLookaround}
+use Rattle.lalrpop_norm_faults.specs.declared.kind.FaultKind.TheVariants.{AlternativeAttribute, NamedWithoutAction}
+use Rattle.lalrpop_norm_faults.specs.declared.kind.FaultKind.TheVariants.{AnonymousInBraces, WrittenLookaround}
 use Rattle.lalrpop_norm_faults.specs.Faults.{Fault, fault_if}
 use Rattle.lalrpop_norm_front.specs.declared.prevalidate.Place.{Place}
 use Rattle.lalrpop_norm_util.specs.Braces.{presence, is_in_braces}
@@ -18,7 +19,8 @@ is_known_on_alternative name = bytes_eq name (codes "precedence") || bytes_eq na
 -- F13
 abbrev pub unknown_alternative_faults : Attributes → List Fault
 unknown_alternative_faults no_attributes = []
-unknown_alternative_faults (attribute_and (attribute s name x) rest) = fault_if (not (is_known_on_alternative name)) (AlternativeAttribute, s) ++ unknown_alternative_faults rest
+unknown_alternative_faults (attribute_and (attribute s name x) rest) =
+    fault_if (not (is_known_on_alternative name)) (AlternativeAttribute, s) ++ unknown_alternative_faults rest
 
 abbrev pub place_inside : Kind → Option Span
 place_inside (named n p) = Some (span_of p)

@@ -1,6 +1,7 @@
 -- The enabled grammar in two steps, as the code goes: whole items first, then the parts of each item.
 use Rattle.std.specs.Prelude.{Bool, true, List, map, filter}
-use Rattle.lalrpop_norm_tree.specs.Items.{AlternativeData, ConversionData, ItemData, match_item, extern_item, intern_item, rule_item, use_item}
+use Rattle.lalrpop_norm_tree.specs.Items.{AlternativeData, ConversionData, ItemData, match_item, extern_item, intern_item}
+use Rattle.lalrpop_norm_tree.specs.Items.{rule_item, use_item}
 use Rattle.lalrpop_norm_model.specs.Features.{Features, is_active}
 use Rattle.lalrpop_norm_model.specs.Enabled.{if_active, present, enabled_rule, enabled_extern}
 

@@ -1,5 +1,6 @@
 -- The faults of a grammar that need no names, in the order in which they are looked for. Disabled parts count like all others.
-use Rattle.std.specs.Prelude.{ℕ, Bool, true, false, ◌||◌, ◌&&◌, not, List, [], ◌∷◌, ◌++◌, map, flat_map, Option, Some, None, is_some, is_none, bytes_eq, codes, if◌then◌else◌}
+use Rattle.std.specs.Prelude.{ℕ, Bool, true, false, ◌||◌, ◌&&◌, not, List, [], ◌∷◌, ◌++◌, map, flat_map}
+use Rattle.std.specs.Prelude.{Option, Some, None, is_some, is_none, bytes_eq, codes, if◌then◌else◌}
 use Rattle.std.specs.List.{list_any}
 use Rattle.lalrpop_norm_parts.specs.declared.names.Span.{Span}
 use Rattle.lalrpop_norm_tree.specs.declared.items.MatchItem.{MatchItem}
@@ -9,10 +10,16 @@ use Rattle.lalrpop_norm_parts.specs.Accessors.{is_known_name}
 use Rattle.lalrpop_norm_tree.specs.Accessors.{or_else, first_of, is_public, is_macro, extern_token_of, match_token_of, type_named}
 use Rattle.lalrpop_norm_parts.specs.Attributes.{AttributeData, Attributes, attribute, no_attributes, attribute_and}
 use Rattle.lalrpop_norm_parts.specs.Bounds.{WhereClauseData}
-use Rattle.lalrpop_norm_tree.specs.Items.{RuleData, MatchTokenData, AssociatedTypeData, ConversionData, EnumTokenData, ExternTokenData, ItemData, GrammarData, match_item, extern_item, intern_item, rule_item, use_item}
+use Rattle.lalrpop_norm_tree.specs.Items.{RuleData, MatchTokenData, AssociatedTypeData, ConversionData, EnumTokenData}
+use Rattle.lalrpop_norm_tree.specs.Items.{ExternTokenData, ItemData, GrammarData, match_item, extern_item, intern_item, rule_item}
+use Rattle.lalrpop_norm_tree.specs.Items.{use_item}
 use Rattle.lalrpop_norm_tree.specs.LoweredTypes.{holds_symbol}
 use Rattle.lalrpop_norm_tree.specs.Types.{TypeData, ParameterData}
-use Rattle.lalrpop_norm_faults.specs.declared.kind.FaultKind.TheVariants.{GrammarAttribute, SecondMatch, MatchWithExtern, SecondExtern, UnknownAssociatedType, RepeatedAssociatedType, PublicMacro, UnknownRuleAttribute, RepeatedRuleAttribute, InlineOnPublic, WrittenIntern, WrittenOfSymbol}
+use Rattle.lalrpop_norm_faults.specs.declared.kind.FaultKind.TheVariants.{GrammarAttribute, SecondMatch, MatchWithExtern}
+use Rattle.lalrpop_norm_faults.specs.declared.kind.FaultKind.TheVariants.{SecondExtern, UnknownAssociatedType}
+use Rattle.lalrpop_norm_faults.specs.declared.kind.FaultKind.TheVariants.{RepeatedAssociatedType, PublicMacro}
+use Rattle.lalrpop_norm_faults.specs.declared.kind.FaultKind.TheVariants.{UnknownRuleAttribute, RepeatedRuleAttribute}
+use Rattle.lalrpop_norm_faults.specs.declared.kind.FaultKind.TheVariants.{InlineOnPublic, WrittenIntern, WrittenOfSymbol}
 use Rattle.lalrpop_norm_faults.specs.Faults.{Fault, fault_if}
 use Rattle.lalrpop_norm_model.specs.Features.{is_one_of}
 use Rattle.lalrpop_norm_model.specs.TokenFaults.{each_after}
@@ -72,7 +79,9 @@ match_beside_extern_faults (Some s) = (MatchWithExtern, s) ∷ []
 
 -- a match block, after another one or not: F2, F3, mappings
 unfoldable pub match_faults : Blocks → Bool → MatchTokenData → List Fault
-match_faults b seen m = fault_if seen (SecondMatch, m.span) ++ (match_beside_extern_faults b.first_enum ++ flat_map (flat_map mapping_faults) m.contents)
+match_faults b seen m =
+    fault_if seen (SecondMatch, m.span)
+    ++ (match_beside_extern_faults b.first_enum ++ flat_map (flat_map mapping_faults) m.contents)
 
 abbrev pub is_known_type : List ℕ → Bool
 is_known_type name = bytes_eq name (codes "Location") || bytes_eq name (codes "Error")
@@ -166,7 +175,8 @@ blocks_in g = record { first_match = match_span (first_of match_token_of g.items
 -- F1
 abbrev pub unknown_grammar_faults : Attributes → List Fault
 unknown_grammar_faults no_attributes = []
-unknown_grammar_faults (attribute_and (attribute s name x) rest) = fault_if (not (is_known_name name)) (GrammarAttribute, s) ++ unknown_grammar_faults rest
+unknown_grammar_faults (attribute_and (attribute s name x) rest) =
+    fault_if (not (is_known_name name)) (GrammarAttribute, s) ++ unknown_grammar_faults rest
 
 -- F23 at the grammar
 abbrev pub parameter_faults : Span → ParameterData → List Fault

@@ -6,12 +6,14 @@ use Rattle.lalrpop_norm_tree.specs.Items.{AssociatedTypeData, ItemData}
 use Rattle.lalrpop_norm_faults.specs.Faults.{Fault}
 use Rattle.lalrpop_norm_front.specs.declared.prevalidate.Place.{Place}
 use Rattle.lalrpop_norm_front.specs.declared.prevalidate.Blocks.{Blocks}
-use Rattle.lalrpop_norm_front.specs.GrammarFaults.{attribute_name, rule_attribute_faults, associated_faults, is_match, is_extern, item_faults}
+use Rattle.lalrpop_norm_front.specs.GrammarFaults.{attribute_name, rule_attribute_faults, associated_faults, is_match, is_extern}
+use Rattle.lalrpop_norm_front.specs.GrammarFaults.{item_faults}
 
 -- after the names of some attributes
 abbrev pub attributes_along : Bool → List (List ℕ) → Attributes → List Fault
 attributes_along public before no_attributes = []
-attributes_along public before (attribute_and a rest) = rule_attribute_faults public before a ++ attributes_along public (before ++ attribute_name a ∷ []) rest
+attributes_along public before (attribute_and a rest) =
+    rule_attribute_faults public before a ++ attributes_along public (before ++ attribute_name a ∷ []) rest
 
 -- after the names of some associated types
 abbrev pub types_along : List (List ℕ) → List AssociatedTypeData → List Fault

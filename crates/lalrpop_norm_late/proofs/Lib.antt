@@ -22,4 +22,3 @@ pub mod TokenCounts
 pub mod SymbolCases
 pub mod MadeLemmas
 pub mod RowLemmas
-pub mod ActiveLemmas

@@ -1,9 +1,11 @@
 -- The arguments of an alternative's code: which symbols give it values, under which names, and the code itself. All of it by
 -- places, which count from 0.
-use Rattle.std.specs.Prelude.{◌≡◌, ℕ, Bool, true, ◌||◌, List, [], ◌∷◌, ◌++◌, length, map, filter, take, zip, flat_map, replicate, nat_le, All, Option, Some, None, unwrap_or, if◌then◌else◌, codes}
+use Rattle.std.specs.Prelude.{◌≡◌, ℕ, Bool, true, ◌||◌, List, [], ◌∷◌, ◌++◌, length, map, filter, take, zip}
+use Rattle.std.specs.Prelude.{flat_map, replicate, nat_le, All, Option, Some, None, unwrap_or, if◌then◌else◌, codes}
 use Rattle.std.specs.List.{list_any, enumerate_from}
 use Rattle.lalrpop_norm_util.specs.Braces.{around_slot}
-use Rattle.lalrpop_norm_tree.specs.Symbols.{ArgumentPattern, one_name, several, Kind, named, tupled, Part, at, Parts, no_parts, part_and}
+use Rattle.lalrpop_norm_tree.specs.Symbols.{ArgumentPattern, one_name, several, Kind, named, tupled, Part, at, Parts, no_parts}
+use Rattle.lalrpop_norm_tree.specs.Symbols.{part_and}
 use Rattle.lalrpop_norm_parts.specs.Texts.{joined}
 use Rattle.lalrpop_norm_tree.specs.SymbolTexts.{tuple_text}
 use Rattle.lalrpop_norm_model.specs.MadeRules.{names_value}

@@ -1,5 +1,6 @@
 -- What a lowered grammar carries over from the written one.
-use Rattle.std.specs.Prelude.{ℕ, ◌||◌, Bool, true, false, List, [], ◌∷◌, map, flat_map, filter_map, fold, Option, Some, None, option_map, unwrap_or, bytes_eq, codes}
+use Rattle.std.specs.Prelude.{ℕ, ◌||◌, Bool, true, false, List, [], ◌∷◌, map, flat_map, filter_map, fold, Option}
+use Rattle.std.specs.Prelude.{Some, None, option_map, unwrap_or, bytes_eq, codes}
 use Rattle.std.specs.List.{list_any, enumerate_from}
 use Rattle.lalrpop_norm_tree.specs.declared.items.MatchEntry.{MatchEntry}
 use Rattle.lalrpop_norm_tree.specs.declared.items.MatchMapping.{MatchMapping}
@@ -11,12 +12,16 @@ use Rattle.lalrpop_norm_parts.specs.declared.names.TerminalString.{TerminalStrin
 use Rattle.lalrpop_norm_parts.specs.declared.names.TypeParameter.{TypeParameter}
 use Rattle.lalrpop_norm_parts.specs.Accessors.{codegen_named}
 use Rattle.lalrpop_norm_parts.specs.Attributes.{Attributes, no_attributes, attribute_and, attribute}
-use Rattle.lalrpop_norm_parts.specs.Bounds.{BoundParameterData, lifetime_parameter, type_parameter, associated_type, BoundData, lifetime_bound, function_bound, trait_bound, WhereClauseData, lifetime_clause, type_clause}
+use Rattle.lalrpop_norm_parts.specs.Bounds.{BoundParameterData, lifetime_parameter, type_parameter, associated_type, BoundData}
+use Rattle.lalrpop_norm_parts.specs.Bounds.{lifetime_bound, function_bound, trait_bound, WhereClauseData, lifetime_clause}
+use Rattle.lalrpop_norm_parts.specs.Bounds.{type_clause}
 use Rattle.lalrpop_norm_tree.specs.Items.{ItemData, extern_item, intern_item, use_item, RuleData, GrammarData}
 use Rattle.lalrpop_norm_tree.specs.LoweredTypes.{repr_of, named_path}
-use Rattle.lalrpop_norm_parts.specs.Patterns.{PatternData, pattern_at, tuple_struct, pattern_and, no_patterns, number, chosen as chosen_type}
+use Rattle.lalrpop_norm_parts.specs.Patterns.{PatternData, pattern_at, tuple_struct, pattern_and, no_patterns, number}
+use Rattle.lalrpop_norm_parts.specs.Patterns.{chosen as chosen_type}
 use Rattle.lalrpop_norm_parts.specs.Reprs.{ReprData, of_lifetime, reference, named_repr, LoweredClause, for_all, has_bound}
-use Rattle.lalrpop_norm_tree.specs.Symbols.{Kind, group, ambiguous_id, terminal, nonterminal, call, repeated, chosen, named, tupled, lookahead, lookbehind, error_terminal, Part, at, Parts, no_parts, part_and}
+use Rattle.lalrpop_norm_tree.specs.Symbols.{Kind, group, ambiguous_id, terminal, nonterminal, call, repeated, chosen, named}
+use Rattle.lalrpop_norm_tree.specs.Symbols.{tupled, lookahead, lookbehind, error_terminal, Part, at, Parts, no_parts, part_and}
 use Rattle.lalrpop_norm_tree.specs.Types.{TypeData, ParameterData}
 use Rattle.lalrpop_norm_repr.specs.Lowered.{LoweredParameter}
 use Rattle.lalrpop_norm_model.specs.Scopes.{conversions_in}
@@ -43,7 +48,8 @@ terminal_of_mapping mapping.Skip = None
 
 -- the entries of a tokenizer that name a terminal, each with its own place
 abbrev pub entry_rows : Span → List MatchEntry → List TokenRow
-entry_rows span entries = filter_map (λ e. option_map (λ t. (t, internal_pattern span e.0)) (terminal_of_mapping e.1.user_name)) (enumerate_from 0 entries)
+entry_rows span entries =
+    filter_map (λ e. option_map (λ t. (t, internal_pattern span e.0)) (terminal_of_mapping e.1.user_name)) (enumerate_from 0 entries)
 
 abbrev pub item_tokens : Span → ItemData → List TokenRow
 item_tokens span (extern_item t) = map (λ c. (c.from, mapped_pattern repr_of c.to)) (conversions_in t.enum_token)

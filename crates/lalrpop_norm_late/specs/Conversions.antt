@@ -2,7 +2,9 @@
 use Rattle.std.specs.Prelude.{ℕ, ◌+◌, List, [], ◌∷◌}
 use Rattle.std.specs.BTreeMap.{insert_entry}
 use Rattle.lalrpop_norm_parts.specs.declared.names.TerminalString.{TerminalString}
-use Rattle.lalrpop_norm_parts.specs.Patterns.{PatternKindData, enumerated, structured, path, tuple, tuple_struct, number, underscore, dot_dot, chosen, character, text, PatternData, pattern_at, Patterns, no_patterns, pattern_and, Fields, no_fields, field_and, FieldData}
+use Rattle.lalrpop_norm_parts.specs.Patterns.{PatternKindData, enumerated, structured, path, tuple, tuple_struct, number}
+use Rattle.lalrpop_norm_parts.specs.Patterns.{underscore, dot_dot, chosen, character, text, PatternData, pattern_at, Patterns}
+use Rattle.lalrpop_norm_parts.specs.Patterns.{no_patterns, pattern_and, Fields, no_fields, field_and, FieldData}
 pub use Rattle.lalrpop_norm_repr.specs.Orders.{literal_cmp, terminal_cmp}
 
 -- the pattern with each chosen part put through f

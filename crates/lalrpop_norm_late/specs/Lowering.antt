@@ -1,5 +1,6 @@
 -- What plain rules are lowered to: symbols, numbered productions, start symbols; and tables sorted by names.
-use Rattle.std.specs.Prelude.{ℕ, ◌+◌, Bool, true, false, List, [], ◌∷◌, ◌++◌, length, Option, Some, None, unwrap_or, filter_map, if◌then◌else◌}
+use Rattle.std.specs.Prelude.{ℕ, ◌+◌, Bool, true, false, List, [], ◌∷◌, ◌++◌, length, Option, Some, None}
+use Rattle.std.specs.Prelude.{unwrap_or, filter_map, if◌then◌else◌}
 use Rattle.std.specs.BTreeMap.{insert_entry}
 use Rattle.std.specs.Ordering.{nat_cmp}
 use Rattle.std.specs.Cmp.Lexicographic.{slice_cmp}
@@ -9,7 +10,8 @@ use Rattle.lalrpop_norm_tree.specs.Accessors.{rule_of, is_public}
 use Rattle.lalrpop_norm_parts.specs.Attributes.{no_attributes}
 use Rattle.lalrpop_norm_tree.specs.Items.{Action, fallible_code, AlternativeData, RuleData, ItemData}
 use Rattle.lalrpop_norm_parts.specs.Reprs.{ReprData, unit_type}
-use Rattle.lalrpop_norm_tree.specs.Symbols.{Kind, group, ambiguous_id, terminal, nonterminal, call, repeated, chosen, named, tupled, lookahead, lookbehind, error_terminal, Part, at, Parts, no_parts, part_and}
+use Rattle.lalrpop_norm_tree.specs.Symbols.{Kind, group, ambiguous_id, terminal, nonterminal, call, repeated, chosen, named}
+use Rattle.lalrpop_norm_tree.specs.Symbols.{tupled, lookahead, lookbehind, error_terminal, Part, at, Parts, no_parts, part_and}
 use Rattle.lalrpop_norm_tree.specs.SymbolTexts.{kind_text}
 use Rattle.lalrpop_norm_repr.specs.declared.symbol.Symbol.{Symbol}
 use Rattle.lalrpop_norm_repr.specs.declared.symbol.Symbol.TheVariants.{Nonterminal, Terminal}
@@ -33,7 +35,14 @@ start_name prefix n = record { 0 = prefix ++ n.0 }
 
 -- a start production holds the rule's name and has no code
 abbrev pub start_alternative : RuleData → AlternativeData
-start_alternative r = record { span = r.span; parts = part_and (at r.span (nonterminal r.name.0)) no_parts; condition = None; action = None; attributes = no_attributes }
+start_alternative r =
+    record {
+      span = r.span;
+      parts = part_and (at r.span (nonterminal r.name.0)) no_parts;
+      condition = None;
+      action = None;
+      attributes = no_attributes;
+    }
 
 -- ---- symbols and types
 
@@ -90,14 +99,26 @@ abbrev pub EntryRow : Type 0
 EntryRow = NonterminalString × EntryData
 
 abbrev pub start_entry : List ℕ → ℕ → RuleData → EntryData
-start_entry prefix k r = record { visibility = r.visibility; span = r.span; attributes = no_attributes; productions = production_of (start_name prefix r.name) k (start_alternative r) ∷ [] }
+start_entry prefix k r =
+    record {
+      visibility = r.visibility;
+      span = r.span;
+      attributes = no_attributes;
+      productions = production_of (start_name prefix r.name) k (start_alternative r) ∷ [];
+    }
 
 abbrev pub start_rows : List ℕ → ℕ → List RuleData → List EntryRow
 start_rows prefix k [] = []
 start_rows prefix k (r ∷ rs) = (start_name prefix r.name, start_entry prefix k r) ∷ start_rows prefix (k + 1) rs
 
 abbrev pub rule_entry : ℕ → RuleData → EntryData
-rule_entry k r = record { visibility = r.visibility; span = r.span; attributes = r.attributes; productions = productions_from r.name k r.alternatives }
+rule_entry k r =
+    record {
+      visibility = r.visibility;
+      span = r.span;
+      attributes = r.attributes;
+      productions = productions_from r.name k r.alternatives;
+    }
 
 abbrev pub rule_rows : ℕ → List RuleData → List EntryRow
 rule_rows k [] = []

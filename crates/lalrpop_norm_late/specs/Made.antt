@@ -1,5 +1,6 @@
 -- What lowering makes, as it counts: the words of the code, from which the promises are proved.
-use Rattle.std.specs.Prelude.{◌≡◌, ℕ, ◌+◌, List, [], ◌∷◌, ◌++◌, length, map, filter_map, flat_map, Option, Some, None, option_map, if◌then◌else◌}
+use Rattle.std.specs.Prelude.{◌≡◌, ℕ, ◌+◌, List, [], ◌∷◌, ◌++◌, length, map, filter_map, flat_map, Option}
+use Rattle.std.specs.Prelude.{Some, None, option_map, if◌then◌else◌}
 use Rattle.std.specs.List.Sorted.{IsStrictlySortedBy}
 use Rattle.std.specs.Map.{keys_of}
 use Rattle.lalrpop_norm_tree.specs.declared.items.MatchEntry.{MatchEntry}
@@ -7,8 +8,11 @@ use Rattle.lalrpop_norm_parts.specs.declared.names.Span.{Span}
 use Rattle.lalrpop_norm_parts.specs.declared.names.TerminalString.{TerminalString}
 use Rattle.lalrpop_norm_parts.specs.declared.names.TerminalString.TheVariants as terminal_string
 use Rattle.lalrpop_norm_tree.specs.Accessors.{first_of, intern_token_of}
-use Rattle.lalrpop_norm_parts.specs.Bounds.{BoundParameterData, lifetime_parameter, type_parameter, associated_type, BoundData, lifetime_bound, function_bound, trait_bound, WhereClauseData, lifetime_clause, type_clause}
-use Rattle.lalrpop_norm_tree.specs.Items.{Action, lookahead_code, lookbehind_code, AlternativeData, RuleData, ConversionData, ItemData, match_item, extern_item, intern_item, rule_item, use_item, GrammarData}
+use Rattle.lalrpop_norm_parts.specs.Bounds.{BoundParameterData, lifetime_parameter, type_parameter, associated_type, BoundData}
+use Rattle.lalrpop_norm_parts.specs.Bounds.{lifetime_bound, function_bound, trait_bound, WhereClauseData, lifetime_clause}
+use Rattle.lalrpop_norm_parts.specs.Bounds.{type_clause}
+use Rattle.lalrpop_norm_tree.specs.Items.{Action, lookahead_code, lookbehind_code, AlternativeData, RuleData, ConversionData}
+use Rattle.lalrpop_norm_tree.specs.Items.{ItemData, match_item, extern_item, intern_item, rule_item, use_item, GrammarData}
 use Rattle.lalrpop_norm_parts.specs.Reprs.{ReprData, of_lifetime, LoweredClause, has_bound}
 use Rattle.lalrpop_norm_tree.specs.Types.{TypeData, ParameterData}
 use Rattle.lalrpop_norm_faults.specs.Faults.{Fault}
@@ -21,11 +25,13 @@ use Rattle.lalrpop_norm_repr.specs.Actions.{ActionData, ActionKindData, user, lo
 use Rattle.lalrpop_norm_repr.specs.Lowered.{LoweredGrammar, LoweredParameter}
 use Rattle.lalrpop_norm_repr.specs.Orders.{name_cmp}
 use Rattle.lalrpop_norm_repr.specs.Tables.{TypeTable, type_of}
-use Rattle.lalrpop_norm_late.specs.Carried.{TokenRow, internal_pattern, terminal_of_mapping, under, uses_recovery, use_of, asks_lalr, asked_code}
+use Rattle.lalrpop_norm_late.specs.Carried.{TokenRow, internal_pattern, terminal_of_mapping, under, uses_recovery, use_of}
+use Rattle.lalrpop_norm_late.specs.Carried.{asks_lalr, asked_code}
 use Rattle.lalrpop_norm_late.specs.Code.{written_code}
 use Rattle.lalrpop_norm_model.specs.Scopes.{conversions_in}
 use Rattle.lalrpop_norm_late.specs.Conversions.{mapped_pattern, sorted_terminals, numbered_terminals}
-use Rattle.lalrpop_norm_late.specs.Lowering.{rules_among, public_rules_in, start_alternative, lowered_symbols, type_or_unit, is_fallible, rule_type, start_names, start_rows, rule_rows, sorted_onto}
+use Rattle.lalrpop_norm_late.specs.Lowering.{rules_among, public_rules_in, start_alternative, lowered_symbols, type_or_unit}
+use Rattle.lalrpop_norm_late.specs.Lowering.{is_fallible, rule_type, start_names, start_rows, rule_rows, sorted_onto}
 use Rattle.lalrpop_norm_late.specs.Naming.{argument_patterns, source_names}
 use Rattle.lalrpop_norm_late.specs.Slots.{filled_code}
 use Rattle.lalrpop_norm_late.specs.Typing.{lowered_type, start_types, AddsTypes}
@@ -68,7 +74,8 @@ alternatives_faults k (a ∷ rest) = code_faults a ++ action_number_faults k a.s
 
 abbrev pub made_starts_faults : List ℕ → TypeTable → ℕ → List RuleData → List Fault
 made_starts_faults prefix types k [] = []
-made_starts_faults prefix types k (r ∷ rs) = start_faults prefix (types_by_name types) r ++ action_number_faults k r.span ++ made_starts_faults prefix types (k + 1) rs
+made_starts_faults prefix types k (r ∷ rs) =
+    start_faults prefix (types_by_name types) r ++ action_number_faults k r.span ++ made_starts_faults prefix types (k + 1) rs
 
 abbrev pub made_rules_faults : ℕ → List RuleData → List Fault
 made_rules_faults k [] = []
@@ -82,7 +89,9 @@ made_faults prefix types rules = made_starts_faults prefix types 0 (public_rules
 -- the active conversions
 abbrev pub conversion_rows : Features → List ConversionData → List TokenRow
 conversion_rows fs [] = []
-conversion_rows fs (c ∷ cs) = if is_active fs c.attributes then (c.from, mapped_pattern lowered_type c.to) ∷ conversion_rows fs cs else conversion_rows fs cs
+conversion_rows fs (c ∷ cs) =
+    if is_active fs c.attributes then (c.from, mapped_pattern lowered_type c.to)
+    ∷ conversion_rows fs cs else conversion_rows fs cs
 
 abbrev pub row_named : Span → ℕ → Option TerminalString → List TokenRow
 row_named span k None = []
@@ -133,7 +142,8 @@ made_clauses (type_clause fs t bs) = map (λ b. under fs (has_bound (lowered_typ
 -- what lowering makes of the grammar, where `types` is the table of its rules
 pub record IsMade (fs : Features) (g : GrammarData) (types : TypeTable) (l : LoweredGrammar) : Type 0 where
   pub actions : l.actions ≡ made_starts g.prefix types (public_rules_in (rules_among g.items)) ++ made_actions g.prefix types (rules_among g.items)
-  pub nonterminals : l.nonterminals ≡ sorted_onto (sorted_onto [] (start_rows g.prefix 0 (public_rules_in (rules_among g.items)))) (rule_rows (length (public_rules_in (rules_among g.items))) (rules_among g.items))
+  pub nonterminals : l.nonterminals
+      ≡ sorted_onto (sorted_onto [] (start_rows g.prefix 0 (public_rules_in (rules_among g.items)))) (rule_rows (length (public_rules_in (rules_among g.items))) (rules_among g.items))
   pub start_nonterminals : l.start_nonterminals ≡ sorted_onto [] (start_names g.prefix (public_rules_in (rules_among g.items)))
   pub all_terminals : l.terminals.all ≡ made_terminals fs g
   pub terminal_numbers : l.terminals.bits ≡ sorted_terminals [] (numbered_terminals 0 (made_terminals fs g))

@@ -1,5 +1,6 @@
 -- What the rules of a grammar are lowered to: the shape of a lowered grammar, field by field, each by what is looked up in it.
-use Rattle.std.specs.Prelude.{◌≡◌, ℕ, ◌↔◌, List, [], ◌∷◌, ◌++◌, map, filter, flat_map, filter_map, Option, Some, None, option_and_then, bytes_eq, slice_get, if◌then◌else◌}
+use Rattle.std.specs.Prelude.{◌≡◌, ℕ, ◌↔◌, List, [], ◌∷◌, ◌++◌, map, filter, flat_map, filter_map, Option}
+use Rattle.std.specs.Prelude.{Some, None, option_and_then, bytes_eq, slice_get, if◌then◌else◌}
 use Rattle.std.specs.List.{list_any, enumerate_from, AllZip}
 use Rattle.std.specs.List.Sorted.{IsStrictlySortedBy}
 use Rattle.std.specs.Map.{keys_of}
@@ -8,7 +9,8 @@ use Rattle.lalrpop_norm_parts.specs.declared.names.TerminalString.{TerminalStrin
 use Rattle.lalrpop_norm_parts.specs.declared.names.TerminalString.TheVariants as terminal_string
 use Rattle.lalrpop_norm_tree.specs.Accessors.{first_of, intern_token_of, or_else}
 use Rattle.lalrpop_norm_parts.specs.Attributes.{no_attributes}
-use Rattle.lalrpop_norm_tree.specs.Items.{Action, user_code, fallible_code, lookahead_code, lookbehind_code, AlternativeData, RuleData, GrammarData}
+use Rattle.lalrpop_norm_tree.specs.Items.{Action, user_code, fallible_code, lookahead_code, lookbehind_code, AlternativeData}
+use Rattle.lalrpop_norm_tree.specs.Items.{RuleData, GrammarData}
 use Rattle.lalrpop_norm_parts.specs.Reprs.{ReprData}
 use Rattle.lalrpop_norm_model.specs.MadeRules.{names_value}
 use Rattle.lalrpop_norm_repr.specs.declared.action.LookaroundActionFnDefn.TheVariants.{Lookahead, Lookbehind}
@@ -19,10 +21,12 @@ use Rattle.lalrpop_norm_repr.specs.Productions.{ProductionData, EntryData}
 use Rattle.lalrpop_norm_repr.specs.SymbolTypes.{symbol_type}
 use Rattle.lalrpop_norm_repr.specs.Tables.{TypeTable, type_of, found, found_terminal}
 use Rattle.lalrpop_norm_late.specs.Arguments.{part_list, patterns, names, IsFilled}
-use Rattle.lalrpop_norm_late.specs.Carried.{tokens_of, uses_recovery, lowered_parameter, lowered_clauses, use_of, asks_lalr, asked_code}
+use Rattle.lalrpop_norm_late.specs.Carried.{tokens_of, uses_recovery, lowered_parameter, lowered_clauses, use_of, asks_lalr}
+use Rattle.lalrpop_norm_late.specs.Carried.{asked_code}
 use Rattle.lalrpop_norm_late.specs.Code.{written_code}
 use Rattle.lalrpop_norm_late.specs.Conversions.{terminal_cmp}
-use Rattle.lalrpop_norm_late.specs.Lowering.{public_rules_in, start_name, start_alternative, lowered_symbols, is_fallible, production_of}
+use Rattle.lalrpop_norm_late.specs.Lowering.{public_rules_in, start_name, start_alternative, lowered_symbols, is_fallible}
+use Rattle.lalrpop_norm_late.specs.Lowering.{production_of}
 
 -- ---- alternatives in their order
 
@@ -78,7 +82,15 @@ start_entry_of prefix clauses r =
     (n, record { visibility = r.visibility; span = r.span; attributes = no_attributes; productions = productions_named n clauses })
 
 abbrev pub rule_entry_of : List OwnedAlternative → RuleData → NonterminalString × EntryData
-rule_entry_of clauses r = (r.name, record { visibility = r.visibility; span = r.span; attributes = r.attributes; productions = productions_named r.name clauses })
+rule_entry_of clauses r = (
+  r.name,
+  record {
+    visibility = r.visibility;
+    span = r.span;
+    attributes = r.attributes;
+    productions = productions_named r.name clauses;
+  },
+)
 
 -- the start symbols of public rules, and the rules
 abbrev pub lowered_entries : List ℕ → List RuleData → List (NonterminalString × EntryData)
@@ -117,7 +129,8 @@ rules_of_starts prefix rules = map (λ r. (start_name prefix r.name, r.name)) (p
 
 -- each name keeps its type, and each start symbol has its rule's, in the order of names
 pub record HasStartTypes (prefix : List ℕ) (rules : List RuleData) (types new : TypeTable) : Type 0 where
-  pub names : (n : NonterminalString) → type_of n new ≡ or_else (type_of n types) (option_and_then (λ m. type_of m types) (found n (rules_of_starts prefix rules)))
+  pub names : (n : NonterminalString) → type_of n new
+      ≡ or_else (type_of n types) (option_and_then (λ m. type_of m types) (found n (rules_of_starts prefix rules)))
   pub in_order : IsStrictlySortedBy name_cmp (keys_of new.nonterminals)
   pub rest : new ≡ record types { nonterminals = new.nonterminals }
 

@@ -1,5 +1,6 @@
 -- Codes cut at their `<>`, and with their `<>` replaced.
-use Rattle.std.specs.Prelude.{ℕ, Bool, true, false, not, ◌||◌, List, [], ◌∷◌, ◌++◌, length, drop, flat_map, zip, nat_eq, nat_le, if◌then◌else◌, codes}
+use Rattle.std.specs.Prelude.{ℕ, Bool, true, false, not, ◌||◌, List, [], ◌∷◌, ◌++◌, length, drop, flat_map, zip}
+use Rattle.std.specs.Prelude.{nat_eq, nat_le, if◌then◌else◌, codes}
 use Rattle.lalrpop_norm_util.specs.Braces.{is_slot}
 use Rattle.lalrpop_norm_parts.specs.declared.names.Span.{Span}
 use Rattle.lalrpop_norm_faults.specs.Faults.{Fault, fault_if}

@@ -13,8 +13,8 @@ use Rattle.lalrpop_norm_model.specs.LevelRules.{level_rules, level_items, levele
 use Rattle.lalrpop_norm_model.specs.PlainRules.{rule_of_item, all_rules}
 use Rattle.lalrpop_norm_model.specs.Expanded.{rule_names}
 use Rattle.lalrpop_norm_model.proofs.LevelLemmas.{in_map, of_map}
-use Rattle.lalrpop_norm_model.proofs.ScopeLemmas.{in_left, in_right, in_flat}
-use Rattle.lalrpop_norm_model.proofs.WrittenLemmas.{in_cases}
+use Rattle.lalrpop_norm_theory.proofs.RoundsLemmas.{in_left, in_right, in_cases}
+use Rattle.lalrpop_norm_model.proofs.ScopeLemmas.{in_flat}
 
 -- ---- rules of items
 

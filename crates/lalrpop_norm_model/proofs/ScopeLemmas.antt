@@ -17,21 +17,13 @@ use Rattle.lalrpop_norm_model.specs.WrittenRules.{WrittenRule, rule_named}
 use Rattle.lalrpop_norm_model.specs.Occurrences.{count_part, count_parts, first_current, bound_at, own_bound}
 use Rattle.lalrpop_norm_model.specs.Reading.{Reader, repeat_of, read_name, read_kind, read_part, read_parts}
 use Rattle.lalrpop_norm_model.specs.Grammars.{is_nil, has_arguments, level_within, is_within, bound_of, own_bound_in, rule_reader, rule_parts, previous_bound, bound_argument, arguments_fit, macro_reader, instance_parts, ConditionValue, meaning, rule_references, references}
+use Rattle.lalrpop_norm_theory.proofs.RoundsLemmas.{in_left, in_right}
 use Rattle.lalrpop_norm_model.specs.Scoped.{is_rule, is_scoped_kind, is_scoped, are_scoped, is_macro_for, IsScoped}
 use Rattle.lalrpop_norm_model.specs.Laws.{MeaningsAreResolved}
 use Rattle.lalrpop_norm_model.proofs.LevelLemmas.{in_map, at_in, place_has_level, greatest_is, has_greatest, previous_is}
 use Rattle.lalrpop_norm_model.proofs.MeaningLemmas.{passing_of, lower_of, instance_of}
 
 -- ---- lists
-
-pub in_left : {A : Type 0} (x : A) (xs ys : List A) → In x xs → In x (xs ++ ys)
-in_left x [] ys h = absurd h
-in_left x (y ∷ xs) ys (inl e) = inl e
-in_left x (y ∷ xs) ys (inr h) = inr (in_left x xs ys h)
-
-pub in_right : {A : Type 0} (x : A) (xs ys : List A) → In x ys → In x (xs ++ ys)
-in_right x [] ys h = h
-in_right x (y ∷ xs) ys h = inr (in_right x xs ys h)
 
 pub in_flat : {A B : Type 0} (f : A → List B) (x : A) (xs : List A) (y : B) → In x xs → In y (f x) → In y (flat_map f xs)
 in_flat f x [] y h i = absurd h

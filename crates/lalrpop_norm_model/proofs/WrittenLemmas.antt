@@ -13,15 +13,11 @@ use Rattle.lalrpop_norm_model.specs.WrittenRules.{WrittenRule, resolved_places, 
 use Rattle.lalrpop_norm_model.specs.Stated.{IsRising, HasLevel}
 use Rattle.lalrpop_norm_model.specs.Scoped.{NamesAreScoped, IsScoped}
 use Rattle.lalrpop_norm_model.specs.Laws.{AreScopedByNames, ScopedAsWritten}
+use Rattle.lalrpop_norm_theory.proofs.RoundsLemmas.{in_cases}
 use Rattle.lalrpop_norm_model.proofs.LevelLemmas.{in_map, of_map, at_in, level_had, had_level, levels_are_listed}
 use Rattle.lalrpop_norm_model.proofs.StatedLemmas.{levels_are_stated}
 
 -- ---- lists
-
-pub in_cases : {A : Type 0} (x : A) (xs ys : List A) → In x (xs ++ ys) → In x xs ⊎ In x ys
-in_cases x [] ys h = inr h
-in_cases x (y ∷ xs) ys (inl e) = inl (inl e)
-in_cases x (y ∷ xs) ys (inr h) = elim (in_cases x xs ys h) [ inl i ↦ inl (inr i) | inr i ↦ inr i ]
 
 pub of_numbered : {A B : Type 0} (f : ℕ → A → B) (j : ℕ) (xs : List A) (y : B) → In y (map_numbered f j xs) → (k : ℕ) × (x : A) × In x xs × (y ≡ f k x)
 of_numbered f j [] y h = absurd h

@@ -1,6 +1,7 @@
 -- The enabled grammar: the written one without the rules, alternatives and conversions whose attributes are not active.
 use Rattle.std.specs.Prelude.{List, [], ◌∷◌, map, flat_map, filter, Option, Some, None, option_map, if◌then◌else◌}
-use Rattle.lalrpop_norm_tree.specs.Items.{AlternativeData, RuleData, EnumTokenData, ExternTokenData, ItemData, GrammarData, match_item, extern_item, intern_item, rule_item, use_item}
+use Rattle.lalrpop_norm_tree.specs.Items.{AlternativeData, RuleData, EnumTokenData, ExternTokenData, ItemData, GrammarData}
+use Rattle.lalrpop_norm_tree.specs.Items.{match_item, extern_item, intern_item, rule_item, use_item}
 use Rattle.lalrpop_norm_model.specs.Features.{Features, is_active}
 
 -- The alternatives of a rule by the numbers of their written places, from 0: at each place the alternative, if it is enabled.

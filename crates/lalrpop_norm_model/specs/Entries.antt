@@ -1,5 +1,6 @@
 -- The entries of a tokenizer: what a match block maps, and the literals that the rules use beside it.
-use Rattle.std.specs.Prelude.{◌≡◌, ℕ, ◌+◌, ◌*◌, Bool, true, false, ◌||◌, List, [], ◌∷◌, ◌++◌, length, flat_map, Option, Some, None, ◌↔◌, if◌then◌else◌}
+use Rattle.std.specs.Prelude.{◌≡◌, ℕ, ◌+◌, ◌*◌, Bool, true, false, ◌||◌, List, [], ◌∷◌, ◌++◌}
+use Rattle.std.specs.Prelude.{length, flat_map, Option, Some, None, ◌↔◌, if◌then◌else◌}
 use Rattle.std.specs.declared.cmp.Ordering.{Ordering}
 use Rattle.std.specs.declared.cmp.Ordering.TheVariants.{Less, Equal, Greater}
 use Rattle.std.specs.Ordering.{nat_cmp, ordering_then}
@@ -94,7 +95,8 @@ user_names es = flat_map (λ (e : MatchEntry). terminal_named e.user_name) es
 -- itself, with the precedence of the catch-all.
 pub data IsEntry (g : GrammarData) : MatchEntry → Type 0 where
   written : (e : MatchEntry) → In e (match_entries g) → IsEntry g e
-  added : (l : TerminalLiteral) (precedence : ℕ) → In (Literal l) (terminals_used g) → (In (Literal l) (user_names (match_entries g)) → ⊥) →
+  added : (l : TerminalLiteral) (precedence : ℕ) → In (Literal l) (terminals_used g) →
+      (In (Literal l) (user_names (match_entries g)) → ⊥) →
       catch_all g ≡ Some precedence → IsEntry g (entry_in precedence l (own_mapping l))
 
 -- terminals stand before what is skipped

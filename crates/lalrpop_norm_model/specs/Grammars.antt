@@ -1,9 +1,11 @@
 -- The meaning of a grammar: what its trees see of it, from its rules and from the values of conditions.
-use Rattle.std.specs.Prelude.{ℕ, Bool, true, false, not, ◌&&◌, ◌||◌, List, [], ◌∷◌, length, map, flat_map, slice_get, Option, Some, None, option_map, nat_le, nat_eq, bytes_eq, if◌then◌else◌}
+use Rattle.std.specs.Prelude.{ℕ, Bool, true, false, not, ◌&&◌, ◌||◌, List, [], ◌∷◌, length, map, flat_map}
+use Rattle.std.specs.Prelude.{slice_get, Option, Some, None, option_map, nat_le, nat_eq, bytes_eq, if◌then◌else◌}
 use Rattle.lalrpop_norm_parts.specs.declared.names.NonterminalString.{NonterminalString}
 use Rattle.lalrpop_norm_tree.specs.declared.items.Condition.{Condition}
 use Rattle.lalrpop_norm_tree.specs.declared.items.ConditionOp.{ConditionOp}
-use Rattle.lalrpop_norm_theory.specs.Symbols.{Name, quoted, ClosedSymbol, ClosedSymbols, terminal, reference, no_symbols, symbol_and}
+use Rattle.lalrpop_norm_theory.specs.Symbols.{Name, quoted, ClosedSymbol, ClosedSymbols, terminal, reference, no_symbols}
+use Rattle.lalrpop_norm_theory.specs.Symbols.{symbol_and}
 use Rattle.lalrpop_norm_theory.specs.Meaning.{Meaning}
 use Rattle.lalrpop_norm_model.specs.Levels.{Leveled, highest_level, previous_level, levels_of}
 use Rattle.lalrpop_norm_model.specs.WrittenRules.{WrittenRule, rule_named}
@@ -124,7 +126,8 @@ instance_count (Some r) = if has_arguments r then length r.places else 0
 
 abbrev pub instance_parts : ConditionValue → List WrittenRule → ClosedSymbols → ℕ → Option WrittenRule → Option ClosedSymbols
 instance_parts value rs args k None = None
-instance_parts value rs args k (Some r) = if has_arguments r && arguments_fit r.args args then instance_at value rs r args (slice_get r.places k) else None
+instance_parts value rs args k (Some r) =
+    if has_arguments r && arguments_fit r.args args then instance_at value rs r args (slice_get r.places k) else None
 
 -- ---- the meaning
 

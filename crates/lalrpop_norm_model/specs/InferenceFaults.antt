@@ -1,5 +1,6 @@
 -- Where inference refuses: its faults in the order of looking.
-use Rattle.std.specs.Prelude.{Bool, true, false, not, List, [], ◌∷◌, ◌++◌, map, filter, flat_map, Option, Some, None, is_none, if◌then◌else◌}
+use Rattle.std.specs.Prelude.{Bool, true, false, not, List, [], ◌∷◌, ◌++◌, map, filter, flat_map, Option, Some, None}
+use Rattle.std.specs.Prelude.{is_none, if◌then◌else◌}
 use Rattle.lalrpop_norm_tree.specs.Items.{AlternativeData, RuleData, GrammarData}
 use Rattle.lalrpop_norm_parts.specs.Reprs.{ReprData}
 use Rattle.lalrpop_norm_faults.specs.Faults.{Fault}

@@ -1,21 +1,27 @@
 -- What is proved of these definitions, each statement in one piece. The functions of the crate carry them.
-use Rattle.std.specs.Prelude.{◌≡◌, ◌⊎◌, ◌↔◌, ℕ, ◌≤◌, List, [], ◌∷◌, map, flat_map, length, filter, take, slice_get, Option, Some, None, option_map, true, false, bytes_eq}
+use Rattle.std.specs.Prelude.{◌≡◌, ◌⊎◌, ◌↔◌, ℕ, ◌≤◌, List, [], ◌∷◌, map, flat_map, length, filter}
+use Rattle.std.specs.Prelude.{take, slice_get, Option, Some, None, option_map, true, false, bytes_eq}
 use Rattle.lalrpop_norm_theory.specs.Rounds.{In, IsDistinct}
 use Rattle.lalrpop_norm_tree.specs.Items.{AlternativeData, RuleData, InternTokenData, GrammarData, rule_item}
 use Rattle.lalrpop_norm_model.specs.Features.{Features, is_active}
 use Rattle.lalrpop_norm_model.specs.Enabled.{Places, present, all_places, enabled_places, enabled_rule}
 use Rattle.lalrpop_norm_model.specs.Scopes.{Global, globals, resolved_grammar}
-use Rattle.lalrpop_norm_model.specs.Levels.{every, Leveled, level_at, side_at, leveled_at, has_levels, with_levels, levels_of, highest_level, previous_level}
-use Rattle.lalrpop_norm_model.specs.Stated.{IsRising, HasLevel, IsBelow, IsHighest, IsStatedLevel, NoLevelIsStated, IsStatedSide, NoSideIsStated, handed_on}
+use Rattle.lalrpop_norm_model.specs.Levels.{every, Leveled, level_at, side_at, leveled_at, has_levels, with_levels, levels_of}
+use Rattle.lalrpop_norm_model.specs.Levels.{highest_level, previous_level}
+use Rattle.lalrpop_norm_model.specs.Stated.{IsRising, HasLevel, IsBelow, IsHighest, IsStatedLevel, NoLevelIsStated, IsStatedSide}
+use Rattle.lalrpop_norm_model.specs.Stated.{NoSideIsStated, handed_on}
 use Rattle.lalrpop_norm_theory.specs.Meaning.{HasCounts, HasLevels}
-use Rattle.lalrpop_norm_theory.specs.Met.{meets, rule_meets, expansion, expanded_symbols, BecomesRule, IsKnown, IsResolved, IsResolvedIn}
+use Rattle.lalrpop_norm_theory.specs.Met.{meets, rule_meets, expansion, expanded_symbols, BecomesRule, IsKnown, IsResolved}
+use Rattle.lalrpop_norm_theory.specs.Met.{IsResolvedIn}
 use Rattle.lalrpop_norm_tree.specs.Symbols.{Kind, Part, Parts}
 use Rattle.lalrpop_norm_theory.specs.LoweredTrees.{ProductionTable}
 use Rattle.lalrpop_norm_theory.specs.Tables.{Realizes}
 use Rattle.lalrpop_norm_theory.specs.Laws.{PairsInTwoSteps}
 use Rattle.lalrpop_norm_tree.specs.SymbolTexts.{kind_text}
-use Rattle.lalrpop_norm_model.specs.WrittenRules.{WrittenRule, written_rule_with_levels, rule_named, written_rules, leveled_rules, flat_rules}
-use Rattle.lalrpop_norm_model.specs.Grammars.{ConditionValue, is_nil, has_arguments, arguments_fit, rule_reader, macro_reader, meaning, references, roots}
+use Rattle.lalrpop_norm_model.specs.WrittenRules.{WrittenRule, written_rule_with_levels, rule_named, written_rules, leveled_rules}
+use Rattle.lalrpop_norm_model.specs.WrittenRules.{flat_rules}
+use Rattle.lalrpop_norm_model.specs.Grammars.{ConditionValue, is_nil, has_arguments, arguments_fit, rule_reader, macro_reader}
+use Rattle.lalrpop_norm_model.specs.Grammars.{meaning, references, roots}
 use Rattle.lalrpop_norm_model.specs.Scoped.{is_scoped, are_scoped, NamesAreScoped, IsScoped}
 use Rattle.lalrpop_norm_model.specs.Occurrences.{count_parts}
 use Rattle.lalrpop_norm_model.specs.Bounds.{all_bounds_to, bounds_by, IsTrue}
@@ -25,9 +31,11 @@ use Rattle.lalrpop_norm_model.specs.MadeRules.{argument_kind, put_in, flat_reade
 use Rattle.lalrpop_norm_model.specs.LevelRules.{level_rule, leveled_grammar}
 use Rattle.lalrpop_norm_theory.specs.Symbols.{Name, ClosedSymbol, ClosedSymbols, reference}
 use Rattle.lalrpop_norm_theory.specs.Clauses.{Clause, clauses}
-use Rattle.lalrpop_norm_model.specs.PlainRules.{met, met_in_rule, met_by_made, rules_without_arguments, macros_of, expansion_round, made_symbols, IsEnded, all_rules, plain_grammar, plain_rules}
+use Rattle.lalrpop_norm_model.specs.PlainRules.{met, met_in_rule, met_by_made, rules_without_arguments, macros_of}
+use Rattle.lalrpop_norm_model.specs.PlainRules.{expansion_round, made_symbols, IsEnded, all_rules, plain_grammar, plain_rules}
 use Rattle.lalrpop_norm_model.specs.Origins.{plain_symbols, plain_origins}
-use Rattle.lalrpop_norm_model.specs.PlainTables.{IsSettled, flat_meaning, declared, closed, closed_parts, IsRuleOf, rules_from, plain_table}
+use Rattle.lalrpop_norm_model.specs.PlainTables.{IsSettled, flat_meaning, declared, closed, closed_parts, IsRuleOf, rules_from}
+use Rattle.lalrpop_norm_model.specs.PlainTables.{plain_table}
 use Rattle.lalrpop_norm_theory.specs.Leveled.{leveled_symbols, leveled_symbol, IsLeveled, recomposed}
 use Rattle.lalrpop_norm_theory.specs.Tables.{OneRuleAName, rule_of_symbol}
 use Rattle.lalrpop_norm_theory.specs.Laws.{OneToOne, level_named}
@@ -36,7 +44,8 @@ use Rattle.lalrpop_norm_model.specs.TuplePatterns.{IsTypable}
 use Rattle.lalrpop_norm_model.specs.CheckedTokens.{with_tokens}
 use Rattle.lalrpop_norm_model.specs.InferenceFaults.{inference_faults}
 use Rattle.lalrpop_norm_model.specs.LevelNames.{HasLevelNames, level_origin}
-use Rattle.lalrpop_norm_model.specs.Renumbered.{prepared_grammar, closed_up, rank_in, rank_by, ranked_clause, IsRenumbered, TreesAreRenumbered, OneToOneByRank}
+use Rattle.lalrpop_norm_model.specs.Renumbered.{prepared_grammar, closed_up, rank_in, rank_by, ranked_clause, IsRenumbered}
+use Rattle.lalrpop_norm_model.specs.Renumbered.{TreesAreRenumbered, OneToOneByRank}
 
 -- The meaning of each grammar has what the theory of trees asks: numbers within the count, and levels one above the other.
 abbrev pub MeaningsHaveLevels : Type 0
@@ -49,7 +58,9 @@ MeaningsAreResolved = (value : ConditionValue) (rs : List WrittenRule) → IsSco
 -- Of the rules that a grammar is read as, only the names are to be looked at: where these have a meaning, the rules are scoped. And
 -- a rule without levels has no two levels.
 abbrev pub AreScopedByNames : List WrittenRule → Type 0
-AreScopedByNames rs = (NamesAreScoped rs → IsScoped rs) × ((r : WrittenRule) → In r rs → r.has_levels ≡ false → length (levels_of r.places) ≤ 1)
+AreScopedByNames rs =
+    (NamesAreScoped rs → IsScoped rs)
+    × ((r : WrittenRule) → In r rs → r.has_levels ≡ false → length (levels_of r.places) ≤ 1)
 
 abbrev pub ScopedAsWritten : Type 0
 ScopedAsWritten = (fs : Features) (g : GrammarData) →
@@ -128,7 +139,8 @@ DisabledAreLeftOut = (fs : Features) (g : GrammarData) → leveled_rules (prepar
 -- The rank of a place is the number of enabled alternatives written before it.
 abbrev pub RanksCountEnabled : Type 0
 RanksCountEnabled = (fs : Features) (ds : List Global) (r : RuleData) (k : ℕ) →
-    rank_in (written_rule_with_levels ds r (enabled_places fs r)).places k ≡ length (filter (λ a. is_active fs a.attributes) (take k r.alternatives))
+    rank_in (written_rule_with_levels ds r (enabled_places fs r)).places k
+    ≡ length (filter (λ a. is_active fs a.attributes) (take k r.alternatives))
 
 -- Disabled alternatives only renumber: the grammar that the pass on levels gets is the written one, each alternative with its rank
 -- for its number. The references that it declares and its roots are the same.
@@ -156,7 +168,8 @@ TreesOnlyRenumber = (value : ConditionValue) (fs : Features) (g : GrammarData) �
 -- its level: the level's own alternatives in order, then the step to the level below.
 abbrev pub LevelRulesAreRead : Type 0
 LevelRulesAreRead = (value : ConditionValue) (g : GrammarData) → resolved_grammar g ≡ g → NamesAreScoped (leveled_rules g) →
-    (d : RuleData) → In (rule_item d) g.items → rule_named (leveled_rules g) d.name.0 ≡ Some (written_rule_with_levels (globals g) d (all_places d)) →
+    (d : RuleData) → In (rule_item d) g.items → rule_named (leveled_rules g) d.name.0
+    ≡ Some (written_rule_with_levels (globals g) d (all_places d)) →
     has_levels (all_places d) ≡ true → is_nil d.args ≡ true → (l : ℕ) →
     map (λ a. read_all flat_reader a.parts) (level_rule d (with_levels (all_places d)) l).alternatives
     ≡ map (λ c. leveled_symbols (level_names (leveled_rules g)) c.parts) (clauses (meaning value (leveled_rules g)) (reference d.name.0 (Some l)))
@@ -174,7 +187,8 @@ abbrev pub LevelsAreSteps : Type 0
 LevelsAreSteps = (value : ConditionValue) (g : GrammarData) → HasLevelNames g →
     (name : ClosedSymbol → Name) (P : ProductionTable) (declared met : List ClosedSymbol) →
     Realizes (meaning value (flat_rules (leveled_grammar g))) name P (IsKnown declared met) →
-    (x : ClosedSymbol) → IsResolvedIn (references (leveled_rules g)) x → IsKnown declared met (leveled_symbol (level_names (leveled_rules g)) x) →
+    (x : ClosedSymbol) → IsResolvedIn (references (leveled_rules g)) x →
+    IsKnown declared met (leveled_symbol (level_names (leveled_rules g)) x) →
     PairsInTwoSteps (meaning value (leveled_rules g)) (meaning value (flat_rules (leveled_grammar g)))
     (level_names (leveled_rules g)) (level_origin value g) name P x
 
@@ -251,7 +265,9 @@ PlainGrammarsHoldPlainRules = (value : ConditionValue) (g : GrammarData) (n : �
 
 -- Where the names of the plain rules are distinct, each name means one rule.
 abbrev pub DistinctNamesMeanOneRule : Type 0
-DistinctNamesMeanOneRule = (value : ConditionValue) (g : GrammarData) → IsSettled g → (n : ℕ) → IsDistinct (rule_names (plain_grammar value g n)) →
+DistinctNamesMeanOneRule =
+    (value : ConditionValue) (g : GrammarData) → IsSettled g → (n : ℕ) →
+    IsDistinct (rule_names (plain_grammar value g n)) →
     OneRuleAName (flat_meaning value g) (text_in (flat_rules g)) (plain_symbols (flat_meaning value g) (declared g) n)
 
 -- Where round n + 1 has nothing new and each name means one rule, the written trees of each declared reference, and of each known

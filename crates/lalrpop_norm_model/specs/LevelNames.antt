@@ -1,6 +1,7 @@
 -- When the levels of a grammar can become rules of their own: what must be so of its names. And where what stands in the grammar
 -- with levels comes from.
-use Rattle.std.specs.Prelude.{◌≡◌, ℕ, Bool, false, List, [], ◌∷◌, Option, Some, None, slice_get, bytes_eq, if◌then◌else◌}
+use Rattle.std.specs.Prelude.{◌≡◌, ℕ, Bool, false, List, [], ◌∷◌, Option, Some, None, slice_get, bytes_eq}
+use Rattle.std.specs.Prelude.{if◌then◌else◌}
 use Rattle.lalrpop_norm_tree.specs.Items.{RuleData, GrammarData}
 use Rattle.lalrpop_norm_theory.specs.Symbols.{Name, ClosedSymbol, reference}
 use Rattle.lalrpop_norm_theory.specs.Meaning.{Meaning}

@@ -1,9 +1,12 @@
 -- The grammar with levels: each level of a rule as a rule of its own, in its place.
-use Rattle.std.specs.Prelude.{ℕ, ◌+◌, Bool, List, [], ◌∷◌, ◌++◌, map, flat_map, Option, Some, None, codes, nat_eq, if◌then◌else◌}
+use Rattle.std.specs.Prelude.{ℕ, ◌+◌, Bool, List, [], ◌∷◌, ◌++◌, map, flat_map, Option, Some, None, codes, nat_eq}
+use Rattle.std.specs.Prelude.{if◌then◌else◌}
 use Rattle.lalrpop_norm_parts.specs.declared.names.Span.{Span}
 use Rattle.lalrpop_norm_parts.specs.Attributes.{Attributes, no_attributes, attribute_and}
-use Rattle.lalrpop_norm_tree.specs.Symbols.{Kind, Part, Parts, group, ambiguous_id, terminal, nonterminal, call, repeated, chosen, named, tupled, lookahead, lookbehind, error_terminal, at, no_parts, part_and}
-use Rattle.lalrpop_norm_tree.specs.Items.{AlternativeData, RuleData, ItemData, GrammarData, match_item, extern_item, intern_item, rule_item, use_item}
+use Rattle.lalrpop_norm_tree.specs.Symbols.{Kind, Part, Parts, group, ambiguous_id, terminal, nonterminal, call, repeated, chosen}
+use Rattle.lalrpop_norm_tree.specs.Symbols.{named, tupled, lookahead, lookbehind, error_terminal, at, no_parts, part_and}
+use Rattle.lalrpop_norm_tree.specs.Items.{AlternativeData, RuleData, ItemData, GrammarData, match_item, extern_item, intern_item}
+use Rattle.lalrpop_norm_tree.specs.Items.{rule_item, use_item}
 use Rattle.std.specs.Prelude.{bytes_eq, ◌&&◌}
 use Rattle.lalrpop_norm_model.specs.Enabled.{all_places, present}
 use Rattle.lalrpop_norm_model.specs.Levels.{Leveled, is_named, has_levels, with_levels, levels_of, highest_level, previous_level}
@@ -58,7 +61,14 @@ level_alternative r ps a = record a.alternative {
 
 -- the step to another rule: its name alone, at the rule's span, without code
 abbrev pub step_alternative : Span → List ℕ → AlternativeData
-step_alternative s n = record { span = s; parts = part_and (at s (nonterminal n)) no_parts; condition = None; action = None; attributes = no_attributes }
+step_alternative s n =
+    record {
+      span = s;
+      parts = part_and (at s (nonterminal n)) no_parts;
+      condition = None;
+      action = None;
+      attributes = no_attributes;
+    }
 
 abbrev pub step_alternatives : RuleData → List (Option Leveled) → Option ℕ → List AlternativeData
 step_alternatives r ps None = []

@@ -1,5 +1,7 @@
 -- Precedence levels: the level and the side of each enabled alternative, and the levels of a rule.
-use Rattle.std.specs.Prelude.{ℕ, suc, ◌^◌, Bool, true, false, ◌&&◌, ◌||◌, List, [], ◌∷◌, length, map, take, Option, Some, None, option_map, option_and_then, unwrap_or, is_some, nat_lt, codes, bytes_eq, if◌then◌else◌}
+use Rattle.std.specs.Prelude.{ℕ, suc, ◌^◌, Bool, true, false, ◌&&◌, ◌||◌, List, [], ◌∷◌, length, map, take}
+use Rattle.std.specs.Prelude.{Option, Some, None, option_map, option_and_then, unwrap_or, is_some, nat_lt, codes, bytes_eq}
+use Rattle.std.specs.Prelude.{if◌then◌else◌}
 use Rattle.std.specs.Char.{digit_value}
 use Rattle.std.specs.Str.Parse.{digits_value, without_leading_plus}
 use Rattle.std.specs.Ordering.{nat_cmp}
@@ -38,7 +40,8 @@ number_of bound text = number_in bound (without_leading_plus text)
 
 -- the level that an attribute list states: that of its first `precedence`
 abbrev pub stated_level : Attributes → Option ℕ
-stated_level attributes = option_and_then (number_of (2 ^ 32)) (option_and_then (value_under (codes "level")) (first_named (codes "precedence") attributes))
+stated_level attributes =
+    option_and_then (number_of (2 ^ 32)) (option_and_then (value_under (codes "level")) (first_named (codes "precedence") attributes))
 
 -- on which side of an operator its own level may stand: on the left, on the right, on neither, on every side
 pub data Side : Type 0 where

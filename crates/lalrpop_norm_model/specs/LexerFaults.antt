@@ -1,5 +1,6 @@
 -- Where a lexer may refuse, and what the pass on tokens looks for, the lexer's refusals among the rest.
-use Rattle.std.specs.Prelude.{◌≡◌, ℕ, ◌||◌, List, ◌∷◌, ◌++◌, map, Option, Some, None, is_none, slice_get, if◌then◌else◌}
+use Rattle.std.specs.Prelude.{◌≡◌, ℕ, ◌||◌, List, ◌∷◌, ◌++◌, map, Option, Some, None, is_none, slice_get}
+use Rattle.std.specs.Prelude.{if◌then◌else◌}
 use Rattle.std.specs.List.{list_any}
 use Rattle.lalrpop_norm_parts.specs.declared.names.Span.{Span}
 use Rattle.lalrpop_norm_parts.specs.declared.names.TerminalLiteral.{TerminalLiteral}
@@ -17,7 +18,8 @@ use Rattle.lalrpop_norm_model.specs.Entries.{match_entries, catch_all, user_name
 use Rattle.lalrpop_norm_model.specs.TerminalTypes.{extern_enum}
 use Rattle.lalrpop_norm_model.specs.Lexers.{Feature, Lexer, HasFeatureAt, IsAmbiguity}
 use Rattle.lalrpop_norm_model.specs.CheckedTokens.{AreRegexes, precedences}
-use Rattle.lalrpop_norm_model.specs.TokenFaults.{literals_of, match_items, places_used, checked_enum_faults, entry_faults, input_faults}
+use Rattle.lalrpop_norm_model.specs.TokenFaults.{literals_of, match_items, places_used, checked_enum_faults, entry_faults}
+use Rattle.lalrpop_norm_model.specs.TokenFaults.{input_faults}
 
 -- ---- where a literal stands
 

@@ -1,7 +1,8 @@
 -- What each macro call, group, repeat and lookaround is made into: a rule, as a function of the symbol where it was first met.
 -- The symbols of its alternatives are written ones, with the arguments put in; nothing in them is a name yet of what it is made
 -- into. A symbol whose type is put into a declared type stands there replaced.
-use Rattle.std.specs.Prelude.{ℕ, Bool, true, false, ◌||◌, List, [], ◌∷◌, map, Option, Some, None, option_map, codes, bytes_eq, if◌then◌else◌}
+use Rattle.std.specs.Prelude.{ℕ, Bool, true, false, ◌||◌, List, [], ◌∷◌, map, Option, Some, None, option_map, codes}
+use Rattle.std.specs.Prelude.{bytes_eq, if◌then◌else◌}
 use Rattle.lalrpop_norm_parts.specs.declared.names.Span.{Span}
 use Rattle.lalrpop_norm_parts.specs.declared.names.NonterminalString.{NonterminalString}
 use Rattle.lalrpop_norm_tree.specs.declared.symbol.RepeatOp.{RepeatOp}
@@ -9,8 +10,10 @@ use Rattle.lalrpop_norm_tree.specs.declared.symbol.RepeatOp.TheVariants.{Star, P
 use Rattle.lalrpop_norm_parts.specs.Attributes.{Attributes, attribute, empty, no_attributes, attribute_and}
 use Rattle.lalrpop_norm_parts.specs.Paths.{PathData}
 use Rattle.lalrpop_norm_parts.specs.Accessors.{path_of}
-use Rattle.lalrpop_norm_tree.specs.Symbols.{Kind, Part, Parts, group, ambiguous_id, terminal, nonterminal, call, repeated, chosen, named, tupled, lookahead, lookbehind, error_terminal, at, no_parts, part_and}
-use Rattle.lalrpop_norm_tree.specs.Types.{TypeData, TypesData, MaybeType, tuple, slice, nominal, reference, trait_object, of_lifetime, id, of_symbol, function, no_types, type_and, no_type, returns, types_of}
+use Rattle.lalrpop_norm_tree.specs.Symbols.{Kind, Part, Parts, group, ambiguous_id, terminal, nonterminal, call, repeated, chosen}
+use Rattle.lalrpop_norm_tree.specs.Symbols.{named, tupled, lookahead, lookbehind, error_terminal, at, no_parts, part_and}
+use Rattle.lalrpop_norm_tree.specs.Types.{TypeData, TypesData, MaybeType, tuple, slice, nominal, reference, trait_object}
+use Rattle.lalrpop_norm_tree.specs.Types.{of_lifetime, id, of_symbol, function, no_types, type_and, no_type, returns, types_of}
 use Rattle.lalrpop_norm_tree.specs.Items.{Action, user_code, lookahead_code, lookbehind_code, AlternativeData, RuleData, private}
 use Rattle.lalrpop_norm_tree.specs.SymbolTexts.{kind_text}
 use Rattle.lalrpop_norm_model.specs.Reading.{Reader, read_all}
@@ -64,7 +67,16 @@ coded s ps code = record { span = s; parts = ps; condition = None; action = Some
 
 -- a private rule at s
 abbrev pub private_rule : Span → Kind → Attributes → Option TypeData → List AlternativeData → RuleData
-private_rule s k attributes type alternatives = record { visibility = private; name = record { 0 = kind_text k }; attributes = attributes; span = s; args = []; type_decl = type; alternatives = alternatives }
+private_rule s k attributes type alternatives =
+    record {
+      visibility = private;
+      name = record { 0 = kind_text k };
+      attributes = attributes;
+      span = s;
+      args = [];
+      type_decl = type;
+      alternatives = alternatives;
+    }
 
 -- ---- groups
 

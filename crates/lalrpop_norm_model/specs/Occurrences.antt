@@ -1,6 +1,7 @@
 -- Own occurrences: the references of a rule to itself, and the bound of each.
 use Rattle.std.specs.Prelude.{ℕ, zero, suc, ◌+◌, Bool, List, Option, unwrap_or, if◌then◌else◌}
-use Rattle.lalrpop_norm_tree.specs.Symbols.{Kind, Part, Parts, group, ambiguous_id, terminal, nonterminal, call, repeated, chosen, named, tupled, lookahead, lookbehind, error_terminal, at, no_parts, part_and}
+use Rattle.lalrpop_norm_tree.specs.Symbols.{Kind, Part, Parts, group, ambiguous_id, terminal, nonterminal, call, repeated, chosen}
+use Rattle.lalrpop_norm_tree.specs.Symbols.{named, tupled, lookahead, lookbehind, error_terminal, at, no_parts, part_and}
 use Rattle.lalrpop_norm_model.specs.Levels.{Side, left, right, neither, every}
 
 -- How many own occurrences a symbol holds, in macro arguments, groups, repeats and wrapped symbols too; `own` tells the name.

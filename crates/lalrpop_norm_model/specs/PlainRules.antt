@@ -1,8 +1,11 @@
 -- The plain rules of a grammar: its rules, then those that are made, round by round, each symbol that is made into a rule
 -- replaced by the nonterminal of its text.
-use Rattle.std.specs.Prelude.{ℕ, Bool, List, [], ◌∷◌, ◌++◌, ◌≡◌, map, flat_map, filter, not, if◌then◌else◌}
-use Rattle.lalrpop_norm_tree.specs.Symbols.{Part, Parts, group, ambiguous_id, terminal, nonterminal, call, repeated, chosen, named, tupled, lookahead, lookbehind, error_terminal, at, no_parts, part_and}
-use Rattle.lalrpop_norm_tree.specs.Items.{AlternativeData, RuleData, ItemData, GrammarData, match_item, extern_item, intern_item, rule_item, use_item}
+use Rattle.std.specs.Prelude.{ℕ, Bool, List, [], ◌∷◌, ◌++◌, ◌≡◌, map, flat_map, filter, not}
+use Rattle.std.specs.Prelude.{if◌then◌else◌}
+use Rattle.lalrpop_norm_tree.specs.Symbols.{Part, Parts, group, ambiguous_id, terminal, nonterminal, call, repeated, chosen}
+use Rattle.lalrpop_norm_tree.specs.Symbols.{named, tupled, lookahead, lookbehind, error_terminal, at, no_parts, part_and}
+use Rattle.lalrpop_norm_tree.specs.Items.{AlternativeData, RuleData, ItemData, GrammarData, match_item, extern_item, intern_item}
+use Rattle.lalrpop_norm_tree.specs.Items.{rule_item, use_item}
 use Rattle.lalrpop_norm_theory.specs.Same.{same_symbol}
 use Rattle.lalrpop_norm_theory.specs.Rounds.{Round, rounds, all_rules_made}
 use Rattle.lalrpop_norm_model.specs.Reading.{read_part}
@@ -76,7 +79,8 @@ expansion_round value g k = rounds same_apart_from_spans (met_by_made value (mac
 
 -- the symbols that are made into rules in the first `count` rounds, in the order in which their rules stand
 abbrev pub made_symbols : ConditionValue → GrammarData → ℕ → List Part
-made_symbols value g count = all_rules_made same_apart_from_spans (met_by_made value (macros_of g)) (flat_map met_in_rule (rules_without_arguments g)) count
+made_symbols value g count =
+    all_rules_made same_apart_from_spans (met_by_made value (macros_of g)) (flat_map met_in_rule (rules_without_arguments g)) count
 
 abbrev pub made_in : ConditionValue → GrammarData → ℕ → List RuleData
 made_in value g count = flat_map (made_rules value (macros_of g)) (made_symbols value g count)

@@ -1,13 +1,15 @@
 -- The plain rules as a lowered grammar: their names, and their alternatives as productions.
 use Rattle.std.specs.Prelude.{◌≡◌, ℕ, Bool, true, false, List, [], ◌∷◌, length, map, drop}
 use Rattle.lalrpop_norm_tree.specs.declared.symbol.RepeatOp.TheVariants.{Star, Plus}
-use Rattle.lalrpop_norm_tree.specs.Symbols.{Kind, Part, Parts, group, ambiguous_id, terminal, nonterminal, call, repeated, chosen, named, tupled, lookahead, lookbehind, error_terminal, at, no_parts, part_and}
+use Rattle.lalrpop_norm_tree.specs.Symbols.{Kind, Part, Parts, group, ambiguous_id, terminal, nonterminal, call, repeated, chosen}
+use Rattle.lalrpop_norm_tree.specs.Symbols.{named, tupled, lookahead, lookbehind, error_terminal, at, no_parts, part_and}
 use Rattle.lalrpop_norm_tree.specs.Items.{AlternativeData, RuleData, GrammarData}
 use Rattle.lalrpop_norm_tree.specs.SymbolTexts.{kind_text, part_text}
 use Rattle.lalrpop_norm_theory.specs.Symbols as theory
 use Rattle.lalrpop_norm_theory.specs.Symbols.{ClosedSymbol, ClosedSymbols, wrapped, no_symbols, symbol_and}
 use Rattle.lalrpop_norm_theory.specs.Meaning.{Meaning}
-use Rattle.lalrpop_norm_theory.specs.LoweredTrees.{LoweredSymbol, terminal_symbol, nonterminal_symbol, Origin, Production, ProductionTable}
+use Rattle.lalrpop_norm_theory.specs.LoweredTrees.{LoweredSymbol, terminal_symbol, nonterminal_symbol, Origin, Production}
+use Rattle.lalrpop_norm_theory.specs.LoweredTrees.{ProductionTable}
 use Rattle.lalrpop_norm_theory.specs.Clauses.{Clause, clauses}
 use Rattle.lalrpop_norm_theory.specs.Rounds.{IsDistinct}
 use Rattle.lalrpop_norm_theory.specs.Tables.{Rule, table}
@@ -62,7 +64,8 @@ names_symbols _ = false
 -- what is wrapped around their symbols. Where it names no symbols, they hold them as they are.
 pub record IsRuleOf (M : Meaning) (p : Part) (r : RuleData) : Type 0 where
   pub name : r.name.0 ≡ part_text p
-  pub clauses_held : map (λ (a : AlternativeData). all_unwrapped (closed_parts a)) r.alternatives ≡ map (λ (c : Clause). all_unwrapped c.parts) (clauses M (closed p))
+  pub clauses_held : map (λ (a : AlternativeData). all_unwrapped (closed_parts a)) r.alternatives
+      ≡ map (λ (c : Clause). all_unwrapped c.parts) (clauses M (closed p))
   pub held_as_they_are : names_symbols p ≡ false → map closed_parts r.alternatives ≡ map (λ (c : Clause). c.parts) (clauses M (closed p))
 
 -- ---- productions

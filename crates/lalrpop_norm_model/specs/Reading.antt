@@ -8,7 +8,10 @@ use Rattle.lalrpop_norm_tree.specs.declared.symbol.RepeatOp.{RepeatOp}
 use Rattle.lalrpop_norm_tree.specs.declared.symbol.RepeatOp.TheVariants.{Star, Plus, Question}
 use Rattle.lalrpop_norm_tree.specs.Symbols as written
 use Rattle.lalrpop_norm_tree.specs.Symbols.{Kind, Part, Parts, at, no_parts, part_and}
-use Rattle.lalrpop_norm_theory.specs.Symbols.{Name, Terminal, quoted, regex, bare, error_terminal, ClosedPattern, ClosedPatterns, name_pattern, tuple_pattern, no_patterns, pattern_and, chosen, named, tuple, ClosedSymbol, ClosedSymbols, terminal, error, reference, call, group, star, plus, question, wrapped, lookahead, lookbehind, no_symbols, symbol_and}
+use Rattle.lalrpop_norm_theory.specs.Symbols.{Name, Terminal, quoted, regex, bare, error_terminal, ClosedPattern, ClosedPatterns}
+use Rattle.lalrpop_norm_theory.specs.Symbols.{name_pattern, tuple_pattern, no_patterns, pattern_and, chosen, named, tuple}
+use Rattle.lalrpop_norm_theory.specs.Symbols.{ClosedSymbol, ClosedSymbols, terminal, error, reference, call, group, star, plus}
+use Rattle.lalrpop_norm_theory.specs.Symbols.{question, wrapped, lookahead, lookbehind, no_symbols, symbol_and}
 use Rattle.lalrpop_norm_model.specs.Occurrences.{count_part, count_parts}
 
 abbrev pub literal_terminal : TerminalLiteral → Terminal

@@ -3,8 +3,10 @@ use Rattle.std.specs.Prelude.{◌≡◌, ℕ, ◌<◌, List, map, length, take, 
 use Rattle.lalrpop_norm_tree.specs.Items.{GrammarData}
 use Rattle.lalrpop_norm_theory.specs.Symbols.{Name, ClosedSymbol, ClosedSymbols}
 use Rattle.lalrpop_norm_theory.specs.Meaning.{Meaning}
-use Rattle.lalrpop_norm_theory.specs.WrittenTrees.{WrittenTree, WrittenTrees, leaf, nothing, list, node, no_trees, tree_and, IsTreeOf, yield, alternatives}
-use Rattle.lalrpop_norm_theory.specs.LoweredTrees.{Origin, written, LoweredTree, ProductionTable, IsDerivation, lowered_yield, written_origins}
+use Rattle.lalrpop_norm_theory.specs.WrittenTrees.{WrittenTree, WrittenTrees, leaf, nothing, list, node, no_trees, tree_and}
+use Rattle.lalrpop_norm_theory.specs.WrittenTrees.{IsTreeOf, yield, alternatives}
+use Rattle.lalrpop_norm_theory.specs.LoweredTrees.{Origin, written, LoweredTree, ProductionTable, IsDerivation, lowered_yield}
+use Rattle.lalrpop_norm_theory.specs.LoweredTrees.{written_origins}
 use Rattle.lalrpop_norm_theory.specs.Clauses.{Clause, clause, symbol_of}
 use Rattle.lalrpop_norm_theory.specs.Pairs.{Pairs}
 use Rattle.lalrpop_norm_theory.specs.Laws.{ExactlyOne}
@@ -96,7 +98,8 @@ pub record TreesAreRenumbered (M N : Meaning) (rank : Name → ℕ → ℕ) : Ty
 
 -- the written trees of s in M and the derivation trees of its symbol stand one to one, each where the renumbered tree of N pairs, with
 -- the same words, and with the alternatives by their ranks
-pub record OneToOneByRank (M N : Meaning) (rank : Name → ℕ → ℕ) (name : ClosedSymbol → Name) (P : ProductionTable) (s : ClosedSymbol) : Type 0 where
+pub record OneToOneByRank (M N : Meaning) (rank : Name → ℕ → ℕ) (name : ClosedSymbol →
+    Name) (P : ProductionTable) (s : ClosedSymbol) : Type 0 where
   pub down : (t : WrittenTree) → IsTreeOf M t s → ExactlyOne (λ u. IsDerivation P u (symbol_of name s) × Pairs N name s (renumbered rank t) u)
   pub up : (u : LoweredTree) → IsDerivation P u (symbol_of name s) → ExactlyOne (λ t. IsTreeOf M t s × Pairs N name s (renumbered rank t) u)
   pub same_yields : (t : WrittenTree) (u : LoweredTree) → Pairs N name s (renumbered rank t) u → yield t ≡ lowered_yield u

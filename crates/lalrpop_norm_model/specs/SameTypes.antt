@@ -4,7 +4,8 @@ use Rattle.lalrpop_norm_parts.specs.declared.names.Lifetime.{Lifetime}
 use Rattle.lalrpop_norm_parts.specs.declared.names.TypeParameter.{TypeParameter}
 use Rattle.lalrpop_norm_parts.specs.declared.names.TypeParameter.TheVariants as parameter
 use Rattle.lalrpop_norm_parts.specs.Paths.{PathData}
-use Rattle.lalrpop_norm_parts.specs.Reprs.{ReprData, Reprs, MaybeRepr, tuple, slice, nominal, associated, of_lifetime, reference, trait_object, function, no_reprs, repr_and, no_repr, returns}
+use Rattle.lalrpop_norm_parts.specs.Reprs.{ReprData, Reprs, MaybeRepr, tuple, slice, nominal, associated, of_lifetime, reference}
+use Rattle.lalrpop_norm_parts.specs.Reprs.{trait_object, function, no_reprs, repr_and, no_repr, returns}
 use Rattle.lalrpop_norm_theory.specs.Same.{same_flag}
 
 abbrev pub same_lifetime : Option Lifetime → Option Lifetime → Bool

@@ -1,5 +1,6 @@
 -- What a name means: the macro's argument of that name, else the one global definition of that name.
-use Rattle.std.specs.Prelude.{ℕ, zero, suc, Bool, false, ◌++◌, ◌||◌, List, [], ◌∷◌, length, map, flat_map, Option, Some, None, bytes_eq, if◌then◌else◌}
+use Rattle.std.specs.Prelude.{ℕ, zero, suc, Bool, false, ◌++◌, ◌||◌, List, [], ◌∷◌, length, map, flat_map, Option}
+use Rattle.std.specs.Prelude.{Some, None, bytes_eq, if◌then◌else◌}
 use Rattle.lalrpop_norm_parts.specs.declared.names.Span.{Span}
 use Rattle.lalrpop_norm_parts.specs.declared.names.NonterminalString.{NonterminalString}
 use Rattle.lalrpop_norm_parts.specs.declared.names.TerminalString.{TerminalString}
@@ -7,8 +8,10 @@ use Rattle.lalrpop_norm_parts.specs.declared.names.TerminalString.TheVariants.{L
 use Rattle.lalrpop_norm_tree.specs.declared.items.MatchItem.{MatchItem}
 use Rattle.lalrpop_norm_tree.specs.declared.items.MatchItem.TheVariants.{CatchAll, Unmapped, Mapped}
 use Rattle.lalrpop_norm_tree.specs.declared.items.MatchMapping.TheVariants as mapping
-use Rattle.lalrpop_norm_tree.specs.Symbols.{Kind, Part, Parts, group, ambiguous_id, terminal, nonterminal, call, repeated, chosen, named, tupled, lookahead, lookbehind, error_terminal, at, no_parts, part_and}
-use Rattle.lalrpop_norm_tree.specs.Items.{AlternativeData, RuleData, ConversionData, EnumTokenData, ItemData, GrammarData, match_item, extern_item, intern_item, rule_item, use_item}
+use Rattle.lalrpop_norm_tree.specs.Symbols.{Kind, Part, Parts, group, ambiguous_id, terminal, nonterminal, call, repeated, chosen}
+use Rattle.lalrpop_norm_tree.specs.Symbols.{named, tupled, lookahead, lookbehind, error_terminal, at, no_parts, part_and}
+use Rattle.lalrpop_norm_tree.specs.Items.{AlternativeData, RuleData, ConversionData, EnumTokenData, ItemData, GrammarData}
+use Rattle.lalrpop_norm_tree.specs.Items.{match_item, extern_item, intern_item, rule_item, use_item}
 
 -- what a global name is: a rule without arguments, a macro with so many, or a terminal
 pub data Definition : Type 0 where

@@ -1,5 +1,6 @@
 -- Levels and sides in the subject's own words: which levels a rule has, and where the level and the side of a place are stated.
-use Rattle.std.specs.Prelude.{◌≡◌, ℕ, ◌<◌, ◌≤◌, List, [], ◌∷◌, Option, Some, None, option_map, option_and_then, unwrap_or, is_some, slice_get, if◌then◌else◌}
+use Rattle.std.specs.Prelude.{◌≡◌, ℕ, ◌<◌, ◌≤◌, List, [], ◌∷◌, Option, Some, None, option_map}
+use Rattle.std.specs.Prelude.{option_and_then, unwrap_or, is_some, slice_get, if◌then◌else◌}
 use Rattle.lalrpop_norm_theory.specs.Rounds.{In}
 use Rattle.lalrpop_norm_tree.specs.Accessors.{or_else}
 use Rattle.lalrpop_norm_tree.specs.Items.{AlternativeData}
@@ -48,7 +49,8 @@ IsStatedSide ps k s =
 -- each place at or before k that states a side has a place behind it, at or before k, that states a level
 abbrev pub NoSideIsStated : Places → ℕ → Type 0
 NoSideIsStated ps k =
-    (j : ℕ) (s : Side) → j ≤ k → side_stated_at ps j ≡ Some s → (i : ℕ) × (l : ℕ) × (j < i) × (i ≤ k) × (level_stated_at ps i ≡ Some l)
+    (j : ℕ) (s : Side) → j ≤ k → side_stated_at ps j ≡ Some s → (i : ℕ) × (l : ℕ) × (j < i) × (i ≤ k)
+    × (level_stated_at ps i ≡ Some l)
 
 -- ---- from place to place
 

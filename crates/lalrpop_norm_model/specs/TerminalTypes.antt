@@ -1,16 +1,21 @@
 -- The types that need no inference: of terminals, of locations, of errors and of `!`.
-use Rattle.std.specs.Prelude.{ℕ, false, List, [], ◌∷◌, ◌++◌, map, flat_map, Option, Some, None, option_map, option_and_then, unwrap_or, codes, if◌then◌else◌}
+use Rattle.std.specs.Prelude.{ℕ, false, List, [], ◌∷◌, ◌++◌, map, flat_map, Option, Some, None, option_map}
+use Rattle.std.specs.Prelude.{option_and_then, unwrap_or, codes, if◌then◌else◌}
 use Rattle.lalrpop_norm_parts.specs.declared.names.Lifetime.{Lifetime}
 use Rattle.lalrpop_norm_parts.specs.declared.names.TerminalString.{TerminalString}
 use Rattle.lalrpop_norm_parts.specs.declared.names.TerminalString.TheVariants.{Error}
 use Rattle.lalrpop_norm_tree.specs.declared.items.MatchEntry.{MatchEntry}
 use Rattle.lalrpop_norm_parts.specs.Accessors.{path_of}
 use Rattle.lalrpop_norm_tree.specs.Accessors.{first_of, enum_token_of, extern_token_of, intern_token_of, type_named}
-use Rattle.lalrpop_norm_tree.specs.Items.{AssociatedTypeData, ConversionData, EnumTokenData, ExternTokenData, InternTokenData, GrammarData}
+use Rattle.lalrpop_norm_tree.specs.Items.{AssociatedTypeData, ConversionData, EnumTokenData, ExternTokenData, InternTokenData}
+use Rattle.lalrpop_norm_tree.specs.Items.{GrammarData}
 use Rattle.lalrpop_norm_tree.specs.LoweredTypes.{repr_of}
-use Rattle.lalrpop_norm_parts.specs.Patterns.{PatternKindData, enumerated, structured, path, tuple, tuple_struct, number, underscore, dot_dot, chosen, character, text, PatternData, pattern_at, Patterns, no_patterns, pattern_and, Fields, no_fields, field_and}
+use Rattle.lalrpop_norm_parts.specs.Patterns.{PatternKindData, enumerated, structured, path, tuple, tuple_struct, number}
+use Rattle.lalrpop_norm_parts.specs.Patterns.{underscore, dot_dot, chosen, character, text, PatternData, pattern_at, Patterns}
+use Rattle.lalrpop_norm_parts.specs.Patterns.{no_patterns, pattern_and, Fields, no_fields, field_and}
 use Rattle.lalrpop_norm_parts.specs.Reprs as lowered
-use Rattle.lalrpop_norm_parts.specs.Reprs.{ReprData, nominal, reference, of_lifetime, no_reprs, repr_and, reprs_of, named_repr, unit_type, static_str}
+use Rattle.lalrpop_norm_parts.specs.Reprs.{ReprData, nominal, reference, of_lifetime, no_reprs, repr_and, reprs_of, named_repr}
+use Rattle.lalrpop_norm_parts.specs.Reprs.{unit_type, static_str}
 use Rattle.lalrpop_norm_model.specs.Entries.{user_names}
 use Rattle.lalrpop_norm_model.specs.Terminals.{same_terminal}
 

@@ -5,8 +5,10 @@ use Rattle.lalrpop_norm_tree.specs.LoweredTypes.{named_path}
 use Rattle.lalrpop_norm_parts.specs.Paths.{PathData}
 use Rattle.lalrpop_norm_parts.specs.Reprs as lowered
 use Rattle.lalrpop_norm_parts.specs.Reprs.{ReprData, Reprs, MaybeRepr}
-use Rattle.lalrpop_norm_tree.specs.Symbols.{Kind, Part, group, ambiguous_id, terminal, nonterminal, call, repeated, chosen, named, tupled, lookahead, lookbehind, error_terminal, at}
-use Rattle.lalrpop_norm_tree.specs.Types.{TypeData, TypesData, MaybeType, tuple, slice, nominal, reference, trait_object, of_lifetime, id, of_symbol, function, no_types, type_and, no_type, returns}
+use Rattle.lalrpop_norm_tree.specs.Symbols.{Kind, Part, group, ambiguous_id, terminal, nonterminal, call, repeated, chosen, named}
+use Rattle.lalrpop_norm_tree.specs.Symbols.{tupled, lookahead, lookbehind, error_terminal, at}
+use Rattle.lalrpop_norm_tree.specs.Types.{TypeData, TypesData, MaybeType, tuple, slice, nominal, reference, trait_object}
+use Rattle.lalrpop_norm_tree.specs.Types.{of_lifetime, id, of_symbol, function, no_types, type_and, no_type, returns}
 use Rattle.lalrpop_norm_theory.specs.Rounds.{In}
 use Rattle.lalrpop_norm_model.specs.TerminalTypes.{terminal_type, recovery_type, declared_location}
 use Rattle.lalrpop_norm_model.specs.TypeRelation.{associated_of, IsRule, TypeClause, makes, locates, type_clauses, Has}
@@ -77,7 +79,9 @@ IsSound g f = (n : List ℕ) (x : ReprData) → f n ≡ Some x → Has g n x
 
 -- each type that a clause makes of the table is its rule's in it
 abbrev pub IsClosedTable : GrammarData → Table → Type 0
-IsClosedTable g f = (r : RuleData) → IsRule g r → (c : TypeClause) → In c (type_clauses r) → (x : ReprData) → clause_value g f c ≡ Some x → f r.name.0 ≡ Some x
+IsClosedTable g f =
+    (r : RuleData) → IsRule g r → (c : TypeClause) → In c (type_clauses r) → (x : ReprData) → clause_value g f c
+    ≡ Some x → f r.name.0 ≡ Some x
 
 -- each rule of which a clause makes a type of the table has one in it
 abbrev pub IsStuck : GrammarData → Table → Type 0

@@ -1,7 +1,9 @@
 -- The rules of a grammar as their trees see them: names resolved, alternatives at their written places, with levels.
-use Rattle.std.specs.Prelude.{ℕ, Bool, false, ◌++◌, List, [], ◌∷◌, map, Option, Some, None, option_map, bytes_eq, if◌then◌else◌}
+use Rattle.std.specs.Prelude.{ℕ, Bool, false, ◌++◌, List, [], ◌∷◌, map, Option, Some, None, option_map, bytes_eq}
+use Rattle.std.specs.Prelude.{if◌then◌else◌}
 use Rattle.lalrpop_norm_parts.specs.declared.names.NonterminalString.{NonterminalString}
-use Rattle.lalrpop_norm_tree.specs.Items.{RuleData, ItemData, GrammarData, rule_item, match_item, extern_item, intern_item, use_item}
+use Rattle.lalrpop_norm_tree.specs.Items.{RuleData, ItemData, GrammarData, rule_item, match_item, extern_item, intern_item}
+use Rattle.lalrpop_norm_tree.specs.Items.{use_item}
 use Rattle.lalrpop_norm_model.specs.Features.{Features, is_active}
 use Rattle.lalrpop_norm_model.specs.Enabled.{Places, enabled_places, all_places, enabled_grammar}
 use Rattle.lalrpop_norm_model.specs.Scopes.{Global, globals, sense_of, resolved_alternative}
@@ -19,7 +21,8 @@ resolved_places ds r ps = map (option_map (resolved_alternative (sense_of ds r.a
 
 -- with the levels that its alternatives state
 abbrev pub written_rule_with_levels : List Global → RuleData → Places → WrittenRule
-written_rule_with_levels ds r ps = record { name = r.name.0; args = r.args; has_levels = has_levels ps; places = with_levels (resolved_places ds r ps) }
+written_rule_with_levels ds r ps =
+    record { name = r.name.0; args = r.args; has_levels = has_levels ps; places = with_levels (resolved_places ds r ps) }
 
 -- whatever its alternatives state
 abbrev pub flat_rule : List Global → RuleData → Places → WrittenRule
@@ -36,7 +39,8 @@ rules_through f (use_item u ∷ items) = rules_through f items
 
 -- the enabled rules of a written grammar, as `normalize` reads it
 abbrev pub written_rules : Features → GrammarData → List WrittenRule
-written_rules fs g = rules_through (λ r. if is_active fs r.attributes then written_rule_with_levels (globals (enabled_grammar fs g)) r (enabled_places fs r) ∷ [] else []) g.items
+written_rules fs g =
+    rules_through (λ r. if is_active fs r.attributes then written_rule_with_levels (globals (enabled_grammar fs g)) r (enabled_places fs r) ∷ [] else []) g.items
 
 -- all rules, with their levels, as the pass on levels reads its argument; what it makes of them is `leveled_grammar`
 abbrev pub leveled_rules : GrammarData → List WrittenRule

@@ -14,12 +14,3 @@ pub attribute_seen : (s : Span) (a : List ℕ) (g : AttributeArg) → attribute_
 attribute_seen s a g =
     let x : Attribute-F AttributeArg _ = record { id_span = s; id = a; arg = g } in
     ap attribute_view (sym (rolls-struct-Attribute x)) ∙ fold-roll-Attribute Argument AttributeData argument_step attribute_step x
-
-pub empty_seen : argument_view Empty ≡ empty
-empty_seen = ap argument_view (sym rolls-Empty) ∙ fold-roll-AttributeArg Argument AttributeData argument_step attribute_step AttributeArg-F.Empty
-
-pub paren_seen : (v : Vec Attribute Global) → argument_view (Paren v) ≡ paren (attributes_view v.items)
-paren_seen v = ap argument_view (sym (rolls-Paren v)) ∙ fold-roll-AttributeArg Argument AttributeData argument_step attribute_step (AttributeArg-F.Paren _)
-
-pub equal_seen : (s : String Global) → argument_view (Equal s) ≡ equal (string_bytes s)
-equal_seen s = ap argument_view (sym (rolls-Equal s)) ∙ fold-roll-AttributeArg Argument AttributeData argument_step attribute_step (AttributeArg-F.Equal s)

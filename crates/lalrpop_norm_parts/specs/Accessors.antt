@@ -1,5 +1,6 @@
 -- What paths, terminals and attributes are asked for.
-use Rattle.std.specs.Prelude.{ℕ, Bool, false, ◌+◌, ◌||◌, List, [], ◌∷◌, length, Option, Some, None, if◌then◌else◌, bytes_eq, codes}
+use Rattle.std.specs.Prelude.{ℕ, Bool, false, ◌+◌, ◌||◌, List, [], ◌∷◌, length, Option, Some, None}
+use Rattle.std.specs.Prelude.{if◌then◌else◌, bytes_eq, codes}
 use Rattle.lalrpop_norm_parts.specs.declared.lowered.LrCodeGeneration.{LrCodeGeneration}
 use Rattle.lalrpop_norm_parts.specs.declared.lowered.LrCodeGeneration.TheVariants.{TableDriven, RecursiveAscent, TestAll}
 use Rattle.lalrpop_norm_parts.specs.declared.names.TerminalLiteral.{TerminalLiteral}
@@ -53,7 +54,9 @@ key_and_value (attribute s n (paren (attribute_and (attribute t key (equal value
 key_and_value _ = None
 
 abbrev pub is_known_name : List ℕ → Bool
-is_known_name n = bytes_eq n (codes "LALR") || bytes_eq n (codes "table_driven") || bytes_eq n (codes "recursive_ascent") || bytes_eq n (codes "test_all")
+is_known_name n =
+    bytes_eq n (codes "LALR") || bytes_eq n (codes "table_driven") || bytes_eq n (codes "recursive_ascent")
+    || bytes_eq n (codes "test_all")
 
 -- what code an attribute asks for
 abbrev pub codegen_named : List ℕ → Option LrCodeGeneration

@@ -1,7 +1,9 @@
 -- The texts of bounds and of written where clauses, from the texts of their types.
 use Rattle.std.specs.Prelude.{ℕ, List, ◌++◌, map, Option, Some, codes}
 use Rattle.std.specs.Fmt.{◌++?◌}
-use Rattle.lalrpop_norm_parts.specs.Bounds.{BoundParameterData, lifetime_parameter, type_parameter, associated_type, BoundData, lifetime_bound, function_bound, trait_bound, WhereClauseData, lifetime_clause, type_clause}
+use Rattle.lalrpop_norm_parts.specs.Bounds.{BoundParameterData, lifetime_parameter, type_parameter, associated_type, BoundData}
+use Rattle.lalrpop_norm_parts.specs.Bounds.{lifetime_bound, function_bound, trait_bound, WhereClauseData, lifetime_clause}
+use Rattle.lalrpop_norm_parts.specs.Bounds.{type_clause}
 use Rattle.lalrpop_norm_parts.specs.KnownTexts.{joined_known, angled_known, bounds_known, returned_known}
 use Rattle.lalrpop_norm_parts.specs.TypeTexts.{path_text, forall_text}
 

@@ -1,7 +1,9 @@
 -- The texts of patterns, from the texts of their chosen parts.
 use Rattle.std.specs.Prelude.{ℕ, Bool, List, [], ◌∷◌, ◌++◌, Option, Some, if◌then◌else◌, codes}
 use Rattle.std.specs.Fmt.{◌++?◌, decimal}
-use Rattle.lalrpop_norm_parts.specs.Patterns.{PatternKindData, enumerated, structured, path, tuple, tuple_struct, number, underscore, dot_dot, chosen, character, text, PatternData, pattern_at, Patterns, no_patterns, pattern_and, Fields, no_fields, field_and, FieldData}
+use Rattle.lalrpop_norm_parts.specs.Patterns.{PatternKindData, enumerated, structured, path, tuple, tuple_struct, number}
+use Rattle.lalrpop_norm_parts.specs.Patterns.{underscore, dot_dot, chosen, character, text, PatternData, pattern_at, Patterns}
+use Rattle.lalrpop_norm_parts.specs.Patterns.{no_patterns, pattern_and, Fields, no_fields, field_and, FieldData}
 use Rattle.lalrpop_norm_parts.specs.KnownTexts.{joined_known}
 use Rattle.lalrpop_norm_parts.specs.Texts.{escape}
 use Rattle.lalrpop_norm_parts.specs.TypeTexts.{path_text}
@@ -12,12 +14,14 @@ rest_texts rest = if rest then Some (codes "..") ∷ [] else []
 
 abbrev mutual
   pub pattern_kind_text : PatternKindData (Option (List ℕ)) → Option (List ℕ)
-  pattern_kind_text (enumerated p ps) = Some (path_text p) ++? (Some (codes "(") ++? joined_known (codes ", ") (pattern_texts ps) ++? Some (codes ")"))
+  pattern_kind_text (enumerated p ps) =
+      Some (path_text p) ++? (Some (codes "(") ++? joined_known (codes ", ") (pattern_texts ps) ++? Some (codes ")"))
   pattern_kind_text (structured p fs rest) =
       Some (path_text p) ++? Some (codes " { ") ++? joined_known (codes ", ") (field_texts fs ++ rest_texts rest) ++? Some (codes " }")
   pattern_kind_text (path p) = Some (path_text p)
   pattern_kind_text (tuple ps) = Some (codes "(") ++? joined_known (codes ", ") (pattern_texts ps) ++? Some (codes ")")
-  pattern_kind_text (tuple_struct p ps) = Some (path_text p) ++? (Some (codes "(") ++? joined_known (codes ", ") (pattern_texts ps) ++? Some (codes ")"))
+  pattern_kind_text (tuple_struct p ps) =
+      Some (path_text p) ++? (Some (codes "(") ++? joined_known (codes ", ") (pattern_texts ps) ++? Some (codes ")"))
   pattern_kind_text (number n) = Some (decimal n)
   pattern_kind_text underscore = Some (codes "_")
   pattern_kind_text dot_dot = Some (codes "..")

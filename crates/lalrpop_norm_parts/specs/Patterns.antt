@@ -47,7 +47,8 @@ fields_of [] = no_fields
 fields_of (f ∷ fs) = field_and f.span f.name f.pattern (fields_of fs)
 
 -- one level of a pattern, with what is inside already seen as data, and each chosen part through f
-abbrev pub pattern_kind_step : {T V : Type 0} → (T → V) → PatternKind-F T (PatternKindData V) (FieldData V) (PatternData V) → PatternKindData V
+abbrev pub pattern_kind_step : {T V : Type 0} → (T → V) →
+    PatternKind-F T (PatternKindData V) (FieldData V) (PatternData V) → PatternKindData V
 pattern_kind_step f (PatternKind-F.Enum p ps) = enumerated (path_view p) (patterns_of ps.items)
 pattern_kind_step f (PatternKind-F.Struct p fs rest) = structured (path_view p) (fields_of fs.items) rest
 pattern_kind_step f (PatternKind-F.Path p) = path (path_view p)
@@ -68,7 +69,8 @@ pattern_step f p = pattern_at p.span p.kind
 
 -- a pattern with each chosen part seen through f
 abbrev pub pattern_kind_view : {T V : Type 0} → (T → V) → PatternKind T → PatternKindData V
-pattern_kind_view {T} {V} f = fold-PatternKind T (PatternKindData V) (FieldData V) (PatternData V) (pattern_kind_step f) (field_step f) (pattern_step f)
+pattern_kind_view {T} {V} f =
+    fold-PatternKind T (PatternKindData V) (FieldData V) (PatternData V) (pattern_kind_step f) (field_step f) (pattern_step f)
 
 abbrev pub pattern_view : {T V : Type 0} → (T → V) → Pattern T → PatternData V
 pattern_view {T} {V} f = fold-Pattern T (PatternKindData V) (FieldData V) (PatternData V) (pattern_kind_step f) (field_step f) (pattern_step f)

@@ -3,7 +3,8 @@ use Rattle.std.specs.Prelude.{ℕ, Bool, List, [], ◌∷◌, ◌++◌, map, Opt
 use Rattle.lalrpop_norm_parts.specs.declared.names.Lifetime.{Lifetime}
 use Rattle.lalrpop_norm_parts.specs.declared.names.TypeParameter.{TypeParameter}
 use Rattle.lalrpop_norm_parts.specs.Paths.{PathData}
-use Rattle.lalrpop_norm_parts.specs.Reprs.{ReprData, tuple, slice, nominal, associated, of_lifetime, reference, trait_object, function, Reprs, no_reprs, repr_and, MaybeRepr, no_repr, returns, Applied}
+use Rattle.lalrpop_norm_parts.specs.Reprs.{ReprData, tuple, slice, nominal, associated, of_lifetime, reference, trait_object}
+use Rattle.lalrpop_norm_parts.specs.Reprs.{function, Reprs, no_reprs, repr_and, MaybeRepr, no_repr, returns, Applied}
 use Rattle.lalrpop_norm_parts.specs.Texts.{joined, type_parameter_text}
 
 -- `::` before an absolute path and between its parts

@@ -1,12 +1,17 @@
 -- Faults of the levels of a rule, in the order of looking. Disabled alternatives are not in the rule that is looked at.
-use Rattle.std.specs.Prelude.{ℕ, ◌^◌, Bool, true, false, ◌&&◌, ◌||◌, List, [], ◌∷◌, ◌++◌, length, map, flat_map, Option, Some, None, unwrap_or, is_some, is_none, nat_lt, nat_eq, codes, if◌then◌else◌}
+use Rattle.std.specs.Prelude.{ℕ, ◌^◌, Bool, true, false, ◌&&◌, ◌||◌, List, [], ◌∷◌, ◌++◌, length, map}
+use Rattle.std.specs.Prelude.{flat_map, Option, Some, None, unwrap_or, is_some, is_none, nat_lt, nat_eq, codes}
+use Rattle.std.specs.Prelude.{if◌then◌else◌}
 use Rattle.lalrpop_norm_parts.specs.declared.names.Span.{Span}
 use Rattle.lalrpop_norm_parts.specs.Attributes.{AttributeData, attribute}
-use Rattle.lalrpop_norm_tree.specs.Items.{AlternativeData, RuleData, ItemData, GrammarData, match_item, extern_item, intern_item, rule_item, use_item}
-use Rattle.lalrpop_norm_faults.specs.declared.kind.FaultKind.TheVariants.{MissingLevel, LevelArgument, LevelNumber, SideArgument, Side, SideOnLowest}
+use Rattle.lalrpop_norm_tree.specs.Items.{AlternativeData, RuleData, ItemData, GrammarData, match_item, extern_item, intern_item}
+use Rattle.lalrpop_norm_tree.specs.Items.{rule_item, use_item}
+use Rattle.lalrpop_norm_faults.specs.declared.kind.FaultKind.TheVariants.{MissingLevel, LevelArgument, LevelNumber, SideArgument}
+use Rattle.lalrpop_norm_faults.specs.declared.kind.FaultKind.TheVariants.{Side, SideOnLowest}
 use Rattle.lalrpop_norm_faults.specs.Faults.{Fault, fault_if}
 use Rattle.lalrpop_norm_model.specs.Enabled.{all_places, present}
-use Rattle.lalrpop_norm_model.specs.Levels.{left, right, neither, every, Leveled, first_named, value_under, number_of, side_named, stated_level, stated_side, has_levels, with_levels, levels_of}
+use Rattle.lalrpop_norm_model.specs.Levels.{left, right, neither, every, Leveled, first_named, value_under, number_of, side_named}
+use Rattle.lalrpop_norm_model.specs.Levels.{stated_level, stated_side, has_levels, with_levels, levels_of}
 use Rattle.lalrpop_norm_model.specs.Levels as levels
 
 -- where the name of an attribute stands
@@ -18,7 +23,9 @@ name_span (attribute s n x) = s
 -- in a rule with levels the first alternative has a `precedence`
 abbrev pub missing_level_faults : List AlternativeData → List Fault
 missing_level_faults [] = []
-missing_level_faults (a ∷ rest) = fault_if (has_levels (map Some (a ∷ rest)) && is_none (first_named (codes "precedence") a.attributes)) (MissingLevel, a.span)
+missing_level_faults (a ∷ rest) =
+    fault_if (has_levels (map Some (a ∷ rest))
+    && is_none (first_named (codes "precedence") a.attributes)) (MissingLevel, a.span)
 
 -- ---- each alternative: its first `precedence`, then its first `assoc`
 
@@ -81,7 +88,9 @@ lowest_level_faults ps = flat_map (λ (a : Leveled). lowest_faults (lowest_level
 -- ---- the rule
 
 abbrev pub level_faults : RuleData → List Fault
-level_faults r = missing_level_faults r.alternatives ++ flat_map level_attribute_faults r.alternatives ++ lowest_level_faults (with_levels (all_places r))
+level_faults r =
+    missing_level_faults r.alternatives ++ flat_map level_attribute_faults r.alternatives
+    ++ lowest_level_faults (with_levels (all_places r))
 
 -- the level and the side of each alternative
 abbrev pub levels_and_sides : RuleData → List (ℕ × levels.Side)

@@ -1,6 +1,7 @@
 -- The faults that `expand_precedence` looks for: of names in the grammar, then of its levels, then of names in the grammar with levels.
 use Rattle.std.specs.Prelude.{ℕ, List, [], ◌∷◌, ◌++◌, map, flat_map, Option, Some, None, if◌then◌else◌}
-use Rattle.lalrpop_norm_tree.specs.Items.{RuleData, ItemData, GrammarData, match_item, extern_item, intern_item, rule_item, use_item}
+use Rattle.lalrpop_norm_tree.specs.Items.{RuleData, ItemData, GrammarData, match_item, extern_item, intern_item, rule_item}
+use Rattle.lalrpop_norm_tree.specs.Items.{use_item}
 use Rattle.lalrpop_norm_faults.specs.declared.kind.FaultKind.TheVariants.{NotNonterminal}
 use Rattle.lalrpop_norm_faults.specs.Faults.{Fault}
 use Rattle.lalrpop_norm_model.specs.Enabled.{all_places, present}
@@ -23,7 +24,8 @@ step_faults r (Some l) = (NotNonterminal, r.span) ∷ []
 -- the faults of names in the rule of a level; the step comes last
 abbrev pub level_rule_faults : List Global → RuleData → List (Option Leveled) → ℕ → List Fault
 level_rule_faults ds r ps l =
-    if is_nil r.args then rule_name_faults ds (level_rule r ps l) else (rule_name_faults ds (unstepped_rule r ps l) ++ step_faults r (previous_level ps l))
+    if is_nil r.args then rule_name_faults ds (level_rule r ps l) else (rule_name_faults ds (unstepped_rule r ps l)
+    ++ step_faults r (previous_level ps l))
 
 -- the faults of names in the rules of the levels of a rule
 abbrev pub level_rules_faults : List Global → RuleData → List Fault

@@ -19,7 +19,8 @@ IsDefined g (Terminal t) = Contains g.terminals.all t
 
 -- code over one pattern and one type for each symbol, the type being the symbol's
 abbrev pub HasArguments : TypeTable → List Symbol → ActionKindData → Type 0
-HasArguments types symbols (user patterns arguments code) = (length patterns ≡ length symbols) × AllZip (λ s t. symbol_type s types ≡ Some t) symbols arguments
+HasArguments types symbols (user patterns arguments code) =
+    (length patterns ≡ length symbols) × AllZip (λ s t. symbol_type s types ≡ Some t) symbols arguments
 HasArguments types symbols (inline a ss) = Unit {0}
 HasArguments types symbols (lookaround k) = Unit {0}
 

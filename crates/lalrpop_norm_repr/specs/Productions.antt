@@ -31,4 +31,10 @@ pub record EntryData : Type 0 where
   pub productions : List ProductionData
 
 abbrev pub nonterminal_data_view : NonterminalData → EntryData
-nonterminal_data_view n = record { visibility = visibility_view n.visibility; span = n.span; attributes = attributes_view n.attributes.items; productions = map production_view n.productions.items }
+nonterminal_data_view n =
+    record {
+      visibility = visibility_view n.visibility;
+      span = n.span;
+      attributes = attributes_view n.attributes.items;
+      productions = map production_view n.productions.items;
+    }

@@ -12,7 +12,8 @@ use Rattle.lalrpop_norm_repr.specs.declared.action.LookaroundActionFnDefn.{Looka
 use Rattle.lalrpop_norm_repr.specs.declared.action.LookaroundActionFnDefn.TheVariants.{Lookahead, Lookbehind}
 use Rattle.lalrpop_norm_repr.specs.declared.symbol.Symbol.{Symbol}
 use Rattle.lalrpop_norm_repr.specs.declared.symbol.Symbol.TheVariants.{Nonterminal, Terminal}
-use Rattle.lalrpop_norm_repr.specs.Actions.{action_index, ActionData, ActionKindData, ArgumentData, inline, inlined, lookaround, original, user}
+use Rattle.lalrpop_norm_repr.specs.Actions.{action_index, ActionData, ActionKindData, ArgumentData, inline, inlined, lookaround}
+use Rattle.lalrpop_norm_repr.specs.Actions.{original, user}
 use Rattle.lalrpop_norm_repr.specs.Lowered.{LoweredParameter}
 use Rattle.lalrpop_norm_repr.specs.Productions.{ProductionData}
 
@@ -26,7 +27,9 @@ action_text a = codes "ActionFn(" ++ decimal (action_index a) ++ codes ")"
 
 -- `N = A, B => ActionFn(3);`
 abbrev pub production_text : ProductionData → List ℕ
-production_text p = p.nonterminal.0 ++ codes " = " ++ joined (codes ", ") (map symbol_text p.symbols) ++ codes " => " ++ action_text p.action ++ codes ";"
+production_text p =
+    p.nonterminal.0 ++ codes " = " ++ joined (codes ", ") (map symbol_text p.symbols) ++ codes " => " ++ action_text p.action
+    ++ codes ";"
 
 -- `n: T`
 abbrev pub parameter_text : LoweredParameter → List ℕ
@@ -51,7 +54,9 @@ inline_text a arguments = codes "fn _(..) { " ++ action_text a ++ codes "(" ++ j
 
 -- what does that and answers the type
 abbrev pub action_kind_text : ActionKindData → ReprData → List ℕ
-action_kind_text (user ps ts code) t = codes "fn _(" ++ joined (codes ", ") (map typed_text (zip ps ts)) ++ codes ") -> " ++ repr_text t ++ codes " { " ++ code ++ codes " }"
+action_kind_text (user ps ts code) t =
+    codes "fn _(" ++ joined (codes ", ") (map typed_text (zip ps ts)) ++ codes ") -> " ++ repr_text t ++ codes " { " ++ code
+    ++ codes " }"
 action_kind_text (inline a arguments) t = inline_text a arguments
 action_kind_text (lookaround l) t = lookaround_text l
 

@@ -1,5 +1,6 @@
 -- The type table as plain data: its rows in the order of their keys.
-use Rattle.std.specs.Prelude.{ℕ, false, List, [], ◌∷◌, ◌++◌, map, Option, Some, None, codes, bytes_eq, unwrap_or, if◌then◌else◌}
+use Rattle.std.specs.Prelude.{ℕ, false, List, [], ◌∷◌, ◌++◌, map, Option, Some, None, codes, bytes_eq, unwrap_or}
+use Rattle.std.specs.Prelude.{if◌then◌else◌}
 use Rattle.std.specs.BTreeMap.{BTreeMap}
 use Rattle.std.specs.Prelude.{option_map}
 use Rattle.lalrpop_norm_parts.specs.declared.names.NonterminalString.{NonterminalString}
@@ -73,7 +74,11 @@ spanned location t = tuple (repr_and location (repr_and t (repr_and location no_
 -- `{prefix}lalrpop_util::Name<L, T, E>`
 abbrev pub util_type : List ℕ → List ℕ → ReprData → ReprData → ReprData → ReprData
 util_type prefix name location token error =
-    nominal (record { absolute = false; ids = (prefix ++ codes "lalrpop_util") ∷ name ∷ [] }) (repr_and location (repr_and token (repr_and error no_reprs)))
+    nominal (record {
+      absolute = false;
+      ids = (prefix ++ codes "lalrpop_util") ∷ name
+          ∷ [];
+    }) (repr_and location (repr_and token (repr_and error no_reprs)))
 
 -- a table that lists only the error terminal
 abbrev pub new_table : List ℕ → Option ReprData → Option ReprData → ReprData → TypeTable

@@ -1,19 +1,26 @@
 -- The faults of names in a grammar, in the order in which they are looked for: definitions of a name that has one already, then
 -- rule by rule the names of arguments, and alternative by alternative its condition and the names in its symbols.
-use Rattle.std.specs.Prelude.{ℕ, zero, suc, Bool, false, not, ◌||◌, List, [], ◌∷◌, ◌++◌, flat_map, Option, Some, None, is_some, nat_eq}
+use Rattle.std.specs.Prelude.{ℕ, zero, suc, Bool, false, not, ◌||◌, List, [], ◌∷◌, ◌++◌, flat_map, Option, Some}
+use Rattle.std.specs.Prelude.{None, is_some, nat_eq}
 use Rattle.lalrpop_norm_parts.specs.declared.names.Span.{Span}
 use Rattle.lalrpop_norm_parts.specs.declared.names.NonterminalString.{NonterminalString}
 use Rattle.lalrpop_norm_tree.specs.declared.items.Condition.{Condition}
-use Rattle.lalrpop_norm_tree.specs.Symbols.{Kind, Part, Parts, group, ambiguous_id, terminal, nonterminal, call, repeated, chosen, named, tupled, lookahead, lookbehind, error_terminal, at, no_parts, part_and}
-use Rattle.lalrpop_norm_tree.specs.Items.{AlternativeData, RuleData, ItemData, GrammarData, match_item, extern_item, intern_item, rule_item, use_item}
-use Rattle.lalrpop_norm_faults.specs.declared.kind.FaultKind.TheVariants.{NameDeclaredTwice, ArgumentTwice, NoDefinition, ConditionOnOther, NotNonterminal, NotMacro, Arity, MacroNamed}
+use Rattle.lalrpop_norm_tree.specs.Symbols.{Kind, Part, Parts, group, ambiguous_id, terminal, nonterminal, call, repeated, chosen}
+use Rattle.lalrpop_norm_tree.specs.Symbols.{named, tupled, lookahead, lookbehind, error_terminal, at, no_parts, part_and}
+use Rattle.lalrpop_norm_tree.specs.Items.{AlternativeData, RuleData, ItemData, GrammarData, match_item, extern_item, intern_item}
+use Rattle.lalrpop_norm_tree.specs.Items.{rule_item, use_item}
+use Rattle.lalrpop_norm_faults.specs.declared.kind.FaultKind.TheVariants.{NameDeclaredTwice, ArgumentTwice, NoDefinition}
+use Rattle.lalrpop_norm_faults.specs.declared.kind.FaultKind.TheVariants.{ConditionOnOther, NotNonterminal, NotMacro, Arity}
+use Rattle.lalrpop_norm_faults.specs.declared.kind.FaultKind.TheVariants.{MacroNamed}
 use Rattle.lalrpop_norm_faults.specs.Faults.{Fault, fault_if}
-use Rattle.lalrpop_norm_model.specs.Scopes.{a_rule, a_macro, a_terminal, Global, globals, definition_of, Sense, an_argument, a_global, is_argument, sense_of}
+use Rattle.lalrpop_norm_model.specs.Scopes.{a_rule, a_macro, a_terminal, Global, globals, definition_of, Sense, an_argument}
+use Rattle.lalrpop_norm_model.specs.Scopes.{a_global, is_argument, sense_of}
 
 -- F25 at each definition of a name that one before it defines
 abbrev pub repeated_faults : List Global → List Global → List Fault
 repeated_faults before [] = []
-repeated_faults before (d ∷ rest) = fault_if (is_some (definition_of before d.name)) (NameDeclaredTwice, d.span) ++ repeated_faults (before ++ d ∷ []) rest
+repeated_faults before (d ∷ rest) =
+    fault_if (is_some (definition_of before d.name)) (NameDeclaredTwice, d.span) ++ repeated_faults (before ++ d ∷ []) rest
 
 -- F26: some argument is named again
 abbrev pub has_repeated_argument : List NonterminalString → Bool

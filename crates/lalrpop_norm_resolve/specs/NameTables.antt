@@ -1,18 +1,23 @@
 -- Global definitions as the code keeps them: a table by name, to which one after the other is added.
-use Rattle.std.specs.Prelude.{ℕ, List, [], ◌∷◌, ◌++◌, map, flat_map, Option, Some, None, option_map, is_some, bytes_eq, if◌then◌else◌}
+use Rattle.std.specs.Prelude.{ℕ, List, [], ◌∷◌, ◌++◌, map, flat_map, Option, Some, None, option_map, is_some}
+use Rattle.std.specs.Prelude.{bytes_eq, if◌then◌else◌}
 use Rattle.std.specs.Ordering.{nat_cmp}
 use Rattle.std.specs.Cmp.Lexicographic.{slice_cmp}
 use Rattle.std.specs.BTreeMap.{BTreeMap, insert_entry}
 use Rattle.lalrpop_norm_parts.specs.declared.names.Span.{Span}
 use Rattle.shared_text.specs.declared.atom.Atom.{Atom}
 use Rattle.lalrpop_norm_parts.specs.declared.names.NonterminalString.{NonterminalString}
-use Rattle.lalrpop_norm_tree.specs.Items.{RuleData, ConversionData, ItemData, match_item, extern_item, intern_item, rule_item, use_item}
+use Rattle.lalrpop_norm_tree.specs.Items.{RuleData, ConversionData, ItemData, match_item, extern_item, intern_item, rule_item}
+use Rattle.lalrpop_norm_tree.specs.Items.{use_item}
 use Rattle.lalrpop_norm_faults.specs.declared.kind.FaultKind.TheVariants.{NameDeclaredTwice}
 use Rattle.lalrpop_norm_faults.specs.Faults.{Fault, fault_if}
-use Rattle.lalrpop_norm_model.specs.Scopes.{Definition, a_rule, a_macro, a_terminal, Global, Sense, an_argument, a_global, is_argument, bare_global, rule_globals, conversion_globals, match_globals, resolved_alternative}
+use Rattle.lalrpop_norm_model.specs.Scopes.{Definition, a_rule, a_macro, a_terminal, Global, Sense, an_argument, a_global}
+use Rattle.lalrpop_norm_model.specs.Scopes.{is_argument, bare_global, rule_globals, conversion_globals, match_globals}
+use Rattle.lalrpop_norm_model.specs.Scopes.{resolved_alternative}
 use Rattle.lalrpop_norm_resolve.specs.declared.resolve.Def.{Def}
 use Rattle.lalrpop_norm_resolve.specs.declared.resolve.Def.TheVariants.{Terminal, Rule, Macro, MacroArg}
-use Rattle.lalrpop_norm_resolve.specs.NameFaults.{repeated_faults, repeated_argument_faults, alternative_name_faults, item_name_faults}
+use Rattle.lalrpop_norm_resolve.specs.NameFaults.{repeated_faults, repeated_argument_faults, alternative_name_faults}
+use Rattle.lalrpop_norm_resolve.specs.NameFaults.{item_name_faults}
 
 abbrev pub sense_view : Def → Sense
 sense_view Terminal = a_global a_terminal

@@ -100,9 +100,3 @@ star_apart (inr i) = i
 
 names_apart : IsDistinct (map name (rule_d ++ expanded_symbols repeated rule_d 2))
 names_apart = (rule_apart, (lookahead_apart, (star_apart, (λ i. i, tt))))
-
--- so the trees of D are one to one
-d_one_to_one : OneToOne repeated name (table (map (rule_of_symbol repeated name) (rule_d ++ expanded_symbols repeated rule_d 2))) (reference (letter 68) None)
-d_one_to_one = expansions_one_to_one repeated counts levels rule_d resolved rule_resolved 2 refl name
-    (one_rule_from_distinct repeated name (rule_d ++ expanded_symbols repeated rule_d 2) names_apart) [] (λ g i. absurd i)
-    (reference (letter 68) None) (inl refl)

@@ -3,13 +3,15 @@ use Rattle.std.specs.Prelude.{◌≡◌, ◌↔◌, ◌<◌, ℕ, suc, List, [],
 use Rattle.lalrpop_norm_theory.specs.Symbols.{Name, Terminal, ClosedSymbol}
 use Rattle.lalrpop_norm_theory.specs.Meaning.{Meaning, HasCounts, HasLevels}
 use Rattle.lalrpop_norm_theory.specs.WrittenTrees.{WrittenTree, IsTreeOf, yield, alternatives}
-use Rattle.lalrpop_norm_theory.specs.LoweredTrees.{LoweredTree, ProductionTable, Origin, IsDerivation, lowered_yield, written_origins}
+use Rattle.lalrpop_norm_theory.specs.LoweredTrees.{LoweredTree, ProductionTable, Origin, IsDerivation, lowered_yield}
+use Rattle.lalrpop_norm_theory.specs.LoweredTrees.{written_origins}
 use Rattle.lalrpop_norm_theory.specs.Clauses.{symbol_of}
 use Rattle.lalrpop_norm_theory.specs.Pairs.{Pairs}
 use Rattle.lalrpop_norm_theory.specs.Translations.{lowered_tree, written_tree}
 use Rattle.lalrpop_norm_theory.specs.Rounds.{In, Chain, NewIn, IsInOrderOf, IsDistinct, IsTest}
 use Rattle.lalrpop_norm_theory.specs.Same.{same_symbol}
-use Rattle.lalrpop_norm_theory.specs.Met.{meets, rule_meets, expansion, expanded_symbols, BecomesRule, IsKnown, IsResolvedIn, IsResolved}
+use Rattle.lalrpop_norm_theory.specs.Met.{meets, rule_meets, expansion, expanded_symbols, BecomesRule, IsKnown, IsResolvedIn}
+use Rattle.lalrpop_norm_theory.specs.Met.{IsResolved}
 use Rattle.lalrpop_norm_theory.specs.Tables.{Realizes, OneRuleAName, SharesRule, Stands, table, rule_of_symbol}
 use Rattle.lalrpop_norm_theory.specs.Leveled.{leveled_symbol, IsLeveled, recomposed}
 use Rattle.lalrpop_norm_theory.specs.Steps.{Steps, written_alternatives}
@@ -73,7 +75,8 @@ level_named l name g = name (leveled_symbol l g)
 
 -- The pairing made of two steps: written trees within bounds against trees of the grammar with levels L; then these against
 -- the trees of the grammar P lowered from L. The whole is the pairing itself, in P with its origins in the written grammar.
-pub record PairsInTwoSteps (M L : Meaning) (l : Name → ℕ → Name) (origin : Name → ℕ → Origin) (name : ClosedSymbol → Name) (P : ProductionTable) (g : ClosedSymbol) : Type 0 where
+pub record PairsInTwoSteps (M L : Meaning) (l : Name → ℕ → Name) (origin : Name → ℕ → Origin) (name : ClosedSymbol →
+    Name) (P : ProductionTable) (g : ClosedSymbol) : Type 0 where
   pub first : StepsAreOneToOne M L l origin g
   pub second : OneToOne L name P (leveled_symbol l g)
   pub whole : OneToOne M (level_named l name) (recomposed origin P) g

@@ -26,7 +26,8 @@ pub record HasCounts (M : Meaning) : Type 0 where
 -- The alternatives within a bound are those of its own level, and those within the bound one level down, which are others.
 pub record HasLevels (M : Meaning) : Type 0 where
   pub deeper : (n : Name) (b c : Option ℕ) → M.previous n b ≡ Some c → M.depth n c < M.depth n b
-  pub own : (n : Name) (b : Option ℕ) (k : ℕ) (parts : ClosedSymbols) → M.own_parts n b k ≡ Some parts → M.reference_parts n b k ≡ Some parts
+  pub own : (n : Name) (b : Option ℕ) (k : ℕ) (parts : ClosedSymbols) → M.own_parts n b k ≡ Some parts →
+      M.reference_parts n b k ≡ Some parts
   pub chained : (n : Name) (b c : Option ℕ) (k : ℕ) (parts : ClosedSymbols) → M.previous n b ≡ Some c →
       M.reference_parts n c k ≡ Some parts → M.reference_parts n b k ≡ Some parts
   pub apart : (n : Name) (b c : Option ℕ) (k : ℕ) (parts : ClosedSymbols) → M.previous n b ≡ Some c →

@@ -1,9 +1,13 @@
 -- The pairing of written and lowered trees of a closed symbol, a constructor for each case.
 use Rattle.std.specs.Prelude.{◌≡◌, ℕ, slice_get, Option, Some}
-use Rattle.lalrpop_norm_theory.specs.Symbols.{Name, Terminal, error_terminal, Wrapper, ClosedSymbol, ClosedSymbols, terminal, error, reference, call, group, star, plus, question, wrapped, lookahead, lookbehind, no_symbols, symbol_and, only}
+use Rattle.lalrpop_norm_theory.specs.Symbols.{Name, Terminal, error_terminal, Wrapper, ClosedSymbol, ClosedSymbols, terminal}
+use Rattle.lalrpop_norm_theory.specs.Symbols.{error, reference, call, group, star, plus, question, wrapped, lookahead, lookbehind}
+use Rattle.lalrpop_norm_theory.specs.Symbols.{no_symbols, symbol_and, only}
 use Rattle.lalrpop_norm_theory.specs.Meaning.{Meaning}
-use Rattle.lalrpop_norm_theory.specs.WrittenTrees.{WrittenTree, WrittenTrees, leaf, nothing, list, node, no_trees, tree_and, append}
-use Rattle.lalrpop_norm_theory.specs.LoweredTrees.{LoweredTree, LoweredTrees, lowered_leaf, lowered_node, no_lowered, lowered_and, written, level_step}
+use Rattle.lalrpop_norm_theory.specs.WrittenTrees.{WrittenTree, WrittenTrees, leaf, nothing, list, node, no_trees, tree_and}
+use Rattle.lalrpop_norm_theory.specs.WrittenTrees.{append}
+use Rattle.lalrpop_norm_theory.specs.LoweredTrees.{LoweredTree, LoweredTrees, lowered_leaf, lowered_node, no_lowered, lowered_and}
+use Rattle.lalrpop_norm_theory.specs.LoweredTrees.{written, level_step}
 use Rattle.lalrpop_norm_theory.specs.Clauses.{clauses, clause}
 
 -- Pairs M name g t u: the written tree t of g and the lowered tree u are one, nonterminals having the names given.

@@ -1,5 +1,6 @@
 -- Rounds of a worklist: what each round adds, in which order, and how far away each thing is. Generic in what is listed.
-use Rattle.std.specs.Prelude.{◌≡◌, ◌⊎◌, ◌<◌, ℕ, zero, suc, List, [], ◌∷◌, ◌++◌, Bool, true, false, ◌||◌, if◌then◌else◌, reverse, flat_map, slice_get, Some}
+use Rattle.std.specs.Prelude.{◌≡◌, ◌⊎◌, ◌<◌, ℕ, zero, suc, List, [], ◌∷◌, ◌++◌, Bool, true, false}
+use Rattle.std.specs.Prelude.{◌||◌, if◌then◌else◌, reverse, flat_map, slice_get, Some}
 
 -- x is one of the list
 abbrev pub In : {A : Type 0} → A → List A → Type 0

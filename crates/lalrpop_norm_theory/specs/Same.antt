@@ -1,6 +1,9 @@
 -- The test whether two closed symbols are the same, by cases on their shape.
 use Rattle.std.specs.Prelude.{ℕ, Bool, true, false, not, nat_eq, bytes_eq, ◌&&◌, Option, Some, None}
-use Rattle.lalrpop_norm_theory.specs.Symbols.{Terminal, quoted, regex, bare, error_terminal, ClosedPattern, ClosedPatterns, name_pattern, tuple_pattern, no_patterns, pattern_and, Wrapper, chosen, named, tuple, ClosedSymbol, ClosedSymbols, terminal, error, reference, call, group, star, plus, question, wrapped, lookahead, lookbehind, no_symbols, symbol_and}
+use Rattle.lalrpop_norm_theory.specs.Symbols.{Terminal, quoted, regex, bare, error_terminal, ClosedPattern, ClosedPatterns}
+use Rattle.lalrpop_norm_theory.specs.Symbols.{name_pattern, tuple_pattern, no_patterns, pattern_and, Wrapper, chosen, named}
+use Rattle.lalrpop_norm_theory.specs.Symbols.{tuple, ClosedSymbol, ClosedSymbols, terminal, error, reference, call, group, star}
+use Rattle.lalrpop_norm_theory.specs.Symbols.{plus, question, wrapped, lookahead, lookbehind, no_symbols, symbol_and}
 
 -- the same kind, and the same text
 abbrev pub same_closed_terminal : Terminal → Terminal → Bool

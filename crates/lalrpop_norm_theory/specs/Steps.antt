@@ -1,8 +1,11 @@
 -- The first of two steps: written trees within bounds, and the trees of the grammar with levels read without bounds.
 use Rattle.std.specs.Prelude.{◌≡◌, ℕ, zero, suc, List, [], ◌++◌, slice_get, length, Option, Some, None, unwrap_or}
-use Rattle.lalrpop_norm_theory.specs.Symbols.{Name, Terminal, error_terminal, Wrapper, ClosedSymbol, ClosedSymbols, terminal, error, reference, call, group, star, plus, question, wrapped, lookahead, lookbehind, no_symbols, symbol_and, only}
+use Rattle.lalrpop_norm_theory.specs.Symbols.{Name, Terminal, error_terminal, Wrapper, ClosedSymbol, ClosedSymbols, terminal}
+use Rattle.lalrpop_norm_theory.specs.Symbols.{error, reference, call, group, star, plus, question, wrapped, lookahead, lookbehind}
+use Rattle.lalrpop_norm_theory.specs.Symbols.{no_symbols, symbol_and, only}
 use Rattle.lalrpop_norm_theory.specs.Meaning.{Meaning}
-use Rattle.lalrpop_norm_theory.specs.WrittenTrees.{WrittenTree, WrittenTrees, leaf, nothing, list, node, no_trees, tree_and, IsNonempty, IsAtMostOne}
+use Rattle.lalrpop_norm_theory.specs.WrittenTrees.{WrittenTree, WrittenTrees, leaf, nothing, list, node, no_trees, tree_and}
+use Rattle.lalrpop_norm_theory.specs.WrittenTrees.{IsNonempty, IsAtMostOne}
 use Rattle.lalrpop_norm_theory.specs.LoweredTrees.{Origin, written, level_step, written_of}
 use Rattle.lalrpop_norm_theory.specs.Clauses.{clause, clauses, own_clauses}
 use Rattle.lalrpop_norm_theory.specs.Translations.{made_by, lowered_place}
@@ -20,7 +23,8 @@ mutual
     group_kept : (gs : ClosedSymbols) (ts ms : WrittenTrees) → AllSteps M l gs ts ms → Steps M l (group gs) (list ts) (list ms)
     star_kept : (x : ClosedSymbol) (ts ms : WrittenTrees) → EachSteps M l x ts ms → Steps M l (star x) (list ts) (list ms)
     plus_kept : (x : ClosedSymbol) (ts ms : WrittenTrees) → IsNonempty ts → EachSteps M l x ts ms → Steps M l (plus x) (list ts) (list ms)
-    question_kept : (x : ClosedSymbol) (ts ms : WrittenTrees) → IsAtMostOne ts → EachSteps M l x ts ms → Steps M l (question x) (list ts) (list ms)
+    question_kept : (x : ClosedSymbol) (ts ms : WrittenTrees) → IsAtMostOne ts → EachSteps M l x ts ms →
+        Steps M l (question x) (list ts) (list ms)
     call_kept : (n : Name) (k : ℕ) (args parts : ClosedSymbols) (ts ms : WrittenTrees) → M.call_parts n args k ≡ Some parts →
         AllSteps M l parts ts ms → Steps M l (call n args) (node n k ts) (node n k ms)
     at_level : (n : Name) (k p : ℕ) (b : Option ℕ) (parts : ClosedSymbols) (ts ms : WrittenTrees) → M.own_parts n b k ≡ Some parts →
@@ -67,17 +71,20 @@ abbrev mutual
   written_alternatives_of origin (tree_and m ms) = written_alternatives origin m ++ written_alternatives_of origin ms
 
 -- forward: the node of alternative k of the rule n, below the steps from the bound b to its level, `depth` of them at most
-abbrev pub own_level : Meaning → (Name → ℕ → Name) → Name → ℕ → (ClosedSymbols → WrittenTrees) → Option ℕ → Option ClosedSymbols → WrittenTree → WrittenTree
+abbrev pub own_level : Meaning → (Name → ℕ → Name) → Name → ℕ → (ClosedSymbols → WrittenTrees) →
+    Option ℕ → Option ClosedSymbols → WrittenTree → WrittenTree
 own_level M l n k children b None below = below
 own_level M l n k children b (Some parts) below = node (level_reference l n b) (lowered_place (M.own_parts n b) 0 k) (children parts)
 
 -- a step to the level below, if there is one
-abbrev pub step_level : Meaning → (Name → ℕ → Name) → Name → Option ℕ → Option (Option ℕ) → (Option ℕ → WrittenTree) → WrittenTree
+abbrev pub step_level : Meaning → (Name → ℕ → Name) → Name → Option ℕ → Option (Option ℕ) →
+    (Option ℕ → WrittenTree) → WrittenTree
 step_level M l n b None below = nothing
 step_level M l n b (Some c) below = node (level_reference l n b) (length (own_clauses M n b)) (tree_and (below c) no_trees)
 
 -- own alternatives first, else a step, as often as there are levels
-abbrev pub tree_through_levels : Meaning → (Name → ℕ → Name) → Name → ℕ → (ClosedSymbols → WrittenTrees) → ℕ → Option ℕ → WrittenTree
+abbrev pub tree_through_levels : Meaning → (Name → ℕ → Name) → Name → ℕ → (ClosedSymbols → WrittenTrees) →
+    ℕ → Option ℕ → WrittenTree
 tree_through_levels M l n k children zero b = own_level M l n k children b (M.own_parts n b k) nothing
 tree_through_levels M l n k children (suc depth) b =
     own_level M l n k children b (M.own_parts n b k)

@@ -1,9 +1,14 @@
 -- The two translations as functions: forward, by the written tree and its symbol; back, by the origins alone.
 use Rattle.std.specs.Prelude.{ℕ, zero, suc, slice_get, Option, Some, None, unwrap_or, length}
-use Rattle.lalrpop_norm_theory.specs.Symbols.{Name, error_terminal, ClosedSymbol, ClosedSymbols, terminal, error, reference, call, group, star, plus, question, wrapped, lookahead, lookbehind, no_symbols, symbol_and}
+use Rattle.lalrpop_norm_theory.specs.Symbols.{Name, error_terminal, ClosedSymbol, ClosedSymbols, terminal, error, reference, call}
+use Rattle.lalrpop_norm_theory.specs.Symbols.{group, star, plus, question, wrapped, lookahead, lookbehind, no_symbols, symbol_and}
 use Rattle.lalrpop_norm_theory.specs.Meaning.{Meaning}
-use Rattle.lalrpop_norm_theory.specs.WrittenTrees.{WrittenTree, WrittenTrees, leaf, nothing, list, node, no_trees, tree_and, append}
-use Rattle.lalrpop_norm_theory.specs.LoweredTrees.{LoweredTree, LoweredTrees, lowered_leaf, lowered_node, no_lowered, lowered_and, ProductionTable, Production, Origin, from_start, written, level_step, from_group, star_empty, star_some, plus_one, plus_more, question_some, question_empty, from_lookahead, from_lookbehind}
+use Rattle.lalrpop_norm_theory.specs.WrittenTrees.{WrittenTree, WrittenTrees, leaf, nothing, list, node, no_trees, tree_and}
+use Rattle.lalrpop_norm_theory.specs.WrittenTrees.{append}
+use Rattle.lalrpop_norm_theory.specs.LoweredTrees.{LoweredTree, LoweredTrees, lowered_leaf, lowered_node, no_lowered, lowered_and}
+use Rattle.lalrpop_norm_theory.specs.LoweredTrees.{ProductionTable, Production, Origin, from_start, written, level_step}
+use Rattle.lalrpop_norm_theory.specs.LoweredTrees.{from_group, star_empty, star_some, plus_one, plus_more, question_some}
+use Rattle.lalrpop_norm_theory.specs.LoweredTrees.{question_empty, from_lookahead, from_lookbehind}
 use Rattle.lalrpop_norm_theory.specs.Clauses.{own_clauses}
 
 -- the first of a list of trees
@@ -63,19 +68,22 @@ lowered_place f k zero = 0
 lowered_place f k (suc number) = counted (f k) (lowered_place f (suc k) number)
 
 -- The node of alternative k of the rule n, below the steps from the bound b to its level, `depth` of them at most.
-abbrev pub own_node : Meaning → (ClosedSymbol → Name) → Name → ℕ → (ClosedSymbols → LoweredTrees) → Option ℕ → Option ClosedSymbols → LoweredTree → LoweredTree
+abbrev pub own_node : Meaning → (ClosedSymbol → Name) → Name → ℕ → (ClosedSymbols → LoweredTrees) → Option ℕ →
+    Option ClosedSymbols → LoweredTree → LoweredTree
 own_node M name n k children b None below = below
 own_node M name n k children b (Some parts) below =
     lowered_node (name (reference n b)) (lowered_place (M.own_parts n b) 0 k) (children parts)
 
 -- a step to the level below, if there is one
-abbrev pub step_node : Meaning → (ClosedSymbol → Name) → Name → Option ℕ → Option (Option ℕ) → (Option ℕ → LoweredTree) → LoweredTree
+abbrev pub step_node : Meaning → (ClosedSymbol → Name) → Name → Option ℕ → Option (Option ℕ) →
+    (Option ℕ → LoweredTree) → LoweredTree
 step_node M name n b None below = lowered_leaf error_terminal
 step_node M name n b (Some c) below =
     lowered_node (name (reference n b)) (length (own_clauses M n b)) (lowered_and (below c) no_lowered)
 
 -- own alternatives first, else a step, as often as there are levels
-abbrev pub lowered_rule : Meaning → (ClosedSymbol → Name) → Name → ℕ → (ClosedSymbols → LoweredTrees) → ℕ → Option ℕ → LoweredTree
+abbrev pub lowered_rule : Meaning → (ClosedSymbol → Name) → Name → ℕ → (ClosedSymbols → LoweredTrees) → ℕ →
+    Option ℕ → LoweredTree
 lowered_rule M name n k children zero b = own_node M name n k children b (M.own_parts n b k) (lowered_leaf error_terminal)
 lowered_rule M name n k children (suc depth) b =
     own_node M name n k children b (M.own_parts n b k)

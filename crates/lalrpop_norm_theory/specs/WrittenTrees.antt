@@ -1,6 +1,8 @@
 -- Written trees, and which of them are trees of a closed symbol.
 use Rattle.std.specs.Prelude.{◌≡◌, ℕ, List, [], ◌∷◌, ◌++◌, Some}
-use Rattle.lalrpop_norm_theory.specs.Symbols.{Name, Terminal, error_terminal, ClosedSymbol, ClosedSymbols, terminal, error, reference, call, group, star, plus, question, wrapped, lookahead, lookbehind, no_symbols, symbol_and}
+use Rattle.lalrpop_norm_theory.specs.Symbols.{Name, Terminal, error_terminal, ClosedSymbol, ClosedSymbols, terminal, error}
+use Rattle.lalrpop_norm_theory.specs.Symbols.{reference, call, group, star, plus, question, wrapped, lookahead, lookbehind}
+use Rattle.lalrpop_norm_theory.specs.Symbols.{no_symbols, symbol_and}
 use Rattle.lalrpop_norm_theory.specs.Meaning.{Meaning}
 
 -- A leaf; nothing; a list of trees; or a node, with the name of its rule or macro, the number of its alternative, and its

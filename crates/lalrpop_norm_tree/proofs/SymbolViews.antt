@@ -29,9 +29,6 @@ repeat_seen o s =
     let x : RepeatSymbol-F SymbolKind ExprSymbol MacroSymbol RepeatSymbol _ = record { op = o; symbol = s } in
     ap repeat_view (sym (rolls-struct-RepeatSymbol x)) ∙ fold-roll-RepeatSymbol Kind Parts Call Again Part kind_step expr_step macro_step repeat_step symbol_step x
 
-pub expr_seen : (e : ExprSymbol) → kind_view (kind.Expr e) ≡ group (expr_view e)
-expr_seen e = ap kind_view (sym (rolls-Expr e)) ∙ fold-roll-SymbolKind Kind Parts Call Again Part kind_step expr_step macro_step repeat_step symbol_step (SymbolKind-F.Expr e)
-
 pub ambiguous_seen : (a : List ℕ) → kind_view (kind.AmbiguousId a) ≡ ambiguous_id a
 ambiguous_seen a = ap kind_view (sym (rolls-AmbiguousId a)) ∙ fold-roll-SymbolKind Kind Parts Call Again Part kind_step expr_step macro_step repeat_step symbol_step (SymbolKind-F.AmbiguousId a)
 
@@ -43,9 +40,3 @@ nonterminal_seen n = ap kind_view (sym (rolls-Nonterminal n)) ∙ fold-roll-Symb
 
 pub repeated_seen : (b : Box RepeatSymbol Global) → kind_view (kind.Repeat b) ≡ repeated (repeat_view b.value).0 (repeat_view b.value).1
 repeated_seen b = ap kind_view (sym (rolls-Repeat b)) ∙ fold-roll-SymbolKind Kind Parts Call Again Part kind_step expr_step macro_step repeat_step symbol_step (SymbolKind-F.Repeat b)
-
-pub chosen_seen : (b : Box Symbol Global) → kind_view (kind.Choose b) ≡ chosen (symbol_view b.value)
-chosen_seen b = ap kind_view (sym (rolls-Choose b)) ∙ fold-roll-SymbolKind Kind Parts Call Again Part kind_step expr_step macro_step repeat_step symbol_step (SymbolKind-F.Choose b)
-
-pub named_seen : (n : Name) (b : Box Symbol Global) → kind_view (kind.Name n b) ≡ named n (symbol_view b.value)
-named_seen n b = ap kind_view (sym (rolls-Name n b)) ∙ fold-roll-SymbolKind Kind Parts Call Again Part kind_step expr_step macro_step repeat_step symbol_step (SymbolKind-F.Name n b)

@@ -53,7 +53,14 @@ pub record AlternativeData : Type 0 where
   pub attributes : Attributes
 
 abbrev pub alternative_view : Alternative → AlternativeData
-alternative_view a = record { span = a.span; parts = expr_view a.expr; condition = a.condition; action = option_map action_view a.action; attributes = attributes_view a.attributes.items }
+alternative_view a =
+    record {
+      span = a.span;
+      parts = expr_view a.expr;
+      condition = a.condition;
+      action = option_map action_view a.action;
+      attributes = attributes_view a.attributes.items;
+    }
 
 pub data VisibilityData : Type 0 where
   everywhere : Option PathData → VisibilityData
@@ -75,7 +82,17 @@ pub record RuleData : Type 0 where
   pub alternatives : List AlternativeData
 
 abbrev pub rule_view : NonterminalData → RuleData
-rule_view n = record { visibility = visibility_view n.visibility; name = n.name; attributes = attributes_view n.attributes.items; span = n.span; args = n.args.items; type_decl = option_map type_view n.type_decl; alternatives = map alternative_view n.alternatives.items }
+rule_view n =
+    record {
+      visibility = visibility_view n.visibility;
+      name = n.name;
+      attributes = attributes_view n.attributes.items;
+      span = n.span;
+      args = n.args.items;
+      type_decl = option_map type_view n.type_decl;
+      alternatives =
+          map alternative_view n.alternatives.items;
+    }
 
 -- ---- tokens
 
@@ -127,7 +144,12 @@ pub record ExternTokenData : Type 0 where
   pub enum_token : Option EnumTokenData
 
 abbrev pub extern_token_view : ExternToken → ExternTokenData
-extern_token_view t = record { span = t.span; associated_types = map associated_type_view t.associated_types.items; enum_token = option_map enum_token_view t.enum_token }
+extern_token_view t =
+    record {
+      span = t.span;
+      associated_types = map associated_type_view t.associated_types.items;
+      enum_token = option_map enum_token_view t.enum_token;
+    }
 
 -- ---- grammars
 

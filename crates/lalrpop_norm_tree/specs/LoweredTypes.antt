@@ -2,7 +2,8 @@
 use Rattle.std.specs.Prelude.{ℕ, Bool, true, false, ◌||◌, List, [], ◌∷◌}
 use Rattle.lalrpop_norm_parts.specs.Paths.{PathData}
 use Rattle.lalrpop_norm_parts.specs.Reprs as lowered
-use Rattle.lalrpop_norm_tree.specs.Types.{TypeData, tuple, slice, nominal, reference, trait_object, of_lifetime, id, of_symbol, function, TypesData, no_types, type_and, MaybeType, no_type, returns}
+use Rattle.lalrpop_norm_tree.specs.Types.{TypeData, tuple, slice, nominal, reference, trait_object, of_lifetime, id, of_symbol}
+use Rattle.lalrpop_norm_tree.specs.Types.{function, TypesData, no_types, type_and, MaybeType, no_type, returns}
 
 -- whether the type of a symbol stands in the type
 abbrev mutual

@@ -13,8 +13,10 @@ use Rattle.lalrpop_norm_tree.specs.declared.symbol.ArgPattern.{ArgPattern}
 use Rattle.lalrpop_norm_tree.specs.declared.symbol.ArgPattern.TheOpen.{ArgPattern-F, Tuple-F}
 use Rattle.lalrpop_norm_tree.specs.declared.symbol.ArgPattern.TheFolds.{fold-ArgPattern, fold-Tuple}
 use Rattle.lalrpop_norm_tree.specs.declared.symbol.SymbolKind.{SymbolKind}
-use Rattle.lalrpop_norm_tree.specs.declared.symbol.SymbolKind.TheOpen.{SymbolKind-F, ExprSymbol-F, MacroSymbol-F, RepeatSymbol-F, Symbol-F}
-use Rattle.lalrpop_norm_tree.specs.declared.symbol.SymbolKind.TheFolds.{fold-SymbolKind, fold-ExprSymbol, fold-MacroSymbol, fold-RepeatSymbol, fold-Symbol}
+use Rattle.lalrpop_norm_tree.specs.declared.symbol.SymbolKind.TheOpen.{SymbolKind-F, ExprSymbol-F, MacroSymbol-F, RepeatSymbol-F}
+use Rattle.lalrpop_norm_tree.specs.declared.symbol.SymbolKind.TheOpen.{Symbol-F}
+use Rattle.lalrpop_norm_tree.specs.declared.symbol.SymbolKind.TheFolds.{fold-SymbolKind, fold-ExprSymbol, fold-MacroSymbol}
+use Rattle.lalrpop_norm_tree.specs.declared.symbol.SymbolKind.TheFolds.{fold-RepeatSymbol, fold-Symbol}
 
 -- a pattern that names the argument of an action, and several
 mutual

@@ -6,7 +6,8 @@ use Rattle.lalrpop_norm_tree.specs.Accessors.{or_else}
 use Rattle.lalrpop_norm_tree.specs.Items.{GrammarData}
 use Rattle.lalrpop_norm_parts.specs.Reprs.{repr_view}
 use Rattle.lalrpop_norm_repr.specs.Tables.{TypeTable, listed_type, found_terminal, new_table}
-use Rattle.lalrpop_norm_model.specs.TerminalTypes.{TerminalRow, declared_location, declared_under, token_type, terminal_rows, row_of}
+use Rattle.lalrpop_norm_model.specs.TerminalTypes.{TerminalRow, declared_location, declared_under, token_type, terminal_rows}
+use Rattle.lalrpop_norm_model.specs.TerminalTypes.{row_of}
 
 abbrev pub rows_seen : List (TerminalString × TypeRepr) → List TerminalRow
 rows_seen rs = map (λ r. (r.0, repr_view r.1)) rs

@@ -66,7 +66,8 @@ pub record TakesType (before after : TypeTable) (n : List ℕ) (v : Option ReprD
 -- the visits of some rules, and whether one of them takes a type: if none does, the table stays as it is
 pub record Passes (ps : List TypeParameter) (before after : TypeTable) (ss : List Seen) (added : Bool) : Type 0 where
   pub table : (g : GrammarData) → IsReadBy g ps before → (rows : List TypeRow) → HasRows before rows → HasRows after (visits_seen g rows ss)
-  pub quiet : added ≡ false → (g : GrammarData) → IsReadBy g ps before → (rows : List TypeRow) → HasRows before rows → visits_seen g rows ss ≡ rows
+  pub quiet : added ≡ false → (g : GrammarData) → IsReadBy g ps before → (rows : List TypeRow) → HasRows before rows →
+      visits_seen g rows ss ≡ rows
   pub still : added ≡ false → after ≡ before
   pub told : added ≡ true → Grows before after
   pub rest : after ≡ record before { nonterminals = after.nonterminals }

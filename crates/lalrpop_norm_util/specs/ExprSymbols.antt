@@ -1,6 +1,7 @@
 -- The symbols whose values an alternative gives.
 use Rattle.std.specs.Prelude.{ℕ, ◌+◌, List, [], ◌∷◌, ◌++◌, map, Option, Some, None, option_to_list}
-use Rattle.lalrpop_norm_tree.specs.Symbols.{ArgumentPattern, one_name, several, Part, Parts, Kind, chosen, named, tupled, at, no_parts, part_and, argument_pattern_view, symbol_view}
+use Rattle.lalrpop_norm_tree.specs.Symbols.{ArgumentPattern, one_name, several, Part, Parts, Kind, chosen, named, tupled, at}
+use Rattle.lalrpop_norm_tree.specs.Symbols.{no_parts, part_and, argument_pattern_view, symbol_view}
 use Rattle.lalrpop_norm_tree.specs.Items.{Action, action_view, AlternativeData}
 use Rattle.lalrpop_norm_util.specs.declared.norm_util.Symbols.{Symbols}
 use Rattle.lalrpop_norm_util.specs.declared.norm_util.Symbols.TheVariants.{Named, Anon}

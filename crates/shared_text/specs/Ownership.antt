@@ -36,7 +36,8 @@ module _ (A T : RattleType) where
 
   -- room for each of the three fields is room for a `Node`
   abbrev pub is_one_block : Ptr → Fml
-  is_one_block c = fwand (fsep (room_for (ty_int w64) (c +ₚ 0)) (fsep (room_for (raw (lone A.mir)) (c +ₚ allocator_begins)) (room_for (raw (lone T.mir)) (c +ₚ value_begins)))) (room_for node c)
+  is_one_block c =
+      fwand (fsep (room_for (ty_int w64) (c +ₚ 0)) (fsep (room_for (raw (lone A.mir)) (c +ₚ allocator_begins)) (room_for (raw (lone T.mir)) (c +ₚ value_begins)))) (room_for node c)
 
   module _ (may_free : A.Denot → Ty → Ptr → Fml) (c : Ptr) where
     -- the allocator h, and its right to free the block
