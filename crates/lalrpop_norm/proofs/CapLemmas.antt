@@ -1,6 +1,8 @@
 -- F36 in the list of faults.
 use Rattle.std.proofs.Common.{rules, ◌≡◌, ◌↔◌, ◌⊎◌, inl, inr, ℕ, zero, suc, ◌+◌, arith, Bool, true, false, List, [], ◌∷◌, ◌++◌, map, refl, sym, ap, subst, ◌∙◌}
 use Rattle.std.specs.Prelude.{◌||◌, flat_map}
+use Rattle.std.specs.List.{range_with_len}
+use Rattle.std.proofs.lemmas.List.{append_assoc}
 use Rattle.lalrpop_norm_parts.specs.declared.names.Span.{Span}
 use Rattle.lalrpop_norm_tree.specs.Symbols.{Part, group, ambiguous_id, terminal, nonterminal, call, repeated, chosen, named, tupled, lookahead, lookbehind, error_terminal, at}
 use Rattle.lalrpop_norm_tree.specs.SymbolTexts.{part_text}
@@ -21,7 +23,7 @@ use Rattle.lalrpop_norm_model.specs.MadeRules.{span_of, some_name_value}
 use Rattle.lalrpop_norm_model.specs.PlainRules.{expansion_round}
 use Rattle.lalrpop_norm_model.specs.PlainTables.{IsSettled, closed, flat_meaning, declared}
 use Rattle.lalrpop_norm_expand.specs.Expansion.{met_before, meetings, is_declared_name, has_other, shared_names, shared_in, unmade, unmade_in, past_cap, faults_from, expansion_faults}
-use Rattle.lalrpop_norm.specs.Laws.{CapIsExact}
+use Rattle.lalrpop_norm.specs.Laws.{CapIsExact, FaultsAreByRound}
 
 -- ---- no other fault has the number of the cap
 
@@ -107,6 +109,29 @@ module _ (value : ConditionValue) (g : GrammarData) where
   from_end k (suc left) t i =
       in_right (cap_at t) (shared_in value g k) (unmade_in value g k ++ faults_from value g (suc k) left)
       (in_right (cap_at t) (unmade_in value g k) (faults_from value g (suc k) left) (from_end (suc k) left t i))
+
+-- ---- round by round
+
+module _ (value : ConditionValue) (g : GrammarData) (limit : ℕ) where
+  abbrev of_round : ℕ → List Fault
+  of_round k = shared_in value g k ++ unmade_in value g k
+
+  abbrev past_limit : List Fault
+  past_limit = shared_in value g limit ++ past_cap (expansion_round value g limit).fresh
+
+  rounds_left : (k left : ℕ) → k + left ≡ limit → faults_from value g k left ≡ flat_map of_round (range_with_len k left) ++ past_limit
+  rounds_left k zero e = let last : k ≡ limit = omega (e, arith) in ap (λ n. shared_in value g n ++ past_cap (expansion_round value g n).fresh) last
+  rounds_left k (suc left) e =
+      let next : k + 1 ≡ suc k = omega arith in
+      let rest : faults_from value g (suc k) left ≡ flat_map of_round (range_with_len (k + 1) left) ++ past_limit =
+      subst (λ (m : ℕ). faults_from value g (suc k) left ≡ flat_map of_round (range_with_len m left) ++ past_limit) (sym next)
+      (rounds_left (suc k) left (omega (e, arith))) in
+      ap (λ fs. shared_in value g k ++ (unmade_in value g k ++ fs)) rest
+      ∙ sym (append_assoc (shared_in value g k) (unmade_in value g k) (flat_map of_round (range_with_len (k + 1) left) ++ past_limit))
+      ∙ sym (append_assoc (of_round k) (flat_map of_round (range_with_len (k + 1) left)) past_limit)
+
+pub faults_by_round : FaultsAreByRound
+faults_by_round value g limit = rounds_left value g limit 0 limit (omega arith)
 
 -- ---- where something is new
 

@@ -15,15 +15,13 @@ use Rattle.lalrpop_norm_model.specs.PlainTables.{IsSettled}
 use Rattle.lalrpop_norm_model.specs.TypeRelation.{IsRule}
 use Rattle.lalrpop_norm_model.specs.Expanded.{is_plain_terminal, terminals_converted, rule_names, IsExpanded, IsTyped}
 use Rattle.lalrpop_norm_model.specs.InferenceFaults.{inference_faults}
-use Rattle.lalrpop_norm_model.specs.LoweringFaults.{lowering_faults}
 use Rattle.lalrpop_norm_model.specs.Lexers.{Lexer}
 use Rattle.lalrpop_norm_model.specs.CheckedTokens.{IsChecked}
 use Rattle.lalrpop_norm_model.specs.Grammars.{is_nil}
 use Rattle.lalrpop_norm_model.specs.Renumbered.{prepared_grammar}
 use Rattle.lalrpop_norm_resolve.specs.NameFaults.{resolve_faults}
 use Rattle.lalrpop_norm_front.specs.GrammarFaults.{validate_faults}
-use Rattle.lalrpop_norm_expand.specs.Expansion.{expansion_faults}
-use Rattle.lalrpop_norm_expand.specs.Laws.{NamesStayDistinct}
+use Rattle.lalrpop_norm_expand.proofs.DistinctLemmas.{names_stay_distinct}
 use Rattle.lalrpop_norm_repr.specs.Closed.{IsClosed}
 use Rattle.lalrpop_norm_repr.specs.Lowered.{LoweredGrammar}
 use Rattle.lalrpop_norm_repr.specs.Tables.{TypeTable}
@@ -31,7 +29,8 @@ use Rattle.lalrpop_norm_late.specs.Lowering.{public_rules_in}
 use Rattle.lalrpop_norm_late.specs.Made.{types_by_name}
 use Rattle.lalrpop_norm_late.specs.Shape.{HasStartTypes, IsLoweringOf}
 use Rattle.lalrpop_norm.specs.Faithful.{HasGroundedTypes, IsInferred, IsFaithful, no_lexer, grammar_with_levels, grammar_of_plain_rules}
-use Rattle.lalrpop_norm.specs.Laws.{HasFlatMacros, HasOwnNames}
+use Rattle.lalrpop_norm.specs.Laws.{HasFlatMacros}
+use Rattle.lalrpop_norm.specs.PlainLaws.{PassesExpansion, PassesLowering}
 use Rattle.lalrpop_norm.specs.TakenGrammars.{IsTaken}
 use Rattle.lalrpop_norm.proofs.ExpandedScopes.{HasNoMacros}
 use Rattle.lalrpop_norm.proofs.ExpandedTokens.{HasOneEnum, resolved_tokens, leveled_tokens}
@@ -50,112 +49,133 @@ token_plain u none (Bare a) i = refl
 token_plain u none Error i = absurd (none i)
 
 module _ (fs : Features) (g : GrammarData) (taken : IsTaken fs g) (valid : validate_faults g ≡ []) where
-  abbrev h : GrammarData
-  h = grammar_with_levels fs g
+  -- the one extern enum, enabled
+  abbrev pub enum_of : EnumTokenData
+  enum_of = enabled_enum fs (written_enum fs g taken valid).0
 
-  abbrev u : EnumTokenData
-  u = enabled_enum fs (written_enum fs g taken valid).0
-
-  of_enabled : HasOneEnum u (enabled_grammar fs g)
+  of_enabled : HasOneEnum enum_of (enabled_grammar fs g)
   of_enabled = enabled_tokens fs g taken valid (written_enum fs g taken valid).0 (written_enum fs g taken valid).1
 
-  fit_before : AreFitRules (IsTokenOf u) (resolved_grammar (enabled_grammar fs g))
+  fit_before : AreFitRules (IsTokenOf enum_of) (resolved_grammar (enabled_grammar fs g))
   fit_before =
-      resolved_rules_fit u (enabled_grammar fs g) of_enabled
+      resolved_rules_fit enum_of (enabled_grammar fs g) of_enabled
       (enabled_fit fs g taken valid (written_enum fs g taken valid).0 (written_enum fs g taken valid).1)
 
-  fit : AreFitRules (IsTokenOf u) (grammar_with_levels fs g)
-  fit = leveled_rules_fit (IsTokenOf u) (resolved_grammar (enabled_grammar fs g)) fit_before
+  fit : AreFitRules (IsTokenOf enum_of) (grammar_with_levels fs g)
+  fit = leveled_rules_fit (IsTokenOf enum_of) (resolved_grammar (enabled_grammar fs g)) fit_before
 
   -- there are no macros, before levels are rules either
   pub no_macros_before : HasNoMacros (resolved_grammar (enabled_grammar fs g))
   no_macros_before r i = (fit_before r i).arguments
 
-  plain : (t : TerminalString) → IsTokenOf u t → is_plain_terminal t ≡ true
-  plain = token_plain u of_enabled.no_error
+  plain : (t : TerminalString) → IsTokenOf enum_of t → is_plain_terminal t ≡ true
+  plain = token_plain enum_of of_enabled.no_error
 
   -- so none of them has two levels
   flat : HasFlatMacros (prepared_grammar fs g)
   flat d i some l m a b =
       absurd (let none : is_nil d.args ≡ true = ap (λ (args : List NonterminalString). is_nil args) (no_macros_before d i) in cc (none, some))
 
-  module _ (resolved : resolve_faults (enabled_grammar fs g) ≡ []) (leveled : resolve_faults (grammar_with_levels fs g) ≡ []) where
-    settled : IsSettled (grammar_with_levels fs g)
-    settled = levels_settled fs g resolved flat leveled
+-- What the passes up to that on levels find out of a written grammar.
+pub record PassesLevels (fs : Features) (g : GrammarData) : Type 0 where
+  pub taken : IsTaken fs g
+  pub valid : validate_faults g ≡ []
+  pub resolved : resolve_faults (enabled_grammar fs g) ≡ []
+  pub leveled : resolve_faults (grammar_with_levels fs g) ≡ []
 
-    -- what the expansion needs
-    pub prepared : IsPrepared (IsTokenOf (enabled_enum fs (written_enum fs g taken valid).0)) (enabled_enum fs (written_enum fs g taken valid).0) (grammar_with_levels fs g)
-    prepared = record {
-      settled = settled;
-      no_macros = λ r i. (fit r i).arguments;
-      no_conditions = λ r i. (fit r i).conditions;
-      over = λ r i. (fit r i).over;
-      bare_types = λ r i. (fit r i).bare_type;
-      tokens = leveled_tokens u (resolved_grammar (enabled_grammar fs g)) (resolved_tokens u (enabled_grammar fs g) of_enabled);
-    }
+module _ (fs : Features) (g : GrammarData) (B : PassesLevels fs g) where
+  pub settled : IsSettled (grammar_with_levels fs g)
+  settled = levels_settled fs g B.resolved (flat fs g B.taken B.valid) B.leveled
 
-    module _ (limit : ℕ) (none : expansion_faults comparison (grammar_with_levels fs g) limit ≡ []) where
-      abbrev p : GrammarData
-      p = grammar_of_plain_rules fs g limit
+  -- what the expansion needs
+  pub prepared : IsPrepared (IsTokenOf (enum_of fs g B.taken B.valid)) (enum_of fs g B.taken B.valid) (grammar_with_levels fs g)
+  prepared =
+      let u : EnumTokenData = enum_of fs g B.taken B.valid in
+      let rules : AreFitRules (IsTokenOf u) (grammar_with_levels fs g) = fit fs g B.taken B.valid in record {
+        settled = settled;
+        no_macros = λ r i. (rules r i).arguments;
+        no_conditions = λ r i. (rules r i).conditions;
+        over = λ r i. (rules r i).over;
+        bare_types = λ r i. (rules r i).bare_type;
+        tokens = leveled_tokens u (resolved_grammar (enabled_grammar fs g)) (resolved_tokens u (enabled_grammar fs g) (of_enabled fs g B.taken B.valid));
+      }
 
-      whole : IsEnded comparison (grammar_with_levels fs g) limit
-      whole = expansion_whole comparison h limit none
+module _ (fs : Features) (g : GrammarData) (limit : ℕ) (E : PassesExpansion fs g limit) where
+  abbrev p : GrammarData
+  p = grammar_of_plain_rules fs g limit
 
-      of_plain : HasOneEnum u (grammar_of_plain_rules fs g limit)
-      of_plain = tokens (IsTokenOf u) plain u comparison h prepared limit whole
+  abbrev t : EnumTokenData
+  t = enum_of fs g E.taken E.valid
 
-      -- The grammar of plain rules is typed by a table in which each of its rules has a type.
-      pub plain_is_typed : (table : List ℕ → Option ReprData) → ((r : RuleData) → IsRule (grammar_of_plain_rules fs g limit) r → IsSome (table r.name.0)) →
-          IsTyped fs (grammar_of_plain_rules fs g limit) table
-      plain_is_typed table some =
-          typed_by fs u p table (enabled_active fs (written_enum fs g taken valid).0) of_plain
-          (distinct_tokens fs g taken valid (written_enum fs g taken valid).0 (written_enum fs g taken valid).1)
-          (plain_terminals (IsTokenOf u) plain u comparison h prepared limit whole) some
+  abbrev pub before_expansion : PassesLevels fs g
+  before_expansion = record { taken = E.taken; valid = E.valid; resolved = E.resolved; leveled = E.leveled }
 
-      -- its tokens stay as they are
-      pub plain_is_checked : {R : Type 0} (lexer : Lexer R) → IsChecked lexer (grammar_of_plain_rules fs g limit) (grammar_of_plain_rules fs g limit)
-      plain_is_checked lexer = enum_checked lexer u p of_plain
+  ready : IsPrepared (IsTokenOf (enum_of fs g E.taken E.valid)) (enum_of fs g E.taken E.valid) (grammar_with_levels fs g)
+  ready = prepared fs g before_expansion
 
-      module _ (stay : NamesStayDistinct) where
-        pub distinct_plain : IsDistinct (rule_names (grammar_of_plain_rules fs g limit))
-        distinct_plain = stay comparison h limit none settled.once
+  are_plain : (a : TerminalString) → IsTokenOf (enum_of fs g E.taken E.valid) a → is_plain_terminal a ≡ true
+  are_plain = plain fs g E.taken E.valid
 
-        -- it is expanded
-        pub plain_is_expanded : IsExpanded (grammar_of_plain_rules fs g limit)
-        plain_is_expanded = plain_expanded (IsTokenOf u) plain u comparison h prepared limit whole distinct_plain
+  whole : IsEnded comparison (grammar_with_levels fs g) limit
+  whole = expansion_whole comparison (grammar_with_levels fs g) limit E.expanded
 
-        module _ (typable : inference_faults (grammar_of_plain_rules fs g limit) ≡ []) (table : TypeTable)
-            (inferred : IsInferred (grammar_of_plain_rules fs g limit) table) where
-          -- each rule has a type in the table of inference
-          pub inferred_total : (r : RuleData) → IsRule (grammar_of_plain_rules fs g limit) r → IsSome (types_by_name table r.name.0)
-          inferred_total = rule_typed p table inferred distinct_plain typable
+  of_plain : HasOneEnum t (grammar_of_plain_rules fs g limit)
+  of_plain = tokens (IsTokenOf t) are_plain t comparison (grammar_with_levels fs g) ready limit whole
 
-          module _ (lowerable : lowering_faults (grammar_of_plain_rules fs g limit) (types_by_name table) ≡ []) where
-            -- the start names are no rules' names
-            pub starts_free : (r : RuleData) → In r (public_rules_in (all_rules (grammar_of_plain_rules fs g limit))) →
-                In ((grammar_of_plain_rules fs g limit).prefix ++ r.name.0) (rule_names (grammar_of_plain_rules fs g limit)) → ⊥
-            starts_free = start_is_free p table inferred distinct_plain typable lowerable
+  -- The grammar of plain rules is typed by a table in which each of its rules has a type.
+  pub plain_is_typed : (table : List ℕ → Option ReprData) → ((r : RuleData) → IsRule (grammar_of_plain_rules fs g limit) r → IsSome (table r.name.0)) →
+      IsTyped fs (grammar_of_plain_rules fs g limit) table
+  plain_is_typed table some =
+      typed_by fs t p table (enabled_active fs (written_enum fs g E.taken E.valid).0) of_plain
+      (distinct_tokens fs g E.taken E.valid (written_enum fs g E.taken E.valid).0 (written_enum fs g E.taken E.valid).1)
+      (plain_terminals (IsTokenOf t) are_plain t comparison (grammar_with_levels fs g) ready limit whole) some
 
-            -- each nonterminal has its only grounded type
-            pub grounded : (types : TypeTable) →
-                HasStartTypes (grammar_of_plain_rules fs g limit).prefix (all_rules (grammar_of_plain_rules fs g limit)) table types →
-                HasGroundedTypes (grammar_of_plain_rules fs g limit) types
-            grounded = types_are_grounded p table inferred distinct_plain typable lowerable
+  -- its tokens stay as they are
+  pub plain_is_checked : {R : Type 0} (lexer : Lexer R) → IsChecked lexer (grammar_of_plain_rules fs g limit) (grammar_of_plain_rules fs g limit)
+  plain_is_checked lexer = enum_checked lexer t p of_plain
 
-            own_names : HasOwnNames (grammar_of_plain_rules fs g limit)
-            own_names = record { once = distinct_plain; starts = starts_free }
+  pub distinct_plain : IsDistinct (rule_names (grammar_of_plain_rules fs g limit))
+  distinct_plain = names_stay_distinct comparison (grammar_with_levels fs g) limit E.expanded (settled fs g before_expansion).once
 
-            -- What is lowered from the plain rules is faithful.
-            pub lowered_faithful : (l : LoweredGrammar) →
-                IsLoweringOf (grammar_of_plain_rules fs g limit) (all_rules (grammar_of_plain_rules fs g limit)) table l → IsClosed l → IsFaithful no_lexer fs g l
-            lowered_faithful l shape closed = record {
-              rounds = limit;
-              trees = lowered_trees_faithful fs g resolved flat leveled limit whole own_names p (checked_entered no_lexer p p (plain_is_checked no_lexer)) table l shape;
-              plain = p;
-              tokens = plain_is_checked no_lexer;
-              types = grounded l.types shape.types;
-              table = table;
-              inferred = inferred;
-              shape = shape;
-              closed = closed;
-            }
+  -- it is expanded
+  pub plain_is_expanded : IsExpanded (grammar_of_plain_rules fs g limit)
+  plain_is_expanded = plain_expanded (IsTokenOf t) are_plain t comparison (grammar_with_levels fs g) ready limit whole distinct_plain
+
+  -- each rule has a type in the table of inference
+  pub inferred_total : (table : TypeTable) → inference_faults (grammar_of_plain_rules fs g limit) ≡ [] → IsInferred (grammar_of_plain_rules fs g limit) table →
+      (r : RuleData) → IsRule (grammar_of_plain_rules fs g limit) r → IsSome (types_by_name table r.name.0)
+  inferred_total table typable inferred = rule_typed p table inferred distinct_plain typable
+
+module _ (fs : Features) (g : GrammarData) (limit : ℕ) (table : TypeTable) (W : PassesLowering fs g limit table) where
+  abbrev low : GrammarData
+  low = grammar_of_plain_rules fs g limit
+
+  -- the start names are no rules' names
+  pub starts_free : (r : RuleData) → In r (public_rules_in (all_rules (grammar_of_plain_rules fs g limit))) →
+      In ((grammar_of_plain_rules fs g limit).prefix ++ r.name.0) (rule_names (grammar_of_plain_rules fs g limit)) → ⊥
+  starts_free = start_is_free low table W.inferred (distinct_plain fs g limit W.before) W.typable W.lowerable
+
+  -- each nonterminal has its only grounded type
+  pub grounded : (types : TypeTable) →
+      HasStartTypes (grammar_of_plain_rules fs g limit).prefix (all_rules (grammar_of_plain_rules fs g limit)) table types →
+      HasGroundedTypes (grammar_of_plain_rules fs g limit) types
+  grounded = types_are_grounded low table W.inferred (distinct_plain fs g limit W.before) W.typable W.lowerable
+
+  -- What is lowered from the plain rules is faithful.
+  pub lowered_faithful : (l : LoweredGrammar) →
+      IsLoweringOf (grammar_of_plain_rules fs g limit) (all_rules (grammar_of_plain_rules fs g limit)) table l → IsClosed l → IsFaithful no_lexer fs g l
+  lowered_faithful l shape closed =
+      let E : PassesExpansion fs g limit = W.before in record {
+        rounds = limit;
+        trees =
+            lowered_trees_faithful fs g E.resolved (flat fs g E.taken E.valid) E.leveled limit (whole fs g limit E)
+            (record { once = distinct_plain fs g limit E; starts = starts_free }) low
+            (checked_entered no_lexer low low (plain_is_checked fs g limit E no_lexer)) table l shape;
+        plain = low;
+        tokens = plain_is_checked fs g limit E no_lexer;
+        types = grounded l.types shape.types;
+        table = table;
+        inferred = W.inferred;
+        shape = shape;
+        closed = closed;
+      }

@@ -25,6 +25,9 @@ pub mod TreesRounds
 pub mod TreesLeveled
 pub mod TreesWritten
 pub mod TreesPublic
+pub mod RealizedRules
+pub mod TwoSteps
+pub mod PlainTrees
 pub mod TreesFaithful
 pub mod TreesMacros
 pub mod TreesStarts

@@ -22,7 +22,7 @@ use Rattle.lalrpop_norm_model.specs.InferenceFaults.{inference_faults, inferred_
 use Rattle.lalrpop_norm_model.specs.LevelRules.{level_rule, level_items, leveled_grammar}
 use Rattle.lalrpop_norm_model.specs.Levels.{Leveled, has_levels, with_levels, levels_of, previous_level}
 use Rattle.lalrpop_norm_model.specs.LoweringFaults.{lowering_faults}
-use Rattle.lalrpop_norm_model.specs.PlainRules.{rule_of_item, all_rules}
+use Rattle.lalrpop_norm_model.specs.PlainRules.{rule_of_item, all_rules, plain_grammar}
 use Rattle.lalrpop_norm_model.specs.Scopes.{Global, globals, resolved_grammar}
 use Rattle.lalrpop_norm_model.proofs.InferenceLemmas.{both_empty, inferred_types}
 use Rattle.lalrpop_norm_model.proofs.TypableLemmas.{typable_exactly}
@@ -31,7 +31,6 @@ use Rattle.lalrpop_norm_precedence.specs.LevelFaults.{grammar_level_faults}
 use Rattle.lalrpop_norm_front.specs.GrammarFaults.{validate_faults}
 use Rattle.lalrpop_norm_precedence.specs.PrecedenceFaults.{unstepped_rule, step_faults, level_rule_faults, level_items_faults, leveled_faults, precedence_faults}
 use Rattle.lalrpop_norm_expand.specs.Expansion.{expansion_faults, later_macro_faults}
-use Rattle.lalrpop_norm_expand.proofs.DistinctLemmas.{names_stay_distinct}
 use Rattle.lalrpop_norm_tyinfer.specs.Inferred.{IsInferred}
 use Rattle.lalrpop_norm_late.specs.Active.{active_item, active_grammar}
 use Rattle.lalrpop_norm_late.specs.Made.{types_by_name}
@@ -120,7 +119,7 @@ module _ (fs : Features) (g : GrammarData) (taken : IsTaken fs g) (valid : valid
   no_macro_faults : later_macro_faults (grammar_with_levels fs g) ≡ []
   no_macro_faults =
       ap (map (λ (r : RuleData). (NotYet, r.span)))
-      (no_macros_of (grammar_with_levels fs g) (prepared fs g taken valid resolved leveled).no_macros)
+      (no_macros_of (grammar_with_levels fs g) (prepared fs g (record { taken = taken; valid = valid; resolved = resolved; leveled = leveled })).no_macros)
 
   -- what is refused in the expansion is what the passes refuse
   pub expansion_exit : {T : Type 0} (limit : ℕ) (r : Result T NormFailure) (e : NormFailure) (h : GrammarData) → h ≡ grammar_with_levels fs g →
@@ -133,47 +132,85 @@ module _ (fs : Features) (g : GrammarData) (taken : IsTaken fs g) (valid : valid
       exit_at r e here late (pass_faults fs limit g) is (subst (λ ms. IsFirst (ms ++ here) e) no_macro_faults told)
       (ap (λ vs. vs ++ (precedence_faults (enabled_grammar fs g) ++ (here ++ late))) valid ∙ ap (λ ns. ns ++ (here ++ late)) names)
 
-  module _ (limit : ℕ) (whole : later_macro_faults (grammar_with_levels fs g) ++ expansion_faults comparison (grammar_with_levels fs g) limit ≡ []) where
-    expanded : expansion_faults comparison (grammar_with_levels fs g) limit ≡ []
-    expanded = (both_empty (later_macro_faults (grammar_with_levels fs g)) _ whole).1
+-- The passes up to the expansion find nothing wrong, each asked by itself.
+pub record HasExpanded (fs : Features) (g : GrammarData) (limit : ℕ) : Type 0 where
+  pub taken : IsTaken fs g
+  pub valid : validate_faults g ≡ []
+  pub names : precedence_faults (enabled_grammar fs g) ≡ []
+  pub whole : later_macro_faults (grammar_with_levels fs g) ++ expansion_faults comparison (grammar_with_levels fs g) limit ≡ []
 
-    passes : PassesExpansion fs g limit
-    passes = record { taken = taken; valid = valid; resolved = resolved; leveled = leveled; expanded = expanded }
+module _ (fs : Features) (g : GrammarData) (limit : ℕ) (H : HasExpanded fs g limit) where
+  abbrev p : GrammarData
+  p = grammar_of_plain_rules fs g limit
 
-    abbrev p : GrammarData
-    p = grammar_of_plain_rules fs g limit
+  expanded : expansion_faults comparison (grammar_with_levels fs g) limit ≡ []
+  expanded = (both_empty (later_macro_faults (grammar_with_levels fs g)) _ H.whole).1
 
-    -- what inference and lowering ask
-    pub is_expanded : IsExpanded (grammar_of_plain_rules fs g limit)
-    is_expanded = plain_is_expanded fs g taken valid resolved leveled limit expanded names_stay_distinct
+  passes : PassesExpansion fs g limit
+  passes = record {
+    taken = H.taken;
+    valid = H.valid;
+    resolved = resolved fs g H.taken H.valid H.names;
+    leveled = leveled fs g H.taken H.valid H.names;
+    expanded = expanded;
+  }
 
-    pub is_typed : IsTypedByInference fs (grammar_of_plain_rules fs g limit)
-    is_typed types none inferred =
-        plain_is_typed fs g taken valid resolved leveled limit expanded (types_by_name types)
-        (inferred_total fs g taken valid resolved leveled limit expanded names_stay_distinct none types inferred)
+  -- what inference and lowering ask
+  pub is_expanded : IsExpanded (grammar_of_plain_rules fs g limit)
+  is_expanded = plain_is_expanded fs g limit passes
 
-    -- what is refused after the expansion is what the passes refuse
-    pub late_exit : {T : Type 0} (r : Result T NormFailure) → Refuses r (late_faults (grammar_of_plain_rules fs g limit)) → Refuses r (pass_faults fs limit g)
-    late_exit r h =
-        let here = expansion_faults comparison (grammar_with_levels fs g) limit in
-        let late = late_faults p in
-        subst (Refuses r)
-        (sym (ap (λ vs. vs ++ (precedence_faults (enabled_grammar fs g) ++ (here ++ late))) valid ∙ ap (λ ns. ns ++ (here ++ late)) names ∙ ap (λ es. es ++ late) expanded))
-        h
+  pub is_typed : IsTypedByInference fs (grammar_of_plain_rules fs g limit)
+  is_typed types none inferred = plain_is_typed fs g limit passes (types_by_name types) (inferred_total fs g limit passes types none inferred)
 
-    all_active : active_grammar fs p ≡ p
-    all_active =
-        ap (λ (is : List ItemData). record p { items = is })
-        (items_kept (active_item fs) (λ m. refl) (λ t. refl) (λ r. refl) (λ u. refl) p.items (λ t i. ap extern_item (plain_active fs g limit t i)))
+  -- what is refused after the expansion is what the passes refuse
+  pub late_exit : {T : Type 0} (r : Result T NormFailure) → Refuses r (late_faults (grammar_of_plain_rules fs g limit)) → Refuses r (pass_faults fs limit g)
+  late_exit r h =
+      let here = expansion_faults comparison (grammar_with_levels fs g) limit in
+      let late = late_faults p in
+      subst (Refuses r)
+      (sym (ap (λ vs. vs ++ (precedence_faults (enabled_grammar fs g) ++ (here ++ late))) H.valid ∙ ap (λ ns. ns ++ (here ++ late)) H.names ∙ ap (λ es. es ++ late) expanded))
+      h
 
-    -- what is lowered from the plain rules has passed
-    pub passed : (l : LoweredGrammar) → IsTypedLowering fs (grammar_of_plain_rules fs g limit) l → IsPassed fs limit g l
-    passed l h = record {
-      types = h.types;
-      passes = record { before = passes; typable = h.typable; inferred = h.inferred; lowerable = h.lowerable };
-      shape = subst (λ (x : GrammarData). IsLoweringOf x (all_rules p) h.types l) all_active h.shape;
-      closed = h.closed;
-    }
+  all_active : active_grammar fs p ≡ p
+  all_active =
+      ap (λ (is : List ItemData). record p { items = is })
+      (items_kept (active_item fs) (λ m. refl) (λ t. refl) (λ r. refl) (λ u. refl) p.items (λ t i. ap extern_item (plain_active fs g limit t i)))
+
+  -- what is lowered from the plain rules has passed
+  pub passed : (l : LoweredGrammar) → IsTypedLowering fs (grammar_of_plain_rules fs g limit) l → IsPassed fs limit g l
+  passed l h = record {
+    types = h.types;
+    passes = record { before = passes; typable = h.typable; inferred = h.inferred; lowerable = h.lowerable };
+    shape = subst (λ (x : GrammarData). IsLoweringOf x (all_rules p) h.types l) all_active h.shape;
+    closed = h.closed;
+  }
+
+-- ---- what the passes answer, one after another
+
+-- the pass on levels answers the grammar with levels
+pub levels_answer : (fs : Features) (g enabled stepped : GrammarData) → enabled ≡ enabled_grammar fs g →
+    (precedence_faults enabled ≡ []) × (stepped ≡ leveled_grammar (resolved_grammar enabled)) →
+    (precedence_faults (enabled_grammar fs g) ≡ []) × (stepped ≡ grammar_with_levels fs g)
+levels_answer fs g enabled stepped same (none, is) = (
+  subst (λ (x : GrammarData). precedence_faults x ≡ []) same none,
+  is ∙ ap (λ (x : GrammarData). leveled_grammar (resolved_grammar x)) same,
+)
+
+-- the expansion answers the grammar of plain rules
+pub expansion_answers : (fs : Features) (g enabled stepped plain : GrammarData) (limit : ℕ) → IsTaken fs g → validate_faults g ≡ [] →
+    enabled ≡ enabled_grammar fs g → (precedence_faults enabled ≡ []) × (stepped ≡ leveled_grammar (resolved_grammar enabled)) →
+    later_macro_faults stepped ++ expansion_faults comparison stepped limit ≡ [] → plain ≡ plain_grammar comparison stepped limit →
+    HasExpanded fs g limit × (plain ≡ grammar_of_plain_rules fs g limit)
+expansion_answers fs g enabled stepped plain limit taken valid same levels all is =
+    let (none, here) = levels_answer fs g enabled stepped same levels in (
+      record {
+        taken = taken;
+        valid = valid;
+        names = none;
+        whole = subst (λ (x : GrammarData). later_macro_faults x ++ expansion_faults comparison x limit ≡ []) here all;
+      },
+      is ∙ ap (λ (x : GrammarData). plain_grammar comparison x limit) here,
+    )
 
 -- a fault of names or levels is what the passes refuse
 pub names_exit : {T : Type 0} (fs : Features) (limit : ℕ) (g h : GrammarData) → validate_faults g ≡ [] → h ≡ enabled_grammar fs g → (r : Result T NormFailure) (e : NormFailure) →
@@ -187,6 +224,4 @@ names_exit fs limit g h valid same r e first is =
 -- ---- the whole
 
 pub passed_faithful : (fs : Features) (limit : ℕ) (g : GrammarData) (l : LoweredGrammar) → IsPassed fs limit g l → IsFaithful no_lexer fs g l
-passed_faithful fs limit g l h =
-    let b = h.passes.before in
-    lowered_faithful fs g b.taken b.valid b.resolved b.leveled limit b.expanded names_stay_distinct h.passes.typable h.types h.passes.inferred h.passes.lowerable l h.shape h.closed
+passed_faithful fs limit g l h = lowered_faithful fs g limit h.types h.passes l h.shape h.closed

@@ -3,18 +3,17 @@ use Rattle.std.proofs.Common.{append-nil, ◌≡◌, inl, inr, ℕ, List, [], �
 use Rattle.std.specs.Prelude.{flat_map, Option, Some, None}
 use Rattle.std.proofs.lemmas.Grind.{flat_map-append}
 use Rattle.lalrpop_norm_tree.specs.Items.{RuleData, EnumTokenData, GrammarData, intern_item}
-use Rattle.lalrpop_norm_theory.specs.Symbols.{Name, ClosedSymbol, terminal, error, reference, wrapped}
+use Rattle.lalrpop_norm_theory.specs.Symbols.{Name, ClosedSymbol}
 use Rattle.lalrpop_norm_theory.specs.Meaning.{Meaning}
 use Rattle.lalrpop_norm_theory.specs.LoweredTrees as theory
 use Rattle.lalrpop_norm_theory.specs.LoweredTrees.{nonterminal_symbol, from_start}
-use Rattle.lalrpop_norm_theory.specs.Clauses.{IsNonterminal, symbol_of}
-use Rattle.lalrpop_norm_theory.specs.Rounds.{In, IsDistinct}
+use Rattle.lalrpop_norm_theory.specs.Clauses.{IsNonterminal, clause_production, clauses, symbol_of}
+use Rattle.lalrpop_norm_theory.specs.LoweredTrees.{ProductionTable}
 use Rattle.lalrpop_norm_theory.specs.Met.{expanded_symbols, IsKnown}
-use Rattle.lalrpop_norm_theory.specs.Tables.{Realizes, Stands, table, rule_of_symbol}
-use Rattle.lalrpop_norm_theory.specs.Laws.{OneToOne}
-use Rattle.lalrpop_norm_theory.proofs.RoundsLemmas.{in_left, in_right, in_cases}
-use Rattle.lalrpop_norm_theory.proofs.TableLemmas.{rules_realize}
-use Rattle.lalrpop_norm_theory.proofs.Trees.{trees_one_to_one}
+use Rattle.lalrpop_norm_theory.specs.Tables.{table}
+use Rattle.lalrpop_norm_theory.specs.Rounds.{In}
+use Rattle.lalrpop_norm_theory.specs.Laws.{OneToOne, PairsInTwoSteps}
+use Rattle.lalrpop_norm_theory.proofs.RoundsLemmas.{in_cases}
 use Rattle.lalrpop_norm_conditions.specs.Conditions.{comparison}
 use Rattle.lalrpop_norm_resolve.specs.NameFaults.{resolve_faults}
 use Rattle.lalrpop_norm_resolve.proofs.ResolvedFaults.{faults_gone}
@@ -24,33 +23,33 @@ use Rattle.lalrpop_norm_late.specs.Lowering.{public_rules_in, start_name}
 use Rattle.lalrpop_norm_late.specs.Shape.{IsLoweringOf}
 use Rattle.lalrpop_norm_model.specs.Features.{Features}
 use Rattle.lalrpop_norm_model.specs.Enabled.{enabled_grammar}
-use Rattle.lalrpop_norm_model.specs.WrittenRules.{WrittenRule, written_rules}
+use Rattle.lalrpop_norm_model.specs.WrittenRules.{WrittenRule, written_rules, leveled_rules, flat_rules}
 use Rattle.lalrpop_norm_model.specs.Grammars.{ConditionValue, meaning, references, roots}
-use Rattle.lalrpop_norm_model.specs.ClosedTexts.{text_in}
+use Rattle.lalrpop_norm_model.specs.ClosedTexts.{level_names, text_in}
 use Rattle.lalrpop_norm_model.specs.LevelRules.{leveled_grammar}
 use Rattle.lalrpop_norm_model.specs.PlainRules.{rule_of_item, all_rules, plain_grammar, plain_rules, IsEnded}
 use Rattle.lalrpop_norm_model.specs.Origins.{plain_symbols, plain_origins, action_origins}
-use Rattle.lalrpop_norm_model.specs.PlainTables.{IsSettled, rules_from}
-use Rattle.lalrpop_norm_model.specs.LevelNames.{HasLevelNames}
+use Rattle.lalrpop_norm_model.specs.PlainTables.{IsSettled, flat_meaning, declared, rules_from}
+use Rattle.lalrpop_norm_model.specs.LevelNames.{HasLevelNames, level_origin}
 use Rattle.lalrpop_norm_model.specs.Renumbered.{prepared_grammar}
-use Rattle.lalrpop_norm_model.specs.Expanded.{rule_names}
 use Rattle.lalrpop_norm_model.specs.TerminalTypes.{extern_enum}
 use Rattle.lalrpop_norm_model.specs.CheckedTokens.{IsEnteredWith, IsEntered, IsCheckedWith, IsChecked}
 use Rattle.lalrpop_norm_model.specs.Lexers.{Lexer}
 use Rattle.lalrpop_norm_model.proofs.ResolvedLemmas.{resolved_once}
-use Rattle.lalrpop_norm_model.proofs.LevelLemmas.{in_map, of_map}
-use Rattle.lalrpop_norm_model.proofs.MeaningLemmas.{meaning_has_counts, meaning_has_levels}
-use Rattle.lalrpop_norm_model.proofs.PlainReadLemmas.{rules_read, origins_counted}
+use Rattle.lalrpop_norm_model.proofs.PlainReadLemmas.{origins_counted, plain_rules_are_read}
+use Rattle.lalrpop_norm_model.proofs.RenumberedTrees.{trees_only_renumber}
 use Rattle.lalrpop_norm_model.proofs.FaithfulLemmas.{plain_grammars_hold_plain_rules}
 use Rattle.lalrpop_norm.specs.Derivations.{derivations}
 use Rattle.lalrpop_norm.specs.Faithful.{HasStart, grammar_of_plain_rules, lowered_name, start_of, traced_derivations, written_meaning}
-use Rattle.lalrpop_norm.specs.Laws.{HasFlatMacros, LoweredTreesAreFaithful}
+use Rattle.lalrpop_norm.specs.Laws.{HasFlatMacros, HasOwnNames, LoweredTreesAreFaithful}
 use Rattle.lalrpop_norm.proofs.ScopedLemmas.{names_once, leveled_scoped, settled, levels_resolved}
 use Rattle.lalrpop_norm.proofs.ShapeTrees.{AreFree}
 use Rattle.lalrpop_norm.proofs.PlainShape.{distinct_listed, free_listed, shape_derivations}
 use Rattle.lalrpop_norm.proofs.StartProductions.{start_listed, start_production, start_derivations, start_written}
 use Rattle.lalrpop_norm.proofs.TreesPublic.{public_rule}
-use Rattle.lalrpop_norm.proofs.TreesWritten.{root_of, reference_of, written_whole, written_fit, written_names, written_stands}
+use Rattle.lalrpop_norm.proofs.PlainTrees.{has_rules, held_trees}
+use Rattle.lalrpop_norm.proofs.TwoSteps.{paired_in_steps, written_ranked}
+use Rattle.lalrpop_norm.proofs.TreesWritten.{root_of, reference_of, text_written, written_whole, written_fit}
 
 -- the symbol of a rule is the nonterminal of its text
 pub rule_symbol : (rs : List WrittenRule) (s : ClosedSymbol) → In s (roots rs ++ references rs) → symbol_of (text_in rs) s ≡ nonterminal_symbol (text_in rs s)
@@ -78,128 +77,94 @@ checked_entered lexer g h = by (extern_enum g)
     by (Some e) same = same
     by None (t, entries, automaton) = (t, entries)
 
-module _ (value : ConditionValue) (fs : Features) (g : GrammarData) (N : HasLevelNames (prepared_grammar fs g))
-    (S : IsSettled (leveled_grammar (prepared_grammar fs g))) (n : ℕ) (whole : IsEnded value (leveled_grammar (prepared_grammar fs g)) n)
-    (D : IsDistinct (rule_names (plain_grammar value (leveled_grammar (prepared_grammar fs g)) n))) where
+-- ---- what the plain rules are lowered to
+
+-- A grammar whose plain rules so many rounds make, with its tokens, and what it is lowered to.
+pub record IsLowered (value : ConditionValue) (fs : Features) (g : GrammarData) (n : ℕ) (checked : GrammarData) (types : TypeTable) (l : LoweredGrammar) : Type 0 where
+  pub levels : HasLevelNames (prepared_grammar fs g)
+  pub settled : IsSettled (leveled_grammar (prepared_grammar fs g))
+  pub whole : IsEnded value (leveled_grammar (prepared_grammar fs g)) n
+  pub names : HasOwnNames (plain_grammar value (leveled_grammar (prepared_grammar fs g)) n)
+  pub entered : IsEntered (plain_grammar value (leveled_grammar (prepared_grammar fs g)) n) checked
+  pub shape : IsLoweringOf checked (all_rules checked) types l
+
+module _ {value : ConditionValue} {fs : Features} {g : GrammarData} {n : ℕ} {checked : GrammarData} {types : TypeTable} {l : LoweredGrammar}
+    (W : IsLowered value fs g n checked types l) where
   abbrev ws : List WrittenRule
   ws = written_rules fs g
 
   abbrev M : Meaning
   M = meaning value (written_rules fs g)
 
+  abbrev h : GrammarData
+  h = leveled_grammar (prepared_grammar fs g)
+
   abbrev plain : GrammarData
   plain = plain_grammar value (leveled_grammar (prepared_grammar fs g)) n
 
-  abbrev met : List ClosedSymbol
-  met = expanded_symbols M (references ws) n
-
   abbrev name : ClosedSymbol → Name
-  name = text_in ws
+  name = text_in (written_rules fs g)
 
-  stands : Stands M name (roots ws) (references ws) met
-  stands = written_stands value fs g N S n whole D
+  counted : length (plain_origins M (references ws) n) ≡ length (flat_map (λ (r : RuleData). r.alternatives) (all_rules plain))
+  counted =
+      origins_counted M name (plain_rules value (leveled_grammar (prepared_grammar fs g)) n) (plain_symbols M (references ws) n) (written_fit value fs g W.levels W.settled n)
+      ∙ ap (λ (rs : List RuleData). length (flat_map (λ (r : RuleData). r.alternatives) rs))
+      (sym (plain_grammars_hold_plain_rules value (leveled_grammar (prepared_grammar fs g)) n))
 
-  -- ---- each known symbol has a plain rule
+  shaped : IsLoweringOf checked (all_rules plain) types l
+  shaped = subst (λ (rs : List RuleData). IsLoweringOf checked rs types l) (entered_same plain checked W.entered).0 W.shape
 
-  abbrev HasRule : ClosedSymbol → Type 0
-  HasRule s = (r : RuleData) × In r (all_rules plain) × (r.name.0 ≡ name s)
+  free_names : AreFree checked.prefix (all_rules plain) (public_rules_in (all_rules plain))
+  free_names =
+      subst (λ (prefix : Name). AreFree prefix (all_rules plain) (public_rules_in (all_rules plain))) (sym (entered_same plain checked W.entered).1)
+      (free_listed plain.prefix (all_rules plain) (public_rules_in (all_rules plain)) W.names.starts)
 
-  symbol_rule : (s : ClosedSymbol) → In s (plain_symbols M (references ws) n) → HasRule s
-  symbol_rule s i =
-      let (r, j, e) = of_map (λ (r : RuleData). r.name.0) (name s) (all_rules plain)
-      (subst (λ (ns : List Name). In (name s) ns) (sym (written_names value fs g N S n)) (in_map name s (plain_symbols M (references ws) n) i)) in
-      (r, j, sym e)
+  abbrev P : ProductionTable
+  P = derivations (action_origins (length (public_rules_in (all_rules plain))) M (references ws) n) l
 
-  reference_rule : (s : ClosedSymbol) → In s (roots ws ++ references ws) → HasRule s
-  reference_rule s i = elim (in_cases s (roots ws) (references ws) i) [
-    | inl j ↦ (let (h, k, same, alike) = stands.shared s j in
-        let (r, p, e) = symbol_rule h (in_left h (references ws) met k) in (r, p, e ∙ sym same))
-    | inr j ↦ symbol_rule s (in_left s (references ws) met j)
-  ]
+  -- the lowered grammar has the plain rules
+  holds_rules : (r : RuleData) → In r (all_rules plain) → P r.name.0 ≡ table (rules_from (plain_origins M (references ws) n) (all_rules plain)) r.name.0
+  holds_rules =
+      shape_derivations checked (all_rules plain) types l shaped (distinct_listed (all_rules plain) W.names.once) free_names
+      (plain_origins M (references ws) n) counted
 
-  known_rule : (s : ClosedSymbol) → IsNonterminal s → IsKnown (roots ws ++ references ws) met s → HasRule s
-  known_rule (terminal a) h k = absurd h
-  known_rule error h k = absurd h
-  known_rule (wrapped w s) h k = absurd h
-  known_rule (reference m b) h k = reference_rule (reference m b) k
-  known_rule s h k = symbol_rule s (in_right s (references ws) met k)
+  pub lowered_productions : (s : ClosedSymbol) → IsNonterminal s → IsKnown (roots ws ++ references ws) (expanded_symbols M (references ws) n) s →
+      P (name s) ≡ map (clause_production name) (clauses M s)
+  lowered_productions = (has_rules value fs g W.levels W.settled n W.whole W.names.once P holds_rules).productions
 
-  -- ---- a lowered grammar that has the plain rules
+  pub lowered_trees : (s : ClosedSymbol) → In s (roots ws ++ references ws) → OneToOne M name P s
+  lowered_trees = held_trees value fs g W.levels W.settled n W.whole W.names.once P holds_rules
 
-  module _ (P : theory.ProductionTable)
-      (held : (r : RuleData) → In r (all_rules plain) → P r.name.0 ≡ table (rules_from (plain_origins M (references ws) n) (all_rules plain)) r.name.0) where
-    rules_same : rules_from (plain_origins M (references ws) n) (all_rules plain) ≡ map (rule_of_symbol M name) (plain_symbols M (references ws) n)
-    rules_same =
-        ap (rules_from (plain_origins M (references ws) n)) (plain_grammars_hold_plain_rules value (leveled_grammar (prepared_grammar fs g)) n)
-        ∙ rules_read M name (plain_rules value (leveled_grammar (prepared_grammar fs g)) n) (plain_symbols M (references ws) n) (written_fit value fs g N S n)
+  -- through the trees of the grammar with levels
+  pub lowered_in_steps : (s : ClosedSymbol) → In s (references ws) →
+      PairsInTwoSteps (meaning value (leveled_rules (prepared_grammar fs g))) (flat_meaning value (leveled_grammar (prepared_grammar fs g)))
+      (level_names (leveled_rules (prepared_grammar fs g))) (level_origin value (prepared_grammar fs g))
+      (text_in (flat_rules (leveled_grammar (prepared_grammar fs g))))
+      (derivations (action_origins (length (public_rules_in (all_rules plain))) (flat_meaning value (leveled_grammar (prepared_grammar fs g)))
+      (declared (leveled_grammar (prepared_grammar fs g))) n) l)
+      s
+  lowered_in_steps =
+      paired_in_steps value fs g W.levels W.settled n W.whole W.names.once
+      (derivations (action_origins (length (public_rules_in (all_rules plain))) (flat_meaning value h) (declared h) n) l)
+      (shape_derivations checked (all_rules plain) types l shaped (distinct_listed (all_rules plain) W.names.once) free_names
+      (plain_origins (flat_meaning value h) (declared h) n)
+      ((plain_rules_are_read value h W.settled n).0
+      ∙ ap (λ (rs : List RuleData). length (flat_map (λ (r : RuleData). r.alternatives) rs)) (sym (plain_grammars_hold_plain_rules value h n))))
 
-    realized : Realizes M name (table (map (rule_of_symbol M name) (references ws ++ met))) (IsKnown (roots ws ++ references ws) met)
-    realized = rules_realize M name (roots ws) (references ws) met stands
+  -- the table of start symbols lists that of a public rule
+  pub lowered_listed : (r : RuleData) → In r (public_rules_in (all_rules plain)) → (m : Name) → r.name.0 ≡ m →
+      found (record { 0 = m }) l.start_nonterminals ≡ Some (start_name plain.prefix (record { 0 = m }))
+  lowered_listed r i m named =
+      shaped.start_nonterminals.holds (record { 0 = m })
+      ∙ start_listed checked.prefix (public_rules_in (all_rules plain)) r i m named
+      ∙ ap (λ (prefix : Name). Some (start_name prefix (record { 0 = m }))) (entered_same plain checked W.entered).1
 
-    realizes : Realizes M name P (IsKnown (roots ws ++ references ws) met)
-    realizes = record {
-      productions = λ s h k.
-          (let (r, i, e) = known_rule s h k in
-          subst (λ (m : Name). P m ≡ table (rules_from (plain_origins M (references ws) n) (all_rules plain)) m) e (held r i))
-          ∙ ap (λ rs. table rs (name s)) rules_same
-          ∙ realized.productions s h k;
-      inner = realized.inner;
-      parts_known = realized.parts_known;
-    }
-
-    root_known : (s : ClosedSymbol) → In s (roots ws ++ references ws) → IsKnown (roots ws ++ references ws) met s
-    root_known s i = elim (in_cases s (roots ws) (references ws) i) [
-      | inl j ↦ (let (m, e) = root_of ws s j in
-          subst (IsKnown (roots ws ++ references ws) met) (sym e) (subst (λ (x : ClosedSymbol). In x (roots ws ++ references ws)) e i))
-      | inr j ↦ (let (m, b, e) = reference_of ws s j in
-          subst (IsKnown (roots ws ++ references ws) met) (sym e) (subst (λ (x : ClosedSymbol). In x (roots ws ++ references ws)) e i))
-    ]
-
-    pub held_trees : (s : ClosedSymbol) → In s (roots ws ++ references ws) → OneToOne M name P s
-    held_trees s i =
-        trees_one_to_one M (meaning_has_counts value ws) (meaning_has_levels value ws) name P (roots ws ++ references ws) met realizes s (root_known s i)
-
-  -- ---- what the plain rules are lowered to
-
-  module _ (free : (r : RuleData) → In r (public_rules_in (all_rules plain)) → In (plain.prefix ++ r.name.0) (rule_names plain) → ⊥)
-      (checked : GrammarData) (entered : IsEntered plain checked) (types : TypeTable) (l : LoweredGrammar)
-      (shape : IsLoweringOf checked (all_rules checked) types l) where
-    counted : length (plain_origins M (references ws) n) ≡ length (flat_map (λ (r : RuleData). r.alternatives) (all_rules plain))
-    counted =
-        origins_counted M name (plain_rules value (leveled_grammar (prepared_grammar fs g)) n) (plain_symbols M (references ws) n) (written_fit value fs g N S n)
-        ∙ ap (λ (rs : List RuleData). length (flat_map (λ (r : RuleData). r.alternatives) rs))
-        (sym (plain_grammars_hold_plain_rules value (leveled_grammar (prepared_grammar fs g)) n))
-
-    shaped : IsLoweringOf checked (all_rules plain) types l
-    shaped = subst (λ (rs : List RuleData). IsLoweringOf checked rs types l) (entered_same plain checked entered).0 shape
-
-    free_names : AreFree checked.prefix (all_rules plain) (public_rules_in (all_rules plain))
-    free_names =
-        subst (λ (prefix : Name). AreFree prefix (all_rules plain) (public_rules_in (all_rules plain))) (sym (entered_same plain checked entered).1)
-        (free_listed plain.prefix (all_rules plain) (public_rules_in (all_rules plain)) free)
-
-    pub lowered_trees : (s : ClosedSymbol) → In s (roots ws ++ references ws) →
-        OneToOne M name (derivations (action_origins (length (public_rules_in (all_rules plain))) M (references ws) n) l) s
-    lowered_trees s i =
-        held_trees (derivations (action_origins (length (public_rules_in (all_rules plain))) M (references ws) n) l)
-        (shape_derivations checked (all_rules plain) types l shaped (distinct_listed (all_rules plain) D) free_names
-        (plain_origins M (references ws) n) counted)
-        s i
-
-    -- the table of start symbols lists that of a public rule
-    pub lowered_listed : (r : RuleData) → In r (public_rules_in (all_rules plain)) → (m : Name) → r.name.0 ≡ m →
-        found (record { 0 = m }) l.start_nonterminals ≡ Some (start_name plain.prefix (record { 0 = m }))
-    lowered_listed r i m named =
-        shaped.start_nonterminals.holds (record { 0 = m })
-        ∙ start_listed checked.prefix (public_rules_in (all_rules plain)) r i m named
-        ∙ ap (λ (prefix : Name). Some (start_name prefix (record { 0 = m }))) (entered_same plain checked entered).1
-
-    pub lowered_starts : (r : RuleData) → In r (public_rules_in (all_rules plain)) →
-        derivations (action_origins (length (public_rules_in (all_rules plain))) M (references ws) n) l (plain.prefix ++ r.name.0) ≡ start_production r ∷ []
-    lowered_starts r i =
-        ap (λ (prefix : Name). derivations (action_origins (length (public_rules_in (all_rules plain))) M (references ws) n) l (prefix ++ r.name.0))
-        (sym (entered_same plain checked entered).1)
-        ∙ start_derivations checked (all_rules plain) types l shaped (distinct_listed (all_rules plain) D) free_names (plain_origins M (references ws) n) r i
+  pub lowered_starts : (r : RuleData) → In r (public_rules_in (all_rules plain)) →
+      derivations (action_origins (length (public_rules_in (all_rules plain))) M (references ws) n) l (plain.prefix ++ r.name.0) ≡ start_production r ∷ []
+  lowered_starts r i =
+      ap (λ (prefix : Name). derivations (action_origins (length (public_rules_in (all_rules plain))) M (references ws) n) l (prefix ++ r.name.0))
+      (sym (entered_same plain checked W.entered).1)
+      ∙ start_derivations checked (all_rules plain) types l shaped (distinct_listed (all_rules plain) W.names.once) free_names (plain_origins M (references ws) n) r i
 
 -- ---- from the absence of faults
 
@@ -237,16 +202,27 @@ module _ (fs : Features) (g : GrammarData) (plain : GrammarData) (rounds : ℕ) 
 
 pub lowered_trees_faithful : LoweredTreesAreFaithful
 lowered_trees_faithful fs g faults macros level_faults rounds whole names checked entered types l shape =
-    let N = level_names_found fs g faults macros level_faults in
-    let S = levels_settled fs g faults macros level_faults in
-    let trees = lowered_trees comparison fs g N S rounds whole names.once names.starts checked entered types l shape in
-    let starts = lowered_starts comparison fs g N S rounds whole names.once names.starts checked entered types l shape in
-    let listed = lowered_listed comparison fs g N S rounds whole names.once names.starts checked entered types l shape in
+    let lowered : IsLowered comparison fs g rounds checked types l = record {
+      levels = level_names_found fs g faults macros level_faults;
+      settled = levels_settled fs g faults macros level_faults;
+      whole = whole;
+      names = names;
+      entered = entered;
+      shape = shape;
+    } in
     record {
-      whole = written_whole comparison fs g N S rounds whole;
-      one_to_one = trees;
+      whole = written_whole comparison fs g lowered.levels lowered.settled rounds whole;
+      productions = lowered_productions lowered;
+      one_to_one = lowered_trees lowered;
+      in_steps = λ s i. record {
+        ranks = trees_only_renumber comparison fs g;
+        levels = lowered_in_steps lowered s i;
+        names = text_written comparison fs g lowered.levels lowered.settled;
+        pairs = written_ranked comparison fs g (text_in (written_rules fs g)) s;
+      };
       starts = λ r i none shown s k of. (
-          let (p, j, named) = public_rule comparison fs g N S rounds r i none shown s k of in
-          has_start fs g (grammar_of_plain_rules fs g rounds) rounds l s k (trees s k) p named (listed p j (text_in (written_rules fs g) s) named) (starts p j));
-      plain_starts = starts;
+          let (p, j, named) = public_rule comparison fs g lowered.levels lowered.settled rounds r i none shown s k of in
+          has_start fs g (grammar_of_plain_rules fs g rounds) rounds l s k (lowered_trees lowered s k) p named
+          (lowered_listed lowered p j (text_in (written_rules fs g) s) named) (lowered_starts lowered p j));
+      plain_starts = lowered_starts lowered;
     }

@@ -306,7 +306,7 @@ none_mapped : {A B : Type 0} (f : A → B) (xs : List A) → map f xs ≡ [] →
 none_mapped f [] e = refl
 none_mapped f (x ∷ xs) e = absurd (cc e)
 
-fitting_names : (M : Meaning) (name : ClosedSymbol → Name) (rs : List RuleData) (gs : List ClosedSymbol) → AllFit M name rs gs → map name_of rs ≡ map name gs
+pub fitting_names : (M : Meaning) (name : ClosedSymbol → Name) (rs : List RuleData) (gs : List ClosedSymbol) → AllFit M name rs gs → map name_of rs ≡ map name gs
 fitting_names M name [] [] f = refl
 fitting_names M name [] (g ∷ gs) f = absurd f
 fitting_names M name (r ∷ rs) [] f = absurd f
@@ -375,7 +375,7 @@ module _ (value : ConditionValue) (fs : Features) (g : GrammarData) (N : HasLeve
   level_written n None = refl
   level_written n (Some m) = ap (λ xs. level_names xs n m) (disabled_are_left_out fs g) ∙ level_closed ws n m
 
-  text_written : level_named ln (text_in (flat_rules h)) ≡ text_in ws
+  pub text_written : level_named ln (text_in (flat_rules h)) ≡ text_in ws
   text_written = fun_ext (λ x. text_leveled (flat_rules h) ws ln level_written x)
 
   -- where no later round has a new symbol, that is so of the written grammar too

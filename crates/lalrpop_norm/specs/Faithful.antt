@@ -1,5 +1,5 @@
 -- The headline: what a lowered grammar owes the written one.
-use Rattle.std.specs.Prelude.{◌≡◌, ◌↔◌, ℕ, true, List, [], ◌∷◌, ◌++◌, length, Option, Some}
+use Rattle.std.specs.Prelude.{◌≡◌, ◌↔◌, ℕ, true, List, [], ◌∷◌, ◌++◌, length, map, Option, Some}
 use Rattle.lalrpop_norm_parts.specs.declared.names.NonterminalString.{NonterminalString}
 use Rattle.lalrpop_norm_tree.specs.Accessors.{is_public}
 use Rattle.lalrpop_norm_tree.specs.Items.{RuleData, GrammarData}
@@ -9,16 +9,23 @@ use Rattle.lalrpop_norm_theory.specs.Meaning.{Meaning}
 use Rattle.lalrpop_norm_theory.specs.LoweredTrees as theory
 use Rattle.lalrpop_norm_theory.specs.LoweredTrees.{nonterminal_symbol, from_start}
 use Rattle.lalrpop_norm_theory.specs.Rounds.{In}
-use Rattle.lalrpop_norm_theory.specs.Met.{expansion}
-use Rattle.lalrpop_norm_theory.specs.Laws.{OneToOne}
+use Rattle.lalrpop_norm_theory.specs.Clauses.{IsNonterminal, clause_production, clauses}
+use Rattle.lalrpop_norm_theory.specs.Met.{expansion, expanded_symbols, IsKnown}
+use Rattle.lalrpop_norm_theory.specs.LoweredTrees.{LoweredTree}
+use Rattle.lalrpop_norm_theory.specs.Pairs.{Pairs}
+use Rattle.lalrpop_norm_theory.specs.WrittenTrees.{WrittenTree}
+use Rattle.lalrpop_norm_theory.specs.Laws.{OneToOne, PairsInTwoSteps, level_named}
 use Rattle.lalrpop_norm_conditions.specs.Conditions.{comparison}
 use Rattle.lalrpop_norm_model.specs.Features.{Features}
 use Rattle.lalrpop_norm_model.specs.Enabled.{enabled_grammar}
 use Rattle.lalrpop_norm_model.specs.Scopes.{resolved_grammar}
-use Rattle.lalrpop_norm_model.specs.WrittenRules.{written_rules}
+use Rattle.lalrpop_norm_model.specs.WrittenRules.{written_rules, leveled_rules, flat_rules}
 use Rattle.lalrpop_norm_model.specs.Grammars.{meaning, references, roots}
-use Rattle.lalrpop_norm_model.specs.ClosedTexts.{text_in}
+use Rattle.lalrpop_norm_model.specs.ClosedTexts.{level_names, text_in}
+use Rattle.lalrpop_norm_model.specs.LevelNames.{level_origin}
 use Rattle.lalrpop_norm_model.specs.LevelRules.{leveled_grammar}
+use Rattle.lalrpop_norm_model.specs.PlainTables.{flat_meaning, declared}
+use Rattle.lalrpop_norm_model.specs.Renumbered.{TreesAreRenumbered, prepared_grammar, rank_by, renumbered}
 use Rattle.lalrpop_norm_model.specs.PlainRules.{plain_grammar, all_rules}
 use Rattle.lalrpop_norm_model.specs.Origins.{action_origins}
 use Rattle.lalrpop_norm_model.specs.Lexers.{Lexer}
@@ -42,6 +49,34 @@ written_meaning fs g = meaning comparison (written_rules fs g)
 abbrev pub traced_derivations : Features → GrammarData → GrammarData → ℕ → LoweredGrammar → theory.ProductionTable
 traced_derivations fs g plain rounds l =
     derivations (action_origins (length (public_rules_in (all_rules plain))) (written_meaning fs g) (references (written_rules fs g)) rounds) l
+
+-- what trees see of the grammar that the pass on levels gets: the enabled rules, each alternative with its rank for its number
+abbrev pub ranked_meaning : Features → GrammarData → Meaning
+ranked_meaning fs g = meaning comparison (leveled_rules (prepared_grammar fs g))
+
+-- the grammar with levels, each enabled rule and macro in its place, and what trees see of it, where no rule has levels
+abbrev pub grammar_with_levels : Features → GrammarData → GrammarData
+grammar_with_levels fs g = leveled_grammar (resolved_grammar (enabled_grammar fs g))
+
+abbrev pub leveled_meaning : Features → GrammarData → Meaning
+leveled_meaning fs g = flat_meaning comparison (grammar_with_levels fs g)
+
+-- the lowered grammar as trees see it, each production with its origin in the grammar with levels
+abbrev pub leveled_derivations : Features → GrammarData → GrammarData → ℕ → LoweredGrammar → theory.ProductionTable
+leveled_derivations fs g plain rounds l =
+    derivations (action_origins (length (public_rules_in (all_rules plain))) (leveled_meaning fs g) (declared (grammar_with_levels fs g)) rounds) l
+
+-- Of a written symbol, the pairing of its trees is made of steps: taking disabled alternatives out renumbers; then each level becomes
+-- a rule; then the grammar with levels is lowered. The last two in a row are one to one too, a symbol has the same name, and what
+-- pairs as written pairs so.
+pub record IsMadeInSteps (fs : Features) (g : GrammarData) (plain : GrammarData) (rounds : ℕ) (l : LoweredGrammar) (s : ClosedSymbol) : Type 0 where
+  pub ranks : TreesAreRenumbered (written_meaning fs g) (ranked_meaning fs g) (rank_by (written_rules fs g))
+  pub levels : PairsInTwoSteps (ranked_meaning fs g) (leveled_meaning fs g) (level_names (leveled_rules (prepared_grammar fs g)))
+      (level_origin comparison (prepared_grammar fs g)) (text_in (flat_rules (grammar_with_levels fs g))) (leveled_derivations fs g plain rounds l) s
+  pub names : level_named (level_names (leveled_rules (prepared_grammar fs g))) (text_in (flat_rules (grammar_with_levels fs g)))
+      ≡ text_in (written_rules fs g)
+  pub pairs : (t : WrittenTree) (u : LoweredTree) → Pairs (written_meaning fs g) (text_in (written_rules fs g)) s t u →
+      Pairs (ranked_meaning fs g) (text_in (written_rules fs g)) s (renumbered (rank_by (written_rules fs g)) t) u
 
 -- the closed symbol is that rule, by itself or within a level
 abbrev pub IsSymbolOf : RuleData → ClosedSymbol → Type 0
@@ -71,8 +106,13 @@ pub record HasStart (fs : Features) (g : GrammarData) (plain : GrammarData) (rou
 -- public macro may be called, which `validate` refuses, that says it of the rules that its calls make too.
 pub record HasFaithfulTrees (fs : Features) (g : GrammarData) (plain : GrammarData) (rounds : ℕ) (l : LoweredGrammar) : Type 0 where
   pub whole : (expansion (written_meaning fs g) (references (written_rules fs g)) rounds).fresh ≡ []
+  pub productions : (s : ClosedSymbol) → IsNonterminal s → IsKnown (roots (written_rules fs g) ++ references (written_rules fs g))
+      (expanded_symbols (written_meaning fs g) (references (written_rules fs g)) rounds) s →
+      traced_derivations fs g plain rounds l (text_in (written_rules fs g) s)
+      ≡ map (clause_production (text_in (written_rules fs g))) (clauses (written_meaning fs g) s)
   pub one_to_one : (s : ClosedSymbol) → In s (roots (written_rules fs g) ++ references (written_rules fs g)) →
       OneToOne (written_meaning fs g) (text_in (written_rules fs g)) (traced_derivations fs g plain rounds l) s
+  pub in_steps : (s : ClosedSymbol) → In s (references (written_rules fs g)) → IsMadeInSteps fs g plain rounds l s
   pub starts : (r : RuleData) → In r (all_rules (enabled_grammar fs g)) → r.args ≡ [] → is_public r.visibility ≡ true →
       (s : ClosedSymbol) → In s (roots (written_rules fs g) ++ references (written_rules fs g)) → IsSymbolOf r s →
       HasStart fs g plain rounds l s
@@ -107,10 +147,6 @@ no_lexer = record {
 }
 
 -- ---- the whole
-
--- the grammar with levels, each enabled rule and macro in its place
-abbrev pub grammar_with_levels : Features → GrammarData → GrammarData
-grammar_with_levels fs g = leveled_grammar (resolved_grammar (enabled_grammar fs g))
 
 -- the grammar of plain rules, where so many rounds make all
 abbrev pub grammar_of_plain_rules : Features → GrammarData → ℕ → GrammarData

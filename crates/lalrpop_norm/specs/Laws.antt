@@ -1,5 +1,6 @@
 -- What is proved of the whole way, each statement in one piece. The functions of the module `laws` carry them.
 use Rattle.std.specs.Prelude.{◌≡◌, ◌↔◌, ◌++◌, ℕ, List, [], Some, false, flat_map}
+use Rattle.std.specs.List.{range_with_len}
 use Rattle.lalrpop_norm_parts.specs.declared.names.Span.{Span}
 use Rattle.lalrpop_norm_faults.specs.declared.kind.FaultKind.TheVariants.{RecursionCap}
 use Rattle.lalrpop_norm_tree.specs.Items.{RuleData, GrammarData}
@@ -17,14 +18,14 @@ use Rattle.lalrpop_norm_model.specs.Stated.{HasLevel}
 use Rattle.lalrpop_norm_model.specs.Grammars.{ConditionValue, is_nil, references, roots}
 use Rattle.lalrpop_norm_model.specs.PlainTables.{IsSettled, flat_meaning, declared}
 use Rattle.lalrpop_norm_model.specs.LevelRules.{level_of_rule, leveled_grammar}
-use Rattle.lalrpop_norm_model.specs.PlainRules.{all_rules, IsEnded}
+use Rattle.lalrpop_norm_model.specs.PlainRules.{all_rules, expansion_round, IsEnded}
 use Rattle.lalrpop_norm_model.specs.Renumbered.{prepared_grammar}
 use Rattle.lalrpop_norm_model.specs.Expanded.{rule_names}
 use Rattle.lalrpop_norm_model.specs.TypeTables.{Table}
 use Rattle.lalrpop_norm_model.specs.LoweringFaults.{lowering_faults}
 use Rattle.lalrpop_norm_model.specs.CheckedTokens.{IsEntered}
 use Rattle.lalrpop_norm_resolve.specs.NameFaults.{resolve_faults}
-use Rattle.lalrpop_norm_expand.specs.Expansion.{expansion_faults}
+use Rattle.lalrpop_norm_expand.specs.Expansion.{expansion_faults, past_cap, shared_in, unmade_in}
 use Rattle.lalrpop_norm_repr.specs.Lowered.{LoweredGrammar}
 use Rattle.lalrpop_norm_repr.specs.Tables.{TypeTable}
 use Rattle.lalrpop_norm_late.specs.Lowering.{public_rules_in, start_name}
@@ -77,6 +78,14 @@ abbrev pub CapIsExact : Type 0
 CapIsExact = (value : ConditionValue) (g : GrammarData) → IsSettled g → (limit : ℕ) →
     ((s : Span) × In (RecursionCap, s) (expansion_faults value g limit))
     ↔ ((x : ClosedSymbol) × NewIn (rule_meets (flat_meaning value g)) (flat_map (rule_meets (flat_meaning value g)) (declared g)) limit x)
+
+-- The faults of an expansion, round by round: of each round that may make rules, what shares a name as it is met, then what no rule is
+-- made of; of the one after them, what shares a name, then that something is new there.
+abbrev pub FaultsAreByRound : Type 0
+FaultsAreByRound = (value : ConditionValue) (g : GrammarData) (limit : ℕ) →
+    expansion_faults value g limit
+    ≡ flat_map (λ (k : ℕ). shared_in value g k ++ unmade_in value g k) (range_with_len 0 limit)
+    ++ (shared_in value g limit ++ past_cap (expansion_round value g limit).fresh)
 
 -- Where trees are faithful, each enabled written rule that is no macro has in both languages the same words, by itself and within
 -- each of its levels: the leaves of its written trees are the leaves of the derivation trees of its nonterminal.

@@ -1,6 +1,6 @@
 //! What is proved of the definitions alone. Each function here is a law: it does nothing, and its contract is a theorem, whose
 //! statement stands in `specs/Laws.antt`.
-ghost use Rattle.lalrpop_norm.specs.Laws.{CapIsExact, LoweredTreesAreFaithful, MacrosHaveOneLevel, NamesAreOwn, WordsAreEqual};
+ghost use Rattle.lalrpop_norm.specs.Laws.{CapIsExact, FaultsAreByRound, LoweredTreesAreFaithful, MacrosHaveOneLevel, NamesAreOwn, WordsAreEqual};
 
 /// The trees of what a grammar's plain rules are lowered to, once they have their tokens, stand one to one with the written trees,
 /// with the same words and the same written alternatives, for each rule by itself and within each of its levels. Each enabled public
@@ -34,6 +34,12 @@ pub fn cap_is_exact()
     lalrpop_norm_model::rounds_are_read();
     lalrpop_norm_theory::rounds_are_shortest_chains();
 }
+
+/// The faults of an expansion, round by round: of each round that may make rules, first what shares a name (F37), then what no rule is
+/// made of; of the round after them what shares a name, then that something is new there (F36).
+pub fn faults_are_by_round()
+    ensures { FaultsAreByRound }
+{}
 
 /// Where the trees of a lowered grammar are faithful, each enabled written rule that is no macro has there the words that it has as
 /// written, by itself and within each of its levels.

@@ -6,9 +6,7 @@ ghost use Rattle.lalrpop_norm.specs.PlainLaws.{InferredTypesAreTotal, StartNames
 /// The grammar of plain rules is expanded, where the passes up to the expansion find nothing wrong.
 pub fn plain_grammars_are_expanded()
     ensures { PlainGrammarsAreExpanded }
-{
-    lalrpop_norm_expand::names_stay_distinct();
-}
+{}
 
 /// The grammar of plain rules is typed by each table in which each of its rules has a type, where the passes up to the expansion
 /// find nothing wrong.
@@ -30,28 +28,20 @@ pub fn plain_conversions_are_active()
 /// The table inferred for the plain rules has a type for each of them, where the passes up to inference find nothing wrong.
 pub fn inferred_types_are_total()
     ensures { InferredTypesAreTotal }
-{
-    lalrpop_norm_expand::names_stay_distinct();
-}
+{}
 
 /// No rule has the start name of a public plain rule, where no pass finds a fault.
 pub fn start_names_are_free()
     ensures { StartNamesAreFree }
-{
-    lalrpop_norm_expand::names_stay_distinct();
-}
+{}
 
 /// Once start symbols have their rules' types, each nonterminal of the plain rules has its only grounded type, where no pass finds a
 /// fault.
 pub fn lowered_types_are_grounded()
     ensures { LoweredTypesAreGrounded }
-{
-    lalrpop_norm_expand::names_stay_distinct();
-}
+{}
 
 /// What is lowered from the plain rules, with nothing left open, is faithful to the written grammar, where no pass finds a fault.
 pub fn lowered_grammars_are_faithful()
     ensures { LoweredGrammarsAreFaithful }
-{
-    lalrpop_norm_expand::names_stay_distinct();
-}
+{}
