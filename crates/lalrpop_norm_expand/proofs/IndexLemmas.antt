@@ -1,10 +1,11 @@
--- The places of symbols, once one more is put.
-use Rattle.std.proofs.Common.{◌≡◌, ◌⊎◌, inl, inr, ℕ, suc, zero, ◌<◌, List, [], ◌∷◌, ◌++◌, length, refl, sym, ap, ◌∙◌, Bool, true, false, Option, Some, None, cond, bytes_eq, arith, slice_get, option_and_then, subst}
+-- The places and names of symbols, once one more is put.
+use Rattle.std.proofs.Common.{◌≡◌, ◌⊎◌, inl, inr, ℕ, suc, zero, ◌<◌, List, [], ◌∷◌, ◌++◌, length, refl, sym, ap, ◌∙◌, Bool, true, false, Option, Some, None, cond, bytes_eq, get_or, arith, slice_get, option_and_then, subst}
 use Rattle.std.proofs.lemmas.List.{length-append}
 use Rattle.std.proofs.lemmas.Slice.Eq.{bytes_eq-Decides}
 use Rattle.lalrpop_norm_tree.specs.Symbols.{Part}
 use Rattle.lalrpop_norm_tree.specs.SymbolTexts.{part_text}
-use Rattle.lalrpop_norm_expand.specs.Meeting.{first_with_text}
+use Rattle.lalrpop_norm_expand.specs.declared.macro_expand.expander.Met.{Met}
+use Rattle.lalrpop_norm_expand.specs.Meeting.{first_with_text, IsNamed, AreNamed}
 
 -- places that lead to the first symbol of each text
 pub record AtPlaces (place : List ℕ → Option ℕ) (seen : List Part) : Type 0 where
@@ -67,3 +68,14 @@ at_places_more place more seen x h new here others = record {
     | inr n ↦ omega (arith, h.in_range t i (sym (others t (λ q. n (sym q))) ∙ e), length-append seen (x ∷ []))
   ];
 }
+
+-- ---- names
+
+pub named_more : (ms : List Met) (m : Met) → AreNamed ms → IsNamed m → AreNamed (ms ++ m ∷ [])
+named_more [] m h n = ap (λ t. t ∷ []) n
+named_more (x ∷ ms) m h n = let rest : AreNamed ms = cc in let more : AreNamed (ms ++ m ∷ []) = named_more ms m rest n in cc
+
+pub named_at : (ms : List Met) (i : ℕ) (m : Met) → AreNamed ms → i < length ms → m ≡ get_or ms i m → IsNamed m
+named_at [] i m h l e = absurd (omega arith)
+named_at (x ∷ ms) zero m h l e = cc
+named_at (x ∷ ms) (suc i) m h l e = let rest : AreNamed ms = cc in named_at ms i m rest (omega arith) e

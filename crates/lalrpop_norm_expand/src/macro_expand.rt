@@ -10,7 +10,7 @@ ghost use Rattle.lalrpop_norm_model.specs.Grammars.{ConditionValue};
 ghost use Rattle.lalrpop_norm_model.specs.PlainRules.{macros_of, IsEnded, plain_grammar};
 ghost use Rattle.lalrpop_norm_expand.specs.Expansion.{unmade, past_cap, expansion_faults, later_macro_faults};
 ghost use Rattle.lalrpop_norm_expand.specs.Making.{rules_to_read, item_macros};
-ghost use Rattle.lalrpop_norm_expand.specs.Meeting.{seen_of};
+ghost use Rattle.lalrpop_norm_expand.specs.Meeting.{seen_of, AreNamed};
 
 mod content;
 mod expander;
@@ -34,7 +34,8 @@ use std::mem;
 
 /// The rules of the symbols from that place on, that of the last one first.
 fn make_rules(alloc: Global, expander: &Expander, from: usize) -> NormResult<Vec<GrammarItem>>
-    requires { from ≤ length expander.now.met.items }
+    requires named { AreNamed expander.now.met.items }
+    requires from { from ≤ length expander.now.met.items }
     ensures refuses { Refuses result (flat_map unmade (reverse (drop from (seen_of expander.now)))) }
     ensures rules { IfOk result (λ rs. map item_view rs.items
         ≡ map rule_item (flat_map rules_to_read (reverse (drop from (seen_of expander.now))))) }
@@ -53,7 +54,7 @@ fn past_cap(alloc: Global, expander: &Expander, from: usize) -> NormFailure
     requires { from < length expander.now.met.items }
     ensures { IsFirst (past_cap (drop from (seen_of expander.now))) result }
 {
-    let last = &expander.met[expander.met.len() - 1];
+    let last = &expander.met[expander.met.len() - 1].symbol;
     refusal(
         FaultKind::RecursionCap,
         last.span,

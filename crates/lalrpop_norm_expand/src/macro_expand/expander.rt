@@ -12,6 +12,13 @@ use lalrpop_norm_tree::grammar::parse_tree::{Atom, NoMemory, Span, Symbol};
 use std::alloc::Global;
 use std::collections::{BTreeMap, BTreeSet};
 
+/// A symbol that is made into a rule, and its text: the name of that rule.
+#[derive(Drop)]
+pub(super) struct Met {
+    pub name: Atom,
+    pub symbol: Symbol,
+}
+
 /// The symbols that were met: the first one of each text, in the order of meeting.
 #[derive(Drop)]
 pub(super) struct Expander {
@@ -19,7 +26,7 @@ pub(super) struct Expander {
     pub names: BTreeSet<Atom>,
     /// The place of each symbol in `met`, by its text.
     pub places: BTreeMap<Atom, usize>,
-    pub met: Vec<Symbol>,
+    pub met: Vec<Met>,
 }
 
 fn shared_name(alloc: Global, name: &Atom, span: Span) -> NormFailure
@@ -52,7 +59,7 @@ impl Expander {
         ensures { option_map (λ s. symbol_view s.now) result ≡ first_with_text name.now (seen_of self.now) }
     {
         match self.places.get(name) {
-            Some(place) => Some(&self.met[*place]),
+            Some(place) => Some(&self.met[*place].symbol),
             None => None,
         }
     }
@@ -102,8 +109,9 @@ impl Expander {
         ensures indexed { OnOk result (IsExpander self.new) }
     {
         let place = self.met.len();
-        self.places.insert(name, place)?;
-        self.met.push(symbol)?;
+        let key = name.clone()?;
+        self.places.insert(key, place)?;
+        self.met.push(Met { name, symbol })?;
         Ok(())
     }
 

@@ -5,20 +5,21 @@ ghost use Rattle.lalrpop_norm_tree.specs.Symbols.{part_and, at, group, repeated,
 ghost use Rattle.lalrpop_norm_tree.specs.Types.{type_view};
 ghost use Rattle.lalrpop_norm_parts.specs.Paths.{path_view};
 ghost use Rattle.lalrpop_norm_tree.specs.Items.{alternative_view, rule_view, item_view, rule_item, action_view};
-ghost use Rattle.lalrpop_norm_tree.specs.SymbolTexts.{kind_text};
 ghost use Rattle.lalrpop_norm_faults.specs.Faults.{Refuses};
 ghost use Rattle.lalrpop_norm_model.specs.MadeRules.{inline_at, coded, private_rule, only_part, type_of_kind, with_name, holding, star_rule, plus_rule, question_rule, repeat_rule, group_rule, location_rule, some_name_value, bare_or_tuple, bare_or_tuple_code, group_sources};
 ghost use Rattle.lalrpop_norm_expand.specs.Expansion.{unmade};
 ghost use Rattle.lalrpop_norm_model.specs.PlainRules.{replaced_alternative, replaced_rule};
 ghost use Rattle.lalrpop_norm_expand.specs.Making.{rules_to_read};
+ghost use Rattle.lalrpop_norm_expand.specs.Meeting.{met_view, IsNamed};
 
-use super::replaced::{all_replaced, name_of, replaced_kind};
+use super::expander::Met;
+use super::replaced::{all_replaced, replaced_kind};
 use super::sources::group_values;
 use lalrpop_norm_faults::{FaultKind, NormResult, refusal};
 use lalrpop_norm_tree::grammar::parse_tree::{
     ActionKind, Alternative, Atom, Attribute, AttributeArg, ExprSymbol, GrammarItem, Name,
-    NoMemory, NonterminalData, Path, RepeatOp, RepeatSymbol, Span, Symbol, SymbolKind, TypeRef,
-    Visibility,
+    NoMemory, NonterminalData, NonterminalString, Path, RepeatOp, RepeatSymbol, Span, Symbol,
+    SymbolKind, TypeRef, Visibility,
 };
 use lalrpop_norm_util::norm_util::has_name_value;
 use std::alloc::Global;
@@ -58,21 +59,21 @@ fn coded(
 /// The private rule of a symbol.
 fn private_rule(
     alloc: Global,
-    span: Span,
-    kind: &SymbolKind,
+    met: &Met,
     attributes: Vec<Attribute>,
     type_decl: Option<TypeRef>,
     alternatives: Vec<Alternative>,
 ) -> Result<NonterminalData, NoMemory>
-    ensures { IfOk result (λ r. rule_view r ≡ private_rule span (kind_view kind.now) (attributes_view attributes.items)
+    requires { IsNamed met.now }
+    ensures { IfOk result (λ r. rule_view r ≡ private_rule met.now.symbol.span (kind_view met.now.symbol.kind) (attributes_view attributes.items)
         (option_map type_view type_decl) (map alternative_view alternatives.items)) }
 {
-    let name = name_of(alloc, kind)?;
+    let name = NonterminalString(met.name.clone()?);
     Ok(NonterminalData {
         visibility: Visibility::Priv,
         name,
         attributes,
-        span,
+        span: met.symbol.span,
         args: Vec::new(alloc),
         type_decl,
         alternatives,
@@ -114,11 +115,12 @@ fn repeated(alloc: Global, span: Span, op: RepeatOp, symbol: &Symbol) -> Result<
 }
 
 /// Of `X*`: nothing, or `X+`.
-fn star_rule(alloc: Global, symbol: &Symbol, inner: &Symbol) -> Result<NonterminalData, NoMemory>
-    requires { kind_view symbol.now.kind ≡ repeated RepeatOp.Star (symbol_view inner.now) }
-    ensures { IfOk result (λ r. rule_view r ≡ star_rule symbol.now.span (symbol_view inner.now)) }
+fn star_rule(alloc: Global, met: &Met, inner: &Symbol) -> Result<NonterminalData, NoMemory>
+    requires named { IsNamed met.now }
+    requires kind { kind_view met.now.symbol.kind ≡ repeated RepeatOp.Star (symbol_view inner.now) }
+    ensures { IfOk result (λ r. rule_view r ≡ star_rule met.now.symbol.span (symbol_view inner.now)) }
 {
-    let span = symbol.span;
+    let span = met.symbol.span;
     let plus = repeated(alloc, span, RepeatOp::Plus, inner)?;
     let filled = vec![in alloc; with_name(alloc, span, "v", plus)?]?;
     let alternatives = vec![in alloc;
@@ -127,14 +129,7 @@ fn star_rule(alloc: Global, symbol: &Symbol, inner: &Symbol) -> Result<Nontermin
     ]?;
     let inline = inline_at(alloc, span)?;
     let of_vector = holding(alloc, Path::vec(alloc)?, inner)?;
-    private_rule(
-        alloc,
-        span,
-        &symbol.kind,
-        inline,
-        Some(of_vector),
-        alternatives,
-    )
+    private_rule(alloc, met, inline, Some(of_vector), alternatives)
 }
 
 /// `X`, in a row of its own.
@@ -172,21 +167,15 @@ fn plus_alternatives(
 }
 
 /// Of `X+`: `X`, or `X+` and one more `X`.
-fn plus_rule(alloc: Global, symbol: &Symbol, inner: &Symbol) -> Result<NonterminalData, NoMemory>
-    requires { kind_view symbol.now.kind ≡ repeated RepeatOp.Plus (symbol_view inner.now) }
-    ensures { IfOk result (λ r. rule_view r ≡ plus_rule symbol.now.span (symbol_view inner.now)) }
+fn plus_rule(alloc: Global, met: &Met, inner: &Symbol) -> Result<NonterminalData, NoMemory>
+    requires named { IsNamed met.now }
+    requires kind { kind_view met.now.symbol.kind ≡ repeated RepeatOp.Plus (symbol_view inner.now) }
+    ensures { IfOk result (λ r. rule_view r ≡ plus_rule met.now.symbol.span (symbol_view inner.now)) }
 {
-    let span = symbol.span;
+    let span = met.symbol.span;
     let of_vector = holding(alloc, Path::vec(alloc)?, inner)?;
     let alternatives = plus_alternatives(alloc, span, inner)?;
-    private_rule(
-        alloc,
-        span,
-        &symbol.kind,
-        Vec::new(alloc),
-        Some(of_vector),
-        alternatives,
-    )
+    private_rule(alloc, met, Vec::new(alloc), Some(of_vector), alternatives)
 }
 
 fn question_alternatives(
@@ -204,40 +193,27 @@ fn question_alternatives(
 }
 
 /// Of `X?`: `X`, or nothing.
-fn question_rule(
-    alloc: Global,
-    symbol: &Symbol,
-    inner: &Symbol,
-) -> Result<NonterminalData, NoMemory>
-    requires { kind_view symbol.now.kind ≡ repeated RepeatOp.Question (symbol_view inner.now) }
-    ensures { IfOk result (λ r. rule_view r ≡ question_rule symbol.now.span (symbol_view inner.now)) }
+fn question_rule(alloc: Global, met: &Met, inner: &Symbol) -> Result<NonterminalData, NoMemory>
+    requires named { IsNamed met.now }
+    requires kind { kind_view met.now.symbol.kind ≡ repeated RepeatOp.Question (symbol_view inner.now) }
+    ensures { IfOk result (λ r. rule_view r ≡ question_rule met.now.symbol.span (symbol_view inner.now)) }
 {
-    let span = symbol.span;
+    let span = met.symbol.span;
     let of_option = holding(alloc, Path::option(alloc)?, inner)?;
     let inline = inline_at(alloc, span)?;
     let alternatives = question_alternatives(alloc, span, inner)?;
-    private_rule(
-        alloc,
-        span,
-        &symbol.kind,
-        inline,
-        Some(of_option),
-        alternatives,
-    )
+    private_rule(alloc, met, inline, Some(of_option), alternatives)
 }
 
-fn repeat_rule(
-    alloc: Global,
-    symbol: &Symbol,
-    repeat: &RepeatSymbol,
-) -> Result<NonterminalData, NoMemory>
-    requires { kind_view symbol.now.kind ≡ repeated repeat.now.op (symbol_view repeat.now.symbol) }
-    ensures { IfOk result (λ r. rule_view r ≡ repeat_rule symbol.now.span repeat.now.op (symbol_view repeat.now.symbol)) }
+fn repeat_rule(alloc: Global, met: &Met, repeat: &RepeatSymbol) -> Result<NonterminalData, NoMemory>
+    requires named { IsNamed met.now }
+    requires kind { kind_view met.now.symbol.kind ≡ repeated repeat.now.op (symbol_view repeat.now.symbol) }
+    ensures { IfOk result (λ r. rule_view r ≡ repeat_rule met.now.symbol.span repeat.now.op (symbol_view repeat.now.symbol)) }
 {
     match repeat.op {
-        RepeatOp::Star => star_rule(alloc, symbol, &repeat.symbol),
-        RepeatOp::Plus => plus_rule(alloc, symbol, &repeat.symbol),
-        RepeatOp::Question => question_rule(alloc, symbol, &repeat.symbol),
+        RepeatOp::Star => star_rule(alloc, met, &repeat.symbol),
+        RepeatOp::Plus => plus_rule(alloc, met, &repeat.symbol),
+        RepeatOp::Question => question_rule(alloc, met, &repeat.symbol),
     }
 }
 
@@ -271,30 +247,24 @@ fn group_parts(
 }
 
 /// Of a group: its one alternative, its symbols replaced. Each of them was met before the group.
-fn group_rule(
-    alloc: Global,
-    symbol: &Symbol,
-    expr: &ExprSymbol,
-) -> Result<NonterminalData, NoMemory>
-    requires { kind_view symbol.now.kind ≡ group (expr_view expr.now) }
-    ensures { IfOk result (λ r. rule_view r ≡ replaced_rule (group_rule symbol.now.span (expr_view expr.now))) }
+fn group_rule(alloc: Global, met: &Met, expr: &ExprSymbol) -> Result<NonterminalData, NoMemory>
+    requires named { IsNamed met.now }
+    requires kind { kind_view met.now.symbol.kind ≡ group (expr_view expr.now) }
+    ensures { IfOk result (λ r. rule_view r ≡ replaced_rule (group_rule met.now.symbol.span (expr_view expr.now))) }
 {
-    let span = symbol.span;
+    let span = met.symbol.span;
     let (alternative, ty) = group_parts(alloc, span, &expr.symbols)?;
     let alternatives = vec![in alloc; alternative]?;
     let inline = inline_at(alloc, span)?;
-    private_rule(alloc, span, &symbol.kind, inline, Some(ty), alternatives)
+    private_rule(alloc, met, inline, Some(ty), alternatives)
 }
 
 /// Of a lookaround: an empty alternative that gives a location.
-fn location_rule(
-    alloc: Global,
-    symbol: &Symbol,
-    action: ActionKind,
-) -> Result<NonterminalData, NoMemory>
-    ensures { IfOk result (λ r. rule_view r ≡ location_rule symbol.now.span (kind_view symbol.now.kind) (action_view action)) }
+fn location_rule(alloc: Global, met: &Met, action: ActionKind) -> Result<NonterminalData, NoMemory>
+    requires { IsNamed met.now }
+    ensures { IfOk result (λ r. rule_view r ≡ location_rule met.now.symbol.span (kind_view met.now.symbol.kind) (action_view action)) }
 {
-    let span = symbol.span;
+    let span = met.symbol.span;
     let empty = Alternative {
         span,
         expr: ExprSymbol {
@@ -306,7 +276,7 @@ fn location_rule(
     };
     let alternatives = vec![in alloc; empty]?;
     let inline = inline_at(alloc, span)?;
-    private_rule(alloc, span, &symbol.kind, inline, None, alternatives)
+    private_rule(alloc, met, inline, None, alternatives)
 }
 
 // ---- all of them
@@ -321,14 +291,12 @@ fn add(items: &mut Vec<GrammarItem>, rule: NonterminalData) -> Result<(), NoMemo
 /// Adds the rule that a symbol is made into.
 ///
 /// Errors: F35 (`NamedInGroup`) at a group with a named or tuple symbol in it; F0 (`NotYet`) at a macro call; `Memory`.
-pub(super) fn add_rule(
-    alloc: Global,
-    symbol: &Symbol,
-    items: &mut Vec<GrammarItem>,
-) -> NormResult<()>
-    ensures refuses { Refuses result (unmade (symbol_view symbol.now)) }
-    ensures adds { OnOk result (map item_view items.new.items ≡ map item_view items.old.items ++ map rule_item (rules_to_read (symbol_view symbol.now))) }
+pub(super) fn add_rule(alloc: Global, met: &Met, items: &mut Vec<GrammarItem>) -> NormResult<()>
+    requires { IsNamed met.now }
+    ensures refuses { Refuses result (unmade (met_view met.now)) }
+    ensures adds { OnOk result (map item_view items.new.items ≡ map item_view items.old.items ++ map rule_item (rules_to_read (met_view met.now))) }
 {
+    let symbol = &met.symbol;
     match &symbol.kind {
         SymbolKind::Expr(expr) => {
             if has_name_value(&expr.symbols) {
@@ -338,7 +306,7 @@ pub(super) fn add_rule(
                     format!(in alloc; "a symbol in the group `{symbol}` has a name"),
                 ));
             }
-            add(items, group_rule(alloc, symbol, expr)?)?;
+            add(items, group_rule(alloc, met, expr)?)?;
             Ok(())
         }
         SymbolKind::Macro(_) => Err(refusal(
@@ -347,15 +315,15 @@ pub(super) fn add_rule(
             format!(in alloc; "the macro call `{symbol}` is not taken yet"),
         )),
         SymbolKind::Repeat(repeat) => {
-            add(items, repeat_rule(alloc, symbol, repeat)?)?;
+            add(items, repeat_rule(alloc, met, repeat)?)?;
             Ok(())
         }
         SymbolKind::Lookahead => {
-            add(items, location_rule(alloc, symbol, ActionKind::Lookahead)?)?;
+            add(items, location_rule(alloc, met, ActionKind::Lookahead)?)?;
             Ok(())
         }
         SymbolKind::Lookbehind => {
-            add(items, location_rule(alloc, symbol, ActionKind::Lookbehind)?)?;
+            add(items, location_rule(alloc, met, ActionKind::Lookbehind)?)?;
             Ok(())
         }
         SymbolKind::AmbiguousId(_)

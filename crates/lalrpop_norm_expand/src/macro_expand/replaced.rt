@@ -10,7 +10,7 @@ use lalrpop_norm_tree::grammar::parse_tree::{
 use std::alloc::Global;
 
 /// The nonterminal of the text of a symbol.
-pub(super) fn name_of(alloc: Global, kind: &SymbolKind) -> Result<NonterminalString, NoMemory>
+fn name_of(alloc: Global, kind: &SymbolKind) -> Result<NonterminalString, NoMemory>
     ensures { IfOk result (λ n. n.0 ≡ kind_text (kind_view kind.now)) }
 {
     let text = format!(in alloc; "{kind}")?;

@@ -2,11 +2,10 @@ use Rattle.std.proofs.Common.{◌≡◌, ◌-◌, ℕ, suc, arith, map, length, 
 use Rattle.std.specs.List.{flat_map}
 use Rattle.lalrpop_norm_tree.specs.declared.items.GrammarItem.{GrammarItem}
 use Rattle.std.proofs.lemmas.List.{length-map}
-use Rattle.lalrpop_norm_tree.specs.Symbols.{symbol_view}
 use Rattle.lalrpop_norm_tree.specs.Items.{GrammarData, item_view, grammar_view}
 use Rattle.lalrpop_norm_expand.specs.Making.{no_condition, item_names}
 use Rattle.lalrpop_norm_expand.specs.Expansion.{is_declared_name}
-use Rattle.lalrpop_norm_expand.specs.Meeting.{seen_of, has_key}
+use Rattle.lalrpop_norm_expand.specs.Meeting.{met_view, seen_of, has_key}
 use Rattle.lalrpop_norm_expand.proofs.NameLemmas.{rule_names_are}
 use Rattle.lalrpop_norm_expand.proofs.RoundLemmas.{AtRound, err_refuses, first_round, shared_refused, cap_refused, unmade_refused, next_round, grown, last_round}
 use Rattle.lalrpop_norm_expand.proofs.macro_expand.expand_rounds.Goals as goal
@@ -39,7 +38,7 @@ returns-in_err-read_items-clause-refuses c = λ value.
 pub returns-then-met-from-clause-refuses : goal.returns-then-met-from-clause-refuses
 returns-then-met-from-clause-refuses c = λ value.
     let long : length (seen_of c.read_items.new.expander) ≡ c.len-met.result =
-    omega (arith, length-map c.read_items.new.expander.met.items symbol_view, c.read_items.new.expander.met.ok.0, c.len-met.ensures) in
+    omega (arith, length-map c.read_items.new.expander.met.items met_view, c.read_items.new.expander.met.ok.0, c.len-met.ensures) in
     (last_round value (grammar_view c.args.grammar) c.requires _ _ _ c.rounds.expander _ _ c.rounds.invariant.names (c.rounds.invariant.rounds value)
     c.read_items.new.expander c.in_ok-read_items.ensures.met c.in_ok-read_items.ensures.refuses
     (omega (arith, c.rounds.invariant.bound)) (long ∙ c.if-met-from.true ∙ c.rounds.invariant.place) _ c.in_ok-read_items.ensures.value).faultless
@@ -47,7 +46,7 @@ returns-then-met-from-clause-refuses c = λ value.
 pub returns-then-met-from-clause-whole : goal.returns-then-met-from-clause-whole
 returns-then-met-from-clause-whole c = λ value.
     let long : length (seen_of c.read_items.new.expander) ≡ c.len-met.result =
-    omega (arith, length-map c.read_items.new.expander.met.items symbol_view, c.read_items.new.expander.met.ok.0, c.len-met.ensures) in
+    omega (arith, length-map c.read_items.new.expander.met.items met_view, c.read_items.new.expander.met.ok.0, c.len-met.ensures) in
     (last_round value (grammar_view c.args.grammar) c.requires _ _ _ c.rounds.expander _ _ c.rounds.invariant.names (c.rounds.invariant.rounds value)
     c.read_items.new.expander c.in_ok-read_items.ensures.met c.in_ok-read_items.ensures.refuses
     (omega (arith, c.rounds.invariant.bound)) (long ∙ c.if-met-from.true ∙ c.rounds.invariant.place) _ c.in_ok-read_items.ensures.value).whole
@@ -55,7 +54,7 @@ returns-then-met-from-clause-whole c = λ value.
 pub returns-then-met-from-clause-plain : goal.returns-then-met-from-clause-plain
 returns-then-met-from-clause-plain c = λ value.
     let long : length (seen_of c.read_items.new.expander) ≡ c.len-met.result =
-    omega (arith, length-map c.read_items.new.expander.met.items symbol_view, c.read_items.new.expander.met.ok.0, c.len-met.ensures) in
+    omega (arith, length-map c.read_items.new.expander.met.items met_view, c.read_items.new.expander.met.ok.0, c.len-met.ensures) in
     let last =
     last_round value (grammar_view c.args.grammar) c.requires _ _ _ c.rounds.expander _ _ c.rounds.invariant.names (c.rounds.invariant.rounds value)
     c.read_items.new.expander c.in_ok-read_items.ensures.met c.in_ok-read_items.ensures.refuses
@@ -68,14 +67,14 @@ past_cap-requires c =
     let f = c.read_items.new.expander in
     let more = grown no_condition (grammar_view c.args.grammar) c.requires _ _ _ c.rounds.expander _ _ c.rounds.invariant.names (c.rounds.invariant.rounds no_condition)
     f c.in_ok-read_items.ensures.met c.in_ok-read_items.ensures.refuses in
-    omega (arith, more, c.rounds.invariant.place, length-map f.met.items symbol_view, f.met.ok.0, c.len-met.ensures)
+    omega (arith, more, c.rounds.invariant.place, length-map f.met.items met_view, f.met.ok.0, c.len-met.ensures)
 
-pub make_rules-requires : goal.make_rules-requires
-make_rules-requires c =
+pub make_rules-requires-clause-from : goal.make_rules-requires-clause-from
+make_rules-requires-clause-from c =
     let f = c.read_items.new.expander in
     let more = grown no_condition (grammar_view c.args.grammar) c.requires _ _ _ c.rounds.expander _ _ c.rounds.invariant.names (c.rounds.invariant.rounds no_condition)
     f c.in_ok-read_items.ensures.met c.in_ok-read_items.ensures.refuses in
-    omega (arith, more, c.rounds.invariant.place, length-map f.met.items symbol_view)
+    omega (arith, more, c.rounds.invariant.place, length-map f.met.items met_view)
 
 pub returns-then-left-eq0-clause-refuses : goal.returns-then-left-eq0-clause-refuses
 returns-then-left-eq0-clause-refuses c = λ value.
@@ -93,7 +92,7 @@ returns-in_err-pending-clause-refuses c = λ value.
 pub rounds-preserved : goal.rounds-preserved
 rounds-preserved c =
     let f = c.read_items.new.expander in
-    let long : c.len-met.result ≡ length (seen_of f) = omega (arith, length-map f.met.items symbol_view, f.met.ok.0, c.len-met.ensures) in
+    let long : c.len-met.result ≡ length (seen_of f) = omega (arith, length-map f.met.items met_view, f.met.ok.0, c.len-met.ensures) in
     let round : suc (c.args.limit - c.rounds.left) ≡ c.args.limit - (c.rounds.left - 1) = omega (arith, c.rounds.invariant.bound) in
     record {
       grammar = c.rounds.invariant.grammar;

@@ -1,6 +1,7 @@
 use Rattle.std.proofs.Common.{◌-◌, map, arith}
 use Rattle.lalrpop_norm_tree.specs.Items.{item_view}
 use Rattle.lalrpop_norm_expand.proofs.BackLemmas.{quiet_back, made_back, exit_back}
+use Rattle.lalrpop_norm_expand.proofs.IndexLemmas.{named_at}
 use Rattle.lalrpop_norm_expand.proofs.macro_expand.make_rules.Goals as goal
 
 pub returns-in_err-add_rule-clause-refuses : goal.returns-in_err-add_rule-clause-refuses
@@ -17,3 +18,7 @@ loop-i-preserved c = record {
   rules = made_back c.args.expander.now.met.items (c.loop-i.i - 1) c.loop-i.i c.index.result.now (omega arith) (omega arith) c.index.ensures
       (map item_view c.loop-i.rules.items) (map item_view c.add_rule.new.items.items) c.loop-i.invariant.rules c.in_ok-add_rule.ensures.adds;
 }
+
+pub add_rule-requires : goal.add_rule-requires
+add_rule-requires c =
+    named_at c.args.expander.now.met.items (c.loop-i.i - 1) c.index.result.now c.requires.named (omega arith) c.index.ensures

@@ -5,19 +5,23 @@ use Rattle.std.proofs.lemmas.Bool.{false_from_ne_true}
 use Rattle.std.proofs.lemmas.List.{length-map, map-append}
 use Rattle.std.proofs.lemmas.Slice.Eq.{bytes_eq-Decides}
 use Rattle.std.proofs.lemmas.Map.Text.{is_eq-slice_cmp}
-use Rattle.lalrpop_norm_tree.specs.declared.symbol.Symbol.{Symbol}
 use Rattle.lalrpop_norm_tree.specs.Symbols.{Part, symbol_view}
-use Rattle.lalrpop_norm_expand.specs.Meeting.{first_with_text, place_noted, is_taken_by}
+use Rattle.lalrpop_norm_tree.specs.SymbolTexts.{part_text}
+use Rattle.lalrpop_norm_expand.specs.Meeting.{met_view, first_with_text, place_noted, is_taken_by}
+use Rattle.lalrpop_norm_expand.specs.declared.macro_expand.expander.Met.{Met}
 use Rattle.lalrpop_norm_expand.proofs.InwardLemmas.{inward_more}
-use Rattle.lalrpop_norm_expand.proofs.IndexLemmas.{AtPlaces, at_places_more}
+use Rattle.lalrpop_norm_expand.proofs.IndexLemmas.{AtPlaces, at_places_more, named_more}
 use Rattle.lalrpop_norm_expand.proofs.macro_expand.expander.Expander.put.Goals as goal
 
 pub returns-clause-indexed : goal.returns-clause-indexed
 returns-clause-indexed c =
-    let ss : List Symbol = c.args.self.now.met.items in
-    let seen : List Part = map symbol_view ss in
+    let ss : List Met = c.args.self.now.met.items in
+    let last : Met = record { name = c.args.name; symbol = c.args.symbol } in
+    let seen : List Part = map met_view ss in
     let x : Part = symbol_view c.args.symbol in
-    let long : length seen ≡ length ss = length-map ss symbol_view in
+    let key : List ℕ = c.in_ok-key.key in
+    let keyed : key ≡ part_text x = c.in_ok-key.ensures.cases ∙ c.requires.named in
+    let long : length seen ≡ length ss = length-map ss met_view in
     let before : AtPlaces (place_noted c.args.self.now) seen = record {
       finds = c.requires.indexed.finds;
       in_range = λ t i e. rw long (c.requires.indexed.in_range t i e);
@@ -26,12 +30,13 @@ returns-clause-indexed c =
     let now : AtPlaces more (seen ++ x ∷ []) =
     at_places_more (place_noted c.args.self.now) more seen x before
     (ap (λ t. first_with_text t seen) (sym c.requires.named) ∙ c.requires.first)
-    (ap more (sym c.requires.named) ∙ c.in_ok-insert.ensures.updates.1 ∙ (let q : c.len-place.result ≡ length seen = omega (arith, c.args.self.now.met.ok.0, c.len-place.ensures, long) in ap Some q))
-    (λ t n. c.in_ok-insert.ensures.updates.2 t (is_eq-slice_cmp c.args.name t ∙ false_from_ne_true _ (λ e. n (sym ((bytes_eq-Decides c.args.name t).0 e) ∙ c.requires.named)))) in
-    let items : c.push.new.self.items ≡ ss ++ c.args.symbol ∷ [] = c.in_ok-push.ensures.items in
-    let views : map symbol_view c.push.new.self.items ≡ seen ++ x ∷ [] = ap (λ ts. map symbol_view ts) items ∙ map-append symbol_view ss (c.args.symbol ∷ []) in
+    (ap more (sym keyed) ∙ c.in_ok-insert.ensures.updates.1 ∙ (let q : c.len-place.result ≡ length seen = omega (arith, c.args.self.now.met.ok.0, c.len-place.ensures, long) in ap Some q))
+    (λ t n. c.in_ok-insert.ensures.updates.2 t (is_eq-slice_cmp key t ∙ false_from_ne_true _ (λ e. n (sym ((bytes_eq-Decides key t).0 e) ∙ keyed)))) in
+    let items : c.push.new.self.items ≡ ss ++ last ∷ [] = c.in_ok-push.ensures.items in
+    let views : map met_view c.push.new.self.items ≡ seen ++ x ∷ [] = ap (map met_view) items ∙ map-append met_view ss (last ∷ []) in
     record {
       finds = λ t. rw views (now.finds t);
-      in_range = λ t i e. omega (arith, now.in_range t i e, ap length views, length-map c.push.new.self.items symbol_view);
+      in_range = λ t i e. omega (arith, now.in_range t i e, ap length views, length-map c.push.new.self.items met_view);
+      named = rw items (named_more ss last c.requires.indexed.named c.requires.named);
       inward = rw views (inward_more (is_taken_by c.args.self.now) seen x c.requires.indexed.inward c.requires.inward);
     }
