@@ -5,6 +5,7 @@ pub mod Slots
 pub mod Code
 pub mod Lowering
 pub mod Typing
+pub mod Starts
 pub mod Conversions
 pub mod Carried
 pub mod Shape

@@ -10,9 +10,11 @@ ghost use Rattle.lalrpop_norm_repr.specs.Productions.{nonterminal_data_view, pro
 ghost use Rattle.lalrpop_norm_repr.specs.Tables.{type_table, rows};
 ghost use Rattle.lalrpop_norm_late.specs.Lowering.{rule_type, rule_entry, rule_rows, start_entry, start_rows, start_name, start_alternative, production_of, productions_from, sorted_onto};
 ghost use Rattle.lalrpop_norm_late.specs.Made.{types_by_name, alternatives_faults, made_starts_faults, made_rules_faults, made_action, made_starts, made_actions};
+ghost use Rattle.lalrpop_norm_late.specs.Starts.{start_rule, start_typed};
+ghost use Rattle.lalrpop_norm_late.specs.Typing.{start_types};
 
 use crate::alternatives::{lower_alternative, lower_alternatives};
-use crate::starts::{insert, rule_type, start_alternative, start_name};
+use crate::starts::{Start, insert, rule_type, start_alternative};
 use crate::typing::unit_type;
 use lalrpop_norm_faults::{FaultKind, NormResult, refusal};
 use lalrpop_norm_parts::attribute::copy::copy_attributes;
@@ -25,46 +27,40 @@ use std::alloc::Global;
 use std::collections::BTreeMap;
 
 /// Refuses a start symbol whose name has a type already.
-fn check_start(
-    alloc: Global,
-    prefix: &str,
-    types: &Types,
-    rule: &pt::NonterminalData,
-    name: &NonterminalString,
-) -> NormResult<()>
-    requires { name.now ≡ start_name prefix.now rule.now.name }
-    ensures { Refuses result (start_faults prefix.now (types_by_name (type_table types.now)) (rule_view rule.now)) }
+fn check_start(alloc: Global, prefix: &str, types: &Types, start: &Start) -> NormResult<()>
+    requires { start.now.name ≡ start_name prefix.now start.now.rule.now.name }
+    ensures { Refuses result (start_faults prefix.now (types_by_name (type_table types.now)) (start_rule start.now)) }
 {
-    if types.lookup_nonterminal_type(name).is_none() {
+    if types.lookup_nonterminal_type(&start.name).is_none() {
         return Ok(());
     }
     Err(refusal(
         FaultKind::StartTaken,
-        rule.span,
-        format!(in alloc; "`{name}`, the name of a start symbol, is taken"),
+        start.rule.span,
+        format!(in alloc; "`{}`, the name of a start symbol, is taken", start.name),
     ))
 }
 
-/// The start symbol of a rule.
+/// The start symbol of a public rule.
 fn lower_start(
     alloc: Global,
     prefix: &str,
     types: &Types,
-    rule: &pt::NonterminalData,
-    name: &NonterminalString,
+    start: &Start,
     actions: &mut Vec<ActionFnDefn>,
 ) -> NormResult<NonterminalData>
-    requires { name.now ≡ start_name prefix.now rule.now.name }
-    ensures refuses { Refuses result (start_faults prefix.now (types_by_name (type_table types.now)) (rule_view rule.now) ++ action_number_faults (vec_len actions.old) rule.now.span) }
+    requires name { start.now.name ≡ start_name prefix.now start.now.rule.now.name }
+    requires ty { repr_view start.now.ty ≡ rule_type (type_table types.now) (start_rule start.now) }
+    ensures refuses { Refuses result (start_faults prefix.now (types_by_name (type_table types.now)) (start_rule start.now) ++ action_number_faults (vec_len actions.old) start.now.rule.now.span) }
     ensures lowered { IfOk result (λ n.
-        nonterminal_data_view n ≡ start_entry prefix.now (vec_len actions.old) (rule_view rule.now)) }
+        nonterminal_data_view n ≡ start_entry prefix.now (vec_len actions.old) (start_rule start.now)) }
     ensures adds { OnOk result (map action_defn_view actions.new.items ≡ map action_defn_view actions.old.items
-        ++ made_action prefix.now (type_table types.now) (rule_type (type_table types.now) (rule_view rule.now)) (start_alternative (rule_view rule.now)) ∷ []) }
+        ++ made_action prefix.now (type_table types.now) (rule_type (type_table types.now) (start_rule start.now)) (start_alternative (start_rule start.now)) ∷ []) }
     ensures count { OnOk result (vec_len actions.new ≡ vec_len actions.old + 1) }
 {
-    check_start(alloc, prefix, types, rule, name)?;
-    let production = start_production(alloc, prefix, types, rule, name, actions)?;
-    Ok(start_data(alloc, rule, production)?)
+    check_start(alloc, prefix, types, start)?;
+    let production = start_production(alloc, prefix, types, start, actions)?;
+    Ok(start_data(alloc, start.rule, production)?)
 }
 
 /// The production of a start symbol. Its action is added.
@@ -72,41 +68,26 @@ fn start_production(
     alloc: Global,
     prefix: &str,
     types: &Types,
-    rule: &pt::NonterminalData,
-    name: &NonterminalString,
+    start: &Start,
     actions: &mut Vec<ActionFnDefn>,
 ) -> NormResult<Production>
-    ensures refuses { Refuses result (action_number_faults (vec_len actions.old) rule.now.span) }
+    ensures refuses { Refuses result (action_number_faults (vec_len actions.old) start.now.rule.now.span) }
     ensures lowered { IfOk result (λ p.
-        production_view p ≡ production_of name.now (vec_len actions.old) (start_alternative (rule_view rule.now))) }
+        production_view p ≡ production_of start.now.name (vec_len actions.old) (start_alternative (start_rule start.now))) }
     ensures adds { OnOk result (map action_defn_view actions.new.items ≡ map action_defn_view actions.old.items
-        ++ made_action prefix.now (type_table types.now) (rule_type (type_table types.now) (rule_view rule.now)) (start_alternative (rule_view rule.now)) ∷ []) }
+        ++ made_action prefix.now (type_table types.now) (repr_view start.now.ty) (start_alternative (start_rule start.now)) ∷ []) }
     ensures count { OnOk result (vec_len actions.new ≡ vec_len actions.old + 1) }
 {
-    let unit = unit_type(alloc);
-    let ty = rule_type(types, rule, &unit);
-    production_of_start(alloc, prefix, types, rule, name, ty, actions)
-}
-
-/// The same, where the rule has that type.
-fn production_of_start(
-    alloc: Global,
-    prefix: &str,
-    types: &Types,
-    rule: &pt::NonterminalData,
-    name: &NonterminalString,
-    ty: &TypeRepr,
-    actions: &mut Vec<ActionFnDefn>,
-) -> NormResult<Production>
-    ensures refuses { Refuses result (action_number_faults (vec_len actions.old) rule.now.span) }
-    ensures lowered { IfOk result (λ p.
-        production_view p ≡ production_of name.now (vec_len actions.old) (start_alternative (rule_view rule.now))) }
-    ensures adds { OnOk result (map action_defn_view actions.new.items ≡ map action_defn_view actions.old.items
-        ++ made_action prefix.now (type_table types.now) (repr_view ty.now) (start_alternative (rule_view rule.now)) ∷ []) }
-    ensures count { OnOk result (vec_len actions.new ≡ vec_len actions.old + 1) }
-{
-    let alternative = start_alternative(alloc, rule)?;
-    lower_alternative(alloc, prefix, types, name, ty, &alternative, actions)
+    let alternative = start_alternative(alloc, start.rule)?;
+    lower_alternative(
+        alloc,
+        prefix,
+        types,
+        &start.name,
+        &start.ty,
+        &alternative,
+        actions,
+    )
 }
 
 /// The nonterminal of a start symbol with that one production.
@@ -195,20 +176,21 @@ pub(crate) fn lower_starts(
     alloc: Global,
     prefix: &str,
     types: &Types,
-    rules: &[&pt::NonterminalData],
+    starts: &[Start],
     actions: &mut Vec<ActionFnDefn>,
     nonterminals: &mut BTreeMap<NonterminalString, NonterminalData>,
 ) -> NormResult<()>
-    ensures refuses { Refuses result (made_starts_faults prefix.now (type_table types.now) (vec_len actions.old) (map (λ r. rule_view r.now) rules.now)) }
+    requires { map start_typed starts.now ≡ start_types prefix.now (type_table types.now) (map start_rule starts.now) }
+    ensures refuses { Refuses result (made_starts_faults prefix.now (type_table types.now) (vec_len actions.old) (map start_rule starts.now)) }
     ensures table { OnOk result (rows nonterminal_data_view nonterminals.new
-        ≡ sorted_onto (rows nonterminal_data_view nonterminals.old) (start_rows prefix.now (vec_len actions.old) (map (λ r. rule_view r.now) rules.now))) }
+        ≡ sorted_onto (rows nonterminal_data_view nonterminals.old) (start_rows prefix.now (vec_len actions.old) (map start_rule starts.now))) }
     ensures adds { OnOk result (map action_defn_view actions.new.items
-        ≡ map action_defn_view actions.old.items ++ made_starts prefix.now (type_table types.now) (map (λ r. rule_view r.now) rules.now)) }
-    ensures count { OnOk result (vec_len actions.new ≡ vec_len actions.old + length rules.now) }
+        ≡ map action_defn_view actions.old.items ++ made_starts prefix.now (type_table types.now) (map start_rule starts.now)) }
+    ensures count { OnOk result (vec_len actions.new ≡ vec_len actions.old + length starts.now) }
 {
-    for rule in rules {
-        let name = start_name(alloc, prefix, &rule.name)?;
-        let data = lower_start(alloc, prefix, types, rule, &name, actions)?;
+    for start in starts {
+        let name = start.name.clone()?;
+        let data = lower_start(alloc, prefix, types, start, actions)?;
         insert(nonterminals, name, data)?;
     }
     Ok(())

@@ -15,12 +15,14 @@ ghost use Rattle.lalrpop_norm_late.specs.Active.{active_grammar};
 ghost use Rattle.lalrpop_norm_late.specs.Lowering.{rules_among, public_rules_in, start_rows, rule_rows, sorted_onto};
 ghost use Rattle.lalrpop_norm_late.specs.Made.{types_by_name, made_faults, made_starts_faults, made_rules_faults, made_starts, made_actions, IsMade};
 ghost use Rattle.lalrpop_norm_late.specs.Shape.{IsLoweringOf};
+ghost use Rattle.lalrpop_norm_late.specs.Starts.{start_rule, start_typed};
+ghost use Rattle.lalrpop_norm_late.specs.Typing.{start_types};
 
 use crate::head::{algorithm_of, head_of, signature_of};
 use crate::nonterminals::{lower_rules, lower_starts};
 use crate::recovery::uses_recovery;
 use crate::rules::{public_rules, rules_of};
-use crate::starts::start_table;
+use crate::starts::{Start, start_table, starts_of};
 use crate::tokens::terminals_of;
 use crate::typing::add_start_types;
 use lalrpop_norm_faults::NormResult;
@@ -77,11 +79,12 @@ fn lower_over<L>(
     ensures lowered { IfOk result (λ l. IsMade (features_view session.now.features) (written.grammar_view grammar.now) (type_table types) (lowered.lowered_grammar_view l)) }
 {
     let prefix = grammar.prefix.as_str();
-    let produced = produce(alloc, prefix, &types, rules, public)?;
+    let starts = starts_of(alloc, prefix, &types, public)?;
+    let produced = produce(alloc, prefix, &types, rules, &starts)?;
     let head = head_of(alloc, grammar)?;
     let signature = signature_of(alloc, grammar)?;
-    let starts = start_table(alloc, prefix, public)?;
-    add_start_types(alloc, prefix, public, &mut types)?;
+    let start_nonterminals = start_table(alloc, &starts)?;
+    add_start_types(&mut types, starts)?;
     types.rows_ascend();
     let recovers = uses_recovery(rules);
     let (terminals, conversions) = terminals_of(alloc, session, grammar, recovers)?;
@@ -89,7 +92,7 @@ fn lower_over<L>(
         prefix: head.prefix,
         algorithm: algorithm_of(&grammar.attributes),
         uses_error_recovery: recovers,
-        start_nonterminals: starts,
+        start_nonterminals,
         uses: head.uses,
         type_parameters: signature.type_parameters,
         parameters: signature.parameters,
@@ -116,16 +119,17 @@ fn produce(
     prefix: &str,
     types: &Types,
     rules: &[&pt::NonterminalData],
-    public: &[&pt::NonterminalData],
+    starts: &[Start],
 ) -> NormResult<Produced>
-    ensures refuses { Refuses result (made_starts_faults prefix.now (type_table types.now) 0 (map (λ r. written.rule_view r.now) public.now)
-        ++ made_rules_faults (length (map (λ r. written.rule_view r.now) public.now)) (map (λ r. written.rule_view r.now) rules.now)) }
+    requires { map start_typed starts.now ≡ start_types prefix.now (type_table types.now) (map start_rule starts.now) }
+    ensures refuses { Refuses result (made_starts_faults prefix.now (type_table types.now) 0 (map start_rule starts.now)
+        ++ made_rules_faults (length (map start_rule starts.now)) (map (λ r. written.rule_view r.now) rules.now)) }
     ensures actions { IfOk result (λ p. map action_defn_view p.actions.items
-        ≡ made_starts prefix.now (type_table types.now) (map (λ r. written.rule_view r.now) public.now)
+        ≡ made_starts prefix.now (type_table types.now) (map start_rule starts.now)
         ++ made_actions prefix.now (type_table types.now) (map (λ r. written.rule_view r.now) rules.now)) }
     ensures nonterminals { IfOk result (λ p. rows nonterminal_data_view p.nonterminals
-        ≡ sorted_onto (sorted_onto [] (start_rows prefix.now 0 (map (λ r. written.rule_view r.now) public.now)))
-        (rule_rows (length (map (λ r. written.rule_view r.now) public.now)) (map (λ r. written.rule_view r.now) rules.now))) }
+        ≡ sorted_onto (sorted_onto [] (start_rows prefix.now 0 (map start_rule starts.now)))
+        (rule_rows (length (map start_rule starts.now)) (map (λ r. written.rule_view r.now) rules.now))) }
 {
     let mut actions = Vec::new(alloc);
     let mut nonterminals = BTreeMap::new(alloc);
@@ -133,7 +137,7 @@ fn produce(
         alloc,
         prefix,
         types,
-        public,
+        starts,
         &mut actions,
         &mut nonterminals,
     )?;
