@@ -67,7 +67,7 @@ module _ (f : ItemData → List Global) (none : (r : RuleData) → f (rule_item 
   no_rules [] rest = refl
   no_rules (r ∷ rs) rest = ap (λ xs. xs ++ flat_map f (map rule_item rs ++ rest)) (none r) ∙ no_rules rs rest
 
-  other_globals : (is : List ItemData) → flat_map f (flat_map level_items is) ≡ flat_map f is
+  pub other_globals : (is : List ItemData) → flat_map f (flat_map level_items is) ≡ flat_map f is
   other_globals [] = refl
   other_globals (rule_item r ∷ is) =
       no_rules (level_rules r) (flat_map level_items is) ∙ other_globals is ∙ ap (λ xs. xs ++ flat_map f is) (sym (none r))
@@ -81,7 +81,7 @@ some_place [] h = absurd (cc h)
 some_place (a ∷ xs) h = (a, inl refl)
 
 -- a rule with levels has one
-some_level : (r : RuleData) → has_levels (all_places r) ≡ true → (l : ℕ) × In l (levels_of (with_levels (all_places r)))
+pub some_level : (r : RuleData) → has_levels (all_places r) ≡ true → (l : ℕ) × In l (levels_of (with_levels (all_places r)))
 some_level r h =
     let (a, i) = some_place r.alternatives h in
     let (k, j) = in_numbered (leveled_at (all_places r)) 0 (all_places r) (Some a) (in_map Some a r.alternatives i) in

@@ -9,5 +9,6 @@ mod SeveralLemmas
 pub mod LevelNameLemmas
 pub mod LevelFaultLemmas
 pub mod SettledLemmas
+mod MadeNameLemmas
 pub mod PrecedenceLemmas
 pub mod PrecedenceExamples

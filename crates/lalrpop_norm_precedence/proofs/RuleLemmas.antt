@@ -65,7 +65,7 @@ last_greater : (x l : ℕ) (b : Bool) → Decides b (x < l) → x < l → cond b
 last_greater x l true d lt = refl
 last_greater x l false d lt = let no = d.1 lt in cc
 
-greatest_last : (xs : List ℕ) (l : ℕ) → IsRising (xs ++ l ∷ []) → greatest (xs ++ l ∷ []) ≡ Some l
+pub greatest_last : (xs : List ℕ) (l : ℕ) → IsRising (xs ++ l ∷ []) → greatest (xs ++ l ∷ []) ≡ Some l
 greatest_last [] l r = refl
 greatest_last (x ∷ xs) l r =
     ap (λ o. Some (greater x o)) (greatest_last xs l r.1)

@@ -20,7 +20,7 @@ use Rattle.lalrpop_norm_resolve.specs.declared.resolve.Def.{Def}
 use Rattle.lalrpop_norm_resolve.specs.NameFaults.{repeated_faults, repeated_argument_faults, alternative_name_faults, item_name_faults}
 use Rattle.lalrpop_norm_resolve.specs.NameTables.{sense_seen, def_of, NameRow, found_def, sense_in, with_def, all_rows, row_faults, rows_faults, items_globals, names_faults, item_faults_in, resolved_item_in}
 
-turned : (xs ys : List ℕ) → bytes_eq xs ys ≡ bytes_eq ys xs
+pub turned : (xs ys : List ℕ) → bytes_eq xs ys ≡ bytes_eq ys xs
 turned xs ys =
     let other = bytes_eq-Decides ys xs in
     same_from_decides _ _ (bytes_eq-Decides xs ys) ((λ e. sym (other.0 e)), λ e. other.1 (sym e))
@@ -125,11 +125,11 @@ said_more rows ds d new h q =
     (λ e. ap (λ n. is_some (definition_of ds n)) (sym ((bytes_eq-Decides d.name q).0 e)) ∙ new) (h q)
     ∙ ap (λ o. option_map def_of o) (sym (defined_more ds d q))
 
-is_new : (b : Bool) (f : Fault) (fs : List Fault) → fault_if b f ++ fs ≡ [] → b ≡ false
+pub is_new : (b : Bool) (f : Fault) (fs : List Fault) → fault_if b f ++ fs ≡ [] → b ≡ false
 is_new true f fs h = cc
 is_new false f fs h = refl
 
-later : (b : Bool) (f : Fault) (fs : List Fault) → fault_if b f ++ fs ≡ [] → fs ≡ []
+pub later : (b : Bool) (f : Fault) (fs : List Fault) → fault_if b f ++ fs ≡ [] → fs ≡ []
 later true f fs h = cc
 later false f fs h = h
 

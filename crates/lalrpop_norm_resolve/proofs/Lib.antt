@@ -2,3 +2,4 @@ pub mod NameLemmas
 pub mod TableLemmas
 pub mod GlobalLemmas
 pub mod ResolvedFaults
+pub mod NewNameLemmas

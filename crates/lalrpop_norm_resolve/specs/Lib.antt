@@ -1,2 +1,3 @@
 pub mod NameFaults
 pub mod NameTables
+pub mod NewNames

@@ -1,4 +1,5 @@
 //! Names in a grammar: what each one means.
 #![tactic(auto)]
 
+pub mod names;
 pub mod resolve;

@@ -2,22 +2,21 @@
 //!
 //! Global names come in this order: rules, then the bare terminals of conversions, then those of match blocks. In a rule a name is
 //! the rule's argument of that name, else the global one.
-ghost use Rattle.std.specs.Prelude.{◌≡◌, [], OnOk, IfOk, map};
-ghost use Rattle.lalrpop_norm_tree.specs.Items.{grammar_view, item_view};
+ghost use Rattle.std.specs.Prelude.{◌≡◌, [], IfOk};
+ghost use Rattle.lalrpop_norm_tree.specs.Items.{grammar_view};
 ghost use Rattle.lalrpop_norm_faults.specs.Faults.{Refuses, RefusesOr};
-ghost use Rattle.lalrpop_norm_model.specs.Scopes.{globals, resolved_item, resolved_grammar};
+ghost use Rattle.lalrpop_norm_model.specs.Scopes.{globals, resolved_grammar};
 ghost use Rattle.lalrpop_norm_resolve.specs.NameFaults.{repeated_faults, resolve_faults};
-ghost use Rattle.lalrpop_norm_resolve.specs.NameTables.{items_globals, names_faults};
 
-mod globals;
-mod items;
+pub(crate) mod globals;
+pub(crate) mod items;
 mod rules;
-mod symbols;
+pub(crate) mod symbols;
 
+use crate::names::resolve_names;
 use globals::globals_of;
-use items::resolve_items;
 use lalrpop_norm_faults::NormResult;
-use lalrpop_norm_tree::grammar::parse_tree::{Grammar, GrammarItem};
+use lalrpop_norm_tree::grammar::parse_tree::Grammar;
 use std::alloc::Global;
 
 /// What a name stands for.
@@ -53,8 +52,8 @@ pub fn resolve(alloc: Global, grammar: Grammar) -> NormResult<Grammar>
     // resolving what it answers finds no fault and changes nothing
     ensures once { IfOk result (λ g. (resolve_faults (grammar_view g) ≡ []) × (resolved_grammar (grammar_view g) ≡ grammar_view g)) }
 {
-    let grammar = resolve_names(alloc, grammar)?;
-    Ok(grammar)
+    let resolved = resolve_names(alloc, grammar)?;
+    Ok(resolved.grammar)
 }
 
 /// Looks for a name that is defined twice among the global ones (F25), and refuses it at the later definition.
@@ -65,21 +64,5 @@ pub fn check_globals(alloc: Global, grammar: &Grammar) -> NormResult<()>
     ensures { Refuses result (repeated_faults [] (globals (grammar_view grammar.now))) }
 {
     let _globals = globals_of(alloc, &grammar.items)?;
-    Ok(())
-}
-
-fn resolve_names(alloc: Global, mut grammar: Grammar) -> NormResult<Grammar>
-    ensures { RefusesOr result (resolve_faults (grammar_view grammar)) (λ g. grammar_view g ≡ resolved_grammar (grammar_view grammar)) }
-{
-    resolve_in_place(alloc, &mut grammar.items)?;
-    Ok(grammar)
-}
-
-fn resolve_in_place(alloc: Global, items: &mut [GrammarItem]) -> NormResult<()>
-    ensures refuses { Refuses result (names_faults (map item_view items.old)) }
-    ensures resolves { OnOk result (map item_view items.new ≡ map (resolved_item (items_globals (map item_view items.old))) (map item_view items.old)) }
-{
-    let globals = globals_of(alloc, items)?;
-    resolve_items(alloc, &globals, items)?;
     Ok(())
 }

@@ -1,16 +1,20 @@
 //! The pass over a grammar: names, levels, and the names of levels.
-ghost use Rattle.std.specs.Prelude.{◌≡◌, IfOk, map, flat_map};
+ghost use Rattle.std.specs.Prelude.{◌≡◌, [], true, IfOk, map, flat_map};
 ghost use Rattle.lalrpop_norm_tree.specs.Items.{grammar_view, item_view, rule_view};
 ghost use Rattle.lalrpop_norm_faults.specs.Faults.{Refuses, RefusesOr};
-ghost use Rattle.lalrpop_norm_model.specs.Scopes.{resolved_grammar};
+ghost use Rattle.lalrpop_norm_model.specs.Scopes.{globals, resolved_grammar};
 ghost use Rattle.lalrpop_norm_model.specs.LevelRules.{leveled_grammar};
+ghost use Rattle.lalrpop_norm_resolve.specs.NameFaults.{repeated_faults};
+ghost use Rattle.lalrpop_norm_resolve.specs.NewNames.{table_rows, are_new};
 ghost use Rattle.lalrpop_norm_precedence.specs.MacroLevels.{macro_level_faults, macro_item_faults};
 ghost use Rattle.lalrpop_norm_precedence.specs.PrecedenceFaults.{precedence_faults};
 
-use super::{expand_levels, has_several_levels};
+use super::grammar::make_levels;
+use super::has_several_levels;
 use lalrpop_norm_faults::{FaultKind, NormResult, refusal};
-use lalrpop_norm_resolve::resolve::{check_globals, resolve};
-use lalrpop_norm_tree::grammar::parse_tree::{Grammar, GrammarItem, NonterminalData};
+use lalrpop_norm_resolve::names::{GlobalNames, are_new, resolve_names};
+use lalrpop_norm_resolve::resolve::check_globals;
+use lalrpop_norm_tree::grammar::parse_tree::{Atom, Grammar, GrammarItem, NonterminalData};
 use std::alloc::Global;
 
 /// The grammar with levels: its names resolved, in the place of each rule the rules of its levels, macro definitions
@@ -25,13 +29,26 @@ pub fn expand_precedence(alloc: Global, grammar: Grammar) -> NormResult<Grammar>
     // nothing is left to resolve
     ensures resolved { IfOk result (λ g. resolved_grammar (grammar_view g) ≡ grammar_view g) }
 {
-    let resolved = resolve(alloc, grammar)?;
+    let resolved = resolve_names(alloc, grammar)?;
     // told only after the names of levels were looked at
-    let macros = check_macros(alloc, &resolved.items);
-    let leveled = expand_levels(alloc, resolved)?;
-    check_globals(alloc, &leveled)?;
+    let macros = check_macros(alloc, &resolved.grammar.items);
+    let leveled = make_levels(alloc, resolved.grammar)?;
+    check_made(alloc, resolved.names, &leveled.made, &leveled.grammar)?;
     macros?;
-    Ok(leveled)
+    Ok(leveled.grammar)
+}
+
+/// Looks for the name of a level that is taken: those that were made are looked up among the names of the grammar before
+/// its levels were made, and only where one of them is there the names of the grammar with levels are listed.
+fn check_made(alloc: Global, names: GlobalNames, made: &[Atom], leveled: &Grammar) -> NormResult<()>
+    requires { are_new (table_rows names) made.now ≡ true → repeated_faults [] (globals (grammar_view leveled.now)) ≡ [] }
+    ensures { Refuses result (repeated_faults [] (globals (grammar_view leveled.now))) }
+{
+    if are_new(names, made)? {
+        return Ok(());
+    }
+    check_globals(alloc, leveled)?;
+    Ok(())
 }
 
 /// Looks for a macro with two levels or more.

@@ -1,13 +1,16 @@
 //! The grammar with levels.
-ghost use Rattle.std.specs.Prelude.{◌≡◌, ◌++◌, OnOk, map, flat_map};
+ghost use Rattle.std.specs.Prelude.{◌≡◌, ◌++◌, IfOk, OnOk, map, flat_map};
 ghost use Rattle.lalrpop_norm_tree.specs.Items.{rule_item, rule_view, item_view, grammar_view};
 ghost use Rattle.lalrpop_norm_faults.specs.Faults.{RefusesOr};
 ghost use Rattle.lalrpop_norm_model.specs.LevelRules.{level_items, leveled_grammar};
 ghost use Rattle.lalrpop_norm_precedence.specs.LevelFaults.{item_level_faults, grammar_level_faults};
+ghost use Rattle.lalrpop_norm_precedence.specs.MadeNames.{rule_name, without_last, item_made_names, grammar_made_names};
 
 use super::expand_nonterm;
 use lalrpop_norm_faults::NormResult;
-use lalrpop_norm_tree::grammar::parse_tree::{Grammar, GrammarItem, NoMemory, NonterminalData};
+use lalrpop_norm_tree::grammar::parse_tree::{
+    Atom, Grammar, GrammarItem, NoMemory, NonterminalData,
+};
 use std::alloc::Global;
 use std::mem;
 
@@ -21,31 +24,63 @@ use std::mem;
 pub fn expand_levels(alloc: Global, grammar: Grammar) -> NormResult<Grammar>
     ensures { RefusesOr result (grammar_level_faults (grammar_view grammar)) (λ g. grammar_view g ≡ leveled_grammar (grammar_view grammar)) }
 {
-    let mut leveled = grammar;
-    let items = mem::replace(&mut leveled.items, Vec::new(alloc));
-    leveled.items = expand_items(alloc, items)?;
-    Ok(leveled)
+    let leveled = make_levels(alloc, grammar)?;
+    Ok(leveled.grammar)
 }
 
-fn expand_items(alloc: Global, items: Vec<GrammarItem>) -> NormResult<Vec<GrammarItem>>
-    ensures { RefusesOr result (flat_map item_level_faults (map item_view items.items))
+/// A grammar with levels, and the names made for it: of each rule those of its levels but the highest.
+#[derive(Drop)]
+pub(super) struct Leveled {
+    pub(super) grammar: Grammar,
+    pub(super) made: Vec<Atom>,
+}
+
+/// The grammar with levels, and the names made for it.
+pub(super) fn make_levels(alloc: Global, grammar: Grammar) -> NormResult<Leveled>
+    ensures value { RefusesOr result (grammar_level_faults (grammar_view grammar)) (λ l. grammar_view l.grammar ≡ leveled_grammar (grammar_view grammar)) }
+    ensures names { IfOk result (λ l. l.made.items ≡ grammar_made_names (grammar_view grammar)) }
+{
+    let mut leveled = grammar;
+    let mut made = Vec::new(alloc);
+    let items = mem::replace(&mut leveled.items, Vec::new(alloc));
+    leveled.items = expand_items(alloc, items, &mut made)?;
+    Ok(Leveled {
+        grammar: leveled,
+        made,
+    })
+}
+
+fn expand_items(
+    alloc: Global,
+    items: Vec<GrammarItem>,
+    names: &mut Vec<Atom>,
+) -> NormResult<Vec<GrammarItem>>
+    ensures value { RefusesOr result (flat_map item_level_faults (map item_view items.items))
         (λ made. map item_view made.items ≡ flat_map level_items (map item_view items.items)) }
+    ensures names { OnOk result (names.new.items ≡ names.old.items ++ flat_map item_made_names (map item_view items.items)) }
 {
     let mut made = Vec::new(alloc);
     for item in items {
-        expand_item(alloc, item, &mut made)?;
+        expand_item(alloc, item, &mut made, names)?;
     }
     Ok(made)
 }
 
-/// Puts what stands for an item behind the items made so far.
-fn expand_item(alloc: Global, item: GrammarItem, made: &mut Vec<GrammarItem>) -> NormResult<()>
-    ensures { RefusesOr result (item_level_faults (item_view item))
+/// Puts what stands for an item behind the items made so far, and the names made for it behind those so far.
+fn expand_item(
+    alloc: Global,
+    item: GrammarItem,
+    made: &mut Vec<GrammarItem>,
+    names: &mut Vec<Atom>,
+) -> NormResult<()>
+    ensures value { RefusesOr result (item_level_faults (item_view item))
         (λ u. map item_view made.new.items ≡ map item_view made.old.items ++ level_items (item_view item)) }
+    ensures names { OnOk result (names.new.items ≡ names.old.items ++ item_made_names (item_view item)) }
 {
     match item {
         GrammarItem::Nonterminal(rule) => {
             let rules = expand_nonterm(alloc, rule)?;
+            push_made(&rules, names)?;
             push_rules(rules, made)?;
             Ok(())
         }
@@ -66,6 +101,26 @@ fn expand_item(alloc: Global, item: GrammarItem, made: &mut Vec<GrammarItem>) ->
             Ok(())
         }
     }
+}
+
+/// Puts the names of the rules of levels, but for the highest, behind the names made so far.
+#[tactic(auto, using(crate::proofs::MadeNameLemmas::without_last_view))]
+fn push_made(rules: &[NonterminalData], names: &mut Vec<Atom>) -> Result<(), NoMemory>
+    ensures { OnOk result (names.new.items ≡ names.old.items ++ map rule_name (without_last (map rule_view rules.now))) }
+{
+    match rules.split_last() {
+        Some((_, lower)) => push_names(lower, names),
+        None => Ok(()),
+    }
+}
+
+fn push_names(rules: &[NonterminalData], names: &mut Vec<Atom>) -> Result<(), NoMemory>
+    ensures { OnOk result (names.new.items ≡ names.old.items ++ map rule_name (map rule_view rules.now)) }
+{
+    for rule in rules {
+        names.push(rule.name.0.again())?;
+    }
+    Ok(())
 }
 
 fn push_rules(rules: Vec<NonterminalData>, made: &mut Vec<GrammarItem>) -> Result<(), NoMemory>

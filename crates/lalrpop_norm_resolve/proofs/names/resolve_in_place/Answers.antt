@@ -5,7 +5,7 @@ use Rattle.lalrpop_norm_faults.proofs.FaultLemmas.{exit_at}
 use Rattle.lalrpop_norm_resolve.specs.NameFaults.{item_name_faults}
 use Rattle.lalrpop_norm_resolve.specs.NameTables.{items_globals, rows_faults, item_faults_in}
 use Rattle.lalrpop_norm_resolve.proofs.GlobalLemmas.{faults_listed, faults_in_items, resolved_by_table}
-use Rattle.lalrpop_norm_resolve.proofs.resolve.resolve_in_place.Goals as goal
+use Rattle.lalrpop_norm_resolve.proofs.names.resolve_in_place.Goals as goal
 
 pub returns-in_err-globals-clause-refuses : goal.returns-in_err-globals-clause-refuses
 returns-in_err-globals-clause-refuses c =

@@ -1,0 +1,79 @@
+//! Global names handed on: a grammar whose names are resolved, beside the table by which they were.
+ghost use Rattle.std.specs.Prelude.{◌≡◌, [], IfOk, OnOk, map};
+ghost use Rattle.lalrpop_norm_tree.specs.Items.{grammar_view, item_view};
+ghost use Rattle.lalrpop_norm_faults.specs.Faults.{Refuses, RefusesOr};
+ghost use Rattle.lalrpop_norm_model.specs.Scopes.{globals, resolved_item, resolved_grammar};
+ghost use Rattle.lalrpop_norm_resolve.specs.NameFaults.{resolve_faults};
+ghost use Rattle.lalrpop_norm_resolve.specs.NameTables.{all_rows, with_def, items_globals, names_faults};
+ghost use Rattle.lalrpop_norm_resolve.specs.NewNames.{table_rows, are_new};
+
+use crate::resolve::Def;
+use crate::resolve::globals::globals_of;
+use crate::resolve::items::resolve_items;
+use crate::resolve::symbols::global;
+use lalrpop_norm_faults::NormResult;
+use lalrpop_norm_tree::grammar::parse_tree::{Atom, Grammar, GrammarItem, NoMemory};
+use std::alloc::Global;
+use std::collections::BTreeMap;
+
+/// The global names of a grammar.
+#[derive(Drop)]
+pub struct GlobalNames {
+    pub(crate) table: BTreeMap<Atom, Def>,
+}
+
+/// A grammar whose names are resolved, and its global names.
+#[derive(Drop)]
+pub struct Resolved {
+    pub grammar: Grammar,
+    pub names: GlobalNames,
+}
+
+/// What [`resolve`](crate::resolve::resolve) answers, with the global names, for a pass that makes more of them.
+pub fn resolve_names(alloc: Global, mut grammar: Grammar) -> NormResult<Resolved>
+    ensures resolves { RefusesOr result (resolve_faults (grammar_view grammar)) (λ r. grammar_view r.grammar ≡ resolved_grammar (grammar_view grammar)) }
+    ensures names { IfOk result (λ r. table_rows r.names ≡ all_rows [] (globals (grammar_view grammar))) }
+{
+    let names = resolve_in_place(alloc, &mut grammar.items)?;
+    Ok(Resolved { grammar, names })
+}
+
+fn resolve_in_place(alloc: Global, items: &mut [GrammarItem]) -> NormResult<GlobalNames>
+    ensures refuses { Refuses result (names_faults (map item_view items.old)) }
+    ensures resolves { OnOk result (map item_view items.new ≡ map (resolved_item (items_globals (map item_view items.old))) (map item_view items.old)) }
+    ensures names { IfOk result (λ n. table_rows n ≡ all_rows [] (items_globals (map item_view items.old))) }
+{
+    let globals = globals_of(alloc, items)?;
+    resolve_items(alloc, &globals, items)?;
+    Ok(GlobalNames { table: globals })
+}
+
+/// Whether none of some names is among the global ones, nor stands there twice.
+pub fn are_new(names: GlobalNames, made: &[Atom]) -> Result<bool, NoMemory>
+    ensures { IfOk result (λ new. new ≡ are_new (table_rows names) made.now) }
+{
+    let mut table = names.table;
+    let new = add_each(&mut table, made)?;
+    Ok(new)
+}
+
+/// Adds names to a table up to one that it has.
+fn add_each(table: &mut BTreeMap<Atom, Def>, made: &[Atom]) -> Result<bool, NoMemory>
+    ensures { IfOk result (λ new. new ≡ are_new table.old.entries made.now) }
+{
+    for name in made {
+        if global(table, name).is_some() {
+            return Ok(false);
+        }
+        add(table, name)?;
+    }
+    Ok(true)
+}
+
+#[tactic(auto, unfolding(crate::specs::NameTables::with_def))]
+fn add(table: &mut BTreeMap<Atom, Def>, name: &Atom) -> Result<(), NoMemory>
+    ensures { OnOk result (table.new.entries ≡ with_def table.old.entries name.now Def.Rule) }
+{
+    table.insert(name.again(), Def::Rule)?;
+    Ok(())
+}
