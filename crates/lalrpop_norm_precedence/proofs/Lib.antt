@@ -4,6 +4,7 @@ mod WalkLemmas
 mod GroupLemmas
 mod KindLemmas
 mod RuleLemmas
+mod UnleveledLemmas
 mod FirstLemmas
 mod SeveralLemmas
 pub mod LevelNameLemmas

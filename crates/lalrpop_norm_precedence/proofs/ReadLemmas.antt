@@ -21,7 +21,7 @@ levels_handed level side [] = refl
 levels_handed level side (a ∷ rs) =
     ap (λ xs. (unwrap_or (level_after level (Some a)) 0, unwrap_or (side_after side (Some a)) every) ∷ xs) (levels_handed (level_after level (Some a)) (side_after side (Some a)) rs)
 
-faults_handed : (lowest : ℕ) (level : Option ℕ) (side : Option Side) (rs : List AlternativeData) →
+pub faults_handed : (lowest : ℕ) (level : Option ℕ) (side : Option Side) (rs : List AlternativeData) →
     flat_map (λ (a : Leveled). lowest_faults lowest a.level a.alternative) (present (handed_on level side (map Some rs))) ≡ handed_faults lowest level rs
 faults_handed lowest level side [] = refl
 faults_handed lowest level side (a ∷ rs) =

@@ -86,15 +86,11 @@ fn any_other(first: u32, levels: &[AlternativeLevel]) -> bool
 fn value_under<'a>(attribute: &'a Attribute, key: &str) -> Option<&'a str>
     ensures { option_map (λ t. t.now) result ≡ value_under key.now (attribute_view attribute.now) }
 {
-    match attribute.get_arg_equal() {
-        Some((name, value)) => {
-            if name.as_str() == key {
-                Some(value)
-            } else {
-                None
-            }
-        }
-        None => None,
+    let (name, value) = attribute.get_arg_equal()?;
+    if name.as_str() == key {
+        Some(value)
+    } else {
+        None
     }
 }
 
@@ -114,25 +110,15 @@ fn side_named(text: &str) -> Option<Assoc>
 fn stated_level(attributes: &[Attribute]) -> Option<u32>
     ensures { result ≡ stated_level (attributes_view attributes.now) }
 {
-    match first_named(attributes, PREC_ATTR) {
-        Some(attribute) => match value_under(attribute, LVL_ARG) {
-            Some(text) => number_of(text),
-            None => None,
-        },
-        None => None,
-    }
+    let attribute = first_named(attributes, PREC_ATTR)?;
+    number_of(value_under(attribute, LVL_ARG)?)
 }
 
 fn stated_side(attributes: &[Attribute]) -> Option<Assoc>
     ensures { option_map side_of result ≡ stated_side (attributes_view attributes.now) }
 {
-    match first_named(attributes, ASSOC_ATTR) {
-        Some(attribute) => match value_under(attribute, SIDE_ARG) {
-            Some(text) => side_named(text),
-            None => None,
-        },
-        None => None,
-    }
+    let attribute = first_named(attributes, ASSOC_ATTR)?;
+    side_named(value_under(attribute, SIDE_ARG)?)
 }
 
 // ---- the first alternative
@@ -152,21 +138,17 @@ pub(super) fn has_levels(alternatives: &[Alternative]) -> bool
 fn check_first(alloc: Global, alternatives: &[Alternative]) -> NormResult<()>
     ensures { Refuses result (missing_level_faults (map alternative_view alternatives.now)) }
 {
-    match alternatives.first() {
-        Some(first) => {
-            if has_levels(alternatives) && first_named(&first.attributes, PREC_ATTR).is_none() {
-                return Err(refusal(
-                    FaultKind::MissingLevel,
-                    first.span,
-                    format!(in alloc;
-                        "the first alternative of a rule with levels has no `precedence`"
-                    ),
-                ));
-            }
-            Ok(())
-        }
-        None => Ok(()),
+    let Some(first) = alternatives.first() else {
+        return Ok(());
+    };
+    if has_levels(alternatives) && first_named(&first.attributes, PREC_ATTR).is_none() {
+        return Err(refusal(
+            FaultKind::MissingLevel,
+            first.span,
+            format!(in alloc; "the first alternative of a rule with levels has no `precedence`"),
+        ));
     }
+    Ok(())
 }
 
 // ---- attributes
@@ -174,53 +156,47 @@ fn check_first(alloc: Global, alternatives: &[Alternative]) -> NormResult<()>
 fn check_level(alloc: Global, attributes: &[Attribute]) -> NormResult<()>
     ensures { Refuses result (level_argument_faults (first_named (codes "precedence") (attributes_view attributes.now))) }
 {
-    match first_named(attributes, PREC_ATTR) {
-        Some(attribute) => match value_under(attribute, LVL_ARG) {
-            Some(text) => {
-                if number_of(text).is_none() {
-                    return Err(refusal(
-                        FaultKind::LevelNumber,
-                        attribute.id_span,
-                        format!(in alloc; "the level `{text}` is no number from 0 to 4294967295"),
-                    ));
-                }
-                Ok(())
-            }
-            None => Err(refusal(
-                FaultKind::LevelArgument,
-                attribute.id_span,
-                format!(in alloc; "`precedence` takes `level = \"..\"`"),
-            )),
-        },
-        None => Ok(()),
+    let Some(attribute) = first_named(attributes, PREC_ATTR) else {
+        return Ok(());
+    };
+    let Some(text) = value_under(attribute, LVL_ARG) else {
+        return Err(refusal(
+            FaultKind::LevelArgument,
+            attribute.id_span,
+            format!(in alloc; "`precedence` takes `level = \"..\"`"),
+        ));
+    };
+    if number_of(text).is_none() {
+        return Err(refusal(
+            FaultKind::LevelNumber,
+            attribute.id_span,
+            format!(in alloc; "the level `{text}` is no number from 0 to 4294967295"),
+        ));
     }
+    Ok(())
 }
 
 fn check_side(alloc: Global, attributes: &[Attribute]) -> NormResult<()>
     ensures { Refuses result (side_argument_faults (first_named (codes "assoc") (attributes_view attributes.now))) }
 {
-    match first_named(attributes, ASSOC_ATTR) {
-        Some(attribute) => match value_under(attribute, SIDE_ARG) {
-            Some(text) => {
-                if side_named(text).is_none() {
-                    return Err(refusal(
-                        FaultKind::Side,
-                        attribute.id_span,
-                        format!(in alloc;
-                            "the side `{text}` is none of `left`, `right`, `none` and `all`"
-                        ),
-                    ));
-                }
-                Ok(())
-            }
-            None => Err(refusal(
-                FaultKind::SideArgument,
-                attribute.id_span,
-                format!(in alloc; "`assoc` takes `side = \"..\"`"),
-            )),
-        },
-        None => Ok(()),
+    let Some(attribute) = first_named(attributes, ASSOC_ATTR) else {
+        return Ok(());
+    };
+    let Some(text) = value_under(attribute, SIDE_ARG) else {
+        return Err(refusal(
+            FaultKind::SideArgument,
+            attribute.id_span,
+            format!(in alloc; "`assoc` takes `side = \"..\"`"),
+        ));
+    };
+    if side_named(text).is_none() {
+        return Err(refusal(
+            FaultKind::Side,
+            attribute.id_span,
+            format!(in alloc; "the side `{text}` is none of `left`, `right`, `none` and `all`"),
+        ));
     }
+    Ok(())
 }
 
 #[tactic(auto, unfolding(crate::specs::LevelFaults::level_attribute_faults), using(lalrpop_norm_faults::proofs::FaultLemmas::first_of_more))]
@@ -246,10 +222,7 @@ fn check_attributes(alloc: Global, alternatives: &[Alternative]) -> NormResult<(
 fn level_after(before: Option<u32>, stated: Option<u32>) -> Option<u32>
     ensures { result ≡ or_else stated before }
 {
-    match stated {
-        Some(level) => Some(level),
-        None => before,
-    }
+    stated.or(before)
 }
 
 /// A level that is stated starts anew, with the side beside it alone.
@@ -258,10 +231,7 @@ fn side_after(before: Option<Assoc>, level: Option<u32>, stated: Option<Assoc>) 
 {
     match level {
         Some(_) => stated,
-        None => match stated {
-            Some(side) => Some(side),
-            None => before,
-        },
+        None => stated.or(before),
     }
 }
 
@@ -289,7 +259,7 @@ fn lesser(level: u32, other: Option<u32>) -> u32
     ensures { result ≡ lesser_level level other }
 {
     match other {
-        Some(other) => { if other < level { other } else { level } }
+        Some(other) => level.min(other),
         None => level,
     }
 }

@@ -38,12 +38,12 @@ use std::mem;
 pub fn expand_nonterm(alloc: Global, rule: NonterminalData) -> NormResult<Vec<NonterminalData>>
     ensures { RefusesOr result (level_faults (rule_view rule)) (λ rules. map rule_view rules.items ≡ level_rules (rule_view rule)) }
 {
-    let levels = read_levels(alloc, &rule)?;
     if !has_levels(&rule.alternatives) {
         let mut rules = Vec::new(alloc);
         rules.push(rule)?;
         return Ok(rules);
     }
+    let levels = read_levels(alloc, &rule)?;
     let mut head = rule;
     let alternatives = mem::replace(&mut head.alternatives, Vec::new(alloc));
     let marked = mark(alloc, alternatives, &levels)?;
@@ -67,7 +67,7 @@ fn greater(level: u32, other: Option<u32>) -> u32
     ensures { result ≡ greater level other }
 {
     match other {
-        Some(other) => { if level < other { other } else { level } }
+        Some(other) => level.max(other),
         None => level,
     }
 }

@@ -1,10 +1,12 @@
-use Rattle.std.proofs.Common.{◌≡◌, ◌∙◌, length, [], map, Some, true, ap, ap₂, sym, refl, arith}
+use Rattle.std.proofs.Common.{◌≡◌, ◌∙◌, length, [], ◌∷◌, map, Some, true, false, ap, ap₂, sym, refl, arith}
 use Rattle.lalrpop_norm_tree.specs.Items.{alternative_view, rule_view}
 use Rattle.lalrpop_norm_model.specs.Enabled.{all_places}
 use Rattle.lalrpop_norm_model.specs.Levels.{has_levels}
 use Rattle.lalrpop_norm_precedence.specs.LevelFaults.{levels_and_sides}
 use Rattle.lalrpop_norm_precedence.specs.Handed.{alternative_level_view}
 use Rattle.lalrpop_norm_precedence.specs.Grouped.{group_view, marked_with, grouped}
+use Rattle.lalrpop_norm_precedence.proofs.LevelNameLemmas.{no_level_rules}
+use Rattle.lalrpop_norm_precedence.proofs.UnleveledLemmas.{no_level_faults}
 use Rattle.lalrpop_norm_precedence.proofs.RuleLemmas.{levels_count, level_rules_made}
 use Rattle.lalrpop_norm_precedence.proofs.precedence.rules.expand_nonterm.Goals as goal
 
@@ -14,6 +16,15 @@ mark-requires c =
     let count : length c.in_ok-levels.levels.items ≡ length c.args.rule.alternatives.items =
     levels_count (rule_view c.args.rule) c.args.rule.alternatives.items c.in_ok-levels.levels.items refl read in
     rw (c.deref-2.ensures.value, c.replace-alternatives.ensures.value) (omega arith)
+
+pub returns-then-not-has_levels : goal.returns-then-not-has_levels
+returns-then-not-has_levels c =
+    let r = rule_view c.args.rule in
+    let bare : has_levels (all_places r) ≡ false =
+    sym (c.if-not-has_levels.ensures ∙ ap (λ xs. has_levels (map Some (map alternative_view xs))) c.deref.ensures.value) in
+    let alone : c.push.new.self.items ≡ c.args.rule ∷ [] = rw c.new-rules.ensures.items at c.in_ok-push.ensures.items in
+    let same : map rule_view c.push.new.self.items ≡ r ∷ [] = rw alone refl in
+    (no_level_faults r bare, same ∙ sym (no_level_rules r bare))
 
 pub returns : goal.returns
 returns c =
