@@ -166,7 +166,7 @@ fn rule_data(
     Ok(NonterminalData {
         visibility: rule.visibility.clone()?,
         span: rule.span,
-        attributes: copy_attributes(alloc, &rule.attributes)?,
+        attributes: copy_attributes(&rule.attributes)?,
         productions,
     })
 }

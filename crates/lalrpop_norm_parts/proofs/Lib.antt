@@ -8,3 +8,4 @@ pub mod PatternViews
 pub mod ReprTextLemmas
 pub mod ReprViews
 pub mod WrittenLemmas
+pub mod CopyLemmas

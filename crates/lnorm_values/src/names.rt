@@ -91,7 +91,7 @@ fn push_lists(alloc: Global, text: &mut String) -> Result<(), NoMemory> {
 fn copied_levels(alloc: Global) -> Result<Vec<Attribute>, NoMemory> {
     let mut levels = Vec::new(alloc);
     push_made(&mut levels, level(alloc))?;
-    Ok(copy_attributes(alloc, &levels)?)
+    Ok(copy_attributes(&levels)?)
 }
 
 fn copied_binder(alloc: Global) -> Result<Vec<TypeParameter>, NoMemory> {

@@ -3,7 +3,7 @@ ghost use Rattle.std.specs.Prelude.{◌≡◌, IfOk, map};
 ghost use Rattle.lalrpop_norm_parts.specs.Attributes.{argument_view, attribute_view};
 
 use super::{Attribute, AttributeArg};
-use std::alloc::{AllocError, Global};
+use std::alloc::AllocError;
 
 impl Clone for Attribute {
     ghost is_clone = { λ a b. attribute_view b ≡ attribute_view a };
@@ -40,23 +40,17 @@ fn copy_argument(argument: &AttributeArg) -> Result<AttributeArg, AllocError>
 {
     match argument {
         AttributeArg::Empty => Ok(AttributeArg::Empty),
-        AttributeArg::Paren(attributes) => Ok(AttributeArg::Paren(copy_attributes(
-            *attributes.allocator(),
-            attributes,
-        )?)),
+        AttributeArg::Paren(attributes) => Ok(AttributeArg::Paren(copy_attributes(attributes)?)),
         AttributeArg::Equal(text) => Ok(AttributeArg::Equal(text.clone()?)),
     }
 }
 
 /// A copy of each attribute, in order. The only error is want of memory.
 #[cycle(copy)]
-pub fn copy_attributes(
-    alloc: Global,
-    attributes: &[Attribute],
-) -> Result<Vec<Attribute>, AllocError>
-    ensures { IfOk result (λ copies. map attribute_view copies.items ≡ map attribute_view attributes.now) }
+pub fn copy_attributes(attributes: &Vec<Attribute>) -> Result<Vec<Attribute>, AllocError>
+    ensures { IfOk result (λ copies. map attribute_view copies.items ≡ map attribute_view attributes.now.items) }
 {
-    let mut copies = Vec::new(alloc);
+    let mut copies = Vec::new(*attributes.allocator());
     for attribute in attributes {
         copies.push(copy(attribute)?)?;
     }

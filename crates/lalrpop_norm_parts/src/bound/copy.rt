@@ -67,7 +67,7 @@ fn copy_bound<T: Clone>(bound: &TypeBound<T>) -> Result<TypeBound<T>, AllocError
         } => {
             let forall = copy_type_parameters(forall)?;
             let path = path.clone()?;
-            let parameters = copy_types(*parameters.allocator(), parameters)?;
+            let parameters = copy_types(parameters)?;
             let ret = copy_result(ret)?;
             Ok(TypeBound::Fn {
                 forall,
@@ -126,14 +126,11 @@ fn copy_result<T: Clone>(ret: &Option<T>) -> Result<Option<T>, AllocError>
     }
 }
 
-fn copy_types<T: Clone>(alloc: Global, types: &[T]) -> Result<Vec<T>, AllocError>
-    ensures { IfOk result (λ ts. AllZip T.is_clone (map (λ t. t) types.now) (map (λ t. t) ts.items)) }
+#[tactic(auto, using(crate::proofs::KnownTextLemmas::map_same))]
+fn copy_types<T: Clone>(types: &Vec<T>) -> Result<Vec<T>, AllocError>
+    ensures { IfOk result (λ ts. AllZip T.is_clone (map (λ t. t) types.now.items) (map (λ t. t) ts.items)) }
 {
-    let mut copies = Vec::new(alloc);
-    for ty in types {
-        copies.push(ty.clone()?)?;
-    }
-    Ok(copies)
+    Ok(types.clone()?)
 }
 
 fn copy_bounds<T: Clone>(

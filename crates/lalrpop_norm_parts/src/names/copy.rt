@@ -1,5 +1,5 @@
-//! Copies of lists of type parameters.
-ghost use Rattle.std.specs.Prelude.{◌≡◌, IfOk};
+//! Copies of lists of type parameters and of texts.
+ghost use Rattle.std.specs.Prelude.{◌≡◌, IfOk, map, string_bytes};
 
 use super::TypeParameter;
 use std::alloc::AllocError;
@@ -12,4 +12,12 @@ pub fn copy_type_parameters(
     ensures { IfOk result (λ ps. ps.items ≡ parameters.now.items) }
 {
     Ok(parameters.clone()?)
+}
+
+/// A copy of each text, in order. The only error is want of memory.
+#[tactic(auto, using(crate::proofs::CopyLemmas::same_views))]
+pub fn copy_texts(texts: &Vec<String>) -> Result<Vec<String>, AllocError>
+    ensures { IfOk result (λ copies. map string_bytes copies.items ≡ map string_bytes texts.now.items) }
+{
+    Ok(texts.clone()?)
 }

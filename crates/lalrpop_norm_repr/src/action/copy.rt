@@ -41,14 +41,12 @@ impl Clone for ActionFnDefnKind {
 impl Clone for UserActionFnDefn {
     ghost is_clone = { λ a b. user_action_view b ≡ user_action_view a };
 
+    #[tactic(auto, using(lalrpop_norm_parts::proofs::CopyLemmas::same_views))]
     fn clone(&self) -> Result<UserActionFnDefn, AllocError> {
-        let arg_patterns = copy_patterns(*self.arg_patterns.allocator(), &self.arg_patterns)?;
-        let arg_types = copy_types(*self.arg_types.allocator(), &self.arg_types)?;
-        let code = self.code.clone()?;
         Ok(UserActionFnDefn {
-            arg_patterns,
-            arg_types,
-            code,
+            arg_patterns: self.arg_patterns.clone()?,
+            arg_types: self.arg_types.clone()?,
+            code: self.code.clone()?,
         })
     }
 }
@@ -57,7 +55,7 @@ impl Clone for InlineActionFnDefn {
     ghost is_clone = { λ a b. inline_action_view b ≡ inline_action_view a };
 
     fn clone(&self) -> Result<InlineActionFnDefn, AllocError> {
-        let symbols = copy_arguments(*self.symbols.allocator(), &self.symbols)?;
+        let symbols = copy_arguments(&self.symbols)?;
         Ok(InlineActionFnDefn {
             action: self.action,
             symbols,
@@ -78,48 +76,16 @@ impl Clone for InlinedSymbol {
     }
 }
 
-fn copy_patterns(alloc: Global, patterns: &[ArgPattern]) -> Result<Vec<ArgPattern>, AllocError>
-    ensures { IfOk result (λ copies. map argument_pattern_view copies.items ≡ map argument_pattern_view patterns.now) }
+#[tactic(auto, using(lalrpop_norm_parts::proofs::CopyLemmas::same_views))]
+fn copy_arguments(symbols: &Vec<InlinedSymbol>) -> Result<Vec<InlinedSymbol>, AllocError>
+    ensures { IfOk result (λ copies. map inlined_symbol_view copies.items ≡ map inlined_symbol_view symbols.now.items) }
 {
-    let mut copies = Vec::new(alloc);
-    for pattern in patterns {
-        copies.push(pattern.clone()?)?;
-    }
-    Ok(copies)
+    Ok(symbols.clone()?)
 }
 
-fn copy_types(alloc: Global, types: &[TypeRepr]) -> Result<Vec<TypeRepr>, AllocError>
-    ensures { IfOk result (λ copies. map repr_view copies.items ≡ map repr_view types.now) }
+#[tactic(auto, using(lalrpop_norm_parts::proofs::CopyLemmas::same_views))]
+pub(crate) fn copy_actions(actions: &Vec<ActionFnDefn>) -> Result<Vec<ActionFnDefn>, AllocError>
+    ensures { IfOk result (λ copies. map action_defn_view copies.items ≡ map action_defn_view actions.now.items) }
 {
-    let mut copies = Vec::new(alloc);
-    for ty in types {
-        copies.push(ty.clone()?)?;
-    }
-    Ok(copies)
-}
-
-fn copy_arguments(
-    alloc: Global,
-    symbols: &[InlinedSymbol],
-) -> Result<Vec<InlinedSymbol>, AllocError>
-    ensures { IfOk result (λ copies. map inlined_symbol_view copies.items ≡ map inlined_symbol_view symbols.now) }
-{
-    let mut copies = Vec::new(alloc);
-    for symbol in symbols {
-        copies.push(symbol.clone()?)?;
-    }
-    Ok(copies)
-}
-
-pub(crate) fn copy_actions(
-    alloc: Global,
-    actions: &[ActionFnDefn],
-) -> Result<Vec<ActionFnDefn>, AllocError>
-    ensures { IfOk result (λ copies. map action_defn_view copies.items ≡ map action_defn_view actions.now) }
-{
-    let mut copies = Vec::new(alloc);
-    for action in actions {
-        copies.push(action.clone()?)?;
-    }
-    Ok(copies)
+    Ok(actions.clone()?)
 }

@@ -1,19 +1,18 @@
 //! Copies of nonterminals.
 ghost use Rattle.std.specs.Prelude.{◌≡◌, IfOk, map};
-ghost use Rattle.lalrpop_norm_parts.specs.Attributes.{attribute_view};
 ghost use Rattle.lalrpop_norm_repr.specs.Productions.{nonterminal_data_view, production_view};
 
 use super::{NonterminalData, Production};
-use lalrpop_norm_tree::grammar::parse_tree::Attribute;
-use std::alloc::{AllocError, Global};
+use lalrpop_norm_parts::attribute::copy::copy_attributes;
+use std::alloc::AllocError;
 
 impl Clone for NonterminalData {
     ghost is_clone = { λ n m. nonterminal_data_view m ≡ nonterminal_data_view n };
 
     fn clone(&self) -> Result<NonterminalData, AllocError> {
         let visibility = self.visibility.clone()?;
-        let attributes = copy_attributes(*self.attributes.allocator(), &self.attributes)?;
-        let productions = copy_productions(*self.productions.allocator(), &self.productions)?;
+        let attributes = copy_attributes(&self.attributes)?;
+        let productions = copy_productions(&self.productions)?;
         Ok(NonterminalData {
             visibility,
             span: self.span,
@@ -23,25 +22,9 @@ impl Clone for NonterminalData {
     }
 }
 
-fn copy_attributes(alloc: Global, attributes: &[Attribute]) -> Result<Vec<Attribute>, AllocError>
-    ensures { IfOk result (λ copies. map attribute_view copies.items ≡ map attribute_view attributes.now) }
+#[tactic(auto, using(lalrpop_norm_parts::proofs::CopyLemmas::same_views))]
+fn copy_productions(productions: &Vec<Production>) -> Result<Vec<Production>, AllocError>
+    ensures { IfOk result (λ copies. map production_view copies.items ≡ map production_view productions.now.items) }
 {
-    let mut copies = Vec::new(alloc);
-    for attribute in attributes {
-        copies.push(attribute.clone()?)?;
-    }
-    Ok(copies)
-}
-
-fn copy_productions(
-    alloc: Global,
-    productions: &[Production],
-) -> Result<Vec<Production>, AllocError>
-    ensures { IfOk result (λ copies. map production_view copies.items ≡ map production_view productions.now) }
-{
-    let mut copies = Vec::new(alloc);
-    for production in productions {
-        copies.push(production.clone()?)?;
-    }
-    Ok(copies)
+    Ok(productions.clone()?)
 }

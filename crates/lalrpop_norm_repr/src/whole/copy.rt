@@ -13,6 +13,7 @@ use super::{Grammar, Parameter, TerminalSet};
 use crate::action::ActionFnDefn;
 use crate::action::copy::copy_actions;
 use crate::production::NonterminalData;
+use lalrpop_norm_parts::names::copy::{copy_texts, copy_type_parameters};
 use lalrpop_norm_tree::grammar::parse_tree::{
     InternToken, NoMemory, NonterminalString, TerminalString, TypeParameter,
 };
@@ -37,10 +38,10 @@ fn copy(grammar: &Grammar) -> Result<Grammar, NoMemory>
 {
     let alloc = *grammar.uses.allocator();
     let head = copy_head(grammar)?;
-    let texts = copy_both_texts(alloc, grammar)?;
+    let texts = copy_both_texts(grammar)?;
     let signature = copy_signature(alloc, grammar)?;
     let tokens = copy_tokens(alloc, grammar)?;
-    let rules = copy_rules(alloc, grammar)?;
+    let rules = copy_rules(grammar)?;
     let types = grammar.types.clone()?;
     let (prefix, algorithm) = head;
     let (uses, module_attributes) = texts;
@@ -76,12 +77,12 @@ fn copy_head(grammar: &Grammar) -> Result<(String, Algorithm), NoMemory>
 }
 
 /// The texts behind `use`, and those of `#![..]`.
-fn copy_both_texts(alloc: Global, grammar: &Grammar) -> Result<(Vec<String>, Vec<String>), NoMemory>
+fn copy_both_texts(grammar: &Grammar) -> Result<(Vec<String>, Vec<String>), NoMemory>
     ensures uses { IfOk result (λ t. map string_bytes t.0.items ≡ map string_bytes grammar.now.uses.items) }
     ensures attributes { IfOk result (λ t. map string_bytes t.1.items ≡ map string_bytes grammar.now.module_attributes.items) }
 {
-    let uses = copy_texts(alloc, &grammar.uses)?;
-    let module_attributes = copy_texts(alloc, &grammar.module_attributes)?;
+    let uses = copy_texts(&grammar.uses)?;
+    let module_attributes = copy_texts(&grammar.module_attributes)?;
     Ok((uses, module_attributes))
 }
 
@@ -95,7 +96,7 @@ fn copy_signature(
     ensures clauses { IfOk result (λ s. map lowered_where_clause_view s.2.items ≡ map lowered_where_clause_view grammar.now.where_clauses.items) }
 {
     let type_parameters = copy_type_parameters(&grammar.type_parameters)?;
-    let parameters = copy_parameters(alloc, &grammar.parameters)?;
+    let parameters = copy_parameters(&grammar.parameters)?;
     let where_clauses = copy_clauses(alloc, &grammar.where_clauses)?;
     Ok((type_parameters, parameters, where_clauses))
 }
@@ -125,16 +126,13 @@ type Starts = BTreeMap<NonterminalString, NonterminalString>;
 type Nonterminals = BTreeMap<NonterminalString, NonterminalData>;
 
 /// The start symbols, the actions and the nonterminals.
-fn copy_rules(
-    alloc: Global,
-    grammar: &Grammar,
-) -> Result<(Starts, Vec<ActionFnDefn>, Nonterminals), NoMemory>
+fn copy_rules(grammar: &Grammar) -> Result<(Starts, Vec<ActionFnDefn>, Nonterminals), NoMemory>
     ensures starts { IfOk result (λ r. r.0.entries ≡ grammar.now.start_nonterminals.entries) }
     ensures actions { IfOk result (λ r. map action_defn_view r.1.items ≡ map action_defn_view grammar.now.action_fn_defns.items) }
     ensures nonterminals { IfOk result (λ r. rows nonterminal_data_view r.2 ≡ rows nonterminal_data_view grammar.now.nonterminals) }
 {
     let starts = copy_starts(&grammar.start_nonterminals)?;
-    let actions = copy_actions(alloc, &grammar.action_fn_defns)?;
+    let actions = copy_actions(&grammar.action_fn_defns)?;
     let nonterminals = copy_nonterminals(&grammar.nonterminals)?;
     Ok((starts, actions, nonterminals))
 }
@@ -148,31 +146,11 @@ fn copy_starts(
     Ok(copy)
 }
 
-fn copy_texts(alloc: Global, texts: &[String]) -> Result<Vec<String>, NoMemory>
-    ensures { IfOk result (λ copies. map string_bytes copies.items ≡ map string_bytes texts.now) }
-{
-    let mut copies = Vec::new(alloc);
-    for text in texts {
-        copies.push(text.clone()?)?;
-    }
-    Ok(copies)
-}
-
-#[tactic(auto, using(std::proofs::lemmas::List::Elements::same_from_all_zip))]
-fn copy_type_parameters(parameters: &Vec<TypeParameter>) -> Result<Vec<TypeParameter>, NoMemory>
-    ensures { IfOk result (λ copies. copies.items ≡ parameters.now.items) }
+#[tactic(auto, using(lalrpop_norm_parts::proofs::CopyLemmas::same_views))]
+fn copy_parameters(parameters: &Vec<Parameter>) -> Result<Vec<Parameter>, NoMemory>
+    ensures { IfOk result (λ copies. map lowered_parameter_view copies.items ≡ map lowered_parameter_view parameters.now.items) }
 {
     Ok(parameters.clone()?)
-}
-
-fn copy_parameters(alloc: Global, parameters: &[Parameter]) -> Result<Vec<Parameter>, NoMemory>
-    ensures { IfOk result (λ copies. map lowered_parameter_view copies.items ≡ map lowered_parameter_view parameters.now) }
-{
-    let mut copies = Vec::new(alloc);
-    for parameter in parameters {
-        copies.push(parameter.clone()?)?;
-    }
-    Ok(copies)
 }
 
 fn copy_clauses(alloc: Global, clauses: &[WhereClause]) -> Result<Vec<WhereClause>, NoMemory>

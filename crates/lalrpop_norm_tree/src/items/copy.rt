@@ -45,7 +45,7 @@ impl Clone for Alternative {
         let expr = self.expr.clone()?;
         let condition = self.condition.clone()?;
         let action = copy_action(&self.action)?;
-        let attributes = copy_attributes(*self.attributes.allocator(), &self.attributes)?;
+        let attributes = copy_attributes(&self.attributes)?;
         Ok(Alternative {
             span: self.span,
             expr,
@@ -65,17 +65,11 @@ fn copy_action(action: &Option<ActionKind>) -> Result<Option<ActionKind>, AllocE
     }
 }
 
-fn copy_alternatives(
-    alloc: Global,
-    alternatives: &[Alternative],
-) -> Result<Vec<Alternative>, AllocError>
-    ensures { IfOk result (λ copies. map alternative_view copies.items ≡ map alternative_view alternatives.now) }
+#[tactic(auto, using(lalrpop_norm_parts::proofs::CopyLemmas::same_views))]
+fn copy_alternatives(alternatives: &Vec<Alternative>) -> Result<Vec<Alternative>, AllocError>
+    ensures { IfOk result (λ copies. map alternative_view copies.items ≡ map alternative_view alternatives.now.items) }
 {
-    let mut copies = Vec::new(alloc);
-    for alternative in alternatives {
-        copies.push(alternative.clone()?)?;
-    }
-    Ok(copies)
+    Ok(alternatives.clone()?)
 }
 
 fn copy_type(ty: &Option<TypeRef>) -> Result<Option<TypeRef>, AllocError>
@@ -100,10 +94,10 @@ impl Clone for NonterminalData {
     fn clone(&self) -> Result<NonterminalData, AllocError> {
         let visibility = self.visibility.clone()?;
         let name = self.name.clone()?;
-        let attributes = copy_attributes(*self.attributes.allocator(), &self.attributes)?;
+        let attributes = copy_attributes(&self.attributes)?;
         let args = copy_names(&self.args)?;
         let type_decl = copy_type(&self.type_decl)?;
-        let alternatives = copy_alternatives(*self.alternatives.allocator(), &self.alternatives)?;
+        let alternatives = copy_alternatives(&self.alternatives)?;
         Ok(NonterminalData {
             visibility,
             name,
@@ -126,24 +120,18 @@ impl Clone for MatchContents {
     }
 }
 
-fn copy_contents(
-    alloc: Global,
-    contents: &[MatchContents],
-) -> Result<Vec<MatchContents>, AllocError>
-    ensures { IfOk result (λ copies. map match_contents_view copies.items ≡ map match_contents_view contents.now) }
+#[tactic(auto, using(lalrpop_norm_parts::proofs::CopyLemmas::same_views))]
+fn copy_contents(contents: &Vec<MatchContents>) -> Result<Vec<MatchContents>, AllocError>
+    ensures { IfOk result (λ copies. map match_contents_view copies.items ≡ map match_contents_view contents.now.items) }
 {
-    let mut copies = Vec::new(alloc);
-    for group in contents {
-        copies.push(group.clone()?)?;
-    }
-    Ok(copies)
+    Ok(contents.clone()?)
 }
 
 impl Clone for MatchToken {
     ghost is_clone = { λ m n. match_token_view n ≡ match_token_view m };
 
     fn clone(&self) -> Result<MatchToken, AllocError> {
-        let contents = copy_contents(*self.contents.allocator(), &self.contents)?;
+        let contents = copy_contents(&self.contents)?;
         Ok(MatchToken {
             contents,
             span: self.span,
@@ -191,15 +179,11 @@ impl Clone for AssociatedType {
     }
 }
 
+#[tactic(auto, using(lalrpop_norm_parts::proofs::CopyLemmas::same_views))]
 pub(super) fn copy_associated_types(
-    alloc: Global,
-    types: &[AssociatedType],
+    types: &Vec<AssociatedType>,
 ) -> Result<Vec<AssociatedType>, AllocError>
-    ensures { IfOk result (λ copies. map associated_type_view copies.items ≡ map associated_type_view types.now) }
+    ensures { IfOk result (λ copies. map associated_type_view copies.items ≡ map associated_type_view types.now.items) }
 {
-    let mut copies = Vec::new(alloc);
-    for ty in types {
-        copies.push(ty.clone()?)?;
-    }
-    Ok(copies)
+    Ok(types.clone()?)
 }

@@ -10,7 +10,7 @@ use super::{Conversion, EnumToken, ExternToken, Grammar, GrammarItem};
 use crate::types::{Parameter, TypeRef};
 use lalrpop_norm_parts::attribute::copy::copy_attributes;
 use lalrpop_norm_parts::bound::WhereClause;
-use lalrpop_norm_parts::names::copy::copy_type_parameters;
+use lalrpop_norm_parts::names::copy::{copy_texts, copy_type_parameters};
 use lalrpop_norm_parts::pattern::Pattern;
 use shared_text::NoMemory;
 use std::alloc::Global;
@@ -20,7 +20,7 @@ impl Conversion {
     pub fn clone(&self) -> Result<Conversion, NoMemory>
         ensures { IfOk result (λ c. conversion_view c ≡ conversion_view self.now) }
     {
-        let attributes = copy_attributes(*self.attributes.allocator(), &self.attributes)?;
+        let attributes = copy_attributes(&self.attributes)?;
         let from = self.from.clone()?;
         let to = copy_pattern(&self.to)?;
         Ok(Conversion {
@@ -52,10 +52,7 @@ impl ExternToken {
     pub fn clone(&self) -> Result<ExternToken, NoMemory>
         ensures { IfOk result (λ t. extern_token_view t ≡ extern_token_view self.now) }
     {
-        let types = copy_associated_types(
-            *self.associated_types.allocator(),
-            &self.associated_types,
-        )?;
+        let types = copy_associated_types(&self.associated_types)?;
         let enum_token = copy_enum(&self.enum_token)?;
         Ok(ExternToken {
             span: self.span,
@@ -87,14 +84,11 @@ impl Grammar {
     {
         let prefix = self.prefix.clone()?;
         let type_parameters = copy_type_parameters(&self.type_parameters)?;
-        let parameters = copy_parameters(*self.parameters.allocator(), &self.parameters)?;
+        let parameters = copy_parameters(&self.parameters)?;
         let where_clauses = copy_clauses(*self.where_clauses.allocator(), &self.where_clauses)?;
         let items = copy_items(*self.items.allocator(), &self.items)?;
-        let attributes = copy_attributes(*self.attributes.allocator(), &self.attributes)?;
-        let module_attributes = copy_texts(
-            *self.module_attributes.allocator(),
-            &self.module_attributes,
-        )?;
+        let attributes = copy_attributes(&self.attributes)?;
+        let module_attributes = copy_texts(&self.module_attributes)?;
         Ok(Grammar {
             prefix,
             span: self.span,
@@ -139,14 +133,11 @@ fn copy_conversions(alloc: Global, conversions: &[Conversion]) -> Result<Vec<Con
     Ok(copies)
 }
 
-fn copy_parameters(alloc: Global, parameters: &[Parameter]) -> Result<Vec<Parameter>, NoMemory>
-    ensures { IfOk result (λ copies. map parameter_view copies.items ≡ map parameter_view parameters.now) }
+#[tactic(auto, using(lalrpop_norm_parts::proofs::CopyLemmas::same_views))]
+fn copy_parameters(parameters: &Vec<Parameter>) -> Result<Vec<Parameter>, NoMemory>
+    ensures { IfOk result (λ copies. map parameter_view copies.items ≡ map parameter_view parameters.now.items) }
 {
-    let mut copies = Vec::new(alloc);
-    for parameter in parameters {
-        copies.push(parameter.clone()?)?;
-    }
-    Ok(copies)
+    Ok(parameters.clone()?)
 }
 
 fn copy_clauses(
@@ -168,16 +159,6 @@ fn copy_items(alloc: Global, items: &[GrammarItem]) -> Result<Vec<GrammarItem>, 
     let mut copies = Vec::new(alloc);
     for item in items {
         copies.push(item.clone()?)?;
-    }
-    Ok(copies)
-}
-
-fn copy_texts(alloc: Global, texts: &[String]) -> Result<Vec<String>, NoMemory>
-    ensures { IfOk result (λ copies. map string_bytes copies.items ≡ map string_bytes texts.now) }
-{
-    let mut copies = Vec::new(alloc);
-    for text in texts {
-        copies.push(text.clone()?)?;
     }
     Ok(copies)
 }
