@@ -17,7 +17,6 @@ pub mod SlotLemmas
 pub mod SourceLemmas
 pub mod FaultCounts
 pub mod BodyLemmas
-pub mod TypeLemmas
 pub mod TokenCounts
 pub mod SymbolCases
 pub mod MadeLemmas

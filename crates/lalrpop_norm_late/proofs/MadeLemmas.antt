@@ -12,12 +12,11 @@ use Rattle.lalrpop_norm_parts.specs.declared.names.TerminalString.{TerminalStrin
 use Rattle.lalrpop_norm_parts.specs.declared.names.TerminalString.TheVariants as terminal_string
 use Rattle.lalrpop_norm_tree.specs.Accessors.{or_else, first_of, intern_token_of}
 use Rattle.lalrpop_norm_tree.specs.Items.{ItemData, match_item, extern_item, intern_item, rule_item, use_item, AlternativeData, RuleData, GrammarData}
-use Rattle.lalrpop_norm_tree.specs.Types.{ParameterData}
 use Rattle.lalrpop_norm_faults.specs.Faults.{Fault, Refuses}
 use Rattle.lalrpop_norm_faults.specs.declared.failure.NormFailure.{NormFailure}
 use Rattle.lalrpop_norm_theory.specs.Rounds.{In, IsDistinct}
 use Rattle.lalrpop_norm_theory.proofs.RoundsLemmas.{in_left, in_right, in_flat}
-use Rattle.lalrpop_norm_model.specs.Expanded.{names_used_by, names_in_parts, types_beside_rules, types_in_clause, types_in_extern, declared_symbols, names_in_kind, terminals_of, IsExpanded, IsTyped}
+use Rattle.lalrpop_norm_model.specs.Expanded.{names_used_by, names_in_parts, declared_symbols, names_in_kind, terminals_of, IsExpanded, IsTyped}
 use Rattle.lalrpop_norm_model.specs.Features.{Features}
 use Rattle.lalrpop_norm_model.specs.PlainRules.{all_rules}
 use Rattle.lalrpop_norm_model.specs.Terminals.{terminals_in_parts, terminals_in_rule}
@@ -45,7 +44,6 @@ use Rattle.lalrpop_norm_late.proofs.KeyLaws.{names_decide, name_table, terminal_
 use Rattle.lalrpop_norm_late.proofs.SymbolCases.{or_first, or_second, parts_by, recovers}
 use Rattle.lalrpop_norm_late.proofs.TokenCounts.{tokens_read, terminals_same, error_is_none, all_distinct, tested, in_contains}
 use Rattle.lalrpop_norm_late.proofs.TokenLemmas.{numbers_of_places}
-use Rattle.lalrpop_norm_late.proofs.TypeLemmas.{AreRead, read_parameters, read_clauses}
 use Rattle.lalrpop_norm_late.proofs.TypingLemmas.{AreTyped, some_back, start_types_added, kept_type}
 
 -- ---- lists
@@ -209,26 +207,14 @@ module _ (fs : Features) (g : GrammarData) (types : TypeTable) (ok : IsExpanded 
 
   -- ---- terminals
 
-  read : AreRead (types_beside_rules g)
-  read t i = ok.symbols_declared_only t i
-
   distinct_ok : IsDistinct (keys_of (made_tokens fs g))
   distinct_ok = subst IsDistinct (sym (terminals_same fs g ok)) typed.distinct_terminals
 
   all_distinct_ok : lists.IsDistinct Rattle.lalrpop_norm_repr.specs.Tables.same_terminal (made_terminals fs g)
   all_distinct_ok = all_distinct (keys_of (made_tokens fs g)) (uses_recovery (rules_among g.items)) distinct_ok (error_is_none fs g ok)
 
-  read_parameter_types : AreRead (map (λ (p : ParameterData). p.type) g.parameters)
-  read_parameter_types t i = read t (in_left t _ (flat_map types_in_extern g.items) (in_left t (map (λ (p : ParameterData). p.type) g.parameters) (flat_map types_in_clause g.where_clauses) i))
-
-  read_clause_types : AreRead (flat_map types_in_clause g.where_clauses)
-  read_clause_types t i = read t (in_left t _ (flat_map types_in_extern g.items) (in_right t (map (λ (p : ParameterData). p.type) g.parameters) (flat_map types_in_clause g.where_clauses) i))
-
-  read_extern_types : AreRead (flat_map types_in_extern g.items)
-  read_extern_types t i = read t (in_right t _ (flat_map types_in_extern g.items) i)
-
   tokens_ok : made_tokens fs g ≡ Rattle.lalrpop_norm_late.specs.Carried.tokens_of (active_grammar fs g)
-  tokens_ok = tokens_read fs g read_extern_types
+  tokens_ok = tokens_read fs g
 
   lowering_made : IsLoweringOf (active_grammar fs g) (rules_among g.items) types l
   lowering_made = record {
@@ -247,8 +233,8 @@ module _ (fs : Features) (g : GrammarData) (types : TypeTable) (ok : IsExpanded 
     uses_error_recovery = made.uses_error_recovery;
     uses = made.uses ∙ sym (uses_kept fs g.items);
     type_parameters = made.type_parameters;
-    parameters = made.parameters ∙ read_parameters g.parameters read_parameter_types;
-    where_clauses = made.where_clauses ∙ read_clauses g.where_clauses read_clause_types;
+    parameters = made.parameters;
+    where_clauses = made.where_clauses;
     intern_token = made.intern_token ∙ sym (intern_kept fs g.items);
     module_attributes = made.module_attributes;
   }

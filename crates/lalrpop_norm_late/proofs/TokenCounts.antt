@@ -14,23 +14,20 @@ use Rattle.lalrpop_norm_parts.specs.declared.names.TerminalString.TheVariants.{E
 use Rattle.lalrpop_norm_tree.specs.Accessors.{or_else, first_of, enum_token_of, intern_token_of}
 use Rattle.lalrpop_norm_tree.specs.Items.{ItemData, match_item, extern_item, intern_item, rule_item, use_item, ConversionData, EnumTokenData, InternTokenData, GrammarData}
 use Rattle.lalrpop_norm_tree.specs.LoweredTypes.{repr_of}
-use Rattle.lalrpop_norm_tree.specs.Types.{TypeData}
 use Rattle.lalrpop_norm_theory.specs.Rounds.{In, IsDistinct}
 use Rattle.lalrpop_norm_theory.proofs.RoundsLemmas.{in_left, in_right, in_cases}
 use Rattle.lalrpop_norm_model.specs.Enabled.{enabled_enum}
 use Rattle.lalrpop_norm_model.specs.Entries.{user_names}
-use Rattle.lalrpop_norm_model.specs.Expanded.{types_in_enum, types_in_extern, enum_in, intern_in, enums, interns, terminals_converted, terminals_with, terminals_of, IsExpanded}
+use Rattle.lalrpop_norm_model.specs.Expanded.{enum_in, intern_in, enums, interns, terminals_converted, terminals_with, terminals_of, IsExpanded}
 use Rattle.lalrpop_norm_model.specs.Features.{Features, is_active}
-use Rattle.lalrpop_norm_model.specs.TerminalTypes.{chosen_in_pattern, entries_of}
+use Rattle.lalrpop_norm_model.specs.TerminalTypes.{entries_of}
 use Rattle.lalrpop_norm_repr.specs.Tables.{same_terminal}
 use Rattle.lalrpop_norm_late.specs.Active.{active_item, active_grammar}
 use Rattle.lalrpop_norm_late.specs.Carried.{TokenRow, internal_pattern, terminal_of_mapping, item_tokens, tokens_of}
 use Rattle.lalrpop_norm_model.specs.Scopes.{conversions_in}
 use Rattle.lalrpop_norm_late.specs.Conversions.{mapped_pattern}
 use Rattle.lalrpop_norm_late.specs.Made.{conversion_rows, row_named, row_of_entry, entry_rows_from, token_rows, made_tokens}
-use Rattle.lalrpop_norm_late.specs.Typing.{lowered_type}
 use Rattle.lalrpop_norm_late.proofs.KeyLaws.{terminals_decide}
-use Rattle.lalrpop_norm_late.proofs.TypeLemmas.{AreRead, read_pattern}
 
 -- ---- rows
 
@@ -40,19 +37,13 @@ active fs cs = filter (λ (c : ConversionData). is_active fs c.attributes) cs
 abbrev row_read : ConversionData → TokenRow
 row_read c = (c.from, mapped_pattern repr_of c.to)
 
-abbrev chosen_types : List ConversionData → List TypeData
-chosen_types cs = flat_map (λ (c : ConversionData). chosen_in_pattern c.to) cs
-
-conversions_read : (fs : Features) (cs : List ConversionData) → AreRead (chosen_types cs) → conversion_rows fs cs ≡ map row_read (active fs cs)
-conversions_read fs [] h = refl
-conversions_read fs (c ∷ cs) h =
-    by (is_active fs c.attributes) (conversions_read fs cs (λ t i. h t (in_right t (chosen_in_pattern c.to) (chosen_types cs) i)))
+conversions_read : (fs : Features) (cs : List ConversionData) → conversion_rows fs cs ≡ map row_read (active fs cs)
+conversions_read fs [] = refl
+conversions_read fs (c ∷ cs) = by (is_active fs c.attributes) (conversions_read fs cs)
   where
     by : (b : Bool) → conversion_rows fs cs ≡ map row_read (active fs cs)
-        → cond b ((c.from, mapped_pattern lowered_type c.to) ∷ conversion_rows fs cs) (conversion_rows fs cs) ≡ map row_read (cond b (c ∷ active fs cs) (active fs cs))
-    by true deeper =
-        ap (λ p. (c.from, p) ∷ conversion_rows fs cs) (read_pattern c.to (λ t i. h t (in_left t (chosen_in_pattern c.to) (chosen_types cs) i)))
-        ∙ ap (λ (rows : List TokenRow). row_read c ∷ rows) deeper
+        → cond b ((c.from, mapped_pattern repr_of c.to) ∷ conversion_rows fs cs) (conversion_rows fs cs) ≡ map row_read (cond b (c ∷ active fs cs) (active fs cs))
+    by true deeper = ap (λ (rows : List TokenRow). row_read c ∷ rows) deeper
     by false deeper = deeper
 
 entries_listed : (span : Span) (k : ℕ) (es : List MatchEntry) → entry_rows_from span k es ≡ filter_map (λ e. option_map (λ t. (t, internal_pattern span e.0)) (terminal_of_mapping e.1.user_name)) (enumerate_from k es)
@@ -67,26 +58,26 @@ entries_listed span k (e ∷ es) = by (terminal_of_mapping e.user_name) (entries
     by None deeper = deeper
     by (Some t) deeper = ap (λ (rows : List TokenRow). (t, internal_pattern span k) ∷ rows) deeper
 
-enum_read : (fs : Features) (o : Option EnumTokenData) → AreRead (flat_map types_in_enum (option_to_list o)) → conversion_rows fs (conversions_in o) ≡ map row_read (conversions_in (option_map (enabled_enum fs) o))
-enum_read fs None h = refl
-enum_read fs (Some e) h = conversions_read fs e.conversions (λ t i. h t (in_left t (types_in_enum e) [] (inr i)))
+enum_read : (fs : Features) (o : Option EnumTokenData) → conversion_rows fs (conversions_in o) ≡ map row_read (conversions_in (option_map (enabled_enum fs) o))
+enum_read fs None = refl
+enum_read fs (Some e) = conversions_read fs e.conversions
 
-item_read : (fs : Features) (span : Span) (i : ItemData) → AreRead (types_in_extern i) → token_rows fs span i ≡ item_tokens span (active_item fs i)
-item_read fs span (extern_item t) h = enum_read fs t.enum_token (λ u i. h u (in_right u _ (flat_map types_in_enum (option_to_list t.enum_token)) i))
-item_read fs span (intern_item t) h = entries_listed span 0 t.match_entries
-item_read fs span (match_item m) h = refl
-item_read fs span (rule_item r) h = refl
-item_read fs span (use_item u) h = refl
+item_read : (fs : Features) (span : Span) (i : ItemData) → token_rows fs span i ≡ item_tokens span (active_item fs i)
+item_read fs span (extern_item t) = enum_read fs t.enum_token
+item_read fs span (intern_item t) = entries_listed span 0 t.match_entries
+item_read fs span (match_item m) = refl
+item_read fs span (rule_item r) = refl
+item_read fs span (use_item u) = refl
 
-items_read : (fs : Features) (span : Span) (items : List ItemData) → AreRead (flat_map types_in_extern items) → flat_map (token_rows fs span) items ≡ flat_map (item_tokens span) (map (active_item fs) items)
-items_read fs span [] h = refl
-items_read fs span (i ∷ items) h =
-    ap (λ rows. rows ++ flat_map (token_rows fs span) items) (item_read fs span i (λ t j. h t (in_left t (types_in_extern i) (flat_map types_in_extern items) j)))
-    ∙ ap (λ rows. item_tokens span (active_item fs i) ++ rows) (items_read fs span items (λ t j. h t (in_right t (types_in_extern i) (flat_map types_in_extern items) j)))
+items_read : (fs : Features) (span : Span) (items : List ItemData) → flat_map (token_rows fs span) items ≡ flat_map (item_tokens span) (map (active_item fs) items)
+items_read fs span [] = refl
+items_read fs span (i ∷ items) =
+    ap (λ rows. rows ++ flat_map (token_rows fs span) items) (item_read fs span i)
+    ∙ ap (λ rows. item_tokens span (active_item fs i) ++ rows) (items_read fs span items)
 
 -- the tokens that are counted are those of the active conversions and the entries
-pub tokens_read : (fs : Features) (g : GrammarData) → AreRead (flat_map types_in_extern g.items) → made_tokens fs g ≡ tokens_of (active_grammar fs g)
-tokens_read fs g h = items_read fs g.span g.items h
+pub tokens_read : (fs : Features) (g : GrammarData) → made_tokens fs g ≡ tokens_of (active_grammar fs g)
+tokens_read fs g = items_read fs g.span g.items
 
 -- ---- terminals
 
@@ -101,7 +92,7 @@ conversion_keys fs [] = refl
 conversion_keys fs (c ∷ cs) = by (is_active fs c.attributes) (conversion_keys fs cs)
   where
     by : (b : Bool) → keys_of (conversion_rows fs cs) ≡ terminals_converted (active fs cs)
-        → keys_of (cond b ((c.from, mapped_pattern lowered_type c.to) ∷ conversion_rows fs cs) (conversion_rows fs cs)) ≡ terminals_converted (cond b (c ∷ active fs cs) (active fs cs))
+        → keys_of (cond b ((c.from, mapped_pattern repr_of c.to) ∷ conversion_rows fs cs) (conversion_rows fs cs)) ≡ terminals_converted (cond b (c ∷ active fs cs) (active fs cs))
     by true deeper = ap (λ (ts : List TerminalString). c.from ∷ ts) deeper
     by false deeper = deeper
 

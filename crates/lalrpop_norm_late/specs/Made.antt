@@ -1,6 +1,6 @@
 -- What lowering makes, as it counts: the words of the code, from which the promises are proved.
 use Rattle.std.specs.Prelude.{◌≡◌, ℕ, ◌+◌, List, [], ◌∷◌, ◌++◌, length, map, filter_map, flat_map, Option}
-use Rattle.std.specs.Prelude.{Some, None, option_map, if◌then◌else◌}
+use Rattle.std.specs.Prelude.{Some, None, if◌then◌else◌}
 use Rattle.std.specs.List.Sorted.{IsStrictlySortedBy}
 use Rattle.std.specs.Map.{keys_of}
 use Rattle.lalrpop_norm_tree.specs.declared.items.MatchEntry.{MatchEntry}
@@ -8,13 +8,10 @@ use Rattle.lalrpop_norm_parts.specs.declared.names.Span.{Span}
 use Rattle.lalrpop_norm_parts.specs.declared.names.TerminalString.{TerminalString}
 use Rattle.lalrpop_norm_parts.specs.declared.names.TerminalString.TheVariants as terminal_string
 use Rattle.lalrpop_norm_tree.specs.Accessors.{first_of, intern_token_of}
-use Rattle.lalrpop_norm_parts.specs.Bounds.{BoundParameterData, lifetime_parameter, type_parameter, associated_type, BoundData}
-use Rattle.lalrpop_norm_parts.specs.Bounds.{lifetime_bound, function_bound, trait_bound, WhereClauseData, lifetime_clause}
-use Rattle.lalrpop_norm_parts.specs.Bounds.{type_clause}
 use Rattle.lalrpop_norm_tree.specs.Items.{Action, lookahead_code, lookbehind_code, AlternativeData, RuleData, ConversionData}
 use Rattle.lalrpop_norm_tree.specs.Items.{ItemData, match_item, extern_item, intern_item, rule_item, use_item, GrammarData}
-use Rattle.lalrpop_norm_parts.specs.Reprs.{ReprData, of_lifetime, LoweredClause, has_bound}
-use Rattle.lalrpop_norm_tree.specs.Types.{TypeData, ParameterData}
+use Rattle.lalrpop_norm_parts.specs.Reprs.{ReprData}
+use Rattle.lalrpop_norm_tree.specs.LoweredTypes.{repr_of}
 use Rattle.lalrpop_norm_faults.specs.Faults.{Fault}
 use Rattle.lalrpop_norm_model.specs.Features.{Features, is_active}
 use Rattle.lalrpop_norm_model.specs.LoweringFaults.{start_faults, code_faults, action_number_faults}
@@ -22,11 +19,11 @@ use Rattle.lalrpop_norm_model.specs.MadeRules.{some_name_value}
 use Rattle.lalrpop_norm_model.specs.TypeTables.{Table}
 use Rattle.lalrpop_norm_repr.specs.declared.action.LookaroundActionFnDefn.TheVariants.{Lookahead, Lookbehind}
 use Rattle.lalrpop_norm_repr.specs.Actions.{ActionData, ActionKindData, user, lookaround}
-use Rattle.lalrpop_norm_repr.specs.Lowered.{LoweredGrammar, LoweredParameter}
+use Rattle.lalrpop_norm_repr.specs.Lowered.{LoweredGrammar}
 use Rattle.lalrpop_norm_repr.specs.Orders.{name_cmp}
 use Rattle.lalrpop_norm_repr.specs.Tables.{TypeTable, type_of}
-use Rattle.lalrpop_norm_late.specs.Carried.{TokenRow, internal_pattern, terminal_of_mapping, under, uses_recovery, use_of}
-use Rattle.lalrpop_norm_late.specs.Carried.{asks_lalr, asked_code}
+use Rattle.lalrpop_norm_late.specs.Carried.{TokenRow, internal_pattern, terminal_of_mapping, uses_recovery, use_of}
+use Rattle.lalrpop_norm_late.specs.Carried.{lowered_parameter, lowered_clauses, asks_lalr, asked_code}
 use Rattle.lalrpop_norm_late.specs.Code.{written_code}
 use Rattle.lalrpop_norm_model.specs.Scopes.{conversions_in}
 use Rattle.lalrpop_norm_late.specs.Conversions.{mapped_pattern, sorted_terminals, numbered_terminals}
@@ -34,7 +31,7 @@ use Rattle.lalrpop_norm_late.specs.Lowering.{rules_among, public_rules_in, start
 use Rattle.lalrpop_norm_late.specs.Lowering.{is_fallible, rule_type, start_names, start_rows, rule_rows, sorted_onto}
 use Rattle.lalrpop_norm_late.specs.Naming.{argument_patterns, source_names}
 use Rattle.lalrpop_norm_late.specs.Slots.{filled_code}
-use Rattle.lalrpop_norm_late.specs.Typing.{lowered_type, start_types, AddsTypes}
+use Rattle.lalrpop_norm_late.specs.Typing.{start_types, AddsTypes}
 
 -- ---- actions
 
@@ -90,7 +87,7 @@ made_faults prefix types rules = made_starts_faults prefix types 0 (public_rules
 abbrev pub conversion_rows : Features → List ConversionData → List TokenRow
 conversion_rows fs [] = []
 conversion_rows fs (c ∷ cs) =
-    if is_active fs c.attributes then (c.from, mapped_pattern lowered_type c.to)
+    if is_active fs c.attributes then (c.from, mapped_pattern repr_of c.to)
     ∷ conversion_rows fs cs else conversion_rows fs cs
 
 abbrev pub row_named : Span → ℕ → Option TerminalString → List TokenRow
@@ -118,25 +115,6 @@ made_tokens fs g = flat_map (token_rows fs g.span) g.items
 abbrev pub made_terminals : Features → GrammarData → List TerminalString
 made_terminals fs g = keys_of (made_tokens fs g) ++ (if uses_recovery (rules_among g.items) then terminal_string.Error ∷ [] else [])
 
--- ---- the head
-
-abbrev pub made_parameter : ParameterData → LoweredParameter
-made_parameter p = record { name = p.name; ty = lowered_type p.type }
-
-abbrev pub made_bound_parameter : BoundParameterData TypeData → BoundParameterData ReprData
-made_bound_parameter (lifetime_parameter l) = lifetime_parameter l
-made_bound_parameter (type_parameter t) = type_parameter (lowered_type t)
-made_bound_parameter (associated_type a t) = associated_type a (lowered_type t)
-
-abbrev pub made_bound : BoundData TypeData → BoundData ReprData
-made_bound (lifetime_bound l) = lifetime_bound l
-made_bound (function_bound fs p ts r) = function_bound fs p (map lowered_type ts) (option_map lowered_type r)
-made_bound (trait_bound fs p ps) = trait_bound fs p (map made_bound_parameter ps)
-
-abbrev pub made_clauses : WhereClauseData TypeData → List LoweredClause
-made_clauses (lifetime_clause l ls) = map (λ m. has_bound (of_lifetime l) (lifetime_bound m)) ls
-made_clauses (type_clause fs t bs) = map (λ b. under fs (has_bound (lowered_type t) (made_bound b))) bs
-
 -- ---- the whole
 
 -- what lowering makes of the grammar, where `types` is the table of its rules
@@ -156,7 +134,7 @@ pub record IsMade (fs : Features) (g : GrammarData) (types : TypeTable) (l : Low
   pub uses_error_recovery : l.uses_error_recovery ≡ uses_recovery (rules_among g.items)
   pub uses : l.uses ≡ filter_map use_of g.items
   pub type_parameters : l.type_parameters ≡ g.type_parameters
-  pub parameters : l.parameters ≡ map made_parameter g.parameters
-  pub where_clauses : l.where_clauses ≡ flat_map made_clauses g.where_clauses
+  pub parameters : l.parameters ≡ map lowered_parameter g.parameters
+  pub where_clauses : l.where_clauses ≡ flat_map lowered_clauses g.where_clauses
   pub intern_token : l.intern_token ≡ first_of intern_token_of g.items
   pub module_attributes : l.module_attributes ≡ g.module_attributes

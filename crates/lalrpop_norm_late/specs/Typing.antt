@@ -1,17 +1,11 @@
--- Written types lowered, and the types of start symbols.
-use Rattle.std.specs.Prelude.{◌≡◌, ℕ, List, [], ◌∷◌, if◌then◌else◌}
+-- The types of start symbols.
+use Rattle.std.specs.Prelude.{◌≡◌, ℕ, List, [], ◌∷◌}
 use Rattle.lalrpop_norm_parts.specs.declared.names.NonterminalString.{NonterminalString}
 use Rattle.lalrpop_norm_tree.specs.Accessors.{or_else}
 use Rattle.lalrpop_norm_tree.specs.Items.{RuleData}
-use Rattle.lalrpop_norm_tree.specs.LoweredTypes.{holds_symbol, repr_of}
-use Rattle.lalrpop_norm_parts.specs.Reprs.{ReprData, unit_type}
-use Rattle.lalrpop_norm_tree.specs.Types.{TypeData}
+use Rattle.lalrpop_norm_parts.specs.Reprs.{ReprData}
 use Rattle.lalrpop_norm_repr.specs.Tables.{TypeTable, type_of, found}
 use Rattle.lalrpop_norm_late.specs.Lowering.{start_name, rule_type}
-
--- a written type lowered; one that holds a symbol, which no plain grammar has, counts as unit
-abbrev pub lowered_type : TypeData → ReprData
-lowered_type t = if holds_symbol t then unit_type else repr_of t
 
 -- each start symbol with its rule's type
 abbrev pub start_types : List ℕ → TypeTable → List RuleData → List (NonterminalString × ReprData)

@@ -3,12 +3,10 @@ ghost use Rattle.std.specs.Prelude.{◌≡◌, ◌++◌, [], ◌∷◌, IfOk, On
 ghost use Rattle.lalrpop_norm_parts.specs.Bounds.{bound_parameter_view, bound_view, function_bound, lifetime_bound, trait_bound, where_clause_view};
 ghost use Rattle.lalrpop_norm_parts.specs.Paths.{path_view};
 ghost use Rattle.lalrpop_norm_parts.specs.Reprs.{repr_view, lowered_where_clause_view, of_lifetime, has_bound};
+ghost use Rattle.lalrpop_norm_tree.specs.LoweredTypes.{repr_of};
 ghost use Rattle.lalrpop_norm_tree.specs.Types.{type_view};
-ghost use Rattle.lalrpop_norm_late.specs.Carried.{under};
-ghost use Rattle.lalrpop_norm_late.specs.Made.{made_bound, made_bound_parameter, made_clauses};
-ghost use Rattle.lalrpop_norm_late.specs.Typing.{lowered_type};
+ghost use Rattle.lalrpop_norm_late.specs.Carried.{under, lowered_bound, lowered_bound_parameter, lowered_clauses};
 
-use crate::typing::lowered_type;
 use lalrpop_norm_parts::names::copy::copy_type_parameters;
 use lalrpop_norm_repr::grammar::repr::{TypeRepr, WhereClause};
 use lalrpop_norm_tree::grammar::parse_tree as pt;
@@ -22,7 +20,7 @@ pub(crate) fn lowered_clauses(
     alloc: Global,
     clauses: &[pt::WhereClause<TypeRef>],
 ) -> Result<Vec<WhereClause>, NoMemory>
-    ensures { IfOk result (λ cs. map lowered_where_clause_view cs.items ≡ flat_map made_clauses (map (where_clause_view type_view) clauses.now)) }
+    ensures { IfOk result (λ cs. map lowered_where_clause_view cs.items ≡ flat_map lowered_clauses (map (where_clause_view type_view) clauses.now)) }
 {
     let mut lowered = Vec::new(alloc);
     for clause in clauses {
@@ -37,7 +35,7 @@ fn add_clauses(
     lowered: &mut Vec<WhereClause>,
 ) -> Result<(), NoMemory>
     ensures { OnOk result (map lowered_where_clause_view lowered.new.items
-        ≡ map lowered_where_clause_view lowered.old.items ++ made_clauses (where_clause_view type_view clause.now)) }
+        ≡ map lowered_where_clause_view lowered.old.items ++ lowered_clauses (where_clause_view type_view clause.now)) }
 {
     match clause {
         pt::WhereClause::Lifetime { lifetime, bounds } => add_lifetimes(lifetime, bounds, lowered),
@@ -85,7 +83,7 @@ fn add_bounds(
 ) -> Result<(), NoMemory>
     ensures { OnOk result (map lowered_where_clause_view lowered.new.items
         ≡ map lowered_where_clause_view lowered.old.items
-        ++ map (λ b. under forall.now.items (has_bound (lowered_type (type_view ty.now)) (made_bound b))) (map (bound_view type_view) bounds.now)) }
+        ++ map (λ b. under forall.now.items (has_bound (repr_of (type_view ty.now)) (lowered_bound b))) (map (bound_view type_view) bounds.now)) }
 {
     for bound in bounds {
         lowered.push(clause_under(alloc, forall, ty, bound)?)?;
@@ -101,7 +99,7 @@ fn clause_under(
     bound: &TypeBound<TypeRef>,
 ) -> Result<WhereClause, NoMemory>
     ensures { IfOk result (λ c. lowered_where_clause_view c
-        ≡ under forall.now.items (has_bound (lowered_type (type_view ty.now)) (made_bound (bound_view type_view bound.now)))) }
+        ≡ under forall.now.items (has_bound (repr_of (type_view ty.now)) (lowered_bound (bound_view type_view bound.now)))) }
 {
     if forall.is_empty() {
         return plain_clause(alloc, ty, bound);
@@ -117,14 +115,14 @@ fn plain_clause(
     ty: &TypeRef,
     bound: &TypeBound<TypeRef>,
 ) -> Result<WhereClause, NoMemory>
-    ensures { IfOk result (λ c. lowered_where_clause_view c ≡ has_bound (lowered_type (type_view ty.now)) (made_bound (bound_view type_view bound.now))) }
+    ensures { IfOk result (λ c. lowered_where_clause_view c ≡ has_bound (repr_of (type_view ty.now)) (lowered_bound (bound_view type_view bound.now))) }
 {
-    let subject = lowered_type(alloc, ty)?;
+    let subject = ty.lowered(alloc)?;
     Ok(clause_of(subject, lowered_bound(alloc, bound)?))
 }
 
 fn lowered_bound(alloc: Global, bound: &TypeBound<TypeRef>) -> Result<TypeBound<TypeRepr>, NoMemory>
-    ensures { IfOk result (λ b. bound_view repr_view b ≡ made_bound (bound_view type_view bound.now)) }
+    ensures { IfOk result (λ b. bound_view repr_view b ≡ lowered_bound (bound_view type_view bound.now)) }
 {
     match bound {
         TypeBound::Lifetime(lifetime) => Ok(TypeBound::Lifetime(lifetime.clone()?)),
@@ -184,21 +182,21 @@ fn trait_bound(
 }
 
 fn lowered_types(alloc: Global, types: &[TypeRef]) -> Result<Vec<TypeRepr>, NoMemory>
-    ensures { IfOk result (λ ts. map repr_view ts.items ≡ map lowered_type (map type_view types.now)) }
+    ensures { IfOk result (λ ts. map repr_view ts.items ≡ map repr_of (map type_view types.now)) }
 {
     let mut lowered = Vec::new(alloc);
     for ty in types {
-        lowered.push(lowered_type(alloc, ty)?)?;
+        lowered.push(ty.lowered(alloc)?)?;
     }
     Ok(lowered)
 }
 
 fn lowered_return(alloc: Global, ret: &Option<TypeRef>) -> Result<Option<TypeRepr>, NoMemory>
-    ensures { IfOk result (λ t. option_map repr_view t ≡ option_map lowered_type (option_map type_view ret.now)) }
+    ensures { IfOk result (λ t. option_map repr_view t ≡ option_map repr_of (option_map type_view ret.now)) }
 {
     match ret {
         None => Ok(None),
-        Some(ty) => Ok(Some(lowered_type(alloc, ty)?)),
+        Some(ty) => Ok(Some(ty.lowered(alloc)?)),
     }
 }
 
@@ -207,7 +205,7 @@ fn lowered_parameters(
     parameters: &[TypeBoundParameter<TypeRef>],
 ) -> Result<Vec<TypeBoundParameter<TypeRepr>>, NoMemory>
     ensures { IfOk result (λ ps. map (bound_parameter_view repr_view) ps.items
-        ≡ map made_bound_parameter (map (bound_parameter_view type_view) parameters.now)) }
+        ≡ map lowered_bound_parameter (map (bound_parameter_view type_view) parameters.now)) }
 {
     let mut lowered = Vec::new(alloc);
     for parameter in parameters {
@@ -220,18 +218,18 @@ fn lowered_parameter(
     alloc: Global,
     parameter: &TypeBoundParameter<TypeRef>,
 ) -> Result<TypeBoundParameter<TypeRepr>, NoMemory>
-    ensures { IfOk result (λ p. bound_parameter_view repr_view p ≡ made_bound_parameter (bound_parameter_view type_view parameter.now)) }
+    ensures { IfOk result (λ p. bound_parameter_view repr_view p ≡ lowered_bound_parameter (bound_parameter_view type_view parameter.now)) }
 {
     match parameter {
         TypeBoundParameter::Lifetime(lifetime) => {
             Ok(TypeBoundParameter::Lifetime(lifetime.clone()?))
         }
         TypeBoundParameter::TypeParameter(ty) => {
-            Ok(TypeBoundParameter::TypeParameter(lowered_type(alloc, ty)?))
+            Ok(TypeBoundParameter::TypeParameter(ty.lowered(alloc)?))
         }
         TypeBoundParameter::Associated(name, ty) => {
             let name = name.clone()?;
-            Ok(TypeBoundParameter::Associated(name, lowered_type(alloc, ty)?))
+            Ok(TypeBoundParameter::Associated(name, ty.lowered(alloc)?))
         }
     }
 }

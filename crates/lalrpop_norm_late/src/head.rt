@@ -7,12 +7,10 @@ ghost use Rattle.lalrpop_norm_parts.specs.Reprs.{lowered_where_clause_view};
 ghost use Rattle.lalrpop_norm_tree.specs.Types.{parameter_view};
 ghost use Rattle.lalrpop_norm_model.specs.Expanded.{all_known};
 ghost use Rattle.lalrpop_norm_repr.specs.Lowered.{lowered_parameter_view};
-ghost use Rattle.lalrpop_norm_late.specs.Carried.{use_of, asks_lalr, asked_code};
-ghost use Rattle.lalrpop_norm_late.specs.Made.{made_clauses, made_parameter};
+ghost use Rattle.lalrpop_norm_late.specs.Carried.{lowered_clauses, lowered_parameter, use_of, asks_lalr, asked_code};
 
 use crate::clauses::lowered_clauses;
-use crate::typing::lowered_type;
-use lalrpop_norm_parts::names::copy::copy_type_parameters;
+use lalrpop_norm_parts::names::copy::{copy_texts, copy_type_parameters};
 use lalrpop_norm_repr::grammar::repr::{Algorithm, Parameter, WhereClause};
 use lalrpop_norm_tree::grammar::parse_tree as pt;
 use lalrpop_norm_tree::grammar::parse_tree::{
@@ -39,7 +37,7 @@ pub(crate) fn head_of(alloc: Global, grammar: &pt::Grammar) -> Result<Head, NoMe
     Ok(Head {
         prefix: String::from_str(alloc, grammar.prefix.as_str())?,
         uses: uses_of(alloc, &grammar.items)?,
-        module_attributes: copy_texts(alloc, &grammar.module_attributes)?,
+        module_attributes: copy_texts(&grammar.module_attributes)?,
         intern_token: intern_token_of(&grammar.items)?,
     })
 }
@@ -55,8 +53,8 @@ pub(crate) struct Signature {
 /// The parameters and where clauses of a grammar, their types lowered.
 pub(crate) fn signature_of(alloc: Global, grammar: &pt::Grammar) -> Result<Signature, NoMemory>
     ensures type_parameters { IfOk result (λ s. s.type_parameters.items ≡ (grammar_view grammar.now).type_parameters) }
-    ensures parameters { IfOk result (λ s. map lowered_parameter_view s.parameters.items ≡ map made_parameter (grammar_view grammar.now).parameters) }
-    ensures where_clauses { IfOk result (λ s. map lowered_where_clause_view s.where_clauses.items ≡ flat_map made_clauses (grammar_view grammar.now).where_clauses) }
+    ensures parameters { IfOk result (λ s. map lowered_parameter_view s.parameters.items ≡ map lowered_parameter (grammar_view grammar.now).parameters) }
+    ensures where_clauses { IfOk result (λ s. map lowered_where_clause_view s.where_clauses.items ≡ flat_map lowered_clauses (grammar_view grammar.now).where_clauses) }
 {
     Ok(Signature {
         type_parameters: copy_type_parameters(&grammar.type_parameters)?,
@@ -114,7 +112,7 @@ fn lowered_parameters(
     alloc: Global,
     parameters: &[pt::Parameter],
 ) -> Result<Vec<Parameter>, NoMemory>
-    ensures { IfOk result (λ ps. map lowered_parameter_view ps.items ≡ map made_parameter (map parameter_view parameters.now)) }
+    ensures { IfOk result (λ ps. map lowered_parameter_view ps.items ≡ map lowered_parameter (map parameter_view parameters.now)) }
 {
     let mut lowered = Vec::new(alloc);
     for parameter in parameters {
@@ -124,20 +122,9 @@ fn lowered_parameters(
 }
 
 fn lowered_parameter(alloc: Global, parameter: &pt::Parameter) -> Result<Parameter, NoMemory>
-    ensures { IfOk result (λ p. lowered_parameter_view p ≡ made_parameter (parameter_view parameter.now)) }
+    ensures { IfOk result (λ p. lowered_parameter_view p ≡ lowered_parameter (parameter_view parameter.now)) }
 {
     let name = parameter.name.clone()?;
-    let ty = lowered_type(alloc, &parameter.ty)?;
+    let ty = parameter.ty.lowered(alloc)?;
     Ok(Parameter { name, ty })
-}
-
-/// A copy of each text.
-fn copy_texts(alloc: Global, texts: &[String]) -> Result<Vec<String>, NoMemory>
-    ensures { IfOk result (λ copies. map string_bytes copies.items ≡ map string_bytes texts.now) }
-{
-    let mut copies = Vec::new(alloc);
-    for text in texts {
-        copies.push(text.clone()?)?;
-    }
-    Ok(copies)
 }

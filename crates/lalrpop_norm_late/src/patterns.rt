@@ -3,11 +3,10 @@ ghost use Rattle.std.specs.Prelude.{◌≡◌, IfOk, map};
 ghost use Rattle.lalrpop_norm_parts.specs.Paths.{path_view};
 ghost use Rattle.lalrpop_norm_parts.specs.Patterns.{pattern_view, pattern_kind_view, patterns_view, field_view, fields_view, enumerated, structured, tuple_struct};
 ghost use Rattle.lalrpop_norm_parts.specs.Reprs.{repr_view};
+ghost use Rattle.lalrpop_norm_tree.specs.LoweredTypes.{repr_of};
 ghost use Rattle.lalrpop_norm_tree.specs.Types.{type_view};
 ghost use Rattle.lalrpop_norm_late.specs.Conversions.{mapped_pattern, mapped_kind, mapped_patterns, mapped_fields, mapped_field};
-ghost use Rattle.lalrpop_norm_late.specs.Typing.{lowered_type};
 
-use crate::typing::lowered_type;
 use lalrpop_norm_tree::grammar::parse_tree::{Atom, NoMemory, Path, Span, TypeRef};
 use lalrpop_norm_tree::grammar::pattern::{FieldPattern, Pattern, PatternKind};
 use lalrpop_norm_tree::grammar::repr::TypeRepr;
@@ -19,7 +18,7 @@ pub(crate) fn lowered_pattern(
     alloc: Global,
     pattern: &Pattern<TypeRef>,
 ) -> Result<Pattern<TypeRepr>, NoMemory>
-    ensures { IfOk result (λ p. pattern_view repr_view p ≡ mapped_pattern lowered_type (pattern_view type_view pattern.now)) }
+    ensures { IfOk result (λ p. pattern_view repr_view p ≡ mapped_pattern repr_of (pattern_view type_view pattern.now)) }
 {
     let kind = lowered_kind(alloc, &pattern.kind)?;
     Ok(Pattern {
@@ -33,7 +32,7 @@ fn lowered_kind(
     alloc: Global,
     kind: &PatternKind<TypeRef>,
 ) -> Result<PatternKind<TypeRepr>, NoMemory>
-    ensures { IfOk result (λ k. pattern_kind_view repr_view k ≡ mapped_kind lowered_type (pattern_kind_view type_view kind.now)) }
+    ensures { IfOk result (λ k. pattern_kind_view repr_view k ≡ mapped_kind repr_of (pattern_kind_view type_view kind.now)) }
 {
     match kind {
         PatternKind::Enum(path, inner) => enumerated(path, lowered_patterns(alloc, inner)?),
@@ -48,7 +47,7 @@ fn lowered_kind(
         PatternKind::Usize(n) => Ok(PatternKind::Usize(*n)),
         PatternKind::Underscore => Ok(PatternKind::Underscore),
         PatternKind::DotDot => Ok(PatternKind::DotDot),
-        PatternKind::Choose(ty) => Ok(PatternKind::Choose(lowered_type(alloc, ty)?)),
+        PatternKind::Choose(ty) => Ok(PatternKind::Choose(ty.lowered(alloc)?)),
         PatternKind::CharLiteral(text) => Ok(PatternKind::CharLiteral(text.clone()?)),
         PatternKind::String(text) => Ok(PatternKind::String(text.clone()?)),
     }
@@ -87,7 +86,7 @@ fn lowered_patterns(
     alloc: Global,
     patterns: &[Pattern<TypeRef>],
 ) -> Result<Vec<Pattern<TypeRepr>>, NoMemory>
-    ensures { IfOk result (λ ps. patterns_view repr_view ps.items ≡ mapped_patterns lowered_type (patterns_view type_view patterns.now)) }
+    ensures { IfOk result (λ ps. patterns_view repr_view ps.items ≡ mapped_patterns repr_of (patterns_view type_view patterns.now)) }
 {
     let mut lowered = Vec::new(alloc);
     for pattern in patterns {
@@ -101,7 +100,7 @@ fn lowered_fields(
     alloc: Global,
     fields: &[FieldPattern<TypeRef>],
 ) -> Result<Vec<FieldPattern<TypeRepr>>, NoMemory>
-    ensures { IfOk result (λ fs. fields_view repr_view fs.items ≡ mapped_fields lowered_type (fields_view type_view fields.now)) }
+    ensures { IfOk result (λ fs. fields_view repr_view fs.items ≡ mapped_fields repr_of (fields_view type_view fields.now)) }
 {
     let mut lowered = Vec::new(alloc);
     for field in fields {
@@ -115,7 +114,7 @@ fn lowered_field(
     alloc: Global,
     field: &FieldPattern<TypeRef>,
 ) -> Result<FieldPattern<TypeRepr>, NoMemory>
-    ensures { IfOk result (λ f. field_view repr_view f ≡ mapped_field lowered_type (field_view type_view field.now)) }
+    ensures { IfOk result (λ f. field_view repr_view f ≡ mapped_field repr_of (field_view type_view field.now)) }
 {
     field_with(
         field.field_span,

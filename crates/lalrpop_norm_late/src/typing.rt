@@ -1,14 +1,13 @@
-//! The types of start symbols, and written types lowered.
+//! The types of start symbols.
 ghost use Rattle.std.specs.Prelude.{◌≡◌, [], ◌∷◌, IfOk, OnOk, map};
 ghost use Rattle.lalrpop_norm_parts.specs.Reprs.{repr_view, unit_type};
-ghost use Rattle.lalrpop_norm_tree.specs.Types.{type_view};
 ghost use Rattle.lalrpop_norm_repr.specs.Tables.{type_table};
 ghost use Rattle.lalrpop_norm_late.specs.Starts.{start_typed};
-ghost use Rattle.lalrpop_norm_late.specs.Typing.{lowered_type, AddsTypes};
+ghost use Rattle.lalrpop_norm_late.specs.Typing.{AddsTypes};
 
 use crate::starts::Start;
 use lalrpop_norm_repr::grammar::repr::{TypeRepr, Types};
-use lalrpop_norm_tree::grammar::parse_tree::{NoMemory, NonterminalString, TypeRef, TypeReprError};
+use lalrpop_norm_tree::grammar::parse_tree::{NoMemory, NonterminalString};
 use std::alloc::Global;
 
 /// Adds the start symbols that have no type yet, each with its rule's type.
@@ -35,15 +34,4 @@ pub(crate) fn unit_type(alloc: Global) -> TypeRepr
     ensures { repr_view result ≡ unit_type }
 {
     TypeRepr::Tuple(Vec::new(alloc))
-}
-
-/// The lowered type. Only macro expansion makes a type that holds a symbol.
-pub(crate) fn lowered_type(alloc: Global, written: &TypeRef) -> Result<TypeRepr, NoMemory>
-    ensures { IfOk result (λ t. repr_view t ≡ lowered_type (type_view written.now)) }
-{
-    match written.type_repr(alloc) {
-        Ok(ty) => Ok(ty),
-        Err(TypeReprError::OfSymbol) => Ok(unit_type(alloc)),
-        Err(TypeReprError::Memory) => Err(NoMemory),
-    }
 }

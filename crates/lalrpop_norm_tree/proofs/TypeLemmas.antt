@@ -1,6 +1,5 @@
 -- Lists of written types, one by one.
-use Rattle.std.proofs.Common.{◌≡◌, ℕ, ◌<◌, Bool, true, false, ◌||◌, List, [], ◌∷◌, length, map, get_or, refl, sym, ap, ◌∙◌}
-use Rattle.std.proofs.lemmas.List.Folds.{list_any_at}
+use Rattle.std.proofs.Common.{◌≡◌, ◌||◌, List, [], ◌∷◌, map, refl, ap}
 use Rattle.std.specs.List.{list_any}
 use Rattle.lalrpop_norm_tree.specs.declared.types.TypeRef.{TypeRef}
 use Rattle.lalrpop_norm_tree.specs.LoweredTypes.{holds_symbol, any_holds_symbol, repr_of, all_reprs_of}
@@ -11,14 +10,6 @@ use Rattle.lalrpop_norm_tree.specs.Types.{type_view, types_view}
 pub any_of_them : (ts : List TypeRef) → any_holds_symbol (types_view ts) ≡ list_any (λ t. holds_symbol (type_view t)) ts
 any_of_them [] = refl
 any_of_them (t ∷ ts) = ap (λ b. holds_symbol (type_view t) || b) (any_of_them ts)
-
--- where none of the types has a symbol, each has none
-pub none_in_each : (ts : List TypeRef) (i : ℕ) (d : TypeRef) → i < length ts → any_holds_symbol (types_view ts) ≡ false → holds_symbol (type_view (get_or ts i d)) ≡ false
-none_in_each ts i d h e =
-    let test : TypeRef → Bool = λ t. holds_symbol (type_view t) in
-    let P : Bool → Type 0 = λ b. test (get_or ts i d) ≡ b → b ≡ false in
-    let cases : (b : Bool) → P b = λ b. elim b as P [ true ↦ λ same. sym (list_any_at test ts i d h same) ∙ sym (any_of_them ts) ∙ e | false ↦ λ same. refl ] in
-    cases (test (get_or ts i d)) refl
 
 -- the lowered types, one by one
 pub lowered_one_by_one : (ts : List TypeRef) → reprs_of (map (λ t. repr_of (type_view t)) ts) ≡ all_reprs_of (types_view ts)

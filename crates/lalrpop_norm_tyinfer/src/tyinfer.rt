@@ -19,7 +19,6 @@ mod rounds;
 mod same;
 mod tokens;
 mod values;
-mod written;
 
 use agreement::check_agreement;
 use grounded::{check_clauses, check_typed};

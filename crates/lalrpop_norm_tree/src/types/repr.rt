@@ -9,7 +9,7 @@ use super::TypeRef;
 use lalrpop_norm_parts::lowered::{NominalTypeRepr, TypeRepr};
 use lalrpop_norm_parts::names::copy::copy_type_parameters;
 use lalrpop_norm_parts::path::Path;
-use shared_text::Atom;
+use shared_text::{Atom, NoMemory};
 use std::alloc::{AllocError, Global};
 
 /// Why a written type has no lowered one.
@@ -40,6 +40,16 @@ impl TypeRef {
     }
 
     /// The lowered type: a single name becomes the path of that name, all else stays as written.
+    /// The type of a symbol, which only an expansion makes, counts as unit in its place.
+    ///
+    /// The only error is want of memory.
+    pub fn lowered(&self, alloc: Global) -> Result<TypeRepr, NoMemory>
+        ensures { IfOk result (λ r. repr_view r ≡ repr_of (type_view self.now)) }
+    {
+        Ok(lower(alloc, self)?)
+    }
+
+    /// The lowered type of one in which no symbol stands, as `lowered` gives it.
     ///
     /// Errors: `OfSymbol` where the type of a symbol stands in it, and only there; `Memory`.
     pub fn type_repr(&self, alloc: Global) -> Result<TypeRepr, TypeReprError>
@@ -102,10 +112,9 @@ fn is_result_of_symbol(ret: &Option<Box<TypeRef>>) -> bool
     }
 }
 
-/// The lowered type of one in which no symbol stands.
+/// The lowered type; a symbol counts as unit.
 #[cycle(lower)]
 fn lower(alloc: Global, written: &TypeRef) -> Result<TypeRepr, AllocError>
-    requires { holds_symbol (type_view written.now) ≡ false }
     ensures { IfOk result (λ r. repr_view r ≡ repr_of (type_view written.now)) }
 {
     match written {
@@ -128,7 +137,7 @@ fn lower(alloc: Global, written: &TypeRef) -> Result<TypeRepr, AllocError>
         }
         TypeRef::Lifetime(lifetime) => Ok(TypeRepr::Lifetime(lifetime.clone()?)),
         TypeRef::Id(id) => Ok(TypeRepr::Nominal(lower_name(alloc, id)?)),
-        TypeRef::OfSymbol(_) => unreachable!(),
+        TypeRef::OfSymbol(_) => Ok(TypeRepr::Tuple(Vec::new(alloc))),
         TypeRef::Fn {
             forall,
             path,
@@ -164,7 +173,6 @@ fn lower_applied(
     path: &Path,
     types: &[TypeRef],
 ) -> Result<NominalTypeRepr, AllocError>
-    requires { any_holds_symbol (types_view types.now) ≡ false }
     ensures { IfOk result (λ n. applied_view n ≡ (path_view path.now, all_reprs_of (types_view types.now))) }
 {
     let path = path.clone()?;
@@ -177,7 +185,6 @@ fn lower_result(
     alloc: Global,
     ret: &Option<Box<TypeRef>>,
 ) -> Result<Option<Box<TypeRepr>>, AllocError>
-    requires { result_holds_symbol (maybe_of (option_map (λ b. type_view b.value) ret.now)) ≡ false }
     ensures { IfOk result (λ r. maybe_repr_of (option_map (λ b. repr_view b.value) r) ≡ result_repr_of (maybe_of (option_map (λ b. type_view b.value) ret.now))) }
 {
     match ret {
@@ -187,9 +194,7 @@ fn lower_result(
 }
 
 #[cycle(lower)]
-#[tactic(auto, using(crate::proofs::TypeLemmas::none_in_each))]
 fn lower_all(alloc: Global, types: &[TypeRef]) -> Result<Vec<TypeRepr>, AllocError>
-    requires { any_holds_symbol (types_view types.now) ≡ false }
     ensures { IfOk result (λ rs. reprs_view rs.items ≡ all_reprs_of (types_view types.now)) }
 {
     let mut lowered = Vec::new(alloc);

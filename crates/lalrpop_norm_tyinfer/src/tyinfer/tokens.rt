@@ -13,7 +13,6 @@ ghost use Rattle.lalrpop_norm_model.specs.Entries.{user_names};
 ghost use Rattle.lalrpop_norm_model.specs.TerminalTypes.{declared_under, declared_location, token_type, token_of_input, input_lifetime, input_str, chosen_in_pattern, chosen_in_kind, chosen_in_all, chosen_in_fields, type_of_chosen, conversion_row, row_for, extern_enum, rows_with};
 ghost use Rattle.lalrpop_norm_tyinfer.specs.TokenTypes.{AddsTerminals, rows_seen, base_table};
 
-use super::written::lowered_type;
 use lalrpop_norm_repr::grammar::repr::{NominalTypeRepr, TypeRepr, Types};
 use lalrpop_norm_tree::grammar::parse_tree::{
     Atom, Conversion, ExternToken, Grammar, Lifetime, MatchEntry, MatchMapping, NoMemory, Path,
@@ -72,7 +71,7 @@ fn declared_in(alloc: Global, token: &ExternToken, name: &str) -> Result<Option<
         ≡ option_map (λ t. repr_of t.type_ref) (first_of (type_named name.now) (extern_token_view token.now).associated_types)) }
 {
     match token.associated_type(name) {
-        Some(declared) => Ok(Some(lowered_type(alloc, &declared.type_ref)?)),
+        Some(declared) => Ok(Some(declared.type_ref.lowered(alloc)?)),
         None => Ok(None),
     }
 }
@@ -90,7 +89,7 @@ fn token_type(alloc: Global, grammar: &Grammar) -> Result<TypeRepr, NoMemory>
     ensures { IfOk result (λ t. repr_view t ≡ token_type (grammar_view grammar.now)) }
 {
     match grammar.enum_token() {
-        Some(tokens) => lowered_type(alloc, &tokens.type_name),
+        Some(tokens) => tokens.type_name.lowered(alloc),
         None => token_of_input(alloc),
     }
 }
@@ -264,8 +263,7 @@ fn add_chosen_in(
 fn add_type(alloc: Global, written: &TypeRef, types: &mut Vec<TypeRepr>) -> Result<(), NoMemory>
     ensures { OnOk result (map repr_view types.new.items ≡ map repr_view types.old.items ++ repr_of (type_view written.now) ∷ []) }
 {
-    let ty = lowered_type(alloc, written)?;
-    types.push(ty)?;
+    types.push(written.lowered(alloc)?)?;
     Ok(())
 }
 

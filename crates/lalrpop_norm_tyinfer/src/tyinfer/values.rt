@@ -3,6 +3,7 @@ ghost use Rattle.std.specs.Prelude.{◌≡◌, Bool, IfOk, option_map, is_some};
 ghost use Rattle.lalrpop_norm_parts.specs.Paths.{path_view};
 ghost use Rattle.lalrpop_norm_parts.specs.Reprs as lowered;
 ghost use Rattle.lalrpop_norm_parts.specs.Reprs.{repr_view, reprs_view, applied_view, maybe_repr_of};
+ghost use Rattle.lalrpop_norm_tree.specs.LoweredTypes.{named_path};
 ghost use Rattle.lalrpop_norm_tree.specs.Symbols.{kind_view, symbol_view};
 ghost use Rattle.lalrpop_norm_tree.specs.Types.{type_view, types_view, maybe_of};
 ghost use Rattle.lalrpop_norm_repr.specs.Tables.{type_table};
@@ -11,7 +12,7 @@ ghost use Rattle.lalrpop_norm_model.specs.TypeTables.{path_value, both};
 ghost use Rattle.lalrpop_norm_tyinfer.specs.TableValues.{kind_in, part_in, type_in, types_in, return_in};
 
 use super::same::is_same_name;
-use super::written::{applied_to, function_type, lifetime_type, named_type, reference_type};
+use lalrpop_norm_parts::names::copy::copy_type_parameters;
 use lalrpop_norm_repr::grammar::repr::{NominalTypeRepr, TypeRepr, Types};
 use lalrpop_norm_tree::grammar::parse_tree::{
     Atom, Lifetime, NoMemory, Path, Symbol, SymbolKind, TypeParameter, TypeRef,
@@ -330,4 +331,71 @@ fn all_values(
         }
     }
     Ok(Some(values))
+}
+
+fn lifetime_type(lifetime: &Lifetime) -> Result<TypeRepr, NoMemory>
+    ensures { IfOk result (λ r. repr_view r ≡ lowered.of_lifetime lifetime.now) }
+{
+    Ok(TypeRepr::Lifetime(lifetime.clone()?))
+}
+
+/// The type of that one name.
+fn named_type(alloc: Global, id: &Atom) -> Result<TypeRepr, NoMemory>
+    ensures { IfOk result (λ r. repr_view r ≡ lowered.nominal (named_path id.now) lowered.no_reprs) }
+{
+    Ok(TypeRepr::Nominal(named(alloc, id)?))
+}
+
+/// The path that is one name, without arguments.
+fn named(alloc: Global, id: &Atom) -> Result<NominalTypeRepr, NoMemory>
+    ensures { IfOk result (λ n. applied_view n ≡ (named_path id.now, lowered.no_reprs)) }
+{
+    let path = Path::from_id(alloc, id.clone()?)?;
+    let types = Vec::new(alloc);
+    Ok(NominalTypeRepr { path, types })
+}
+
+/// The reference type to that lowered one.
+fn reference_type(
+    lifetime: &Option<Lifetime>,
+    mutable: bool,
+    referent: Box<TypeRepr>,
+) -> Result<TypeRepr, NoMemory>
+    ensures { IfOk result (λ r. repr_view r ≡ lowered.reference lifetime.now mutable (repr_view referent.value)) }
+{
+    Ok(TypeRepr::Ref {
+        lifetime: lifetime.clone()?,
+        mutable,
+        referent,
+    })
+}
+
+/// The path over these lowered arguments.
+fn applied_to(path: &Path, types: Vec<TypeRepr>) -> Result<NominalTypeRepr, NoMemory>
+    ensures { IfOk result (λ n. applied_view n ≡ (path_view path.now, reprs_view types.items)) }
+{
+    Ok(NominalTypeRepr {
+        path: path.clone()?,
+        types,
+    })
+}
+
+/// The function type over these lowered parts.
+fn function_type(
+    forall: &Vec<TypeParameter>,
+    path: &Path,
+    parameters: Vec<TypeRepr>,
+    ret: Option<Box<TypeRepr>>,
+) -> Result<TypeRepr, NoMemory>
+    ensures { IfOk result (λ r. repr_view r
+        ≡ lowered.function forall.now.items (path_view path.now) (reprs_view parameters.items) (maybe_repr_of (option_map (λ b. repr_view b.value) ret))) }
+{
+    let forall = copy_type_parameters(forall)?;
+    let path = path.clone()?;
+    Ok(TypeRepr::Fn {
+        forall,
+        path,
+        parameters,
+        ret,
+    })
 }

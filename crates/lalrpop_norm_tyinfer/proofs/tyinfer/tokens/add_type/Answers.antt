@@ -5,5 +5,5 @@ use Rattle.lalrpop_norm_tyinfer.proofs.tyinfer.tokens.add_type.Goals as goal
 
 pub returns : goal.returns
 returns c =
-    ap (map repr_view) c.in_ok-push.ensures.items ∙ map-append repr_view c.args.types.now.items (c.in_ok-ty.ty ∷ [])
-    ∙ ap (λ t. map repr_view c.args.types.now.items ++ t ∷ []) c.in_ok-ty.ensures
+    ap (map repr_view) c.in_ok-push.ensures.items ∙ map-append repr_view c.args.types.now.items (c.in_ok-lowered.field-0 ∷ [])
+    ∙ ap (λ t. map repr_view c.args.types.now.items ++ t ∷ []) c.in_ok-lowered.ensures
