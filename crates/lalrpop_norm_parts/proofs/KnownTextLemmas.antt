@@ -20,7 +20,7 @@ use Rattle.std.proofs.Output.{has_written_append}
 use Rattle.lalrpop_norm_parts.specs.declared.names.TypeParameter.{TypeParameter}
 use Rattle.lalrpop_norm_parts.specs.declared.path.Path.{Path}
 use Rattle.lalrpop_norm_parts.specs.Paths.{path_view}
-use Rattle.lalrpop_norm_parts.specs.TypeTexts.{forall_text, path_text}
+use Rattle.lalrpop_norm_parts.specs.TypeTexts.{angled, forall_text, path_text}
 use Rattle.lalrpop_norm_parts.specs.Texts.{joined}
 use Rattle.lalrpop_norm_parts.specs.KnownTexts.{texts_after, joined_known, angled_known, bounds_known}
 
@@ -82,15 +82,13 @@ rest_behind output (f ∷ fs) rest h n =
 
 -- one level of a bound, and of a where clause
 module _ {T : Type 0} (text : T → Option (List ℕ)) where
-  pub trait_bound_text : (b : TypeBound T) (gs : List TypeParameter) (fs : Vec TypeParameter Global) (p : Path) (xs : List (TypeBoundParameter T)) (ps : Vec (TypeBoundParameter T) Global)
-      → b ≡ Trait fs p ps → gs ≡ fs.items → xs ≡ ps.items
-      → Some (forall_text gs ++ path_text (path_view p)) ++? angled_known (map (λ q. bound_parameter_text (bound_parameter_view text q)) xs) ≡ bound_text (bound_view text b)
-  trait_bound_text b gs fs p xs ps e d h = rw (e, d, h, map_twice bound_parameter_text (bound_parameter_view text) ps.items)
+  pub trait_bound_text : (b : TypeBound T) (fs : Vec TypeParameter Global) (p : Path) (ps : Vec (TypeBoundParameter T) Global) → b ≡ Trait fs p ps
+      → Some (forall_text fs.items ++ path_text (path_view p)) ++? angled_known (map (λ q. bound_parameter_text (bound_parameter_view text q)) ps.items) ≡ bound_text (bound_view text b)
+  trait_bound_text b fs p ps e = rw (e, map_twice bound_parameter_text (bound_parameter_view text) ps.items)
 
-  pub type_clause_text : (w : WhereClause T) (gs : List TypeParameter) (fs : Vec TypeParameter Global) (t : T) (xs : List (TypeBound T)) (bs : Vec (TypeBound T) Global)
-      → w ≡ OfType fs t bs → gs ≡ fs.items → xs ≡ bs.items
-      → Some (forall_text gs) ++? text t ++? Some (codes ": ") ++? bounds_known (map (λ b. bound_text (bound_view text b)) xs) ≡ where_clause_text (where_clause_view text w)
-  type_clause_text w gs fs t xs bs e d h = rw (e, d, h, map_twice bound_text (bound_view text) bs.items)
+  pub type_clause_text : (w : WhereClause T) (fs : Vec TypeParameter Global) (t : T) (bs : Vec (TypeBound T) Global) → w ≡ OfType fs t bs
+      → Some (forall_text fs.items) ++? text t ++? Some (codes ": ") ++? bounds_known (map (λ b. bound_text (bound_view text b)) bs.items) ≡ where_clause_text (where_clause_view text w)
+  type_clause_text w fs t bs e = rw (e, map_twice bound_text (bound_view text) bs.items)
 
 module _ {W : Type 0} (took : W → List ℕ → W → Type 0) where
   -- a text that may be open, and then another
@@ -143,3 +141,8 @@ module _ {X : Type 0} (text : X → List ℕ) (separator : List ℕ) where
   pub joined_known-all : (xs : List X) → joined_known separator (map (λ x. Some (text x)) xs) ≡ Some (joined separator (map text xs))
   joined_known-all [] = refl
   joined_known-all (x ∷ xs) = rw (each_after-known xs)
+
+-- where each has a text, those texts between angle brackets
+pub angled_known-all : {X : Type 0} (text : X → List ℕ) (xs : List X) → angled_known (map (λ x. Some (text x)) xs) ≡ Some (angled (map text xs))
+angled_known-all text [] = refl
+angled_known-all text (x ∷ xs) = rw (joined_known-all text (codes ", ") (x ∷ xs))

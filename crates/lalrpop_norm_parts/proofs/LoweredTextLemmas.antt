@@ -8,13 +8,12 @@ use Rattle.lalrpop_norm_parts.specs.declared.bound.TypeBound.TheVariants as boun
 use Rattle.lalrpop_norm_parts.specs.declared.lowered.TypeRepr.{TypeRepr}
 use Rattle.lalrpop_norm_parts.specs.Bounds.{bound_parameter_view, bound_view}
 use Rattle.lalrpop_norm_parts.specs.BoundTexts.{bound_parameter_text, bound_text}
-use Rattle.lalrpop_norm_parts.specs.KnownTexts.{angled_known}
 use Rattle.lalrpop_norm_parts.specs.LoweredTexts.{lowered_bound_parameter_text, lowered_bound_text}
 use Rattle.lalrpop_norm_parts.specs.Paths.{path_view}
 use Rattle.lalrpop_norm_parts.specs.Reprs.{repr_view}
 use Rattle.lalrpop_norm_parts.specs.Texts.{joined}
-use Rattle.lalrpop_norm_parts.specs.TypeTexts.{angled, forall_text, path_text, repr_text}
-use Rattle.lalrpop_norm_parts.proofs.KnownTextLemmas.{joined_known-all}
+use Rattle.lalrpop_norm_parts.specs.TypeTexts.{forall_text, path_text, repr_text}
+use Rattle.lalrpop_norm_parts.proofs.KnownTextLemmas.{joined_known-all, angled_known-all}
 
 -- what a lowered type prints
 abbrev printed : TypeRepr → Option (List ℕ)
@@ -25,11 +24,6 @@ associated_text a t = ap Some (sym (append_assoc a (codes " = ") t))
 
 function_text : (h ts r : List ℕ) → Some h ++? (Some (codes "(") ++? Some ts ++? Some (codes ")")) ++? Some r ≡ Some (h ++ (codes "(" ++ ts ++ codes ")") ++ r)
 function_text h ts r = ap Some (sym (append_assoc h (codes "(" ++ ts ++ codes ")") r))
-
--- where each has a text, those texts between angle brackets
-angled_known-all : {X : Type 0} (text : X → List ℕ) (xs : List X) → angled_known (map (λ x. Some (text x)) xs) ≡ Some (angled (map text xs))
-angled_known-all text [] = refl
-angled_known-all text (x ∷ xs) = rw (joined_known-all text (codes ", ") (x ∷ xs))
 
 parameter_printed : (p : TypeBoundParameter TypeRepr) → bound_parameter_text (bound_parameter_view printed p) ≡ Some (lowered_bound_parameter_text (bound_parameter_view repr_view p))
 parameter_printed (parameter.Lifetime l) = refl

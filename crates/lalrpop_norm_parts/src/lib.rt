@@ -12,4 +12,4 @@ pub mod lowered;
 pub mod names;
 pub mod path;
 pub mod pattern;
-mod show;
+pub mod show;

@@ -1,18 +1,18 @@
-//! The texts of lists.
+//! The texts of lists. They are taken as the `Vec` that a type holds: a text of a recursive type may then be made of them.
 ghost use Rattle.std.specs.Prelude.{Some, map, option_map, codes};
 ghost use Rattle.std.specs.Fmt.{DisplaysOnOk, ◌++?◌};
 ghost use Rattle.lalrpop_norm_parts.specs.KnownTexts.{joined_known, angled_known, bounds_known, returned_known};
 
 use std::fmt;
 
-/// The items with the separator between each two.
-pub(crate) fn show_joined<T: fmt::Display, W: fmt::Write>(
-    items: &[T],
+/// Writes the items with the separator between each two. The only error is the formatter's.
+pub fn show_joined<T: fmt::Display, W: fmt::Write>(
+    items: &Vec<T>,
     separator: &str,
     f: &mut fmt::Formatter<W>,
 ) -> fmt::Result
     ensures { DisplaysOnOk W.write_str_gives f.old result
-        (joined_known separator.now (map T.output items.now)) f.new }
+        (joined_known separator.now (map T.output items.now.items)) f.new }
 {
     if let Some((first, others)) = items.split_first() {
         fmt::Display::fmt(first, f)?;
@@ -24,25 +24,25 @@ pub(crate) fn show_joined<T: fmt::Display, W: fmt::Write>(
     Ok(())
 }
 
-/// `(A, B)`.
-pub(crate) fn show_between<T: fmt::Display, W: fmt::Write>(
-    items: &[T],
+/// Writes `(A, B)`. The only error is the formatter's.
+pub fn show_between<T: fmt::Display, W: fmt::Write>(
+    items: &Vec<T>,
     f: &mut fmt::Formatter<W>,
 ) -> fmt::Result
     ensures { DisplaysOnOk W.write_str_gives f.old result
-        (Some (codes "(") ++? joined_known (codes ", ") (map T.output items.now) ++? Some (codes ")")) f.new }
+        (Some (codes "(") ++? joined_known (codes ", ") (map T.output items.now.items) ++? Some (codes ")")) f.new }
 {
     f.write_str("(")?;
     show_joined(items, ", ", f)?;
     f.write_str(")")
 }
 
-/// `<A, B>`, where there is an item.
-pub(crate) fn show_angled<T: fmt::Display, W: fmt::Write>(
-    items: &[T],
+/// Writes `<A, B>`, where there is an item. The only error is the formatter's.
+pub fn show_angled<T: fmt::Display, W: fmt::Write>(
+    items: &Vec<T>,
     f: &mut fmt::Formatter<W>,
 ) -> fmt::Result
-    ensures { DisplaysOnOk W.write_str_gives f.old result (angled_known (map T.output items.now)) f.new }
+    ensures { DisplaysOnOk W.write_str_gives f.old result (angled_known (map T.output items.now.items)) f.new }
 {
     if items.is_empty() {
         return Ok(());
@@ -54,10 +54,10 @@ pub(crate) fn show_angled<T: fmt::Display, W: fmt::Write>(
 
 /// ` A + B`, where there is an item.
 pub(crate) fn show_bounds<T: fmt::Display, W: fmt::Write>(
-    items: &[T],
+    items: &Vec<T>,
     f: &mut fmt::Formatter<W>,
 ) -> fmt::Result
-    ensures { DisplaysOnOk W.write_str_gives f.old result (bounds_known (map T.output items.now)) f.new }
+    ensures { DisplaysOnOk W.write_str_gives f.old result (bounds_known (map T.output items.now.items)) f.new }
 {
     if items.is_empty() {
         return Ok(());

@@ -9,7 +9,7 @@ texts_of_each text separator [] = refl
 texts_of_each text separator (x ∷ xs) = ap (λ t. (separator ++ text x) ++ t) (texts_of_each text separator xs)
 
 -- the first one's text, and then the others'
-pub joined_each : {A : Type 0} (text : A → List ℕ) (separator : List ℕ) (xs : List A) (x : A) (others : List A) (i : ℕ) → xs ≡ x ∷ others → length others ≤ i
+joined_each : {A : Type 0} (text : A → List ℕ) (separator : List ℕ) (xs : List A) (x : A) (others : List A) (i : ℕ) → xs ≡ x ∷ others → length others ≤ i
     → text x ++ flat_map (λ t. separator ++ text t) (take i others) ≡ joined separator (map text xs)
 joined_each text separator xs x others i e h =
     rw (e, take_all i others h) (ap (λ t. text x ++ t) (texts_of_each text separator others))

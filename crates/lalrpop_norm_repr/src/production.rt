@@ -9,6 +9,7 @@ mod copy;
 
 use crate::action::ActionFn;
 use crate::symbol::Symbol;
+use lalrpop_norm_parts::show::show_joined;
 use lalrpop_norm_tree::grammar::parse_tree::{Attribute, NonterminalString, Span, Visibility};
 use std::alloc::AllocError;
 use std::fmt;
@@ -78,14 +79,11 @@ impl Clone for Production {
     }
 }
 
+#[tactic(auto, using(std::proofs::lemmas::List::Elements::same_from_all_zip))]
 pub(crate) fn copy_symbols(symbols: &Vec<Symbol>) -> Result<Vec<Symbol>, AllocError>
     ensures { IfOk result (λ ss. ss.items ≡ symbols.now.items) }
 {
-    let mut copies = Vec::new(*symbols.allocator());
-    for symbol in symbols {
-        copies.push(symbol.clone()?)?;
-    }
-    Ok(copies)
+    Ok(symbols.clone()?)
 }
 
 impl fmt::Debug for Production {
@@ -103,18 +101,11 @@ impl fmt::Debug for Production {
 
 /// The symbols with `, ` between each two.
 pub(crate) fn show_symbols<W: fmt::Write>(
-    symbols: &[Symbol],
+    symbols: &Vec<Symbol>,
     f: &mut fmt::Formatter<W>,
 ) -> fmt::Result
     ensures { WritesOnOk W.write_str_gives f.old result
-        (joined (codes ", ") (map symbol_text symbols.now)) f.new }
+        (joined (codes ", ") (map symbol_text symbols.now.items)) f.new }
 {
-    if let Some((first, others)) = symbols.split_first() {
-        fmt::Display::fmt(first, f)?;
-        for other in others {
-            f.write_str(", ")?;
-            fmt::Display::fmt(other, f)?;
-        }
-    }
-    Ok(())
+    show_joined(symbols, ", ", f)
 }

@@ -5,7 +5,6 @@ use Rattle.lalrpop_norm_parts.specs.declared.names.Span.{Span}
 use Rattle.lalrpop_norm_parts.specs.declared.names.TerminalString.{TerminalString}
 use Rattle.lalrpop_norm_tree.specs.declared.symbol.ExprSymbol.{ExprSymbol}
 use Rattle.lalrpop_norm_tree.specs.declared.symbol.MacroSymbol.{MacroSymbol}
-use Rattle.lalrpop_norm_tree.specs.declared.symbol.Name.{Name}
 use Rattle.lalrpop_norm_tree.specs.declared.symbol.RepeatOp.{RepeatOp}
 use Rattle.lalrpop_norm_tree.specs.declared.symbol.RepeatSymbol.{RepeatSymbol}
 use Rattle.lalrpop_norm_tree.specs.declared.symbol.Symbol.{Symbol}
@@ -13,8 +12,8 @@ use Rattle.lalrpop_norm_tree.specs.declared.symbol.SymbolKind.{SymbolKind}
 use Rattle.lalrpop_norm_tree.specs.declared.symbol.SymbolKind.TheFolds.{fold-roll-SymbolKind, fold-roll-Symbol, fold-roll-ExprSymbol, fold-roll-RepeatSymbol}
 use Rattle.lalrpop_norm_tree.specs.declared.symbol.SymbolKind.TheOpen.{SymbolKind-F, Symbol-F, RepeatSymbol-F}
 use Rattle.lalrpop_norm_tree.specs.declared.symbol.SymbolKind.TheVariants as kind
-use Rattle.lalrpop_norm_tree.specs.declared.symbol.SymbolKind.TheViews.{rolls-Expr, rolls-AmbiguousId, rolls-Terminal, rolls-Nonterminal, rolls-Repeat, rolls-Choose, rolls-Name, roll-ExprSymbol, rolls-struct-Symbol, rolls-struct-RepeatSymbol}
-use Rattle.lalrpop_norm_tree.specs.Symbols.{Kind, group, ambiguous_id, terminal, nonterminal, repeated, chosen, named, Part, at, Parts, Call, Again, kind_step, expr_step, macro_step, repeat_step, symbol_step, kind_view, symbol_view, expr_view, repeat_view, parts_view}
+use Rattle.lalrpop_norm_tree.specs.declared.symbol.SymbolKind.TheViews.{rolls-AmbiguousId, rolls-Terminal, rolls-Nonterminal, rolls-Repeat, roll-ExprSymbol, rolls-struct-Symbol, rolls-struct-RepeatSymbol}
+use Rattle.lalrpop_norm_tree.specs.Symbols.{Kind, ambiguous_id, terminal, nonterminal, repeated, Part, at, Parts, Call, Again, kind_step, expr_step, macro_step, repeat_step, symbol_step, kind_view, symbol_view, expr_view, repeat_view, parts_view}
 
 pub symbol_seen : (s : Span) (k : SymbolKind) → symbol_view (let x : Symbol = record { span = s; kind = k } in x) ≡ at s (kind_view k)
 symbol_seen s k =

@@ -1,7 +1,5 @@
--- The texts of lists of types, one after another.
-use Rattle.std.proofs.Common.{◌≡◌, ℕ, List, [], ◌∷◌, ◌++◌, ◌≤◌, Bool, false, ◌==◌, Option, Some, None, length, take, refl, sym, ap, codes, Box, Vec, Global, option_map, ◌∙◌}
-use Rattle.std.proofs.lemmas.List.{take_all}
-use Rattle.std.specs.List.{flat_map}
+-- The texts of written types, and one level of a type.
+use Rattle.std.proofs.Common.{◌≡◌, List, [], ◌∷◌, Bool, Option, Some, None, map, refl, sym, ap, Box, Vec, Global, option_map, ◌∙◌}
 use Rattle.lalrpop_norm_tree.specs.declared.types.TypeRef.{TypeRef}
 use Rattle.lalrpop_norm_tree.specs.declared.types.TypeRef.TheVariants.{Slice, Ref, TraitObject, Fn}
 use Rattle.lalrpop_norm_tree.specs.declared.types.TypeRef.TheOpen.{TypeRef-F}
@@ -12,25 +10,11 @@ use Rattle.lalrpop_norm_parts.specs.declared.names.Lifetime.{Lifetime}
 use Rattle.lalrpop_norm_parts.specs.declared.names.TypeParameter.{TypeParameter}
 use Rattle.lalrpop_norm_parts.specs.declared.path.Path.{Path}
 use Rattle.lalrpop_norm_parts.specs.Paths.{path_view}
-use Rattle.lalrpop_norm_parts.specs.TypeTexts.{angled}
-use Rattle.lalrpop_norm_parts.specs.Texts.{joined}
 use Rattle.lalrpop_norm_tree.specs.WrittenTypeTexts.{type_text, type_texts}
 
-texts_of_types : (separator : List ℕ) (ts : List TypeRef) → flat_map (λ t. separator ++ type_text (type_view t)) ts ≡ flat_map (λ u. separator ++ u) (type_texts (types_view ts))
-texts_of_types separator [] = refl
-texts_of_types separator (t ∷ ts) = ap (λ u. (separator ++ type_text (type_view t)) ++ u) (texts_of_types separator ts)
-
--- the first type's text, and then the others'
-pub joined_types : (separator : List ℕ) (ts : List TypeRef) (t : TypeRef) (others : List TypeRef) (i : ℕ) → ts ≡ t ∷ others → length others ≤ i
-    → type_text (type_view t) ++ flat_map (λ u. separator ++ type_text (type_view u)) (take i others) ≡ joined separator (type_texts (types_view ts))
-joined_types separator ts t others i e h =
-    rw (e, take_all i others h) (ap (λ u. type_text (type_view t) ++ u) (texts_of_types separator others))
-
--- between angle brackets, where there is one
-pub angled_types : (ts : List TypeRef) → (length ts == 0) ≡ false
-    → codes "<" ++ joined (codes ", ") (type_texts (types_view ts)) ++ codes ">" ≡ angled (type_texts (types_view ts))
-angled_types [] h = absurd (cc h)
-angled_types (t ∷ ts) h = refl
+pub texts_of_types : (ts : List TypeRef) → map (λ t. type_text (type_view t)) ts ≡ type_texts (types_view ts)
+texts_of_types [] = refl
+texts_of_types (t ∷ ts) = ap (λ us. type_text (type_view t) ∷ us) (texts_of_types ts)
 
 -- one level of a type
 pub view_slice : (t x : TypeRef) (b : Box TypeRef Global) → t ≡ Slice b → x ≡ b.value → slice (type_view x) ≡ type_view t

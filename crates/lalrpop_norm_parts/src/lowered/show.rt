@@ -14,6 +14,7 @@ use crate::names::show::{show_binder, show_reference};
 use crate::names::{Lifetime, TypeParameter};
 use crate::path::Path;
 use crate::path::show::show_forall_path;
+use crate::show::{show_angled, show_between};
 use shared_text::Atom;
 use std::fmt;
 
@@ -23,7 +24,7 @@ impl fmt::Display for TypeRepr {
     #[cycle(show)]
     fn fmt<W: fmt::Write>(&self, f: &mut fmt::Formatter<W>) -> fmt::Result {
         match self {
-            TypeRepr::Tuple(types) => show_between(types, f),
+            TypeRepr::Tuple(types) => show_types(types, f),
             TypeRepr::Slice(inner) => show_slice(&**inner, f),
             TypeRepr::Nominal(nominal) => fmt::Display::fmt(nominal, f),
             TypeRepr::Associated { type_parameter, id } => {
@@ -55,19 +56,17 @@ impl fmt::Display for NominalTypeRepr {
     #[cycle(show)]
     fn fmt<W: fmt::Write>(&self, f: &mut fmt::Formatter<W>) -> fmt::Result {
         fmt::Display::fmt(&self.path, f)?;
-        show_angled(&self.types, f)
+        show_arguments(&self.types, f)
     }
 }
 
-/// The types between parentheses.
+/// `(A, B)`.
 #[cycle(show)]
-fn show_between<W: fmt::Write>(types: &[TypeRepr], f: &mut fmt::Formatter<W>) -> fmt::Result
+fn show_types<W: fmt::Write>(types: &Vec<TypeRepr>, f: &mut fmt::Formatter<W>) -> fmt::Result
     ensures { WritesOnOk W.write_str_gives f.old result
-        (codes "(" ++ joined (codes ", ") (repr_texts (reprs_view types.now)) ++ codes ")") f.new }
+        (codes "(" ++ joined (codes ", ") (repr_texts (reprs_view types.now.items)) ++ codes ")") f.new }
 {
-    f.write_str("(")?;
-    show_types(types, f)?;
-    f.write_str(")")
+    show_between(types, f)
 }
 
 /// `[T]`.
@@ -112,17 +111,17 @@ fn show_trait_object<W: fmt::Write>(
 /// A function type up to its return type.
 #[cycle(show)]
 fn show_signature<W: fmt::Write>(
-    forall: &[TypeParameter],
+    forall: &Vec<TypeParameter>,
     path: &Path,
     parameters: &Vec<TypeRepr>,
     f: &mut fmt::Formatter<W>,
 ) -> fmt::Result
     ensures { WritesOnOk W.write_str_gives f.old result
-        (signature_text forall.now (path_view path.now) (repr_texts (reprs_view parameters.now.items))) f.new }
+        (signature_text forall.now.items (path_view path.now) (repr_texts (reprs_view parameters.now.items))) f.new }
 {
     f.write_str("dyn ")?;
     show_forall_path(forall, path, f)?;
-    show_between(parameters, f)
+    show_types(parameters, f)
 }
 
 /// `T::Id`.
@@ -139,26 +138,12 @@ fn show_associated<W: fmt::Write>(
     fmt::Display::fmt(id, f)
 }
 
-/// The types between angle brackets, where there are any.
+/// `<A, B>`, where there is a type.
 #[cycle(show)]
-fn show_angled<W: fmt::Write>(types: &[TypeRepr], f: &mut fmt::Formatter<W>) -> fmt::Result
-    ensures { WritesOnOk W.write_str_gives f.old result (angled (repr_texts (reprs_view types.now))) f.new }
+fn show_arguments<W: fmt::Write>(types: &Vec<TypeRepr>, f: &mut fmt::Formatter<W>) -> fmt::Result
+    ensures { WritesOnOk W.write_str_gives f.old result (angled (repr_texts (reprs_view types.now.items))) f.new }
 {
-    if types.is_empty() {
-        return Ok(());
-    }
-    show_arguments(types, f)
-}
-
-/// `<A, B>`.
-#[cycle(show)]
-fn show_arguments<W: fmt::Write>(types: &[TypeRepr], f: &mut fmt::Formatter<W>) -> fmt::Result
-    ensures { WritesOnOk W.write_str_gives f.old result
-        (codes "<" ++ joined (codes ", ") (repr_texts (reprs_view types.now)) ++ codes ">") f.new }
-{
-    f.write_str("<")?;
-    show_types(types, f)?;
-    f.write_str(">")
+    show_angled(types, f)
 }
 
 #[cycle(show)]
@@ -173,22 +158,6 @@ fn show_return<W: fmt::Write>(ret: &Option<Box<TypeRepr>>, f: &mut fmt::Formatte
             fmt::Display::fmt(&**inner, f)
         }
     }
-}
-
-/// The types with `, ` between each two.
-#[cycle(show)]
-fn show_types<W: fmt::Write>(types: &[TypeRepr], f: &mut fmt::Formatter<W>) -> fmt::Result
-    ensures { WritesOnOk W.write_str_gives f.old result
-        (joined (codes ", ") (repr_texts (reprs_view types.now))) f.new }
-{
-    if let Some((first, others)) = types.split_first() {
-        fmt::Display::fmt(first, f)?;
-        for other in others {
-            f.write_str(", ")?;
-            fmt::Display::fmt(other, f)?;
-        }
-    }
-    Ok(())
 }
 
 impl fmt::Debug for TypeRepr {
@@ -222,12 +191,12 @@ impl fmt::Display for WhereClause {
 /// `for<'a> C`.
 #[cycle(show_clause)]
 fn show_quantified<W: fmt::Write>(
-    binder: &[TypeParameter],
+    binder: &Vec<TypeParameter>,
     clause: &WhereClause,
     f: &mut fmt::Formatter<W>,
 ) -> fmt::Result
     ensures { WritesOnOk W.write_str_gives f.old result
-        (binder_text binder.now ++ lowered_clause_text (lowered_where_clause_view clause.now)) f.new }
+        (binder_text binder.now.items ++ lowered_clause_text (lowered_where_clause_view clause.now)) f.new }
 {
     show_binder(binder, f)?;
     fmt::Display::fmt(clause, f)

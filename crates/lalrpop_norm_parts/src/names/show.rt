@@ -30,10 +30,10 @@ pub fn show_reference<W: fmt::Write>(
 
 /// `for<..> `, where there is a parameter.
 pub(crate) fn show_forall<W: fmt::Write>(
-    parameters: &[TypeParameter],
+    parameters: &Vec<TypeParameter>,
     f: &mut fmt::Formatter<W>,
 ) -> fmt::Result
-    ensures { WritesOnOk W.write_str_gives f.old result (forall_text parameters.now) f.new }
+    ensures { WritesOnOk W.write_str_gives f.old result (forall_text parameters.now.items) f.new }
 {
     if parameters.is_empty() {
         return Ok(());
@@ -43,10 +43,10 @@ pub(crate) fn show_forall<W: fmt::Write>(
 
 /// `for<..> `, also where there is no parameter.
 pub(crate) fn show_binder<W: fmt::Write>(
-    parameters: &[TypeParameter],
+    parameters: &Vec<TypeParameter>,
     f: &mut fmt::Formatter<W>,
 ) -> fmt::Result
-    ensures { WritesOnOk W.write_str_gives f.old result (binder_text parameters.now) f.new }
+    ensures { WritesOnOk W.write_str_gives f.old result (binder_text parameters.now.items) f.new }
 {
     f.write_str("for<")?;
     show_parameters(parameters, f)?;
@@ -55,11 +55,11 @@ pub(crate) fn show_binder<W: fmt::Write>(
 
 /// The parameters with `, ` between each two.
 fn show_parameters<W: fmt::Write>(
-    parameters: &[TypeParameter],
+    parameters: &Vec<TypeParameter>,
     f: &mut fmt::Formatter<W>,
 ) -> fmt::Result
     ensures { WritesOnOk W.write_str_gives f.old result
-        (joined (codes ", ") (map type_parameter_text parameters.now)) f.new }
+        (joined (codes ", ") (map type_parameter_text parameters.now.items)) f.new }
 {
     show_joined(parameters, ", ", f)
 }

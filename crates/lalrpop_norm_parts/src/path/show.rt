@@ -25,12 +25,12 @@ impl fmt::Display for Path {
 
 /// Writes the path, after what it is quantified over. The only error is the formatter's.
 pub fn show_forall_path<W: fmt::Write>(
-    forall: &[TypeParameter],
+    forall: &Vec<TypeParameter>,
     path: &Path,
     f: &mut fmt::Formatter<W>,
 ) -> fmt::Result
     ensures { WritesOnOk W.write_str_gives f.old result
-        (forall_text forall.now ++ path_text (path_view path.now)) f.new }
+        (forall_text forall.now.items ++ path_text (path_view path.now)) f.new }
 {
     show_forall(forall, f)?;
     fmt::Display::fmt(path, f)
@@ -38,11 +38,11 @@ pub fn show_forall_path<W: fmt::Write>(
 
 /// The names with the separator between each two.
 fn show_names<W: fmt::Write>(
-    names: &[Atom],
+    names: &Vec<Atom>,
     separator: &str,
     f: &mut fmt::Formatter<W>,
 ) -> fmt::Result
-    ensures { WritesOnOk W.write_str_gives f.old result (joined separator.now names.now) f.new }
+    ensures { WritesOnOk W.write_str_gives f.old result (joined separator.now names.now.items) f.new }
 {
     show_joined(names, separator, f)
 }

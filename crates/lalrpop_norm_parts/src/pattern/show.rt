@@ -11,6 +11,7 @@ ghost use Rattle.lalrpop_norm_parts.specs.TypeTexts.{path_text};
 use super::{FieldPattern, Pattern, PatternKind};
 use crate::escape::write_escaped;
 use crate::path::Path;
+use crate::show::{show_between, show_joined};
 use shared_text::Atom;
 use std::fmt;
 
@@ -43,7 +44,7 @@ impl<T: fmt::Display> fmt::Display for PatternKind<T> {
             PatternKind::Enum(path, patterns) => show_applied(path, patterns, f),
             PatternKind::Struct(path, fields, rest) => show_struct(path, fields, *rest, f),
             PatternKind::Path(path) => fmt::Display::fmt(path, f),
-            PatternKind::Tuple(patterns) => show_between(patterns, f),
+            PatternKind::Tuple(patterns) => show_patterns(patterns, f),
             PatternKind::TupleStruct(path, patterns) => show_applied(path, patterns, f),
             PatternKind::Usize(number) => fmt::Display::fmt(number, f),
             PatternKind::Underscore => f.write_str("_"),
@@ -59,41 +60,39 @@ impl<T: fmt::Display> fmt::Display for PatternKind<T> {
 #[cycle(show)]
 fn show_applied<T: fmt::Display, W: fmt::Write>(
     path: &Path,
-    patterns: &[Pattern<T>],
+    patterns: &Vec<Pattern<T>>,
     f: &mut fmt::Formatter<W>,
 ) -> fmt::Result
     ensures { DisplaysOnOk W.write_str_gives f.old result
-        (Some (path_text (path_view path.now)) ++? (Some (codes "(") ++? joined_known (codes ", ") (pattern_texts (patterns_view T.output patterns.now)) ++? Some (codes ")"))) f.new }
+        (Some (path_text (path_view path.now)) ++? (Some (codes "(") ++? joined_known (codes ", ") (pattern_texts (patterns_view T.output patterns.now.items)) ++? Some (codes ")"))) f.new }
 {
     fmt::Display::fmt(path, f)?;
-    show_between(patterns, f)
+    show_patterns(patterns, f)
 }
 
 /// `(a, b)`.
 #[cycle(show)]
-fn show_between<T: fmt::Display, W: fmt::Write>(
-    patterns: &[Pattern<T>],
+fn show_patterns<T: fmt::Display, W: fmt::Write>(
+    patterns: &Vec<Pattern<T>>,
     f: &mut fmt::Formatter<W>,
 ) -> fmt::Result
     ensures { DisplaysOnOk W.write_str_gives f.old result
-        (Some (codes "(") ++? joined_known (codes ", ") (pattern_texts (patterns_view T.output patterns.now)) ++? Some (codes ")")) f.new }
+        (Some (codes "(") ++? joined_known (codes ", ") (pattern_texts (patterns_view T.output patterns.now.items)) ++? Some (codes ")")) f.new }
 {
-    f.write_str("(")?;
-    show_patterns(patterns, f)?;
-    f.write_str(")")
+    show_between(patterns, f)
 }
 
 /// `P { f: a, .. }`, with the fields between braces.
 #[cycle(show)]
 fn show_struct<T: fmt::Display, W: fmt::Write>(
     path: &Path,
-    fields: &[FieldPattern<T>],
+    fields: &Vec<FieldPattern<T>>,
     rest: bool,
     f: &mut fmt::Formatter<W>,
 ) -> fmt::Result
     ensures { DisplaysOnOk W.write_str_gives f.old result
         (Some (path_text (path_view path.now)) ++? Some (codes " { ")
-        ++? joined_known (codes ", ") (field_texts (fields_view T.output fields.now) ++ rest_texts rest) ++? Some (codes " }")) f.new }
+        ++? joined_known (codes ", ") (field_texts (fields_view T.output fields.now.items) ++ rest_texts rest) ++? Some (codes " }")) f.new }
 {
     fmt::Display::fmt(path, f)?;
     f.write_str(" { ")?;
@@ -104,12 +103,12 @@ fn show_struct<T: fmt::Display, W: fmt::Write>(
 /// `f: a, ..`.
 #[cycle(show)]
 fn show_fields_and_rest<T: fmt::Display, W: fmt::Write>(
-    fields: &[FieldPattern<T>],
+    fields: &Vec<FieldPattern<T>>,
     rest: bool,
     f: &mut fmt::Formatter<W>,
 ) -> fmt::Result
     ensures { DisplaysOnOk W.write_str_gives f.old result
-        (joined_known (codes ", ") (field_texts (fields_view T.output fields.now) ++ rest_texts rest)) f.new }
+        (joined_known (codes ", ") (field_texts (fields_view T.output fields.now.items) ++ rest_texts rest)) f.new }
 {
     show_fields(fields, f)?;
     if !rest {
@@ -122,42 +121,16 @@ fn show_fields_and_rest<T: fmt::Display, W: fmt::Write>(
     }
 }
 
-/// The patterns with `, ` between each two.
-#[cycle(show)]
-fn show_patterns<T: fmt::Display, W: fmt::Write>(
-    patterns: &[Pattern<T>],
-    f: &mut fmt::Formatter<W>,
-) -> fmt::Result
-    ensures { DisplaysOnOk W.write_str_gives f.old result
-        (joined_known (codes ", ") (pattern_texts (patterns_view T.output patterns.now))) f.new }
-{
-    if let Some((first, others)) = patterns.split_first() {
-        fmt::Display::fmt(first, f)?;
-        for other in others {
-            f.write_str(", ")?;
-            fmt::Display::fmt(other, f)?;
-        }
-    }
-    Ok(())
-}
-
 /// The fields with `, ` between each two.
 #[cycle(show)]
 fn show_fields<T: fmt::Display, W: fmt::Write>(
-    fields: &[FieldPattern<T>],
+    fields: &Vec<FieldPattern<T>>,
     f: &mut fmt::Formatter<W>,
 ) -> fmt::Result
     ensures { DisplaysOnOk W.write_str_gives f.old result
-        (joined_known (codes ", ") (field_texts (fields_view T.output fields.now))) f.new }
+        (joined_known (codes ", ") (field_texts (fields_view T.output fields.now.items))) f.new }
 {
-    if let Some((first, others)) = fields.split_first() {
-        fmt::Display::fmt(first, f)?;
-        for other in others {
-            f.write_str(", ")?;
-            fmt::Display::fmt(other, f)?;
-        }
-    }
-    Ok(())
+    show_joined(fields, ", ", f)
 }
 
 /// `'c'`.

@@ -8,6 +8,7 @@ ghost use Rattle.lalrpop_norm_tree.specs.SymbolTexts.{name_text, op_text, argume
 use super::{
     ArgPattern, ExprSymbol, MacroSymbol, Name, RepeatOp, RepeatSymbol, Symbol, SymbolKind, Tuple,
 };
+use lalrpop_norm_parts::show::show_joined;
 use shared_text::NoMemory;
 use std::alloc::Global;
 use std::fmt;
@@ -60,18 +61,14 @@ impl fmt::Display for Tuple {
 
 /// The patterns with `, ` between each two.
 #[cycle(show_pattern)]
-fn show_patterns<W: fmt::Write>(patterns: &[ArgPattern], f: &mut fmt::Formatter<W>) -> fmt::Result
+fn show_patterns<W: fmt::Write>(
+    patterns: &Vec<ArgPattern>,
+    f: &mut fmt::Formatter<W>,
+) -> fmt::Result
     ensures { WritesOnOk W.write_str_gives f.old result
-        (joined (codes ", ") (argument_pattern_texts (argument_patterns_view patterns.now))) f.new }
+        (joined (codes ", ") (argument_pattern_texts (argument_patterns_view patterns.now.items))) f.new }
 {
-    if let Some((first, others)) = patterns.split_first() {
-        fmt::Display::fmt(first, f)?;
-        for other in others {
-            f.write_str(", ")?;
-            fmt::Display::fmt(other, f)?;
-        }
-    }
-    Ok(())
+    show_joined(patterns, ", ", f)
 }
 
 impl fmt::Display for Symbol {
@@ -167,21 +164,14 @@ impl fmt::Display for RepeatSymbol {
 /// The symbols with the separator between each two.
 #[cycle(show)]
 fn show_symbols<W: fmt::Write>(
-    symbols: &[Symbol],
+    symbols: &Vec<Symbol>,
     separator: &str,
     f: &mut fmt::Formatter<W>,
 ) -> fmt::Result
     ensures { WritesOnOk W.write_str_gives f.old result
-        (joined separator.now (part_texts (parts_view symbols.now))) f.new }
+        (joined separator.now (part_texts (parts_view symbols.now.items))) f.new }
 {
-    if let Some((first, others)) = symbols.split_first() {
-        fmt::Display::fmt(first, f)?;
-        for other in others {
-            f.write_str(separator)?;
-            fmt::Display::fmt(other, f)?;
-        }
-    }
-    Ok(())
+    show_joined(symbols, separator, f)
 }
 
 impl Symbol {

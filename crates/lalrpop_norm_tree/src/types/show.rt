@@ -15,6 +15,7 @@ use lalrpop_norm_parts::names::TypeParameter;
 use lalrpop_norm_parts::names::show::show_reference;
 use lalrpop_norm_parts::path::Path;
 use lalrpop_norm_parts::path::show::show_forall_path;
+use lalrpop_norm_parts::show::{show_angled, show_between};
 use std::fmt;
 
 impl fmt::Display for TypeRef {
@@ -23,7 +24,7 @@ impl fmt::Display for TypeRef {
     #[cycle(show)]
     fn fmt<W: fmt::Write>(&self, f: &mut fmt::Formatter<W>) -> fmt::Result {
         match self {
-            TypeRef::Tuple(types) => show_between(types, f),
+            TypeRef::Tuple(types) => show_types(types, f),
             TypeRef::Slice(inner) => {
                 f.write_str("[")?;
                 fmt::Display::fmt(&**inner, f)?;
@@ -58,58 +59,51 @@ impl fmt::Display for TypeRef {
     }
 }
 
-/// The types between parentheses.
+/// `(A, B)`.
 #[cycle(show)]
-fn show_between<W: fmt::Write>(types: &[TypeRef], f: &mut fmt::Formatter<W>) -> fmt::Result
+fn show_types<W: fmt::Write>(types: &Vec<TypeRef>, f: &mut fmt::Formatter<W>) -> fmt::Result
     ensures { WritesOnOk W.write_str_gives f.old result
-        (codes "(" ++ joined (codes ", ") (type_texts (types_view types.now)) ++ codes ")") f.new }
+        (codes "(" ++ joined (codes ", ") (type_texts (types_view types.now.items)) ++ codes ")") f.new }
 {
-    f.write_str("(")?;
-    show_types(types, f)?;
-    f.write_str(")")
+    show_between(types, f)
 }
 
 /// The path, and the types between angle brackets, where there are any.
 #[cycle(show)]
 fn show_applied<W: fmt::Write>(
     path: &Path,
-    types: &[TypeRef],
+    types: &Vec<TypeRef>,
     f: &mut fmt::Formatter<W>,
 ) -> fmt::Result
     ensures { WritesOnOk W.write_str_gives f.old result
-        (path_text (path_view path.now) ++ angled (type_texts (types_view types.now))) f.new }
+        (path_text (path_view path.now) ++ angled (type_texts (types_view types.now.items))) f.new }
 {
     fmt::Display::fmt(path, f)?;
-    show_angled(types, f)
+    show_arguments(types, f)
 }
 
-/// The types between angle brackets, where there are any.
+/// `<A, B>`, where there is a type.
 #[cycle(show)]
-fn show_angled<W: fmt::Write>(types: &[TypeRef], f: &mut fmt::Formatter<W>) -> fmt::Result
-    ensures { WritesOnOk W.write_str_gives f.old result (angled (type_texts (types_view types.now))) f.new }
+fn show_arguments<W: fmt::Write>(types: &Vec<TypeRef>, f: &mut fmt::Formatter<W>) -> fmt::Result
+    ensures { WritesOnOk W.write_str_gives f.old result (angled (type_texts (types_view types.now.items))) f.new }
 {
-    if types.is_empty() {
-        return Ok(());
-    }
-    f.write_str("<")?;
-    show_types(types, f)?;
-    f.write_str(">")
+    show_angled(types, f)
 }
 
 /// A function type up to its result.
 #[cycle(show)]
 fn show_signature<W: fmt::Write>(
-    forall: &[TypeParameter],
+    forall: &Vec<TypeParameter>,
     path: &Path,
     parameters: &Vec<TypeRef>,
     f: &mut fmt::Formatter<W>,
 ) -> fmt::Result
     ensures { WritesOnOk W.write_str_gives f.old result
-        (signature_text forall.now (path_view path.now) (type_texts (types_view parameters.now.items))) f.new }
+        (signature_text forall.now.items (path_view path.now) (type_texts (types_view parameters.now.items))) f.new }
 {
     f.write_str("dyn ")?;
     show_forall_path(forall, path, f)?;
-    show_between(parameters, f)
+    show_types(parameters, f)
 }
 
 /// The symbol between backquotes.
@@ -135,20 +129,4 @@ fn show_return<W: fmt::Write>(ret: &Option<Box<TypeRef>>, f: &mut fmt::Formatter
             fmt::Display::fmt(&**inner, f)
         }
     }
-}
-
-/// The types with `, ` between each two.
-#[cycle(show)]
-fn show_types<W: fmt::Write>(types: &[TypeRef], f: &mut fmt::Formatter<W>) -> fmt::Result
-    ensures { WritesOnOk W.write_str_gives f.old result
-        (joined (codes ", ") (type_texts (types_view types.now))) f.new }
-{
-    if let Some((first, others)) = types.split_first() {
-        fmt::Display::fmt(first, f)?;
-        for other in others {
-            f.write_str(", ")?;
-            fmt::Display::fmt(other, f)?;
-        }
-    }
-    Ok(())
 }

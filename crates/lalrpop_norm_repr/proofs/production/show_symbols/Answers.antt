@@ -1,12 +1,7 @@
-use Rattle.std.proofs.Common.{refl, arith, codes}
-use Rattle.std.proofs.Output.{has_written_append, has_written_of_eq}
+use Rattle.std.proofs.Common.{codes}
+use Rattle.lalrpop_norm_parts.proofs.KnownTextLemmas.{joined_known-all}
 use Rattle.lalrpop_norm_repr.specs.ReprTexts.{symbol_text}
-use Rattle.lalrpop_norm_repr.proofs.SymbolTexts.{joined_each}
 use Rattle.lalrpop_norm_repr.proofs.production.show_symbols.Goals as goal
 
-pub returns-after-loop-other : goal.returns-after-loop-other
-returns-after-loop-other g c =
-    λ plain _.
-    let first = c.in_ok-fmt.ensures.writes plain refl in
-    let rest = c.loop-other.invariant first.plain in
-    has_written_of_eq _ _ _ _ _ (joined_each symbol_text (codes ", ") c.args.symbols.now c.in-Some.first.now c.in-Some.others.now c.loop-other.other-index c.in-Some.ensures.cases.0 (omega arith)) (has_written_append _ _ _ _ _ _ first rest)
+pub returns : goal.returns
+returns g c = rw (joined_known-all symbol_text (codes ", ") c.args.symbols.now.items) at c.show_joined.ensures

@@ -4,4 +4,4 @@ use Rattle.lalrpop_norm_parts.proofs.KnownTextLemmas.{joined_known-all}
 use Rattle.lalrpop_norm_parts.proofs.names.show.show_parameters.Goals as goal
 
 pub returns : goal.returns
-returns g c = rw (joined_known-all type_parameter_text (codes ", ") c.args.parameters.now) at c.show_joined.ensures
+returns g c = rw (joined_known-all type_parameter_text (codes ", ") c.args.parameters.now.items) at c.show_joined.ensures

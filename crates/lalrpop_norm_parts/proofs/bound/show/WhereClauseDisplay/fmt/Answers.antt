@@ -8,8 +8,7 @@ returns-in_ok-write_str-in-OfType-clause-writes g c =
     let text = g.T.Display.output in
     let r = c.show_bounds-in-OfType.result in
     displays_on_ok_of_eq took c.args.f.now _ r _ _
-    (type_clause_text text c.args.self.now c.deref-in-OfType.result.now c.in-OfType.forall c.in-OfType.ty
-    c.deref-in-OfType-2.result.now c.in-OfType.bounds c.in-OfType.is c.deref-in-OfType.ensures.value c.deref-in-OfType-2.ensures.value)
+    (type_clause_text text c.args.self.now c.in-OfType.forall c.in-OfType.ty c.in-OfType.bounds c.in-OfType.is)
     (written_then took c.args.f.now _ _ r _ _ c.in_ok-show_forall-in-OfType.ensures
     (known_then took c.show_forall.new.f _ _ r (text c.in-OfType.ty) _ c.in_ok-fmt-in-OfType.ensures.writes
     (written_then took c.fmt-in-OfType.new.f _ _ r _ _ c.in_ok-write_str-in-OfType.ensures.writes c.show_bounds-in-OfType.ensures)))
