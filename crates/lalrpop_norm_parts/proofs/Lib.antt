@@ -1,6 +1,7 @@
 pub mod AttributeViews
 pub mod BoundLemmas
 pub mod BoundViews
+pub mod BoundWalks
 pub mod KnownTextLemmas
 pub mod LoweredTextLemmas
 pub mod PatternLemmas
@@ -9,3 +10,4 @@ pub mod ReprTextLemmas
 pub mod ReprViews
 pub mod WrittenLemmas
 pub mod CopyLemmas
+pub mod WalkLemmas

@@ -11,3 +11,5 @@ pub mod KnownTexts
 pub mod LoweredTexts
 pub mod PatternTexts
 pub mod Terminals
+pub mod MappedBounds
+pub mod Walks

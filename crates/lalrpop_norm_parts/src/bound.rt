@@ -1,5 +1,6 @@
 //! Where clauses and their bounds, over written or lowered types.
 mod copy;
+mod map;
 mod show;
 
 use crate::names::{Lifetime, TypeParameter};

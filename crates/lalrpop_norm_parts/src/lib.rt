@@ -13,3 +13,4 @@ pub mod names;
 pub mod path;
 pub mod pattern;
 pub mod show;
+mod walk;
