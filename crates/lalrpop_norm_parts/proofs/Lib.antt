@@ -6,6 +6,7 @@ pub mod KnownTextLemmas
 pub mod LoweredTextLemmas
 pub mod PatternLemmas
 pub mod PatternViews
+pub mod PatternWalks
 pub mod ReprTextLemmas
 pub mod ReprViews
 pub mod WrittenLemmas

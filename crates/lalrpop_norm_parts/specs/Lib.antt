@@ -12,4 +12,5 @@ pub mod LoweredTexts
 pub mod PatternTexts
 pub mod Terminals
 pub mod MappedBounds
+pub mod MappedPatterns
 pub mod Walks

@@ -1,5 +1,7 @@
 //! Patterns of conversions.
+mod bindings;
 mod copy;
+mod map;
 mod show;
 
 use crate::names::Span;

@@ -4,7 +4,7 @@ ghost use Rattle.std.specs.Fn.{CalledAt};
 ghost use Rattle.std.specs.Result.{IfErr};
 ghost use Rattle.lalrpop_norm_parts.specs.Walks.{Answered, Ended};
 
-use shared_text::NoMemory;
+use shared_text::{Atom, NoMemory};
 
 /// One more at the end.
 pub(crate) fn add<X: Drop>(all: &mut Vec<X>, one: X) -> Result<(), NoMemory>
@@ -24,4 +24,11 @@ pub(crate) fn map_one<T, U: Drop, E: From<NoMemory>, F: FnMut(&T) -> Result<U, E
     ensures ended { IfErr result (λ e. Ended (CalledAt F.FnMut) (E.from_gives record {}) f.old (one.now ∷ []) e f.new) }
 {
     f(one)
+}
+
+/// The same text.
+pub(crate) fn same_name(name: &Atom) -> Result<Atom, NoMemory>
+    ensures { IfOk result (λ n. n ≡ name.now) }
+{
+    Ok(name.clone()?)
 }

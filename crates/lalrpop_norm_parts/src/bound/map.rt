@@ -11,8 +11,8 @@ use super::{TypeBound, TypeBoundParameter};
 use crate::names::copy::copy_type_parameters;
 use crate::names::{Lifetime, TypeParameter};
 use crate::path::Path;
-use crate::walk::{add, map_one};
-use shared_text::{Atom, NoMemory};
+use crate::walk::{add, map_one, same_name};
+use shared_text::NoMemory;
 use std::alloc::Global;
 
 impl<T> TypeBound<T> {
@@ -146,12 +146,6 @@ fn same_lifetime(lifetime: &Lifetime) -> Result<Lifetime, NoMemory>
     ensures { IfOk result (λ l. l ≡ lifetime.now) }
 {
     Ok(lifetime.clone()?)
-}
-
-fn same_name(name: &Atom) -> Result<Atom, NoMemory>
-    ensures { IfOk result (λ n. n ≡ name.now) }
-{
-    Ok(name.clone()?)
 }
 
 fn map_parameters<T, U: Drop, E: From<NoMemory>, F: FnMut(&T) -> Result<U, E>>(
