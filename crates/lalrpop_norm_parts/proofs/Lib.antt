@@ -4,6 +4,7 @@ pub mod BoundViews
 pub mod BoundWalks
 pub mod KnownTextLemmas
 pub mod LoweredTextLemmas
+pub mod MapLaws
 pub mod PatternLemmas
 pub mod PatternViews
 pub mod PatternWalks

@@ -7,34 +7,9 @@ use Rattle.lalrpop_norm_parts.specs.declared.pattern.PatternKind.{PatternKind}
 use Rattle.lalrpop_norm_parts.specs.declared.pattern.PatternKind.TheFolds.{ind-Pattern, fold-roll-PatternKind, fold-roll-FieldPattern, fold-roll-Pattern, map-PatternKind, map-FieldPattern, map-Pattern}
 use Rattle.lalrpop_norm_parts.specs.declared.pattern.PatternKind.TheOpen.{PatternKind-F, FieldPattern-F, Pattern-F}
 use Rattle.lalrpop_norm_parts.specs.declared.pattern.PatternKind.TheViews.{roll-PatternKind, roll-FieldPattern, roll-Pattern, rolls-struct-Pattern}
+use Rattle.lalrpop_norm_parts.specs.MappedPatterns.{mapped_kind, mapped_pattern, mapped_patterns, mapped_fields, mapped_field}
 use Rattle.lalrpop_norm_parts.specs.Paths.{path_view}
 use Rattle.lalrpop_norm_parts.specs.Patterns.{PatternKindData, enumerated, structured, path, tuple, tuple_struct, number, underscore, dot_dot, chosen, character, text, PatternData, pattern_at, Patterns, no_patterns, pattern_and, Fields, no_fields, field_and, FieldData, patterns_of, fields_of, pattern_kind_step, field_step, pattern_step, pattern_kind_view, field_view, pattern_view, SamePatternKind, SamePattern, SamePatterns, SameFields}
-
--- each chosen part through f
-abbrev mutual
-  mapped_kind : {T V : Type 0} → (T → V) → PatternKindData T → PatternKindData V
-  mapped_kind f (enumerated p ps) = enumerated p (mapped_patterns f ps)
-  mapped_kind f (structured p fs b) = structured p (mapped_fields f fs) b
-  mapped_kind f (path p) = path p
-  mapped_kind f (tuple ps) = tuple (mapped_patterns f ps)
-  mapped_kind f (tuple_struct p ps) = tuple_struct p (mapped_patterns f ps)
-  mapped_kind f (number n) = number n
-  mapped_kind f underscore = underscore
-  mapped_kind f dot_dot = dot_dot
-  mapped_kind f (chosen t) = chosen (f t)
-  mapped_kind f (character a) = character a
-  mapped_kind f (text a) = text a
-
-  mapped : {T V : Type 0} → (T → V) → PatternData T → PatternData V
-  mapped f (pattern_at s k) = pattern_at s (mapped_kind f k)
-
-  mapped_patterns : {T V : Type 0} → (T → V) → Patterns T → Patterns V
-  mapped_patterns f no_patterns = no_patterns
-  mapped_patterns f (pattern_and p ps) = pattern_and (mapped f p) (mapped_patterns f ps)
-
-  mapped_fields : {T V : Type 0} → (T → V) → Fields T → Fields V
-  mapped_fields f no_fields = no_fields
-  mapped_fields f (field_and s n p fs) = field_and s n (mapped f p) (mapped_fields f fs)
 
 -- the same shape with related parts, where f takes related parts to one value
 mutual
@@ -52,7 +27,7 @@ mutual
   same_mapped_kind R f one (text a) (text b) h = cc
   same_mapped_kind R f one _ _ h = absurd h
 
-  same_mapped : {T V : Type 0} (R : T → T → Type 0) (f : T → V) → ((t u : T) → R t u → f u ≡ f t) → (p q : PatternData T) → SamePattern R p q → mapped f q ≡ mapped f p
+  same_mapped : {T V : Type 0} (R : T → T → Type 0) (f : T → V) → ((t u : T) → R t u → f u ≡ f t) → (p q : PatternData T) → SamePattern R p q → mapped_pattern f q ≡ mapped_pattern f p
   same_mapped R f one (pattern_at s k) (pattern_at t l) h = let e = same_mapped_kind R f one k l h.1 in cc h.0
 
   same_mapped_patterns : {T V : Type 0} (R : T → T → Type 0) (f : T → V) → ((t u : T) → R t u → f u ≡ f t) → (ps qs : Patterns T) → SamePatterns R ps qs → mapped_patterns f qs ≡ mapped_patterns f ps
@@ -75,14 +50,11 @@ mutual
 abbrev KindClaim : {T V : Type 0} → (T → V) → PatternKind T → Type 0
 KindClaim f k = pattern_kind_view f k ≡ mapped_kind f (pattern_kind_view (λ t. t) k)
 
-abbrev mapped_field : {T V : Type 0} → (T → V) → FieldData T → FieldData V
-mapped_field f d = record { span = d.span; name = d.name; pattern = mapped f d.pattern }
-
 abbrev FieldClaim : {T V : Type 0} → (T → V) → FieldPattern T → Type 0
 FieldClaim f d = field_view f d ≡ mapped_field f (field_view (λ t. t) d)
 
-abbrev PatternClaim : {T V : Type 0} → (T → V) → Pattern T → Type 0
-PatternClaim f p = pattern_view f p ≡ mapped f (pattern_view (λ t. t) p)
+abbrev pub PatternClaim : {T V : Type 0} → (T → V) → Pattern T → Type 0
+PatternClaim f p = pattern_view f p ≡ mapped_pattern f (pattern_view (λ t. t) p)
 
 each_pattern : {T V : Type 0} (f : T → V) (es : List ((p : Pattern T) × PatternClaim f p)) → patterns_of (map (pattern_view f) (map (λ e. e.0) es)) ≡ mapped_patterns f (patterns_of (map (pattern_view (λ t. t)) (map (λ e. e.0) es)))
 each_pattern f [] = refl
@@ -95,7 +67,7 @@ each_field : {T V : Type 0} (f : T → V) (es : List ((p : FieldPattern T) × Fi
 each_field f [] = refl
 each_field f (e ∷ es) =
     let first = ap (λ d. field_and d.span d.name d.pattern (fields_of (map (field_view f) (map (λ e. e.0) es)))) e.1 in
-    first ∙ ap (field_and (field_view (λ t. t) e.0).span (field_view (λ t. t) e.0).name (mapped f (field_view (λ t. t) e.0).pattern)) (each_field f es)
+    first ∙ ap (field_and (field_view (λ t. t) e.0).span (field_view (λ t. t) e.0).name (mapped_pattern f (field_view (λ t. t) e.0).pattern)) (each_field f es)
 
 -- one layer of a pattern, whose parts are already known to meet the claim
 abbrev kind_parts : {T V : Type 0} (f : T → V) (y : PatternKind-F T ((k : PatternKind T) × KindClaim f k) ((d : FieldPattern T) × FieldClaim f d) ((p : Pattern T) × PatternClaim f p)) → PatternKind-F T (PatternKind T) (FieldPattern T) (Pattern T)
@@ -132,9 +104,10 @@ pattern_claim {T} {V} f y =
     let parts : Pattern-F T (PatternKind T) (FieldPattern T) (Pattern T) = map-Pattern T ((k : PatternKind T) × KindClaim f k) ((d : FieldPattern T) × FieldClaim f d) ((p : Pattern T) × PatternClaim f p) (PatternKind T) (FieldPattern T) (Pattern T) (λ e. e.0) (λ e. e.0) (λ e. e.0) y in
     fold-roll-Pattern T (PatternKindData V) (FieldData V) (PatternData V) (pattern_kind_step f) (field_step f) (pattern_step f) parts
     ∙ ap (λ (k : PatternKindData V). pattern_at y.span k) y.kind.1
-    ∙ ap (mapped f) (sym (fold-roll-Pattern T (PatternKindData T) (FieldData T) (PatternData T) (pattern_kind_step (λ (t : T). t)) (field_step (λ (t : T). t)) (pattern_step (λ (t : T). t)) parts))
+    ∙ ap (mapped_pattern f) (sym (fold-roll-Pattern T (PatternKindData T) (FieldData T) (PatternData T) (pattern_kind_step (λ (t : T). t)) (field_step (λ (t : T). t)) (pattern_step (λ (t : T). t)) parts))
 
-view_mapped : {T V : Type 0} (f : T → V) (p : Pattern T) → PatternClaim f p
+-- a pattern seen through f is the pattern as it stands, with each part through f
+pub view_mapped : {T V : Type 0} (f : T → V) (p : Pattern T) → PatternClaim f p
 view_mapped {T} f p =
     ind-Pattern T (KindClaim f) (FieldClaim f) (PatternClaim f)
     (λ x y is. subst (λ z. KindClaim f (roll-PatternKind T z)) is (kind_claim f y))

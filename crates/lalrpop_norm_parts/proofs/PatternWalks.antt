@@ -1,5 +1,8 @@
 -- The chosen parts and the shapes of patterns, one by one.
-use Rattle.std.proofs.Common.{◌≡◌, Bool, List, [], ◌∷◌, ◌++◌, map, Vec, Global, refl, ap, sym, ◌∙◌}
+use Rattle.std.proofs.Common.{◌≡◌, ℕ, suc, ◌+◌, ◌<◌, length, drop, get_or, Bool, List, [], ◌∷◌, ◌++◌, map, Vec, Global, refl, ap, subst, sym, ◌∙◌}
+use Rattle.std.proofs.Math.Numerals.{add-one}
+use Rattle.std.proofs.Math.Seq.{drop-cons}
+use Rattle.std.proofs.lemmas.List.{append_assoc}
 use Rattle.std.specs.Prelude.{flat_map}
 use Rattle.lalrpop_norm_parts.specs.declared.path.Path.{Path}
 use Rattle.lalrpop_norm_parts.specs.declared.pattern.Pattern.{Pattern}
@@ -9,19 +12,25 @@ use Rattle.lalrpop_norm_parts.specs.declared.pattern.PatternKind.TheFolds.{fold-
 use Rattle.lalrpop_norm_parts.specs.declared.pattern.PatternKind.TheOpen.{PatternKind-F}
 use Rattle.lalrpop_norm_parts.specs.declared.pattern.PatternKind.TheVariants as variant
 use Rattle.lalrpop_norm_parts.specs.declared.pattern.PatternKind.TheViews.{rolls-Enum, rolls-Struct, rolls-Tuple, rolls-TupleStruct}
-use Rattle.lalrpop_norm_parts.specs.MappedPatterns.{pattern_shape, field_shape, mapped_patterns, mapped_fields, kind_shape, chosen_of, chosen_of_kind, chosen_of_patterns, chosen_of_fields}
+use Rattle.lalrpop_norm_parts.specs.MappedPatterns.{pattern_shape, field_shape, mapped_patterns, mapped_fields, kind_shape, chosen_in_pattern, chosen_in_kind, chosen_in_all, chosen_in_fields}
 use Rattle.lalrpop_norm_parts.specs.Paths.{path_view}
 use Rattle.lalrpop_norm_parts.specs.Patterns.{PatternKindData, enumerated, structured, tuple, tuple_struct, PatternData, FieldData, Patterns, pattern_and, Fields, field_and, patterns_of, fields_of}
 use Rattle.lalrpop_norm_parts.specs.Patterns.{pattern_kind_step, field_step, pattern_step, pattern_kind_view, pattern_view, field_view, patterns_view, fields_view}
 
-module _ {T : Type 0} where
-  pub patterns_places : (ps : List (Pattern T)) → chosen_of_patterns (patterns_view (λ t. t) ps) ≡ flat_map (λ p. chosen_of (pattern_view (λ t. t) p)) ps
-  patterns_places [] = refl
-  patterns_places (p ∷ ps) = ap (λ r. chosen_of (pattern_view (λ t. t) p) ++ r) (patterns_places ps)
+-- what is left after one more element, of all that there is
+pub drop_more : {X T : Type 0} (places : X → List T) (xs : List X) (i : ℕ) (x : X) (before after all : List T) → i < length xs → before ++ flat_map places (drop i xs) ≡ all → after ≡ before ++ places (get_or xs i x) → after ++ flat_map places (drop (i + 1) xs) ≡ all
+drop_more places xs i x before after all h done is =
+    let rest : before ++ (places (get_or xs i x) ++ flat_map places (drop (suc i) xs)) ≡ all = subst (λ r. before ++ flat_map places r ≡ all) (drop-cons xs i x h) done in
+    rw (is, add-one i, append_assoc before (places (get_or xs i x)) (flat_map places (drop (suc i) xs))) rest
 
-  pub fields_places : (fs : List (FieldPattern T)) → chosen_of_fields (fields_view (λ t. t) fs) ≡ flat_map (λ d. chosen_of (field_view (λ t. t) d).pattern) fs
+module _ {T : Type 0} where
+  pub patterns_places : (ps : List (Pattern T)) → chosen_in_all (patterns_view (λ t. t) ps) ≡ flat_map (λ p. chosen_in_pattern (pattern_view (λ t. t) p)) ps
+  patterns_places [] = refl
+  patterns_places (p ∷ ps) = ap (λ r. chosen_in_pattern (pattern_view (λ t. t) p) ++ r) (patterns_places ps)
+
+  pub fields_places : (fs : List (FieldPattern T)) → chosen_in_fields (fields_view (λ t. t) fs) ≡ flat_map (λ d. chosen_in_pattern (field_view (λ t. t) d).pattern) fs
   fields_places [] = refl
-  fields_places (d ∷ fs) = ap (λ r. chosen_of (field_view (λ t. t) d).pattern ++ r) (fields_places fs)
+  fields_places (d ∷ fs) = ap (λ r. chosen_in_pattern (field_view (λ t. t) d).pattern ++ r) (fields_places fs)
 
   pub patterns_shapes : (ps : List (Pattern T)) → mapped_patterns (λ _. tt {0}) (patterns_view (λ t. t) ps) ≡ patterns_of (map (λ p. pattern_shape (pattern_view (λ t. t) p)) ps)
   patterns_shapes [] = refl
@@ -45,16 +54,16 @@ module _ {T : Type 0} where
 
   -- the chosen parts of a kind of pattern are those of what it holds
   module _ (k : PatternKind T) where
-    pub enum_places : (p : Path) (ps : Vec (Pattern T) Global) → k ≡ variant.Enum p ps → chosen_of_kind (pattern_kind_view (λ (t : T). t) k) ≡ chosen_of_patterns (patterns_view (λ (t : T). t) ps.items)
+    pub enum_places : (p : Path) (ps : Vec (Pattern T) Global) → k ≡ variant.Enum p ps → chosen_in_kind (pattern_kind_view (λ (t : T). t) k) ≡ chosen_in_all (patterns_view (λ (t : T). t) ps.items)
     enum_places p ps is = rw (is, enum_seen p ps) refl
 
-    pub struct_places : (p : Path) (fs : Vec (FieldPattern T) Global) (rest : Bool) → k ≡ variant.Struct p fs rest → chosen_of_kind (pattern_kind_view (λ (t : T). t) k) ≡ chosen_of_fields (fields_view (λ (t : T). t) fs.items)
+    pub struct_places : (p : Path) (fs : Vec (FieldPattern T) Global) (rest : Bool) → k ≡ variant.Struct p fs rest → chosen_in_kind (pattern_kind_view (λ (t : T). t) k) ≡ chosen_in_fields (fields_view (λ (t : T). t) fs.items)
     struct_places p fs rest is = rw (is, struct_seen p fs rest) refl
 
-    pub tuple_places : (ps : Vec (Pattern T) Global) → k ≡ variant.Tuple ps → chosen_of_kind (pattern_kind_view (λ (t : T). t) k) ≡ chosen_of_patterns (patterns_view (λ (t : T). t) ps.items)
+    pub tuple_places : (ps : Vec (Pattern T) Global) → k ≡ variant.Tuple ps → chosen_in_kind (pattern_kind_view (λ (t : T). t) k) ≡ chosen_in_all (patterns_view (λ (t : T). t) ps.items)
     tuple_places ps is = rw (is, tuple_seen ps) refl
 
-    pub tuple_struct_places : (p : Path) (ps : Vec (Pattern T) Global) → k ≡ variant.TupleStruct p ps → chosen_of_kind (pattern_kind_view (λ (t : T). t) k) ≡ chosen_of_patterns (patterns_view (λ (t : T). t) ps.items)
+    pub tuple_struct_places : (p : Path) (ps : Vec (Pattern T) Global) → k ≡ variant.TupleStruct p ps → chosen_in_kind (pattern_kind_view (λ (t : T). t) k) ≡ chosen_in_all (patterns_view (λ (t : T). t) ps.items)
     tuple_struct_places p ps is = rw (is, tuple_struct_seen p ps) refl
 
 module _ {T U : Type 0} (k : PatternKind T) (p q : Path) (fs : Vec (FieldPattern T) Global) (gs : Vec (FieldPattern U) Global) (rest : Bool) (is : k ≡ variant.Struct p fs rest) where

@@ -44,21 +44,26 @@ field_shape d = mapped_field (λ t. tt) d
 
 -- its chosen parts from left to right
 abbrev mutual
-  pub chosen_of_kind : {T : Type 0} → PatternKindData T → List T
-  chosen_of_kind (enumerated p ps) = chosen_of_patterns ps
-  chosen_of_kind (structured p fs rest) = chosen_of_fields fs
-  chosen_of_kind (tuple ps) = chosen_of_patterns ps
-  chosen_of_kind (tuple_struct p ps) = chosen_of_patterns ps
-  chosen_of_kind (chosen t) = t ∷ []
-  chosen_of_kind _ = []
+  pub chosen_in_kind : {T : Type 0} → PatternKindData T → List T
+  chosen_in_kind (chosen t) = t ∷ []
+  chosen_in_kind (enumerated p ps) = chosen_in_all ps
+  chosen_in_kind (structured p fs rest) = chosen_in_fields fs
+  chosen_in_kind (tuple ps) = chosen_in_all ps
+  chosen_in_kind (tuple_struct p ps) = chosen_in_all ps
+  chosen_in_kind (path p) = []
+  chosen_in_kind (number n) = []
+  chosen_in_kind underscore = []
+  chosen_in_kind dot_dot = []
+  chosen_in_kind (character a) = []
+  chosen_in_kind (text a) = []
 
-  pub chosen_of : {T : Type 0} → PatternData T → List T
-  chosen_of (pattern_at s k) = chosen_of_kind k
+  pub chosen_in_pattern : {T : Type 0} → PatternData T → List T
+  chosen_in_pattern (pattern_at s k) = chosen_in_kind k
 
-  pub chosen_of_patterns : {T : Type 0} → Patterns T → List T
-  chosen_of_patterns no_patterns = []
-  chosen_of_patterns (pattern_and p ps) = chosen_of p ++ chosen_of_patterns ps
+  pub chosen_in_all : {T : Type 0} → Patterns T → List T
+  chosen_in_all no_patterns = []
+  chosen_in_all (pattern_and p ps) = chosen_in_pattern p ++ chosen_in_all ps
 
-  pub chosen_of_fields : {T : Type 0} → Fields T → List T
-  chosen_of_fields no_fields = []
-  chosen_of_fields (field_and s n p fs) = chosen_of p ++ chosen_of_fields fs
+  pub chosen_in_fields : {T : Type 0} → Fields T → List T
+  chosen_in_fields no_fields = []
+  chosen_in_fields (field_and s n p fs) = chosen_in_pattern p ++ chosen_in_fields fs

@@ -1,7 +1,7 @@
 use Rattle.std.proofs.Common.{arith, refl}
 use Rattle.std.proofs.lemmas.List.{take_all}
 use Rattle.std.specs.Fn.{CalledAt}
-use Rattle.lalrpop_norm_parts.specs.MappedPatterns.{pattern_shape, field_shape, chosen_of}
+use Rattle.lalrpop_norm_parts.specs.MappedPatterns.{pattern_shape, field_shape, chosen_in_pattern}
 use Rattle.lalrpop_norm_parts.specs.Patterns.{pattern_view, field_view}
 use Rattle.lalrpop_norm_parts.proofs.PatternWalks.{patterns_places, fields_places, patterns_shapes, fields_shapes, enum_places, struct_places, tuple_places, tuple_struct_places, struct_seen, struct_kept}
 use Rattle.lalrpop_norm_parts.proofs.WalkLemmas.{if_err_is, if_err_has, wanting, shape_more, loop_answered, loop_ended, loop_wanting}
@@ -56,7 +56,7 @@ pub map_patterns-returns-in_err-map_pattern-clause-ended : goal.map_patterns-ret
 map_patterns-returns-in_err-map_pattern-clause-ended g t c =
     if_err_is _ _ _ c.from_residual.ensures.1
     (rw (patterns_places)
-    (loop_ended (CalledAt g.F.FnMut) (λ p. chosen_of (pattern_view (λ t. t) p)) (λ p. chosen_of (pattern_view (λ u. u) p)) (g.E.From.from_gives record {})
+    (loop_ended (CalledAt g.F.FnMut) (λ p. chosen_in_pattern (pattern_view (λ t. t) p)) (λ p. chosen_in_pattern (pattern_view (λ u. u) p)) (g.E.From.from_gives record {})
     c.args.f.now c.loop-pattern.f c.map_pattern.new.f c.args.patterns.now c.loop-pattern.mapped.items c.loop-pattern.pattern-index c.pattern-item.result c.in_err-map_pattern.field-0.0
     (omega arith) c.loop-pattern.invariant.2 (rw (← c.pattern-item.is) c.in_err-map_pattern.ensures.ended)))
 
@@ -64,7 +64,7 @@ pub map_patterns-returns-in_err-add-clause-ended : goal.map_patterns-returns-in_
 map_patterns-returns-in_err-add-clause-ended g t c =
     if_err_has (g.E.From.from_gives record {}) _ _ c.from_residual-in_err-add.ensures.1
     (λ e m. rw (patterns_places)
-    (loop_wanting (CalledAt g.F.FnMut) (λ p. chosen_of (pattern_view (λ t. t) p)) (λ p. chosen_of (pattern_view (λ u. u) p)) (g.E.From.from_gives record {})
+    (loop_wanting (CalledAt g.F.FnMut) (λ p. chosen_in_pattern (pattern_view (λ t. t) p)) (λ p. chosen_in_pattern (pattern_view (λ u. u) p)) (g.E.From.from_gives record {})
     c.args.f.now c.loop-pattern.f c.map_pattern.new.f c.args.patterns.now c.loop-pattern.mapped.items c.loop-pattern.pattern-index c.pattern-item.result c.in_ok-map_pattern.field-0 e
     (omega arith) c.loop-pattern.invariant.2 (rw (← c.pattern-item.is) c.in_ok-map_pattern.ensures.answered) m))
 
@@ -75,7 +75,7 @@ map_patterns-loop-pattern-preserved g t c =
       shape_more (λ p. pattern_shape (pattern_view (λ t. t) p)) (λ p. pattern_shape (pattern_view (λ u. u) p))
           c.args.patterns.now c.loop-pattern.mapped.items c.loop-pattern.pattern-index c.pattern-item.result c.in_ok-map_pattern.field-0
           (omega arith) c.loop-pattern.invariant.1 (rw (← c.pattern-item.is) c.in_ok-map_pattern.ensures.kept),
-      loop_answered (CalledAt g.F.FnMut) (λ p. chosen_of (pattern_view (λ t. t) p)) (λ p. chosen_of (pattern_view (λ u. u) p))
+      loop_answered (CalledAt g.F.FnMut) (λ p. chosen_in_pattern (pattern_view (λ t. t) p)) (λ p. chosen_in_pattern (pattern_view (λ u. u) p))
           c.args.f.now c.loop-pattern.f c.map_pattern.new.f c.args.patterns.now c.loop-pattern.mapped.items c.loop-pattern.pattern-index c.pattern-item.result c.in_ok-map_pattern.field-0
           (omega arith) c.loop-pattern.invariant.2 (rw (← c.pattern-item.is) c.in_ok-map_pattern.ensures.answered),
     )
@@ -92,7 +92,7 @@ pub map_fields-returns-in_err-map_field-clause-ended : goal.map_fields-returns-i
 map_fields-returns-in_err-map_field-clause-ended g t c =
     if_err_is _ _ _ c.from_residual.ensures.1
     (rw (fields_places)
-    (loop_ended (CalledAt g.F.FnMut) (λ d. chosen_of (field_view (λ t. t) d).pattern) (λ d. chosen_of (field_view (λ u. u) d).pattern) (g.E.From.from_gives record {})
+    (loop_ended (CalledAt g.F.FnMut) (λ d. chosen_in_pattern (field_view (λ t. t) d).pattern) (λ d. chosen_in_pattern (field_view (λ u. u) d).pattern) (g.E.From.from_gives record {})
     c.args.f.now c.loop-field.f c.map_field.new.f c.args.fields.now c.loop-field.mapped.items c.loop-field.field-index c.field-item.result c.in_err-map_field.field-0.0
     (omega arith) c.loop-field.invariant.2 (rw (← c.field-item.is) c.in_err-map_field.ensures.ended)))
 
@@ -100,7 +100,7 @@ pub map_fields-returns-in_err-add-clause-ended : goal.map_fields-returns-in_err-
 map_fields-returns-in_err-add-clause-ended g t c =
     if_err_has (g.E.From.from_gives record {}) _ _ c.from_residual-in_err-add.ensures.1
     (λ e m. rw (fields_places)
-    (loop_wanting (CalledAt g.F.FnMut) (λ d. chosen_of (field_view (λ t. t) d).pattern) (λ d. chosen_of (field_view (λ u. u) d).pattern) (g.E.From.from_gives record {})
+    (loop_wanting (CalledAt g.F.FnMut) (λ d. chosen_in_pattern (field_view (λ t. t) d).pattern) (λ d. chosen_in_pattern (field_view (λ u. u) d).pattern) (g.E.From.from_gives record {})
     c.args.f.now c.loop-field.f c.map_field.new.f c.args.fields.now c.loop-field.mapped.items c.loop-field.field-index c.field-item.result c.in_ok-map_field.field-0 e
     (omega arith) c.loop-field.invariant.2 (rw (← c.field-item.is) c.in_ok-map_field.ensures.answered) m))
 
@@ -111,7 +111,7 @@ map_fields-loop-field-preserved g t c =
       shape_more (λ d. field_shape (field_view (λ t. t) d)) (λ d. field_shape (field_view (λ u. u) d))
           c.args.fields.now c.loop-field.mapped.items c.loop-field.field-index c.field-item.result c.in_ok-map_field.field-0
           (omega arith) c.loop-field.invariant.1 (rw (← c.field-item.is) c.in_ok-map_field.ensures.kept),
-      loop_answered (CalledAt g.F.FnMut) (λ d. chosen_of (field_view (λ t. t) d).pattern) (λ d. chosen_of (field_view (λ u. u) d).pattern)
+      loop_answered (CalledAt g.F.FnMut) (λ d. chosen_in_pattern (field_view (λ t. t) d).pattern) (λ d. chosen_in_pattern (field_view (λ u. u) d).pattern)
           c.args.f.now c.loop-field.f c.map_field.new.f c.args.fields.now c.loop-field.mapped.items c.loop-field.field-index c.field-item.result c.in_ok-map_field.field-0
           (omega arith) c.loop-field.invariant.2 (rw (← c.field-item.is) c.in_ok-map_field.ensures.answered),
     )
