@@ -1,6 +1,7 @@
 -- What a map of patterns answers where each call answers one function of its place.
-use Rattle.std.proofs.Common.{◌≡◌, Result, Ok, List, [], ◌∷◌, ◌++◌, map, refl, ap, sym, ◌∙◌}
+use Rattle.std.proofs.Common.{◌≡◌, Result, Ok, Err, IfOk, List, [], ◌∷◌, ◌++◌, map, Bor, refl, ap, sym, ◌∙◌}
 use Rattle.std.proofs.lemmas.List.{append_assoc, append-nil}
+use Rattle.std.specs.Fn.{Mut, Called, CalledAt}
 use Rattle.lalrpop_norm_parts.specs.declared.pattern.Pattern.{Pattern}
 use Rattle.lalrpop_norm_parts.specs.Walks.{Answered}
 use Rattle.lalrpop_norm_parts.specs.MappedPatterns.{mapped_kind, mapped_pattern, mapped_patterns, mapped_fields, pattern_shape, chosen_in_kind, chosen_in_pattern, chosen_in_all, chosen_in_fields}
@@ -115,3 +116,14 @@ pattern_mapped w v g p q e h =
     ∙ (same_pattern v (λ t. g (w t)) (pattern_view (λ t. t) p) (pattern_view (λ u. u) q) e [] []
     (rw (append-nil (chosen_in_pattern (pattern_view (λ u. u) q)), append-nil (chosen_in_pattern (pattern_view (λ t. t) p))) h)).0
     ∙ sym (pattern_twice w g (pattern_view (λ t. t) p)) ∙ ap (mapped_pattern g) (sym (view_mapped w p))
+
+-- of the calls of a closure: from what `Pattern::map` ensures to what it answers
+pub pattern_map_gives : {S T U E W V : Type 0} (calls : Mut S (Bor T × Unit {0}) (Result U E)) (w : T → W) (v : U → V) (g : W → V) → ((s s' : S) (y : Bor T) (u : U) → Called calls s (y, tt) (Ok u) s' → v u ≡ g (w y.now)) → (s s' : S) (p : Pattern T) (r : Result (Pattern U) E)
+    → IfOk r (λ q. pattern_shape (pattern_view (λ u. u) q) ≡ pattern_shape (pattern_view (λ t. t) p))
+    → IfOk r (λ q. Answered (CalledAt calls) s (chosen_in_pattern (pattern_view (λ t. t) p)) (chosen_in_pattern (pattern_view (λ u. u) q)) s')
+    → IfOk r (λ q. pattern_view v q ≡ mapped_pattern g (pattern_view w p))
+pattern_map_gives calls w v g each s s' p (Ok q) kept answered =
+    pattern_mapped w v g p q kept
+    (answered_mapped (CalledAt calls) (λ _. Unit {0}) v (λ t. g (w t)) (λ s s' t u is c. (each s s' c.shown u c.called ∙ ap (λ x. g (w x)) c.shows, tt)) s s'
+    (chosen_in_pattern (pattern_view (λ t. t) p)) (chosen_in_pattern (pattern_view (λ u. u) q)) tt answered)
+pattern_map_gives calls w v g each s s' p (Err e) kept answered = tt
