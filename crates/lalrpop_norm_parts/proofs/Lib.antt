@@ -1,5 +1,6 @@
 pub mod AttributeViews
 pub mod BoundLemmas
+pub mod BoundMapLaws
 pub mod BoundViews
 pub mod BoundWalks
 pub mod KnownTextLemmas
