@@ -10,7 +10,7 @@ use Rattle.lalrpop_norm_parts.specs.declared.bound.TypeBound.TheVariants as boun
 use Rattle.lalrpop_norm_parts.specs.declared.bound.TypeBoundParameter.{TypeBoundParameter}
 use Rattle.lalrpop_norm_parts.specs.declared.bound.TypeBoundParameter.TheVariants as parameter
 use Rattle.lalrpop_norm_parts.specs.Bounds.{BoundParameterData, lifetime_parameter, type_parameter, associated_type, BoundData, lifetime_bound, function_bound, trait_bound, bound_parameter_view, bound_view}
-use Rattle.lalrpop_norm_parts.specs.MappedBounds.{mapped_bound_parameter, mapped_bound, bound_shape, type_of_parameter, types_of_bound}
+use Rattle.lalrpop_norm_parts.specs.MappedBounds.{mapped_bound_parameter, mapped_bound, bound_shape, types_in_parameter, types_in_bound}
 use Rattle.lalrpop_norm_parts.specs.Paths.{path_view}
 use Rattle.lalrpop_norm_parts.specs.Walks.{Answered}
 use Rattle.lalrpop_norm_parts.proofs.MapLaws.{answered_mapped}
@@ -30,22 +30,22 @@ module _ {T U V : Type 0} (v : U → V) (g : T → V) where
   same_option (Some t) (Some u) e h = cc
   same_option _ _ e h = cc
 
-  same_parameter : (p : BoundParameterData T) (q : BoundParameterData U) → mapped_bound_parameter (λ (u : U). tt {0}) q ≡ mapped_bound_parameter (λ (t : T). tt {0}) p → (xs : List U) (ys : List T) → map v (type_of_parameter q ++ xs) ≡ map g (type_of_parameter p ++ ys) → (mapped_bound_parameter v q ≡ mapped_bound_parameter g p) × (map v xs ≡ map g ys)
+  same_parameter : (p : BoundParameterData T) (q : BoundParameterData U) → mapped_bound_parameter (λ (u : U). tt {0}) q ≡ mapped_bound_parameter (λ (t : T). tt {0}) p → (xs : List U) (ys : List T) → map v (types_in_parameter q ++ xs) ≡ map g (types_in_parameter p ++ ys) → (mapped_bound_parameter v q ≡ mapped_bound_parameter g p) × (map v xs ≡ map g ys)
   same_parameter (lifetime_parameter l) (lifetime_parameter m) e xs ys h = (cc, h)
   same_parameter (type_parameter t) (type_parameter u) e xs ys h = (cc, cc)
   same_parameter (associated_type a t) (associated_type b u) e xs ys h = (cc, cc)
   same_parameter _ _ e xs ys h = cc
 
-  same_parameters : (ps : List (BoundParameterData T)) (qs : List (BoundParameterData U)) → map (mapped_bound_parameter (λ (u : U). tt {0})) qs ≡ map (mapped_bound_parameter (λ (t : T). tt {0})) ps → map v (flat_map type_of_parameter qs) ≡ map g (flat_map type_of_parameter ps) → map (mapped_bound_parameter v) qs ≡ map (mapped_bound_parameter g) ps
+  same_parameters : (ps : List (BoundParameterData T)) (qs : List (BoundParameterData U)) → map (mapped_bound_parameter (λ (u : U). tt {0})) qs ≡ map (mapped_bound_parameter (λ (t : T). tt {0})) ps → map v (flat_map types_in_parameter qs) ≡ map g (flat_map types_in_parameter ps) → map (mapped_bound_parameter v) qs ≡ map (mapped_bound_parameter g) ps
   same_parameters [] [] e h = refl
   same_parameters (p ∷ ps) (q ∷ qs) e h =
-      let one = same_parameter p q (cc) (flat_map type_of_parameter qs) (flat_map type_of_parameter ps) h in
+      let one = same_parameter p q (cc) (flat_map types_in_parameter qs) (flat_map types_in_parameter ps) h in
       let first = one.0 in
       let rest = same_parameters ps qs (cc) one.1 in
       cc
   same_parameters _ _ e h = cc
 
-  same_bound : (b : BoundData T) (c : BoundData U) → mapped_bound (λ (u : U). tt {0}) c ≡ mapped_bound (λ (t : T). tt {0}) b → map v (types_of_bound c) ≡ map g (types_of_bound b) → mapped_bound v c ≡ mapped_bound g b
+  same_bound : (b : BoundData T) (c : BoundData U) → mapped_bound (λ (u : U). tt {0}) c ≡ mapped_bound (λ (t : T). tt {0}) b → map v (types_in_bound c) ≡ map g (types_in_bound b) → mapped_bound v c ≡ mapped_bound g b
   same_bound (lifetime_bound l) (lifetime_bound m) e h = cc
   same_bound (function_bound fs p ts o) (function_bound gs q us r) e h =
       let types = same_list ts us (cc) (option_to_list r) (option_to_list o) h in
@@ -101,7 +101,7 @@ module _ {T W V : Type 0} (w : T → W) (g : W → V) where
 
 -- a mapped bound, seen: the bound that was mapped, seen and put through g
 pub bound_mapped : {T U W V : Type 0} (w : T → W) (v : U → V) (g : W → V) (b : TypeBound T) (c : TypeBound U) → bound_shape (bound_view (λ (u : U). u) c) ≡ bound_shape (bound_view (λ (t : T). t) b)
-    → map v (types_of_bound (bound_view (λ (u : U). u) c)) ≡ map (λ t. g (w t)) (types_of_bound (bound_view (λ (t : T). t) b)) → bound_view v c ≡ mapped_bound g (bound_view w b)
+    → map v (types_in_bound (bound_view (λ (u : U). u) c)) ≡ map (λ t. g (w t)) (types_in_bound (bound_view (λ (t : T). t) b)) → bound_view v c ≡ mapped_bound g (bound_view w b)
 bound_mapped w v g b c e h =
     bound_seen v c ∙ same_bound v (λ t. g (w t)) (bound_view (λ t. t) b) (bound_view (λ u. u) c) e h
     ∙ sym (bound_twice w g (bound_view (λ t. t) b)) ∙ ap (mapped_bound g) (sym (bound_seen w b))
@@ -109,10 +109,10 @@ bound_mapped w v g b c e h =
 -- of the calls of a closure: from what `TypeBound::map` ensures to what it answers
 pub bound_map_gives : {S T U E W V : Type 0} (calls : Mut S (Bor T × Unit {0}) (Result U E)) (w : T → W) (v : U → V) (g : W → V) → ((s s' : S) (y : Bor T) (u : U) → Called calls s (y, tt) (Ok u) s' → v u ≡ g (w y.now)) → (s s' : S) (b : TypeBound T) (r : Result (TypeBound U) E)
     → IfOk r (λ c. bound_shape (bound_view (λ u. u) c) ≡ bound_shape (bound_view (λ t. t) b))
-    → IfOk r (λ c. Answered (CalledAt calls) s (types_of_bound (bound_view (λ t. t) b)) (types_of_bound (bound_view (λ u. u) c)) s')
+    → IfOk r (λ c. Answered (CalledAt calls) s (types_in_bound (bound_view (λ t. t) b)) (types_in_bound (bound_view (λ u. u) c)) s')
     → IfOk r (λ c. bound_view v c ≡ mapped_bound g (bound_view w b))
 bound_map_gives calls w v g each s s' b (Ok c) kept answered =
     bound_mapped w v g b c kept
     (answered_mapped (CalledAt calls) (λ _. Unit {0}) v (λ t. g (w t)) (λ s s' t u is k. (each s s' k.shown u k.called ∙ ap (λ x. g (w x)) k.shows, tt)) s s'
-    (types_of_bound (bound_view (λ t. t) b)) (types_of_bound (bound_view (λ u. u) c)) tt answered)
+    (types_in_bound (bound_view (λ t. t) b)) (types_in_bound (bound_view (λ u. u) c)) tt answered)
 bound_map_gives calls w v g each s s' b (Err e) kept answered = tt

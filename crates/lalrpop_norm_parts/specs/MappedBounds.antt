@@ -19,13 +19,13 @@ bound_parameter_shape p = mapped_bound_parameter (λ t. tt) p
 abbrev pub bound_shape : {T : Type 0} → BoundData T → BoundData (Unit {0})
 bound_shape b = mapped_bound (λ t. tt) b
 
-abbrev pub type_of_parameter : {T : Type 0} → BoundParameterData T → List T
-type_of_parameter (lifetime_parameter l) = []
-type_of_parameter (type_parameter t) = t ∷ []
-type_of_parameter (associated_type a t) = t ∷ []
+abbrev pub types_in_parameter : {T : Type 0} → BoundParameterData T → List T
+types_in_parameter (lifetime_parameter l) = []
+types_in_parameter (type_parameter t) = t ∷ []
+types_in_parameter (associated_type a t) = t ∷ []
 
 -- its types from left to right, a return type last
-abbrev pub types_of_bound : {T : Type 0} → BoundData T → List T
-types_of_bound (lifetime_bound l) = []
-types_of_bound (function_bound fs p ts r) = ts ++ option_to_list r
-types_of_bound (trait_bound fs p ps) = flat_map type_of_parameter ps
+abbrev pub types_in_bound : {T : Type 0} → BoundData T → List T
+types_in_bound (lifetime_bound l) = []
+types_in_bound (function_bound fs p ts r) = ts ++ option_to_list r
+types_in_bound (trait_bound fs p ps) = flat_map types_in_parameter ps

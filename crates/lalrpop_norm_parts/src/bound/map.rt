@@ -3,7 +3,7 @@ ghost use Rattle.std.specs.Prelude.{◌≡◌, ◌++◌, IfOk, map, flat_map, op
 ghost use Rattle.std.specs.Fn.{CalledAt};
 ghost use Rattle.std.specs.Result.{IfErr};
 ghost use Rattle.lalrpop_norm_parts.specs.Bounds.{bound_parameter_view, bound_view, function_bound, trait_bound};
-ghost use Rattle.lalrpop_norm_parts.specs.MappedBounds.{bound_parameter_shape, bound_shape, type_of_parameter, types_of_bound};
+ghost use Rattle.lalrpop_norm_parts.specs.MappedBounds.{bound_parameter_shape, bound_shape, types_in_parameter, types_in_bound};
 ghost use Rattle.lalrpop_norm_parts.specs.Paths.{path_view};
 ghost use Rattle.lalrpop_norm_parts.specs.Walks.{Answered, Ended};
 
@@ -25,8 +25,8 @@ impl<T> TypeBound<T> {
         requires { F.IsAlwaysCallable f.old }
         ensures again { F.IsAlwaysCallable f.new }
         ensures kept { IfOk result (λ b. bound_shape (bound_view (λ u. u) b) ≡ bound_shape (bound_view (λ t. t) self.now)) }
-        ensures answered { IfOk result (λ b. Answered (CalledAt F.FnMut) f.old (types_of_bound (bound_view (λ t. t) self.now)) (types_of_bound (bound_view (λ u. u) b)) f.new) }
-        ensures ended { IfErr result (λ e. Ended (CalledAt F.FnMut) (E.from_gives record {}) f.old (types_of_bound (bound_view (λ t. t) self.now)) e f.new) }
+        ensures answered { IfOk result (λ b. Answered (CalledAt F.FnMut) f.old (types_in_bound (bound_view (λ t. t) self.now)) (types_in_bound (bound_view (λ u. u) b)) f.new) }
+        ensures ended { IfErr result (λ e. Ended (CalledAt F.FnMut) (E.from_gives record {}) f.old (types_in_bound (bound_view (λ t. t) self.now)) e f.new) }
     {
         match self {
             TypeBound::Lifetime(lifetime) => Ok(TypeBound::Lifetime(same_lifetime(lifetime)?)),
@@ -54,8 +54,8 @@ impl<T> TypeBoundParameter<T> {
         requires { F.IsAlwaysCallable f.old }
         ensures again { F.IsAlwaysCallable f.new }
         ensures kept { IfOk result (λ p. bound_parameter_shape (bound_parameter_view (λ u. u) p) ≡ bound_parameter_shape (bound_parameter_view (λ t. t) self.now)) }
-        ensures answered { IfOk result (λ p. Answered (CalledAt F.FnMut) f.old (type_of_parameter (bound_parameter_view (λ t. t) self.now)) (type_of_parameter (bound_parameter_view (λ u. u) p)) f.new) }
-        ensures ended { IfErr result (λ e. Ended (CalledAt F.FnMut) (E.from_gives record {}) f.old (type_of_parameter (bound_parameter_view (λ t. t) self.now)) e f.new) }
+        ensures answered { IfOk result (λ p. Answered (CalledAt F.FnMut) f.old (types_in_parameter (bound_parameter_view (λ t. t) self.now)) (types_in_parameter (bound_parameter_view (λ u. u) p)) f.new) }
+        ensures ended { IfErr result (λ e. Ended (CalledAt F.FnMut) (E.from_gives record {}) f.old (types_in_parameter (bound_parameter_view (λ t. t) self.now)) e f.new) }
     {
         map_parameter(self, f)
     }
@@ -104,7 +104,7 @@ fn map_function<T, U: Drop, E: From<NoMemory>, F: FnMut(&T) -> Result<U, E>>(
     ensures again { F.IsAlwaysCallable f.new }
     ensures kept { IfOk result (λ b. bound_shape (bound_view (λ u. u) b)
         ≡ function_bound head.0.items (path_view head.1) (map (λ _. tt) (map (λ t. t) parameters.now.items)) (option_map (λ _. tt) (option_map (λ t. t) ret.now))) }
-    ensures answered { IfOk result (λ b. Answered (CalledAt F.FnMut) f.old (map (λ t. t) parameters.now.items ++ option_to_list (option_map (λ t. t) ret.now)) (types_of_bound (bound_view (λ u. u) b)) f.new) }
+    ensures answered { IfOk result (λ b. Answered (CalledAt F.FnMut) f.old (map (λ t. t) parameters.now.items ++ option_to_list (option_map (λ t. t) ret.now)) (types_in_bound (bound_view (λ u. u) b)) f.new) }
     ensures ended { IfErr result (λ e. Ended (CalledAt F.FnMut) (E.from_gives record {}) f.old (map (λ t. t) parameters.now.items ++ option_to_list (option_map (λ t. t) ret.now)) e f.new) }
 {
     let parameters = map_types(*parameters.allocator(), parameters, f)?;
@@ -125,8 +125,8 @@ fn map_parameter<T, U: Drop, E: From<NoMemory>, F: FnMut(&T) -> Result<U, E>>(
     requires { F.IsAlwaysCallable f.old }
     ensures again { F.IsAlwaysCallable f.new }
     ensures kept { IfOk result (λ p. bound_parameter_shape (bound_parameter_view (λ u. u) p) ≡ bound_parameter_shape (bound_parameter_view (λ t. t) parameter.now)) }
-    ensures answered { IfOk result (λ p. Answered (CalledAt F.FnMut) f.old (type_of_parameter (bound_parameter_view (λ t. t) parameter.now)) (type_of_parameter (bound_parameter_view (λ u. u) p)) f.new) }
-    ensures ended { IfErr result (λ e. Ended (CalledAt F.FnMut) (E.from_gives record {}) f.old (type_of_parameter (bound_parameter_view (λ t. t) parameter.now)) e f.new) }
+    ensures answered { IfOk result (λ p. Answered (CalledAt F.FnMut) f.old (types_in_parameter (bound_parameter_view (λ t. t) parameter.now)) (types_in_parameter (bound_parameter_view (λ u. u) p)) f.new) }
+    ensures ended { IfErr result (λ e. Ended (CalledAt F.FnMut) (E.from_gives record {}) f.old (types_in_parameter (bound_parameter_view (λ t. t) parameter.now)) e f.new) }
 {
     match parameter {
         TypeBoundParameter::Lifetime(lifetime) => {
@@ -157,8 +157,8 @@ fn map_parameters<T, U: Drop, E: From<NoMemory>, F: FnMut(&T) -> Result<U, E>>(
     ensures again { F.IsAlwaysCallable f.new }
     ensures kept { IfOk result (λ ps. map bound_parameter_shape (map (bound_parameter_view (λ u. u)) ps.items) ≡ map bound_parameter_shape (map (bound_parameter_view (λ t. t)) parameters.now)) }
     ensures answered { IfOk result (λ ps. Answered (CalledAt F.FnMut) f.old
-        (flat_map type_of_parameter (map (bound_parameter_view (λ t. t)) parameters.now)) (flat_map type_of_parameter (map (bound_parameter_view (λ u. u)) ps.items)) f.new) }
-    ensures ended { IfErr result (λ e. Ended (CalledAt F.FnMut) (E.from_gives record {}) f.old (flat_map type_of_parameter (map (bound_parameter_view (λ t. t)) parameters.now)) e f.new) }
+        (flat_map types_in_parameter (map (bound_parameter_view (λ t. t)) parameters.now)) (flat_map types_in_parameter (map (bound_parameter_view (λ u. u)) ps.items)) f.new) }
+    ensures ended { IfErr result (λ e. Ended (CalledAt F.FnMut) (E.from_gives record {}) f.old (flat_map types_in_parameter (map (bound_parameter_view (λ t. t)) parameters.now)) e f.new) }
 {
     let mut mapped = Vec::new(alloc);
     for parameter in parameters {
@@ -178,9 +178,9 @@ fn map_trait<T, U: Drop, E: From<NoMemory>, F: FnMut(&T) -> Result<U, E>>(
     ensures kept { IfOk result (λ b. bound_shape (bound_view (λ u. u) b)
         ≡ trait_bound head.0.items (path_view head.1) (map bound_parameter_shape (map (bound_parameter_view (λ t. t)) parameters.now.items))) }
     ensures answered { IfOk result (λ b. Answered (CalledAt F.FnMut) f.old
-        (flat_map type_of_parameter (map (bound_parameter_view (λ t. t)) parameters.now.items)) (types_of_bound (bound_view (λ u. u) b)) f.new) }
+        (flat_map types_in_parameter (map (bound_parameter_view (λ t. t)) parameters.now.items)) (types_in_bound (bound_view (λ u. u) b)) f.new) }
     ensures ended { IfErr result (λ e. Ended (CalledAt F.FnMut) (E.from_gives record {}) f.old
-        (flat_map type_of_parameter (map (bound_parameter_view (λ t. t)) parameters.now.items)) e f.new) }
+        (flat_map types_in_parameter (map (bound_parameter_view (λ t. t)) parameters.now.items)) e f.new) }
 {
     let parameters = map_parameters(*parameters.allocator(), parameters, f)?;
     let (forall, path) = head;

@@ -4,7 +4,7 @@ use Rattle.std.proofs.lemmas.List.Folds.{flat_map-map}
 use Rattle.std.proofs.lemmas.Simd.{map-map}
 use Rattle.std.specs.Fn.{CalledAt}
 use Rattle.lalrpop_norm_parts.specs.Bounds.{bound_parameter_view}
-use Rattle.lalrpop_norm_parts.specs.MappedBounds.{bound_parameter_shape, type_of_parameter}
+use Rattle.lalrpop_norm_parts.specs.MappedBounds.{bound_parameter_shape, types_in_parameter}
 use Rattle.lalrpop_norm_parts.proofs.WalkLemmas.{if_err_is, if_err_has, shape_more, loop_answered, loop_ended, loop_wanting}
 use Rattle.lalrpop_norm_parts.proofs.bound.map.map_parameters.Goals as goal
 
@@ -12,7 +12,7 @@ pub returns-in_err-map_parameter-clause-ended : goal.returns-in_err-map_paramete
 returns-in_err-map_parameter-clause-ended g c =
     if_err_is _ _ _ c.from_residual.ensures.1
     (rw (flat_map-map)
-    (loop_ended (CalledAt g.F.FnMut) (λ p. type_of_parameter (bound_parameter_view (λ t. t) p)) (λ p. type_of_parameter (bound_parameter_view (λ u. u) p)) (g.E.From.from_gives record {})
+    (loop_ended (CalledAt g.F.FnMut) (λ p. types_in_parameter (bound_parameter_view (λ t. t) p)) (λ p. types_in_parameter (bound_parameter_view (λ u. u) p)) (g.E.From.from_gives record {})
     c.args.f.now c.loop-parameter.f c.map_parameter.new.f c.args.parameters.now c.loop-parameter.mapped.items c.loop-parameter.parameter-index c.parameter-item.result c.in_err-map_parameter.field-0.0
     (omega arith) c.loop-parameter.invariant.2 (rw (← c.parameter-item.is) c.in_err-map_parameter.ensures.ended)))
 
@@ -20,7 +20,7 @@ pub returns-in_err-add-clause-ended : goal.returns-in_err-add-clause-ended
 returns-in_err-add-clause-ended g c =
     if_err_has (g.E.From.from_gives record {}) _ _ c.from_residual-in_err-add.ensures.1
     (λ e m. rw (flat_map-map)
-    (loop_wanting (CalledAt g.F.FnMut) (λ p. type_of_parameter (bound_parameter_view (λ t. t) p)) (λ p. type_of_parameter (bound_parameter_view (λ u. u) p)) (g.E.From.from_gives record {})
+    (loop_wanting (CalledAt g.F.FnMut) (λ p. types_in_parameter (bound_parameter_view (λ t. t) p)) (λ p. types_in_parameter (bound_parameter_view (λ u. u) p)) (g.E.From.from_gives record {})
     c.args.f.now c.loop-parameter.f c.map_parameter.new.f c.args.parameters.now c.loop-parameter.mapped.items c.loop-parameter.parameter-index c.parameter-item.result c.in_ok-map_parameter.field-0 e
     (omega arith) c.loop-parameter.invariant.2 (rw (← c.parameter-item.is) c.in_ok-map_parameter.ensures.answered) m))
 
@@ -31,7 +31,7 @@ loop-parameter-preserved g c =
       shape_more (λ p. bound_parameter_shape (bound_parameter_view (λ t. t) p)) (λ p. bound_parameter_shape (bound_parameter_view (λ u. u) p))
           c.args.parameters.now c.loop-parameter.mapped.items c.loop-parameter.parameter-index c.parameter-item.result c.in_ok-map_parameter.field-0
           (omega arith) c.loop-parameter.invariant.1 (rw (← c.parameter-item.is) c.in_ok-map_parameter.ensures.kept),
-      loop_answered (CalledAt g.F.FnMut) (λ p. type_of_parameter (bound_parameter_view (λ t. t) p)) (λ p. type_of_parameter (bound_parameter_view (λ u. u) p))
+      loop_answered (CalledAt g.F.FnMut) (λ p. types_in_parameter (bound_parameter_view (λ t. t) p)) (λ p. types_in_parameter (bound_parameter_view (λ u. u) p))
           c.args.f.now c.loop-parameter.f c.map_parameter.new.f c.args.parameters.now c.loop-parameter.mapped.items c.loop-parameter.parameter-index c.parameter-item.result c.in_ok-map_parameter.field-0
           (omega arith) c.loop-parameter.invariant.2 (rw (← c.parameter-item.is) c.in_ok-map_parameter.ensures.answered),
     )

@@ -2,7 +2,7 @@ use Rattle.std.proofs.Common.{◌≡◌, map, take}
 use Rattle.std.specs.Fn.{CalledAt}
 use Rattle.std.specs.Prelude.{flat_map}
 use Rattle.lalrpop_norm_parts.specs.Bounds.{bound_parameter_view}
-use Rattle.lalrpop_norm_parts.specs.MappedBounds.{bound_parameter_shape, type_of_parameter}
+use Rattle.lalrpop_norm_parts.specs.MappedBounds.{bound_parameter_shape, types_in_parameter}
 use Rattle.lalrpop_norm_parts.specs.Walks.{Answered}
 use Rattle.lalrpop_norm_parts.proofs.bound.map.map_parameters.Given as goal
 
@@ -10,5 +10,5 @@ abbrev pub invariant-loop-parameter : goal.invariant-loop-parameter
 invariant-loop-parameter g l =
     goal.F-IsAlwaysCallable g l.f
     × (map (λ p. bound_parameter_shape (bound_parameter_view (λ u. u) p)) l.mapped.items ≡ map (λ p. bound_parameter_shape (bound_parameter_view (λ t. t) p)) (take l.parameter-index l.parameters))
-    × Answered (CalledAt g.F.FnMut) l.fn.f (flat_map (λ p. type_of_parameter (bound_parameter_view (λ t. t) p)) (take l.parameter-index l.parameters))
-    (flat_map (λ p. type_of_parameter (bound_parameter_view (λ u. u) p)) l.mapped.items) l.f
+    × Answered (CalledAt g.F.FnMut) l.fn.f (flat_map (λ p. types_in_parameter (bound_parameter_view (λ t. t) p)) (take l.parameter-index l.parameters))
+    (flat_map (λ p. types_in_parameter (bound_parameter_view (λ u. u) p)) l.mapped.items) l.f
