@@ -1,6 +1,4 @@
 pub mod LoopLemmas
-pub mod PatternLemmas
-pub mod PatternLevels
 pub mod ArgumentLemmas
 pub mod CodeLemmas
 pub mod TableLemmas

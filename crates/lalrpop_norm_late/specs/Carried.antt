@@ -12,9 +12,8 @@ use Rattle.lalrpop_norm_parts.specs.declared.names.TerminalString.{TerminalStrin
 use Rattle.lalrpop_norm_parts.specs.declared.names.TypeParameter.{TypeParameter}
 use Rattle.lalrpop_norm_parts.specs.Accessors.{codegen_named}
 use Rattle.lalrpop_norm_parts.specs.Attributes.{Attributes, no_attributes, attribute_and, attribute}
-use Rattle.lalrpop_norm_parts.specs.Bounds.{BoundParameterData, lifetime_parameter, type_parameter, associated_type, BoundData}
-use Rattle.lalrpop_norm_parts.specs.Bounds.{lifetime_bound, function_bound, trait_bound, WhereClauseData, lifetime_clause}
-use Rattle.lalrpop_norm_parts.specs.Bounds.{type_clause}
+use Rattle.lalrpop_norm_parts.specs.Bounds.{BoundData, lifetime_bound, WhereClauseData, lifetime_clause, type_clause}
+use Rattle.lalrpop_norm_parts.specs.MappedBounds.{mapped_bound}
 use Rattle.lalrpop_norm_tree.specs.Items.{ItemData, extern_item, intern_item, use_item, RuleData, GrammarData}
 use Rattle.lalrpop_norm_tree.specs.LoweredTypes.{repr_of, named_path}
 use Rattle.lalrpop_norm_parts.specs.Patterns.{PatternData, pattern_at, tuple_struct, pattern_and, no_patterns, number}
@@ -94,15 +93,8 @@ uses_recovery rules = list_any (λ r. list_any (λ a. any_error a.parts) r.alter
 abbrev pub lowered_parameter : ParameterData → LoweredParameter
 lowered_parameter p = record { name = p.name; ty = repr_of p.type }
 
-abbrev pub lowered_bound_parameter : BoundParameterData TypeData → BoundParameterData ReprData
-lowered_bound_parameter (lifetime_parameter l) = lifetime_parameter l
-lowered_bound_parameter (type_parameter t) = type_parameter (repr_of t)
-lowered_bound_parameter (associated_type a t) = associated_type a (repr_of t)
-
 abbrev pub lowered_bound : BoundData TypeData → BoundData ReprData
-lowered_bound (lifetime_bound l) = lifetime_bound l
-lowered_bound (function_bound fs p ts r) = function_bound fs p (map repr_of ts) (option_map repr_of r)
-lowered_bound (trait_bound fs p ps) = trait_bound fs p (map lowered_bound_parameter ps)
+lowered_bound b = mapped_bound repr_of b
 
 -- under its `for<..>`, if there is one
 abbrev pub under : List TypeParameter → LoweredClause → LoweredClause
