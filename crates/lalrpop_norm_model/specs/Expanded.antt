@@ -5,9 +5,8 @@ use Rattle.lalrpop_norm_parts.specs.declared.names.TerminalString.{TerminalStrin
 use Rattle.lalrpop_norm_parts.specs.declared.names.TerminalString.TheVariants.{Literal, Bare, Error}
 use Rattle.lalrpop_norm_parts.specs.Accessors.{is_known_name}
 use Rattle.lalrpop_norm_parts.specs.Attributes.{AttributeData, Attributes, attribute, no_attributes, attribute_and}
-use Rattle.lalrpop_norm_parts.specs.Bounds.{BoundParameterData, lifetime_parameter, type_parameter, associated_type, BoundData}
-use Rattle.lalrpop_norm_parts.specs.Bounds.{lifetime_bound, function_bound, trait_bound, WhereClauseData, lifetime_clause}
-use Rattle.lalrpop_norm_parts.specs.Bounds.{type_clause}
+use Rattle.lalrpop_norm_parts.specs.Bounds.{WhereClauseData, lifetime_clause, type_clause}
+pub use Rattle.lalrpop_norm_parts.specs.MappedBounds.{types_in_parameter, types_in_bound}
 use Rattle.lalrpop_norm_tree.specs.Items.{AlternativeData, RuleData, AssociatedTypeData, ConversionData, EnumTokenData}
 use Rattle.lalrpop_norm_tree.specs.Items.{InternTokenData, MatchTokenData, ItemData, GrammarData, match_item, extern_item}
 use Rattle.lalrpop_norm_tree.specs.Items.{intern_item}
@@ -156,16 +155,6 @@ mapped_terminals g =
     ++ flat_map (λ (t : InternTokenData). user_names t.match_entries) (interns g)
 
 -- ---- types that are read without rules
-
-abbrev pub types_in_parameter : BoundParameterData TypeData → List TypeData
-types_in_parameter (lifetime_parameter l) = []
-types_in_parameter (type_parameter t) = t ∷ []
-types_in_parameter (associated_type a t) = t ∷ []
-
-abbrev pub types_in_bound : BoundData TypeData → List TypeData
-types_in_bound (lifetime_bound l) = []
-types_in_bound (function_bound fs p ts r) = ts ++ option_to_list r
-types_in_bound (trait_bound fs p ps) = flat_map types_in_parameter ps
 
 abbrev pub types_in_clause : WhereClauseData TypeData → List TypeData
 types_in_clause (lifetime_clause l ls) = []

@@ -10,9 +10,7 @@ use Rattle.lalrpop_norm_tree.specs.Accessors.{first_of, enum_token_of, extern_to
 use Rattle.lalrpop_norm_tree.specs.Items.{AssociatedTypeData, ConversionData, EnumTokenData, ExternTokenData, InternTokenData}
 use Rattle.lalrpop_norm_tree.specs.Items.{GrammarData}
 use Rattle.lalrpop_norm_tree.specs.LoweredTypes.{repr_of}
-use Rattle.lalrpop_norm_parts.specs.Patterns.{PatternKindData, enumerated, structured, path, tuple, tuple_struct, number}
-use Rattle.lalrpop_norm_parts.specs.Patterns.{underscore, dot_dot, chosen, character, text, PatternData, pattern_at, Patterns}
-use Rattle.lalrpop_norm_parts.specs.Patterns.{no_patterns, pattern_and, Fields, no_fields, field_and}
+pub use Rattle.lalrpop_norm_parts.specs.MappedPatterns.{chosen_in_kind, chosen_in_pattern, chosen_in_all, chosen_in_fields}
 use Rattle.lalrpop_norm_parts.specs.Reprs as lowered
 use Rattle.lalrpop_norm_parts.specs.Reprs.{ReprData, nominal, reference, of_lifetime, no_reprs, repr_and, reprs_of, named_repr}
 use Rattle.lalrpop_norm_parts.specs.Reprs.{unit_type, static_str}
@@ -77,32 +75,6 @@ recovery_type g =
     (repr_and (unwrap_or (declared_location g) unit_type) (repr_and (token_type g) (repr_and (error_type g) no_reprs)))
 
 -- ---- chosen types of patterns
-
--- what a pattern chooses, in reading order
-abbrev mutual
-  pub chosen_in_kind : {T : Type 0} → PatternKindData T → List T
-  chosen_in_kind (chosen t) = t ∷ []
-  chosen_in_kind (enumerated p ps) = chosen_in_all ps
-  chosen_in_kind (structured p fs rest) = chosen_in_fields fs
-  chosen_in_kind (tuple ps) = chosen_in_all ps
-  chosen_in_kind (tuple_struct p ps) = chosen_in_all ps
-  chosen_in_kind (path p) = []
-  chosen_in_kind (number n) = []
-  chosen_in_kind underscore = []
-  chosen_in_kind dot_dot = []
-  chosen_in_kind (character a) = []
-  chosen_in_kind (text a) = []
-
-  pub chosen_in_pattern : {T : Type 0} → PatternData T → List T
-  chosen_in_pattern (pattern_at s k) = chosen_in_kind k
-
-  pub chosen_in_all : {T : Type 0} → Patterns T → List T
-  chosen_in_all no_patterns = []
-  chosen_in_all (pattern_and p ps) = chosen_in_pattern p ++ chosen_in_all ps
-
-  pub chosen_in_fields : {T : Type 0} → Fields T → List T
-  chosen_in_fields no_fields = []
-  chosen_in_fields (field_and s n p fs) = chosen_in_pattern p ++ chosen_in_fields fs
 
 -- one type bare, several as a tuple; nothing of none
 abbrev pub type_of_chosen : List ReprData → Option ReprData
