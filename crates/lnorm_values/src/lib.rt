@@ -8,6 +8,7 @@ pub mod lowered;
 mod made;
 mod names;
 mod parts;
+mod patterns;
 mod tables;
 pub mod texts;
 pub mod values;
