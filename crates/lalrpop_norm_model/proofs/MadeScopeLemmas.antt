@@ -19,7 +19,7 @@ use Rattle.lalrpop_norm_model.specs.WrittenRules.{WrittenRule, rule_named}
 use Rattle.lalrpop_norm_model.specs.Reading.{read_all}
 use Rattle.lalrpop_norm_model.specs.Grammars.{is_nil, is_true, ConditionValue}
 use Rattle.lalrpop_norm_model.specs.Scoped.{is_rule, takes, is_macro_for, is_scoped_kind, is_scoped, are_scoped, IsScoped}
-use Rattle.lalrpop_norm_model.specs.MadeRules.{kind_of, argument_kind, or_name, kind_put_in, put_in, all_put_in, flat_reader, instance_alternative, instance_alternatives, instance_rule, instance_of, group_rule, star_rule, plus_rule, question_rule, location_rule}
+use Rattle.lalrpop_norm_model.specs.MadeRules.{kind_of, argument_kind, or_name, kind_put_in, put_in, all_put_in, flat_reader, instance_alternative, instance_alternatives, instance_rule, instance_of, group_rule, star_rule, plus_rule, question_rule, location_rule, made_rules}
 use Rattle.lalrpop_norm_model.specs.PlainRules.{met, all_met, met_in_rule, met_by_made}
 use Rattle.lalrpop_norm_model.specs.PlainTables.{closed}
 use Rattle.lalrpop_norm_model.proofs.LevelLemmas.{in_map}
@@ -89,11 +89,14 @@ module _ (rs : List WrittenRule) where
     | inr j ↦ rules_made ds (λ e k. h e (inr k)) q j
   ]
 
-  pub one_rule_made : (d : RuleData) → AreScoped d.alternatives → (q : Part) → In q (flat_map met_in_rule (d ∷ [])) → IsMade q
-  one_rule_made d h q i = elim (in_cases q (met_in_rule d) [] i) [
-    | inl j ↦ alternatives_made d.alternatives h q j
-    | inr j ↦ absurd j
-  ]
+  only_scoped : (d r : RuleData) → AreScoped d.alternatives → In r (d ∷ []) → AreScoped r.alternatives
+  only_scoped d r h (inl e) = subst (λ (x : RuleData). AreScoped x.alternatives) (sym e) h
+  only_scoped d r h (inr i) = absurd i
+
+  pub scoped_in : (xs : List AlternativeData) → AreScoped xs → (a : AlternativeData) → In a xs → are_scoped rs [] a.parts ≡ true
+  scoped_in [] h a i = absurd i
+  scoped_in (x ∷ xs) h a (inl e) = subst (λ (y : AlternativeData). are_scoped rs [] y.parts ≡ true) (sym e) h.0
+  scoped_in (x ∷ xs) h a (inr i) = scoped_in xs h.1 a i
 
   -- ---- arguments put in
 
@@ -190,25 +193,28 @@ module _ (value : ConditionValue) (ds : List RuleData) (S : IsScoped (map flat_o
       each_scoped d.alternatives (λ a j.
       subst (λ (args : List NonterminalString). are_scoped (map flat_of ds) args a.parts ≡ true) (no_arguments d.args l.1) (written_scoped d l.0 a j)))
 
-  -- what the rule of a symbol meets
-  pub next_made : (p : Part) → IsMade (map flat_of ds) p → (q : Part) → In q (met_by_made value (macros_in ds) p) → IsMade (map flat_of ds) q
-  next_made (at s (written.group ps)) h q i = one_rule_made (map flat_of ds) (group_rule s ps) (h.0, tt) q i
-  next_made (at s (written.call n ps)) h q i =
+  -- the rule of a symbol has no arguments in it, and its names have a meaning
+  pub made_rule_scoped : (p : Part) → IsMade (map flat_of ds) p → (r : RuleData) → In r (made_rules value (macros_in ds) p) → AreScoped (map flat_of ds) r.alternatives
+  made_rule_scoped (at s (written.group ps)) h r i = only_scoped (map flat_of ds) (group_rule s ps) r (h.0, tt) i
+  made_rule_scoped (at s (written.call n ps)) h r i =
       let both = and_parts (is_macro_for ps (rule_named (map flat_of ds) n)) (are_scoped (map flat_of ds) [] ps) h.0 in
       let c = called_of ds n ps both.0 in
-      let j : In q (flat_map met_in_rule (instance_of value s (Some c.definition) ps)) =
-      subst (λ (o : Option RuleData). In q (flat_map met_in_rule (instance_of value s o ps))) c.named i in
-      one_rule_made (map flat_of ds) (instance_rule value s c.definition ps)
-      (instances_scoped (map flat_of ds) value s c.definition ps c.fitting both.1 c.definition.alternatives (written_scoped c.definition c.listed)) q j
-  next_made (at s (written.repeated Star p)) h q i = one_rule_made (map flat_of ds) (star_rule s p) (refl, (rw h.0 refl, tt)) q i
-  next_made (at s (written.repeated Plus p)) h q i = one_rule_made (map flat_of ds) (plus_rule s p) (rw h.0 refl, (rw h.0 refl, tt)) q i
-  next_made (at s (written.repeated Question p)) h q i = one_rule_made (map flat_of ds) (question_rule s p) (rw h.0 refl, (refl, tt)) q i
-  next_made (at s written.lookahead) h q i = one_rule_made (map flat_of ds) (location_rule s written.lookahead lookahead_code) (refl, tt) q i
-  next_made (at s written.lookbehind) h q i = one_rule_made (map flat_of ds) (location_rule s written.lookbehind lookbehind_code) (refl, tt) q i
-  next_made (at s (written.ambiguous_id a)) h q i = absurd i
-  next_made (at s (written.terminal t)) h q i = absurd i
-  next_made (at s (written.nonterminal n)) h q i = absurd i
-  next_made (at s (written.chosen p)) h q i = absurd i
-  next_made (at s (written.named n p)) h q i = absurd i
-  next_made (at s (written.tupled ns p)) h q i = absurd i
-  next_made (at s written.error_terminal) h q i = absurd i
+      only_scoped (map flat_of ds) (instance_rule value s c.definition ps) r
+      (instances_scoped (map flat_of ds) value s c.definition ps c.fitting both.1 c.definition.alternatives (written_scoped c.definition c.listed))
+      (subst (λ (o : Option RuleData). In r (instance_of value s o ps)) c.named i)
+  made_rule_scoped (at s (written.repeated Star p)) h r i = only_scoped (map flat_of ds) (star_rule s p) r (refl, (rw h.0 refl, tt)) i
+  made_rule_scoped (at s (written.repeated Plus p)) h r i = only_scoped (map flat_of ds) (plus_rule s p) r (rw h.0 refl, (rw h.0 refl, tt)) i
+  made_rule_scoped (at s (written.repeated Question p)) h r i = only_scoped (map flat_of ds) (question_rule s p) r (rw h.0 refl, (refl, tt)) i
+  made_rule_scoped (at s written.lookahead) h r i = only_scoped (map flat_of ds) (location_rule s written.lookahead lookahead_code) r (refl, tt) i
+  made_rule_scoped (at s written.lookbehind) h r i = only_scoped (map flat_of ds) (location_rule s written.lookbehind lookbehind_code) r (refl, tt) i
+  made_rule_scoped (at s (written.ambiguous_id a)) h r i = absurd i
+  made_rule_scoped (at s (written.terminal t)) h r i = absurd i
+  made_rule_scoped (at s (written.nonterminal n)) h r i = absurd i
+  made_rule_scoped (at s (written.chosen p)) h r i = absurd i
+  made_rule_scoped (at s (written.named n p)) h r i = absurd i
+  made_rule_scoped (at s (written.tupled ns p)) h r i = absurd i
+  made_rule_scoped (at s written.error_terminal) h r i = absurd i
+
+  -- what the rule of a symbol meets
+  pub next_made : (p : Part) → IsMade (map flat_of ds) p → (q : Part) → In q (met_by_made value (macros_in ds) p) → IsMade (map flat_of ds) q
+  next_made p h = rules_made (map flat_of ds) (made_rules value (macros_in ds) p) (made_rule_scoped p h)

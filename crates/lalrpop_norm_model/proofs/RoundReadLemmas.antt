@@ -4,7 +4,7 @@ use Rattle.std.specs.Prelude.{flat_map, if◌then◌else◌}
 use Rattle.std.proofs.lemmas.List.{map-append}
 use mathlib.Core.List.{reverse-cons}
 use Rattle.lalrpop_norm_tree.specs.Symbols.{Part}
-use Rattle.lalrpop_norm_tree.specs.Items.{GrammarData}
+use Rattle.lalrpop_norm_tree.specs.Items.{AlternativeData, RuleData, GrammarData}
 use Rattle.lalrpop_norm_theory.specs.Symbols.{ClosedSymbol}
 use Rattle.lalrpop_norm_theory.specs.Rounds.{In, is_in, fresh_of, Round, rounds, all_rules_made}
 use Rattle.lalrpop_norm_theory.specs.Same.{same_symbol}
@@ -13,12 +13,13 @@ use Rattle.lalrpop_norm_theory.proofs.RoundsLemmas.{in_cases, of_reverse, of_fla
 use Rattle.lalrpop_norm_theory.proofs.ViewedLemmas.{same_view, fresh_viewed}
 use Rattle.lalrpop_norm_model.specs.WrittenRules.{WrittenRule, flat_rules}
 use Rattle.lalrpop_norm_model.specs.Grammars.{ConditionValue, meaning, references}
-use Rattle.lalrpop_norm_model.specs.Scoped.{IsScoped}
+use Rattle.lalrpop_norm_model.specs.Scoped.{are_scoped, IsScoped}
+use Rattle.lalrpop_norm_model.specs.MadeRules.{made_rules}
 use Rattle.lalrpop_norm_model.specs.PlainRules.{met_in_rule, met_by_made, all_rules, rules_without_arguments, macros_of, expansion_round, made_symbols}
 use Rattle.lalrpop_norm_model.specs.PlainTables.{IsSettled, closed}
 use Rattle.lalrpop_norm_model.specs.Laws.{RoundsAreRead, MadeSymbolsAreScoped}
 use Rattle.lalrpop_norm_model.proofs.MadeReadLemmas.{flat_of, flat_rules_resolved}
-use Rattle.lalrpop_norm_model.proofs.MadeScopeLemmas.{IsMade, start_made, next_made}
+use Rattle.lalrpop_norm_model.proofs.MadeScopeLemmas.{IsMade, start_made, made_rule_scoped, next_made, scoped_in}
 use Rattle.lalrpop_norm_model.proofs.MetReadLemmas.{met_is_read}
 
 -- what is new is one of what was met
@@ -125,6 +126,14 @@ module _ (value : ConditionValue) (g : GrammarData) (S : IsSettled g) where
   made_scoped n p i =
       made_within closed same_symbol (met_by_made value (macros_of g)) meets_read (IsMade (flat_rules g)) agree within
       (flat_map met_in_rule (rules_without_arguments g)) begins n p i
+
+  -- and the names in the alternatives of its rule have a meaning too
+  pub made_rules_scoped : (n : ℕ) (p : Part) → In p (made_symbols value g n) → (r : RuleData) → In r (made_rules value (macros_of g) p) →
+      (a : AlternativeData) → In a r.alternatives → are_scoped (flat_rules g) [] a.parts ≡ true
+  made_rules_scoped n p i r j a k =
+      subst (λ (rs : List WrittenRule). are_scoped rs [] a.parts ≡ true) (sym same_rules)
+      (scoped_in (map flat_of (all_rules g)) r.alternatives
+      (made_rule_scoped value (all_rules g) (subst IsScoped same_rules S.scoped) p (subst (λ (rs : List WrittenRule). IsMade rs p) same_rules (made_scoped n p i)) r j) a k)
 
 pub rounds_are_read : RoundsAreRead
 rounds_are_read value g S n = (
