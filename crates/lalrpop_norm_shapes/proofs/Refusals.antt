@@ -8,7 +8,7 @@ use Rattle.serde_json.specs.View.{view, items_view, items_of}
 use Rattle.serde_json.specs.declared.value.Value.{Value}
 use Rattle.lalrpop_norm_shapes.specs.Weight.{weight, items_weight}
 use Rattle.lalrpop_norm_shapes.specs.Parts.{is_null, is_pair, is_variant, is_no_members, starts_with, are_keys, has_fields}
-use Rattle.lalrpop_norm_shapes.specs.Shapes.{ShapeName, natural, absent, Place, Held, Arrays, shape, struct_of, each, row, place, fits, fits_items, fits_members, struct, variants, arrayed, optional, Shape, is}
+use Rattle.lalrpop_norm_shapes.specs.Shapes.{ShapeName, natural, Place, Held, Arrays, shape, struct_of, each, row, place, fits, fits_items, fits_members, struct, variants, arrayed, optional, Shape, is}
 
 pub not_pair : (vs : List Value) → length vs ≢ 2 → is_pair (array (items_view vs)) ≡ false
 not_pair [] other = refl
@@ -29,14 +29,6 @@ not_empty (a ∷ vs) other = refl
 pub empty_of : (vs : List Value) → length vs ≡ 0 → items_view vs ≡ no_items
 empty_of [] none = refl
 empty_of (a ∷ vs) none = absurd (omega arith)
-
-pub not_absent : (d : Data) → is_null d ≡ false → is absent d ≡ false
-not_absent null there = cc
-not_absent (boolean b) there = refl
-not_absent (number n) there = refl
-not_absent (string s) there = refl
-not_absent (array ds) there = refl
-not_absent (object ms) there = refl
 
 pub natural_of : (d : Data) (n : ℕ) → option_and_then as_u64 (as_number d) ≡ Some n → d ≡ number (unsigned n)
 natural_of (number (unsigned m)) n e = cc

@@ -14,7 +14,7 @@ mod value;
 use serde_json::Value;
 use std::alloc::Global;
 pub use value::{
-    Case, TreeError, absent, case_of, eight_fields, five_fields, four_fields, items, natural,
+    Case, TreeError, case_of, eight_fields, five_fields, four_fields, items, natural,
     nothing, only_field, pair, present, seven_fields, text, three_fields, truth, two_fields,
 };
 

@@ -3,7 +3,7 @@ ghost use Rattle.std.specs.Prelude.{◌≡◌, [], ◌∷◌, Some, None, IfOk, 
 ghost use Rattle.serde_json.specs.Data.{null, boolean, number, unsigned, string, array, object, item, no_items, member, no_members};
 ghost use Rattle.serde_json.specs.Find.{as_object, as_array};
 ghost use Rattle.serde_json.specs.View.{view, items_view, members_view};
-ghost use Rattle.lalrpop_norm_shapes.specs.Shapes.{is, text, truth, natural, empty, absent};
+ghost use Rattle.lalrpop_norm_shapes.specs.Shapes.{is, text, truth, natural, empty};
 ghost use Rattle.lalrpop_norm_shapes.specs.Parts.{starts_with, is_no_members, are_keys, has_fields, is_variant, is_pair, is_null, case_form};
 
 use serde_json::Value;
@@ -526,17 +526,5 @@ pub fn present(value: &Value) -> Option<&Value>
         Value::Null => None,
         Value::Bool(_) | Value::String(_) | Value::Number(_) | Value::Array(_) | Value::Object(_) =>
             Some(value),
-    }
-}
-
-/// A null.
-#[tactic(auto, using(crate::proofs::Refusals::not_absent))]
-pub fn absent(value: &Value) -> Result<(), TreeError>
-    ensures ok { IfOk result (λ _. view value.now ≡ null) }
-    ensures err { IsErrOf result TreeError.NotATree → is absent (view value.now) ≡ false }
-{
-    match present(value) {
-        None => Ok(()),
-        Some(_) => Err(TreeError::NotATree),
     }
 }

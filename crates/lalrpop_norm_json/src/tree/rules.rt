@@ -4,15 +4,15 @@ ghost use Rattle.serde_json.specs.View.{view};
 ghost use Rattle.lalrpop_norm_tree.specs.Items.{alternative_view, rule_view, visibility_view};
 ghost use Rattle.lalrpop_norm_shapes.specs.Shapes as shape;
 ghost use Rattle.lalrpop_norm_shapes.specs.Shapes.{is};
-ghost use Rattle.lalrpop_norm_json.specs.ItemForms.{alternative_form, rule_form, visibility_form};
+ghost use Rattle.lalrpop_norm_json.specs.ItemForms.{alternative_form, condition_op_form, rule_form, visibility_form};
 
 use super::attributes::attributes;
 use super::names::{atom, path, span, string};
 use super::parts::{FromValue, list, maybe};
 use super::symbols::group;
-use lalrpop_norm_shapes::{Case, TreeError, absent, case_of, five_fields, seven_fields};
+use lalrpop_norm_shapes::{Case, TreeError, case_of, five_fields, four_fields, seven_fields};
 use lalrpop_norm_tree::grammar::parse_tree::{
-    ActionKind, Alternative, NonterminalData, NonterminalString, Visibility,
+    ActionKind, Alternative, Condition, ConditionOp, NonterminalData, NonterminalString, Visibility,
 };
 use serde_json::Value;
 use std::alloc::Global;
@@ -43,7 +43,42 @@ impl FromValue for ActionKind {
     }
 }
 
-/// No condition is read yet.
+#[tactic(auto, using(lalrpop_norm_shapes::proofs::Refusals::refusals))]
+fn condition_op(value: &Value) -> Result<ConditionOp, TreeError>
+    ensures ok { IfOk result (λ o. view value.now ≡ condition_op_form o) }
+    ensures err { IsErrOf result TreeError.NotATree → is shape.condition_operator (view value.now) ≡ false }
+{
+    match case_of(value)? {
+        Case::Bare(variant) => match variant {
+            "Equals" => Ok(ConditionOp::Equals),
+            "NotEquals" => Ok(ConditionOp::NotEquals),
+            "Match" => Ok(ConditionOp::Match),
+            "NotMatch" => Ok(ConditionOp::NotMatch),
+            _ => Err(TreeError::NotATree),
+        },
+        Case::Of(_, _) => Err(TreeError::NotATree),
+    }
+}
+
+impl FromValue for Condition {
+    ghost use Rattle.lalrpop_norm_json.specs.ItemForms.{condition_form};
+    ghost use Rattle.lalrpop_norm_shapes.specs.Shapes as shape;
+
+    ghost form = { condition_form };
+
+    ghost named = { shape.condition };
+
+    #[tactic(auto, using(lalrpop_norm_shapes::proofs::Refusals::refusals))]
+    fn from_value(alloc: Global, value: &Value) -> Result<Condition, TreeError> {
+        let (lhs, op, rhs, at) = four_fields(value, "lhs", "op", "rhs", "span")?;
+        let span = span(at)?;
+        let lhs = NonterminalString(atom(alloc, lhs)?);
+        let rhs = atom(alloc, rhs)?;
+        let op = condition_op(op)?;
+        Ok(Condition { span, lhs, rhs, op })
+    }
+}
+
 #[tactic(auto, using(lalrpop_norm_shapes::proofs::Refusals::refusals))]
 fn alternative(alloc: Global, value: &Value) -> Result<Alternative, TreeError>
     ensures ok { IfOk result (λ a. view value.now ≡ alternative_form (alternative_view a)) }
@@ -57,7 +92,7 @@ fn alternative(alloc: Global, value: &Value) -> Result<Alternative, TreeError>
         "expr",
         "span",
     )?;
-    absent(condition)?;
+    let condition = maybe(alloc, condition)?;
     let span = span(at)?;
     let action = maybe(alloc, code)?;
     let expr = group(alloc, expr)?;
@@ -65,7 +100,7 @@ fn alternative(alloc: Global, value: &Value) -> Result<Alternative, TreeError>
     Ok(Alternative {
         span,
         expr,
-        condition: None,
+        condition,
         action,
         attributes,
     })

@@ -11,7 +11,7 @@ ghost use Rattle.lalrpop_norm_json.specs.SymbolForms.{op_form, name_form, kind_f
 use super::names::{atom, span, terminal};
 use lalrpop_norm_shapes::{Case, TreeError, case_of, items, only_field, pair, truth, two_fields};
 use lalrpop_norm_tree::grammar::parse_tree::{
-    ExprSymbol, Name, NonterminalString, RepeatOp, RepeatSymbol, Symbol, SymbolKind,
+    ExprSymbol, MacroSymbol, Name, NonterminalString, RepeatOp, RepeatSymbol, Symbol, SymbolKind,
 };
 use serde_json::Value;
 use std::alloc::Global;
@@ -50,12 +50,17 @@ pub(super) fn kind(alloc: Global, value: &Value) -> Result<SymbolKind, TreeError
     ensures err { IsErrOf result TreeError.NotATree → is shape.kind (view value.now) ≡ false }
 {
     match case_of(value)? {
-        Case::Bare(_) => Err(TreeError::NotATree),
+        Case::Bare(variant) => match variant {
+            "Lookahead" => Ok(SymbolKind::Lookahead),
+            "Lookbehind" => Ok(SymbolKind::Lookbehind),
+            _ => Err(TreeError::NotATree),
+        },
         Case::Of(variant, held) => match variant {
             "Expr" => Ok(SymbolKind::Expr(group(alloc, held)?)),
             "AmbiguousId" => Ok(SymbolKind::AmbiguousId(atom(alloc, held)?)),
             "Terminal" => Ok(SymbolKind::Terminal(terminal(alloc, held)?)),
             "Nonterminal" => Ok(SymbolKind::Nonterminal(NonterminalString(atom(alloc, held)?))),
+            "Macro" => called(alloc, held),
             "Repeat" => repeated(alloc, held),
             "Choose" => chosen(alloc, held),
             "Name" => named(alloc, held),
@@ -74,6 +79,19 @@ fn symbol(alloc: Global, value: &Value) -> Result<Symbol, TreeError>
     let span = span(at)?;
     let kind = kind(alloc, of)?;
     Ok(Symbol { span, kind })
+}
+
+/// The call whose macro and arguments these are.
+#[cycle(symbol)]
+#[tactic(auto, using(lalrpop_norm_shapes::proofs::Refusals::refusals))]
+fn called(alloc: Global, value: &Value) -> Result<SymbolKind, TreeError>
+    ensures ok { IfOk result (λ k. variant (codes "Macro") (view value.now) ≡ kind_form (kind_view k)) }
+    ensures err { IsErrOf result TreeError.NotATree → is shape.kind (variant (codes "Macro") (view value.now)) ≡ false }
+{
+    let (args, name) = two_fields(value, "args", "name")?;
+    let name = NonterminalString(atom(alloc, name)?);
+    let args = symbols(alloc, args)?;
+    Ok(SymbolKind::Macro(MacroSymbol { name, args }))
 }
 
 /// The repeat whose operator and symbol these are.

@@ -11,6 +11,9 @@ decreases-kind l = weight (view l.value.now) + weight (view l.value.now)
 abbrev pub decreases-symbol : goal.decreases-symbol
 decreases-symbol l = weight (view l.value.now) + weight (view l.value.now)
 
+abbrev pub decreases-called : goal.decreases-called
+decreases-called l = weight (view l.value.now) + weight (view l.value.now)
+
 abbrev pub decreases-repeated : goal.decreases-repeated
 decreases-repeated l = weight (view l.value.now) + weight (view l.value.now)
 
