@@ -6,7 +6,7 @@ use Rattle.std.proofs.lemmas.List.{drop_more, take-append-drop, drop-drop, rever
 use Rattle.std.proofs.lemmas.Grind.{flat_map-append}
 use mathlib.Core.List.{reverse-cons}
 use Rattle.lalrpop_norm_tree.specs.Symbols.{Part}
-use Rattle.lalrpop_norm_tree.specs.Items.{ItemData, rule_item}
+use Rattle.lalrpop_norm_tree.specs.Items.{RuleData, ItemData, rule_item}
 use Rattle.lalrpop_norm_faults.specs.declared.failure.NormFailure.{NormFailure}
 use Rattle.lalrpop_norm_faults.specs.declared.kind.FaultKind.TheVariants.{RecursionCap}
 use Rattle.lalrpop_norm_faults.specs.Faults.{IsFirst, Refuses}
@@ -41,36 +41,38 @@ module _ (ss : List Met) (i j : ℕ) (s : Met) (n : j ≡ i + 1) (l : i < length
   pub back_one : reverse (drop i vs) ≡ reverse (drop j vs) ++ met_view s ∷ []
   back_one = ap reverse one_more ∙ reverse-cons (met_view s) (drop j vs)
 
-  pub quiet_back : flat_map unmade (reverse (drop j vs)) ≡ [] → unmade (met_view s) ≡ [] → flat_map unmade (reverse (drop i vs)) ≡ []
-  quiet_back before here =
-      ap (flat_map unmade) back_one
-      ∙ flat_map-append unmade (reverse (drop j vs)) (met_view s ∷ [])
-      ∙ ap (λ fs. fs ++ (unmade (met_view s) ++ [])) before
-      ∙ ap (λ fs. fs ++ []) here
+  -- where these are the macros
+  module _ (macros : List RuleData) where
+    pub quiet_back : flat_map (unmade macros) (reverse (drop j vs)) ≡ [] → unmade macros (met_view s) ≡ [] → flat_map (unmade macros) (reverse (drop i vs)) ≡ []
+    quiet_back before here =
+        ap (flat_map (unmade macros)) back_one
+        ∙ flat_map-append (unmade macros) (reverse (drop j vs)) (met_view s ∷ [])
+        ∙ ap (λ fs. fs ++ (unmade macros (met_view s) ++ [])) before
+        ∙ ap (λ fs. fs ++ []) here
 
-  pub made_back : (old new : List ItemData) → old ≡ map rule_item (flat_map rules_to_read (reverse (drop j vs))) →
-      new ≡ old ++ map rule_item (rules_to_read (met_view s)) → new ≡ map rule_item (flat_map rules_to_read (reverse (drop i vs)))
-  made_back old new before here =
-      here
-      ∙ ap (λ is. is ++ map rule_item (rules_to_read (met_view s))) before
-      ∙ sym (map-append rule_item (flat_map rules_to_read (reverse (drop j vs))) (rules_to_read (met_view s)))
-      ∙ ap (map rule_item)
-      (ap (λ rs. flat_map rules_to_read (reverse (drop j vs)) ++ rs) (sym (append-nil (rules_to_read (met_view s))))
-      ∙ sym (ap (flat_map rules_to_read) back_one ∙ flat_map-append rules_to_read (reverse (drop j vs)) (met_view s ∷ [])))
+    pub made_back : (old new : List ItemData) → old ≡ map rule_item (flat_map (rules_to_read macros) (reverse (drop j vs))) →
+        new ≡ old ++ map rule_item (rules_to_read macros (met_view s)) → new ≡ map rule_item (flat_map (rules_to_read macros) (reverse (drop i vs)))
+    made_back old new before here =
+        here
+        ∙ ap (λ is. is ++ map rule_item (rules_to_read macros (met_view s))) before
+        ∙ sym (map-append rule_item (flat_map (rules_to_read macros) (reverse (drop j vs))) (rules_to_read macros (met_view s)))
+        ∙ ap (map rule_item)
+        (ap (λ rs. flat_map (rules_to_read macros) (reverse (drop j vs)) ++ rs) (sym (append-nil (rules_to_read macros (met_view s))))
+        ∙ sym (ap (flat_map (rules_to_read macros)) back_one ∙ flat_map-append (rules_to_read macros) (reverse (drop j vs)) (met_view s ∷ [])))
 
-  pub exit_back : {T : Type 0} (from : ℕ) (r : Result T NormFailure) (f : NormFailure) → from ≤ i → flat_map unmade (reverse (drop j vs)) ≡ [] →
-      IsErrAnd r (λ x. x ≡ f) → IsFirst (unmade (met_view s)) f → Refuses r (flat_map unmade (reverse (drop from vs)))
-  exit_back from r f low before is first =
-      let front : List Part = reverse (take (i - from) (drop from vs)) in
-      let all : flat_map unmade (reverse (drop from vs)) ≡ unmade (met_view s) ++ ([] ++ flat_map unmade front) =
-      ap (flat_map unmade)
-      (ap reverse (parted vs from i low)
-      ∙ reverse-append (take (i - from) (drop from vs)) (drop i vs)
-      ∙ ap (λ xs. xs ++ front) back_one
-      ∙ append_assoc (reverse (drop j vs)) (met_view s ∷ []) front)
-      ∙ flat_map-append unmade (reverse (drop j vs)) (met_view s ∷ front)
-      ∙ ap (λ fs. fs ++ (unmade (met_view s) ++ flat_map unmade front)) before in
-      exit_at r f (unmade (met_view s)) ([] ++ flat_map unmade front) _ is first all
+    pub exit_back : {T : Type 0} (from : ℕ) (r : Result T NormFailure) (f : NormFailure) → from ≤ i → flat_map (unmade macros) (reverse (drop j vs)) ≡ [] →
+        IsErrAnd r (λ x. x ≡ f) → IsFirst (unmade macros (met_view s)) f → Refuses r (flat_map (unmade macros) (reverse (drop from vs)))
+    exit_back from r f low before is first =
+        let front : List Part = reverse (take (i - from) (drop from vs)) in
+        let all : flat_map (unmade macros) (reverse (drop from vs)) ≡ unmade macros (met_view s) ++ ([] ++ flat_map (unmade macros) front) =
+        ap (flat_map (unmade macros))
+        (ap reverse (parted vs from i low)
+        ∙ reverse-append (take (i - from) (drop from vs)) (drop i vs)
+        ∙ ap (λ xs. xs ++ front) back_one
+        ∙ append_assoc (reverse (drop j vs)) (met_view s ∷ []) front)
+        ∙ flat_map-append (unmade macros) (reverse (drop j vs)) (met_view s ∷ front)
+        ∙ ap (λ fs. fs ++ (unmade macros (met_view s) ++ flat_map (unmade macros) front)) before in
+        exit_at r f (unmade macros (met_view s)) ([] ++ flat_map (unmade macros) front) _ is first all
 
 last_past_cap : (xs : List Part) (x : Part) → past_cap (xs ++ x ∷ []) ≡ (RecursionCap, span_of x) ∷ []
 last_past_cap [] x = refl

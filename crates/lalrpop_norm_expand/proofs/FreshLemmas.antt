@@ -11,9 +11,8 @@ use Rattle.lalrpop_norm_theory.specs.Same.{same_symbol}
 use Rattle.lalrpop_norm_theory.specs.Rounds.{is_in, fresh_of}
 use Rattle.lalrpop_norm_theory.proofs.SameLemmas.{symbol_test}
 use Rattle.lalrpop_norm_theory.proofs.RoundsLemmas.{fresh_append}
-use Rattle.lalrpop_norm_model.specs.Reading.{read_part}
 use Rattle.lalrpop_norm_model.specs.ClosedTexts.{closed_text}
-use Rattle.lalrpop_norm_model.specs.MadeRules.{flat_reader, span_of}
+use Rattle.lalrpop_norm_model.specs.MadeRules.{span_of}
 use Rattle.lalrpop_norm_model.specs.PlainRules.{same_apart_from_spans}
 use Rattle.lalrpop_norm_model.proofs.TextLemmas.{part_displayed}
 use Rattle.lalrpop_norm_expand.specs.Expansion.{is_declared_name, has_other, shared_names}

@@ -15,3 +15,6 @@ mod NameLemmas
 mod RoundLemmas
 mod SymbolLemmas
 mod SourceLemmas
+mod InstanceLemmas
+mod MacroLemmas
+mod ConditionLemmas

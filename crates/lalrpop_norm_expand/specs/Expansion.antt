@@ -1,20 +1,22 @@
 -- The faults of an expansion, round by round: what `expand_macros` refuses.
 use Rattle.std.specs.Prelude.{ℕ, zero, suc, Bool, not, ◌&&◌, ◌||◌, List, [], ◌∷◌, ◌++◌, flat_map, bytes_eq}
-use Rattle.std.specs.Prelude.{map}
 use Rattle.std.specs.List.{list_any}
 use Rattle.lalrpop_norm_tree.specs.Symbols.{Part, group, ambiguous_id, terminal, nonterminal, call, repeated, chosen, named}
 use Rattle.lalrpop_norm_tree.specs.Symbols.{tupled, lookahead, lookbehind, error_terminal, at}
 use Rattle.lalrpop_norm_tree.specs.SymbolTexts.{part_text}
 use Rattle.lalrpop_norm_tree.specs.Items.{RuleData, GrammarData}
-use Rattle.lalrpop_norm_faults.specs.declared.kind.FaultKind.TheVariants.{NotYet, NamedInGroup, RecursionCap, SharedName}
+use Rattle.lalrpop_norm_faults.specs.declared.kind.FaultKind.TheVariants.{NamedInGroup, RecursionCap, SharedName}
 use Rattle.lalrpop_norm_faults.specs.Faults.{Fault, fault_if}
 use Rattle.lalrpop_norm_theory.specs.Rounds.{rules_made}
 use Rattle.lalrpop_norm_model.specs.Grammars.{ConditionValue}
-use Rattle.lalrpop_norm_model.specs.MadeRules.{some_name_value}
+use Rattle.lalrpop_norm_model.specs.MadeRules.{macro_named, some_name_value}
 use Rattle.lalrpop_norm_model.specs.PlainRules.{met_in_rule, met_by_made, rules_without_arguments, macros_of}
 use Rattle.lalrpop_norm_model.specs.PlainRules.{same_apart_from_spans, expansion_round}
 use Rattle.lalrpop_norm_model.specs.Expanded.{rule_names}
+use Rattle.lalrpop_norm_model.specs.Scopes.{resolved_grammar}
+use Rattle.lalrpop_norm_resolve.specs.NameFaults.{resolve_faults}
 use Rattle.lalrpop_norm_model.specs.MadeRules.{span_of}
+use Rattle.lalrpop_norm_expand.specs.Conditions.{call_faults}
 
 -- ---- F37: shared names
 
@@ -45,26 +47,26 @@ met_before value g (suc k) = met_before value g k ++ meetings value g k
 abbrev pub shared_in : ConditionValue → GrammarData → ℕ → List Fault
 shared_in value g k = shared_names (rule_names g) (met_before value g k) (meetings value g k)
 
--- ---- F35: no rule is made
+-- ---- F33, F34, F35: no rule is made
 
--- a group with a named or tuple symbol in it; and in this stage of the library a macro call, with F0
-abbrev pub unmade : Part → List Fault
-unmade (at s (group ps)) = fault_if (some_name_value ps) (NamedInGroup, s)
-unmade (at s (call n ps)) = (NotYet, s) ∷ []
-unmade (at s (repeated op p)) = []
-unmade (at s (ambiguous_id a)) = []
-unmade (at s (terminal t)) = []
-unmade (at s (nonterminal n)) = []
-unmade (at s (chosen p)) = []
-unmade (at s (named n p)) = []
-unmade (at s (tupled ns p)) = []
-unmade (at s lookahead) = []
-unmade (at s lookbehind) = []
-unmade (at s error_terminal) = []
+-- a group with a named or tuple symbol in it; a call of a macro with a condition that has no value
+abbrev pub unmade : List RuleData → Part → List Fault
+unmade macros (at s (group ps)) = fault_if (some_name_value ps) (NamedInGroup, s)
+unmade macros (at s (call n ps)) = call_faults (macro_named macros n) ps
+unmade macros (at s (repeated op p)) = []
+unmade macros (at s (ambiguous_id a)) = []
+unmade macros (at s (terminal t)) = []
+unmade macros (at s (nonterminal n)) = []
+unmade macros (at s (chosen p)) = []
+unmade macros (at s (named n p)) = []
+unmade macros (at s (tupled ns p)) = []
+unmade macros (at s lookahead) = []
+unmade macros (at s lookbehind) = []
+unmade macros (at s error_terminal) = []
 
 -- of the new symbols of round k + 1, the one met last first
 abbrev pub unmade_in : ConditionValue → GrammarData → ℕ → List Fault
-unmade_in value g k = flat_map unmade (rules_made (expansion_round value g k))
+unmade_in value g k = flat_map (unmade (macros_of g)) (rules_made (expansion_round value g k))
 
 -- ---- F36: the cap
 
@@ -86,6 +88,6 @@ faults_from value g k (suc left) = shared_in value g k ++ (unmade_in value g k +
 abbrev pub expansion_faults : ConditionValue → GrammarData → ℕ → List Fault
 expansion_faults value g limit = faults_from value g 0 limit
 
--- In this stage of the library no macro is taken: F0 at each.
-abbrev pub later_macro_faults : GrammarData → List Fault
-later_macro_faults g = map (λ (r : RuleData). (NotYet, r.span)) (macros_of g)
+-- what is wrong with the names of a grammar, then with the expansion of the resolved one
+abbrev pub macro_faults : ConditionValue → GrammarData → ℕ → List Fault
+macro_faults value g limit = resolve_faults g ++ expansion_faults value (resolved_grammar g) limit

@@ -4,3 +4,5 @@ pub mod Expansion
 pub mod Laws
 pub mod Making
 pub mod Meeting
+pub mod Conditions
+pub mod Macros

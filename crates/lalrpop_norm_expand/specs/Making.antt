@@ -1,42 +1,41 @@
 -- What the code makes of the symbols that were met: its own words, of which no public clause speaks.
-use Rattle.std.specs.Prelude.{false, ℕ, List, [], ◌∷◌, codes, not}
+use Rattle.std.specs.Prelude.{ℕ, List, [], ◌∷◌, codes, if◌then◌else◌}
 use Rattle.std.specs.BTreeSet.{insert_key}
 use Rattle.std.specs.Ordering.{nat_cmp}
 use Rattle.std.specs.Cmp.Lexicographic.{slice_cmp}
-use Rattle.lalrpop_norm_tree.specs.Symbols.{Kind, Part, at, group, ambiguous_id, terminal, nonterminal, call, repeated, chosen}
+use Rattle.lalrpop_norm_parts.specs.declared.names.NonterminalString.{NonterminalString}
+use Rattle.lalrpop_norm_parts.specs.declared.names.Span.{Span}
+use Rattle.lalrpop_norm_tree.specs.Symbols.{Kind, Part, Parts, at, group, ambiguous_id, terminal, nonterminal, call, repeated, chosen}
 use Rattle.lalrpop_norm_tree.specs.Symbols.{named, tupled, lookahead, lookbehind, error_terminal}
 use Rattle.lalrpop_norm_tree.specs.Items.{AlternativeData, RuleData, ItemData, match_item, extern_item, intern_item, rule_item}
 use Rattle.lalrpop_norm_tree.specs.Items.{use_item}
 use Rattle.lalrpop_norm_tree.specs.Types.{TypeData}
-use Rattle.lalrpop_norm_faults.specs.declared.kind.FaultKind.TheVariants.{NotYet}
-use Rattle.lalrpop_norm_faults.specs.Faults.{Fault, fault_if}
-use Rattle.lalrpop_norm_model.specs.Grammars.{ConditionValue, is_nil}
-use Rattle.lalrpop_norm_model.specs.MadeRules.{kind_of, group_rule, made_rules}
+use Rattle.lalrpop_norm_conditions.specs.Conditions.{comparison}
+use Rattle.lalrpop_norm_model.specs.Grammars.{is_nil, is_true}
+use Rattle.lalrpop_norm_model.specs.MadeRules.{kind_of, flat_reader, argument_kind, group_rule, instance_alternative, made_rules}
+use Rattle.lalrpop_norm_model.specs.Reading.{read_all}
 use Rattle.lalrpop_norm_model.specs.PlainRules.{all_met, met_in_rule, replaced_rule}
-
--- where no macro is defined no condition is asked for
-abbrev pub no_condition : ConditionValue
-no_condition op text pattern = false
-
--- the rule of a symbol, where no macro is defined
-abbrev pub made : Part → List RuleData
-made p = made_rules no_condition [] p
 
 -- The rules of a symbol as the next round reads them. In the rule of a group the symbols are replaced already: each of them was
 -- met before the group was.
-abbrev pub rules_to_read : Part → List RuleData
-rules_to_read (at s (group ps)) = replaced_rule (group_rule s ps) ∷ []
-rules_to_read (at s (call n ps)) = made (at s (call n ps))
-rules_to_read (at s (repeated op p)) = made (at s (repeated op p))
-rules_to_read (at s lookahead) = made (at s lookahead)
-rules_to_read (at s lookbehind) = made (at s lookbehind)
-rules_to_read (at s (ambiguous_id a)) = []
-rules_to_read (at s (terminal t)) = []
-rules_to_read (at s (nonterminal n)) = []
-rules_to_read (at s (chosen p)) = []
-rules_to_read (at s (named n p)) = []
-rules_to_read (at s (tupled ns p)) = []
-rules_to_read (at s error_terminal) = []
+abbrev pub rules_to_read : List RuleData → Part → List RuleData
+rules_to_read macros (at s (group ps)) = replaced_rule (group_rule s ps) ∷ []
+rules_to_read macros (at s (call n ps)) = made_rules comparison macros (at s (call n ps))
+rules_to_read macros (at s (repeated op p)) = made_rules comparison macros (at s (repeated op p))
+rules_to_read macros (at s lookahead) = made_rules comparison macros (at s lookahead)
+rules_to_read macros (at s lookbehind) = made_rules comparison macros (at s lookbehind)
+rules_to_read macros (at s (ambiguous_id a)) = []
+rules_to_read macros (at s (terminal t)) = []
+rules_to_read macros (at s (nonterminal n)) = []
+rules_to_read macros (at s (chosen p)) = []
+rules_to_read macros (at s (named n p)) = []
+rules_to_read macros (at s (tupled ns p)) = []
+rules_to_read macros (at s error_terminal) = []
+
+-- an alternative of a macro in a call's rule, if its condition is true or absent
+abbrev pub kept_of : Span → List NonterminalString → Parts → AlternativeData → List AlternativeData
+kept_of s params args a =
+    if is_true comparison params (read_all flat_reader args) a.condition then instance_alternative s (argument_kind params args) a ∷ [] else []
 
 abbrev pub met_in_alternative : AlternativeData → List Part
 met_in_alternative a = all_met a.parts
@@ -56,13 +55,20 @@ met_in_item (extern_item t) = []
 met_in_item (intern_item t) = []
 met_in_item (use_item u) = []
 
--- an item that is a macro, with F0
-abbrev pub item_macros : ItemData → List Fault
-item_macros (rule_item r) = fault_if (not (is_nil r.args)) (NotYet, r.span)
-item_macros (match_item m) = []
-item_macros (extern_item t) = []
-item_macros (intern_item t) = []
-item_macros (use_item u) = []
+-- an item without macros, and the macro that it is
+abbrev pub without_macro : ItemData → List ItemData
+without_macro (rule_item r) = if is_nil r.args then rule_item r ∷ [] else []
+without_macro (match_item m) = match_item m ∷ []
+without_macro (extern_item t) = extern_item t ∷ []
+without_macro (intern_item t) = intern_item t ∷ []
+without_macro (use_item u) = use_item u ∷ []
+
+abbrev pub macro_in : ItemData → List RuleData
+macro_in (rule_item r) = if is_nil r.args then [] else r ∷ []
+macro_in (match_item m) = []
+macro_in (extern_item t) = []
+macro_in (intern_item t) = []
+macro_in (use_item u) = []
 
 -- the names that an item declares, and keys with names added one after another
 abbrev pub item_names : ItemData → List (List ℕ)

@@ -1,4 +1,4 @@
-//! Macros, groups and repeats of a grammar become rules. In this stage groups, repeats and lookarounds do.
+//! Macros, groups and repeats of a grammar become rules.
 #![tactic(auto)]
 
 ghost use Rattle.lalrpop_norm_expand.specs.Laws.{NamesStayDistinct};

@@ -1,24 +1,29 @@
-//! The rules of groups, repeats and lookarounds.
+//! The rules of groups, repeats, lookarounds and macro calls.
 ghost use Rattle.std.specs.Prelude.{◌≡◌, ◌++◌, ◌∷◌, [], IfOk, OnOk, None, Some, codes, map, option_map};
 ghost use Rattle.lalrpop_norm_parts.specs.Attributes.{attributes_view};
-ghost use Rattle.lalrpop_norm_tree.specs.Symbols.{part_and, at, group, repeated, kind_view, symbol_view, parts_view, expr_view};
+ghost use Rattle.lalrpop_norm_tree.specs.Symbols.{part_and, at, group, call, repeated, kind_view, symbol_view, parts_view, expr_view};
 ghost use Rattle.lalrpop_norm_tree.specs.Types.{type_view};
 ghost use Rattle.lalrpop_norm_parts.specs.Paths.{path_view};
 ghost use Rattle.lalrpop_norm_tree.specs.Items.{alternative_view, rule_view, item_view, rule_item, action_view};
 ghost use Rattle.lalrpop_norm_faults.specs.Faults.{Refuses};
-ghost use Rattle.lalrpop_norm_model.specs.MadeRules.{inline_at, coded, private_rule, only_part, type_of_kind, with_name, holding, star_rule, plus_rule, question_rule, repeat_rule, group_rule, location_rule, some_name_value, bare_or_tuple, bare_or_tuple_code, group_sources};
+ghost use Rattle.lalrpop_norm_model.specs.MadeRules.{inline_at, coded, private_rule, only_part, type_of_kind, with_name, holding, star_rule, plus_rule, question_rule, repeat_rule, group_rule, location_rule, macro_named, instance_of, bare_or_tuple, bare_or_tuple_code, group_sources};
+ghost use Rattle.lalrpop_norm_conditions.specs.Conditions.{comparison};
+ghost use Rattle.lalrpop_norm_expand.specs.Conditions.{call_faults};
 ghost use Rattle.lalrpop_norm_expand.specs.Expansion.{unmade};
+ghost use Rattle.lalrpop_norm_expand.specs.Macros.{macros_in, AreByName};
 ghost use Rattle.lalrpop_norm_model.specs.PlainRules.{replaced_alternative, replaced_rule};
 ghost use Rattle.lalrpop_norm_expand.specs.Making.{rules_to_read};
 ghost use Rattle.lalrpop_norm_expand.specs.Meeting.{met_view, IsNamed};
 
 use super::expander::Met;
+use super::instance::instance_rule;
+use super::macros::Macros;
 use super::replaced::{all_replaced, replaced_kind};
 use super::sources::group_values;
 use lalrpop_norm_faults::{FaultKind, NormResult, refusal};
 use lalrpop_norm_tree::grammar::parse_tree::{
-    ActionKind, Alternative, Atom, Attribute, AttributeArg, ExprSymbol, GrammarItem, Name,
-    NoMemory, NonterminalData, NonterminalString, Path, RepeatOp, RepeatSymbol, Span, Symbol,
+    ActionKind, Alternative, Atom, Attribute, AttributeArg, ExprSymbol, GrammarItem,
+    Name, NoMemory, NonterminalData, NonterminalString, Path, RepeatOp, RepeatSymbol, Span, Symbol,
     SymbolKind, TypeRef, Visibility,
 };
 use lalrpop_norm_util::norm_util::has_name_value;
@@ -100,7 +105,7 @@ fn holding(alloc: Global, path: Path, symbol: &Symbol) -> Result<TypeRef, NoMemo
 
 // ---- repeats
 
-fn repeat_of(alloc: Global, op: RepeatOp, symbol: Symbol) -> Result<SymbolKind, NoMemory>
+pub(super) fn repeat_of(alloc: Global, op: RepeatOp, symbol: Symbol) -> Result<SymbolKind, NoMemory>
     ensures { IfOk result (λ k. kind_view k ≡ repeated op (symbol_view symbol)) }
 {
     let repeat = Box::new(alloc, RepeatSymbol { op, symbol })?;
@@ -288,13 +293,45 @@ fn add(items: &mut Vec<GrammarItem>, rule: NonterminalData) -> Result<(), NoMemo
     Ok(())
 }
 
+/// Adds the rule of a macro call, if there is a macro of that name.
+fn add_instance(
+    alloc: Global,
+    macros: &Macros,
+    met: &Met,
+    name: &NonterminalString,
+    arguments: &[Symbol],
+    items: &mut Vec<GrammarItem>,
+) -> NormResult<()>
+    requires named { IsNamed met.now }
+    requires macros { AreByName macros.now }
+    requires kind { kind_view met.now.symbol.kind ≡ call name.now.0 (parts_view arguments.now) }
+    ensures refuses { Refuses result (call_faults (macro_named (macros_in macros.now) name.now.0) (parts_view arguments.now)) }
+    ensures adds { OnOk result (map item_view items.new.items ≡ map item_view items.old.items
+        ++ map rule_item (instance_of comparison met.now.symbol.span (macro_named (macros_in macros.now) name.now.0) (parts_view arguments.now))) }
+{
+    match macros.find(name) {
+        Some(definition) => {
+            add(items, instance_rule(alloc, met, definition, arguments)?)?;
+            Ok(())
+        }
+        None => Ok(()),
+    }
+}
+
 /// Adds the rule that a symbol is made into.
 ///
-/// Errors: F35 (`NamedInGroup`) at a group with a named or tuple symbol in it; F0 (`NotYet`) at a macro call; `Memory`.
-pub(super) fn add_rule(alloc: Global, met: &Met, items: &mut Vec<GrammarItem>) -> NormResult<()>
-    requires { IsNamed met.now }
-    ensures refuses { Refuses result (unmade (met_view met.now)) }
-    ensures adds { OnOk result (map item_view items.new.items ≡ map item_view items.old.items ++ map rule_item (rules_to_read (met_view met.now))) }
+/// Errors: F35 (`NamedInGroup`) at a group with a named or tuple symbol in it; at a condition of a macro that is called F33
+/// (`ConditionArgument`) or F34 (`ConditionPattern`); `Memory`.
+pub(super) fn add_rule(
+    alloc: Global,
+    macros: &Macros,
+    met: &Met,
+    items: &mut Vec<GrammarItem>,
+) -> NormResult<()>
+    requires named { IsNamed met.now }
+    requires macros { AreByName macros.now }
+    ensures refuses { Refuses result (unmade (macros_in macros.now) (met_view met.now)) }
+    ensures adds { OnOk result (map item_view items.new.items ≡ map item_view items.old.items ++ map rule_item (rules_to_read (macros_in macros.now) (met_view met.now))) }
 {
     let symbol = &met.symbol;
     match &symbol.kind {
@@ -309,11 +346,9 @@ pub(super) fn add_rule(alloc: Global, met: &Met, items: &mut Vec<GrammarItem>) -
             add(items, group_rule(alloc, met, expr)?)?;
             Ok(())
         }
-        SymbolKind::Macro(_) => Err(refusal(
-            FaultKind::NotYet,
-            symbol.span,
-            format!(in alloc; "the macro call `{symbol}` is not taken yet"),
-        )),
+        SymbolKind::Macro(instance) => {
+            add_instance(alloc, macros, met, &instance.name, &instance.args, items)
+        }
         SymbolKind::Repeat(repeat) => {
             add(items, repeat_rule(alloc, met, repeat)?)?;
             Ok(())

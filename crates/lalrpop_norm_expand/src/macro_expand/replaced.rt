@@ -19,14 +19,14 @@ fn name_of(alloc: Global, kind: &SymbolKind) -> Result<NonterminalString, NoMemo
 }
 
 /// `<X>`.
-fn chosen(alloc: Global, symbol: Symbol) -> Result<SymbolKind, NoMemory>
+pub(super) fn chosen(alloc: Global, symbol: Symbol) -> Result<SymbolKind, NoMemory>
     ensures { IfOk result (λ k. kind_view k ≡ chosen (symbol_view symbol)) }
 {
     Ok(SymbolKind::Choose(Box::new(alloc, symbol)?))
 }
 
 /// `<x:X>`.
-fn named(alloc: Global, name: &Name, symbol: Symbol) -> Result<SymbolKind, NoMemory>
+pub(super) fn named(alloc: Global, name: &Name, symbol: Symbol) -> Result<SymbolKind, NoMemory>
     ensures { IfOk result (λ k. kind_view k ≡ named name.now (symbol_view symbol)) }
 {
     let symbol = Box::new(alloc, symbol)?;
@@ -34,7 +34,7 @@ fn named(alloc: Global, name: &Name, symbol: Symbol) -> Result<SymbolKind, NoMem
 }
 
 /// `<(x, y):X>`.
-fn tupled(alloc: Global, tuple: &Tuple, symbol: Symbol) -> Result<SymbolKind, NoMemory>
+pub(super) fn tupled(alloc: Global, tuple: &Tuple, symbol: Symbol) -> Result<SymbolKind, NoMemory>
     ensures { IfOk result (λ k. kind_view k ≡ tupled (tuple_view tuple.now) (symbol_view symbol)) }
 {
     let symbol = Box::new(alloc, symbol)?;

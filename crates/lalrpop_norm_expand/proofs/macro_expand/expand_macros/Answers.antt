@@ -1,31 +1,35 @@
-use Rattle.std.proofs.Common.{◌≡◌, ◌++◌, [], sym, ap, ◌∙◌}
-use Rattle.std.specs.List.{flat_map}
-use Rattle.lalrpop_norm_tree.specs.declared.items.GrammarItem.{GrammarItem}
-use Rattle.lalrpop_norm_tree.specs.Items.{item_view, grammar_view}
+use Rattle.std.proofs.Common.{◌≡◌, ◌++◌, List, refl, sym, ap, subst}
+use Rattle.std.proofs.lemmas.Result.{IfOk-weaker}
+use Rattle.lalrpop_norm_tree.specs.Items.{GrammarData, grammar_view}
+use Rattle.lalrpop_norm_conditions.specs.Conditions.{comparison}
+use Rattle.lalrpop_norm_faults.specs.Faults.{Fault, Refuses}
 use Rattle.lalrpop_norm_faults.proofs.FaultLemmas.{exit_at}
-use Rattle.lalrpop_norm_expand.specs.Expansion.{later_macro_faults, expansion_faults}
-use Rattle.lalrpop_norm_expand.specs.Making.{item_macros}
-use Rattle.lalrpop_norm_expand.proofs.MeetingLemmas.{refuses_same}
-use Rattle.lalrpop_norm_expand.proofs.RoundLemmas.{macro_faults_are, no_macros}
+use Rattle.lalrpop_norm_model.specs.PlainRules.{IsEnded, plain_grammar}
+use Rattle.lalrpop_norm_model.specs.Scopes.{resolved_grammar}
+use Rattle.lalrpop_norm_resolve.specs.NameFaults.{resolve_faults}
+use Rattle.lalrpop_norm_expand.specs.Expansion.{expansion_faults, macro_faults}
 use Rattle.lalrpop_norm_expand.proofs.macro_expand.expand_macros.Goals as goal
 
-pub returns-in_err-refuse_macros-clause-refuses : goal.returns-in_err-refuse_macros-clause-refuses
-returns-in_err-refuse_macros-clause-refuses c = λ value.
+pub returns-in_err-resolved-clause-refuses : goal.returns-in_err-resolved-clause-refuses
+returns-in_err-resolved-clause-refuses c =
     let g = grammar_view c.args.grammar in
-    let same : flat_map (λ (i : GrammarItem). item_macros (item_view i)) c.deref.result.now ≡ later_macro_faults g =
-    ap (flat_map (λ (i : GrammarItem). item_macros (item_view i))) c.deref.ensures.value ∙ macro_faults_are c.args.grammar in
-    exit_at _ _ (flat_map (λ (i : GrammarItem). item_macros (item_view i)) c.deref.result.now) (expansion_faults value g c.args.limit) _
-    c.from_residual.ensures.1 c.in_err-refuse_macros.ensures (ap (λ fs. fs ++ expansion_faults value g c.args.limit) (sym same))
-
-pub expand_rounds-requires : goal.expand_rounds-requires
-expand_rounds-requires c =
-    no_macros (grammar_view c.args.grammar)
-    (sym (ap (flat_map (λ (i : GrammarItem). item_macros (item_view i))) c.deref.ensures.value ∙ macro_faults_are c.args.grammar)
-    ∙ c.in_ok-refuse_macros.ensures)
+    exit_at _ _ (resolve_faults g) (expansion_faults comparison (resolved_grammar g) c.args.limit) (macro_faults comparison g c.args.limit)
+    c.from_residual.ensures.1 c.in_err-resolved.ensures.resolves refl
 
 pub returns-clause-refuses : goal.returns-clause-refuses
-returns-clause-refuses c = λ value.
+returns-clause-refuses c =
     let g = grammar_view c.args.grammar in
-    let none : later_macro_faults g ≡ [] =
-    sym (ap (flat_map (λ (i : GrammarItem). item_macros (item_view i))) c.deref.ensures.value ∙ macro_faults_are c.args.grammar) ∙ c.in_ok-refuse_macros.ensures in
-    refuses_same _ (expansion_faults value g c.args.limit) _ (ap (λ fs. fs ++ expansion_faults value g c.args.limit) (sym none)) (c.expand_rounds.ensures.refuses value)
+    let resolved = c.in_ok-resolved.ensures.resolves in
+    subst (Refuses c.expand_resolved.result)
+    (sym (ap (λ (fs : List Fault). fs ++ expansion_faults comparison (resolved_grammar g) c.args.limit) resolved.0))
+    (subst (λ (h : GrammarData). Refuses c.expand_resolved.result (expansion_faults comparison h c.args.limit)) resolved.1 c.expand_resolved.ensures.refuses)
+
+pub returns-clause-whole : goal.returns-clause-whole
+returns-clause-whole c =
+    IfOk-weaker c.expand_resolved.result _ _
+    (λ made. subst (λ (h : GrammarData). IsEnded comparison h c.args.limit) c.in_ok-resolved.ensures.resolves.1) c.expand_resolved.ensures.whole
+
+pub returns-clause-plain : goal.returns-clause-plain
+returns-clause-plain c =
+    IfOk-weaker c.expand_resolved.result _ _
+    (λ made. subst (λ (h : GrammarData). grammar_view made ≡ plain_grammar comparison h c.args.limit) c.in_ok-resolved.ensures.resolves.1) c.expand_resolved.ensures.plain
