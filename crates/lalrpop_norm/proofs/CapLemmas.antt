@@ -1,13 +1,14 @@
 -- F36 in the list of faults.
-use Rattle.std.proofs.Common.{rules, ◌≡◌, ◌↔◌, ◌⊎◌, inl, inr, ℕ, zero, suc, ◌+◌, arith, Bool, true, false, List, [], ◌∷◌, ◌++◌, map, refl, sym, ap, subst, ◌∙◌}
+use Rattle.std.proofs.Common.{rules, Option, Some, None, ◌≡◌, inl, inr, ℕ, zero, suc, ◌+◌, arith, Bool, true, false, List, [], ◌∷◌, ◌++◌, map, refl, sym, ap, subst, ◌∙◌}
 use Rattle.std.specs.Prelude.{◌||◌, flat_map}
 use Rattle.std.specs.List.{range_with_len}
 use Rattle.std.proofs.lemmas.List.{append_assoc}
 use Rattle.lalrpop_norm_parts.specs.declared.names.Span.{Span}
-use Rattle.lalrpop_norm_tree.specs.Symbols.{Part, group, ambiguous_id, terminal, nonterminal, call, repeated, chosen, named, tupled, lookahead, lookbehind, error_terminal, at}
+use Rattle.lalrpop_norm_tree.specs.Symbols.{Kind, Part, Parts, group, ambiguous_id, terminal, nonterminal, call, repeated, chosen, named, tupled, lookahead, lookbehind, error_terminal, at}
 use Rattle.lalrpop_norm_tree.specs.SymbolTexts.{part_text}
-use Rattle.lalrpop_norm_tree.specs.Items.{GrammarData}
-use Rattle.lalrpop_norm_faults.specs.declared.kind.FaultKind.TheVariants.{RecursionCap, SharedName, NotYet, NamedInGroup}
+use Rattle.lalrpop_norm_tree.specs.Items.{AlternativeData, RuleData, GrammarData}
+use Rattle.lalrpop_norm_tree.specs.declared.items.Condition.{Condition}
+use Rattle.lalrpop_norm_faults.specs.declared.kind.FaultKind.TheVariants.{RecursionCap, SharedName, ConditionArgument, ConditionPattern, NamedInGroup}
 use Rattle.lalrpop_norm_faults.specs.Faults.{Fault, fault_if}
 use Rattle.lalrpop_norm_theory.specs.Laws.{RoundsAreShortestChains}
 use Rattle.lalrpop_norm_theory.specs.Met.{rule_meets, expansion}
@@ -19,9 +20,11 @@ use Rattle.lalrpop_norm_model.proofs.LevelLemmas.{in_map, of_map}
 use Rattle.lalrpop_norm_model.specs.Expanded.{rule_names}
 use Rattle.lalrpop_norm_model.specs.Grammars.{ConditionValue}
 use Rattle.lalrpop_norm_model.specs.Laws.{RoundsAreRead}
-use Rattle.lalrpop_norm_model.specs.MadeRules.{span_of, some_name_value}
-use Rattle.lalrpop_norm_model.specs.PlainRules.{expansion_round}
-use Rattle.lalrpop_norm_model.specs.PlainTables.{IsSettled, closed, flat_meaning, declared}
+use Rattle.lalrpop_norm_model.specs.MadeRules.{span_of, some_name_value, argument_kind, macro_named}
+use Rattle.lalrpop_norm_model.specs.PlainRules.{macros_of, expansion_round}
+use Rattle.lalrpop_norm_model.specs.PlainTables.{closed, flat_meaning, declared}
+use Rattle.lalrpop_norm_conditions.specs.Conditions.{lacks_reading}
+use Rattle.lalrpop_norm_expand.specs.Conditions.{quoted_text, tested_faults, condition_faults, call_faults}
 use Rattle.lalrpop_norm_expand.specs.Expansion.{met_before, meetings, is_declared_name, has_other, shared_names, shared_in, unmade, unmade_in, past_cap, faults_from, expansion_faults}
 use Rattle.lalrpop_norm.specs.Laws.{CapIsExact, FaultsAreByRound}
 
@@ -33,8 +36,11 @@ not_cap e = absurd (cc e)
 not_group : (RecursionCap ≡ NamedInGroup) → ⊥
 not_group e = absurd (cc e)
 
-not_later : (RecursionCap ≡ NotYet) → ⊥
-not_later e = search rules
+not_argument : (RecursionCap ≡ ConditionArgument) → ⊥
+not_argument e = absurd (cc e)
+
+not_pattern : (RecursionCap ≡ ConditionPattern) → ⊥
+not_pattern e = absurd (cc e)
 
 abbrev cap_at : Span → Fault
 cap_at t = (RecursionCap, t)
@@ -52,27 +58,48 @@ not_shared names met (x ∷ xs) t i =
       | inr later ↦ not_shared names (met ++ x ∷ []) xs t later
     ]
 
-not_made : (p : Part) (t : Span) → In (cap_at t) (unmade p) → ⊥
-not_made (at s (group ps)) t i = not_if (some_name_value ps) (NamedInGroup, s) t (λ e. not_group (ap (λ (f : Fault). f.0) e)) i
-not_made (at s (call n ps)) t (inl e) = not_later (ap (λ (f : Fault). f.0) e)
-not_made (at s (call n ps)) t (inr i) = i
-not_made (at s (repeated op p)) t i = i
-not_made (at s (ambiguous_id a)) t i = i
-not_made (at s (terminal u)) t i = i
-not_made (at s (nonterminal n)) t i = i
-not_made (at s (chosen p)) t i = i
-not_made (at s (named n p)) t i = i
-not_made (at s (tupled ns p)) t i = i
-not_made (at s lookahead) t i = i
-not_made (at s lookbehind) t i = i
-not_made (at s error_terminal) t i = i
+not_tested : (c : Condition) (o : Option (List ℕ)) (t : Span) → In (cap_at t) (tested_faults c o) → ⊥
+not_tested c None t (inl e) = not_argument (ap (λ (f : Fault). f.0) e)
+not_tested c None t (inr i) = i
+not_tested c (Some text) t i = not_if (lacks_reading c.op c.rhs) (ConditionPattern, c.span) t (λ e. not_pattern (ap (λ (f : Fault). f.0) e)) i
 
-none_made : (ps : List Part) (t : Span) → In (cap_at t) (flat_map unmade ps) → ⊥
-none_made [] t i = i
-none_made (p ∷ ps) t i =
-    elim (in_cases (cap_at t) (unmade p) (flat_map unmade ps) i) [
-      | inl here ↦ not_made p t here
-      | inr later ↦ none_made ps t later
+not_condition : (argument : List ℕ → Option Kind) (o : Option Condition) (t : Span) → In (cap_at t) (condition_faults argument o) → ⊥
+not_condition argument None t i = i
+not_condition argument (Some c) t i = not_tested c (quoted_text (argument c.lhs.0)) t i
+
+not_conditions : (argument : List ℕ → Option Kind) (xs : List AlternativeData) (t : Span) →
+    In (cap_at t) (flat_map (λ (a : AlternativeData). condition_faults argument a.condition) xs) → ⊥
+not_conditions argument [] t i = i
+not_conditions argument (a ∷ xs) t i =
+    elim (in_cases (cap_at t) (condition_faults argument a.condition) (flat_map (λ (b : AlternativeData). condition_faults argument b.condition) xs) i) [
+      | inl here ↦ not_condition argument a.condition t here
+      | inr later ↦ not_conditions argument xs t later
+    ]
+
+not_called : (o : Option RuleData) (ps : Parts) (t : Span) → In (cap_at t) (call_faults o ps) → ⊥
+not_called None ps t i = i
+not_called (Some d) ps t i = not_conditions (argument_kind d.args ps) d.alternatives t i
+
+not_made : (macros : List RuleData) (p : Part) (t : Span) → In (cap_at t) (unmade macros p) → ⊥
+not_made macros (at s (group ps)) t i = not_if (some_name_value ps) (NamedInGroup, s) t (λ e. not_group (ap (λ (f : Fault). f.0) e)) i
+not_made macros (at s (call n ps)) t i = not_called (macro_named macros n) ps t i
+not_made macros (at s (repeated op p)) t i = i
+not_made macros (at s (ambiguous_id a)) t i = i
+not_made macros (at s (terminal u)) t i = i
+not_made macros (at s (nonterminal n)) t i = i
+not_made macros (at s (chosen p)) t i = i
+not_made macros (at s (named n p)) t i = i
+not_made macros (at s (tupled ns p)) t i = i
+not_made macros (at s lookahead) t i = i
+not_made macros (at s lookbehind) t i = i
+not_made macros (at s error_terminal) t i = i
+
+none_made : (macros : List RuleData) (ps : List Part) (t : Span) → In (cap_at t) (flat_map (unmade macros) ps) → ⊥
+none_made macros [] t i = i
+none_made macros (p ∷ ps) t i =
+    elim (in_cases (cap_at t) (unmade macros p) (flat_map (unmade macros) ps) i) [
+      | inl here ↦ not_made macros p t here
+      | inr later ↦ none_made macros ps t later
     ]
 
 -- ---- the cap stands at the last round alone
@@ -99,7 +126,7 @@ module _ (value : ConditionValue) (g : GrammarData) where
       elim (in_cases (cap_at t) (shared_in value g k) (unmade_in value g k ++ faults_from value g (suc k) left) i) [
         | inl here ↦ absurd (not_shared (rule_names g) (met_before value g k) (meetings value g k) t here)
         | inr more ↦ elim (in_cases (cap_at t) (unmade_in value g k) (faults_from value g (suc k) left) more) [
-          | inl made ↦ absurd (none_made (rules_made (expansion_round value g k)) t made)
+          | inl made ↦ absurd (none_made (macros_of g) (rules_made (expansion_round value g k)) t made)
           | inr later ↦ to_end (suc k) left t later
         ]
       ]

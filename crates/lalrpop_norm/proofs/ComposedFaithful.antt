@@ -1,25 +1,30 @@
 -- From what the early passes promise to what the late ones ask, and to the headline.
-use Rattle.std.proofs.Common.{◌≡◌, ℕ, true, List, [], ◌++◌, Option, IsSome, refl, ap}
+use Rattle.std.proofs.Common.{◌≡◌, ℕ, true, List, [], ◌++◌, Option, Some, None, IsSome, refl, subst}
 use Rattle.lalrpop_norm_parts.specs.declared.names.NonterminalString.{NonterminalString}
 use Rattle.lalrpop_norm_parts.specs.declared.names.TerminalString.{TerminalString}
 use Rattle.lalrpop_norm_parts.specs.declared.names.TerminalString.TheVariants.{Literal, Bare, Error}
-use Rattle.lalrpop_norm_tree.specs.Items.{RuleData, EnumTokenData, GrammarData}
+use Rattle.lalrpop_norm_parts.specs.declared.names.Span.{Span}
+use Rattle.lalrpop_norm_tree.specs.declared.items.Condition.{Condition}
+use Rattle.lalrpop_norm_tree.specs.Items.{AlternativeData, RuleData, EnumTokenData, GrammarData, rule_item}
 use Rattle.lalrpop_norm_parts.specs.Reprs.{ReprData}
 use Rattle.lalrpop_norm_theory.specs.Rounds.{In, IsDistinct}
 use Rattle.lalrpop_norm_conditions.specs.Conditions.{comparison}
 use Rattle.lalrpop_norm_model.specs.Features.{Features}
 use Rattle.lalrpop_norm_model.specs.Enabled.{enabled_enum, enabled_grammar}
-use Rattle.lalrpop_norm_model.specs.Scopes.{resolved_grammar}
-use Rattle.lalrpop_norm_model.specs.PlainRules.{all_rules, IsEnded}
+use Rattle.lalrpop_norm_model.specs.Scopes.{Definition, Global, globals, definition_of, global_sense, sense_of, resolved_grammar}
+use Rattle.lalrpop_norm_model.specs.PlainRules.{all_rules, rules_without_arguments, IsEnded}
 use Rattle.lalrpop_norm_model.specs.PlainTables.{IsSettled}
 use Rattle.lalrpop_norm_model.specs.TypeRelation.{IsRule}
 use Rattle.lalrpop_norm_model.specs.Expanded.{is_plain_terminal, terminals_converted, rule_names, IsExpanded, IsTyped}
 use Rattle.lalrpop_norm_model.specs.InferenceFaults.{inference_faults}
 use Rattle.lalrpop_norm_model.specs.Lexers.{Lexer}
 use Rattle.lalrpop_norm_model.specs.CheckedTokens.{IsChecked}
-use Rattle.lalrpop_norm_model.specs.Grammars.{is_nil}
 use Rattle.lalrpop_norm_model.specs.Renumbered.{prepared_grammar}
-use Rattle.lalrpop_norm_resolve.specs.NameFaults.{resolve_faults}
+use Rattle.lalrpop_norm_model.proofs.GrammarLemmas.{rule_item_of}
+use Rattle.lalrpop_norm_model.proofs.ResolvedLemmas.{resolved_once}
+use Rattle.lalrpop_norm_model.proofs.InferenceLemmas.{both_empty}
+use Rattle.lalrpop_norm_resolve.specs.NameFaults.{repeated_faults, repeated_argument_faults, tested_faults, condition_faults, parts_name_faults, alternative_name_faults, item_name_faults, resolve_faults}
+use Rattle.lalrpop_norm_precedence.specs.PrecedenceFaults.{leveled_faults}
 use Rattle.lalrpop_norm_front.specs.GrammarFaults.{validate_faults}
 use Rattle.lalrpop_norm_expand.proofs.DistinctLemmas.{names_stay_distinct}
 use Rattle.lalrpop_norm_repr.specs.Closed.{IsClosed}
@@ -32,7 +37,9 @@ use Rattle.lalrpop_norm.specs.Faithful.{HasGroundedTypes, IsInferred, IsFaithful
 use Rattle.lalrpop_norm.specs.Laws.{HasFlatMacros}
 use Rattle.lalrpop_norm.specs.PlainLaws.{PassesExpansion, PassesLowering}
 use Rattle.lalrpop_norm.specs.TakenGrammars.{IsTaken}
-use Rattle.lalrpop_norm.proofs.ExpandedScopes.{HasNoMacros}
+use Rattle.lalrpop_norm.proofs.ExpandedScopes.{from_all}
+use Rattle.lalrpop_norm.proofs.ScopedLemmas.{none_of}
+use Rattle.lalrpop_norm.proofs.TreesMacros.{levels_settle_macros}
 use Rattle.lalrpop_norm.proofs.ExpandedTokens.{HasOneEnum, resolved_tokens, leveled_tokens}
 use Rattle.lalrpop_norm.proofs.ExpandedSteps.{AreFitRules, IsTokenOf, resolved_rules_fit, leveled_rules_fit}
 use Rattle.lalrpop_norm.proofs.ExpandedPlain.{IsPrepared, plain_expanded, plain_terminals, tokens}
@@ -64,28 +71,49 @@ module _ (fs : Features) (g : GrammarData) (taken : IsTaken fs g) (valid : valid
   fit : AreFitRules (IsTokenOf enum_of) (grammar_with_levels fs g)
   fit = leveled_rules_fit (IsTokenOf enum_of) (resolved_grammar (enabled_grammar fs g)) fit_before
 
-  -- there are no macros, before levels are rules either
-  pub no_macros_before : HasNoMacros (resolved_grammar (enabled_grammar fs g))
-  no_macros_before r i = (fit_before r i).arguments
-
   plain : (t : TerminalString) → IsTokenOf enum_of t → is_plain_terminal t ≡ true
   plain = token_plain enum_of of_enabled.no_error
 
-  -- so none of them has two levels
+-- macros have one level, and no fault of names stands in the grammar with levels
+module _ (fs : Features) (g : GrammarData) (leveled : leveled_faults (prepared_grammar fs g) ≡ []) where
   flat : HasFlatMacros (prepared_grammar fs g)
-  flat d i some l m a b =
-      absurd (let none : is_nil d.args ≡ true = ap (λ (args : List NonterminalString). is_nil args) (no_macros_before d i) in cc (none, some))
+  flat = (levels_settle_macros (prepared_grammar fs g) (resolved_once (enabled_grammar fs g)) leveled).0
+
+  pub names_free : resolve_faults (grammar_with_levels fs g) ≡ []
+  names_free = (levels_settle_macros (prepared_grammar fs g) (resolved_once (enabled_grammar fs g)) leveled).1
+
+-- a condition on what is no argument is a fault
+tested_free : (s : Span) (o : Option Definition) → tested_faults s (global_sense o) ≡ [] → ⊥
+unfolding tested_faults
+tested_free s None h = cc h
+tested_free s (Some d) h = cc h
+
+condition_free : (ds : List Global) (o : Option Condition) → condition_faults (sense_of ds []) o ≡ [] → o ≡ None
+condition_free ds None h = refl
+condition_free ds (Some c) h = absurd (tested_free c.span (definition_of ds c.lhs.0) h)
+
+-- where no fault of names stands, only macros have conditions
+unconditional : (g : GrammarData) → resolve_faults g ≡ [] → (d : RuleData) → In d (rules_without_arguments g) → (a : AlternativeData) → In a d.alternatives →
+    a.condition ≡ None
+unfolding alternative_name_faults
+unconditional g free d i a j =
+    let (listed, none) = from_all g d i in
+    let rule = none_of (item_name_faults (globals g)) g.items (rule_item d) (both_empty (repeated_faults [] (globals g)) _ free).1 (rule_item_of g d listed) in
+    let alternative = none_of (alternative_name_faults (sense_of (globals g) d.args)) d.alternatives a (both_empty (repeated_argument_faults d.span d.args) _ rule).1 j in
+    condition_free (globals g) a.condition
+    (subst (λ (args : List NonterminalString). condition_faults (sense_of (globals g) args) a.condition ≡ []) none
+    (both_empty (condition_faults (sense_of (globals g) d.args) a.condition) (parts_name_faults (sense_of (globals g) d.args) a.parts) alternative).0)
 
 -- What the passes up to that on levels find out of a written grammar.
 pub record PassesLevels (fs : Features) (g : GrammarData) : Type 0 where
   pub taken : IsTaken fs g
   pub valid : validate_faults g ≡ []
   pub resolved : resolve_faults (enabled_grammar fs g) ≡ []
-  pub leveled : resolve_faults (grammar_with_levels fs g) ≡ []
+  pub leveled : leveled_faults (prepared_grammar fs g) ≡ []
 
 module _ (fs : Features) (g : GrammarData) (B : PassesLevels fs g) where
   pub settled : IsSettled (grammar_with_levels fs g)
-  settled = levels_settled fs g B.resolved (flat fs g B.taken B.valid) B.leveled
+  settled = levels_settled fs g B.resolved (flat fs g B.leveled) (names_free fs g B.leveled)
 
   -- what the expansion needs
   pub prepared : IsPrepared (IsTokenOf (enum_of fs g B.taken B.valid)) (enum_of fs g B.taken B.valid) (grammar_with_levels fs g)
@@ -93,8 +121,7 @@ module _ (fs : Features) (g : GrammarData) (B : PassesLevels fs g) where
       let u : EnumTokenData = enum_of fs g B.taken B.valid in
       let rules : AreFitRules (IsTokenOf u) (grammar_with_levels fs g) = fit fs g B.taken B.valid in record {
         settled = settled;
-        no_macros = λ r i. (rules r i).arguments;
-        no_conditions = λ r i. (rules r i).conditions;
+        no_conditions = unconditional (grammar_with_levels fs g) (names_free fs g B.leveled);
         over = λ r i. (rules r i).over;
         bare_types = λ r i. (rules r i).bare_type;
         tokens = leveled_tokens u (resolved_grammar (enabled_grammar fs g)) (resolved_tokens u (enabled_grammar fs g) (of_enabled fs g B.taken B.valid));
@@ -168,7 +195,7 @@ module _ (fs : Features) (g : GrammarData) (limit : ℕ) (table : TypeTable) (W 
       let E : PassesExpansion fs g limit = W.before in record {
         rounds = limit;
         trees =
-            lowered_trees_faithful fs g E.resolved (flat fs g E.taken E.valid) E.leveled limit (whole fs g limit E)
+            lowered_trees_faithful fs g E.resolved (flat fs g E.leveled) (names_free fs g E.leveled) limit (whole fs g limit E)
             (record { once = distinct_plain fs g limit E; starts = starts_free }) low
             (checked_entered no_lexer low low (plain_is_checked fs g limit E no_lexer)) table l shape;
         plain = low;

@@ -1,14 +1,10 @@
--- Symbols whose terminals and names are among given ones, and in which no call and no open identifier stands: of such symbols plain
--- ones are made, and rules whose symbols are such again.
+-- Symbols whose terminals and names are among given ones, and in which no open identifier stands: what is met in them is such again,
+-- and what they are replaced by is plain.
 use Rattle.std.proofs.Common.{◌≡◌, inl, inr, ℕ, true, ◌&&◌, List, [], ◌∷◌, ◌++◌, refl, ap₂, sym, subst}
 use Rattle.lalrpop_norm_parts.specs.declared.names.TerminalString.{TerminalString}
-use Rattle.lalrpop_norm_tree.specs.declared.symbol.RepeatOp.TheVariants.{Star, Plus, Question}
 use Rattle.lalrpop_norm_tree.specs.Symbols.{Kind, Part, Parts, group, ambiguous_id, terminal, nonterminal, call, repeated, chosen, named, tupled, lookahead, lookbehind, error_terminal, at, no_parts, part_and}
-use Rattle.lalrpop_norm_tree.specs.Items.{AlternativeData, RuleData, lookahead_code, lookbehind_code}
 use Rattle.lalrpop_norm_theory.specs.Rounds.{In}
 use Rattle.lalrpop_norm_theory.proofs.RoundsLemmas.{in_cases}
-use Rattle.lalrpop_norm_model.specs.Grammars.{ConditionValue}
-use Rattle.lalrpop_norm_model.specs.MadeRules.{group_rule, star_rule, plus_rule, question_rule, location_rule, made_rules}
 use Rattle.lalrpop_norm_model.specs.Replaced.{replaced_kind, replaced, all_replaced}
 use Rattle.lalrpop_norm_model.specs.PlainRules.{met, all_met}
 use Rattle.lalrpop_norm_model.specs.Terminals.{terminals_in, terminals_in_kind, terminals_in_parts}
@@ -16,14 +12,14 @@ use Rattle.lalrpop_norm_model.specs.Expanded.{is_plain_terminal, is_plain_kind, 
 
 -- ---- the predicate
 
--- At every depth a terminal is one of P, a name one of N; no call and no open identifier stands there.
+-- At every depth a terminal is one of P, a name that is no macro's one of N; no open identifier stands there.
 module _ (P : TerminalString → Type 0) (N : List ℕ → Type 0) where
   abbrev mutual
     pub IsReadyKind : Kind → Type 0
     IsReadyKind (terminal t) = P t
     IsReadyKind (nonterminal n) = N n
     IsReadyKind (ambiguous_id a) = ⊥
-    IsReadyKind (call n ps) = ⊥
+    IsReadyKind (call n ps) = AreReady ps
     IsReadyKind (group ps) = AreReady ps
     IsReadyKind (repeated op p) = IsReady p
     IsReadyKind (chosen p) = IsReady p
@@ -52,7 +48,7 @@ module _ (P : TerminalString → Type 0) (N : List ℕ → Type 0) where
   mutual
     pub met_ready : (p : Part) → IsReady p → (q : Part) → In q (met p) → IsReady q
     met_ready (at s (group ps)) h q i = then_itself (all_met ps) (at s (group ps)) q h (λ j. all_met_ready ps h q j) i
-    met_ready (at s (call n ps)) h q i = absurd h
+    met_ready (at s (call n ps)) h q i = then_itself (all_met ps) (at s (call n ps)) q h (λ j. all_met_ready ps h q j) i
     met_ready (at s (repeated op p)) h q i = then_itself (met p) (at s (repeated op p)) q h (λ j. met_ready p h q j) i
     met_ready (at s (chosen p)) h q i = met_ready p h q i
     met_ready (at s (named n p)) h q i = met_ready p h q i
@@ -126,35 +122,3 @@ module _ (P : TerminalString → Type 0) (N : List ℕ → Type 0) where
     | inl j ↦ part_terminals p h.0 t j
     | inr j ↦ parts_terminals ps h.1 t j
   ]
-
-  -- ---- what rules are made of them
-
-  -- the symbols of alternatives
-  abbrev pub AllReady : List AlternativeData → Type 0
-  AllReady [] = Unit {0}
-  AllReady (a ∷ rest) = AreReady a.parts × AllReady rest
-
-  pub ready_in : (xs : List AlternativeData) → AllReady xs → (a : AlternativeData) → In a xs → AreReady a.parts
-  ready_in [] h a i = absurd i
-  ready_in (x ∷ xs) h a (inl e) = subst (λ (y : AlternativeData). AreReady y.parts) (sym e) h.0
-  ready_in (x ∷ xs) h a (inr i) = ready_in xs h.1 a i
-
-  only_rule : (d r : RuleData) → AllReady d.alternatives → In r (d ∷ []) → AllReady r.alternatives
-  only_rule d r h (inl e) = subst (λ (x : RuleData). AllReady x.alternatives) (sym e) h
-  only_rule d r h (inr i) = absurd i
-
-  pub made_ready : (value : ConditionValue) (p : Part) → IsReady p → (r : RuleData) → In r (made_rules value [] p) → AllReady r.alternatives
-  made_ready value (at s (group ps)) h r i = only_rule (group_rule s ps) r (h, tt) i
-  made_ready value (at s (call n ps)) h r i = absurd h
-  made_ready value (at s (repeated Star p)) h r i = only_rule (star_rule s p) r (tt, ((h, tt), tt)) i
-  made_ready value (at s (repeated Plus p)) h r i = only_rule (plus_rule s p) r ((h, tt), ((h, (h, tt)), tt)) i
-  made_ready value (at s (repeated Question p)) h r i = only_rule (question_rule s p) r ((h, tt), (tt, tt)) i
-  made_ready value (at s lookahead) h r i = only_rule (location_rule s lookahead lookahead_code) r (tt, tt) i
-  made_ready value (at s lookbehind) h r i = only_rule (location_rule s lookbehind lookbehind_code) r (tt, tt) i
-  made_ready value (at s (ambiguous_id a)) h r i = absurd i
-  made_ready value (at s (terminal t)) h r i = absurd i
-  made_ready value (at s (nonterminal n)) h r i = absurd i
-  made_ready value (at s (chosen p)) h r i = absurd i
-  made_ready value (at s (named n p)) h r i = absurd i
-  made_ready value (at s (tupled ns p)) h r i = absurd i
-  made_ready value (at s error_terminal) h r i = absurd i

@@ -1,16 +1,15 @@
 -- The grammar of plain rules is expanded.
-use Rattle.std.proofs.Common.{◌≡◌, ◌⊎◌, inl, inr, ℕ, ◌≤◌, true, List, [], ◌∷◌, length, map, None, refl, ap, sym, subst, ◌∙◌, arith}
+use Rattle.std.proofs.Common.{◌≡◌, ◌⊎◌, inl, inr, ℕ, ◌≤◌, true, not, List, [], length, map, None, refl, ap, sym, subst, arith}
 use Rattle.std.specs.Prelude.{flat_map}
 use Rattle.lalrpop_norm_parts.specs.declared.names.TerminalString.{TerminalString}
 use Rattle.lalrpop_norm_parts.specs.declared.names.TerminalString.TheVariants.{Error}
-use Rattle.lalrpop_norm_tree.specs.declared.symbol.RepeatOp.TheVariants.{Star, Plus, Question}
-use Rattle.lalrpop_norm_tree.specs.Symbols.{Kind, Part, group, ambiguous_id, terminal, nonterminal, call, repeated, chosen, named, tupled, lookahead, lookbehind, error_terminal, at}
-use Rattle.lalrpop_norm_tree.specs.Items.{AlternativeData, RuleData, EnumTokenData, MatchTokenData, InternTokenData, GrammarData, lookahead_code, lookbehind_code}
+use Rattle.lalrpop_norm_tree.specs.Symbols.{Kind, Part}
+use Rattle.lalrpop_norm_tree.specs.Items.{AlternativeData, RuleData, EnumTokenData, MatchTokenData, InternTokenData, GrammarData}
 use Rattle.lalrpop_norm_theory.specs.Rounds.{In, IsDistinct}
 use Rattle.lalrpop_norm_theory.proofs.RoundsLemmas.{in_cases, in_flat, of_flat}
 use Rattle.lalrpop_norm_model.specs.Entries.{group_entries, user_names}
 use Rattle.lalrpop_norm_model.specs.Grammars.{is_nil, ConditionValue}
-use Rattle.lalrpop_norm_model.specs.MadeRules.{made_rules, group_rule, star_rule, plus_rule, question_rule, location_rule}
+use Rattle.lalrpop_norm_model.specs.MadeRules.{made_rules}
 use Rattle.lalrpop_norm_model.specs.PlainRules.{all_met, met_in_rule, met_by_made, all_rules, rules_without_arguments, macros_of, same_apart_from_spans, made_symbols, made_in, replaced_alternative, replaced_rule, plain_grammar, IsEnded}
 use Rattle.lalrpop_norm_model.specs.PlainTables.{IsSettled}
 use Rattle.lalrpop_norm_model.specs.Terminals.{terminals_in_parts, terminals_in_rule, terminals_used}
@@ -19,55 +18,21 @@ use Rattle.lalrpop_norm_model.specs.Expanded.{is_plain_terminal, is_plain_kind, 
 use Rattle.lalrpop_norm_model.proofs.LevelLemmas.{of_map}
 use Rattle.lalrpop_norm_model.proofs.InferenceLemmas.{in_filtered}
 use Rattle.lalrpop_norm_model.proofs.FaithfulLemmas.{plain_grammars_hold_plain_rules}
-use Rattle.lalrpop_norm.proofs.ExpandedParts.{IsReady, AreReady, all_met_ready, parts_plain, parts_terminals, ready_in, made_ready}
+use Rattle.lalrpop_norm.proofs.ExpandedParts.{IsReady, AreReady, parts_plain, parts_terminals}
 use Rattle.lalrpop_norm.proofs.ExpandedSymbols.{Covered, parts_named, made_settled}
-use Rattle.lalrpop_norm.proofs.ExpandedRounds.{made_within, written_named, start_covered, made_covered}
-use Rattle.lalrpop_norm.proofs.ExpandedScopes.{AreOver, HasNoMacros, no_macros_of, all_plain, alternative_ready}
+use Rattle.lalrpop_norm.proofs.ExpandedRounds.{made_within, written_named, start_covered, made_covered, inside_covered}
+use Rattle.lalrpop_norm.proofs.ExpandedScopes.{IsOver, AreOver, from_all, part_ready, parts_ready, alternative_ready}
+use Rattle.lalrpop_norm.proofs.ExpandedInstances.{all_met_over, IsFitMade, made_fit}
+use Rattle.lalrpop_norm_model.proofs.RoundReadLemmas.{made_symbols_are_scoped, made_rules_scoped}
 use Rattle.lalrpop_norm.proofs.ExpandedTokens.{HasOneEnum, plain_tokens}
-
--- ---- made rules
-
-abbrev HasNoConditions : List AlternativeData → Type 0
-HasNoConditions [] = Unit {0}
-HasNoConditions (a ∷ rest) = (a.condition ≡ None) × HasNoConditions rest
-
-none_in : (xs : List AlternativeData) → HasNoConditions xs → (a : AlternativeData) → In a xs → a.condition ≡ None
-none_in [] h a i = absurd i
-none_in (x ∷ xs) h a (inl e) = ap (λ (y : AlternativeData). y.condition) e ∙ h.0
-none_in (x ∷ xs) h a (inr i) = none_in xs h.1 a i
-
--- neither arguments nor conditions
-abbrev IsBareRule : RuleData → Type 0
-IsBareRule r = (r.args ≡ []) × HasNoConditions r.alternatives
-
-only_bare : (d r : RuleData) → IsBareRule d → In r (d ∷ []) → IsBareRule r
-only_bare d r h (inl e) = subst IsBareRule (sym e) h
-only_bare d r h (inr i) = absurd i
-
-made_bare : (value : ConditionValue) (p : Part) (r : RuleData) → In r (made_rules value [] p) → IsBareRule r
-made_bare value (at s (group ps)) r i = only_bare (group_rule s ps) r (refl, (refl, tt)) i
-made_bare value (at s (call n ps)) r i = absurd i
-made_bare value (at s (repeated Star p)) r i = only_bare (star_rule s p) r (refl, (refl, (refl, tt))) i
-made_bare value (at s (repeated Plus p)) r i = only_bare (plus_rule s p) r (refl, (refl, (refl, tt))) i
-made_bare value (at s (repeated Question p)) r i = only_bare (question_rule s p) r (refl, (refl, (refl, tt))) i
-made_bare value (at s lookahead) r i = only_bare (location_rule s lookahead lookahead_code) r (refl, (refl, tt)) i
-made_bare value (at s lookbehind) r i = only_bare (location_rule s lookbehind lookbehind_code) r (refl, (refl, tt)) i
-made_bare value (at s (ambiguous_id a)) r i = absurd i
-made_bare value (at s (terminal t)) r i = absurd i
-made_bare value (at s (nonterminal n)) r i = absurd i
-made_bare value (at s (chosen p)) r i = absurd i
-made_bare value (at s (named n p)) r i = absurd i
-made_bare value (at s (tupled ns p)) r i = absurd i
-made_bare value (at s error_terminal) r i = absurd i
 
 -- ---- the grammar
 
--- What the expansion needs of a grammar: its names are resolved, it has no macros, conditions or symbols in types, its terminals are
--- among those of P, and its tokens are of one enum.
+-- What the expansion needs of a grammar: its names are resolved, only macros have conditions, no symbol stands in a declared type, its
+-- terminals are among those of P, and its tokens are of one enum.
 pub record IsPrepared (P : TerminalString → Type 0) (u : EnumTokenData) (g : GrammarData) : Type 0 where
   pub settled : IsSettled g
-  pub no_macros : HasNoMacros g
-  pub no_conditions : (d : RuleData) → In d (all_rules g) → (a : AlternativeData) → In a d.alternatives → a.condition ≡ None
+  pub no_conditions : (d : RuleData) → In d (rules_without_arguments g) → (a : AlternativeData) → In a d.alternatives → a.condition ≡ None
   pub over : (d : RuleData) → In d (all_rules g) → (a : AlternativeData) → In a d.alternatives → AreOver P a.parts
   pub bare_types : (d : RuleData) → In d (all_rules g) → declared_symbols d ≡ []
   pub tokens : HasOneEnum u g
@@ -84,37 +49,41 @@ module _ (P : TerminalString → Type 0) (plain : (t : TerminalString) → P t �
   abbrev Named : List ℕ → Type 0
   Named m = In m (rule_names (plain_grammar value g n))
 
-  no_macro : macros_of g ≡ []
-  no_macro = no_macros_of g h.no_macros
-
   from_written : (d : RuleData) → In d (rules_without_arguments g) → In d (all_rules g)
-  from_written d i = (in_filtered (λ (r : RuleData). is_nil r.args) (all_rules g) d i).0
+  from_written d i = (from_all g d i).0
 
-  written_ready : (d : RuleData) → In d (all_rules g) → (a : AlternativeData) → In a d.alternatives → AreReady P Named a.parts
-  written_ready d i a j =
-      alternative_ready g h.settled h.no_macros P Named (λ r k. written_named value g h.settled n whole r (all_plain g h.no_macros r k)) d i a j (h.over d i a j)
+  from_macros : (d : RuleData) → In d (macros_of g) → In d (all_rules g)
+  from_macros d i = (in_filtered (λ (r : RuleData). not (is_nil r.args)) (all_rules g) d i).0
 
-  -- what rules meet is ready
-  met_by_rules : (ds : List RuleData) → ((d : RuleData) → In d ds → (a : AlternativeData) → In a d.alternatives → AreReady P Named a.parts) →
-      (q : Part) → In q (flat_map met_in_rule ds) → IsReady P Named q
+  named : (r : RuleData) → In r (rules_without_arguments g) → Named r.name.0
+  named r i = written_named value g h.settled n whole r i
+
+  written_ready : (d : RuleData) → In d (rules_without_arguments g) → (a : AlternativeData) → In a d.alternatives → AreReady P Named a.parts
+  written_ready d i a j = alternative_ready g h.settled P Named named d i a j (h.over d (from_written d i) a j)
+
+  -- what rules meet has its terminals among those of P
+  met_by_rules : (ds : List RuleData) → ((d : RuleData) → In d ds → (a : AlternativeData) → In a d.alternatives → AreOver P a.parts) →
+      (q : Part) → In q (flat_map met_in_rule ds) → IsOver P q
   met_by_rules ds f q i =
       let (d, j, k) = of_flat met_in_rule q ds i in
       let (a, l, m) = of_flat (λ (x : AlternativeData). all_met x.parts) q d.alternatives k in
-      all_met_ready P Named a.parts (f d j a l) q m
+      all_met_over P a.parts (f d j a l) q m
+
+  made_rule_fit : (q : Part) → IsOver P q → (d : RuleData) → In d (made_rules value (macros_of g) q) → IsFitMade P d
+  made_rule_fit = made_fit P value (macros_of g) (λ d i. h.over d (from_macros d i))
+
+  made_symbol_over : (q : Part) → In q (made_symbols value g n) → IsOver P q
+  made_symbol_over =
+      made_within same_apart_from_spans (met_by_made value (macros_of g)) (flat_map met_in_rule (rules_without_arguments g)) (IsOver P)
+      (met_by_rules (rules_without_arguments g) (λ d i. h.over d (from_written d i)))
+      (λ x o q i. met_by_rules (made_rules value (macros_of g) x) (λ d j a k. ((made_rule_fit x o d j).1 a k).1) q i) n
 
   made_symbol_ready : (q : Part) → In q (made_symbols value g n) → IsReady P Named q
-  made_symbol_ready =
-      made_within same_apart_from_spans (met_by_made value (macros_of g)) (flat_map met_in_rule (rules_without_arguments g)) (IsReady P Named)
-      (met_by_rules (rules_without_arguments g) (λ d i a j. written_ready d (from_written d i) a j))
-      (λ x r q i.
-      met_by_rules (made_rules value [] x) (λ d j a k. ready_in P Named d.alternatives (made_ready P Named value x r d j) a k) q
-      (subst (λ (ms : List RuleData). In q (met_by_made value ms x)) no_macro i)) n
+  made_symbol_ready q i = part_ready g h.settled P Named named q (made_symbols_are_scoped value g h.settled n q i).0 (made_symbol_over q i)
 
   -- where a made rule comes from
-  made_from : (d : RuleData) → In d (made_in value g n) → (q : Part) × In q (made_symbols value g n) × In d (made_rules value [] q)
-  made_from d i =
-      let (q, j, k) = of_flat (made_rules value (macros_of g)) d (made_symbols value g n) i in
-      (q, j, subst (λ (ms : List RuleData). In d (made_rules value ms q)) no_macro k)
+  made_from : (d : RuleData) → In d (made_in value g n) → (q : Part) × In q (made_symbols value g n) × In d (made_rules value (macros_of g) q)
+  made_from d i = of_flat (made_rules value (macros_of g)) d (made_symbols value g n) i
 
   -- ---- rules one by one
 
@@ -122,7 +91,7 @@ module _ (P : TerminalString → Type 0) (plain : (t : TerminalString) → P t �
   abbrev From : RuleData → Type 0
   From r =
       ((d : RuleData) × In d (rules_without_arguments g) × (r ≡ replaced_rule d))
-      ⊎ ((q : Part) × In q (made_symbols value g n) × ((d : RuleData) × In d (made_rules value [] q) × (r ≡ replaced_rule d)))
+      ⊎ ((q : Part) × In q (made_symbols value g n) × ((d : RuleData) × In d (made_rules value (macros_of g) q) × (r ≡ replaced_rule d)))
 
   from : (r : RuleData) → IsRule p r → From r
   from r i =
@@ -137,7 +106,7 @@ module _ (P : TerminalString → Type 0) (plain : (t : TerminalString) → P t �
 
   -- what holds of a written rule and of a made one, once replaced, holds of each
   by_cases : (Q : RuleData → Type 0) → ((d : RuleData) → In d (rules_without_arguments g) → Q (replaced_rule d)) →
-      ((q : Part) → In q (made_symbols value g n) → (d : RuleData) → In d (made_rules value [] q) → Q (replaced_rule d)) →
+      ((q : Part) → In q (made_symbols value g n) → (d : RuleData) → In d (made_rules value (macros_of g) q) → Q (replaced_rule d)) →
       (r : RuleData) → IsRule p r → Q r
   by_cases Q f e r i = elim (from r i) [
     | inl w ↦ subst Q (sym w.2) (f w.0 w.1)
@@ -151,35 +120,35 @@ module _ (P : TerminalString → Type 0) (plain : (t : TerminalString) → P t �
 
   each_alternative : (Q : AlternativeData → Type 0) →
       ((d : RuleData) → In d (rules_without_arguments g) → (a : AlternativeData) → In a d.alternatives → Q (replaced_alternative a)) →
-      ((q : Part) → In q (made_symbols value g n) → (d : RuleData) → In d (made_rules value [] q) → (a : AlternativeData) → In a d.alternatives → Q (replaced_alternative a)) →
+      ((q : Part) → In q (made_symbols value g n) → (d : RuleData) → In d (made_rules value (macros_of g) q) → (a : AlternativeData) → In a d.alternatives → Q (replaced_alternative a)) →
       (r : RuleData) → IsRule p r → (a : AlternativeData) → In a r.alternatives → Q a
   each_alternative Q f e =
       by_cases (λ r. (a : AlternativeData) → In a r.alternatives → Q a)
       (λ d i. alternatives_by d Q (f d i)) (λ q i d j. alternatives_by d Q (e q i d j))
 
-  made_alternative_ready : (q : Part) → In q (made_symbols value g n) → (d : RuleData) → In d (made_rules value [] q) →
+  made_alternative_ready : (q : Part) → In q (made_symbols value g n) → (d : RuleData) → In d (made_rules value (macros_of g) q) →
       (a : AlternativeData) → In a d.alternatives → AreReady P Named a.parts
-  made_alternative_ready q i d j a k = ready_in P Named d.alternatives (made_ready P Named value q (made_symbol_ready q i) d j) a k
+  made_alternative_ready q i d j a k =
+      parts_ready g h.settled P Named named a.parts (made_rules_scoped value g h.settled n q i d j a k) ((made_rule_fit q (made_symbol_over q i) d j).1 a k).1
 
   no_arguments : (r : RuleData) → IsRule p r → r.args ≡ []
-  no_arguments = by_cases (λ r. r.args ≡ []) (λ d i. h.no_macros d (from_written d i)) (λ q i d j. (made_bare value q d j).0)
+  no_arguments = by_cases (λ r. r.args ≡ []) (λ d i. (from_all g d i).1) (λ q i d j. (made_rule_fit q (made_symbol_over q i) d j).0)
 
   no_conditions : (r : RuleData) → IsRule p r → (a : AlternativeData) → In a r.alternatives → a.condition ≡ None
   no_conditions =
-      each_alternative (λ a. a.condition ≡ None) (λ d i a j. h.no_conditions d (from_written d i) a j)
-      (λ q i d j a k. none_in d.alternatives (made_bare value q d j).1 a k)
+      each_alternative (λ a. a.condition ≡ None) h.no_conditions (λ q i d j a k. ((made_rule_fit q (made_symbol_over q i) d j).1 a k).0)
 
   plain_symbols : (r : RuleData) → IsRule p r → (a : AlternativeData) → In a r.alternatives → are_plain a.parts ≡ true
   plain_symbols =
       each_alternative (λ a. are_plain a.parts ≡ true)
-      (λ d i a j. parts_plain P Named plain a.parts (written_ready d (from_written d i) a j))
+      (λ d i a j. parts_plain P Named plain a.parts (written_ready d i a j))
       (λ q i d j a k. parts_plain P Named plain a.parts (made_alternative_ready q i d j a k))
 
   -- the terminals of alternatives are among those of P
   each_terminal : (r : RuleData) → IsRule p r → (a : AlternativeData) → In a r.alternatives → (t : TerminalString) → In t (terminals_in_parts a.parts) → P t
   each_terminal =
       each_alternative (λ a. (t : TerminalString) → In t (terminals_in_parts a.parts) → P t)
-      (λ d i a j. parts_terminals P Named a.parts (written_ready d (from_written d i) a j))
+      (λ d i a j. parts_terminals P Named a.parts (written_ready d i a j))
       (λ q i d j a k. parts_terminals P Named a.parts (made_alternative_ready q i d j a k))
 
   -- ---- names
@@ -189,18 +158,16 @@ module _ (P : TerminalString → Type 0) (plain : (t : TerminalString) → P t �
       start_covered value g h.settled n whole q
       (in_flat met_in_rule q d (rules_without_arguments g) i (in_flat (λ (x : AlternativeData). all_met x.parts) q a d.alternatives j k))
 
-  symbol_covered : (q : Part) → In q (made_symbols value g n) → Covered P plain (rule_names p) (met_by_made value [] q)
-  symbol_covered q i x j = made_covered value g h.settled n whole q i x (subst (λ (ms : List RuleData). In x (met_by_made value ms q)) (sym no_macro) j)
-
-  rule_covered : (q : Part) → In q (made_symbols value g n) → (d : RuleData) → In d (made_rules value [] q) →
+  rule_covered : (q : Part) → In q (made_symbols value g n) → (d : RuleData) → In d (made_rules value (macros_of g) q) →
       (a : AlternativeData) → In a d.alternatives → Covered P plain (rule_names p) (all_met a.parts)
   rule_covered q i d j a k x l =
-      symbol_covered q i x (in_flat met_in_rule x d (made_rules value [] q) j (in_flat (λ (y : AlternativeData). all_met y.parts) x a d.alternatives k l))
+      made_covered value g h.settled n whole q i x
+      (in_flat met_in_rule x d (made_rules value (macros_of g) q) j (in_flat (λ (y : AlternativeData). all_met y.parts) x a d.alternatives k l))
 
   names_named : (r : RuleData) → IsRule p r → (a : AlternativeData) → In a r.alternatives → (m : List ℕ) → In m (names_in_parts a.parts) → Named m
   names_named =
       each_alternative (λ a. (m : List ℕ) → In m (names_in_parts a.parts) → Named m)
-      (λ d i a j. parts_named P plain (rule_names p) a.parts (written_ready d (from_written d i) a j) (written_covered d i a j))
+      (λ d i a j. parts_named P plain (rule_names p) a.parts (written_ready d i a j) (written_covered d i a j))
       (λ q i d j a k. parts_named P plain (rule_names p) a.parts (made_alternative_ready q i d j a k) (rule_covered q i d j a k))
 
   -- the symbols in declared types are plain, and their names have rules
@@ -209,7 +176,8 @@ module _ (P : TerminalString → Type 0) (plain : (t : TerminalString) → P t �
   types_settled =
       by_cases (λ r. (k : Kind) → In k (declared_symbols r) → (is_plain_kind k ≡ true) × ((m : List ℕ) → In m (names_in_kind k) → Named m))
       (λ d i k j. absurd (none_of (declared_symbols d) k (h.bare_types d (from_written d i)) j))
-      (λ q i d j. made_settled P plain (rule_names p) value q (made_symbol_ready q i) (symbol_covered q i) d j)
+      (λ q i d j. made_settled P plain (rule_names p) value (macros_of g) (λ e k. h.bare_types e (from_macros e k)) q (made_symbol_ready q i)
+      (inside_covered value g h.settled n whole q i) d j)
 
   name_used : (m : List ℕ) → In m (names_used p) → Named m
   name_used m i =

@@ -1,9 +1,9 @@
 -- What is met in a whole expansion has a rule of its text; and what holds of all that is met holds of all that is made.
-use Rattle.std.proofs.Common.{◌≡◌, inl, inr, ℕ, zero, suc, Bool, true, false, List, [], ◌∷◌, ◌++◌, map, reverse, refl, ap, sym, subst, ◌∙◌}
+use Rattle.std.proofs.Common.{◌≡◌, ◌⊎◌, inl, inr, ℕ, zero, suc, Bool, true, false, List, [], ◌∷◌, ◌++◌, map, reverse, refl, ap, sym, subst, ◌∙◌}
 use Rattle.std.specs.Prelude.{flat_map, if◌then◌else◌}
-use Rattle.lalrpop_norm_tree.specs.Symbols.{Part}
+use Rattle.lalrpop_norm_tree.specs.Symbols.{Part, Parts, group, ambiguous_id, terminal, nonterminal, call, repeated, chosen, named, tupled, lookahead, lookbehind, error_terminal, at, no_parts, part_and}
 use Rattle.lalrpop_norm_tree.specs.SymbolTexts.{part_text}
-use Rattle.lalrpop_norm_tree.specs.Items.{RuleData, GrammarData}
+use Rattle.lalrpop_norm_tree.specs.Items.{AlternativeData, RuleData, GrammarData}
 use Rattle.lalrpop_norm_theory.specs.Symbols.{Name, ClosedSymbol}
 use Rattle.lalrpop_norm_theory.specs.Rounds.{In, is_in, fresh_of, Round, rounds, all_rules_made}
 use Rattle.lalrpop_norm_theory.specs.Met.{rule_meets, expanded_symbols}
@@ -14,7 +14,7 @@ use Rattle.lalrpop_norm_model.specs.ClosedTexts.{closed_text}
 use Rattle.lalrpop_norm_model.specs.Grammars.{ConditionValue}
 use Rattle.lalrpop_norm_model.specs.MadeRules.{made_rules}
 use Rattle.lalrpop_norm_model.specs.PlainRules as plain
-use Rattle.lalrpop_norm_model.specs.PlainRules.{met_in_rule, met_by_made, rules_without_arguments, macros_of, made_symbols, made_in, replaced_rule, plain_rules, plain_grammar}
+use Rattle.lalrpop_norm_model.specs.PlainRules.{met, all_met, met_in_rule, met_by_made, same_apart_from_spans, rules_without_arguments, macros_of, made_symbols, made_in, replaced_rule, plain_rules, plain_grammar}
 use Rattle.lalrpop_norm_model.specs.PlainTables.{IsSettled, flat_meaning, declared, closed}
 use Rattle.lalrpop_norm_model.specs.Expanded.{rule_names}
 use Rattle.lalrpop_norm_model.proofs.LevelLemmas.{in_map, of_map}
@@ -51,6 +51,69 @@ module _ {A : Type 0} (same : A → A → Bool) (meets : A → List A) (start : 
     | inl j ↦ made_within n x j
     | inr j ↦ fresh_within n x (of_reverse x (rounds same meets start n).fresh j)
   ]
+
+module _ {A : Type 0} (same : A → A → Bool) (meets : A → List A) (start : List A) where
+  -- what is made was met by the rules, or by the rule of what is made
+  abbrev pub Comes : ℕ → A → Type 0
+  Comes n x = (In x start) ⊎ ((y : A) × In y (all_rules_made same meets start n) × In x (meets y))
+
+  fresh_comes : (n : ℕ) (x : A) → In x (rounds same meets start n).fresh → Comes n x
+  fresh_comes zero x i = inl (fresh_listed same [] start x i)
+  fresh_comes (suc n) x i =
+      let r : Round A = rounds same meets start n in
+      let (y, there, j) = of_flat meets x (reverse r.fresh) (fresh_listed same (r.seen ++ r.fresh) (flat_map meets (reverse r.fresh)) x i) in
+      inr (y, in_right y (all_rules_made same meets start n) (reverse r.fresh) there, j)
+
+  later : (n : ℕ) (x : A) → Comes n x → Comes (suc n) x
+  later n x (inl i) = inl i
+  later n x (inr (y, i, j)) = inr (y, in_left y (all_rules_made same meets start n) (reverse (rounds same meets start n).fresh) i, j)
+
+  pub made_comes : (n : ℕ) (x : A) → In x (all_rules_made same meets start n) → Comes n x
+  made_comes zero x i = absurd i
+  made_comes (suc n) x i = elim (in_cases x (all_rules_made same meets start n) (reverse (rounds same meets start n).fresh) i) [
+    | inl j ↦ later n x (made_comes n x j)
+    | inr j ↦ later n x (fresh_comes n x (of_reverse x (rounds same meets start n).fresh j))
+  ]
+
+-- ---- what is met within what is met
+
+only : {A : Type 0} (x y : A) → In x (y ∷ []) → x ≡ y
+only x y (inl e) = e
+only x y (inr i) = absurd i
+
+then_itself : (x p q : Part) (ms : List Part) → met x ≡ ms ++ x ∷ [] → (In p ms → In q ms) → In p (ms ++ x ∷ []) → In q (met p) → In q (ms ++ x ∷ [])
+then_itself x p q ms e f i j = elim (in_cases p ms (x ∷ []) i) [
+  | inl k ↦ in_left q ms (x ∷ []) (f k)
+  | inr k ↦ subst (λ (ys : List Part). In q ys) e (subst (λ (y : Part). In q (met y)) (only p x k) j)
+]
+
+mutual
+  met_within : (x p q : Part) → In p (met x) → In q (met p) → In q (met x)
+  met_within (at s (group ps)) p q i j = then_itself (at s (group ps)) p q (all_met ps) refl (λ k. all_met_within ps p q k j) i j
+  met_within (at s (call n ps)) p q i j = then_itself (at s (call n ps)) p q (all_met ps) refl (λ k. all_met_within ps p q k j) i j
+  met_within (at s (repeated op x)) p q i j = then_itself (at s (repeated op x)) p q (met x) refl (λ k. met_within x p q k j) i j
+  met_within (at s (chosen x)) p q i j = met_within x p q i j
+  met_within (at s (named n x)) p q i j = met_within x p q i j
+  met_within (at s (tupled ns x)) p q i j = met_within x p q i j
+  met_within (at s lookahead) p q i j = then_itself (at s lookahead) p q [] refl (λ k. absurd k) i j
+  met_within (at s lookbehind) p q i j = then_itself (at s lookbehind) p q [] refl (λ k. absurd k) i j
+  met_within (at s (ambiguous_id a)) p q i j = absurd i
+  met_within (at s (terminal t)) p q i j = absurd i
+  met_within (at s (nonterminal n)) p q i j = absurd i
+  met_within (at s error_terminal) p q i j = absurd i
+
+  all_met_within : (ps : Parts) (p q : Part) → In p (all_met ps) → In q (met p) → In q (all_met ps)
+  all_met_within no_parts p q i j = absurd i
+  all_met_within (part_and x ps) p q i j = elim (in_cases p (met x) (all_met ps) i) [
+    | inl k ↦ in_left q (met x) (all_met ps) (met_within x p q k j)
+    | inr k ↦ in_right q (met x) (all_met ps) (all_met_within ps p q k j)
+  ]
+
+rules_meet_within : (ds : List RuleData) (p q : Part) → In p (flat_map met_in_rule ds) → In q (met p) → In q (flat_map met_in_rule ds)
+rules_meet_within ds p q i j =
+    let (d, k, l) = of_flat met_in_rule p ds i in
+    let (a, m, o) = of_flat (λ (x : AlternativeData). all_met x.parts) p d.alternatives l in
+    in_flat met_in_rule q d ds k (in_flat (λ (x : AlternativeData). all_met x.parts) q a d.alternatives m (all_met_within a.parts p q o j))
 
 -- ---- names
 
@@ -110,3 +173,11 @@ module _ (value : ConditionValue) (g : GrammarData) (S : IsSettled g) (n : ℕ) 
       let met = subst (λ (gs : List ClosedSymbol). In (closed q) gs) read (in_map closed q (met_by_made value (macros_of g) p) j) in
       let there : In (closed p) expanded = subst (λ (gs : List ClosedSymbol). In (closed p) gs) closed_made (in_map closed p (made_symbols value g n) i) in
       expanded_named q (done.done (closed p) (closed q) (in_right (closed p) (declared g) expanded there) met)
+
+  -- so has each that is met within a symbol that is made
+  pub inside_covered : (p : Part) → In p (made_symbols value g n) → (q : Part) → In q (met p) → In (part_text q) (rule_names (plain_grammar value g n))
+  inside_covered p i q j =
+      elim (made_comes same_apart_from_spans (met_by_made value (macros_of g)) (flat_map met_in_rule (rules_without_arguments g)) n p i) [
+        | inl k ↦ start_covered q (rules_meet_within (rules_without_arguments g) p q k j)
+        | inr c ↦ made_covered c.0 c.1 q (rules_meet_within (made_rules value (macros_of g) c.0) p q c.2 j)
+      ]

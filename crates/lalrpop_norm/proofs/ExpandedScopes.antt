@@ -1,6 +1,6 @@
--- In a grammar whose names are resolved and which has no macros, symbols are ready: their names are those of rules.
+-- In a grammar whose names are resolved, symbols without arguments are ready: their names are those of rules.
 use Rattle.std.proofs.Common.{◌≡◌, inl, inr, ℕ, Bool, true, false, not, List, [], ◌∷◌, map, Option, Some, None, refl, ap, sym, subst, ◌∙◌}
-use Rattle.std.specs.Prelude.{filter}
+use Rattle.std.specs.Prelude.{filter, if◌then◌else◌}
 use Rattle.std.proofs.lemmas.Bool.{and_parts}
 use Rattle.lalrpop_norm_parts.specs.declared.names.NonterminalString.{NonterminalString}
 use Rattle.lalrpop_norm_parts.specs.declared.names.TerminalString.{TerminalString}
@@ -9,12 +9,13 @@ use Rattle.lalrpop_norm_tree.specs.Items.{AlternativeData, RuleData, GrammarData
 use Rattle.lalrpop_norm_theory.specs.Rounds.{In}
 use Rattle.lalrpop_norm_model.specs.Levels.{every, without_levels}
 use Rattle.lalrpop_norm_model.specs.WrittenRules.{WrittenRule, flat_rules, rule_named}
-use Rattle.lalrpop_norm_model.specs.Grammars.{is_nil, has_arguments}
+use Rattle.lalrpop_norm_model.specs.Grammars.{is_nil}
 use Rattle.lalrpop_norm_model.specs.Scoped.{is_rule, is_macro_for, is_scoped_kind, is_scoped, are_scoped}
-use Rattle.lalrpop_norm_model.specs.PlainRules.{all_rules, rules_without_arguments, macros_of}
+use Rattle.lalrpop_norm_model.specs.PlainRules.{all_rules, rules_without_arguments}
 use Rattle.lalrpop_norm_model.specs.PlainTables.{IsSettled}
 use Rattle.lalrpop_norm_model.proofs.GrammarLemmas.{flat_from}
 use Rattle.lalrpop_norm_model.proofs.LevelLemmas.{in_map}
+use Rattle.lalrpop_norm_model.proofs.InferenceLemmas.{in_filtered}
 use Rattle.lalrpop_norm_model.proofs.ScopeLemmas.{rule_found}
 use Rattle.lalrpop_norm_model.proofs.MadeReadLemmas.{flat_of, flat_rules_resolved}
 use Rattle.lalrpop_norm.proofs.ExpandedParts.{IsReadyKind, IsReady, AreReady}
@@ -47,14 +48,15 @@ module _ (P : TerminalString → Type 0) where
 
 -- ---- lists
 
-pub filtered : {A : Type 0} (p : A → Bool) (xs : List A) → ((x : A) → In x xs → p x ≡ true) → (x : A) → In x xs → In x (filter p xs)
-filtered p [] h x i = absurd i
-filtered p (y ∷ xs) h x (inl e) = rw (h y (inl refl)) (inl e)
-filtered p (y ∷ xs) h x (inr i) = rw (h y (inl refl)) (inr (filtered p xs (λ z j. h z (inr j)) x i))
-
-none_filtered : {A : Type 0} (p : A → Bool) (xs : List A) → ((x : A) → In x xs → p x ≡ false) → filter p xs ≡ []
-none_filtered p [] h = refl
-none_filtered p (y ∷ xs) h = rw (h y (inl refl)) (none_filtered p xs (λ z j. h z (inr j)))
+-- what stands in a list and is kept stands in the kept ones
+kept : {A : Type 0} (p : A → Bool) (xs : List A) (x : A) → In x xs → p x ≡ true → In x (filter p xs)
+kept p [] x i h = absurd i
+kept p (y ∷ xs) x (inl e) h = rw (ap p (sym e) ∙ h) (inl e)
+kept p (y ∷ xs) x (inr i) h = by (p y) (kept p xs x i h)
+  where
+    by : (b : Bool) → In x (filter p xs) → In x (if b then y ∷ filter p xs else filter p xs)
+    by true j = inr j
+    by false j = j
 
 placed : (a : AlternativeData) (xs : List AlternativeData) → In a xs →
     In (Some (record { level = 0; side = every; alternative = a })) (without_levels (map Some xs))
@@ -62,44 +64,37 @@ placed a [] h = absurd h
 placed a (x ∷ xs) (inl e) = inl (ap (λ b. Some (record { level = 0; side = every; alternative = b })) e)
 placed a (x ∷ xs) (inr h) = inr (placed a xs h)
 
+no_arguments : (args : List NonterminalString) → is_nil args ≡ true → args ≡ []
+no_arguments [] h = refl
+no_arguments (a ∷ args) h = absurd (cc h)
+
+not_some : (b : Bool) → not (not b) ≡ true → b ≡ true
+not_some true h = refl
+not_some false h = absurd (cc h)
+
 -- ---- symbols
 
--- no rule has arguments
-abbrev pub HasNoMacros : GrammarData → Type 0
-HasNoMacros g = (r : RuleData) → In r (all_rules g) → r.args ≡ []
+-- a rule without arguments is one of all
+pub from_all : (g : GrammarData) (d : RuleData) → In d (rules_without_arguments g) → In d (all_rules g) × (d.args ≡ [])
+from_all g d i = let l = in_filtered (λ (r : RuleData). is_nil r.args) (all_rules g) d i in (l.0, no_arguments d.args l.1)
 
-pub no_macros_of : (g : GrammarData) → HasNoMacros g → macros_of g ≡ []
-no_macros_of g h = none_filtered (λ (r : RuleData). not (is_nil r.args)) (all_rules g) (λ r i. ap (λ (args : List NonterminalString). not (is_nil args)) (h r i))
-
-pub all_plain : (g : GrammarData) → HasNoMacros g → (r : RuleData) → In r (all_rules g) → In r (rules_without_arguments g)
-all_plain g h = filtered (λ (r : RuleData). is_nil r.args) (all_rules g) (λ r i. ap (λ (args : List NonterminalString). is_nil args) (h r i))
-
-module _ (g : GrammarData) (S : IsSettled g) (none : HasNoMacros g) (P : TerminalString → Type 0) (N : List ℕ → Type 0)
-    (names : (r : RuleData) → In r (all_rules g) → N r.name.0) where
+module _ (g : GrammarData) (S : IsSettled g) (P : TerminalString → Type 0) (N : List ℕ → Type 0)
+    (names : (r : RuleData) → In r (rules_without_arguments g) → N r.name.0) where
   rule_is : (n : List ℕ) (o : Option WrittenRule) → rule_named (flat_rules g) n ≡ o → is_rule o ≡ true → N n
   rule_is n None e h = absurd (cc h)
   rule_is n (Some s) e h =
       let f = rule_found (flat_rules g) n s e in
       let (d, i, is) = flat_from g s f.0 in
       let name : d.name.0 ≡ n = ap (λ (w : WrittenRule). w.name) (sym is) ∙ f.1 in
-      subst N name (names d i)
-
-  no_call : (n : List ℕ) (ps : Parts) (o : Option WrittenRule) → rule_named (flat_rules g) n ≡ o → is_macro_for ps o ≡ true → ⊥
-  no_call n ps None e h = cc h
-  no_call n ps (Some s) e h =
-      let f = rule_found (flat_rules g) n s e in
-      let (d, i, is) = flat_from g s f.0 in
-      let bare : s.args ≡ [] = ap (λ (w : WrittenRule). w.args) is ∙ none d i in
-      let no : has_arguments s ≡ false = ap (λ (args : List NonterminalString). not (is_nil args)) bare in
-      let b = and_parts (has_arguments s) _ h in
-      cc (no, b.0)
+      let bare : is_nil d.args ≡ true = ap (λ (w : WrittenRule). is_nil w.args) (sym is) ∙ not_some (is_nil s.args) h in
+      subst N name (names d (kept (λ (r : RuleData). is_nil r.args) (all_rules g) d i bare))
 
   mutual
     kind_ready : (k : Kind) → is_scoped_kind (flat_rules g) [] k ≡ true → IsOverKind P k → IsReadyKind P N k
     kind_ready (terminal t) h o = o
     kind_ready (nonterminal n) h o = rule_is n (rule_named (flat_rules g) n) refl h
     kind_ready (ambiguous_id a) h o = absurd (cc h)
-    kind_ready (call n ps) h o = no_call n ps (rule_named (flat_rules g) n) refl (and_parts (is_macro_for ps (rule_named (flat_rules g) n)) (are_scoped (flat_rules g) [] ps) h).0
+    kind_ready (call n ps) h o = parts_ready ps (and_parts (is_macro_for ps (rule_named (flat_rules g) n)) (are_scoped (flat_rules g) [] ps) h).1 o
     kind_ready (group ps) h o = parts_ready ps h o
     kind_ready (repeated op p) h o = part_ready p h o
     kind_ready (chosen p) h o = part_ready p h o
@@ -109,7 +104,7 @@ module _ (g : GrammarData) (S : IsSettled g) (none : HasNoMacros g) (P : Termina
     kind_ready lookbehind h o = tt
     kind_ready error_terminal h o = tt
 
-    part_ready : (p : Part) → is_scoped (flat_rules g) [] p ≡ true → IsOver P p → IsReady P N p
+    pub part_ready : (p : Part) → is_scoped (flat_rules g) [] p ≡ true → IsOver P p → IsReady P N p
     part_ready (at s k) h o = kind_ready k h o
 
     pub parts_ready : (ps : Parts) → are_scoped (flat_rules g) [] ps ≡ true → AreOver P ps → AreReady P N ps
@@ -118,13 +113,13 @@ module _ (g : GrammarData) (S : IsSettled g) (none : HasNoMacros g) (P : Termina
         let b = and_parts (is_scoped (flat_rules g) [] p) (are_scoped (flat_rules g) [] ps) h in
         (part_ready p b.0 o.0, parts_ready ps b.1 o.1)
 
-  scoped : (d : RuleData) → In d (all_rules g) → (a : AlternativeData) → In a d.alternatives → are_scoped (flat_rules g) [] a.parts ≡ true
-  scoped d i a j =
+  scoped : (d : RuleData) → In d (all_rules g) → d.args ≡ [] → (a : AlternativeData) → In a d.alternatives → are_scoped (flat_rules g) [] a.parts ≡ true
+  scoped d i none a j =
       let there : In (flat_of d) (flat_rules g) =
       subst (λ (ws : List WrittenRule). In (flat_of d) ws) (sym (flat_rules_resolved g S.resolved)) (in_map flat_of d (all_rules g) i) in
-      subst (λ (args : List NonterminalString). are_scoped (flat_rules g) args a.parts ≡ true) (none d i)
+      subst (λ (args : List NonterminalString). are_scoped (flat_rules g) args a.parts ≡ true) none
       (S.scoped.names (flat_of d) (record { level = 0; side = every; alternative = a }) there (placed a d.alternatives j))
 
   -- the symbols of each alternative are ready
-  pub alternative_ready : (d : RuleData) → In d (all_rules g) → (a : AlternativeData) → In a d.alternatives → AreOver P a.parts → AreReady P N a.parts
-  alternative_ready d i a j o = parts_ready a.parts (scoped d i a j) o
+  pub alternative_ready : (d : RuleData) → In d (rules_without_arguments g) → (a : AlternativeData) → In a d.alternatives → AreOver P a.parts → AreReady P N a.parts
+  alternative_ready d i a j o = let l = from_all g d i in parts_ready a.parts (scoped d l.0 l.1 a j) o

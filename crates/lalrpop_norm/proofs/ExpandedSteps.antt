@@ -1,5 +1,5 @@
--- From the enabled grammar to the grammar with levels: rules keep their arguments and declared types, alternatives their conditions,
--- and symbols their terminals, to which resolving adds bare ones with a conversion.
+-- From the enabled grammar to the grammar with levels: rules keep their declared types and symbols their terminals, to which resolving
+-- adds bare ones with a conversion.
 use Rattle.std.proofs.Common.{◌≡◌, inl, inr, ℕ, zero, suc, Bool, true, false, List, [], ◌∷◌, ◌++◌, length, map, Option, Some, None, refl, ap, sym, subst, ◌∙◌, arith}
 use Rattle.std.specs.Prelude.{flat_map, if◌then◌else◌, option_to_list, bytes_eq, nat_eq}
 use Rattle.lalrpop_norm_parts.specs.declared.names.NonterminalString.{NonterminalString}
@@ -13,7 +13,7 @@ use Rattle.lalrpop_norm_theory.proofs.RoundsLemmas.{in_left, in_right, in_cases,
 use Rattle.lalrpop_norm_theory.proofs.SameLemmas.{text_sound}
 use Rattle.lalrpop_norm_model.specs.Features.{Features, is_active}
 use Rattle.lalrpop_norm_model.specs.Enabled.{Places, present, if_active, all_places, enabled_rule, enabled_item, enabled_grammar}
-use Rattle.lalrpop_norm_model.specs.Scopes.{Definition, a_rule, a_macro, a_terminal, Global, rule_definition, bare_global, conversions_in, rule_globals, conversion_globals, match_globals, globals, definition_of, Sense, an_argument, a_global, global_sense, sense_of, by_sense, resolved_kind, resolved_part, resolved_parts, resolved_alternative, resolved_rule, resolved_item, resolved_grammar}
+use Rattle.lalrpop_norm_model.specs.Scopes.{Definition, a_rule, a_macro, a_terminal, Global, rule_definition, bare_global, conversions_in, rule_globals, conversion_globals, match_globals, globals, definition_of, Sense, an_argument, a_global, global_sense, is_argument, sense_of, by_sense, resolved_kind, resolved_part, resolved_parts, resolved_alternative, resolved_rule, resolved_item, resolved_grammar}
 use Rattle.lalrpop_norm_model.specs.Levels.{Leveled, with_levels, leveled_at, map_numbered, levels_of, previous_level, has_levels}
 use Rattle.lalrpop_norm_model.specs.LevelRules.{leveled_kind, leveled_part, leveled_parts, is_own, level_alternative, step_alternatives, of_level, level_rule, level_rules, leveled_grammar}
 use Rattle.lalrpop_norm_model.specs.PlainRules.{rule_of_item, all_rules}
@@ -23,11 +23,9 @@ use Rattle.lalrpop_norm_model.proofs.GrammarLemmas.{all_level_rules}
 use Rattle.lalrpop_norm.proofs.ExpandedScopes.{IsOverKind, IsOver, AreOver}
 use Rattle.lalrpop_norm.proofs.ExpandedTokens.{HasOneEnum}
 
--- a rule without arguments and conditions, no symbol in its type, whose terminals are among those of P
+-- a rule with no symbol in its type, whose terminals are among those of P
 pub record IsFitRule (P : TerminalString → Type 0) (r : RuleData) : Type 0 where
-  pub arguments : r.args ≡ []
   pub bare_type : declared_symbols r ≡ []
-  pub conditions : (a : AlternativeData) → In a r.alternatives → a.condition ≡ None
   pub over : (a : AlternativeData) → In a r.alternatives → AreOver P a.parts
 
 abbrev pub AreFitRules : (TerminalString → Type 0) → GrammarData → Type 0
@@ -46,9 +44,7 @@ enabled_from fs (x ∷ xs) a i = by (is_active fs x.attributes) (enabled_from fs
 
 pub enabled_fit : (fs : Features) (P : TerminalString → Type 0) (r : RuleData) → IsFitRule P r → IsFitRule P (enabled_rule fs r)
 enabled_fit fs P r h = record {
-  arguments = h.arguments;
   bare_type = h.bare_type;
-  conditions = λ a i. h.conditions a (enabled_from fs r.alternatives a i);
   over = λ a i. h.over a (enabled_from fs r.alternatives a i);
 }
 
@@ -202,25 +198,24 @@ module _ (u : EnumTokenData) (g : GrammarData) (h : HasOneEnum u g) where
           (subst (λ (es : List EnumTokenData). In (Bare a) (of_enums es)) h.one_enum
           (subst (λ m. In (Bare m) (of_enums (enums g))) name (conversion_defines g.items d k)))
 
-  sensed_token : (args : List NonterminalString) (a : List ℕ) → args ≡ [] → sense_of (globals g) args a ≡ Some (a_global a_terminal) → IsTokenOf u (Bare a)
-  sensed_token args a none e =
-      by (definition_of (globals g) a) refl (subst (λ (xs : List NonterminalString). sense_of (globals g) xs a ≡ Some (a_global a_terminal)) none e)
+  sensed_token : (args : List NonterminalString) (a : List ℕ) → sense_of (globals g) args a ≡ Some (a_global a_terminal) → IsTokenOf u (Bare a)
+  sensed_token args a e = sensed (is_argument args a) e
     where
       by : (o : Option Definition) → definition_of (globals g) a ≡ o → global_sense o ≡ Some (a_global a_terminal) → IsTokenOf u (Bare a)
       by None is i = absurd (grind arith)
       by (Some x) is i = let same : x ≡ a_terminal = cc i in bare_token a (is ∙ ap Some same)
 
+      sensed : (b : Bool) → (if b then Some an_argument else global_sense (definition_of (globals g) a)) ≡ Some (a_global a_terminal) → IsTokenOf u (Bare a)
+      sensed true i = absurd (grind arith)
+      sensed false i = by (definition_of (globals g) a) refl i
+
   resolved_fit : (r : RuleData) → IsFitRule (IsTokenOf u) r → IsFitRule (IsTokenOf u) (resolved_rule (globals g) r)
   resolved_fit r f = record {
-    arguments = f.arguments;
     bare_type = f.bare_type;
-    conditions = λ a i.
-        let (b, j, e) = of_map (resolved_alternative (sense_of (globals g) r.args)) a r.alternatives i in
-        ap (λ (x : AlternativeData). x.condition) e ∙ f.conditions b j;
     over = λ a i.
         let (b, j, e) = of_map (resolved_alternative (sense_of (globals g) r.args)) a r.alternatives i in
         subst (λ (x : AlternativeData). AreOver (IsTokenOf u) x.parts) (sym e)
-        (resolved_over (IsTokenOf u) (sense_of (globals g) r.args) (λ n is. sensed_token r.args n f.arguments is) b.parts (f.over b j));
+        (resolved_over (IsTokenOf u) (sense_of (globals g) r.args) (λ n is. sensed_token r.args n is) b.parts (f.over b j));
   }
 
   resolved_rule_from : (ds : List Global) (items : List ItemData) (r : RuleData) → In r (flat_map rule_of_item (map (resolved_item ds) items)) →
@@ -282,30 +277,24 @@ module _ (P : TerminalString → Type 0) (d : RuleData) (f : IsFitRule P d) wher
   abbrev ps : List (Option Leveled)
   ps = with_levels (all_places d)
 
-  -- no condition, and terminals among those of P
-  abbrev IsFit : AlternativeData → Type 0
-  IsFit a = (a.condition ≡ None) × AreOver P a.parts
+  level_alternative_fit : (a : Leveled) → In a.alternative d.alternatives → AreOver P (level_alternative d ps a).parts
+  level_alternative_fit a i = leveled_over P (is_own d) _ 0 0 a.alternative.parts (f.over a.alternative i)
 
-  level_alternative_fit : (a : Leveled) → In a.alternative d.alternatives → IsFit (level_alternative d ps a)
-  level_alternative_fit a i = (f.conditions a.alternative i, leveled_over P (is_own d) _ 0 0 a.alternative.parts (f.over a.alternative i))
-
-  step_fit : (o : Option ℕ) (a : AlternativeData) → In a (step_alternatives d ps o) → IsFit a
+  step_fit : (o : Option ℕ) (a : AlternativeData) → In a (step_alternatives d ps o) → AreOver P a.parts
   step_fit None a i = absurd i
-  step_fit (Some l) a (inl e) = subst IsFit (sym e) (refl, (tt, tt))
+  step_fit (Some l) a (inl e) = subst (λ (x : AlternativeData). AreOver P x.parts) (sym e) (tt, tt)
   step_fit (Some l) a (inr i) = absurd i
 
   level_fit : (l : ℕ) → IsFitRule P (level_rule d ps l)
   level_fit l = record {
-    arguments = f.arguments;
     bare_type = f.bare_type;
-    conditions = λ a i. (both a i).0;
-    over = λ a i. (both a i).1;
+    over = each;
   }
     where
-      both : (a : AlternativeData) → In a (level_rule d ps l).alternatives → IsFit a
-      both a i = elim (in_cases a (map (level_alternative d ps) (of_level l (present ps))) (step_alternatives d ps (previous_level ps l)) i) [
+      each : (a : AlternativeData) → In a (level_rule d ps l).alternatives → AreOver P a.parts
+      each a i = elim (in_cases a (map (level_alternative d ps) (of_level l (present ps))) (step_alternatives d ps (previous_level ps l)) i) [
         | inl j ↦ (let (b, k, e) = of_map (level_alternative d ps) a (of_level l (present ps)) j in
-            subst IsFit (sym e) (level_alternative_fit b (numbered_from (all_places d) 0 d.alternatives b (of_level_in l (present ps) b k))))
+            subst (λ (x : AlternativeData). AreOver P x.parts) (sym e) (level_alternative_fit b (numbered_from (all_places d) 0 d.alternatives b (of_level_in l (present ps) b k))))
         | inr j ↦ step_fit (previous_level ps l) a j
       ]
 

@@ -1,20 +1,23 @@
 -- Where each symbol that is met has a rule of its text, each name in what symbols are replaced by has a rule: in alternatives, and in
 -- the types that made rules declare.
-use Rattle.std.proofs.Common.{◌≡◌, inl, inr, ℕ, true, List, [], ◌∷◌, ◌++◌, map, refl, sym, subst}
+use Rattle.std.proofs.Common.{◌≡◌, inl, inr, ℕ, Bool, true, false, Option, Some, None, List, [], ◌∷◌, ◌++◌, map, refl, sym, subst}
+use Rattle.std.specs.Prelude.{flat_map, option_map, option_to_list, bytes_eq, if◌then◌else◌}
+use Rattle.lalrpop_norm_parts.specs.declared.names.NonterminalString.{NonterminalString}
 use Rattle.lalrpop_norm_parts.specs.declared.names.Span.{Span}
 use Rattle.lalrpop_norm_parts.specs.declared.names.TerminalString.{TerminalString}
 use Rattle.lalrpop_norm_tree.specs.declared.symbol.RepeatOp.TheVariants.{Star, Plus, Question}
 use Rattle.lalrpop_norm_tree.specs.Symbols.{Kind, Part, Parts, group, ambiguous_id, terminal, nonterminal, call, repeated, chosen, named, tupled, lookahead, lookbehind, error_terminal, at, no_parts, part_and}
 use Rattle.lalrpop_norm_tree.specs.SymbolTexts.{kind_text, part_text}
-use Rattle.lalrpop_norm_tree.specs.Types.{types_of}
+use Rattle.lalrpop_norm_tree.specs.Types.{TypeData, TypesData, MaybeType, tuple, slice, nominal, reference, trait_object, of_lifetime, id, of_symbol, function, no_types, type_and, no_type, returns, types_of}
 use Rattle.lalrpop_norm_tree.specs.Items.{RuleData, lookahead_code, lookbehind_code}
 use Rattle.lalrpop_norm_theory.specs.Rounds.{In}
 use Rattle.lalrpop_norm_theory.proofs.RoundsLemmas.{in_left, in_right, in_cases}
 use Rattle.lalrpop_norm_model.specs.Grammars.{ConditionValue}
-use Rattle.lalrpop_norm_model.specs.MadeRules.{kind_of, chosen_kinds, all_kinds, if_any, group_sources, type_of_kind, bare_or_tuple, group_rule, star_rule, plus_rule, question_rule, location_rule, made_rules}
+use Rattle.lalrpop_norm_model.specs.MadeRules.{kind_of, chosen_kinds, all_kinds, if_any, group_sources, type_of_kind, bare_or_tuple, group_rule, star_rule, plus_rule, question_rule, location_rule, argument_kind, type_of_name, type_put_in, types_put_in, returned_put_in, instance_rule, instance_of, macro_named, made_rules}
 use Rattle.lalrpop_norm_model.specs.Replaced.{replaced_kind, replaced, all_replaced}
-use Rattle.lalrpop_norm_model.specs.PlainRules.{met, all_met, met_in_rule, met_by_made}
-use Rattle.lalrpop_norm_model.specs.Expanded.{is_plain_terminal, is_plain_kind, names_in_kind, names_in, names_in_parts, symbols_in, symbols_in_all, declared_symbols}
+use Rattle.lalrpop_norm_model.specs.PlainRules.{met, all_met}
+use Rattle.lalrpop_norm_model.specs.Expanded.{is_plain_terminal, is_plain_kind, names_in_kind, names_in, names_in_parts, symbols_in, symbols_in_all, symbols_in_return, declared_symbols}
+use Rattle.lalrpop_norm_model.proofs.InferenceLemmas.{both_empty}
 use Rattle.lalrpop_norm.proofs.ExpandedParts.{IsReadyKind, IsReady, AreReady, kind_plain}
 
 -- the only element of a list
@@ -24,6 +27,77 @@ only x y (inr i) = absurd i
 
 last : {A : Type 0} (xs : List A) (x : A) → In x (xs ++ x ∷ [])
 last xs x = in_right x xs (x ∷ []) (inl refl)
+
+-- ---- macros and their arguments
+
+-- a macro that is found is one of them
+pub named_listed : (macros : List RuleData) (n : List ℕ) (d : RuleData) → macro_named macros n ≡ Some d → In d macros
+named_listed [] n d e = cc e
+named_listed (x ∷ xs) n d e = by (bytes_eq x.name.0 n) (named_listed xs n d) e
+  where
+    by : (b : Bool) → (macro_named xs n ≡ Some d → In d xs) → (if b then Some x else macro_named xs n) ≡ Some d → In d (x ∷ xs)
+    by true f h = inl cc
+    by false f h = inr (f h)
+
+-- what an argument is bound to is one of the arguments
+pub argument_listed : (params : List NonterminalString) (ps : Parts) (n : List ℕ) (k : Kind) → argument_kind params ps n ≡ Some k → In k (all_kinds ps)
+argument_listed [] no_parts n k e = absurd (cc e)
+argument_listed [] (part_and p ps) n k e = absurd (cc e)
+argument_listed (a ∷ params) no_parts n k e = absurd (cc e)
+argument_listed (a ∷ params) (part_and p ps) n k e = by (bytes_eq a.0 n) (argument_listed params ps n k) e
+  where
+    by : (b : Bool) → (argument_kind params ps n ≡ Some k → In k (all_kinds ps)) → (if b then Some (kind_of p) else argument_kind params ps n) ≡ Some k →
+        In k (kind_of p ∷ all_kinds ps)
+    by true f h = inl cc
+    by false f h = inr (f h)
+
+-- Where no symbol stands in a type, those that come into it are arguments.
+module _ (argument : List ℕ → Option Kind) where
+  abbrev IsPut : Kind → Type 0
+  IsPut k = (n : List ℕ) × (j : Kind) × (argument n ≡ Some j) × (k ≡ replaced_kind j)
+
+  name_put : (n : List ℕ) (o : Option Kind) → argument n ≡ o → (k : Kind) → In k (symbols_in (type_of_name n o)) → IsPut k
+  name_put n None e k i = absurd i
+  name_put n (Some j) e k (inl is) = (n, j, e, is)
+  name_put n (Some j) e k (inr i) = absurd i
+
+  mutual
+    type_put : (t : TypeData) → symbols_in t ≡ [] → (k : Kind) → In k (symbols_in (type_put_in argument t)) → IsPut k
+    type_put (id n) e k i = name_put n (argument n) refl k i
+    type_put (tuple ts) e k i = types_put ts e k i
+    type_put (slice t) e k i = type_put t e k i
+    type_put (nominal p ts) e k i = types_put ts e k i
+    type_put (reference l m t) e k i = type_put t e k i
+    type_put (trait_object p ts) e k i = types_put ts e k i
+    type_put (of_lifetime l) e k i = absurd i
+    type_put (of_symbol j) e k i = absurd (cc e)
+    type_put (function fs p ts r) e k i =
+        let none = both_empty (symbols_in_all ts) (symbols_in_return r) e in
+        elim (in_cases k (symbols_in_all (types_put_in argument ts)) (symbols_in_return (returned_put_in argument r)) i) [
+          | inl j ↦ types_put ts none.0 k j
+          | inr j ↦ returned_put r none.1 k j
+        ]
+
+    types_put : (ts : TypesData) → symbols_in_all ts ≡ [] → (k : Kind) → In k (symbols_in_all (types_put_in argument ts)) → IsPut k
+    types_put no_types e k i = absurd i
+    types_put (type_and t ts) e k i =
+        let none = both_empty (symbols_in t) (symbols_in_all ts) e in
+        elim (in_cases k (symbols_in (type_put_in argument t)) (symbols_in_all (types_put_in argument ts)) i) [
+          | inl j ↦ type_put t none.0 k j
+          | inr j ↦ types_put ts none.1 k j
+        ]
+
+    returned_put : (r : MaybeType) → symbols_in_return r ≡ [] → (k : Kind) → In k (symbols_in_return (returned_put_in argument r)) → IsPut k
+    returned_put no_type e k i = absurd i
+    returned_put (returns t) e k i = type_put t e k i
+
+  declared_put : (o : Option TypeData) → flat_map symbols_in (option_to_list o) ≡ [] → (k : Kind) →
+      In k (flat_map symbols_in (option_to_list (option_map (type_put_in argument) o))) → IsPut k
+  declared_put None e k i = absurd i
+  declared_put (Some t) e k i = elim (in_cases k (symbols_in (type_put_in argument t)) [] i) [
+    | inl j ↦ type_put t (both_empty (symbols_in t) [] e).0 k j
+    | inr j ↦ absurd j
+  ]
 
 module _ (P : TerminalString → Type 0) (plain : (t : TerminalString) → P t → is_plain_terminal t ≡ true) (S : List (List ℕ)) where
   abbrev pub Named : List ℕ → Type 0
@@ -45,7 +119,7 @@ module _ (P : TerminalString → Type 0) (plain : (t : TerminalString) → P t �
   mutual
     kind_named : (s : Span) (k : Kind) → IsReadyKind P Named k → Covered (met (at s k)) → (n : List ℕ) → In n (names_in_kind (replaced_kind k)) → Named n
     kind_named s (group ps) h c n i = same_name n (kind_text (group ps)) (c (at s (group ps)) (last (all_met ps) (at s (group ps)))) i
-    kind_named s (call m ps) h c n i = absurd h
+    kind_named s (call m ps) h c n i = same_name n (kind_text (call m ps)) (c (at s (call m ps)) (last (all_met ps) (at s (call m ps)))) i
     kind_named s (repeated op p) h c n i = same_name n (kind_text (repeated op p)) (c (at s (repeated op p)) (last (met p) (at s (repeated op p)))) i
     kind_named s (chosen p) h c n i = part_named p h c n i
     kind_named s (named m p) h c n i = part_named p h c n i
@@ -88,7 +162,7 @@ module _ (P : TerminalString → Type 0) (plain : (t : TerminalString) → P t �
       subst (λ j. IsSettledSymbol (replaced_kind j)) (sym e) (part_settled p h.0 (covered_left (met p) (all_met ps) c))
   chosen_settled (part_and (at s (chosen p)) ps) h c k (inr i) = chosen_settled ps h.1 (covered_right (met p) (all_met ps) c) k i
   chosen_settled (part_and (at s (group qs)) ps) h c k i = chosen_settled ps h.1 (covered_right (met (at s (group qs))) (all_met ps) c) k i
-  chosen_settled (part_and (at s (call n qs)) ps) h c k i = absurd h.0
+  chosen_settled (part_and (at s (call n qs)) ps) h c k i = chosen_settled ps h.1 (covered_right (met (at s (call n qs))) (all_met ps) c) k i
   chosen_settled (part_and (at s (repeated op p)) ps) h c k i = chosen_settled ps h.1 (covered_right (met (at s (repeated op p))) (all_met ps) c) k i
   chosen_settled (part_and (at s (named n p)) ps) h c k i = chosen_settled ps h.1 (covered_right (met p) (all_met ps) c) k i
   chosen_settled (part_and (at s (tupled ns p)) ps) h c k i = chosen_settled ps h.1 (covered_right (met p) (all_met ps) c) k i
@@ -134,32 +208,37 @@ module _ (P : TerminalString → Type 0) (plain : (t : TerminalString) → P t �
   one_symbol : (p : Part) → IsReady P Named p → Covered (met p) → (k : Kind) → In k (replaced_kind (kind_of p) ∷ []) → IsSettledSymbol k
   one_symbol p h c k i = subst IsSettledSymbol (sym (only k (replaced_kind (kind_of p)) i)) (part_settled p h c)
 
-  -- The symbols in the declared type of a made rule are plain, and their names have rules.
-  pub made_settled : (value : ConditionValue) (p : Part) → IsReady P Named p → Covered (met_by_made value [] p) →
-      (r : RuleData) → In r (made_rules value [] p) → (k : Kind) → In k (declared_symbols r) → IsSettledSymbol k
-  made_settled value (at s (group ps)) h c r i k j = of_only (group_rule s ps) r f i k j
-    where
-      covered : Covered (all_met ps)
-      covered q m = c q (in_left q ((all_met ps) ++ []) [] (in_left q (all_met ps) [] m))
+  -- an instance declares the type of its macro, into which its arguments come
+  instance_settled : (value : ConditionValue) (s : Span) (d : RuleData) (ps : Parts) → declared_symbols d ≡ [] → AreReady P Named ps → Covered (all_met ps) →
+      (k : Kind) → In k (declared_symbols (instance_rule value s d ps)) → IsSettledSymbol k
+  instance_settled value s d ps bare h c k i =
+      let (n, j, is, e) = declared_put (argument_kind d.args ps) d.type_decl bare k i in
+      subst IsSettledSymbol (sym e) (all_settled ps h c j (argument_listed d.args ps n j is))
 
+  -- The symbols in the declared type of a made rule are plain, and their names have rules.
+  pub made_settled : (value : ConditionValue) (macros : List RuleData) → ((d : RuleData) → In d macros → declared_symbols d ≡ []) →
+      (p : Part) → IsReady P Named p → Covered (met p) → (r : RuleData) → In r (made_rules value macros p) → (k : Kind) → In k (declared_symbols r) → IsSettledSymbol k
+  made_settled value macros bare (at s (group ps)) h c r i k j = of_only (group_rule s ps) r f i k j
+    where
       f : (x : Kind) → In x (declared_symbols (group_rule s ps)) → IsSettledSymbol x
       f x m =
           let a = type_among (group_sources ps) x (no_more x (symbols_in (bare_or_tuple (map type_of_kind (group_sources ps)))) m) in
-          subst IsSettledSymbol (sym a.2) (sources_settled ps h covered a.0 a.1)
-  made_settled value (at s (call n ps)) h c r i k j = absurd h
-  made_settled value (at s (repeated Star p)) h c r i k j =
-      of_only (star_rule s p) r (one_symbol p h (λ q m. c q (in_left q (((met p ++ at s (repeated Plus p) ∷ []) ++ []) ++ []) []
-      (in_left q ((met p ++ at s (repeated Plus p) ∷ []) ++ []) [] (in_left q (met p ++ at s (repeated Plus p) ∷ []) [] (in_left q (met p) (at s (repeated Plus p) ∷ []) m)))))) i k j
-  made_settled value (at s (repeated Plus p)) h c r i k j =
-      of_only (plus_rule s p) r (one_symbol p h (λ q m. c q (in_left q (met_in_rule (plus_rule s p)) [] (in_left q (met p ++ []) _ (in_left q (met p) [] m))))) i k j
-  made_settled value (at s (repeated Question p)) h c r i k j =
-      of_only (question_rule s p) r (one_symbol p h (λ q m. c q (in_left q (met_in_rule (question_rule s p)) [] (in_left q (met p ++ []) _ (in_left q (met p) [] m))))) i k j
-  made_settled value (at s lookahead) h c r i k j = of_only (location_rule s lookahead lookahead_code) r (λ x m. absurd m) i k j
-  made_settled value (at s lookbehind) h c r i k j = of_only (location_rule s lookbehind lookbehind_code) r (λ x m. absurd m) i k j
-  made_settled value (at s (ambiguous_id a)) h c r i k j = absurd i
-  made_settled value (at s (terminal t)) h c r i k j = absurd i
-  made_settled value (at s (nonterminal n)) h c r i k j = absurd i
-  made_settled value (at s (chosen p)) h c r i k j = absurd i
-  made_settled value (at s (named n p)) h c r i k j = absurd i
-  made_settled value (at s (tupled ns p)) h c r i k j = absurd i
-  made_settled value (at s error_terminal) h c r i k j = absurd i
+          subst IsSettledSymbol (sym a.2) (sources_settled ps h (covered_left (all_met ps) (at s (group ps) ∷ []) c) a.0 a.1)
+  made_settled value macros bare (at s (call n ps)) h c r i k j = by (macro_named macros n) (named_listed macros n) i
+    where
+      by : (o : Option RuleData) → ((d : RuleData) → o ≡ Some d → In d macros) → In r (instance_of value s o ps) → IsSettledSymbol k
+      by None f i = absurd i
+      by (Some d) f i =
+          of_only (instance_rule value s d ps) r (instance_settled value s d ps (bare d (f d refl)) h (covered_left (all_met ps) (at s (call n ps) ∷ []) c)) i k j
+  made_settled value macros bare (at s (repeated Star p)) h c r i k j = of_only (star_rule s p) r (one_symbol p h (covered_left (met p) (at s (repeated Star p) ∷ []) c)) i k j
+  made_settled value macros bare (at s (repeated Plus p)) h c r i k j = of_only (plus_rule s p) r (one_symbol p h (covered_left (met p) (at s (repeated Plus p) ∷ []) c)) i k j
+  made_settled value macros bare (at s (repeated Question p)) h c r i k j = of_only (question_rule s p) r (one_symbol p h (covered_left (met p) (at s (repeated Question p) ∷ []) c)) i k j
+  made_settled value macros bare (at s lookahead) h c r i k j = of_only (location_rule s lookahead lookahead_code) r (λ x m. absurd m) i k j
+  made_settled value macros bare (at s lookbehind) h c r i k j = of_only (location_rule s lookbehind lookbehind_code) r (λ x m. absurd m) i k j
+  made_settled value macros bare (at s (ambiguous_id a)) h c r i k j = absurd i
+  made_settled value macros bare (at s (terminal t)) h c r i k j = absurd i
+  made_settled value macros bare (at s (nonterminal n)) h c r i k j = absurd i
+  made_settled value macros bare (at s (chosen p)) h c r i k j = absurd i
+  made_settled value macros bare (at s (named n p)) h c r i k j = absurd i
+  made_settled value macros bare (at s (tupled ns p)) h c r i k j = absurd i
+  made_settled value macros bare (at s error_terminal) h c r i k j = absurd i

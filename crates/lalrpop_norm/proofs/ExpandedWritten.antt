@@ -1,5 +1,5 @@
 -- What a written grammar without a later part and without faults says of its enabled grammar: one extern enum, whose terminals are all
--- that its symbols use, and rules without arguments and conditions, in whose types no symbol stands.
+-- that its symbols use, and rules in whose types no symbol stands.
 use Rattle.std.proofs.Common.{◌≡◌, inl, inr, ℕ, Bool, true, false, not, ◌||◌, List, [], ◌∷◌, ◌++◌, map, Option, Some, None, IsSome, refl, ap, sym, subst, ◌∙◌}
 use Rattle.std.specs.Prelude.{flat_map, filter, option_map, option_to_list, is_some, All, if◌then◌else◌}
 use Rattle.std.specs.List as list
@@ -30,7 +30,7 @@ use Rattle.lalrpop_norm_model.proofs.GrammarLemmas.{rule_item_of}
 use Rattle.lalrpop_norm_model.proofs.InferenceLemmas.{both_empty, none_made, in_filtered}
 use Rattle.lalrpop_norm_front.specs.EnabledItems.{active_conversions}
 use Rattle.lalrpop_norm_front.specs.TypeFaults.{some_holds, kind_holds, pattern_holds, patterns_hold, fields_hold}
-use Rattle.lalrpop_norm_front.specs.SymbolFaults.{terminal_faults, kind_faults, part_faults, parts_faults, beside_faults, list_faults}
+use Rattle.lalrpop_norm_front.specs.SymbolFaults.{terminal_faults, call_faults, kind_faults, part_faults, parts_faults, beside_faults, list_faults}
 use Rattle.lalrpop_norm_front.specs.AlternativeFaults.{alternative_faults}
 use Rattle.lalrpop_norm_front.specs.GrammarFaults.{rule_faults, associated_faults, types_faults, conversion_faults, enum_faults, extern_faults, is_known_type, unknown_grammar_faults, parameter_faults, clause_faults, is_match, is_extern, item_faults, items_faults, place_in, blocks_in, validate_faults}
 use Rattle.lalrpop_norm_front.specs.Walks.{types_along, items_along}
@@ -391,7 +391,7 @@ module _ (g : GrammarData) (converts : TerminalString → Bool) (P : TerminalStr
     kind_over s (group ps) h f = parts_over ps h (both_empty (parts_faults (place_in g) ps) (beside_faults ps) f).0
     kind_over s (ambiguous_id a) h f = tt
     kind_over s (nonterminal n) h f = tt
-    kind_over s (call n ps) h f = absurd h
+    kind_over s (call n ps) h f = parts_over ps h (both_empty (call_faults s ps) (parts_faults (place_in g) ps) f).1
     kind_over s (repeated op p) h f = part_over p h f
     kind_over s (chosen p) h f = part_over p h f
     kind_over s (named n p) h f = part_over p h f
@@ -501,9 +501,7 @@ module _ (fs : Features) (g : GrammarData) (h : IsTaken fs g) (f : validate_faul
     written_fit r i =
         let free = rule_free g r (each_free (rule_item r) (rule_item_of g r i)) in
         record {
-          arguments = (taken_rule r i).arguments;
           bare_type = none_declared r.type_decl free.0;
-          conditions = λ a j. (taken_alternative r i a j).condition;
           over = λ a j.
               parts_over g (has_active_conversion fs g.items) (IsTokenOf (enabled_enum fs u)) converted a.parts (taken_alternative r i a j).symbols
               (symbols_free g a (none_made (alternative_faults (place_in g)) r.alternatives free.1 a j));

@@ -14,7 +14,7 @@ use Rattle.lalrpop_norm_model.specs.Features.{Features}
 use Rattle.lalrpop_norm.specs.declared.later.LaterPart.{LaterPart}
 use Rattle.lalrpop_norm.specs.declared.later.LaterPart.TheVariants as later
 use Rattle.lalrpop_norm.specs.Grammars.{rules_among, externs_of, enum_of, conversions_in, conversions_of, active_conversions, terminals_converted, same_terminal, has_repeated_by}
-use Rattle.lalrpop_norm.specs.Later.{part_if, part_of_any, part_of_some, part_of_none, attribute_parts, terminal_parts, kind_parts, symbol_parts, symbols_parts, has_several_slots, action_parts, alternative_parts, type_parts, declared_parts, later_rule_parts, start_parts, pattern_kind_parts, pattern_parts, patterns_parts, conversion_parts, enum_parts, extern_parts, token_parts, head_parts, item_parts, has_rule, has_active_conversion, later_parts}
+use Rattle.lalrpop_norm.specs.Later.{part_if, part_of_any, part_of_none, attribute_parts, terminal_parts, kind_parts, symbol_parts, symbols_parts, has_several_slots, action_parts, alternative_parts, type_parts, declared_parts, later_rule_parts, start_parts, pattern_kind_parts, pattern_parts, patterns_parts, conversion_parts, enum_parts, extern_parts, token_parts, head_parts, item_parts, has_rule, has_active_conversion, later_parts}
 use Rattle.lalrpop_norm.specs.TakenGrammars.{IsConverted, IsTakenKind, IsTakenSymbol, AreTakenSymbols, HasAtMostOneSlot, IsTakenAlternative, IsTakenRule, IsTakenPatternKind, IsTakenPattern, AreTakenPatterns, HasTakenPattern, IsTakenExtern, IsNoMatchBlock, IsTaken}
 use Rattle.lalrpop_norm_theory.proofs.BoolLemmas.{left_false, right_false}
 
@@ -49,10 +49,6 @@ pub any_none : {X : Type 0} (p : LaterPart) (xs : List X) → part_of_any p xs �
 any_none p [] h = refl
 any_none p (x ∷ xs) h = cc
 
-pub some_none : {X : Type 0} (p : LaterPart) (o : Option X) → part_of_some p o ≡ [] → o ≡ None
-some_none p None h = refl
-some_none p (Some x) h = cc
-
 attributes_none : (p : LaterPart) (as_written : Attributes) → attribute_parts p as_written ≡ [] → as_written ≡ no_attributes
 attributes_none p no_attributes h = refl
 attributes_none p (attribute_and a rest) h = cc
@@ -78,13 +74,13 @@ mutual
   taken_kind converts (ambiguous_id a) h = tt
   taken_kind converts (terminal t) h = converted_none converts t h
   taken_kind converts (nonterminal n) h = tt
-  taken_kind converts (call m ps) h = cc
+  taken_kind converts (call m ps) h = taken_symbols converts ps h
   taken_kind converts (repeated op p) h = taken_symbol converts p h
   taken_kind converts (chosen p) h = taken_symbol converts p h
   taken_kind converts (named n p) h = taken_symbol converts p h
   taken_kind converts (tupled ps p) h = cc
-  taken_kind converts lookahead h = cc
-  taken_kind converts lookbehind h = cc
+  taken_kind converts lookahead h = tt
+  taken_kind converts lookbehind h = tt
   taken_kind converts error_terminal h = cc
 
   pub taken_symbol : (converts : TerminalString → Bool) (p : Part) → symbol_parts converts p ≡ [] → IsTakenSymbol converts p
@@ -109,25 +105,16 @@ taken_action (Some lookbehind_code) h = tt
 taken_alternative : (converts : TerminalString → Bool) (a : AlternativeData) → alternative_parts converts a ≡ [] → IsTakenAlternative converts a
 taken_alternative converts a h =
     let symbols = symbols_parts converts a.parts in
-    let condition = part_of_some later.Condition a.condition in
     let action = action_parts a.action in
-    let behind : condition ++ action ≡ [] = right_none symbols (condition ++ action) h in
-    record {
-      symbols = taken_symbols converts a.parts (left_none symbols (condition ++ action) h);
-      condition = some_none later.Condition a.condition (left_none condition action behind);
-      action = taken_action a.action (right_none condition action behind);
-    }
+    record { symbols = taken_symbols converts a.parts (left_none symbols action h); action = taken_action a.action (right_none symbols action h) }
 
 taken_rule : (converts : TerminalString → Bool) (r : RuleData) → later_rule_parts converts r ≡ [] → IsTakenRule converts r
 taken_rule converts r h =
-    let arguments = part_of_any later.MacroDefinition r.args in
     let declared = declared_parts converts r.type_decl in
     let alternatives = flat_map (alternative_parts converts) r.alternatives in
-    let behind : declared ++ alternatives ≡ [] = right_none arguments (declared ++ alternatives) h in
-    let each = each_none (alternative_parts converts) r.alternatives (right_none declared alternatives behind) in
+    let each = each_none (alternative_parts converts) r.alternatives (right_none declared alternatives h) in
     record {
-      arguments = any_none later.MacroDefinition r.args (left_none arguments (declared ++ alternatives) h);
-      declared = declared_none converts r.type_decl (left_none declared alternatives behind);
+      declared = declared_none converts r.type_decl (left_none declared alternatives h);
       alternatives = λ k d lt. taken_alternative converts _ (each k d lt);
     }
 

@@ -9,6 +9,7 @@ pub mod ExpandedParts
 pub mod ExpandedSymbols
 pub mod ExpandedRounds
 pub mod ExpandedScopes
+pub mod ExpandedInstances
 pub mod ExpandedTokens
 pub mod ExpandedPlain
 pub mod ExpandedSteps

@@ -1,36 +1,30 @@
 -- From what the passes promise to what normalization promises.
-use Rattle.std.proofs.Common.{◌≡◌, ◌↔◌, inl, inr, ℕ, Bool, true, false, List, [], ◌∷◌, ◌++◌, map, Option, Some, None, Result, IsErrAnd, refl, ap, ap₂, sym, subst, ◌∙◌}
-use Rattle.std.specs.Prelude.{flat_map, if◌then◌else◌}
+use Rattle.std.proofs.Common.{◌≡◌, ◌↔◌, ℕ, List, [], ◌++◌, Option, Some, None, Result, IsErrAnd, refl, ap, sym, subst, ◌∙◌}
 use Rattle.std.proofs.Math.Path.{fun_ext}
-use Rattle.std.proofs.lemmas.Grind.{flat_map-append}
-use Rattle.std.proofs.lemmas.List.{append-nil}
-use Rattle.lalrpop_norm_parts.specs.declared.names.NonterminalString.{NonterminalString}
-use Rattle.lalrpop_norm_tree.specs.Items.{RuleData, ItemData, GrammarData, match_item, extern_item, intern_item, rule_item, use_item}
-use Rattle.lalrpop_norm_theory.specs.Rounds.{In, IsDistinct}
+use Rattle.lalrpop_norm_tree.specs.Items.{ItemData, GrammarData, extern_item}
+use Rattle.lalrpop_norm_theory.specs.Rounds.{IsDistinct}
 use Rattle.lalrpop_norm_conditions.specs.Conditions.{comparison}
 use Rattle.lalrpop_norm_faults.specs.declared.failure.NormFailure.{NormFailure}
-use Rattle.lalrpop_norm_faults.specs.declared.kind.FaultKind.TheVariants.{NotYet}
 use Rattle.lalrpop_norm_faults.specs.Faults.{IsFirst, Refuses}
 use Rattle.lalrpop_norm_faults.proofs.FaultLemmas.{exit_at}
 use Rattle.lalrpop_norm_repr.specs.Lowered.{LoweredGrammar}
 use Rattle.lalrpop_norm_repr.specs.Tables.{TypeTable}
-use Rattle.lalrpop_norm_model.specs.Enabled.{all_places, enabled_grammar}
+use Rattle.lalrpop_norm_model.specs.Enabled.{enabled_grammar}
 use Rattle.lalrpop_norm_model.specs.Expanded.{rule_names, IsExpanded}
 use Rattle.lalrpop_norm_model.specs.Features.{Features}
-use Rattle.lalrpop_norm_model.specs.Grammars.{is_nil}
 use Rattle.lalrpop_norm_model.specs.InferenceFaults.{inference_faults, inferred_table}
-use Rattle.lalrpop_norm_model.specs.LevelRules.{level_rule, level_items, leveled_grammar}
-use Rattle.lalrpop_norm_model.specs.Levels.{Leveled, has_levels, with_levels, levels_of, previous_level}
+use Rattle.lalrpop_norm_model.specs.LevelRules.{leveled_grammar}
 use Rattle.lalrpop_norm_model.specs.LoweringFaults.{lowering_faults}
-use Rattle.lalrpop_norm_model.specs.PlainRules.{rule_of_item, all_rules, plain_grammar}
-use Rattle.lalrpop_norm_model.specs.Scopes.{Global, globals, resolved_grammar}
+use Rattle.lalrpop_norm_model.specs.PlainRules.{all_rules, plain_grammar}
+use Rattle.lalrpop_norm_model.specs.Renumbered.{prepared_grammar}
+use Rattle.lalrpop_norm_model.specs.Scopes.{resolved_grammar}
 use Rattle.lalrpop_norm_model.proofs.InferenceLemmas.{both_empty, inferred_types}
 use Rattle.lalrpop_norm_model.proofs.TypableLemmas.{typable_exactly}
-use Rattle.lalrpop_norm_resolve.specs.NameFaults.{repeated_faults, rule_name_faults, item_name_faults, resolve_faults}
+use Rattle.lalrpop_norm_resolve.specs.NameFaults.{resolve_faults}
 use Rattle.lalrpop_norm_precedence.specs.LevelFaults.{grammar_level_faults}
 use Rattle.lalrpop_norm_front.specs.GrammarFaults.{validate_faults}
-use Rattle.lalrpop_norm_precedence.specs.PrecedenceFaults.{unstepped_rule, step_faults, level_rule_faults, level_items_faults, leveled_faults, precedence_faults}
-use Rattle.lalrpop_norm_expand.specs.Expansion.{expansion_faults, later_macro_faults}
+use Rattle.lalrpop_norm_precedence.specs.PrecedenceFaults.{leveled_faults, precedence_faults}
+use Rattle.lalrpop_norm_expand.specs.Expansion.{expansion_faults}
 use Rattle.lalrpop_norm_tyinfer.specs.Inferred.{IsInferred}
 use Rattle.lalrpop_norm_late.specs.Active.{active_item, active_grammar}
 use Rattle.lalrpop_norm_late.specs.Made.{types_by_name}
@@ -40,9 +34,8 @@ use Rattle.lalrpop_norm.specs.Normalize.{late_faults, pass_faults}
 use Rattle.lalrpop_norm.specs.Passed.{IsTypedByInference, IsTypedLowering, IsPassed}
 use Rattle.lalrpop_norm.specs.PlainLaws.{PassesExpansion}
 use Rattle.lalrpop_norm.specs.TakenGrammars.{IsTaken}
-use Rattle.lalrpop_norm.proofs.ComposedFaithful.{no_macros_before, prepared, plain_is_typed, plain_is_expanded, inferred_total, lowered_faithful}
+use Rattle.lalrpop_norm.proofs.ComposedFaithful.{plain_is_typed, plain_is_expanded, inferred_total, lowered_faithful}
 use Rattle.lalrpop_norm.proofs.ExpandedActive.{plain_active, items_kept}
-use Rattle.lalrpop_norm.proofs.ExpandedScopes.{HasNoMacros, no_macros_of}
 
 -- ---- types
 
@@ -69,67 +62,23 @@ late_same p types distinct none inferred =
     ap (lowering_faults p) (types_are_inferred p types distinct none inferred)
     ∙ sym (ap (λ fs. fs ++ lowering_faults p (inferred_table p)) none)
 
--- ---- names of the grammar with levels
-
-module _ (ds : List Global) where
-  of_level : (r : RuleData) → r.args ≡ [] → (ps : List (Option Leveled)) (l : ℕ) → rule_name_faults ds (level_rule r ps l) ≡ level_rule_faults ds r ps l
-  of_level r e ps l =
-      sym (ap (λ (b : Bool). if b then rule_name_faults ds (level_rule r ps l) else (rule_name_faults ds (unstepped_rule r ps l) ++ step_faults r (previous_level ps l)))
-      (ap (λ (args : List NonterminalString). is_nil args) e))
-
-  of_levels : (r : RuleData) → r.args ≡ [] → (ps : List (Option Leveled)) (ls : List ℕ) →
-      flat_map (item_name_faults ds) (map rule_item (map (level_rule r ps) ls)) ≡ flat_map (level_rule_faults ds r ps) ls
-  of_levels r e ps [] = refl
-  of_levels r e ps (l ∷ ls) = ap₂ ◌++◌ (of_level r e ps l) (of_levels r e ps ls)
-
-  of_rule : (b : Bool) (r : RuleData) → r.args ≡ [] → (ps : List (Option Leveled)) (ls : List ℕ) →
-      flat_map (item_name_faults ds) (map rule_item (if b then map (level_rule r ps) ls else r ∷ []))
-      ≡ (if b then flat_map (level_rule_faults ds r ps) ls else rule_name_faults ds r)
-  of_rule true r e ps ls = of_levels r e ps ls
-  of_rule false r e ps ls = append-nil (rule_name_faults ds r)
-
-  of_items : (items : List ItemData) → ((r : RuleData) → In r (flat_map rule_of_item items) → r.args ≡ []) →
-      flat_map (item_name_faults ds) (flat_map level_items items) ≡ flat_map (level_items_faults ds) items
-  of_items [] h = refl
-  of_items (rule_item r ∷ items) h =
-      flat_map-append (item_name_faults ds) (level_items (rule_item r)) (flat_map level_items items)
-      ∙ ap₂ ◌++◌ (of_rule (has_levels (all_places r)) r (h r (inl refl)) (with_levels (all_places r)) (levels_of (with_levels (all_places r))))
-      (of_items items (λ s i. h s (inr i)))
-  of_items (match_item m ∷ items) h = of_items items h
-  of_items (extern_item t ∷ items) h = of_items items h
-  of_items (intern_item t ∷ items) h = of_items items h
-  of_items (use_item u ∷ items) h = of_items items h
-
--- without macros the faults of names in the grammar with levels are those that the pass over levels looks for
-leveled_none : (g : GrammarData) → HasNoMacros g → leveled_faults g ≡ [] → resolve_faults (leveled_grammar g) ≡ []
-leveled_none g none free = ap (λ fs. repeated_faults [] (globals (leveled_grammar g)) ++ fs) (of_items (globals (leveled_grammar g)) g.items none) ∙ free
-
 -- ---- what the passes find
 
 module _ (fs : Features) (g : GrammarData) (taken : IsTaken fs g) (valid : validate_faults g ≡ []) (names : precedence_faults (enabled_grammar fs g) ≡ []) where
   resolved : resolve_faults (enabled_grammar fs g) ≡ []
   resolved = (both_empty (resolve_faults (enabled_grammar fs g)) _ names).0
 
-  leveled : resolve_faults (grammar_with_levels fs g) ≡ []
+  leveled : leveled_faults (prepared_grammar fs g) ≡ []
   leveled =
-      leveled_none (resolved_grammar (enabled_grammar fs g)) (no_macros_before fs g taken valid)
       (both_empty (grammar_level_faults (resolved_grammar (enabled_grammar fs g))) _ (both_empty (resolve_faults (enabled_grammar fs g)) _ names).1).1
-
-  -- no macro is left, which the expansion would refuse
-  no_macro_faults : later_macro_faults (grammar_with_levels fs g) ≡ []
-  no_macro_faults =
-      ap (map (λ (r : RuleData). (NotYet, r.span)))
-      (no_macros_of (grammar_with_levels fs g) (prepared fs g (record { taken = taken; valid = valid; resolved = resolved; leveled = leveled })).no_macros)
 
   -- what is refused in the expansion is what the passes refuse
   pub expansion_exit : {T : Type 0} (limit : ℕ) (r : Result T NormFailure) (e : NormFailure) (h : GrammarData) → h ≡ grammar_with_levels fs g →
-      IsFirst (later_macro_faults h ++ expansion_faults comparison h limit) e → IsErrAnd r (λ x. x ≡ e) → Refuses r (pass_faults fs limit g)
+      IsFirst (expansion_faults comparison h limit) e → IsErrAnd r (λ x. x ≡ e) → Refuses r (pass_faults fs limit g)
   expansion_exit limit r e h same first is =
       let here = expansion_faults comparison (grammar_with_levels fs g) limit in
       let late = late_faults (grammar_of_plain_rules fs g limit) in
-      let told : IsFirst (later_macro_faults (grammar_with_levels fs g) ++ here) e =
-      subst (λ (x : GrammarData). IsFirst (later_macro_faults x ++ expansion_faults comparison x limit) e) same first in
-      exit_at r e here late (pass_faults fs limit g) is (subst (λ ms. IsFirst (ms ++ here) e) no_macro_faults told)
+      exit_at r e here late (pass_faults fs limit g) is (subst (λ (x : GrammarData). IsFirst (expansion_faults comparison x limit) e) same first)
       (ap (λ vs. vs ++ (precedence_faults (enabled_grammar fs g) ++ (here ++ late))) valid ∙ ap (λ ns. ns ++ (here ++ late)) names)
 
 -- The passes up to the expansion find nothing wrong, each asked by itself.
@@ -137,14 +86,11 @@ pub record HasExpanded (fs : Features) (g : GrammarData) (limit : ℕ) : Type 0 
   pub taken : IsTaken fs g
   pub valid : validate_faults g ≡ []
   pub names : precedence_faults (enabled_grammar fs g) ≡ []
-  pub whole : later_macro_faults (grammar_with_levels fs g) ++ expansion_faults comparison (grammar_with_levels fs g) limit ≡ []
+  pub expanded : expansion_faults comparison (grammar_with_levels fs g) limit ≡ []
 
 module _ (fs : Features) (g : GrammarData) (limit : ℕ) (H : HasExpanded fs g limit) where
   abbrev p : GrammarData
   p = grammar_of_plain_rules fs g limit
-
-  expanded : expansion_faults comparison (grammar_with_levels fs g) limit ≡ []
-  expanded = (both_empty (later_macro_faults (grammar_with_levels fs g)) _ H.whole).1
 
   passes : PassesExpansion fs g limit
   passes = record {
@@ -152,7 +98,7 @@ module _ (fs : Features) (g : GrammarData) (limit : ℕ) (H : HasExpanded fs g l
     valid = H.valid;
     resolved = resolved fs g H.taken H.valid H.names;
     leveled = leveled fs g H.taken H.valid H.names;
-    expanded = expanded;
+    expanded = H.expanded;
   }
 
   -- what inference and lowering ask
@@ -168,7 +114,7 @@ module _ (fs : Features) (g : GrammarData) (limit : ℕ) (H : HasExpanded fs g l
       let here = expansion_faults comparison (grammar_with_levels fs g) limit in
       let late = late_faults p in
       subst (Refuses r)
-      (sym (ap (λ vs. vs ++ (precedence_faults (enabled_grammar fs g) ++ (here ++ late))) H.valid ∙ ap (λ ns. ns ++ (here ++ late)) H.names ∙ ap (λ es. es ++ late) expanded))
+      (sym (ap (λ vs. vs ++ (precedence_faults (enabled_grammar fs g) ++ (here ++ late))) H.valid ∙ ap (λ ns. ns ++ (here ++ late)) H.names ∙ ap (λ es. es ++ late) H.expanded))
       h
 
   all_active : active_grammar fs p ≡ p
@@ -199,7 +145,7 @@ levels_answer fs g enabled stepped same (none, is) = (
 -- the expansion answers the grammar of plain rules
 pub expansion_answers : (fs : Features) (g enabled stepped plain : GrammarData) (limit : ℕ) → IsTaken fs g → validate_faults g ≡ [] →
     enabled ≡ enabled_grammar fs g → (precedence_faults enabled ≡ []) × (stepped ≡ leveled_grammar (resolved_grammar enabled)) →
-    later_macro_faults stepped ++ expansion_faults comparison stepped limit ≡ [] → plain ≡ plain_grammar comparison stepped limit →
+    expansion_faults comparison stepped limit ≡ [] → plain ≡ plain_grammar comparison stepped limit →
     HasExpanded fs g limit × (plain ≡ grammar_of_plain_rules fs g limit)
 expansion_answers fs g enabled stepped plain limit taken valid same levels all is =
     let (none, here) = levels_answer fs g enabled stepped same levels in (
@@ -207,7 +153,7 @@ expansion_answers fs g enabled stepped plain limit taken valid same levels all i
         taken = taken;
         valid = valid;
         names = none;
-        whole = subst (λ (x : GrammarData). later_macro_faults x ++ expansion_faults comparison x limit ≡ []) here all;
+        expanded = subst (λ (x : GrammarData). expansion_faults comparison x limit ≡ []) here all;
       },
       is ∙ ap (λ (x : GrammarData). plain_grammar comparison x limit) here,
     )

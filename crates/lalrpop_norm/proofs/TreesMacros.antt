@@ -1,41 +1,27 @@
--- A macro has one level: the step to a lower level would name a macro as if it were a rule.
-use Rattle.std.proofs.Common.{◌≡◌, inl, inr, ℕ, suc, ◌<◌, ◌≤◌, List, [], ◌∷◌, length, Bool, true, false, Option, Some, None, refl, sym, ap, ◌∙◌, subst, arith}
+-- Where the pass over levels finds no fault, a macro has one level, and no fault of names stands in the grammar with levels: a step to
+-- a lower level would name a macro as if it were a rule.
+use Rattle.std.proofs.Common.{◌≡◌, inl, inr, ℕ, ◌<◌, ◌≤◌, List, [], ◌∷◌, ◌++◌, length, map, Bool, true, false, Option, Some, None, refl, sym, ap, ◌∙◌, subst, arith}
 use Rattle.std.specs.Prelude.{flat_map, if◌then◌else◌}
 use Rattle.std.proofs.lemmas.Bool.{cases_lt}
-use Rattle.lalrpop_norm_parts.specs.declared.names.Span.{Span}
-use Rattle.lalrpop_norm_parts.specs.declared.names.NonterminalString.{NonterminalString}
-use Rattle.lalrpop_norm_tree.specs.Items.{AlternativeData, RuleData, GrammarData, rule_item}
-use Rattle.lalrpop_norm_theory.specs.Symbols.{Name}
+use Rattle.std.proofs.lemmas.List.{append-nil}
+use Rattle.std.proofs.lemmas.Grind.{flat_map-append}
+use Rattle.lalrpop_norm_tree.specs.Items.{AlternativeData, RuleData, ItemData, GrammarData, match_item, extern_item, intern_item, rule_item, use_item}
 use Rattle.lalrpop_norm_theory.specs.Rounds.{In}
-use Rattle.lalrpop_norm_model.specs.Enabled.{all_places}
-use Rattle.lalrpop_norm_model.specs.Scopes.{Definition, a_macro, rule_definition, globals, definition_of, Sense, an_argument, global_sense, is_argument, sense_of, resolved_grammar}
+use Rattle.lalrpop_norm_model.specs.Enabled.{all_places, present}
+use Rattle.lalrpop_norm_model.specs.Scopes.{Global, globals, resolved_grammar}
 use Rattle.lalrpop_norm_model.specs.Levels.{Leveled, has_levels, with_levels, levels_of, previous_level}
-use Rattle.lalrpop_norm_model.specs.WrittenRules.{flat_rule}
 use Rattle.lalrpop_norm_model.specs.Grammars.{is_nil}
-use Rattle.lalrpop_norm_model.specs.LevelRules.{level_of_rule, step_alternative, step_alternatives, level_rule, level_rules, leveled_grammar}
+use Rattle.lalrpop_norm_model.specs.LevelRules.{level_alternative, of_level, step_alternatives, level_rule, level_items, leveled_grammar}
 use Rattle.lalrpop_norm_model.specs.PlainRules.{all_rules}
-use Rattle.lalrpop_norm_model.proofs.LevelLemmas.{in_map, had_level, previous_is, has_previous}
-use Rattle.lalrpop_norm_model.proofs.ScopeLemmas.{in_flat}
-use Rattle.lalrpop_norm_theory.proofs.RoundsLemmas.{in_right}
+use Rattle.lalrpop_norm_model.proofs.LevelLemmas.{had_level, has_previous}
+use Rattle.lalrpop_norm_model.proofs.InferenceLemmas.{both_empty}
 use Rattle.lalrpop_norm_model.proofs.WrittenLemmas.{scoped_as_written}
-use Rattle.lalrpop_norm_model.proofs.GrammarLemmas.{all_level_rules, rule_item_of, as_leveled, leveled_in, flat_found}
+use Rattle.lalrpop_norm_model.proofs.GrammarLemmas.{rule_item_of, as_leveled, leveled_in}
 use Rattle.lalrpop_norm_model.proofs.LevelRuleLemmas.{resolved_rule_places}
-use Rattle.lalrpop_norm_resolve.specs.NameFaults.{repeated_faults, repeated_argument_faults, condition_faults, nonterminal_faults, parts_name_faults, alternative_name_faults, item_name_faults, resolve_faults}
-use Rattle.lalrpop_norm.specs.Laws.{HasFlatMacros, HasOwnLevels, MacrosHaveOneLevel}
-use Rattle.lalrpop_norm_faults.proofs.FaultLemmas.{left_none, right_none}
-use Rattle.lalrpop_norm.proofs.ScopedLemmas.{none_of, names_once, defined_as, terminal_globals, rules_defined}
-
-a_macros : (xs : List NonterminalString) → is_nil xs ≡ false → (k : ℕ) × (rule_definition (length xs) ≡ a_macro k)
-a_macros [] h = absurd (cc h)
-a_macros (x ∷ xs) h = (suc (length xs), refl)
-
--- a macro's name is no rule's
-not_rule : (s : Span) (b : Bool) → b ≡ false → (o : Option Definition) (k : ℕ) → o ≡ Some (a_macro k) →
-    nonterminal_faults s (if b then Some an_argument else global_sense o) ≡ [] → ⊥
-unfolding nonterminal_faults
-not_rule s true e o k d h = cc e
-not_rule s false e None k d h = cc d
-not_rule s false e (Some x) k d h = let same : x ≡ a_macro k = cc d in let h' = rw same at h in cc h'
+use Rattle.lalrpop_norm_resolve.specs.NameFaults.{repeated_faults, rule_name_faults, item_name_faults, resolve_faults}
+use Rattle.lalrpop_norm_precedence.specs.PrecedenceFaults.{unstepped_rule, step_faults, level_rule_faults, level_rules_faults, level_items_faults, leveled_faults}
+use Rattle.lalrpop_norm.specs.Laws.{HasFlatMacros, LevelsSettleMacros}
+use Rattle.lalrpop_norm.proofs.ScopedLemmas.{none_of}
 
 one_listed : (xs : List ℕ) → length xs ≤ 1 → (a b : ℕ) → In a xs → In b xs → a ≡ b
 one_listed [] h a b i j = absurd i
@@ -44,52 +30,93 @@ one_listed (x ∷ []) h a b (inr i) j = absurd i
 one_listed (x ∷ []) h a b i (inr j) = absurd j
 one_listed (x ∷ y ∷ xs) h a b i j = absurd (omega arith)
 
-module _ (g : GrammarData) (E : resolved_grammar g ≡ g) (F : resolve_faults (leveled_grammar g) ≡ []) (own : HasOwnLevels g) where
-  abbrev h : GrammarData
-  h = leveled_grammar g
+-- where the step of a macro has no fault there is none
+no_step : (r : RuleData) (o : Option ℕ) → step_faults r o ≡ [] → o ≡ None
+no_step r None h = refl
+no_step r (Some l) h = absurd (cc h)
+
+-- ---- names
+
+module _ (ds : List Global) where
+  unstepped : (r : RuleData) (ps : List (Option Leveled)) (l : ℕ) → previous_level ps l ≡ None → level_rule r ps l ≡ unstepped_rule r ps l
+  unstepped r ps l none =
+      ap (λ (xs : List AlternativeData). let x : RuleData = record (level_rule r ps l) { alternatives = xs } in x)
+      (ap (λ (o : Option ℕ). map (level_alternative r ps) (of_level l (present ps)) ++ step_alternatives r ps o) none
+      ∙ append-nil (map (level_alternative r ps) (of_level l (present ps))))
+
+  level_named : (r : RuleData) (ps : List (Option Leveled)) (l : ℕ) → level_rule_faults ds r ps l ≡ [] → rule_name_faults ds (level_rule r ps l) ≡ []
+  level_named r ps l h = by (is_nil r.args) h
+    where
+      by : (b : Bool) → (if b then rule_name_faults ds (level_rule r ps l) else (rule_name_faults ds (unstepped_rule r ps l) ++ step_faults r (previous_level ps l))) ≡ [] →
+          rule_name_faults ds (level_rule r ps l) ≡ []
+      by true e = e
+      by false e =
+          let two = both_empty (rule_name_faults ds (unstepped_rule r ps l)) (step_faults r (previous_level ps l)) e in
+          ap (rule_name_faults ds) (unstepped r ps l (no_step r (previous_level ps l) two.1)) ∙ two.0
+
+  levels_named : (r : RuleData) (ps : List (Option Leveled)) (ls : List ℕ) → flat_map (level_rule_faults ds r ps) ls ≡ [] →
+      flat_map (item_name_faults ds) (map rule_item (map (level_rule r ps) ls)) ≡ []
+  levels_named r ps [] h = refl
+  levels_named r ps (l ∷ ls) h =
+      let two = both_empty (level_rule_faults ds r ps l) (flat_map (level_rule_faults ds r ps) ls) h in
+      ap (λ fs. fs ++ flat_map (item_name_faults ds) (map rule_item (map (level_rule r ps) ls))) (level_named r ps l two.0) ∙ levels_named r ps ls two.1
+
+  rule_named : (r : RuleData) → level_rules_faults ds r ≡ [] → flat_map (item_name_faults ds) (level_items (rule_item r)) ≡ []
+  rule_named r h = by (with_levels (all_places r)) (has_levels (all_places r)) h
+    where
+      by : (ps : List (Option Leveled)) (b : Bool) → (if b then flat_map (level_rule_faults ds r ps) (levels_of ps) else rule_name_faults ds r) ≡ [] →
+          flat_map (item_name_faults ds) (map rule_item (if b then map (level_rule r ps) (levels_of ps) else r ∷ [])) ≡ []
+      by ps true e = levels_named r ps (levels_of ps) e
+      by ps false e = append-nil (rule_name_faults ds r) ∙ e
+
+  items_named : (items : List ItemData) → flat_map (level_items_faults ds) items ≡ [] → flat_map (item_name_faults ds) (flat_map level_items items) ≡ []
+  items_named [] h = refl
+  items_named (rule_item r ∷ items) h =
+      let two = both_empty (level_items_faults ds (rule_item r)) (flat_map (level_items_faults ds) items) h in
+      flat_map-append (item_name_faults ds) (level_items (rule_item r)) (flat_map level_items items)
+      ∙ ap (λ fs. fs ++ flat_map (item_name_faults ds) (flat_map level_items items)) (rule_named r two.0) ∙ items_named items two.1
+  items_named (match_item m ∷ items) h = items_named items h
+  items_named (extern_item t ∷ items) h = items_named items h
+  items_named (intern_item t ∷ items) h = items_named items h
+  items_named (use_item u ∷ items) h = items_named items h
+
+pub leveled_names_free : (g : GrammarData) → leveled_faults g ≡ [] → resolve_faults (leveled_grammar g) ≡ []
+leveled_names_free g h =
+    let two = both_empty (repeated_faults [] (globals (leveled_grammar g))) (flat_map (level_items_faults (globals (leveled_grammar g))) g.items) h in
+    ap (λ fs. fs ++ flat_map (item_name_faults (globals (leveled_grammar g))) (leveled_grammar g).items) two.0
+    ∙ items_named (globals (leveled_grammar g)) g.items two.1
+
+-- ---- levels
+
+module _ (g : GrammarData) (E : resolved_grammar g ≡ g) (F : leveled_faults g ≡ []) where
+  abbrev ds : List Global
+  ds = globals (leveled_grammar g)
 
   abbrev ps : RuleData → List (Option Leveled)
   ps d = with_levels (all_places d)
 
-  level_listed : (d : RuleData) → In d (all_rules g) → has_levels (all_places d) ≡ true → (m : ℕ) → In m (levels_of (ps d)) → In (level_rule d (ps d) m) (all_rules h)
-  level_listed d i e m j =
-      subst (λ (ds : List RuleData). In (level_rule d (ps d) m) ds) (sym (all_level_rules g))
-      (in_flat level_rules d (all_rules g) (level_rule d (ps d) m) i (rw e (in_map (level_rule d (ps d)) m (levels_of (ps d)) j)))
+  free : (d : RuleData) → In d (all_rules g) → level_rules_faults ds d ≡ []
+  free d i =
+      none_of (level_items_faults ds) g.items (rule_item d) (both_empty (repeated_faults [] ds) (flat_map (level_items_faults ds) g.items) F).1 (rule_item_of g d i)
 
-  level_defined : (d : RuleData) → In d (all_rules g) → has_levels (all_places d) ≡ true → (m : ℕ) → In m (levels_of (ps d)) →
-      definition_of (globals h) (level_of_rule d (ps d) m) ≡ Some (rule_definition (length d.args))
-  level_defined d i e m j =
-      rules_defined (λ c. flat_rule (globals h) c (all_places c)) (λ c. refl) (λ c. refl) (terminal_globals h) (level_of_rule d (ps d) m) h.items
-      ∙ ap (λ o. defined_as o (definition_of (terminal_globals h) (level_of_rule d (ps d) m)))
-      (flat_found h (level_rule d (ps d) m) (names_once h F) (level_listed d i e m j))
+  level_free : (d : RuleData) → In d (all_rules g) → has_levels (all_places d) ≡ true → (m : ℕ) → In m (levels_of (ps d)) → level_rule_faults ds d (ps d) m ≡ []
+  level_free d i e m j =
+      none_of (level_rule_faults ds d (ps d)) (levels_of (ps d)) m
+      (subst (λ (b : Bool). (if b then flat_map (level_rule_faults ds d (ps d)) (levels_of (ps d)) else rule_name_faults ds d) ≡ []) e (free d i)) j
 
-  step_listed : (d : RuleData) (m p : ℕ) → previous_level (ps d) m ≡ Some p → In (step_alternative d.span (level_of_rule d (ps d) p)) (level_rule d (ps d) m).alternatives
-  step_listed d m p e =
-      in_right (step_alternative d.span (level_of_rule d (ps d) p)) _ (step_alternatives d (ps d) (previous_level (ps d) m))
-      (subst (λ (o : Option ℕ). In (step_alternative d.span (level_of_rule d (ps d) p)) (step_alternatives d (ps d) o)) (sym e) (inl refl))
-
-  named_in : (s : Name → Option Sense) (a : AlternativeData) → alternative_name_faults s a ≡ [] → parts_name_faults s a.parts ≡ []
-  unfolding alternative_name_faults
-  named_in s a k = right_none (condition_faults s a.condition) (parts_name_faults s a.parts) k
+  lowest : (d : RuleData) → In d (all_rules g) → is_nil d.args ≡ false → has_levels (all_places d) ≡ true → (m : ℕ) → In m (levels_of (ps d)) →
+      previous_level (ps d) m ≡ None
+  lowest d i macro e m j =
+      no_step d (previous_level (ps d) m)
+      (both_empty (rule_name_faults ds (unstepped_rule d (ps d) m)) (step_faults d (previous_level (ps d) m))
+      (subst (λ (b : Bool). (if b then rule_name_faults ds (level_rule d (ps d) m) else (rule_name_faults ds (unstepped_rule d (ps d) m) ++ step_faults d (previous_level (ps d) m))) ≡ [])
+      macro (level_free d i e m j))).1
 
   no_lower : (d : RuleData) → In d (all_rules g) → is_nil d.args ≡ false → has_levels (all_places d) ≡ true → (a b : ℕ) → In a (levels_of (ps d)) → In b (levels_of (ps d)) →
       a < b → ⊥
-  no_lower d i macro e a b j k less =
-      let (p, prev) = has_previous (ps d) b a j less in
-      let (there, lower, most) = previous_is (ps d) b p prev in
-      let c : RuleData = level_rule d (ps d) b in
-      let t : AlternativeData = step_alternative d.span (level_of_rule d (ps d) p) in
-      let sense : Name → Option Sense = sense_of (globals h) d.args in
-      let rule = none_of (item_name_faults (globals h)) h.items (rule_item c) (right_none (repeated_faults [] (globals h)) (flat_map (item_name_faults (globals h)) h.items) F)
-      (rule_item_of h c (level_listed d i e b k)) in
-      let alternative = none_of (alternative_name_faults sense) c.alternatives t
-      (right_none (repeated_argument_faults c.span c.args) (flat_map (alternative_name_faults sense) c.alternatives) rule) (step_listed d b p prev) in
-      let (count, is) = a_macros d.args macro in
-      not_rule d.span (is_argument d.args (level_of_rule d (ps d) p)) (own d i macro p there) (definition_of (globals h) (level_of_rule d (ps d) p)) count
-      (level_defined d i e p there ∙ ap Some is)
-      (left_none (nonterminal_faults d.span (sense (level_of_rule d (ps d) p))) [] (named_in sense t alternative))
+  no_lower d i macro e a b j k less = let (p, prev) = has_previous (ps d) b a j less in let none = lowest d i macro e b k in absurd (cc (prev, none))
 
-  flat_macros : HasFlatMacros g
+  pub flat_macros : HasFlatMacros g
   flat_macros d i macro l m x y = by (has_levels (all_places d)) refl
     where
       in_l : In l (levels_of (ps d))
@@ -113,5 +140,5 @@ module _ (g : GrammarData) (E : resolved_grammar g ≡ g) (F : resolve_faults (l
       ]
       by false e = one_listed (levels_of (ps d)) (at_most e) l m in_l in_m
 
-pub macros_have_one_level : MacrosHaveOneLevel
-macros_have_one_level g E F own = flat_macros g E F own
+pub levels_settle_macros : LevelsSettleMacros
+levels_settle_macros g E F = (flat_macros g E F, leveled_names_free g F)

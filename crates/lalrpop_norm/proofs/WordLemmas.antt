@@ -1,6 +1,5 @@
 -- The words of written rules.
-use Rattle.std.proofs.Common.{◌≡◌, ◌++◌, ◌↔◌, ℕ, List, refl, sym, subst, Option}
-use Rattle.lalrpop_norm_tree.specs.Items.{GrammarData}
+use Rattle.std.proofs.Common.{◌≡◌, ℕ, refl, sym, subst, Option}
 use Rattle.lalrpop_norm_theory.specs.Clauses.{symbol_of}
 use Rattle.lalrpop_norm_theory.specs.LoweredTrees.{nonterminal_symbol}
 use Rattle.lalrpop_norm_theory.specs.Symbols.{ClosedSymbol, Name, reference}

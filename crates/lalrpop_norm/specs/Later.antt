@@ -30,10 +30,6 @@ abbrev pub part_of_any : {X : Type 0} → LaterPart → List X → List LaterPar
 part_of_any p [] = []
 part_of_any p (x ∷ xs) = p ∷ []
 
-abbrev pub part_of_some : {X : Type 0} → LaterPart → Option X → List LaterPart
-part_of_some p None = []
-part_of_some p (Some x) = p ∷ []
-
 abbrev pub part_of_none : {X : Type 0} → LaterPart → Option X → List LaterPart
 part_of_none p None = p ∷ []
 part_of_none p (Some x) = []
@@ -43,7 +39,7 @@ attribute_parts p no_attributes = []
 attribute_parts p (attribute_and a rest) = p ∷ []
 
 -- ---- symbols, where a test tells which terminals have a conversion
--- What stands inside a macro call or a tuple symbol is not looked into.
+-- What stands inside a tuple symbol is not looked into.
 
 abbrev pub terminal_parts : (TerminalString → Bool) → TerminalString → List LaterPart
 terminal_parts has_active_conversion (Literal l) = part_if (not (has_active_conversion (Literal l))) later.MissingConversion
@@ -56,13 +52,13 @@ abbrev mutual
   kind_parts has_active_conversion (ambiguous_id a) = []
   kind_parts has_active_conversion (terminal t) = terminal_parts has_active_conversion t
   kind_parts has_active_conversion (nonterminal n) = []
-  kind_parts has_active_conversion (call m ps) = later.MacroCall ∷ []
+  kind_parts has_active_conversion (call m ps) = symbols_parts has_active_conversion ps
   kind_parts has_active_conversion (repeated op p) = symbol_parts has_active_conversion p
   kind_parts has_active_conversion (chosen p) = symbol_parts has_active_conversion p
   kind_parts has_active_conversion (named n p) = symbol_parts has_active_conversion p
   kind_parts has_active_conversion (tupled ps p) = later.TupleSymbol ∷ []
-  kind_parts has_active_conversion lookahead = later.LookaroundSymbol ∷ []
-  kind_parts has_active_conversion lookbehind = later.LookaroundSymbol ∷ []
+  kind_parts has_active_conversion lookahead = []
+  kind_parts has_active_conversion lookbehind = []
   kind_parts has_active_conversion error_terminal = later.ErrorSymbol ∷ []
 
   pub symbol_parts : (TerminalString → Bool) → Part → List LaterPart
@@ -119,9 +115,7 @@ action_parts (Some lookbehind_code) = []
 
 abbrev pub alternative_parts : (TerminalString → Bool) → AlternativeData → List LaterPart
 alternative_parts has_active_conversion a =
-    symbols_parts has_active_conversion a.parts
-    ++ (part_of_some later.Condition a.condition
-    ++ action_parts a.action)
+    symbols_parts has_active_conversion a.parts ++ action_parts a.action
 
 abbrev pub declared_parts : (TerminalString → Bool) → Option TypeData → List LaterPart
 declared_parts has_active_conversion None = later.UndeclaredType ∷ []
@@ -129,9 +123,7 @@ declared_parts has_active_conversion (Some t) = type_parts has_active_conversion
 
 abbrev pub later_rule_parts : (TerminalString → Bool) → RuleData → List LaterPart
 later_rule_parts has_active_conversion r =
-    part_of_any later.MacroDefinition r.args
-    ++ (declared_parts has_active_conversion r.type_decl
-    ++ flat_map (alternative_parts has_active_conversion) r.alternatives)
+    declared_parts has_active_conversion r.type_decl ++ flat_map (alternative_parts has_active_conversion) r.alternatives
 
 -- a public rule whose start name, the prefix and its own, is a rule's
 abbrev pub start_parts : List ℕ → (List ℕ → Bool) → RuleData → List LaterPart

@@ -12,12 +12,12 @@ use Rattle.lalrpop_norm_conditions.specs.Conditions.{comparison}
 use Rattle.lalrpop_norm_model.specs.Features.{Features}
 use Rattle.lalrpop_norm_model.specs.WrittenRules.{written_rules}
 use Rattle.lalrpop_norm_model.specs.Enabled.{all_places, enabled_grammar}
-use Rattle.lalrpop_norm_model.specs.Levels.{with_levels, levels_of}
-use Rattle.lalrpop_norm_model.specs.Scopes.{is_argument, resolved_grammar}
+use Rattle.lalrpop_norm_model.specs.Levels.{with_levels}
+use Rattle.lalrpop_norm_model.specs.Scopes.{resolved_grammar}
 use Rattle.lalrpop_norm_model.specs.Stated.{HasLevel}
 use Rattle.lalrpop_norm_model.specs.Grammars.{ConditionValue, is_nil, references, roots}
 use Rattle.lalrpop_norm_model.specs.PlainTables.{IsSettled, flat_meaning, declared}
-use Rattle.lalrpop_norm_model.specs.LevelRules.{level_of_rule, leveled_grammar}
+use Rattle.lalrpop_norm_model.specs.LevelRules.{leveled_grammar}
 use Rattle.lalrpop_norm_model.specs.PlainRules.{all_rules, expansion_round, IsEnded}
 use Rattle.lalrpop_norm_model.specs.Renumbered.{prepared_grammar}
 use Rattle.lalrpop_norm_model.specs.Expanded.{rule_names}
@@ -25,6 +25,7 @@ use Rattle.lalrpop_norm_model.specs.TypeTables.{Table}
 use Rattle.lalrpop_norm_model.specs.LoweringFaults.{lowering_faults}
 use Rattle.lalrpop_norm_model.specs.CheckedTokens.{IsEntered}
 use Rattle.lalrpop_norm_resolve.specs.NameFaults.{resolve_faults}
+use Rattle.lalrpop_norm_precedence.specs.PrecedenceFaults.{leveled_faults}
 use Rattle.lalrpop_norm_expand.specs.Expansion.{expansion_faults, past_cap, shared_in, unmade_in}
 use Rattle.lalrpop_norm_repr.specs.Lowered.{LoweredGrammar}
 use Rattle.lalrpop_norm_repr.specs.Tables.{TypeTable}
@@ -39,16 +40,10 @@ abbrev pub HasFlatMacros : GrammarData → Type 0
 HasFlatMacros g = (d : RuleData) → In d (all_rules g) → is_nil d.args ≡ false → (l m : ℕ) →
     HasLevel (with_levels (all_places d)) l → HasLevel (with_levels (all_places d)) m → l ≡ m
 
--- no level of a macro has the name of one of the macro's arguments
-abbrev pub HasOwnLevels : GrammarData → Type 0
-HasOwnLevels g = (d : RuleData) → In d (all_rules g) → is_nil d.args ≡ false → (l : ℕ) → In l (levels_of (with_levels (all_places d))) →
-    is_argument d.args (level_of_rule d (with_levels (all_places d)) l) ≡ false
-
--- Where no fault of names stands in the grammar with levels, a macro has no two levels, if no argument hides the name of a level.
-abbrev pub MacrosHaveOneLevel : Type 0
-MacrosHaveOneLevel =
-    (g : GrammarData) → resolved_grammar g ≡ g → resolve_faults (leveled_grammar g) ≡ [] → HasOwnLevels g →
-    HasFlatMacros g
+-- Where the pass over levels finds no fault, no macro has two levels, and no fault of names stands in the grammar with levels.
+abbrev pub LevelsSettleMacros : Type 0
+LevelsSettleMacros =
+    (g : GrammarData) → resolved_grammar g ≡ g → leveled_faults g ≡ [] → HasFlatMacros g × (resolve_faults (leveled_grammar g) ≡ [])
 
 -- names stand once, and no start symbol has the name of a rule
 pub record HasOwnNames (g : GrammarData) : Type 0 where

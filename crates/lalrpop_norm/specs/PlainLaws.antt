@@ -13,7 +13,9 @@ use Rattle.lalrpop_norm_model.specs.InferenceFaults.{inference_faults}
 use Rattle.lalrpop_norm_model.specs.LoweringFaults.{lowering_faults}
 use Rattle.lalrpop_norm_model.specs.PlainRules.{all_rules}
 use Rattle.lalrpop_norm_model.specs.TypeRelation.{IsRule}
+use Rattle.lalrpop_norm_model.specs.Renumbered.{prepared_grammar}
 use Rattle.lalrpop_norm_resolve.specs.NameFaults.{resolve_faults}
+use Rattle.lalrpop_norm_precedence.specs.PrecedenceFaults.{leveled_faults}
 use Rattle.lalrpop_norm_front.specs.GrammarFaults.{validate_faults}
 use Rattle.lalrpop_norm_expand.specs.Expansion.{expansion_faults}
 use Rattle.lalrpop_norm_repr.specs.Closed.{IsClosed}
@@ -33,7 +35,7 @@ pub record PassesExpansion (fs : Features) (g : GrammarData) (limit : ℕ) : Typ
   pub taken : IsTaken fs g
   pub valid : validate_faults g ≡ []
   pub resolved : resolve_faults (enabled_grammar fs g) ≡ []
-  pub leveled : resolve_faults (grammar_with_levels fs g) ≡ []
+  pub leveled : leveled_faults (prepared_grammar fs g) ≡ []
   pub expanded : expansion_faults comparison (grammar_with_levels fs g) limit ≡ []
 
 -- Nor do inference, which infers that table, and lowering.

@@ -24,20 +24,20 @@ IsConverted converts (Literal l) = converts (Literal l) ≡ true
 IsConverted converts (Bare a) = converts (Bare a) ≡ true
 IsConverted converts Error = Unit {0}
 
--- names, terminals with a conversion, and groups, repeats, chosen and named symbols of these
+-- names, terminals with a conversion, lookarounds, and groups, calls, repeats, chosen and named symbols of these
 abbrev mutual
   pub IsTakenKind : (TerminalString → Bool) → Kind → Type 0
   IsTakenKind converts (group ps) = AreTakenSymbols converts ps
   IsTakenKind converts (ambiguous_id a) = Unit {0}
   IsTakenKind converts (terminal t) = IsConverted converts t
   IsTakenKind converts (nonterminal n) = Unit {0}
-  IsTakenKind converts (call m ps) = ⊥
+  IsTakenKind converts (call m ps) = AreTakenSymbols converts ps
   IsTakenKind converts (repeated op p) = IsTakenSymbol converts p
   IsTakenKind converts (chosen p) = IsTakenSymbol converts p
   IsTakenKind converts (named n p) = IsTakenSymbol converts p
   IsTakenKind converts (tupled ps p) = ⊥
-  IsTakenKind converts lookahead = ⊥
-  IsTakenKind converts lookbehind = ⊥
+  IsTakenKind converts lookahead = Unit {0}
+  IsTakenKind converts lookbehind = Unit {0}
   IsTakenKind converts error_terminal = ⊥
 
   pub IsTakenSymbol : (TerminalString → Bool) → Part → Type 0
@@ -59,11 +59,9 @@ HasAtMostOneSlot (Some lookbehind_code) = Unit {0}
 
 pub record IsTakenAlternative (converts : TerminalString → Bool) (a : AlternativeData) : Type 0 where
   pub symbols : AreTakenSymbols converts a.parts
-  pub condition : a.condition ≡ None
   pub action : HasAtMostOneSlot a.action
 
 pub record IsTakenRule (converts : TerminalString → Bool) (r : RuleData) : Type 0 where
-  pub arguments : r.args ≡ []
   pub declared : IsSome r.type_decl
   pub alternatives : All (IsTakenAlternative converts) r.alternatives
 

@@ -30,11 +30,6 @@ use terminals::known_terminals;
 /// A part of a grammar that a later stage brings.
 #[derive(Clone, Copy, Debug, PartialEq, Eq)]
 pub(crate) enum LaterPart {
-    /// A rule with arguments.
-    MacroDefinition,
-    MacroCall,
-    /// An alternative that only some instances have.
-    Condition,
     /// No extern block has an enum.
     NoExternEnum,
     MatchBlock,
@@ -46,8 +41,6 @@ pub(crate) enum LaterPart {
     RepeatedConversion,
     /// A pattern of a conversion that is no enum's, no path, no `..`, no `_` and nothing chosen.
     PatternKind,
-    /// `@L` or `@R`.
-    LookaroundSymbol,
     /// `<(x, y):X>`.
     TupleSymbol,
     /// A rule without a written type.
@@ -72,16 +65,12 @@ impl LaterPart {
         ensures { result.now ≡ words_of self }
     {
         match self {
-            LaterPart::MacroDefinition => "a macro",
-            LaterPart::MacroCall => "a macro call",
-            LaterPart::Condition => "a condition",
             LaterPart::NoExternEnum => "a grammar without an extern enum",
             LaterPart::MatchBlock => "a match block",
             LaterPart::ErrorSymbol => "an error symbol",
             LaterPart::MissingConversion => "a terminal without a conversion",
             LaterPart::RepeatedConversion => "a second conversion of one terminal",
             LaterPart::PatternKind => "a token pattern other than `P(..)`, `P`, `_` and `..`",
-            LaterPart::LookaroundSymbol => "a lookaround",
             LaterPart::TupleSymbol => "a tuple symbol",
             LaterPart::UndeclaredType => "a rule without a declared type",
             LaterPart::AssociatedType => "an associated type",

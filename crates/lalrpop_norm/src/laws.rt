@@ -1,6 +1,6 @@
 //! What is proved of the definitions alone. Each function here is a law: it does nothing, and its contract is a theorem, whose
 //! statement stands in `specs/Laws.antt`.
-ghost use Rattle.lalrpop_norm.specs.Laws.{CapIsExact, FaultsAreByRound, LoweredTreesAreFaithful, MacrosHaveOneLevel, NamesAreOwn, WordsAreEqual};
+ghost use Rattle.lalrpop_norm.specs.Laws.{CapIsExact, FaultsAreByRound, LevelsSettleMacros, LoweredTreesAreFaithful, NamesAreOwn, WordsAreEqual};
 
 /// The trees of what a grammar's plain rules are lowered to, once they have their tokens, stand one to one with the written trees,
 /// with the same words and the same written alternatives, for each rule by itself and within each of its levels. Each enabled public
@@ -14,10 +14,10 @@ pub fn lowered_trees_are_faithful()
     ensures { LoweredTreesAreFaithful }
 {}
 
-/// A macro of a resolved grammar has no two levels where no fault of names stands in its grammar with levels, since the step
-/// from a level to the one below names a macro as if it were a rule. No argument may hide the name of a level.
-pub fn macros_have_one_level()
-    ensures { MacrosHaveOneLevel }
+/// Where the pass over levels finds no fault in a resolved grammar, no macro has two levels, since the step from a level to the one
+/// below would name a macro as if it were a rule, and no fault of names stands in the grammar with levels.
+pub fn levels_settle_macros()
+    ensures { LevelsSettleMacros }
 {}
 
 /// The names of rules that stand once are a grammar's own where lowering has no fault and each rule has a type: no start symbol

@@ -14,7 +14,7 @@ ghost use Rattle.lalrpop_norm.specs.Passed.{IsPassed, IsTypedLowering, IsTypedBy
 ghost use Rattle.lalrpop_norm.specs.TakenGrammars.{IsTaken};
 
 use crate::later::refuse_later_parts;
-use lalrpop_norm_expand::macro_expand::expand_macros;
+use lalrpop_norm_expand::macro_expand::expand_resolved;
 use lalrpop_norm_faults::NormResult;
 use lalrpop_norm_front::cond_comp::remove_disabled_decls;
 use lalrpop_norm_front::prevalidate::validate;
@@ -62,7 +62,7 @@ fn run_passes<L>(
     validate(alloc, &grammar)?;
     let enabled = remove_disabled_decls(session, grammar)?;
     let leveled = expand_precedence(alloc, enabled)?;
-    let plain = expand_macros(alloc, leveled, session.macro_recursion_limit)?;
+    let plain = expand_resolved(alloc, leveled, session.macro_recursion_limit)?;
     type_and_lower(alloc, session, &plain)
 }
 

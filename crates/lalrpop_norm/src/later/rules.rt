@@ -3,15 +3,14 @@ ghost use Rattle.std.specs.Prelude.{◌≡◌, map, option_map};
 ghost use Rattle.std.specs.List.{flat_map};
 ghost use Rattle.lalrpop_norm_tree.specs.Items.{action_view, alternative_view, rule_view};
 ghost use Rattle.lalrpop_norm_tree.specs.Types.{type_view};
-ghost use Rattle.lalrpop_norm.specs.Later.{part_of_some, declared_parts, after_slot, has_several_slots, code_parts, action_parts, alternative_parts, later_rule_parts};
+ghost use Rattle.lalrpop_norm.specs.Later.{declared_parts, after_slot, has_several_slots, code_parts, action_parts, alternative_parts, later_rule_parts};
 ghost use Rattle.lalrpop_norm.specs.LaterWalks.{Finds, terminal_in};
 
 use super::LaterPart;
 use super::symbols::find_in_symbols;
-use super::tokens::find_any;
 use super::types::find_in_type;
 use lalrpop_norm_tree::grammar::parse_tree::{
-    ActionKind, Alternative, Condition, NonterminalData, TerminalString, TypeRef,
+    ActionKind, Alternative, NonterminalData, TerminalString, TypeRef,
 };
 use std::collections::BTreeSet;
 
@@ -54,15 +53,6 @@ fn find_in_action(action: &Option<ActionKind>) -> Result<(), LaterPart>
     }
 }
 
-fn find_condition(condition: &Option<Condition>) -> Result<(), LaterPart>
-    ensures { Finds result (part_of_some LaterPart.Condition condition.now) }
-{
-    match condition {
-        Some(_) => Err(LaterPart::Condition),
-        None => Ok(()),
-    }
-}
-
 fn find_in_alternative(
     converted: &BTreeSet<TerminalString>,
     alternative: &Alternative,
@@ -70,7 +60,6 @@ fn find_in_alternative(
     ensures { Finds result (alternative_parts (terminal_in converted.now.keys) (alternative_view alternative.now)) }
 {
     find_in_symbols(converted, &alternative.expr.symbols)?;
-    find_condition(&alternative.condition)?;
     find_in_action(&alternative.action)
 }
 
@@ -104,7 +93,6 @@ pub(super) fn find_in_rule(
 ) -> Result<(), LaterPart>
     ensures { Finds result (later_rule_parts (terminal_in converted.now.keys) (rule_view rule.now)) }
 {
-    find_any(LaterPart::MacroDefinition, &rule.args)?;
     find_in_declared(converted, &rule.type_decl)?;
     find_in_alternatives(converted, &rule.alternatives)
 }

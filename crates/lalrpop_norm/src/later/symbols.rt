@@ -64,15 +64,17 @@ pub(super) fn find_in_kind(
 {
     match kind {
         SymbolKind::Expr(group) => find_in_symbols(converted, &group.symbols),
-        SymbolKind::AmbiguousId(_) | SymbolKind::Nonterminal(_) => Ok(()),
+        SymbolKind::AmbiguousId(_)
+        | SymbolKind::Nonterminal(_)
+        | SymbolKind::Lookahead
+        | SymbolKind::Lookbehind => Ok(()),
         SymbolKind::Terminal(terminal) => find_in_terminal(converted, terminal),
-        SymbolKind::Macro(_) => Err(LaterPart::MacroCall),
+        SymbolKind::Macro(call) => find_in_symbols(converted, &call.args),
         SymbolKind::Repeat(repeat) => find_in_symbol(converted, &repeat.symbol),
         SymbolKind::Choose(symbol) | SymbolKind::Name(_, symbol) => {
             find_in_symbol(converted, symbol)
         }
         SymbolKind::Tuple(_, _) => Err(LaterPart::TupleSymbol),
-        SymbolKind::Lookahead | SymbolKind::Lookbehind => Err(LaterPart::LookaroundSymbol),
         SymbolKind::Error => Err(LaterPart::ErrorSymbol),
     }
 }

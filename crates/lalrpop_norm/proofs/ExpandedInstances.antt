@@ -1,0 +1,141 @@
+-- The terminals of made rules are among those of the rules and macros that they are made of, and made rules have neither arguments nor
+-- conditions.
+use Rattle.std.proofs.Common.{◌≡◌, inl, inr, ℕ, Bool, true, false, Option, Some, None, List, [], ◌∷◌, ◌++◌, refl, sym, subst}
+use Rattle.std.specs.Prelude.{bytes_eq, if◌then◌else◌}
+use Rattle.lalrpop_norm_parts.specs.declared.names.NonterminalString.{NonterminalString}
+use Rattle.lalrpop_norm_parts.specs.declared.names.Span.{Span}
+use Rattle.lalrpop_norm_parts.specs.declared.names.TerminalString.{TerminalString}
+use Rattle.lalrpop_norm_tree.specs.declared.symbol.RepeatOp.TheVariants.{Star, Plus, Question}
+use Rattle.lalrpop_norm_tree.specs.Symbols.{Kind, Part, Parts, group, ambiguous_id, terminal, nonterminal, call, repeated, chosen, named, tupled, lookahead, lookbehind, error_terminal, at, no_parts, part_and}
+use Rattle.lalrpop_norm_tree.specs.Items.{AlternativeData, RuleData, lookahead_code, lookbehind_code}
+use Rattle.lalrpop_norm_theory.specs.Rounds.{In}
+use Rattle.lalrpop_norm_theory.proofs.RoundsLemmas.{in_cases}
+use Rattle.lalrpop_norm_model.specs.Grammars.{ConditionValue, is_true}
+use Rattle.lalrpop_norm_model.specs.Reading.{read_all}
+use Rattle.lalrpop_norm_model.specs.MadeRules.{group_rule, star_rule, plus_rule, question_rule, location_rule, argument_kind, or_name, put_in, kind_put_in, all_put_in, flat_reader, instance_alternative, instance_alternatives, instance_rule, instance_of, macro_named, made_rules}
+use Rattle.lalrpop_norm_model.specs.PlainRules.{met, all_met}
+use Rattle.lalrpop_norm.proofs.ExpandedScopes.{IsOverKind, IsOver, AreOver}
+use Rattle.lalrpop_norm.proofs.ExpandedSymbols.{named_listed}
+
+module _ (P : TerminalString → Type 0) where
+  -- ---- what is met
+
+  then_itself : (x q : Part) (ms : List Part) → IsOver P x → (In q ms → IsOver P q) → In q (ms ++ x ∷ []) → IsOver P q
+  then_itself x q ms h f i = elim (in_cases q ms (x ∷ []) i) [ inl j ↦ f j | inr j ↦ here j ]
+    where
+      here : In q (x ∷ []) → IsOver P q
+      here (inl e) = subst (IsOver P) (sym e) h
+      here (inr j) = absurd j
+
+  mutual
+    met_over : (p : Part) → IsOver P p → (q : Part) → In q (met p) → IsOver P q
+    met_over (at s (group ps)) h q i = then_itself (at s (group ps)) q (all_met ps) h (all_met_over ps h q) i
+    met_over (at s (call n ps)) h q i = then_itself (at s (call n ps)) q (all_met ps) h (all_met_over ps h q) i
+    met_over (at s (repeated op p)) h q i = then_itself (at s (repeated op p)) q (met p) h (met_over p h q) i
+    met_over (at s (chosen p)) h q i = met_over p h q i
+    met_over (at s (named n p)) h q i = met_over p h q i
+    met_over (at s (tupled ns p)) h q i = met_over p h q i
+    met_over (at s lookahead) h q i = then_itself (at s lookahead) q [] tt (λ j. absurd j) i
+    met_over (at s lookbehind) h q i = then_itself (at s lookbehind) q [] tt (λ j. absurd j) i
+    met_over (at s (ambiguous_id a)) h q i = absurd i
+    met_over (at s (terminal t)) h q i = absurd i
+    met_over (at s (nonterminal n)) h q i = absurd i
+    met_over (at s error_terminal) h q i = absurd i
+
+    pub all_met_over : (ps : Parts) → AreOver P ps → (q : Part) → In q (all_met ps) → IsOver P q
+    all_met_over no_parts h q i = absurd i
+    all_met_over (part_and p ps) h q i = elim (in_cases q (met p) (all_met ps) i) [
+      | inl j ↦ met_over p h.0 q j
+      | inr j ↦ all_met_over ps h.1 q j
+    ]
+
+  -- ---- arguments put in
+
+  argument_over : (params : List NonterminalString) (ps : Parts) → AreOver P ps → (n : List ℕ) → IsOverKind P (or_name n (argument_kind params ps n))
+  argument_over [] no_parts h n = tt
+  argument_over [] (part_and p ps) h n = tt
+  argument_over (a ∷ params) no_parts h n = tt
+  argument_over (a ∷ params) (part_and (at s k) ps) h n = by (bytes_eq a.0 n) (argument_over params ps h.1 n)
+    where
+      by : (b : Bool) → IsOverKind P (or_name n (argument_kind params ps n)) → IsOverKind P (or_name n (if b then Some k else argument_kind params ps n))
+      by true o = h.0
+      by false o = o
+
+  module _ (argument : List ℕ → Option Kind) (over : (n : List ℕ) → IsOverKind P (or_name n (argument n))) where
+    mutual
+      kind_put_over : (k : Kind) → IsOverKind P k → IsOverKind P (kind_put_in argument k)
+      kind_put_over (nonterminal n) h = over n
+      kind_put_over (ambiguous_id n) h = over n
+      kind_put_over (terminal t) h = h
+      kind_put_over (group ps) h = all_put_over ps h
+      kind_put_over (call n ps) h = all_put_over ps h
+      kind_put_over (repeated op p) h = put_over p h
+      kind_put_over (chosen p) h = put_over p h
+      kind_put_over (named n p) h = put_over p h
+      kind_put_over (tupled ns p) h = put_over p h
+      kind_put_over lookahead h = tt
+      kind_put_over lookbehind h = tt
+      kind_put_over error_terminal h = tt
+
+      put_over : (p : Part) → IsOver P p → IsOver P (put_in argument p)
+      put_over (at s k) h = kind_put_over k h
+
+      all_put_over : (ps : Parts) → AreOver P ps → AreOver P (all_put_in argument ps)
+      all_put_over no_parts h = tt
+      all_put_over (part_and p ps) h = (put_over p h.0, all_put_over ps h.1)
+
+  -- ---- made rules
+
+  -- no condition, and terminals among those of P
+  abbrev IsFit : AlternativeData → Type 0
+  IsFit a = (a.condition ≡ None) × AreOver P a.parts
+
+  abbrev AreFit : List AlternativeData → Type 0
+  AreFit [] = Unit {0}
+  AreFit (a ∷ xs) = IsFit a × AreFit xs
+
+  fit_in : (xs : List AlternativeData) → AreFit xs → (a : AlternativeData) → In a xs → IsFit a
+  fit_in [] h a i = absurd i
+  fit_in (x ∷ xs) h a (inl e) = subst IsFit (sym e) h.0
+  fit_in (x ∷ xs) h a (inr i) = fit_in xs h.1 a i
+
+  -- a rule without arguments and conditions, whose terminals are among those of P
+  abbrev pub IsFitMade : RuleData → Type 0
+  IsFitMade r = (r.args ≡ []) × ((a : AlternativeData) → In a r.alternatives → (a.condition ≡ None) × AreOver P a.parts)
+
+  only_fit : (d r : RuleData) → d.args ≡ [] → AreFit d.alternatives → In r (d ∷ []) → IsFitMade r
+  only_fit d r none h (inl e) = subst IsFitMade (sym e) (none, fit_in d.alternatives h)
+  only_fit d r none h (inr i) = absurd i
+
+  instance_fit : (value : ConditionValue) (s : Span) (d : RuleData) (ps : Parts) → AreOver P ps → (xs : List AlternativeData) →
+      ((a : AlternativeData) → In a xs → AreOver P a.parts) → AreFit (instance_alternatives value s d ps xs)
+  instance_fit value s d ps h [] f = tt
+  instance_fit value s d ps h (a ∷ xs) f =
+      by (is_true value d.args (read_all flat_reader ps) a.condition) (all_put_over (argument_kind d.args ps) (argument_over d.args ps h) a.parts (f a (inl refl)))
+      (instance_fit value s d ps h xs (λ b i. f b (inr i)))
+    where
+      by : (b : Bool) → AreOver P (all_put_in (argument_kind d.args ps) a.parts) → AreFit (instance_alternatives value s d ps xs) →
+          AreFit (if b then instance_alternative s (argument_kind d.args ps) a ∷ instance_alternatives value s d ps xs else instance_alternatives value s d ps xs)
+      by true o rest = ((refl, o), rest)
+      by false o rest = rest
+
+  module _ (value : ConditionValue) (macros : List RuleData) (over : (d : RuleData) → In d macros → (a : AlternativeData) → In a d.alternatives → AreOver P a.parts) where
+    pub made_fit : (p : Part) → IsOver P p → (r : RuleData) → In r (made_rules value macros p) → IsFitMade r
+    made_fit (at s (group ps)) h r i = only_fit (group_rule s ps) r refl ((refl, h), tt) i
+    made_fit (at s (call n ps)) h r i = by (macro_named macros n) (named_listed macros n) i
+      where
+        by : (o : Option RuleData) → ((d : RuleData) → o ≡ Some d → In d macros) → In r (instance_of value s o ps) → IsFitMade r
+        by None f i = absurd i
+        by (Some d) f i = only_fit (instance_rule value s d ps) r refl (instance_fit value s d ps h d.alternatives (over d (f d refl))) i
+    made_fit (at s (repeated Star p)) h r i = only_fit (star_rule s p) r refl ((refl, tt), ((refl, (h, tt)), tt)) i
+    made_fit (at s (repeated Plus p)) h r i = only_fit (plus_rule s p) r refl ((refl, (h, tt)), ((refl, (h, (h, tt))), tt)) i
+    made_fit (at s (repeated Question p)) h r i = only_fit (question_rule s p) r refl ((refl, (h, tt)), ((refl, tt), tt)) i
+    made_fit (at s lookahead) h r i = only_fit (location_rule s lookahead lookahead_code) r refl ((refl, tt), tt) i
+    made_fit (at s lookbehind) h r i = only_fit (location_rule s lookbehind lookbehind_code) r refl ((refl, tt), tt) i
+    made_fit (at s (ambiguous_id a)) h r i = absurd i
+    made_fit (at s (terminal t)) h r i = absurd i
+    made_fit (at s (nonterminal n)) h r i = absurd i
+    made_fit (at s (chosen p)) h r i = absurd i
+    made_fit (at s (named n p)) h r i = absurd i
+    made_fit (at s (tupled ns p)) h r i = absurd i
+    made_fit (at s error_terminal) h r i = absurd i
