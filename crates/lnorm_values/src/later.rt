@@ -1,16 +1,14 @@
 //! Parts of grammars that the JSON form does not have yet, from parts that it has.
 //!
 //! A rule of the name `match`, `else`, `intern`, `type NAME`, `parameter NAME` or `where` stands for what the name says, a symbol
-//! `@L`, `@R` or `!` for itself, a group `(M<> A ..)` for the call `M<A, ..>`, a name `(x, mut y)` for a tuple of names, an
-//! attribute `if`, `if!`, `if~` or `if!~` of an alternative for its condition, and some paths of patterns for other patterns.
+//! `!` for itself, a name `(x, mut y)` for a tuple of names, and some paths of patterns for other patterns.
 use crate::made::{atom, kept, leave_out, name_pattern, push_if, push_made, put_later};
 use crate::names::binder;
 use lalrpop_norm_tree::grammar::parse_tree::{
-    Alternative, ArgPattern, AssociatedType, Atom, Attribute, AttributeArg, Condition, ConditionOp,
-    Conversion, Dfa, ExprSymbol, ExternToken, Grammar, GrammarItem, InternToken, Lifetime,
-    MacroSymbol, MatchContents, MatchEntry, MatchItem, MatchMapping, MatchToken, Name, NoMemory,
-    NonterminalData, NonterminalString, Parameter, Path, Span, Symbol, SymbolKind, TerminalLiteral,
-    TerminalString, Tuple, TypeBound, TypeBoundParameter, TypeRef, WhereClause,
+    Alternative, ArgPattern, AssociatedType, Atom, Conversion, Dfa, ExternToken, Grammar,
+    GrammarItem, InternToken, Lifetime, MatchContents, MatchEntry, MatchItem, MatchMapping,
+    MatchToken, Name, NoMemory, NonterminalData, Parameter, Path, Span, Symbol, SymbolKind,
+    TerminalLiteral, TerminalString, Tuple, TypeBound, TypeBoundParameter, TypeRef, WhereClause,
 };
 use lalrpop_norm_tree::grammar::pattern::{FieldPattern, Pattern, PatternKind};
 use std::alloc::Global;
@@ -430,69 +428,12 @@ fn item_parameter(alloc: Global) -> Result<TypeBoundParameter<TypeRef>, NoMemory
 
 fn put_inside_rule(alloc: Global, rule: &mut NonterminalData) -> Result<(), NoMemory> {
     for alternative in rule.alternatives.iter_mut() {
-        put_condition(alloc, alternative)?;
         put_symbols(alloc, &mut alternative.expr.symbols)?;
     }
     if let Some(TypeRef::OfSymbol(kind)) = &mut rule.type_decl {
         put_kind(alloc, kind)?;
     }
     Ok(())
-}
-
-/// Makes a condition of an attribute that stands for one.
-fn put_condition(alloc: Global, alternative: &mut Alternative) -> Result<(), NoMemory> {
-    let attributes = replace(&mut alternative.attributes, Vec::new(alloc));
-    for attribute in attributes {
-        put_attribute(alloc, alternative, attribute)?;
-    }
-    Ok(())
-}
-
-fn put_attribute(
-    alloc: Global,
-    alternative: &mut Alternative,
-    attribute: Attribute,
-) -> Result<(), NoMemory> {
-    let stays = put_condition_of(alloc, &mut alternative.condition, &attribute);
-    push_if(&mut alternative.attributes, attribute, stays)
-}
-
-/// Puts the condition that an attribute stands for. Whether the attribute stays.
-fn put_condition_of(
-    alloc: Global,
-    place: &mut Option<Condition>,
-    attribute: &Attribute,
-) -> Result<bool, NoMemory> {
-    match condition_of(alloc, attribute)? {
-        Some(condition) => {
-            *place = Some(condition);
-            Ok(false)
-        }
-        None => Ok(true),
-    }
-}
-
-/// `NAME == "a"` of `if = "NAME"`.
-fn condition_of(alloc: Global, attribute: &Attribute) -> Result<Option<Condition>, NoMemory> {
-    match (operator_of(attribute.id.as_str()), &attribute.arg) {
-        (Some(op), AttributeArg::Equal(name)) => Ok(Some(Condition {
-            span: attribute.id_span,
-            lhs: NonterminalString(atom(alloc, name.as_str())?),
-            rhs: atom(alloc, "a")?,
-            op,
-        })),
-        _ => Ok(None),
-    }
-}
-
-fn operator_of(id: &str) -> Option<ConditionOp> {
-    match id {
-        "if" => Some(ConditionOp::Equals),
-        "if!" => Some(ConditionOp::NotEquals),
-        "if~" => Some(ConditionOp::Match),
-        "if!~" => Some(ConditionOp::NotMatch),
-        _ => None,
-    }
 }
 
 // ---- symbols
@@ -518,6 +459,7 @@ fn put_inside(alloc: Global, kind: &mut SymbolKind) -> Result<(), NoMemory> {
         SymbolKind::Repeat(repeat) => put_symbol(alloc, &mut repeat.symbol),
         SymbolKind::Choose(inner) => put_symbol(alloc, inner),
         SymbolKind::Name(_, inner) => put_symbol(alloc, inner),
+        SymbolKind::Macro(call) => put_symbols(alloc, &mut call.args),
         _ => Ok(()),
     }
 }
@@ -531,7 +473,6 @@ fn put_kind(alloc: Global, kind: &mut SymbolKind) -> Result<(), NoMemory> {
 fn later_kind(alloc: Global, kind: &SymbolKind) -> Result<Option<SymbolKind>, NoMemory> {
     match kind {
         SymbolKind::Nonterminal(name) => Ok(later_name(name.0.as_str())),
-        SymbolKind::Expr(group) => call_of(alloc, group),
         SymbolKind::Name(name, inner) => match tuple_of(alloc, name)? {
             Some(tuple) => Ok(Some(SymbolKind::Tuple(tuple, inner.clone()?))),
             None => Ok(None),
@@ -542,41 +483,8 @@ fn later_kind(alloc: Global, kind: &SymbolKind) -> Result<Option<SymbolKind>, No
 
 fn later_name(name: &str) -> Option<SymbolKind> {
     match name {
-        "@L" => Some(SymbolKind::Lookahead),
-        "@R" => Some(SymbolKind::Lookbehind),
         "!" => Some(SymbolKind::Error),
         _ => None,
-    }
-}
-
-/// The call of a group that begins with `NAME<>`.
-fn call_of(alloc: Global, group: &ExprSymbol) -> Result<Option<SymbolKind>, NoMemory> {
-    let Some(name) = called(alloc, group)? else {
-        return Ok(None);
-    };
-    let mut args = Vec::new(alloc);
-    for (i, symbol) in group.symbols.iter().enumerate() {
-        if i > 0 {
-            args.push(symbol.clone()?)?;
-        }
-    }
-    Ok(Some(SymbolKind::Macro(MacroSymbol { name, args })))
-}
-
-fn called(alloc: Global, group: &ExprSymbol) -> Result<Option<NonterminalString>, NoMemory> {
-    match group.symbols.first() {
-        Some(symbol) => called_by(alloc, &symbol.kind),
-        None => Ok(None),
-    }
-}
-
-fn called_by(alloc: Global, kind: &SymbolKind) -> Result<Option<NonterminalString>, NoMemory> {
-    match kind {
-        SymbolKind::Nonterminal(name) => match name.0.as_str().strip_suffix("<>") {
-            Some(name) => Ok(Some(NonterminalString(atom(alloc, name)?))),
-            None => Ok(None),
-        },
-        _ => Ok(None),
     }
 }
 
