@@ -6,11 +6,13 @@
 
 DATA is the folder of the trees, SCRIPT and OUTPUT are a crate's stdin and stdout. Where this script can't tell the answer it
 prints `?`, and compares nothing. It knows the printed forms, and what the passes make of a grammar that they take; of refusals
-only those of names (F25, F26, F27, F29, F32). So what stands at a tree that is refused otherwise, or is no tree, is to be
-written by hand: the comparison counts these lines, and says nothing of them.
+only those of names (F25 to F32) and of the expansion (F33 to F37). So what stands at a tree that is refused otherwise, or is no
+tree, is to be written by hand: the comparison counts these lines, and says nothing of them.
 
-The passes are written here a second time, after the published source of lalrpop 0.23.1: briefly, for groups, repeats, levels,
-names and features, not for what this library refuses as a later part.
+The passes are written here a second time, after the published source of lalrpop 0.23.1: briefly, for macros, groups, repeats,
+lookarounds, levels, names and features, not for what this library refuses as a later part. Patterns of conditions are read by
+`re`, so they are to mean the same there as in the library; none is told where it looks around, repeats a hundred times or more,
+or nests past 250.
 """
 import copy
 import json
@@ -18,205 +20,13 @@ import os
 import re
 import sys
 
-
-class Unknown(Exception):
-    """What this script does not tell."""
+sys.dont_write_bytecode = True
+from wanted_forms import (Unknown, argument, attributes, canonical, one, path, pattern, place, terminal, tree_text,
+                          type_text, visibility)
 
 
 class Refused(Exception):
     """A fault: its number and its span."""
-
-
-# ---- names, spans, terminals, types
-
-ESCAPES = {"\0": "\\0", "\t": "\\t", "\r": "\\r", "\n": "\\n", "\\": "\\\\", '"': '\\"'}
-
-
-def escaped(text):
-    return "".join(ESCAPES.get(c) or ("\\u{%x}" % ord(c) if ord(c) < 32 or ord(c) == 127 else c) for c in text)
-
-
-def quoted(text):
-    return '"' + text.replace("\\", "\\\\").replace('"', '\\"').replace("\n", "\\n") + '"'
-
-
-def place(span):
-    return "%d..%d" % tuple(span)
-
-
-def one(value):
-    """A variant as its name and its content."""
-    if isinstance(value, str):
-        return value, None
-    ((name, content),) = value.items()
-    return name, content
-
-
-def literal(value):
-    name, text = one(value)
-    return '"%s"' % escaped(text) if name == "Quoted" else 'r#"%s"#' % escaped(text)
-
-
-def terminal(value, marked=True):
-    """As in the printed form; not marked, as its `Display`."""
-    name, content = one(value)
-    if name == "Literal":
-        return literal(content)
-    return ("$" if marked else "") + content if name == "Bare" else "$!" if marked else "error"
-
-
-def rule_name(name):
-    return name if re.fullmatch("[A-Za-z0-9_]*", name) else "`" + name + "`"
-
-
-def argument(name):
-    return ("mut " if name["mutable"] else "") + name["name"]
-
-
-REPEATS = {"Star": "*", "Plus": "+", "Question": "?"}
-
-
-def path(value):
-    return ("::" if value["absolute"] else "") + "::".join(value["ids"])
-
-
-def applied(value):
-    return path(value["path"]) + ("<" + ", ".join(map(type_text, value["types"])) + ">" if value["types"] else "")
-
-
-def type_text(value):
-    name, content = one(value)
-    if name == "Tuple":
-        return "(" + ", ".join(map(type_text, content)) + ")"
-    if name == "Slice":
-        return "[" + type_text(content) + "]"
-    if name == "Nominal":
-        return applied(content)
-    if name == "TraitObject":
-        return "dyn " + applied(content)
-    if name == "Ref":
-        lifetime = content["lifetime"] + " " if content["lifetime"] else ""
-        return "&" + lifetime + ("mut " if content["mutable"] else "") + type_text(content["referent"])
-    if name in ("Lifetime", "Id"):
-        return content
-    if name == "OfSymbol":
-        return "`" + canonical(content) + "`"
-    binder = "for<" + ", ".join(one(p)[1] for p in content["forall"]) + "> " if content["forall"] else ""
-    value = " -> " + type_text(content["ret"]) if content["ret"] else ""
-    return "dyn " + binder + path(content["path"]) + "(" + ", ".join(map(type_text, content["parameters"])) + ")" + value
-
-
-def pattern(value):
-    name, content = one(value["kind"])
-    if name in ("Enum", "TupleStruct"):
-        return path(content[0]) + "(" + ", ".join(map(pattern, content[1])) + ")"
-    return path(content) if name == "Path" else {"Underscore": "_", "DotDot": ".."}[name]
-
-
-# ---- symbols
-
-def canonical(value):
-    """The text of a symbol, which is the name of the rule that is made of it."""
-    name, content = one(value)
-    if name == "Expr":
-        return "(" + " ".join(canonical(s["kind"]) for s in content["symbols"]) + ")"
-    if name in ("AmbiguousId", "Nonterminal"):
-        return content
-    if name == "Terminal":
-        return terminal(content, False)
-    if name == "Repeat":
-        return canonical(content["symbol"]["kind"]) + REPEATS[content["op"]]
-    if name == "Choose":
-        return "<" + canonical(content["kind"]) + ">"
-    if name == "Name":
-        return argument(content[0]) + ":" + canonical(content[1]["kind"])
-    raise Unknown
-
-
-def symbols(values):
-    return "".join(" " + symbol(s) for s in values)
-
-
-def symbol(value):
-    return kind(value["kind"]) + "@" + place(value["span"])
-
-
-def kind(value):
-    name, content = one(value)
-    if name == "Expr":
-        return "(" + symbols(content["symbols"]) + " )"
-    if name == "AmbiguousId":
-        return "~" + content
-    if name == "Terminal":
-        return terminal(content)
-    if name == "Nonterminal":
-        return rule_name(content)
-    if name == "Repeat":
-        return symbol(content["symbol"]) + REPEATS[content["op"]]
-    if name == "Choose":
-        return "<" + symbol(content) + ">"
-    if name == "Name":
-        return "<" + argument(content[0]) + ":" + symbol(content[1]) + ">"
-    raise Unknown
-
-
-# ---- the printed form of a tree
-
-def attribute(value):
-    name, content = one(value["arg"])
-    arg = "" if name == "Empty" else " = " + quoted(content) if name == "Equal" else "(" + "".join(" " + attribute(a) for a in content) + " )"
-    return value["id"] + "@" + place(value["id_span"]) + arg
-
-
-def attributes(values):
-    return "".join(" #[" + attribute(a) + "]" for a in values)
-
-
-def visibility(value):
-    name, content = one(value)
-    return "" if name == "Priv" else "pub(in %s) " % path(content) if name == "PubIn" else "pub(%s) " % path(content) if content else "pub "
-
-
-def alternative(value):
-    if value["condition"]:
-        raise Unknown
-    text = "    " + place(value["span"]) + attributes(value["attributes"]) + " =" + symbols(value["expr"]["symbols"])
-    if value["action"]:
-        name, code = one(value["action"])
-        text += {"Lookahead": " => @L", "Lookbehind": " => @R"}.get(name) or {"User": " => ", "Fallible": " =>? "}[name] + quoted(code)
-    return text + "\n"
-
-
-def extern(value):
-    text = "extern " + place(value["span"]) + "\n"
-    if value["enum_token"]:
-        tokens = value["enum_token"]
-        text += "  enum %s %s\n" % (type_text(tokens["type_name"]), place(tokens["type_span"]))
-        for c in tokens["conversions"]:
-            head = "    " + place(c["span"]) + attributes(c["attributes"])
-            text += "%s %s => %s %s\n" % (head, terminal(c["from"]), pattern(c["to"]), place(c["to"]["span"]))
-    return text
-
-
-def item(value):
-    name, content = one(value)
-    if name == "Use":
-        return "use " + content + "\n"
-    if name == "ExternToken":
-        return extern(content)
-    text = visibility(content["visibility"]) + "rule " + rule_name(content["name"])
-    text += "<" + ", ".join(content["args"]) + ">" if content["args"] else ""
-    text += ": " + type_text(content["type_decl"]) if content["type_decl"] is not None else ""
-    text += " " + place(content["span"]) + attributes(content["attributes"]) + "\n"
-    return text + "".join(map(alternative, content["alternatives"]))
-
-
-def tree_text(tree):
-    text = "grammar " + place(tree["span"]) + " " + tree["prefix"] + "\n"
-    text += "".join("  #![%s]\n" % a for a in tree["module_attributes"])
-    text += "".join("  #[%s]\n" % attribute(a) for a in tree["attributes"])
-    text += "".join("  <%s>\n" % one(p)[1] for p in tree["type_parameters"])
-    return text + "".join(map(item, tree["items"]))
 
 
 # ---- what is asked of a tree
@@ -354,7 +164,7 @@ def symbols_under(values):
     """The symbols, those inside of others before them."""
     for s in values:
         name, content = one(s["kind"])
-        inner = {"Expr": lambda: content["symbols"], "Repeat": lambda: [content["symbol"]],
+        inner = {"Expr": lambda: content["symbols"], "Repeat": lambda: [content["symbol"]], "Macro": lambda: content["args"],
                  "Choose": lambda: [content], "Name": lambda: [content[1]]}.get(name, lambda: [])()
         yield from symbols_under(inner)
         yield s
@@ -383,8 +193,13 @@ def global_names(tree):
     return named
 
 
-def resolve_symbol(s, scope):
+def resolve_symbol(s, scope, arities):
     name, content = one(s["kind"])
+    if name == "Macro":
+        what, given = scope.get(content["name"]), len(content["args"])
+        wrong = "F27" if what is None else "F30" if what != "macro" else "F31" if given != arities[content["name"]] else None
+        if wrong:
+            raise Refused(wrong + " " + place(s["span"]))
     if name in ("AmbiguousId", "Nonterminal"):
         what = scope.get(content)
         wrong = "F27" if what is None else "F29" if name == "Nonterminal" and what not in ("rule", "argument") else "F32" if what == "macro" else None
@@ -393,15 +208,32 @@ def resolve_symbol(s, scope):
         s["kind"] = {"Terminal": {"Bare": content}} if what == "bare" else {"Nonterminal": content}
 
 
+def symbols_as_resolved(values):
+    """The symbols, those inside of others before them; but a call before its arguments."""
+    for s in values:
+        name, content = one(s["kind"])
+        if name == "Macro":
+            yield s
+            yield from symbols_as_resolved(content["args"])
+        else:
+            yield from symbols_as_resolved({"Expr": lambda: content["symbols"], "Repeat": lambda: [content["symbol"]],
+                                            "Choose": lambda: [content], "Name": lambda: [content[1]]}.get(name, lambda: [])())
+            yield s
+
+
 def resolve(tree):
     named = global_names(tree)
+    arities = {r["name"]: len(r["args"]) for r in rules_of(tree)}
     for rule in rules_of(tree):
         if len(set(rule["args"])) < len(rule["args"]):
             raise Refused("F26 " + place(rule["span"]))
         scope = dict(named, **{a: "argument" for a in rule["args"]})
         for a in rule["alternatives"]:
-            for s in symbols_under(a["expr"]["symbols"]):
-                resolve_symbol(s, scope)
+            what = scope.get(a["condition"]["lhs"]) if a["condition"] else "argument"
+            if what != "argument":
+                raise Refused(("F28 " if what else "F27 ") + place(a["condition"]["span"]))
+            for s in symbols_as_resolved(a["expr"]["symbols"]):
+                resolve_symbol(s, scope, arities)
 
 
 def put_level(values, target, names):
@@ -458,7 +290,7 @@ def bound(span, name, inner):
 def group_rule(span, group):
     named, parts = selected(group["symbols"])
     if named:
-        raise Unknown
+        raise Refused("F35 " + place(span))
     types = [{"OfSymbol": copy.deepcopy(s["kind"])} for _, _, s in parts]
     single = len(types) == 1
     return types[0] if single else {"Tuple": types}, [new_alternative(span, group["symbols"], "<>" if single else "(<>)")], True
@@ -477,33 +309,111 @@ def repeat_rule(span, repeat):
     return vec, [new_alternative(span, [inner], "alloc::vec![<>]"), new_alternative(span, push, "{ let mut v = v; v.push(e); v }")], False
 
 
-def expand_macros(tree, limit):
-    """Groups and repeats, round by round; what was met last is made first."""
-    seen, rest, rounds = set(), rules_of(tree), 0
-    if any(r["args"] for r in rest):
+def holds_of(condition, bound_to):
+    """The value of a condition, of what its left side is bound to."""
+    name, content = one(bound_to[condition["lhs"]])
+    text = one(content)[1] if name == "Terminal" and one(content)[0] == "Literal" else None
+    if text is None or one(text)[0] != "Quoted":
+        raise Refused("F33 " + place(condition["span"]))
+    literal_text, right = one(text)[1], condition["rhs"]
+    if condition["op"] in ("Equals", "NotEquals"):
+        return (literal_text == right) == (condition["op"] == "Equals")
+    if re.search(r"\(\?[=!<]|\{\d{3,}|\({251}", right):
         raise Unknown
+    try:
+        found = re.search(right, literal_text) is not None
+    except re.error:
+        raise Refused("F34 " + place(condition["span"])) from None
+    return found == (condition["op"] == "Match")
+
+
+def put_in(values, bound_to):
+    """The symbols with those for the names of arguments, which keep the spans of the names."""
+    for s in symbols_under(values):
+        name, content = one(s["kind"])
+        if name == "Nonterminal" and content in bound_to:
+            s["kind"] = copy.deepcopy(bound_to[content])
+
+
+def type_of_instance(ty, bound_to):
+    name, content = one(ty)
+    if name == "Id":
+        return {"OfSymbol": bound_to[content]} if content in bound_to else {"Nominal": {"path": {"absolute": False, "ids": [content]}, "types": []}}
+    if name == "Tuple":
+        return {name: [type_of_instance(t, bound_to) for t in content]}
+    if name == "Slice":
+        return {name: type_of_instance(content, bound_to)}
+    if name in ("Nominal", "TraitObject"):
+        return {name: dict(content, types=[type_of_instance(t, bound_to) for t in content["types"]])}
+    if name == "Ref":
+        return {name: dict(content, referent=type_of_instance(content["referent"], bound_to))}
+    if name == "Lifetime":
+        return ty
+    raise Unknown
+
+
+def instance_rule(span, macro, args):
+    """The visibility, the attributes, the type and the alternatives of the instance."""
+    bound_to = dict(zip(macro["args"], (s["kind"] for s in args)))
+    ty = None if macro["type_decl"] is None else type_of_instance(macro["type_decl"], bound_to)
+    made = [copy.deepcopy(a) for a in macro["alternatives"] if a["condition"] is None or holds_of(a["condition"], bound_to)]
+    for a in made:
+        a.update(span=span, condition=None)
+        put_in(a["expr"]["symbols"], bound_to)
+    return macro["visibility"], copy.deepcopy(macro["attributes"]), ty, made
+
+
+def made_rule(text, s, macros):
+    """The rule of a symbol, where it was first met."""
+    span, (name, content) = s["span"], one(s["kind"])
+    seen, marks = "Priv", [{"id_span": span, "id": "inline", "arg": "Empty"}]
+    if name == "Macro":
+        seen, marks, ty, made = instance_rule(span, macros[content["name"]], content["args"])
+    elif name in ("Lookahead", "Lookbehind"):
+        ty, made = None, [{"span": span, "expr": {"symbols": []}, "condition": None, "action": name, "attributes": []}]
+    else:
+        ty, made, inline = group_rule(span, content) if name == "Expr" else repeat_rule(span, content)
+        marks = marks if inline else []
+    return {"visibility": seen, "name": text, "attributes": marks, "span": span, "args": [], "type_decl": ty, "alternatives": made}
+
+
+def unplaced(value):
+    """The JSON of a part of a symbol, its spans left out."""
+    if isinstance(value, dict):
+        return {k: unplaced(v) for k, v in value.items() if k != "span"}
+    return [unplaced(v) for v in value] if isinstance(value, list) else value
+
+
+def meet(s, seen, declared):
+    """Puts the name in the place of the symbol. What is to be made, where it is new."""
+    text, shape = canonical(s["kind"]), unplaced(s["kind"])
+    if text in declared or seen.get(text, shape) != shape:
+        raise Refused("F37 " + place(s["span"]))
+    new = [] if text in seen else [(text, copy.deepcopy(s))]
+    seen[text] = shape
+    s["kind"] = {"Nonterminal": text}
+    return new
+
+
+def expand_macros(tree, limit):
+    """Calls, groups, repeats and lookarounds, round by round; what was met last is made first."""
+    declared = {r["name"] for r in rules_of(tree)}
+    macros = {r["name"]: r for r in rules_of(tree) if r["args"]}
+    tree["items"] = [i for i in tree["items"] if one(i)[0] != "Nonterminal" or not one(i)[1]["args"]]
+    seen, rest, rounds = {}, rules_of(tree), 0
     while True:
         waiting = []
         for rule in rest:
             for a in rule["alternatives"]:
                 for s in symbols_under(a["expr"]["symbols"]):
-                    if one(s["kind"])[0] in ("Expr", "Repeat"):
-                        text = canonical(s["kind"])
-                        if text not in seen:
-                            seen.add(text)
-                            waiting.append((text, copy.deepcopy(s)))
-                        s["kind"] = {"Nonterminal": text}
+                    if one(s["kind"])[0] in ("Expr", "Repeat", "Macro", "Lookahead", "Lookbehind"):
+                        waiting += meet(s, seen, declared)
         if not waiting:
             return
         rounds += 1
         if rounds > limit:
-            raise Unknown
-        rest = []
-        for text, s in reversed(waiting):
-            name, content = one(s["kind"])
-            ty, made, inline = group_rule(s["span"], content) if name == "Expr" else repeat_rule(s["span"], content)
-            marks = [{"id_span": s["span"], "id": "inline", "arg": "Empty"}] if inline else []
-            rest.append({"visibility": "Priv", "name": text, "attributes": marks, "span": s["span"], "args": [], "type_decl": ty, "alternatives": made})
+            raise Refused("F36 " + place(waiting[-1][1]["span"]))
+        rest = [made_rule(text, s, macros) for text, s in reversed(waiting)]
         tree["items"] += [{"Nonterminal": r} for r in rest]
 
 
@@ -560,6 +470,11 @@ class Types:
             return "(" + ", ".join(map(self.lowered, content)) + ")"
         if name == "Nominal":
             return path(content["path"]) + ("<" + ", ".join(map(self.lowered, content["types"])) + ">" if content["types"] else "")
+        if name == "Slice":
+            return "[" + self.lowered(content) + "]"
+        if name == "Ref":
+            lifetime = content["lifetime"] + " " if content["lifetime"] else ""
+            return "&" + lifetime + ("mut " if content["mutable"] else "") + self.lowered(content["referent"])
         return type_text(ty)
 
     def text(self):
@@ -677,9 +592,15 @@ def run_pass(name, tree, features, limit):
     elif name == "expand_levels":
         expand_levels(tree)
     elif name == "expand_macros":
+        resolve(tree)
         expand_macros(tree, limit)
     elif name not in ("read", "copy"):
         raise Unknown
+
+
+def every_kind(tree):
+    """The kinds of all symbols, those inside of others too."""
+    return [one(s["kind"]) for r in rules_of(tree) for a in r["alternatives"] for s in symbols_under(a["expr"]["symbols"])]
 
 
 def is_taken(tree):
@@ -687,14 +608,15 @@ def is_taken(tree):
     rules = rules_of(tree)
     enums = [b["enum_token"] for n, b in map(one, tree["items"]) if n == "ExternToken" and b["enum_token"]]
     known = {terminal(c["from"]) for c in enums[0]["conversions"]} if enums else set()
-    used = {terminal(one(s["kind"])[1]) for r in rules for a in r["alternatives"]
-            for s in symbols_under(a["expr"]["symbols"]) if one(s["kind"])[0] == "Terminal"}
-    typed = all(r["type_decl"] is not None and not r["args"] for r in rules)
+    used = {terminal(content) for name, content in every_kind(tree) if name == "Terminal"}
+    typed = all(r["type_decl"] is not None for r in rules)
     return typed and used <= known and not tree["attributes"] and not tree["type_parameters"]
 
 
 def normalized(tree, features, limit):
     remove_disabled(tree, features)
+    if any(name == "Macro" and not content["args"] for name, content in every_kind(tree)):
+        raise Unknown
     resolve(tree)
     if not is_taken(tree):
         raise Unknown
@@ -729,7 +651,7 @@ def answer(data, name, call, *words):
         run_pass(last, tree, features, limit)
         return tree_text(tree)
     except Refused as fault:
-        return "?\n" if call == "lnorm" else str(fault) + "\n"
+        return "standard error: %s\nstatus 1\n" % fault if call == "lnorm" else str(fault) + "\n"
     except (Unknown, AttributeError, LookupError, TypeError, ValueError):
         return "?\n"
 

@@ -1,0 +1,209 @@
+"""The texts and the printed forms of trees, read off their JSON: `wanted.py` uses them."""
+import re
+
+
+class Unknown(Exception):
+    """What is not told here."""
+
+
+# ---- names, spans, terminals, types
+
+ESCAPES = {"\0": "\\0", "\t": "\\t", "\r": "\\r", "\n": "\\n", "\\": "\\\\", '"': '\\"'}
+
+
+def escaped(text):
+    return "".join(ESCAPES.get(c) or ("\\u{%x}" % ord(c) if ord(c) < 32 or ord(c) == 127 else c) for c in text)
+
+
+def quoted(text):
+    return '"' + text.replace("\\", "\\\\").replace('"', '\\"').replace("\n", "\\n") + '"'
+
+
+def place(span):
+    return "%d..%d" % tuple(span)
+
+
+def one(value):
+    """A variant as its name and its content."""
+    if isinstance(value, str):
+        return value, None
+    ((name, content),) = value.items()
+    return name, content
+
+
+def literal(value):
+    name, text = one(value)
+    return '"%s"' % escaped(text) if name == "Quoted" else 'r#"%s"#' % escaped(text)
+
+
+def terminal(value, marked=True):
+    """As in the printed form; not marked, as its `Display`."""
+    name, content = one(value)
+    if name == "Literal":
+        return literal(content)
+    return ("$" if marked else "") + content if name == "Bare" else "$!" if marked else "error"
+
+
+def rule_name(name):
+    return name if re.fullmatch("[A-Za-z0-9_]*", name) else "`" + name + "`"
+
+
+def argument(name):
+    return ("mut " if name["mutable"] else "") + name["name"]
+
+
+REPEATS = {"Star": "*", "Plus": "+", "Question": "?"}
+LOOKAROUNDS = {"Lookahead": "@L", "Lookbehind": "@R"}
+OPERATORS = {"Equals": "==", "NotEquals": "!=", "Match": "~~", "NotMatch": "!~"}
+
+
+def path(value):
+    return ("::" if value["absolute"] else "") + "::".join(value["ids"])
+
+
+def applied(value):
+    return path(value["path"]) + ("<" + ", ".join(map(type_text, value["types"])) + ">" if value["types"] else "")
+
+
+def type_text(value):
+    name, content = one(value)
+    if name == "Tuple":
+        return "(" + ", ".join(map(type_text, content)) + ")"
+    if name == "Slice":
+        return "[" + type_text(content) + "]"
+    if name == "Nominal":
+        return applied(content)
+    if name == "TraitObject":
+        return "dyn " + applied(content)
+    if name == "Ref":
+        lifetime = content["lifetime"] + " " if content["lifetime"] else ""
+        return "&" + lifetime + ("mut " if content["mutable"] else "") + type_text(content["referent"])
+    if name in ("Lifetime", "Id"):
+        return content
+    if name == "OfSymbol":
+        return "`" + canonical(content) + "`"
+    binder = "for<" + ", ".join(one(p)[1] for p in content["forall"]) + "> " if content["forall"] else ""
+    value = " -> " + type_text(content["ret"]) if content["ret"] else ""
+    return "dyn " + binder + path(content["path"]) + "(" + ", ".join(map(type_text, content["parameters"])) + ")" + value
+
+
+def pattern(value):
+    name, content = one(value["kind"])
+    if name in ("Enum", "TupleStruct"):
+        return path(content[0]) + "(" + ", ".join(map(pattern, content[1])) + ")"
+    return path(content) if name == "Path" else {"Underscore": "_", "DotDot": ".."}[name]
+
+
+# ---- symbols
+
+def canonical(value):
+    """The text of a symbol, which is the name of the rule that is made of it."""
+    name, content = one(value)
+    if name == "Expr":
+        return "(" + " ".join(canonical(s["kind"]) for s in content["symbols"]) + ")"
+    if name in ("AmbiguousId", "Nonterminal"):
+        return content
+    if name == "Terminal":
+        return terminal(content, False)
+    if name == "Macro":
+        return content["name"] + "<" + ", ".join(canonical(s["kind"]) for s in content["args"]) + ">"
+    if name == "Repeat":
+        return canonical(content["symbol"]["kind"]) + REPEATS[content["op"]]
+    if name == "Choose":
+        return "<" + canonical(content["kind"]) + ">"
+    if name == "Name":
+        return argument(content[0]) + ":" + canonical(content[1]["kind"])
+    if name in LOOKAROUNDS:
+        return LOOKAROUNDS[name]
+    raise Unknown
+
+
+def symbols(values):
+    return "".join(" " + symbol(s) for s in values)
+
+
+def symbol(value):
+    return kind(value["kind"]) + "@" + place(value["span"])
+
+
+def kind(value):
+    name, content = one(value)
+    if name == "Expr":
+        return "(" + symbols(content["symbols"]) + " )"
+    if name == "AmbiguousId":
+        return "~" + content
+    if name == "Terminal":
+        return terminal(content)
+    if name == "Nonterminal":
+        return rule_name(content)
+    if name == "Macro":
+        return rule_name(content["name"]) + "<" + symbols(content["args"]) + " >"
+    if name == "Repeat":
+        return symbol(content["symbol"]) + REPEATS[content["op"]]
+    if name == "Choose":
+        return "<" + symbol(content) + ">"
+    if name == "Name":
+        return "<" + argument(content[0]) + ":" + symbol(content[1]) + ">"
+    if name in LOOKAROUNDS:
+        return LOOKAROUNDS[name]
+    raise Unknown
+
+
+# ---- the printed form of a tree
+
+def attribute(value):
+    name, content = one(value["arg"])
+    arg = "" if name == "Empty" else " = " + quoted(content) if name == "Equal" else "(" + "".join(" " + attribute(a) for a in content) + " )"
+    return value["id"] + "@" + place(value["id_span"]) + arg
+
+
+def attributes(values):
+    return "".join(" #[" + attribute(a) + "]" for a in values)
+
+
+def visibility(value):
+    name, content = one(value)
+    return "" if name == "Priv" else "pub(in %s) " % path(content) if name == "PubIn" else "pub(%s) " % path(content) if content else "pub "
+
+
+def alternative(value):
+    text = "    " + place(value["span"]) + attributes(value["attributes"]) + " =" + symbols(value["expr"]["symbols"])
+    if value["condition"]:
+        c = value["condition"]
+        text += " if %s %s %s %s" % (rule_name(c["lhs"]), OPERATORS[c["op"]], quoted(c["rhs"]), place(c["span"]))
+    if value["action"]:
+        name, code = one(value["action"])
+        text += {"Lookahead": " => @L", "Lookbehind": " => @R"}.get(name) or {"User": " => ", "Fallible": " =>? "}[name] + quoted(code)
+    return text + "\n"
+
+
+def extern(value):
+    text = "extern " + place(value["span"]) + "\n"
+    if value["enum_token"]:
+        tokens = value["enum_token"]
+        text += "  enum %s %s\n" % (type_text(tokens["type_name"]), place(tokens["type_span"]))
+        for c in tokens["conversions"]:
+            head = "    " + place(c["span"]) + attributes(c["attributes"])
+            text += "%s %s => %s %s\n" % (head, terminal(c["from"]), pattern(c["to"]), place(c["to"]["span"]))
+    return text
+
+
+def item(value):
+    name, content = one(value)
+    if name == "Use":
+        return "use " + content + "\n"
+    if name == "ExternToken":
+        return extern(content)
+    text = visibility(content["visibility"]) + "rule " + rule_name(content["name"])
+    text += "<" + ", ".join(content["args"]) + ">" if content["args"] else ""
+    text += ": " + type_text(content["type_decl"]) if content["type_decl"] is not None else ""
+    text += " " + place(content["span"]) + attributes(content["attributes"]) + "\n"
+    return text + "".join(map(alternative, content["alternatives"]))
+
+
+def tree_text(tree):
+    text = "grammar " + place(tree["span"]) + " " + tree["prefix"] + "\n"
+    text += "".join("  #![%s]\n" % a for a in tree["module_attributes"])
+    text += "".join("  #[%s]\n" % attribute(a) for a in tree["attributes"])
+    text += "".join("  <%s>\n" % one(p)[1] for p in tree["type_parameters"])
+    return text + "".join(map(item, tree["items"]))
