@@ -4,7 +4,7 @@ ghost use Rattle.std.specs.BTreeMap.{get};
 ghost use Rattle.std.specs.Ordering.{nat_cmp};
 ghost use Rattle.std.specs.Cmp.Lexicographic.{slice_cmp};
 ghost use Rattle.lalrpop_norm_tree.specs.Accessors.{or_else};
-ghost use Rattle.lalrpop_norm_tree.specs.Items.{item_view, rule_view};
+ghost use Rattle.lalrpop_norm_tree.specs.Items.{item_view, rule_view, rule_item};
 ghost use Rattle.lalrpop_norm_model.specs.MadeRules.{macro_named};
 ghost use Rattle.lalrpop_norm_expand.specs.Macros.{macros_in, AreByName};
 ghost use Rattle.lalrpop_norm_expand.specs.Making.{macro_in, without_macro};
@@ -69,6 +69,24 @@ impl Macros {
     }
 }
 
+/// Adds a rule to the items that are no macros, or a macro to the macros.
+fn sort_rule(
+    rule: NonterminalData,
+    others: &mut Vec<GrammarItem>,
+    macros: &mut Macros,
+) -> Result<(), NoMemory>
+    requires { AreByName macros.old }
+    ensures others { OnOk result (map item_view others.new.items ≡ map item_view others.old.items ++ without_macro (rule_item (rule_view rule))) }
+    ensures macros { OnOk result (macros_in macros.new ≡ macros_in macros.old ++ macro_in (rule_item (rule_view rule))) }
+    ensures named { OnOk result (AreByName macros.new) }
+{
+    if rule.is_macro_def() {
+        return macros.add(rule);
+    }
+    others.push(GrammarItem::Nonterminal(rule))?;
+    Ok(())
+}
+
 /// Adds an item to those that are no macros, or to the macros.
 fn sort_out(
     item: GrammarItem,
@@ -81,12 +99,7 @@ fn sort_out(
     ensures named { OnOk result (AreByName macros.new) }
 {
     match item {
-        GrammarItem::Nonterminal(rule) => {
-            if rule.is_macro_def() {
-                return macros.add(rule);
-            }
-            others.push(GrammarItem::Nonterminal(rule))?;
-        }
+        GrammarItem::Nonterminal(rule) => return sort_rule(rule, others, macros),
         GrammarItem::MatchToken(token) => others.push(GrammarItem::MatchToken(token))?,
         GrammarItem::ExternToken(token) => others.push(GrammarItem::ExternToken(token))?,
         GrammarItem::InternToken(token) => others.push(GrammarItem::InternToken(token))?,
