@@ -19,8 +19,8 @@ use lalrpop_norm_conditions::{ConditionError, holds};
 use lalrpop_norm_faults::{FaultKind, NormFailure, NormResult, refusal};
 use lalrpop_norm_parts::attribute::copy::copy_attributes;
 use lalrpop_norm_tree::grammar::parse_tree::{
-    ActionKind, Alternative, Atom, Condition, ExprSymbol, NoMemory, NonterminalData, NonterminalString, Span,
-    Symbol, SymbolKind, TerminalLiteral, TerminalString, TypeRef,
+    ActionKind, Alternative, Atom, Condition, ExprSymbol, NoMemory, NonterminalData,
+    NonterminalString, Span, Symbol, SymbolKind, TerminalLiteral, TerminalString, TypeRef,
 };
 use std::alloc::Global;
 
@@ -79,11 +79,7 @@ fn says(alloc: Global, condition: &Condition, literal: &Atom) -> NormResult<bool
 /// Whether an alternative's condition is true or absent.
 ///
 /// Errors: F33 (`ConditionArgument`) where its left side is bound to no quoted literal; F34 (`ConditionPattern`); `Memory`.
-fn is_kept(
-    alloc: Global,
-    bindings: &Bindings,
-    condition: &Option<Condition>,
-) -> NormResult<bool>
+fn is_kept(alloc: Global, bindings: &Bindings, condition: &Option<Condition>) -> NormResult<bool>
     ensures { RefusesOr result (condition_faults (argument_kind bindings.now.names.now (parts_view bindings.now.symbols.now)) condition.now)
         (λ b. b ≡ is_true comparison bindings.now.names.now (read_all flat_reader (parts_view bindings.now.symbols.now)) condition.now) }
 {

@@ -22,8 +22,8 @@ use super::replaced::{all_replaced, replaced_kind};
 use super::sources::group_values;
 use lalrpop_norm_faults::{FaultKind, NormResult, refusal};
 use lalrpop_norm_tree::grammar::parse_tree::{
-    ActionKind, Alternative, Atom, Attribute, AttributeArg, ExprSymbol, GrammarItem,
-    Name, NoMemory, NonterminalData, NonterminalString, Path, RepeatOp, RepeatSymbol, Span, Symbol,
+    ActionKind, Alternative, Atom, Attribute, AttributeArg, ExprSymbol, GrammarItem, Name,
+    NoMemory, NonterminalData, NonterminalString, Path, RepeatOp, RepeatSymbol, Span, Symbol,
     SymbolKind, TypeRef, Visibility,
 };
 use lalrpop_norm_util::norm_util::has_name_value;

@@ -111,7 +111,7 @@ rounds-preserved c =
       names = ap has_key c.in_ok-read_items.ensures.met.names ∙ c.rounds.invariant.names;
       place = long;
       bound = omega (arith, c.rounds.invariant.bound);
-      rounds = 
+      rounds =
           subst (λ (k : ℕ). AtRound (grammar_view c.args.grammar) c.args.limit (c.rounds.left - 1) k (seen_of f) (map item_view c.read_items.new.done.items) (map item_view c.in_ok-pending.pending.items)) round
           (next_round (grammar_view c.args.grammar) _ _ _ c.rounds.expander _ _ c.rounds.invariant.names c.rounds.invariant.rounds
           f c.in_ok-read_items.ensures.met c.in_ok-read_items.ensures.refuses
