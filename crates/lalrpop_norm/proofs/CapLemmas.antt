@@ -24,7 +24,7 @@ use Rattle.lalrpop_norm_model.specs.MadeRules.{span_of, some_name_value, argumen
 use Rattle.lalrpop_norm_model.specs.PlainRules.{macros_of, expansion_round}
 use Rattle.lalrpop_norm_model.specs.PlainTables.{closed, flat_meaning, declared}
 use Rattle.lalrpop_norm_conditions.specs.Conditions.{lacks_reading}
-use Rattle.lalrpop_norm_expand.specs.Conditions.{quoted_text, tested_faults, condition_faults, call_faults}
+use Rattle.lalrpop_norm_expand.specs.Conditions.{quoted_text, comparison_faults, value_faults, called_faults}
 use Rattle.lalrpop_norm_expand.specs.Expansion.{met_before, meetings, is_declared_name, has_other, shared_names, shared_in, unmade, unmade_in, past_cap, faults_from, expansion_faults}
 use Rattle.lalrpop_norm.specs.Laws.{CapIsExact, FaultsAreByRound}
 
@@ -58,25 +58,25 @@ not_shared names met (x ∷ xs) t i =
       | inr later ↦ not_shared names (met ++ x ∷ []) xs t later
     ]
 
-not_tested : (c : Condition) (o : Option (List ℕ)) (t : Span) → In (cap_at t) (tested_faults c o) → ⊥
+not_tested : (c : Condition) (o : Option (List ℕ)) (t : Span) → In (cap_at t) (comparison_faults c o) → ⊥
 not_tested c None t (inl e) = not_argument (ap (λ (f : Fault). f.0) e)
 not_tested c None t (inr i) = i
 not_tested c (Some text) t i = not_if (lacks_reading c.op c.rhs) (ConditionPattern, c.span) t (λ e. not_pattern (ap (λ (f : Fault). f.0) e)) i
 
-not_condition : (argument : List ℕ → Option Kind) (o : Option Condition) (t : Span) → In (cap_at t) (condition_faults argument o) → ⊥
+not_condition : (argument : List ℕ → Option Kind) (o : Option Condition) (t : Span) → In (cap_at t) (value_faults argument o) → ⊥
 not_condition argument None t i = i
 not_condition argument (Some c) t i = not_tested c (quoted_text (argument c.lhs.0)) t i
 
 not_conditions : (argument : List ℕ → Option Kind) (xs : List AlternativeData) (t : Span) →
-    In (cap_at t) (flat_map (λ (a : AlternativeData). condition_faults argument a.condition) xs) → ⊥
+    In (cap_at t) (flat_map (λ (a : AlternativeData). value_faults argument a.condition) xs) → ⊥
 not_conditions argument [] t i = i
 not_conditions argument (a ∷ xs) t i =
-    elim (in_cases (cap_at t) (condition_faults argument a.condition) (flat_map (λ (b : AlternativeData). condition_faults argument b.condition) xs) i) [
+    elim (in_cases (cap_at t) (value_faults argument a.condition) (flat_map (λ (b : AlternativeData). value_faults argument b.condition) xs) i) [
       | inl here ↦ not_condition argument a.condition t here
       | inr later ↦ not_conditions argument xs t later
     ]
 
-not_called : (o : Option RuleData) (ps : Parts) (t : Span) → In (cap_at t) (call_faults o ps) → ⊥
+not_called : (o : Option RuleData) (ps : Parts) (t : Span) → In (cap_at t) (called_faults o ps) → ⊥
 not_called None ps t i = i
 not_called (Some d) ps t i = not_conditions (argument_kind d.args ps) d.alternatives t i
 

@@ -16,18 +16,18 @@ quoted_text (Some (terminal (Literal (Quoted t)))) = Some t
 quoted_text _ = None
 
 -- of a condition whose left side is a literal of that text, or none: no literal (F33), a pattern that has no reading (F34)
-abbrev pub tested_faults : Condition → Option (List ℕ) → List Fault
-tested_faults c None = (ConditionArgument, c.span) ∷ []
-tested_faults c (Some text) = fault_if (lacks_reading c.op c.rhs) (ConditionPattern, c.span)
+abbrev pub comparison_faults : Condition → Option (List ℕ) → List Fault
+comparison_faults c None = (ConditionArgument, c.span) ∷ []
+comparison_faults c (Some text) = fault_if (lacks_reading c.op c.rhs) (ConditionPattern, c.span)
 
-abbrev pub condition_faults : (List ℕ → Option Kind) → Option Condition → List Fault
-condition_faults argument None = []
-condition_faults argument (Some c) = tested_faults c (quoted_text (argument c.lhs.0))
+abbrev pub value_faults : (List ℕ → Option Kind) → Option Condition → List Fault
+value_faults argument None = []
+value_faults argument (Some c) = comparison_faults c (quoted_text (argument c.lhs.0))
 
 -- those of a call, alternative by alternative
 abbrev pub instance_faults : RuleData → Parts → List Fault
-instance_faults d args = flat_map (λ (a : AlternativeData). condition_faults (argument_kind d.args args) a.condition) d.alternatives
+instance_faults d args = flat_map (λ (a : AlternativeData). value_faults (argument_kind d.args args) a.condition) d.alternatives
 
-abbrev pub call_faults : Option RuleData → Parts → List Fault
-call_faults None args = []
-call_faults (Some d) args = instance_faults d args
+abbrev pub called_faults : Option RuleData → Parts → List Fault
+called_faults None args = []
+called_faults (Some d) args = instance_faults d args

@@ -16,7 +16,7 @@ use Rattle.lalrpop_norm_model.specs.Expanded.{rule_names}
 use Rattle.lalrpop_norm_model.specs.Scopes.{resolved_grammar}
 use Rattle.lalrpop_norm_resolve.specs.NameFaults.{resolve_faults}
 use Rattle.lalrpop_norm_model.specs.MadeRules.{span_of}
-use Rattle.lalrpop_norm_expand.specs.Conditions.{call_faults}
+use Rattle.lalrpop_norm_expand.specs.Conditions.{called_faults}
 
 -- ---- F37: shared names
 
@@ -52,7 +52,7 @@ shared_in value g k = shared_names (rule_names g) (met_before value g k) (meetin
 -- a group with a named or tuple symbol in it; a call of a macro with a condition that has no value
 abbrev pub unmade : List RuleData → Part → List Fault
 unmade macros (at s (group ps)) = fault_if (some_name_value ps) (NamedInGroup, s)
-unmade macros (at s (call n ps)) = call_faults (macro_named macros n) ps
+unmade macros (at s (call n ps)) = called_faults (macro_named macros n) ps
 unmade macros (at s (repeated op p)) = []
 unmade macros (at s (ambiguous_id a)) = []
 unmade macros (at s (terminal t)) = []

@@ -9,7 +9,7 @@ ghost use Rattle.lalrpop_norm_conditions.specs.Conditions.{comparison, lacks_rea
 ghost use Rattle.lalrpop_norm_model.specs.Grammars.{is_true};
 ghost use Rattle.lalrpop_norm_model.specs.Reading.{read_all};
 ghost use Rattle.lalrpop_norm_model.specs.MadeRules.{flat_reader, argument_kind, type_put_in, instance_alternative, instance_rule};
-ghost use Rattle.lalrpop_norm_expand.specs.Conditions.{quoted_text, condition_faults, instance_faults};
+ghost use Rattle.lalrpop_norm_expand.specs.Conditions.{quoted_text, value_faults, instance_faults};
 ghost use Rattle.lalrpop_norm_expand.specs.Making.{kept_of};
 ghost use Rattle.lalrpop_norm_expand.specs.Meeting.{IsNamed};
 
@@ -80,7 +80,7 @@ fn says(alloc: Global, condition: &Condition, literal: &Atom) -> NormResult<bool
 ///
 /// Errors: F33 (`ConditionArgument`) where its left side is bound to no quoted literal; F34 (`ConditionPattern`); `Memory`.
 fn is_kept(alloc: Global, bindings: &Bindings, condition: &Option<Condition>) -> NormResult<bool>
-    ensures { RefusesOr result (condition_faults (argument_kind bindings.now.names.now (parts_view bindings.now.symbols.now)) condition.now)
+    ensures { RefusesOr result (value_faults (argument_kind bindings.now.names.now (parts_view bindings.now.symbols.now)) condition.now)
         (λ b. b ≡ is_true comparison bindings.now.names.now (read_all flat_reader (parts_view bindings.now.symbols.now)) condition.now) }
 {
     let Some(condition) = condition else {
@@ -137,7 +137,7 @@ fn add_alternative(
     alternative: &Alternative,
     kept: &mut Vec<Alternative>,
 ) -> NormResult<()>
-    ensures refuses { Refuses result (condition_faults (argument_kind bindings.now.names.now (parts_view bindings.now.symbols.now)) alternative.now.condition) }
+    ensures refuses { Refuses result (value_faults (argument_kind bindings.now.names.now (parts_view bindings.now.symbols.now)) alternative.now.condition) }
     ensures adds { OnOk result (map alternative_view kept.new.items
         ≡ map alternative_view kept.old.items ++ kept_of span bindings.now.names.now (parts_view bindings.now.symbols.now) (alternative_view alternative.now)) }
 {
@@ -154,7 +154,7 @@ fn instance_alternatives(
     span: Span,
     alternatives: &[Alternative],
 ) -> NormResult<Vec<Alternative>>
-    ensures { RefusesOr result (flat_map (λ (a : AlternativeData). condition_faults (argument_kind bindings.now.names.now (parts_view bindings.now.symbols.now)) a.condition) (map alternative_view alternatives.now))
+    ensures { RefusesOr result (flat_map (λ (a : AlternativeData). value_faults (argument_kind bindings.now.names.now (parts_view bindings.now.symbols.now)) a.condition) (map alternative_view alternatives.now))
         (λ kept. map alternative_view kept.items ≡ flat_map (kept_of span bindings.now.names.now (parts_view bindings.now.symbols.now)) (map alternative_view alternatives.now)) }
 {
     let mut kept = Vec::new(alloc);

@@ -8,7 +8,7 @@ ghost use Rattle.lalrpop_norm_tree.specs.Items.{alternative_view, rule_view, ite
 ghost use Rattle.lalrpop_norm_faults.specs.Faults.{Refuses};
 ghost use Rattle.lalrpop_norm_model.specs.MadeRules.{inline_at, coded, private_rule, only_part, type_of_kind, with_name, holding, star_rule, plus_rule, question_rule, repeat_rule, group_rule, location_rule, macro_named, instance_of, bare_or_tuple, bare_or_tuple_code, group_sources};
 ghost use Rattle.lalrpop_norm_conditions.specs.Conditions.{comparison};
-ghost use Rattle.lalrpop_norm_expand.specs.Conditions.{call_faults};
+ghost use Rattle.lalrpop_norm_expand.specs.Conditions.{called_faults};
 ghost use Rattle.lalrpop_norm_expand.specs.Expansion.{unmade};
 ghost use Rattle.lalrpop_norm_expand.specs.Macros.{macros_in, AreByName};
 ghost use Rattle.lalrpop_norm_model.specs.PlainRules.{replaced_alternative, replaced_rule};
@@ -305,7 +305,7 @@ fn add_instance(
     requires named { IsNamed met.now }
     requires macros { AreByName macros.now }
     requires kind { kind_view met.now.symbol.kind ≡ call name.now.0 (parts_view arguments.now) }
-    ensures refuses { Refuses result (call_faults (macro_named (macros_in macros.now) name.now.0) (parts_view arguments.now)) }
+    ensures refuses { Refuses result (called_faults (macro_named (macros_in macros.now) name.now.0) (parts_view arguments.now)) }
     ensures adds { OnOk result (map item_view items.new.items ≡ map item_view items.old.items
         ++ map rule_item (instance_of comparison met.now.symbol.span (macro_named (macros_in macros.now) name.now.0) (parts_view arguments.now))) }
 {

@@ -4,7 +4,7 @@ use Rattle.lalrpop_norm_tree.specs.Symbols.{call, parts_view}
 use Rattle.lalrpop_norm_tree.specs.Items.{RuleData, rule_view}
 use Rattle.lalrpop_norm_faults.specs.Faults.{IsFirst}
 use Rattle.lalrpop_norm_model.specs.MadeRules.{macro_named}
-use Rattle.lalrpop_norm_expand.specs.Conditions.{call_faults}
+use Rattle.lalrpop_norm_expand.specs.Conditions.{called_faults}
 use Rattle.lalrpop_norm_expand.specs.Macros.{macros_in}
 use Rattle.lalrpop_norm_expand.proofs.MacroLemmas.{named_so}
 use Rattle.lalrpop_norm_expand.proofs.MeetingLemmas.{err_refuses}
@@ -24,5 +24,5 @@ returns-in_err-instance_rule-in-Some-clause-refuses c =
     let found : macro_named (macros_in c.args.macros.now) c.args.name.now.0 ≡ Some d =
     sym c.find.ensures ∙ ap (option_map (λ r. rule_view r.now)) c.in-Some.is in
     err_refuses _ _ _ c.from_residual.ensures.1
-    (subst (λ (o : Option RuleData). IsFirst (call_faults o (parts_view c.args.arguments.now)) c.in_err-instance_rule-in-Some.field-0.0) (sym found)
+    (subst (λ (o : Option RuleData). IsFirst (called_faults o (parts_view c.args.arguments.now)) c.in_err-instance_rule-in-Some.field-0.0) (sym found)
     c.in_err-instance_rule-in-Some.ensures)
