@@ -1,5 +1,5 @@
 -- What is proved of the whole way, each statement in one piece. The functions of the module `laws` carry them.
-use Rattle.std.specs.Prelude.{◌≡◌, ◌↔◌, ◌++◌, ℕ, List, [], Some, false, flat_map}
+use Rattle.std.specs.Prelude.{◌≡◌, ◌↔◌, ◌++◌, ℕ, List, [], Some, Bool, false, flat_map}
 use Rattle.std.specs.List.{range_with_len}
 use Rattle.lalrpop_norm_parts.specs.declared.names.Span.{Span}
 use Rattle.lalrpop_norm_faults.specs.declared.kind.FaultKind.TheVariants.{RecursionCap}
@@ -8,14 +8,15 @@ use Rattle.lalrpop_norm_parts.specs.Reprs.{ReprData}
 use Rattle.lalrpop_norm_theory.specs.Symbols.{ClosedSymbol, Name, Terminal}
 use Rattle.lalrpop_norm_theory.specs.Met.{rule_meets}
 use Rattle.lalrpop_norm_theory.specs.Rounds.{In, IsDistinct, NewIn}
-use Rattle.lalrpop_norm_conditions.specs.Conditions.{comparison}
+use Rattle.lalrpop_norm_tree.specs.declared.items.Condition.{Condition}
+use Rattle.lalrpop_norm_conditions.specs.Conditions.{comparison, condition_value}
 use Rattle.lalrpop_norm_model.specs.Features.{Features}
 use Rattle.lalrpop_norm_model.specs.WrittenRules.{written_rules}
 use Rattle.lalrpop_norm_model.specs.Enabled.{all_places, enabled_grammar}
 use Rattle.lalrpop_norm_model.specs.Levels.{with_levels}
 use Rattle.lalrpop_norm_model.specs.Scopes.{resolved_grammar}
 use Rattle.lalrpop_norm_model.specs.Stated.{HasLevel}
-use Rattle.lalrpop_norm_model.specs.Grammars.{ConditionValue, is_nil, references, roots}
+use Rattle.lalrpop_norm_model.specs.Grammars.{ConditionValue, is_nil, references, roots, value_of}
 use Rattle.lalrpop_norm_model.specs.PlainTables.{IsSettled, flat_meaning, declared}
 use Rattle.lalrpop_norm_model.specs.LevelRules.{leveled_grammar}
 use Rattle.lalrpop_norm_model.specs.PlainRules.{all_rules, expansion_round, IsEnded}
@@ -88,3 +89,8 @@ abbrev pub WordsAreEqual : Type 0
 WordsAreEqual = (fs : Features) (g plain : GrammarData) (rounds : ℕ) (l : LoweredGrammar) → HasFaithfulTrees fs g plain rounds l →
     (r : RuleData) (s : ClosedSymbol) → IsSymbolOf r s → In s (roots (written_rules fs g) ++ references (written_rules fs g)) →
     (w : List Terminal) → IsWrittenWord (written_meaning fs g) s w ↔ IsWordOf (traced_derivations fs g plain rounds l) (lowered_name fs g s).0 w
+
+-- Where a condition has a value by what its left side is bound to, that is its value in the meaning of a grammar.
+abbrev pub ConditionsHaveOneValue : Type 0
+ConditionsHaveOneValue = (c : Condition) (left : ClosedSymbol) (value : Bool) →
+    condition_value c.op left c.rhs ≡ Some value → value_of comparison c (Some left) ≡ value

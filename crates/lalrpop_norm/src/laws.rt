@@ -1,6 +1,6 @@
 //! What is proved of the definitions alone. Each function here is a law: it does nothing, and its contract is a theorem, whose
 //! statement stands in `specs/Laws.antt`.
-ghost use Rattle.lalrpop_norm.specs.Laws.{CapIsExact, FaultsAreByRound, LevelsSettleMacros, LoweredTreesAreFaithful, NamesAreOwn, WordsAreEqual};
+ghost use Rattle.lalrpop_norm.specs.Laws.{CapIsExact, ConditionsHaveOneValue, FaultsAreByRound, LevelsSettleMacros, LoweredTreesAreFaithful, NamesAreOwn, WordsAreEqual};
 
 /// The trees of what a grammar's plain rules are lowered to, once they have their tokens, stand one to one with the written trees,
 /// with the same words and the same written alternatives, for each rule by itself and within each of its levels. Each enabled public
@@ -46,3 +46,11 @@ pub fn faults_are_by_round()
 pub fn words_are_equal()
     ensures { WordsAreEqual }
 {}
+
+/// A condition has one value: where what its left side is bound to gives it one, as `holds` of `lalrpop_norm_conditions` answers it, that
+/// is its value in the meaning of a grammar.
+pub fn conditions_have_one_value()
+    ensures { ConditionsHaveOneValue }
+{
+    lalrpop_norm_conditions::conditions_say();
+}

@@ -1,6 +1,7 @@
 //! The whole way from a written grammar to its lowered one, and the passes that can be used by themselves.
 
 pub use crate::passes::normalize;
+pub use lalrpop_norm_expand::macro_expand;
 pub use lalrpop_norm_faults::{FaultKind, NormError, NormFailure, NormResult};
 pub use lalrpop_norm_front::{cond_comp, precedence, prevalidate, resolve};
 pub use lalrpop_norm_util::{Session, norm_util};
