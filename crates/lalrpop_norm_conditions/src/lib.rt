@@ -8,9 +8,6 @@ ghost use Rattle.lalrpop_norm_conditions.specs.Patterns.{has_reading, is_found};
 ghost use Rattle.lalrpop_norm_conditions.specs.Conditions.{condition_value, lacks_reading, asks_for_match};
 ghost use Rattle.lalrpop_norm_conditions.specs.Laws.{OperatorsSay, ValuesAreOfLiterals, PatternsAreThoseOfRegex};
 
-#[cfg(test)]
-mod tests;
-
 use lalrpop_norm_tree::grammar::parse_tree::ConditionOp;
 use regex::Regex;
 use std::alloc::{AllocError, Global};
