@@ -37,10 +37,25 @@ fn tree_of(alloc: Global, bytes: &[u8]) -> Result<Grammar, Halt>
     ensures ok { IfOk result (λ g. IsFormOf (grammar_view g) bytes.now) }
     ensures err { IfErr result (λ h. (s : Settings) → Explains s bytes.now h) }
 {
-    let text = match str::from_utf8(bytes) {
-        Ok(text) => text,
-        Err(_) => return Err(Halt::NotATree),
-    };
+    tree_in(alloc, decoded(bytes)?)
+}
+
+/// The text that the bytes are.
+fn decoded(bytes: &[u8]) -> Result<&str, Halt>
+    ensures ok { IfOk result (λ text. text.now ≡ bytes.now) }
+    ensures err { IfErr result (λ h. (s : Settings) → Explains s bytes.now h) }
+{
+    match str::from_utf8(bytes) {
+        Ok(text) => Ok(text),
+        Err(_) => Err(Halt::NotATree),
+    }
+}
+
+/// The tree whose JSON form the text is.
+fn tree_in(alloc: Global, text: &str) -> Result<Grammar, Halt>
+    ensures ok { IfOk result (λ g. IsFormOf (grammar_view g) text.now) }
+    ensures err { IfErr result (λ h. (s : Settings) → Explains s text.now h) }
+{
     match read_tree(alloc, text) {
         Ok(tree) => Ok(tree),
         Err(TreeError::NotATree) => Err(Halt::NotATree),
