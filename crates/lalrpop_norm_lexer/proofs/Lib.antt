@@ -1,0 +1,3 @@
+pub mod ConstructLemmas
+pub mod EntryLemmas
+pub mod PatternLemmas

@@ -1,0 +1,34 @@
+-- What is read of the literals of entries.
+use Rattle.std.specs.Prelude.{◌≡◌, ℕ, List, take, slice_get, Option, Some, None, Result, Ok, Err}
+use Rattle.lalrpop_norm_parts.specs.declared.names.TerminalLiteral.{TerminalLiteral}
+use Rattle.lalrpop_norm_parts.specs.declared.names.TerminalLiteral.TheVariants.{Quoted, Regex}
+use Rattle.lalrpop_norm_tree.specs.declared.items.MatchEntry.{MatchEntry}
+use Rattle.lalrpop_norm_lexer.specs.declared.reading.ReadError.{ReadError}
+use Rattle.lalrpop_norm_lexer.specs.declared.reading.ReadError.TheVariants.{Bad, Memory}
+use Rattle.lalrpop_norm_model.specs.Lexers.{Lexer, Read, KeepsLiteral, KeepsPattern}
+use Rattle.lalrpop_norm_model.specs.CheckedTokens.{AreRegexes}
+
+-- a literal is read as its kind says
+abbrev pub KeepsReading : {R : Type 0} → Lexer R → TerminalLiteral → Read R → Type 0
+KeepsReading l (Quoted text) answer = KeepsLiteral l text answer
+KeepsReading l (Regex text) answer = KeepsPattern l text answer
+
+-- The literal of the entry at that index is a bad pattern, and each entry before it has a regex.
+pub record IsFirstBad {R : Type 0} (l : Lexer R) (entries : List MatchEntry) (index : ℕ) : Type 0 where
+  pub entry : MatchEntry
+  pub text : List ℕ
+  pub at_index : slice_get entries index ≡ Some entry
+  pub literal : entry.match_literal ≡ Regex text
+  pub bad : l.IsBad text
+  pub regexes : List R
+  pub before : AreRegexes l (take index entries) regexes
+
+-- the index at which reading was refused
+abbrev pub refused_at : {T : Type 0} → Result T ReadError → Option ℕ
+refused_at (Ok x) = None
+refused_at (Err (Bad index message)) = Some index
+refused_at (Err Memory) = None
+
+-- no bad text has a regex
+abbrev pub TellsApart : {R : Type 0} → Lexer R → Type 0
+TellsApart {R} l = (text : List ℕ) (r : R) → l.IsBad text → l.IsRegexOf (Regex text) r → ⊥

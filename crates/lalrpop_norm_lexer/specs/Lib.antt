@@ -1,0 +1,4 @@
+pub mod Answers
+pub mod CheckOnly
+pub mod Constructing
+pub mod Entries
