@@ -6,7 +6,7 @@ ghost use Rattle.lalrpop_norm_tree.specs.Types.{nominal, no_types, type_view, ty
 ghost use Rattle.lalrpop_norm_model.specs.MadeRules.{argument_kind, or_name, put_in, kind_put_in, all_put_in, type_of_name, type_put_in, types_put_in, returned_put_in};
 
 use super::make::repeat_of;
-use super::replaced::{chosen, named, replaced_kind, tupled};
+use super::replaced::{named, replaced_kind, tupled};
 use lalrpop_norm_parts::names::copy::copy_type_parameters;
 use lalrpop_norm_tree::grammar::parse_tree::{
     Atom, ExprSymbol, MacroSymbol, NoMemory, NonterminalString, Path, RepeatSymbol, Symbol,
@@ -75,14 +75,21 @@ fn kind_put_in(
         SymbolKind::Expr(expr) => group_put_in(alloc, bindings, expr),
         SymbolKind::Macro(call) => call_put_in(alloc, bindings, call),
         SymbolKind::Repeat(repeat) => repeat_put_in(alloc, bindings, repeat),
-        SymbolKind::Choose(inner) => chosen(alloc, put_in(alloc, bindings, inner)?),
-        SymbolKind::Name(name, inner) => named(alloc, name, put_in(alloc, bindings, inner)?),
-        SymbolKind::Tuple(tuple, inner) => tupled(alloc, tuple, put_in(alloc, bindings, inner)?),
+        SymbolKind::Choose(inner) => Ok(SymbolKind::Choose(box_put_in(alloc, bindings, inner)?)),
+        SymbolKind::Name(name, inner) => named(name, box_put_in(alloc, bindings, inner)?),
+        SymbolKind::Tuple(tuple, inner) => tupled(tuple, box_put_in(alloc, bindings, inner)?),
         SymbolKind::Terminal(terminal) => Ok(SymbolKind::Terminal(terminal.clone()?)),
         SymbolKind::Lookahead => Ok(SymbolKind::Lookahead),
         SymbolKind::Lookbehind => Ok(SymbolKind::Lookbehind),
         SymbolKind::Error => Ok(SymbolKind::Error),
     }
+}
+
+#[cycle(put_in)]
+fn box_put_in(alloc: Global, bindings: &Bindings, symbol: &Symbol) -> Result<Box<Symbol>, NoMemory>
+    ensures { IfOk result (λ b. symbol_view b.value ≡ put_in (argument_kind bindings.now.names.now (parts_view bindings.now.symbols.now)) (symbol_view symbol.now)) }
+{
+    Ok(Box::new(alloc, put_in(alloc, bindings, symbol)?)?)
 }
 
 #[cycle(put_in)]

@@ -1,6 +1,6 @@
 //! What stands in the place of symbols.
 ghost use Rattle.std.specs.Prelude.{◌≡◌, IfOk};
-ghost use Rattle.lalrpop_norm_tree.specs.Symbols.{chosen, named, tupled, kind_view, symbol_view, parts_view, tuple_view};
+ghost use Rattle.lalrpop_norm_tree.specs.Symbols.{named, tupled, kind_view, symbol_view, parts_view, tuple_view};
 ghost use Rattle.lalrpop_norm_tree.specs.SymbolTexts.{part_text, kind_text};
 ghost use Rattle.lalrpop_norm_model.specs.Replaced.{replaced, replaced_kind, all_replaced};
 
@@ -10,6 +10,7 @@ use lalrpop_norm_tree::grammar::parse_tree::{
 use std::alloc::Global;
 
 /// The nonterminal of the text of a symbol.
+#[inline(never)]
 fn name_of(alloc: Global, kind: &SymbolKind) -> Result<NonterminalString, NoMemory>
     ensures { IfOk result (λ n. n.0 ≡ kind_text (kind_view kind.now)) }
 {
@@ -18,28 +19,23 @@ fn name_of(alloc: Global, kind: &SymbolKind) -> Result<NonterminalString, NoMemo
     Ok(NonterminalString(name))
 }
 
-/// `<X>`.
-pub(super) fn chosen(alloc: Global, symbol: Symbol) -> Result<SymbolKind, NoMemory>
-    ensures { IfOk result (λ k. kind_view k ≡ chosen (symbol_view symbol)) }
-{
-    Ok(SymbolKind::Choose(Box::new(alloc, symbol)?))
-}
-
 /// `<x:X>`.
-pub(super) fn named(alloc: Global, name: &Name, symbol: Symbol) -> Result<SymbolKind, NoMemory>
-    ensures { IfOk result (λ k. kind_view k ≡ named name.now (symbol_view symbol)) }
+#[inline(never)]
+pub(super) fn named(name: &Name, symbol: Box<Symbol>) -> Result<SymbolKind, NoMemory>
+    ensures { IfOk result (λ k. kind_view k ≡ named name.now (symbol_view symbol.value)) }
 {
-    let symbol = Box::new(alloc, symbol)?;
     Ok(SymbolKind::Name(name.clone()?, symbol))
 }
 
 /// `<(x, y):X>`.
-pub(super) fn tupled(alloc: Global, tuple: &Tuple, symbol: Symbol) -> Result<SymbolKind, NoMemory>
-    ensures { IfOk result (λ k. kind_view k ≡ tupled (tuple_view tuple.now) (symbol_view symbol)) }
+#[inline(never)]
+pub(super) fn tupled(tuple: &Tuple, symbol: Box<Symbol>) -> Result<SymbolKind, NoMemory>
+    ensures { IfOk result (λ k. kind_view k ≡ tupled (tuple_view tuple.now) (symbol_view symbol.value)) }
 {
-    let symbol = Box::new(alloc, symbol)?;
     Ok(SymbolKind::Tuple(tuple.clone()?, symbol))
 }
+
+// This goes as deep as wrapped symbols stand in one another; what the frames need is kept in functions that are not inlined.
 
 /// What a symbol is once it is replaced: the nonterminal of its text, if it is made into a rule.
 #[cycle(replaced)]
@@ -52,14 +48,22 @@ pub(super) fn replaced_kind(alloc: Global, kind: &SymbolKind) -> Result<SymbolKi
         | SymbolKind::Repeat(_)
         | SymbolKind::Lookahead
         | SymbolKind::Lookbehind => Ok(SymbolKind::Nonterminal(name_of(alloc, kind)?)),
-        SymbolKind::Choose(inner) => chosen(alloc, replaced(alloc, inner)?),
-        SymbolKind::Name(name, inner) => named(alloc, name, replaced(alloc, inner)?),
-        SymbolKind::Tuple(tuple, inner) => tupled(alloc, tuple, replaced(alloc, inner)?),
-        SymbolKind::AmbiguousId(id) => Ok(SymbolKind::AmbiguousId(id.clone()?)),
-        SymbolKind::Terminal(terminal) => Ok(SymbolKind::Terminal(terminal.clone()?)),
-        SymbolKind::Nonterminal(name) => Ok(SymbolKind::Nonterminal(name.clone()?)),
-        SymbolKind::Error => Ok(SymbolKind::Error),
+        SymbolKind::Choose(inner) => Ok(SymbolKind::Choose(replaced_box(alloc, inner)?)),
+        SymbolKind::Name(name, inner) => named(name, replaced_box(alloc, inner)?),
+        SymbolKind::Tuple(tuple, inner) => tupled(tuple, replaced_box(alloc, inner)?),
+        SymbolKind::AmbiguousId(_)
+        | SymbolKind::Terminal(_)
+        | SymbolKind::Nonterminal(_)
+        | SymbolKind::Error => Ok(kind.clone()?),
     }
+}
+
+#[inline(never)]
+#[cycle(replaced)]
+fn replaced_box(alloc: Global, symbol: &Symbol) -> Result<Box<Symbol>, NoMemory>
+    ensures { IfOk result (λ b. symbol_view b.value ≡ replaced (symbol_view symbol.now)) }
+{
+    Ok(Box::new(alloc, replaced(alloc, symbol)?)?)
 }
 
 #[cycle(replaced)]
