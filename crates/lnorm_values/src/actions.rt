@@ -1,5 +1,5 @@
 //! Productions, parameters and actions.
-use crate::made::{atom, name_pattern, push_debug, push_made, push_shown};
+use crate::made::{atom, both, copy_of, list_of_two, name_pattern, push_debug, push_shown, string};
 use lalrpop_norm_repr::grammar::repr::{
     ActionFn, ActionFnDefn, ActionFnDefnKind, ArgPattern, InlineActionFnDefn, InlinedSymbol,
     LookaroundActionFnDefn, NonterminalString, Parameter, Production, Span, Symbol, TerminalString,
@@ -11,29 +11,16 @@ use std::alloc::Global;
 /// Of each kind of action a line.
 pub(crate) fn push_actions(alloc: Global, text: &mut String) -> Result<(), NoMemory> {
     push_productions(alloc, text)?;
-    push_shown(text, "parameter ", copied_parameter(alloc), "\n")?;
-    push_debug(
-        text,
-        "action ",
-        copied_action(alloc, user_kind(alloc)),
-        "\n",
-    )?;
-    push_debug(
-        text,
-        "action ",
-        copied_action(alloc, inline_kind(alloc)),
-        "\n",
-    )?;
+    push_shown(text, "parameter ", copy_of(parameter(alloc, "n")), "\n")?;
+    push_action(alloc, text, user_kind(alloc))?;
+    push_action(alloc, text, inline_kind(alloc))?;
     let lookbehind = ActionFnDefnKind::Lookaround(LookaroundActionFnDefn::Lookbehind);
-    push_debug(text, "action ", copied_action(alloc, Ok(lookbehind)), "\n")
+    push_action(alloc, text, Ok(lookbehind))
 }
 
 /// `A, b`
 fn two_symbols(alloc: Global) -> Result<Vec<Symbol>, NoMemory> {
-    let mut symbols = Vec::new(alloc);
-    push_made(&mut symbols, nonterminal(alloc, "A"))?;
-    push_made(&mut symbols, terminal(alloc, "b"))?;
-    Ok(symbols)
+    list_of_two(alloc, nonterminal(alloc, "A"), terminal(alloc, "b"))
 }
 
 fn nonterminal(alloc: Global, name: &str) -> Result<Symbol, NoMemory> {
@@ -47,51 +34,47 @@ fn terminal(alloc: Global, name: &str) -> Result<Symbol, NoMemory> {
 /// One of two symbols, copied, and one of none.
 fn push_productions(alloc: Global, text: &mut String) -> Result<(), NoMemory> {
     text.push_str("productions")?;
-    push_debug(text, " ", copied_production(alloc, two_symbols(alloc)?), "")?;
-    push_debug(text, " ", copied_production(alloc, Vec::new(alloc)), "\n")
-}
-
-/// The copy of a production of those symbols.
-fn copied_production(alloc: Global, symbols: Vec<Symbol>) -> Result<Production, NoMemory> {
-    let production = production(alloc, symbols)?;
-    Ok(production.clone()?)
+    let of_two = production(alloc, two_symbols(alloc));
+    push_debug(text, " ", copy_of(of_two), "")?;
+    let of_none = production(alloc, Ok(Vec::new(alloc)));
+    push_debug(text, " ", copy_of(of_none), "\n")
 }
 
 /// Action 3 of `N`, of those symbols.
-fn production(alloc: Global, symbols: Vec<Symbol>) -> Result<Production, NoMemory> {
+fn production(
+    alloc: Global,
+    symbols: Result<Vec<Symbol>, NoMemory>,
+) -> Result<Production, NoMemory> {
+    let (name, symbols) = both(atom(alloc, "N"), symbols)?;
     Ok(Production {
-        nonterminal: NonterminalString(atom(alloc, "N")?),
+        nonterminal: NonterminalString(name),
         symbols,
         action: ActionFn::new(3),
         span: Span(0, 0),
     })
 }
 
-/// The copy of a parameter.
-fn copied_parameter(alloc: Global) -> Result<Parameter, NoMemory> {
-    let parameter = parameter(alloc, "n")?;
-    Ok(parameter.clone()?)
-}
-
 /// The parameter of that name, whose type is `usize`.
 pub(crate) fn parameter(alloc: Global, name: &str) -> Result<Parameter, NoMemory> {
-    let name = atom(alloc, name)?;
-    let ty = TypeRepr::usize(alloc)?;
+    let (name, ty) = both(atom(alloc, name), TypeRepr::usize(alloc))?;
     Ok(Parameter { name, ty })
 }
 
 /// The copy of an action of that kind.
-fn copied_action(
+fn push_action(
     alloc: Global,
+    text: &mut String,
     kind: Result<ActionFnDefnKind, NoMemory>,
-) -> Result<ActionFnDefn, NoMemory> {
-    let action = action(alloc, kind?)?;
-    Ok(action.clone()?)
+) -> Result<(), NoMemory> {
+    push_debug(text, "action ", copy_of(action(alloc, kind)), "\n")
 }
 
 /// An action of that kind, whose type is `usize`.
-fn action(alloc: Global, kind: ActionFnDefnKind) -> Result<ActionFnDefn, NoMemory> {
-    let ret_type = TypeRepr::usize(alloc)?;
+fn action(
+    alloc: Global,
+    kind: Result<ActionFnDefnKind, NoMemory>,
+) -> Result<ActionFnDefn, NoMemory> {
+    let (ret_type, kind) = both(TypeRepr::usize(alloc), kind)?;
     Ok(ActionFnDefn {
         fallible: false,
         ret_type,
@@ -100,40 +83,36 @@ fn action(alloc: Global, kind: ActionFnDefnKind) -> Result<ActionFnDefn, NoMemor
 }
 
 fn user_kind(alloc: Global) -> Result<ActionFnDefnKind, NoMemory> {
-    let action = user_action(alloc)?;
-    Ok(ActionFnDefnKind::User(action.clone()?))
+    Ok(ActionFnDefnKind::User(copy_of(user_action(alloc))?))
 }
 
 fn inline_kind(alloc: Global) -> Result<ActionFnDefnKind, NoMemory> {
-    let action = inline_action(alloc)?;
-    Ok(ActionFnDefnKind::Inline(action.clone()?))
+    Ok(ActionFnDefnKind::Inline(copy_of(inline_action(alloc))?))
 }
 
 /// `f(x, y)`, where `x: usize` and `y: str`.
 fn user_action(alloc: Global) -> Result<UserActionFnDefn, NoMemory> {
-    let code = String::from_str(alloc, "f(x, y)")?;
-    let arg_patterns = names(alloc)?;
+    let arguments = both(names(alloc), argument_types(alloc));
+    let ((arg_patterns, arg_types), code) = both(arguments, string(alloc, "f(x, y)"))?;
     Ok(UserActionFnDefn {
         arg_patterns,
-        arg_types: argument_types(alloc)?,
+        arg_types,
         code,
     })
 }
 
 /// `x, y`
 fn names(alloc: Global) -> Result<Vec<ArgPattern>, NoMemory> {
-    let mut names = Vec::new(alloc);
-    push_made(&mut names, name_pattern(alloc, false, "x"))?;
-    push_made(&mut names, name_pattern(alloc, false, "y"))?;
-    Ok(names)
+    list_of_two(
+        alloc,
+        name_pattern(alloc, false, "x"),
+        name_pattern(alloc, false, "y"),
+    )
 }
 
 /// `usize, str`
 fn argument_types(alloc: Global) -> Result<Vec<TypeRepr>, NoMemory> {
-    let mut types = Vec::new(alloc);
-    push_made(&mut types, TypeRepr::usize(alloc))?;
-    push_made(&mut types, TypeRepr::str(alloc))?;
-    Ok(types)
+    list_of_two(alloc, TypeRepr::usize(alloc), TypeRepr::str(alloc))
 }
 
 /// `ActionFn(22)(Y, ActionFn(44)(A, b))`
@@ -147,15 +126,7 @@ fn inline_action(alloc: Global) -> Result<InlineActionFnDefn, NoMemory> {
 
 /// `Y, ActionFn(44)(A, b)`, each copied.
 fn inlined_symbols(alloc: Global) -> Result<Vec<InlinedSymbol>, NoMemory> {
-    let mut symbols = Vec::new(alloc);
-    push_made(&mut symbols, copied(original(alloc)))?;
-    push_made(&mut symbols, copied(inlined(alloc)))?;
-    Ok(symbols)
-}
-
-fn copied(made: Result<InlinedSymbol, NoMemory>) -> Result<InlinedSymbol, NoMemory> {
-    let symbol = made?;
-    Ok(symbol.clone()?)
+    list_of_two(alloc, copy_of(original(alloc)), copy_of(inlined(alloc)))
 }
 
 /// `Y`

@@ -1,4 +1,5 @@
 //! Refusals with their messages, and sides of alternatives.
+use crate::made::{cloned, show_made};
 use lalrpop_norm_faults::{FaultKind, NormFailure, refusal};
 use lalrpop_norm_precedence::precedence::Assoc;
 use lalrpop_norm_tree::grammar::parse_tree::{NoMemory, Span};
@@ -6,8 +7,9 @@ use std::alloc::{AllocError, Global};
 
 /// A refusal with its message, one without memory for it, and copies of both.
 pub(crate) fn push_refusals(alloc: Global, text: &mut String) -> Result<(), NoMemory> {
-    push_with_copy(text, refused(String::from_str(alloc, "no type follows")))?;
-    push_with_copy(text, refused(Err(AllocError)))?;
+    let told = refused(String::from_str(alloc, "no type follows"));
+    show_made(text, Ok(told), push_with_copy)?;
+    show_made(text, Ok(refused(Err(AllocError))), push_with_copy)?;
     push_code(text, FaultKind::NotYet)?;
     push_code(text, FaultKind::SideOnLowest)?;
     push_code(text, FaultKind::TooManyActions)?;
@@ -25,14 +27,11 @@ fn refused(message: Result<String, AllocError>) -> NormFailure {
 }
 
 /// A failure, and its copy.
-fn push_with_copy(text: &mut String, failure: NormFailure) -> Result<(), AllocError> {
-    push_both(text, &failure)
-}
-
-fn push_both(text: &mut String, failure: &NormFailure) -> Result<(), AllocError> {
+fn push_with_copy(text: &mut String, failure: &NormFailure) -> Result<(), NoMemory> {
     push_told(text, failure)?;
-    let copy = failure.clone()?;
-    push_told(text, &copy)
+    show_made(text, cloned(failure), |text, copy| {
+        Ok(push_told(text, copy)?)
+    })
 }
 
 /// `F49 3..8: ` and the message.

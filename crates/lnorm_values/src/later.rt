@@ -2,13 +2,16 @@
 //!
 //! A rule of the name `match`, `else`, `intern`, `type NAME`, `parameter NAME` or `where` stands for what the name says, a symbol
 //! `!` for itself, a name `(x, mut y)` for a tuple of names, and some paths of patterns for other patterns.
-use crate::made::{atom, kept, leave_out, name_pattern, push_if, push_made, put_later};
-use crate::names::binder;
+use crate::made::{
+    add_made, atom, both, cloned, kept, leave_out, list_of_one, list_of_two, name_pattern,
+    nothing_of, push_if, push_made, put_each, put_later,
+};
+use crate::names::{automaton, binder, named_path};
 use lalrpop_norm_tree::grammar::parse_tree::{
-    Alternative, ArgPattern, AssociatedType, Atom, Conversion, Dfa, ExternToken, Grammar,
-    GrammarItem, InternToken, Lifetime, MatchContents, MatchEntry, MatchItem, MatchMapping,
-    MatchToken, Name, NoMemory, NonterminalData, Parameter, Path, Span, Symbol, SymbolKind,
-    TerminalLiteral, TerminalString, Tuple, TypeBound, TypeBoundParameter, TypeRef, WhereClause,
+    Alternative, ArgPattern, AssociatedType, Atom, Conversion, ExternToken, Grammar, GrammarItem,
+    InternToken, Lifetime, MatchContents, MatchEntry, MatchItem, MatchMapping, MatchToken, Name,
+    NoMemory, NonterminalData, Parameter, Path, Span, Symbol, SymbolKind, TerminalLiteral,
+    TerminalString, Tuple, TypeBound, TypeBoundParameter, TypeRef, WhereClause,
 };
 use lalrpop_norm_tree::grammar::pattern::{FieldPattern, Pattern, PatternKind};
 use std::alloc::Global;
@@ -23,10 +26,7 @@ pub fn with_later_parts(alloc: Global, tree: Grammar) -> Result<Grammar, NoMemor
 
 fn put_parts(alloc: Global, tree: &mut Grammar) -> Result<(), NoMemory> {
     let items = replace(&mut tree.items, Vec::new(alloc));
-    for item in items {
-        put_item(alloc, tree, item)?;
-    }
-    Ok(())
+    put_each(items, |item| put_item(alloc, tree, item))
 }
 
 fn put_item(alloc: Global, tree: &mut Grammar, item: GrammarItem) -> Result<(), NoMemory> {
@@ -155,18 +155,22 @@ fn longer(
     block: MatchToken,
     group: Result<MatchContents, NoMemory>,
 ) -> Result<GrammarItem, NoMemory> {
-    let block = block.add(alloc, group?)?;
-    Ok(GrammarItem::MatchToken(block))
+    let (block, group) = both(Ok(block), group)?;
+    Ok(GrammarItem::MatchToken(block.add(alloc, group)?))
 }
 
 fn contents(alloc: Global, rule: &NonterminalData) -> Result<MatchContents, NoMemory> {
     let mut items = Vec::new(alloc);
-    for alternative in &rule.alternatives {
-        if let Some(item) = match_item(alternative)? {
-            items.push(item)?;
-        }
-    }
+    let done = add_items(&mut items, rule);
+    let items = kept(items, done)?;
     Ok(MatchContents { items })
+}
+
+fn add_items(items: &mut Vec<MatchItem>, rule: &NonterminalData) -> Result<(), NoMemory> {
+    for alternative in &rule.alternatives {
+        add_made(items, match_item(alternative))?;
+    }
+    Ok(())
 }
 
 /// `_` without symbols, a literal, or a literal and what it is mapped to.
@@ -186,9 +190,9 @@ fn match_item(alternative: &Alternative) -> Result<Option<MatchItem>, NoMemory> 
 }
 
 fn mapped(from: TerminalLiteral, to: &Symbol, at: Span) -> Result<Option<MatchItem>, NoMemory> {
-    match mapping_of(to)? {
-        Some(to) => Ok(Some(MatchItem::Mapped(from, to, at))),
-        None => Ok(None),
+    match both(Ok(from), mapping_of(to))? {
+        (from, Some(to)) => Ok(Some(MatchItem::Mapped(from, to, at))),
+        (from, None) => nothing_of(from),
     }
 }
 
@@ -210,27 +214,27 @@ fn mapping_of(symbol: &Symbol) -> Result<Option<MatchMapping>, NoMemory> {
 
 /// A tokenizer with an entry for each mapped literal, and an automaton of two words.
 fn tokenizer(alloc: Global, rule: &NonterminalData) -> Result<GrammarItem, NoMemory> {
-    let code = vec![in alloc; 7, 9]?;
-    Ok(GrammarItem::InternToken(InternToken {
-        match_entries: entries(alloc, rule)?,
-        dfa: Dfa { code },
-    }))
+    let (match_entries, dfa) = both(entries(alloc, rule), automaton(alloc))?;
+    Ok(GrammarItem::InternToken(InternToken { match_entries, dfa }))
 }
 
 fn entries(alloc: Global, rule: &NonterminalData) -> Result<Vec<MatchEntry>, NoMemory> {
     let mut entries = Vec::new(alloc);
-    for alternative in &rule.alternatives {
-        if let Some(item) = match_item(alternative)? {
-            push_entry(&mut entries, item)?;
-        }
-    }
-    Ok(entries)
+    let done = add_entries(&mut entries, rule);
+    kept(entries, done)
 }
 
-fn push_entry(entries: &mut Vec<MatchEntry>, item: MatchItem) -> Result<(), NoMemory> {
-    match item {
-        MatchItem::Mapped(literal, mapping, _) => push_made(entries, Ok(entry(literal, mapping))),
-        other => leave_out(other),
+fn add_entries(entries: &mut Vec<MatchEntry>, rule: &NonterminalData) -> Result<(), NoMemory> {
+    for alternative in &rule.alternatives {
+        add_made(entries, entry_of(alternative))?;
+    }
+    Ok(())
+}
+
+fn entry_of(alternative: &Alternative) -> Result<Option<MatchEntry>, NoMemory> {
+    match match_item(alternative)? {
+        Some(MatchItem::Mapped(literal, mapping, _)) => Ok(Some(entry(literal, mapping))),
+        other => nothing_of(other),
     }
 }
 
@@ -258,11 +262,11 @@ fn associated(
     rule: &NonterminalData,
     declared: &TypeRef,
 ) -> Result<AssociatedType, NoMemory> {
-    let type_name = name_behind(alloc, rule)?;
+    let (type_name, type_ref) = both(name_behind(alloc, rule), cloned(declared))?;
     Ok(AssociatedType {
         type_span: rule.span,
         type_name,
-        type_ref: declared.clone()?,
+        type_ref,
     })
 }
 
@@ -330,20 +334,13 @@ fn open_struct(alloc: Global) -> Result<PatternKind<TypeRef>, NoMemory> {
 
 /// `Option { f: <u8>, .. }`
 fn field_struct(alloc: Global) -> Result<PatternKind<TypeRef>, NoMemory> {
-    let path = Path::option(alloc)?;
-    Ok(PatternKind::Struct(path, fields(alloc)?, true))
+    let (path, fields) = both(Path::option(alloc), list_of_one(alloc, field(alloc)))?;
+    Ok(PatternKind::Struct(path, fields, true))
 }
 
 /// `f: <u8>`
-fn fields(alloc: Global) -> Result<Vec<FieldPattern<TypeRef>>, NoMemory> {
-    let mut fields = Vec::new(alloc);
-    push_made(&mut fields, field(alloc))?;
-    Ok(fields)
-}
-
 fn field(alloc: Global) -> Result<FieldPattern<TypeRef>, NoMemory> {
-    let field_name = atom(alloc, "f")?;
-    let kind = chosen(alloc)?;
+    let (field_name, kind) = both(atom(alloc, "f"), chosen(alloc))?;
     let pattern = Pattern {
         span: Span(2, 3),
         kind,
@@ -377,51 +374,38 @@ fn parameter(
     rule: &NonterminalData,
     declared: &TypeRef,
 ) -> Result<Parameter, NoMemory> {
-    let name = name_behind(alloc, rule)?;
-    Ok(Parameter {
-        name,
-        ty: declared.clone()?,
-    })
+    let (name, ty) = both(name_behind(alloc, rule), cloned(declared))?;
+    Ok(Parameter { name, ty })
 }
 
 /// `for<'a> T: I<Item = B> + 'a`
 fn clause(alloc: Global) -> Result<WhereClause<TypeRef>, NoMemory> {
-    let ty = named_type(alloc, "T")?;
-    let forall = binder(alloc)?;
-    Ok(WhereClause::OfType {
-        forall,
-        ty,
-        bounds: bounds(alloc)?,
-    })
+    let subject = both(binder(alloc), named_type(alloc, "T"));
+    let bounds = list_of_two(alloc, item_bound(alloc), lifetime_bound(alloc));
+    let ((forall, ty), bounds) = both(subject, bounds)?;
+    Ok(WhereClause::OfType { forall, ty, bounds })
 }
 
 /// `'a`
-fn lifetime(alloc: Global) -> Result<Lifetime, NoMemory> {
-    Ok(Lifetime(atom(alloc, "'a")?))
-}
-
-/// `I<Item = B> + 'a`
-fn bounds(alloc: Global) -> Result<Vec<TypeBound<TypeRef>>, NoMemory> {
-    let mut bounds = Vec::new(alloc);
-    bounds.push(item_bound(alloc)?)?;
-    bounds.push(TypeBound::Lifetime(lifetime(alloc)?))?;
-    Ok(bounds)
+fn lifetime_bound(alloc: Global) -> Result<TypeBound<TypeRef>, NoMemory> {
+    Ok(TypeBound::Lifetime(Lifetime(atom(alloc, "'a")?)))
 }
 
 /// `I<Item = B>`
 fn item_bound(alloc: Global) -> Result<TypeBound<TypeRef>, NoMemory> {
-    let path = Path::from_id(alloc, atom(alloc, "I")?)?;
+    let parameters = list_of_one(alloc, item_parameter(alloc));
+    let (path, parameters) = both(named_path(alloc, "I"), parameters)?;
     Ok(TypeBound::Trait {
         forall: Vec::new(alloc),
         path,
-        parameters: vec![in alloc; item_parameter(alloc)?]?,
+        parameters,
     })
 }
 
 /// `Item = B`
 fn item_parameter(alloc: Global) -> Result<TypeBoundParameter<TypeRef>, NoMemory> {
-    let name = atom(alloc, "Item")?;
-    Ok(TypeBoundParameter::Associated(name, named_type(alloc, "B")?))
+    let (name, ty) = both(atom(alloc, "Item"), named_type(alloc, "B"))?;
+    Ok(TypeBoundParameter::Associated(name, ty))
 }
 
 // ---- rules
@@ -474,11 +458,16 @@ fn later_kind(alloc: Global, kind: &SymbolKind) -> Result<Option<SymbolKind>, No
     match kind {
         SymbolKind::Nonterminal(name) => Ok(later_name(name.0.as_str())),
         SymbolKind::Name(name, inner) => match tuple_of(alloc, name)? {
-            Some(tuple) => Ok(Some(SymbolKind::Tuple(tuple, inner.clone()?))),
+            Some(tuple) => named_by(tuple, inner),
             None => Ok(None),
         },
         _ => Ok(None),
     }
+}
+
+fn named_by(tuple: Tuple, inner: &Box<Symbol>) -> Result<Option<SymbolKind>, NoMemory> {
+    let (tuple, inner) = both(Ok(tuple), cloned(inner))?;
+    Ok(Some(SymbolKind::Tuple(tuple, inner)))
 }
 
 fn later_name(name: &str) -> Option<SymbolKind> {
@@ -497,12 +486,17 @@ fn tuple_of(alloc: Global, name: &Name) -> Result<Option<Tuple>, NoMemory> {
         return Ok(None);
     };
     let mut names = Vec::new(alloc);
+    let done = add_names(alloc, &mut names, inside);
+    Ok(Some(Tuple::new(kept(names, done)?)))
+}
+
+fn add_names(alloc: Global, names: &mut Vec<ArgPattern>, inside: &str) -> Result<(), NoMemory> {
     for part in inside.split(", ") {
         if !part.is_empty() {
-            names.push(argument(alloc, part)?)?;
+            push_made(names, argument(alloc, part))?;
         }
     }
-    Ok(Some(Tuple::new(names)))
+    Ok(())
 }
 
 fn argument(alloc: Global, part: &str) -> Result<ArgPattern, NoMemory> {

@@ -5,7 +5,7 @@ mod actions;
 pub mod faults;
 pub mod later;
 pub mod lowered;
-mod made;
+pub mod made;
 mod names;
 mod parts;
 mod patterns;

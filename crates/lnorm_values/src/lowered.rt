@@ -1,6 +1,6 @@
 //! Copies of lowered grammars.
 use crate::actions::parameter;
-use crate::made::{atom, push_made, push_shown};
+use crate::made::{atom, push_made, push_shown, show_made};
 use crate::names::{input, named};
 use lalrpop_norm_print::lowered::push_lowered;
 use lalrpop_norm_repr::grammar::repr::{self, NonterminalString};
@@ -43,8 +43,13 @@ fn push_productions_of(
     lowered: &repr::Grammar,
     name: &str,
 ) -> Result<(), NoMemory> {
-    let name = NonterminalString(atom(alloc, name)?);
-    push_productions_for(text, lowered, &name)
+    show_made(text, nonterminal(alloc, name), |text, name| {
+        push_productions_for(text, lowered, name)
+    })
+}
+
+fn nonterminal(alloc: Global, name: &str) -> Result<NonterminalString, NoMemory> {
+    Ok(NonterminalString(atom(alloc, name)?))
 }
 
 fn push_productions_for(

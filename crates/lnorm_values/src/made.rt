@@ -1,4 +1,7 @@
-//! Values of any type: how one is kept, pushed, shown or left out is proved once, and so is its release there.
+//! Values of any type: how one is kept, copied, pushed, shown or left out is proved once, and so is its release there.
+//!
+//! A value that is made over several calls ends on each way out of them. So no other function of this crate keeps one over a
+//! call that may fail: it hands the calls' answers to a function of this file.
 use lalrpop_norm_tree::grammar::parse_tree::{ArgPattern, Name};
 use shared_text::{Atom, NoMemory};
 use std::alloc::Global;
@@ -8,6 +11,95 @@ use std::fmt;
 pub(crate) fn kept<T: Drop>(value: T, done: Result<(), NoMemory>) -> Result<T, NoMemory> {
     done?;
     Ok(value)
+}
+
+/// Both values, unless memory was wanting for one.
+pub fn both<A: Drop, B: Drop>(
+    first: Result<A, NoMemory>,
+    second: Result<B, NoMemory>,
+) -> Result<(A, B), NoMemory> {
+    let first = first?;
+    Ok((first, second?))
+}
+
+/// The list of one value.
+pub fn list_of_one<T: Drop>(alloc: Global, made: Result<T, NoMemory>) -> Result<Vec<T>, NoMemory> {
+    let mut values = Vec::new(alloc);
+    push_made(&mut values, made)?;
+    Ok(values)
+}
+
+/// The list of two values.
+pub(crate) fn list_of_two<T: Drop>(
+    alloc: Global,
+    first: Result<T, NoMemory>,
+    second: Result<T, NoMemory>,
+) -> Result<Vec<T>, NoMemory> {
+    let mut values = Vec::new(alloc);
+    let done = push_two(&mut values, first, second);
+    kept(values, done)
+}
+
+fn push_two<T: Drop>(
+    values: &mut Vec<T>,
+    first: Result<T, NoMemory>,
+    second: Result<T, NoMemory>,
+) -> Result<(), NoMemory> {
+    let (first, second) = both(first, second)?;
+    push_made(values, Ok(first))?;
+    push_made(values, Ok(second))
+}
+
+/// The value in a box.
+pub(crate) fn boxed<T: Drop>(alloc: Global, made: Result<T, NoMemory>) -> Result<Box<T>, NoMemory> {
+    Ok(Box::new(alloc, made?)?)
+}
+
+/// A copy of the value.
+pub(crate) fn cloned<T: Clone>(value: &T) -> Result<T, NoMemory> {
+    Ok(value.clone()?)
+}
+
+/// A copy of the value that was made, which ends.
+pub(crate) fn copy_of<T: Clone + Drop>(made: Result<T, NoMemory>) -> Result<T, NoMemory> {
+    let value = made?;
+    cloned(&value)
+}
+
+/// What is made of the value that was made, which ends.
+pub fn made_of<T: Drop, U, F: FnOnce(&T) -> Result<U, NoMemory>>(
+    made: Result<T, NoMemory>,
+    make: F,
+) -> Result<U, NoMemory>
+    requires { F.IsAlwaysCallable make }
+{
+    let value = made?;
+    make(&value)
+}
+
+/// Puts each value where it belongs, until memory is wanting.
+pub(crate) fn put_each<T: Drop, F: FnMut(T) -> Result<(), NoMemory>>(
+    values: Vec<T>,
+    mut put: F,
+) -> Result<(), NoMemory>
+    requires { F.IsAlwaysCallable put }
+{
+    for value in values {
+        put(value)?;
+    }
+    Ok(())
+}
+
+/// Puts the text of the value that was made, which ends.
+pub(crate) fn show_made<T: Drop, F: FnOnce(&mut String, &T) -> Result<(), NoMemory>>(
+    text: &mut String,
+    made: Result<T, NoMemory>,
+    show: F,
+) -> Result<(), NoMemory>
+    requires { F.IsAlwaysCallable show }
+{
+    let value = made?;
+    show(text, &value)
 }
 
 /// What was done; the value ends.
@@ -40,6 +132,22 @@ pub(crate) fn push_made<T: Drop>(
     Ok(values.push(made?)?)
 }
 
+/// Pushes the value, if there is one.
+pub(crate) fn add_made<T: Drop>(
+    values: &mut Vec<T>,
+    made: Result<Option<T>, NoMemory>,
+) -> Result<(), NoMemory> {
+    if let Some(value) = made? {
+        values.push(value)?;
+    }
+    Ok(())
+}
+
+/// No value; the other one ends.
+pub(crate) fn nothing_of<T: Drop, U>(_value: T) -> Result<Option<U>, NoMemory> {
+    Ok(None)
+}
+
 /// Puts the later value, if there is one, in the place of the other.
 pub(crate) fn put_later<T: Drop>(
     place: &mut T,
@@ -52,7 +160,7 @@ pub(crate) fn put_later<T: Drop>(
 }
 
 /// The text before it, the value that was made, and the text behind it.
-pub(crate) fn push_shown<T: fmt::Display + Drop>(
+pub fn push_shown<T: fmt::Display + Drop>(
     text: &mut String,
     before: &str,
     made: Result<T, NoMemory>,
@@ -76,8 +184,13 @@ pub(crate) fn push_debug<T: fmt::Debug + Drop>(
 }
 
 /// The text, as a part holds it.
-pub(crate) fn atom(alloc: Global, name: &str) -> Result<Atom, NoMemory> {
+pub fn atom(alloc: Global, name: &str) -> Result<Atom, NoMemory> {
     Ok(Atom::new(alloc, name)?)
+}
+
+/// The text, by itself.
+pub fn string(alloc: Global, content: &str) -> Result<String, NoMemory> {
+    Ok(String::from_str(alloc, content)?)
 }
 
 /// `name`, or `mut name`.

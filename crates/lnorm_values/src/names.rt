@@ -1,12 +1,14 @@
 //! Names, paths, lowered types and copies of lists.
-use crate::made::{atom, push_debug, push_made, push_shown};
+use crate::made::{
+    atom, both, boxed, copy_of, list_of_one, made_of, push_debug, push_shown, show_made, string,
+};
 use lalrpop_norm_parts::attribute::copy::copy_attributes;
 use lalrpop_norm_parts::names::copy::copy_type_parameters;
 use lalrpop_norm_repr::grammar::repr::{TypeRepr, WhereClause};
 use lalrpop_norm_tree::grammar::parse_tree::{
     Attribute, AttributeArg, Dfa, Lifetime, NoMemory, Path, Span, TypeBound, TypeParameter,
 };
-use std::alloc::{AllocError, Global};
+use std::alloc::Global;
 
 /// Of each kind a line.
 pub(crate) fn push_names(alloc: Global, text: &mut String) -> Result<(), NoMemory> {
@@ -26,27 +28,22 @@ fn push_lifetimes(alloc: Global, text: &mut String) -> Result<(), NoMemory> {
 
 fn push_paths(alloc: Global, text: &mut String) -> Result<(), NoMemory> {
     text.push_str("paths")?;
-    push_path(text, Path::vec(alloc))?;
-    push_path(text, Path::usize(alloc))?;
-    push_path(text, Path::str(alloc))?;
-    push_path(text, Path::option(alloc))?;
-    push_path(text, named_path(alloc, "x"))?;
+    show_made(text, Path::vec(alloc), push_path)?;
+    show_made(text, Path::usize(alloc), push_path)?;
+    show_made(text, Path::str(alloc), push_path)?;
+    show_made(text, Path::option(alloc), push_path)?;
+    show_made(text, named_path(alloc, "x"), push_path)?;
     text.push_str("\n")?;
     Ok(())
 }
 
-fn named_path(alloc: Global, name: &str) -> Result<Path, NoMemory> {
+/// The path that is this name.
+pub(crate) fn named_path(alloc: Global, name: &str) -> Result<Path, NoMemory> {
     Path::from_id(alloc, atom(alloc, name)?)
 }
 
-fn push_path(text: &mut String, made: Result<Path, NoMemory>) -> Result<(), NoMemory> {
-    let path = made?;
-    push_shown_path(text, &path)?;
-    Ok(())
-}
-
 /// A path, and its name where it is one.
-fn push_shown_path(text: &mut String, path: &Path) -> Result<(), AllocError> {
+fn push_path(text: &mut String, path: &Path) -> Result<(), NoMemory> {
     write!(text, " {path}")?;
     if let Some(id) = path.as_id() {
         write!(text, " ({id})")?;
@@ -67,8 +64,7 @@ pub(crate) fn of_parameter(
     alloc: Global,
     made: Result<TypeParameter, NoMemory>,
 ) -> Result<TypeRepr, NoMemory> {
-    let parameter = made?;
-    TypeRepr::from_parameter(alloc, &parameter)
+    made_of(made, |parameter| TypeRepr::from_parameter(alloc, parameter))
 }
 
 /// `'input`
@@ -89,26 +85,28 @@ fn push_lists(alloc: Global, text: &mut String) -> Result<(), NoMemory> {
 }
 
 fn copied_levels(alloc: Global) -> Result<Vec<Attribute>, NoMemory> {
-    let mut levels = Vec::new(alloc);
-    push_made(&mut levels, level(alloc))?;
-    Ok(copy_attributes(&levels)?)
+    made_of(list_of_one(alloc, level(alloc)), |levels| {
+        Ok(copy_attributes(levels)?)
+    })
 }
 
 fn copied_binder(alloc: Global) -> Result<Vec<TypeParameter>, NoMemory> {
-    let binder = binder(alloc)?;
-    Ok(copy_type_parameters(&binder)?)
+    made_of(binder(alloc), |binder| Ok(copy_type_parameters(binder)?))
 }
 
 fn copied_automaton(alloc: Global) -> Result<Dfa, NoMemory> {
+    copy_of(automaton(alloc))
+}
+
+/// An automaton of two words.
+pub(crate) fn automaton(alloc: Global) -> Result<Dfa, NoMemory> {
     let code = vec![in alloc; 7, 9]?;
-    let dfa = Dfa { code };
-    Ok(dfa.clone()?)
+    Ok(Dfa { code })
 }
 
 /// `level = "1"`
 fn level(alloc: Global) -> Result<Attribute, NoMemory> {
-    let id = atom(alloc, "level")?;
-    let value = String::from_str(alloc, "1")?;
+    let (id, value) = both(atom(alloc, "level"), string(alloc, "1"))?;
     Ok(Attribute {
         id_span: Span(12, 17),
         id,
@@ -118,9 +116,7 @@ fn level(alloc: Global) -> Result<Attribute, NoMemory> {
 
 /// The binder of `for<'a>`.
 pub(crate) fn binder(alloc: Global) -> Result<Vec<TypeParameter>, NoMemory> {
-    let mut parameters = Vec::new(alloc);
-    push_made(&mut parameters, lifetime(alloc))?;
-    Ok(parameters)
+    list_of_one(alloc, lifetime(alloc))
 }
 
 /// `'a`
@@ -130,21 +126,18 @@ fn lifetime(alloc: Global) -> Result<TypeParameter, NoMemory> {
 
 /// The copy of `for<'a> T: Foo`.
 fn copied_clause(alloc: Global) -> Result<WhereClause, NoMemory> {
-    let clause = forall_clause(alloc)?;
-    clause.clone()
+    made_of(forall_clause(alloc), |clause| clause.clone())
 }
 
 /// `for<'a> T: Foo`
 fn forall_clause(alloc: Global) -> Result<WhereClause, NoMemory> {
-    let binder = binder(alloc)?;
-    let clause = Box::new(alloc, bound_clause(alloc)?)?;
+    let (binder, clause) = both(binder(alloc), boxed(alloc, bound_clause(alloc)))?;
     Ok(WhereClause::Forall { binder, clause })
 }
 
 /// `T: Foo`
 fn bound_clause(alloc: Global) -> Result<WhereClause, NoMemory> {
-    let subject = of_parameter(alloc, named(alloc, "T"))?;
-    let bound = trait_bound(alloc)?;
+    let (subject, bound) = both(of_parameter(alloc, named(alloc, "T")), trait_bound(alloc))?;
     Ok(WhereClause::Bound { subject, bound })
 }
 

@@ -1,43 +1,59 @@
 //! Terminals, names and patterns that calls make, and copies of parts.
 use crate::later::named_type;
-use crate::made::{atom, name_pattern, push_made, push_shown};
+use crate::made::{atom, both, cloned, list_of_two, made_of, name_pattern, push_shown, show_made};
 use lalrpop_norm_tree::grammar::parse_tree::{
     ArgPattern, Name, NoMemory, TerminalString, Tuple, TypeBoundParameter, TypeRef,
 };
-use std::alloc::{AllocError, Global};
+use std::alloc::Global;
 
 /// Of each kind a line.
 pub(crate) fn push_parts(alloc: Global, text: &mut String) -> Result<(), NoMemory> {
-    push_terminal(text, TerminalString::quoted(atom(alloc, "ab")?))?;
-    push_terminal(text, TerminalString::regex(atom(alloc, "ab")?))?;
+    show_made(text, quoted(alloc, "ab"), push_terminal)?;
+    show_made(text, regex(alloc, "ab"), push_terminal)?;
     push_name(alloc, text)?;
     push_tuple(alloc, text)?;
     push_bound_parameter(alloc, text)
 }
 
-/// A terminal with its length, and the precedence of its literal.
-fn push_terminal(text: &mut String, terminal: TerminalString) -> Result<(), AllocError> {
-    push_shown_terminal(text, &terminal)
+fn quoted(alloc: Global, content: &str) -> Result<TerminalString, NoMemory> {
+    Ok(TerminalString::quoted(atom(alloc, content)?))
 }
 
-fn push_shown_terminal(text: &mut String, terminal: &TerminalString) -> Result<(), AllocError> {
+fn regex(alloc: Global, content: &str) -> Result<TerminalString, NoMemory> {
+    Ok(TerminalString::regex(atom(alloc, content)?))
+}
+
+/// A terminal with its length, and the precedence of its literal.
+fn push_terminal(text: &mut String, terminal: &TerminalString) -> Result<(), NoMemory> {
     let length = terminal.display_len();
     write!(text, "terminal {terminal} of length {length}")?;
     if let Some(literal) = terminal.as_literal() {
         let precedence = literal.base_precedence();
         write!(text, ", precedence {precedence}")?;
     }
-    text.push_str("\n")
+    text.push_str("\n")?;
+    Ok(())
 }
 
 /// Whether a name that is not mutable is one.
 fn push_name(alloc: Global, text: &mut String) -> Result<(), NoMemory> {
-    let made = Name::new(false, atom(alloc, "x")?);
-    let immutable = Name::immut(atom(alloc, "x")?);
-    push_names(text, &made, &immutable)
+    show_made(
+        text,
+        both(new_name(alloc), immutable_name(alloc)),
+        push_names,
+    )
 }
 
-fn push_names(text: &mut String, made: &Name, immutable: &Name) -> Result<(), NoMemory> {
+fn new_name(alloc: Global) -> Result<Name, NoMemory> {
+    Ok(Name::new(false, atom(alloc, "x")?))
+}
+
+fn immutable_name(alloc: Global) -> Result<Name, NoMemory> {
+    Ok(Name::immut(atom(alloc, "x")?))
+}
+
+fn push_names(text: &mut String, names: &(Name, Name)) -> Result<(), NoMemory> {
+    let (made, immutable) = names;
     let is_equal = *made == *immutable;
     write!(text, "name {made}, immutable {is_equal}\n")?;
     Ok(())
@@ -45,35 +61,37 @@ fn push_names(text: &mut String, made: &Name, immutable: &Name) -> Result<(), No
 
 /// Whether the copy of the pattern `(x, mut y)` is equal to it.
 fn push_tuple(alloc: Global, text: &mut String) -> Result<(), NoMemory> {
-    let pattern = ArgPattern::Tuple(Tuple::new(two_names(alloc)?));
-    push_shown(text, "tuple copied ", is_pattern_copied(&pattern), "\n")
+    let is_copied = made_of(tuple(alloc), is_pattern_copied);
+    push_shown(text, "tuple copied ", is_copied, "\n")
+}
+
+fn tuple(alloc: Global) -> Result<ArgPattern, NoMemory> {
+    Ok(ArgPattern::Tuple(Tuple::new(two_names(alloc)?)))
 }
 
 fn is_pattern_copied(pattern: &ArgPattern) -> Result<bool, NoMemory> {
-    let copy = pattern.clone()?;
-    Ok(copy == *pattern)
+    made_of(cloned(pattern), |copy| Ok(*copy == *pattern))
 }
 
 /// `x, mut y`
 fn two_names(alloc: Global) -> Result<Vec<ArgPattern>, NoMemory> {
-    let mut names = Vec::new(alloc);
-    push_made(&mut names, name_pattern(alloc, false, "x"))?;
-    push_made(&mut names, name_pattern(alloc, true, "y"))?;
-    Ok(names)
+    list_of_two(
+        alloc,
+        name_pattern(alloc, false, "x"),
+        name_pattern(alloc, true, "y"),
+    )
 }
 
 /// Whether the copy of the parameter `T` of a bound is equal to it.
 fn push_bound_parameter(alloc: Global, text: &mut String) -> Result<(), NoMemory> {
-    let parameter = TypeBoundParameter::TypeParameter(named_type(alloc, "T")?);
-    push_shown(
-        text,
-        "parameter of a bound copied ",
-        is_parameter_copied(&parameter),
-        "\n",
-    )
+    let is_copied = made_of(bound_parameter(alloc), is_parameter_copied);
+    push_shown(text, "parameter of a bound copied ", is_copied, "\n")
+}
+
+fn bound_parameter(alloc: Global) -> Result<TypeBoundParameter<TypeRef>, NoMemory> {
+    Ok(TypeBoundParameter::TypeParameter(named_type(alloc, "T")?))
 }
 
 fn is_parameter_copied(parameter: &TypeBoundParameter<TypeRef>) -> Result<bool, NoMemory> {
-    let copy = parameter.clone()?;
-    Ok(copy == *parameter)
+    made_of(parameter.clone(), |copy| Ok(*copy == *parameter))
 }

@@ -1,5 +1,5 @@
 //! Tables of types.
-use crate::made::{atom, push_debug, push_shown};
+use crate::made::{atom, both, copy_of, kept, leave_out, push_debug, push_shown, show_made};
 use crate::names::{named, of_parameter};
 use lalrpop_norm_repr::grammar::repr::{
     NonterminalString, Symbol, TerminalString, TypeRepr, Types,
@@ -16,8 +16,7 @@ pub(crate) fn push_tables(alloc: Global, text: &mut String) -> Result<(), NoMemo
 
 fn push_located(alloc: Global, text: &mut String) -> Result<(), NoMemory> {
     text.push_str("table with locations\n")?;
-    let types = located(alloc)?;
-    push_located_table(text, &types)
+    show_made(text, located(alloc), push_located_table)
 }
 
 fn push_located_table(text: &mut String, types: &Types) -> Result<(), NoMemory> {
@@ -28,8 +27,8 @@ fn push_located_table(text: &mut String, types: &Types) -> Result<(), NoMemory> 
 
 /// The table with locations of type `usize` and tokens of type `Token<'input>`.
 fn located(alloc: Global) -> Result<Types, NoMemory> {
-    let location = TypeRepr::usize(alloc)?;
-    Types::new(alloc, "__", Some(location), None, token(alloc)?)
+    let (location, token) = both(TypeRepr::usize(alloc), token(alloc))?;
+    Types::new(alloc, "__", Some(location), None, token)
 }
 
 /// `Token<'input>`
@@ -71,8 +70,13 @@ fn push_error_types(text: &mut String, types: &Types) -> Result<(), AllocError> 
 /// The table without locations and without a prefix.
 fn push_unlocated(alloc: Global, text: &mut String) -> Result<(), NoMemory> {
     text.push_str("table without locations\n")?;
-    let types = Types::new(alloc, "", None, None, TypeRepr::str(alloc)?)?;
-    push_unlocated_table(alloc, text, &types)
+    show_made(text, unlocated(alloc, ""), |text, types| {
+        push_unlocated_table(alloc, text, types)
+    })
+}
+
+fn unlocated(alloc: Global, prefix: &str) -> Result<Types, NoMemory> {
+    Types::new(alloc, prefix, None, None, TypeRepr::str(alloc)?)
 }
 
 fn push_unlocated_table(alloc: Global, text: &mut String, types: &Types) -> Result<(), NoMemory> {
@@ -87,15 +91,20 @@ fn spanned(alloc: Global, types: &Types) -> Result<TypeRepr, NoMemory> {
 /// A table to which the type `usize` of a nonterminal and of a terminal is added, copied.
 fn push_added(alloc: Global, text: &mut String) -> Result<(), NoMemory> {
     text.push_str("table with two types more\n")?;
-    let mut types = Types::new(alloc, "__", None, None, TypeRepr::str(alloc)?)?;
-    push_with_types(alloc, text, &mut types)
+    show_made(text, copy_of(added(alloc)), |text, types| {
+        push_added_table(alloc, text, types)
+    })
 }
 
-fn push_with_types(alloc: Global, text: &mut String, types: &mut Types) -> Result<(), NoMemory> {
+fn added(alloc: Global) -> Result<Types, NoMemory> {
+    let mut types = unlocated(alloc, "__")?;
+    let done = add_types(alloc, &mut types);
+    kept(types, done)
+}
+
+fn add_types(alloc: Global, types: &mut Types) -> Result<(), NoMemory> {
     add_nonterminal(alloc, types)?;
-    add_terminal(alloc, types)?;
-    let copy = types.clone()?;
-    push_added_table(alloc, text, &copy)
+    add_terminal(alloc, types)
 }
 
 fn push_added_table(alloc: Global, text: &mut String, types: &Types) -> Result<(), NoMemory> {
@@ -104,20 +113,28 @@ fn push_added_table(alloc: Global, text: &mut String, types: &Types) -> Result<(
 }
 
 fn add_nonterminal(alloc: Global, types: &mut Types) -> Result<(), NoMemory> {
-    let name = NonterminalString(atom(alloc, "S")?);
+    let (name, ty) = both(nonterminal(alloc, "S"), TypeRepr::usize(alloc))?;
     match types.lookup_nonterminal_type(&name) {
-        Some(_) => Ok(()),
-        None => types.add_type(name, TypeRepr::usize(alloc)?),
+        Some(_) => leave_out((name, ty)),
+        None => types.add_type(name, ty),
     }
 }
 
+fn nonterminal(alloc: Global, name: &str) -> Result<NonterminalString, NoMemory> {
+    Ok(NonterminalString(atom(alloc, name)?))
+}
+
 fn add_terminal(alloc: Global, types: &mut Types) -> Result<(), NoMemory> {
-    let terminal = TerminalString::Bare(atom(alloc, "Num")?);
+    let (terminal, ty) = both(bare(alloc, "Num"), TypeRepr::usize(alloc))?;
     if types.has_term_type(&terminal) {
-        Ok(())
+        leave_out((terminal, ty))
     } else {
-        types.add_term_type(terminal, TypeRepr::usize(alloc)?)
+        types.add_term_type(terminal, ty)
     }
+}
+
+fn bare(alloc: Global, name: &str) -> Result<TerminalString, NoMemory> {
+    Ok(TerminalString::Bare(atom(alloc, name)?))
 }
 
 /// The types of some names.
@@ -149,8 +166,9 @@ fn push_of_nonterminal(
     types: &Types,
     name: &str,
 ) -> Result<(), NoMemory> {
-    let name = NonterminalString(atom(alloc, name)?);
-    push_rule_type(text, types, &name)
+    show_made(text, nonterminal(alloc, name), |text, name| {
+        push_rule_type(text, types, name)
+    })
 }
 
 fn push_rule_type(

@@ -1,5 +1,5 @@
 //! Texts of the parts of a tree, and whether its copy is equal to it.
-use crate::made::{ended, push_shown};
+use crate::made::{cloned, ended, made_of, push_shown};
 use lalrpop_norm_precedence::precedence::has_several_levels;
 use lalrpop_norm_tree::grammar::parse_tree::{
     Alternative, ArgPattern, Attribute, Grammar, GrammarItem, MatchContents, NoMemory,
@@ -7,6 +7,7 @@ use lalrpop_norm_tree::grammar::parse_tree::{
 };
 use lalrpop_norm_tree::grammar::repr::Algorithm;
 use std::alloc::{AllocError, Global};
+use std::slice;
 
 /// Whether a copy is equal; what the attributes ask for; of each symbol of an alternative its canonical form, also that of what is in it, and the names of
 /// tuples; of rules whether they have several levels; of match blocks where their items stand.
@@ -31,11 +32,9 @@ pub fn push_texts(alloc: Global, text: &mut String, tree: &Grammar) -> Result<()
 
 /// What an attribute of a grammar asks for, if it is known.
 fn push_algorithm(text: &mut String, attribute: &Attribute) -> Result<(), NoMemory> {
-    let attribute = attribute.clone()?;
-    if is_known_attribute(&attribute) {
-        let attributes = [attribute];
+    if is_known_attribute(attribute) {
         let mut algorithm = Algorithm::default();
-        read_algorithm(&attributes, &mut algorithm);
+        read_algorithm(slice::from_ref(attribute), &mut algorithm);
         write!(text, "{algorithm:?}\n")?;
     }
     Ok(())
@@ -93,8 +92,11 @@ fn push_tuple_text(alloc: Global, text: &mut String, symbol: &Symbol) -> Result<
 }
 
 fn tuple_name(alloc: Global, tuple: &Tuple) -> Result<String, NoMemory> {
-    let pattern = ArgPattern::Tuple(tuple.clone()?);
-    pattern.name(alloc)
+    made_of(tuple_pattern(tuple), |pattern| pattern.name(alloc))
+}
+
+fn tuple_pattern(tuple: &Tuple) -> Result<ArgPattern, NoMemory> {
+    Ok(ArgPattern::Tuple(cloned(tuple)?))
 }
 
 fn push_kind_text(alloc: Global, text: &mut String, kind: &SymbolKind) -> Result<(), NoMemory> {
