@@ -2,7 +2,6 @@ pub mod Sources
 pub mod Arguments
 pub mod Naming
 pub mod Slots
-pub mod Code
 pub mod Lowering
 pub mod Typing
 pub mod Starts

@@ -1,6 +1,5 @@
 -- What plain rules are lowered to: symbols, numbered productions, start symbols; and tables sorted by names.
-use Rattle.std.specs.Prelude.{ℕ, ◌+◌, Bool, true, false, List, [], ◌∷◌, ◌++◌, length, Option, Some, None}
-use Rattle.std.specs.Prelude.{unwrap_or, filter_map, if◌then◌else◌}
+use Rattle.std.specs.Prelude.{ℕ, ◌+◌, List, [], ◌∷◌, length, unwrap_or, filter_map, if◌then◌else◌}
 use Rattle.std.specs.BTreeMap.{insert_entry}
 use Rattle.std.specs.Ordering.{nat_cmp}
 use Rattle.std.specs.Cmp.Lexicographic.{slice_cmp}
@@ -8,7 +7,7 @@ use Rattle.lalrpop_norm_parts.specs.declared.names.NonterminalString.{Nontermina
 use Rattle.lalrpop_norm_parts.specs.declared.names.TerminalString.TheVariants as terminal_string
 use Rattle.lalrpop_norm_tree.specs.Accessors.{rule_of, is_public}
 use Rattle.lalrpop_norm_parts.specs.Attributes.{no_attributes}
-use Rattle.lalrpop_norm_tree.specs.Items.{Action, fallible_code, AlternativeData, RuleData, ItemData}
+use Rattle.lalrpop_norm_tree.specs.Items.{AlternativeData, RuleData, ItemData}
 use Rattle.lalrpop_norm_parts.specs.Reprs.{ReprData, unit_type}
 use Rattle.lalrpop_norm_tree.specs.Symbols.{Kind, group, ambiguous_id, terminal, nonterminal, call, repeated, chosen, named}
 use Rattle.lalrpop_norm_tree.specs.Symbols.{tupled, lookahead, lookbehind, error_terminal, Part, at, Parts, no_parts, part_and}
@@ -18,6 +17,8 @@ use Rattle.lalrpop_norm_repr.specs.declared.symbol.Symbol.TheVariants.{Nontermin
 use Rattle.lalrpop_norm_repr.specs.Productions.{ProductionData, EntryData}
 use Rattle.lalrpop_norm_repr.specs.Tables.{TypeTable, type_of}
 use Rattle.lalrpop_norm_repr.specs.SymbolTypes.{symbol_type}
+pub use Rattle.lalrpop_norm_steps.specs.Code.{is_fallible}
+pub use Rattle.lalrpop_norm_steps.specs.StartSymbols.{start_name, start_alternative}
 
 -- ---- rules
 
@@ -28,21 +29,6 @@ rules_among items = filter_map rule_of items
 abbrev pub public_rules_in : List RuleData → List RuleData
 public_rules_in [] = []
 public_rules_in (r ∷ rs) = if is_public r.visibility then r ∷ public_rules_in rs else public_rules_in rs
-
--- the start symbol of a public rule
-abbrev pub start_name : List ℕ → NonterminalString → NonterminalString
-start_name prefix n = record { 0 = prefix ++ n.0 }
-
--- a start production holds the rule's name and has no code
-abbrev pub start_alternative : RuleData → AlternativeData
-start_alternative r =
-    record {
-      span = r.span;
-      parts = part_and (at r.span (nonterminal r.name.0)) no_parts;
-      condition = None;
-      action = None;
-      attributes = no_attributes;
-    }
 
 -- ---- symbols and types
 
@@ -73,11 +59,7 @@ lowered_symbols (part_and p ps) = lowered_symbol p ∷ lowered_symbols ps
 abbrev pub type_or_unit : TypeTable → Symbol → ReprData
 type_or_unit types s = unwrap_or (symbol_type s types) unit_type
 
--- ---- actions and productions
-
-abbrev pub is_fallible : Option Action → Bool
-is_fallible (Some (fallible_code c)) = true
-is_fallible _ = false
+-- ---- productions
 
 -- the production of an alternative, with the action of that number
 abbrev pub production_of : NonterminalString → ℕ → AlternativeData → ProductionData

@@ -16,15 +16,14 @@ use Rattle.lalrpop_norm_faults.specs.Faults.{Fault}
 use Rattle.lalrpop_norm_model.specs.Features.{Features, is_active}
 use Rattle.lalrpop_norm_model.specs.LoweringFaults.{start_faults, code_faults, action_number_faults}
 use Rattle.lalrpop_norm_model.specs.MadeRules.{some_name_value}
-use Rattle.lalrpop_norm_model.specs.TypeTables.{Table}
 use Rattle.lalrpop_norm_repr.specs.declared.action.LookaroundActionFnDefn.TheVariants.{Lookahead, Lookbehind}
 use Rattle.lalrpop_norm_repr.specs.Actions.{ActionData, ActionKindData, user, lookaround}
 use Rattle.lalrpop_norm_repr.specs.Lowered.{LoweredGrammar}
 use Rattle.lalrpop_norm_repr.specs.Orders.{name_cmp}
-use Rattle.lalrpop_norm_repr.specs.Tables.{TypeTable, type_of}
+use Rattle.lalrpop_norm_repr.specs.Tables.{TypeTable}
 use Rattle.lalrpop_norm_late.specs.Carried.{TokenRow, internal_pattern, terminal_of_mapping, uses_recovery, use_of}
 use Rattle.lalrpop_norm_late.specs.Carried.{lowered_parameter, lowered_clauses, asks_lalr, asked_code}
-use Rattle.lalrpop_norm_late.specs.Code.{written_code}
+use Rattle.lalrpop_norm_steps.specs.Code.{written_code}
 use Rattle.lalrpop_norm_model.specs.Scopes.{conversions_in}
 use Rattle.lalrpop_norm_late.specs.Conversions.{mapped_pattern, sorted_terminals, numbered_terminals}
 use Rattle.lalrpop_norm_late.specs.Lowering.{rules_among, public_rules_in, start_alternative, lowered_symbols, type_or_unit}
@@ -32,6 +31,7 @@ use Rattle.lalrpop_norm_late.specs.Lowering.{is_fallible, rule_type, start_names
 use Rattle.lalrpop_norm_late.specs.Naming.{argument_patterns, source_names}
 use Rattle.lalrpop_norm_late.specs.Slots.{filled_code}
 use Rattle.lalrpop_norm_late.specs.Typing.{start_types, AddsTypes}
+pub use Rattle.lalrpop_norm_steps.specs.StartSymbols.{types_by_name}
 
 -- ---- actions
 
@@ -59,10 +59,6 @@ made_actions prefix types [] = []
 made_actions prefix types (r ∷ rs) = map (made_action prefix types (rule_type types r)) r.alternatives ++ made_actions prefix types rs
 
 -- ---- faults
-
--- the type of each name by the table
-abbrev pub types_by_name : TypeTable → Table
-types_by_name types = λ n. type_of (record { 0 = n }) types
 
 -- each alternative with the number of its action, from k on
 abbrev pub alternatives_faults : ℕ → List AlternativeData → List Fault

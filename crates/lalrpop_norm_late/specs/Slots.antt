@@ -1,13 +1,8 @@
 -- Codes cut at their `<>`, and with their `<>` replaced.
-use Rattle.std.specs.Prelude.{ℕ, Bool, true, false, not, ◌||◌, List, [], ◌∷◌, ◌++◌, length, drop, flat_map, zip}
-use Rattle.std.specs.Prelude.{nat_eq, nat_le, if◌then◌else◌, codes}
+use Rattle.std.specs.Prelude.{ℕ, Bool, true, false, ◌||◌, List, [], ◌∷◌, ◌++◌, drop, flat_map, zip}
+use Rattle.std.specs.Prelude.{nat_le, if◌then◌else◌, codes}
 use Rattle.lalrpop_norm_util.specs.Braces.{is_slot}
-use Rattle.lalrpop_norm_parts.specs.declared.names.Span.{Span}
-use Rattle.lalrpop_norm_faults.specs.Faults.{Fault, fault_if}
-use Rattle.lalrpop_norm_faults.specs.declared.kind.FaultKind.TheVariants.{Placeholders}
-use Rattle.lalrpop_norm_model.specs.LoweringFaults.{slots, span_over}
-use Rattle.lalrpop_norm_model.specs.MadeRules.{span_of}
-use Rattle.lalrpop_norm_model.specs.Sources.{Source}
+use Rattle.lalrpop_norm_model.specs.LoweringFaults.{slots}
 use Rattle.lalrpop_norm_parts.specs.Texts.{joined}
 
 -- what stands before the first `<>`, and what stands behind each
@@ -37,12 +32,3 @@ abbrev pub filled_code : Bool → List (List ℕ) → List ℕ → List ℕ
 filled_code is_named ns code =
     if is_named || nat_le (slots code) 1 then joined (joined (codes ", ") ns) (pieces code)
     else in_order ns (pieces code)
-
--- so many `<>` that are not as many as the sources
-abbrev pub count_faults : Span → ℕ → List Source → List Fault
-count_faults span count sources = fault_if (not (nat_eq count (length sources))) (Placeholders, span_over span sources)
-
--- where the last of the sources ends, or that end where there is none
-abbrev pub end_of : ℕ → List Source → ℕ
-end_of e [] = e
-end_of e (x ∷ xs) = end_of (span_of x.symbol).1 xs

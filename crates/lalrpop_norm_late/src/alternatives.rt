@@ -11,7 +11,6 @@ ghost use Rattle.lalrpop_norm_repr.specs.Tables.{type_table};
 ghost use Rattle.lalrpop_norm_late.specs.Lowering.{lowered_symbols, production_of, productions_from};
 ghost use Rattle.lalrpop_norm_late.specs.Made.{alternatives_faults, made_action};
 
-use crate::actions::next_action;
 use crate::bodies::made_action;
 use crate::placeholders::check_code;
 use crate::symbols::lowered_symbols;
@@ -19,6 +18,7 @@ use lalrpop_norm_faults::NormResult;
 use lalrpop_norm_repr::grammar::repr::{
     ActionFn, ActionFnDefn, Production, Symbol, TypeRepr, Types,
 };
+use lalrpop_norm_steps::refusals::next_action;
 use lalrpop_norm_tree::grammar::parse_tree::{Alternative, NoMemory, NonterminalString, Span};
 use std::alloc::Global;
 

@@ -14,32 +14,19 @@ ghost use Rattle.lalrpop_norm_late.specs.Starts.{start_rule, start_typed};
 ghost use Rattle.lalrpop_norm_late.specs.Typing.{start_types};
 
 use crate::alternatives::{lower_alternative, lower_alternatives};
-use crate::starts::{Start, insert, rule_type, start_alternative};
+use crate::starts::{Start, insert, rule_type};
 use crate::typing::unit_type;
-use lalrpop_norm_faults::{FaultKind, NormResult, refusal};
+use lalrpop_norm_faults::NormResult;
 use lalrpop_norm_parts::attribute::copy::copy_attributes;
 use lalrpop_norm_repr::grammar::repr::{
     ActionFnDefn, NonterminalData, Production, TypeRepr, Types,
 };
+use lalrpop_norm_steps::refusals::check_start;
+use lalrpop_norm_steps::starts::start_alternative;
 use lalrpop_norm_tree::grammar::parse_tree as pt;
 use lalrpop_norm_tree::grammar::parse_tree::{NoMemory, NonterminalString};
 use std::alloc::Global;
 use std::collections::BTreeMap;
-
-/// Refuses a start symbol whose name has a type already.
-fn check_start(alloc: Global, prefix: &str, types: &Types, start: &Start) -> NormResult<()>
-    requires { start.now.name ≡ start_name prefix.now start.now.rule.now.name }
-    ensures { Refuses result (start_faults prefix.now (types_by_name (type_table types.now)) (start_rule start.now)) }
-{
-    if types.lookup_nonterminal_type(&start.name).is_none() {
-        return Ok(());
-    }
-    Err(refusal(
-        FaultKind::StartTaken,
-        start.rule.span,
-        format!(in alloc; "`{}`, the name of a start symbol, is taken", start.name),
-    ))
-}
 
 /// The start symbol of a public rule.
 fn lower_start(
@@ -58,7 +45,7 @@ fn lower_start(
         ++ made_action prefix.now (type_table types.now) (rule_type (type_table types.now) (start_rule start.now)) (start_alternative (start_rule start.now)) ∷ []) }
     ensures count { OnOk result (vec_len actions.new ≡ vec_len actions.old + 1) }
 {
-    check_start(alloc, prefix, types, start)?;
+    check_start(alloc, prefix, types, start.rule, &start.name)?;
     let production = start_production(alloc, prefix, types, start, actions)?;
     Ok(start_data(alloc, start.rule, production)?)
 }

@@ -2,17 +2,15 @@
 ghost use Rattle.std.specs.Prelude.{◌≡◌, ◌+◌, ◌||◌, nat_le, ◌++◌, IfOk, OnOk, codes, length, map, option_map, string_bytes, flat_map, zip};
 ghost use Rattle.lalrpop_norm_faults.specs.Faults.{Refuses};
 ghost use Rattle.lalrpop_norm_tree.specs.Items.{action_view, alternative_view};
-ghost use Rattle.lalrpop_norm_tree.specs.Symbols.{symbol_view};
 ghost use Rattle.lalrpop_norm_parts.specs.Texts.{joined};
-ghost use Rattle.lalrpop_norm_model.specs.LoweringFaults.{slots, code_in, code_faults, span_over};
+ghost use Rattle.lalrpop_norm_util.specs.Braces.{around_slot};
+ghost use Rattle.lalrpop_norm_model.specs.LoweringFaults.{slots, code_in, code_faults};
 ghost use Rattle.lalrpop_norm_late.specs.Arguments.{in_slots};
-ghost use Rattle.lalrpop_norm_late.specs.Slots.{pieces, in_order, filled_code, count_faults, end_of};
+ghost use Rattle.lalrpop_norm_late.specs.Slots.{pieces, in_order, filled_code};
 
-use crate::code::split_at_slot;
-use lalrpop_norm_faults::{FaultKind, NormResult, refusal};
-use lalrpop_norm_tree::grammar::parse_tree::{
-    ActionKind, Alternative, Atom, NoMemory, Span, Symbol,
-};
+use lalrpop_norm_faults::NormResult;
+use lalrpop_norm_steps::refusals::check_count;
+use lalrpop_norm_tree::grammar::parse_tree::{ActionKind, Alternative, Atom, NoMemory};
 use lalrpop_norm_util::norm_util::{Symbols, analyze_expr};
 use std::alloc::Global;
 
@@ -28,46 +26,6 @@ pub(crate) fn check_code(alloc: Global, alternative: &Alternative) -> NormResult
         Symbols::Named(_) => Ok(()),
         Symbols::Anon(sources) => check_count(alloc, alternative.span, count, &sources),
     }
-}
-
-/// Refuses a number of `<>` that is not that of the sources.
-fn check_count(
-    alloc: Global,
-    span: Span,
-    count: usize,
-    sources: &[(usize, &Symbol)],
-) -> NormResult<()>
-    ensures { Refuses result (count_faults span count (map (λ t. record { place = t.0; symbol = symbol_view t.1.now }) sources.now)) }
-{
-    if sources.len() == count {
-        return Ok(());
-    }
-    Err(refusal(
-        FaultKind::Placeholders,
-        span_over(span, sources),
-        format!(in alloc; "{count} `<>`, but the number of values is another one"),
-    ))
-}
-
-/// From the start of the first source to the end of the last one.
-fn span_over(all: Span, sources: &[(usize, &Symbol)]) -> Span
-    ensures { result ≡ span_over all (map (λ t. record { place = t.0; symbol = symbol_view t.1.now }) sources.now) }
-{
-    match sources.split_first() {
-        None => all,
-        Some(((_, first), others)) => Span(first.span.0, end_of(first.span.1, others)),
-    }
-}
-
-/// The end of the last of the sources, or that end where there is none.
-fn end_of(before: usize, sources: &[(usize, &Symbol)]) -> usize
-    ensures { result ≡ end_of before (map (λ t. record { place = t.0; symbol = symbol_view t.1.now }) sources.now) }
-{
-    let mut end = before;
-    for (_, symbol) in sources {
-        end = symbol.span.1;
-    }
-    end
 }
 
 fn code_in(action: &Option<ActionKind>) -> &str
@@ -151,6 +109,16 @@ fn pieces(alloc: Global, code: &str) -> Result<Vec<&str>, NoMemory>
     }
     pieces.push(rest)?;
     Ok(pieces)
+}
+
+/// What stands before the first `<>` and after it.
+fn split_at_slot(code: &str) -> Option<(&str, &str)>
+    ensures { option_map (λ p. (p.0.now, p.1.now)) result ≡ around_slot code.now }
+{
+    match code.split_once("<>") {
+        None => None,
+        Some((before, after)) => Some((before, after)),
+    }
 }
 
 /// The names with `, ` between each two.

@@ -1,20 +1,17 @@
 //! The parts of nonterminals: the types of rules, and the start symbols of public ones, which are made once.
 ghost use Rattle.std.specs.Prelude.{◌≡◌, [], ◌++◌, IfOk, OnOk, map, string_bytes};
-ghost use Rattle.lalrpop_norm_tree.specs.Items.{alternative_view, rule_view};
+ghost use Rattle.lalrpop_norm_tree.specs.Items.{rule_view};
 ghost use Rattle.lalrpop_norm_parts.specs.Reprs.{repr_view, unit_type};
-ghost use Rattle.lalrpop_norm_tree.specs.Symbols.{expr_view, symbol_view, nonterminal, at, part_and, no_parts};
 ghost use Rattle.lalrpop_norm_repr.specs.Productions.{nonterminal_data_view};
 ghost use Rattle.lalrpop_norm_repr.specs.Tables.{type_table, rows};
-ghost use Rattle.lalrpop_norm_late.specs.Lowering.{rule_type, start_name, start_names, start_alternative, with_entry, sorted_onto};
+ghost use Rattle.lalrpop_norm_late.specs.Lowering.{rule_type, start_name, start_names, with_entry, sorted_onto};
 ghost use Rattle.lalrpop_norm_late.specs.Starts.{start_rule, start_named, start_typed};
 ghost use Rattle.lalrpop_norm_late.specs.Typing.{start_types};
 
 use crate::typing::unit_type;
 use lalrpop_norm_repr::grammar::repr::{NonterminalData, TypeRepr, Types};
 use lalrpop_norm_tree::grammar::parse_tree as pt;
-use lalrpop_norm_tree::grammar::parse_tree::{
-    Alternative, Atom, ExprSymbol, NoMemory, NonterminalString, Span, Symbol, SymbolKind,
-};
+use lalrpop_norm_tree::grammar::parse_tree::{Atom, NoMemory, NonterminalString};
 use std::alloc::Global;
 use std::collections::BTreeMap;
 
@@ -94,40 +91,6 @@ fn start_text(alloc: Global, prefix: &str, name: &NonterminalString) -> Result<S
     ensures { IfOk result (λ s. string_bytes s ≡ prefix.now ++ name.now.0) }
 {
     Ok(format!(in alloc; "{prefix}{name}")?)
-}
-
-/// The one alternative of a start symbol: the rule's name.
-pub(crate) fn start_alternative(
-    alloc: Global,
-    rule: &pt::NonterminalData,
-) -> Result<Alternative, NoMemory>
-    ensures { IfOk result (λ a. alternative_view a ≡ start_alternative (rule_view rule.now)) }
-{
-    let expr = named(alloc, rule.span, &rule.name)?;
-    Ok(Alternative {
-        span: rule.span,
-        expr,
-        condition: None,
-        action: None,
-        attributes: Vec::new(alloc),
-    })
-}
-
-/// The nonterminal alone, at that place.
-fn named(alloc: Global, span: Span, name: &NonterminalString) -> Result<ExprSymbol, NoMemory>
-    ensures { IfOk result (λ e. expr_view e ≡ part_and (at span (nonterminal name.now.0)) no_parts) }
-{
-    let symbol = named_symbol(span, name)?;
-    let mut symbols = Vec::new(alloc);
-    symbols.push(symbol)?;
-    Ok(ExprSymbol { symbols })
-}
-
-fn named_symbol(span: Span, name: &NonterminalString) -> Result<Symbol, NoMemory>
-    ensures { IfOk result (λ s. symbol_view s ≡ at span (nonterminal name.now.0)) }
-{
-    let kind = SymbolKind::Nonterminal(name.clone()?);
-    Ok(Symbol { span, kind })
 }
 
 /// Puts a nonterminal into the table.

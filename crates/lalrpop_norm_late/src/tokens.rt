@@ -14,8 +14,8 @@ ghost use Rattle.lalrpop_norm_late.specs.Conversions.{sorted_terminals, numbered
 ghost use Rattle.lalrpop_norm_late.specs.Made.{conversion_rows, row_of_entry, entry_rows_from, token_rows, made_tokens};
 
 use crate::patterns::lowered_pattern;
-use crate::terminals::{insert, numbers_of};
 use lalrpop_norm_repr::grammar::repr::{TerminalSet, TerminalString, TypeRepr};
+use lalrpop_norm_steps::terminals::terminal_set;
 use lalrpop_norm_tree::grammar::parse_tree::{
     Atom, Conversion, Grammar, GrammarItem, Lifetime, MatchEntry, MatchMapping, NoMemory, Path,
     Span,
@@ -169,6 +169,20 @@ fn add_token(
     Ok(())
 }
 
+/// Puts a pattern into the table.
+#[tactic(auto, using(lalrpop_norm_repr::proofs::RowOrder::rows_inserted))]
+fn insert(
+    patterns: &mut BTreeMap<TerminalString, Pattern<TypeRepr>>,
+    terminal: TerminalString,
+    pattern: Pattern<TypeRepr>,
+) -> Result<(), NoMemory>
+    ensures { OnOk result (rows (pattern_view repr_view) patterns.new
+        ≡ insert_entry terminal_cmp (rows (pattern_view repr_view) patterns.old) terminal (pattern_view repr_view pattern)) }
+{
+    patterns.insert(terminal, pattern)?;
+    Ok(())
+}
+
 /// `Token(i, <&'input str>)`.
 fn internal_pattern(alloc: Global, span: Span, index: usize) -> Result<Pattern<TypeRepr>, NoMemory>
     ensures { IfOk result (λ p. pattern_view repr_view p ≡ internal_pattern span index) }
@@ -220,20 +234,4 @@ fn input_type(alloc: Global) -> Result<TypeRepr, NoMemory>
         mutable: false,
         referent,
     })
-}
-
-/// The terminals with their numbers: those given, then the error terminal where it is used.
-fn terminal_set(
-    alloc: Global,
-    mut all: Vec<TerminalString>,
-    recovers: bool,
-) -> Result<TerminalSet, NoMemory>
-    ensures all { IfOk result (λ s. s.all.items ≡ all.items ++ (if recovers then TerminalString.Error ∷ [] else [])) }
-    ensures bits { IfOk result (λ s. s.bits.entries ≡ sorted_terminals [] (numbered_terminals 0 s.all.items)) }
-{
-    if recovers {
-        all.push(TerminalString::Error)?;
-    }
-    let bits = numbers_of(alloc, &all)?;
-    Ok(TerminalSet { all, bits })
 }

@@ -1,5 +1,5 @@
 -- The code of an action.
-use Rattle.std.specs.Prelude.{ℕ, List, [], ◌∷◌, Option, Some, None, codes}
+use Rattle.std.specs.Prelude.{ℕ, Bool, true, false, List, [], ◌∷◌, Option, Some, None, codes}
 use Rattle.lalrpop_norm_tree.specs.Items.{Action, user_code, fallible_code, lookahead_code, lookbehind_code}
 use Rattle.lalrpop_norm_parts.specs.Reprs.{ReprData, tuple, no_reprs}
 
@@ -20,3 +20,7 @@ written_code type names (Some (user_code text)) = text
 written_code type names (Some (fallible_code text)) = text
 written_code type names (Some lookahead_code) = absent_code type names
 written_code type names (Some lookbehind_code) = absent_code type names
+
+abbrev pub is_fallible : Option Action → Bool
+is_fallible (Some (fallible_code c)) = true
+is_fallible _ = false

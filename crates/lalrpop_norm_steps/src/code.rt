@@ -1,18 +1,27 @@
-//! The code of an action.
+//! What is read off the code of an action.
 ghost use Rattle.std.specs.Prelude.{◌≡◌, option_map};
 ghost use Rattle.lalrpop_norm_tree.specs.Items.{action_view};
 ghost use Rattle.lalrpop_norm_parts.specs.Reprs.{repr_view};
-ghost use Rattle.lalrpop_norm_util.specs.Braces.{around_slot};
-ghost use Rattle.lalrpop_norm_late.specs.Code.{absent_code, written_code};
+ghost use Rattle.lalrpop_norm_steps.specs.Code.{absent_code, written_code, is_fallible};
 
 use lalrpop_norm_tree::grammar::parse_tree::{ActionKind, Atom};
 use lalrpop_norm_tree::grammar::repr::TypeRepr;
 
-pub(crate) fn written_code<'a>(
-    ty: &TypeRepr,
-    names: &[Atom],
-    action: &'a Option<ActionKind>,
-) -> &'a str
+/// Whether an action may fail: where its code is written so.
+pub fn is_fallible(action: &Option<ActionKind>) -> bool
+    ensures { result ≡ is_fallible (option_map action_view action.now) }
+{
+    match action {
+        Some(ActionKind::Fallible(_)) => true,
+        Some(ActionKind::User(_)) => false,
+        Some(ActionKind::Lookahead) => false,
+        Some(ActionKind::Lookbehind) => false,
+        None => false,
+    }
+}
+
+/// The code of an action over sources of these names, for a rule of that type: as it is written, or as it is where it is absent.
+pub fn written_code<'a>(ty: &TypeRepr, names: &[Atom], action: &'a Option<ActionKind>) -> &'a str
     ensures { result.now ≡ written_code (repr_view ty.now) names.now (option_map action_view action.now) }
 {
     match action {
@@ -31,14 +40,4 @@ fn absent_code(ty: &TypeRepr, names: &[Atom]) -> &'static str
         return "()";
     }
     if names.len() == 1 { "<>" } else { "(<>)" }
-}
-
-/// What stands before the first `<>` and after it.
-pub(crate) fn split_at_slot(code: &str) -> Option<(&str, &str)>
-    ensures { option_map (λ p. (p.0.now, p.1.now)) result ≡ around_slot code.now }
-{
-    match code.split_once("<>") {
-        None => None,
-        Some((before, after)) => Some((before, after)),
-    }
 }

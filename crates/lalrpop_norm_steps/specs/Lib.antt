@@ -1,0 +1,4 @@
+pub mod Code
+pub mod Counts
+pub mod StartSymbols
+pub mod Terminals
