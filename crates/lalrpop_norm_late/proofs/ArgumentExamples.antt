@@ -9,7 +9,7 @@ use Rattle.lalrpop_norm_parts.specs.declared.names.TerminalString.TheVariants.{L
 use Rattle.lalrpop_norm_parts.specs.Reprs.{tuple, no_reprs, named_repr}
 use Rattle.lalrpop_norm_tree.specs.Symbols.{one_name, several, no_arguments, argument_and, terminal, chosen, named, tupled, Part, at}
 use Rattle.lalrpop_norm_late.specs.Arguments.{patterns, names, IsFilled}
-use Rattle.lalrpop_norm_steps.specs.Code.{written_code}
+use Rattle.lalrpop_norm_lowering.specs.Code.{written_code}
 use Rattle.lalrpop_norm_late.specs.Sources.{plain_name}
 
 here : Span

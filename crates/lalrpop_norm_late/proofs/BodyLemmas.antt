@@ -10,7 +10,7 @@ use Rattle.lalrpop_norm_model.specs.MadeRules.{some_name_value}
 use Rattle.lalrpop_norm_repr.specs.Actions.{user}
 use Rattle.lalrpop_norm_repr.specs.Tables.{TypeTable, type_of}
 use Rattle.lalrpop_norm_late.specs.Arguments.{part_list, names, IsFilled}
-use Rattle.lalrpop_norm_steps.specs.Code.{written_code}
+use Rattle.lalrpop_norm_lowering.specs.Code.{written_code}
 use Rattle.lalrpop_norm_late.specs.Lowering.{start_name, start_alternative, lowered_symbols, type_or_unit, rule_type}
 use Rattle.lalrpop_norm_late.specs.Made.{user_body, body, made_action, made_starts, made_actions}
 use Rattle.lalrpop_norm_late.specs.Naming.{source_names}

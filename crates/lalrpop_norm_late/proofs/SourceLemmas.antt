@@ -9,13 +9,13 @@ use Rattle.lalrpop_norm_parts.specs.Reprs.{ReprData, tuple, slice, nominal, asso
 use Rattle.lalrpop_norm_parts.specs.Texts.{joined}
 use Rattle.lalrpop_norm_faults.specs.Faults.{fault_if}
 use Rattle.lalrpop_norm_faults.specs.declared.kind.FaultKind.TheVariants.{Placeholders}
-use Rattle.lalrpop_norm_steps.specs.Counts.{count_faults}
+use Rattle.lalrpop_norm_lowering.specs.Counts.{count_faults}
 use Rattle.lalrpop_norm_util.specs.ExprSymbols.{Placed, NamedPart, named_parts, chosen_parts, all_parts, SymbolsSeen, with_names, without_names, without_any, with_any, analyzed_symbols}
 use Rattle.lalrpop_norm_model.specs.LoweringFaults.{slots, code_in, code_faults, span_over}
 use Rattle.lalrpop_norm_model.specs.MadeRules.{some_name_value, if_any}
 use Rattle.lalrpop_norm_model.specs.Sources.{Source, named_sources, chosen_sources, all_sources, sources}
 use Rattle.lalrpop_norm_late.specs.Arguments.{in_slots}
-use Rattle.lalrpop_norm_steps.specs.Code.{sources_code, absent_code, written_code}
+use Rattle.lalrpop_norm_lowering.specs.Code.{sources_code, absent_code, written_code}
 use Rattle.lalrpop_norm_util.specs.Values.{has_chosen}
 use Rattle.lalrpop_norm_late.specs.Naming.{names_from, source_names}
 use Rattle.lalrpop_norm_faults.proofs.FaultLemmas.{not_fault}

@@ -17,8 +17,8 @@ use Rattle.lalrpop_norm_repr.specs.declared.symbol.Symbol.TheVariants.{Nontermin
 use Rattle.lalrpop_norm_repr.specs.Productions.{ProductionData, EntryData}
 use Rattle.lalrpop_norm_repr.specs.Tables.{TypeTable, type_of}
 use Rattle.lalrpop_norm_repr.specs.SymbolTypes.{symbol_type}
-pub use Rattle.lalrpop_norm_steps.specs.Code.{is_fallible}
-pub use Rattle.lalrpop_norm_steps.specs.StartSymbols.{start_name, start_alternative}
+pub use Rattle.lalrpop_norm_lowering.specs.Code.{is_fallible}
+pub use Rattle.lalrpop_norm_lowering.specs.StartSymbols.{start_name, start_alternative}
 
 -- ---- rules
 

@@ -23,7 +23,7 @@ use Rattle.lalrpop_norm_repr.specs.Orders.{name_cmp}
 use Rattle.lalrpop_norm_repr.specs.Tables.{TypeTable}
 use Rattle.lalrpop_norm_late.specs.Carried.{TokenRow, internal_pattern, terminal_of_mapping, uses_recovery, use_of}
 use Rattle.lalrpop_norm_late.specs.Carried.{lowered_parameter, lowered_clauses, asks_lalr, asked_code}
-use Rattle.lalrpop_norm_steps.specs.Code.{written_code}
+use Rattle.lalrpop_norm_lowering.specs.Code.{written_code}
 use Rattle.lalrpop_norm_model.specs.Scopes.{conversions_in}
 use Rattle.lalrpop_norm_late.specs.Conversions.{mapped_pattern, sorted_terminals, numbered_terminals}
 use Rattle.lalrpop_norm_late.specs.Lowering.{rules_among, public_rules_in, start_alternative, lowered_symbols, type_or_unit}
@@ -31,7 +31,7 @@ use Rattle.lalrpop_norm_late.specs.Lowering.{is_fallible, rule_type, start_names
 use Rattle.lalrpop_norm_late.specs.Naming.{argument_patterns, source_names}
 use Rattle.lalrpop_norm_late.specs.Slots.{filled_code}
 use Rattle.lalrpop_norm_late.specs.Typing.{start_types, AddsTypes}
-pub use Rattle.lalrpop_norm_steps.specs.StartSymbols.{types_by_name}
+pub use Rattle.lalrpop_norm_lowering.specs.StartSymbols.{types_by_name}
 
 -- ---- actions
 

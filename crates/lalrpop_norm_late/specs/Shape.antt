@@ -23,7 +23,7 @@ use Rattle.lalrpop_norm_repr.specs.Tables.{TypeTable, type_of, found, found_term
 use Rattle.lalrpop_norm_late.specs.Arguments.{part_list, patterns, names, IsFilled}
 use Rattle.lalrpop_norm_late.specs.Carried.{tokens_of, uses_recovery, lowered_parameter, lowered_clauses, use_of, asks_lalr}
 use Rattle.lalrpop_norm_late.specs.Carried.{asked_code}
-use Rattle.lalrpop_norm_steps.specs.Code.{written_code}
+use Rattle.lalrpop_norm_lowering.specs.Code.{written_code}
 use Rattle.lalrpop_norm_late.specs.Conversions.{terminal_cmp}
 use Rattle.lalrpop_norm_late.specs.Lowering.{public_rules_in, start_name, start_alternative, lowered_symbols, is_fallible}
 use Rattle.lalrpop_norm_late.specs.Lowering.{production_of}

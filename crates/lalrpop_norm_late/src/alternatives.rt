@@ -15,10 +15,10 @@ use crate::bodies::made_action;
 use crate::placeholders::check_code;
 use crate::symbols::lowered_symbols;
 use lalrpop_norm_faults::NormResult;
+use lalrpop_norm_lowering::refusals::next_action;
 use lalrpop_norm_repr::grammar::repr::{
     ActionFn, ActionFnDefn, Production, Symbol, TypeRepr, Types,
 };
-use lalrpop_norm_steps::refusals::next_action;
 use lalrpop_norm_tree::grammar::parse_tree::{Alternative, NoMemory, NonterminalString, Span};
 use std::alloc::Global;
 

@@ -17,12 +17,12 @@ use crate::alternatives::{lower_alternative, lower_alternatives};
 use crate::starts::{Start, insert, rule_type};
 use crate::typing::unit_type;
 use lalrpop_norm_faults::NormResult;
+use lalrpop_norm_lowering::refusals::check_start;
+use lalrpop_norm_lowering::starts::start_alternative;
 use lalrpop_norm_parts::attribute::copy::copy_attributes;
 use lalrpop_norm_repr::grammar::repr::{
     ActionFnDefn, NonterminalData, Production, TypeRepr, Types,
 };
-use lalrpop_norm_steps::refusals::check_start;
-use lalrpop_norm_steps::starts::start_alternative;
 use lalrpop_norm_tree::grammar::parse_tree as pt;
 use lalrpop_norm_tree::grammar::parse_tree::{NoMemory, NonterminalString};
 use std::alloc::Global;

@@ -9,7 +9,7 @@ ghost use Rattle.lalrpop_norm_late.specs.Arguments.{in_slots};
 ghost use Rattle.lalrpop_norm_late.specs.Slots.{pieces, in_order, filled_code};
 
 use lalrpop_norm_faults::NormResult;
-use lalrpop_norm_steps::refusals::check_count;
+use lalrpop_norm_lowering::refusals::check_count;
 use lalrpop_norm_tree::grammar::parse_tree::{ActionKind, Alternative, Atom, NoMemory};
 use lalrpop_norm_util::norm_util::{Symbols, analyze_expr};
 use std::alloc::Global;

@@ -14,8 +14,8 @@ ghost use Rattle.lalrpop_norm_late.specs.Conversions.{sorted_terminals, numbered
 ghost use Rattle.lalrpop_norm_late.specs.Made.{conversion_rows, row_of_entry, entry_rows_from, token_rows, made_tokens};
 
 use crate::patterns::lowered_pattern;
+use lalrpop_norm_lowering::terminals::terminal_set;
 use lalrpop_norm_repr::grammar::repr::{TerminalSet, TerminalString, TypeRepr};
-use lalrpop_norm_steps::terminals::terminal_set;
 use lalrpop_norm_tree::grammar::parse_tree::{
     Atom, Conversion, Grammar, GrammarItem, Lifetime, MatchEntry, MatchMapping, NoMemory, Path,
     Span,

@@ -4,7 +4,7 @@ use Rattle.lalrpop_norm_tree.specs.Items.{alternative_view}
 use Rattle.lalrpop_norm_tree.specs.Symbols.{symbol_view}
 use Rattle.lalrpop_norm_model.specs.LoweringFaults.{slots}
 use Rattle.lalrpop_norm_model.specs.Sources.{Source}
-use Rattle.lalrpop_norm_steps.specs.Counts.{count_faults}
+use Rattle.lalrpop_norm_lowering.specs.Counts.{count_faults}
 use Rattle.lalrpop_norm_late.proofs.SourceLemmas.{named_clean, unnamed_faults}
 use Rattle.lalrpop_norm_late.proofs.placeholders.check_code.Goals as goal
 

@@ -2,7 +2,7 @@
 ghost use Rattle.std.specs.Prelude.{◌≡◌, option_map};
 ghost use Rattle.lalrpop_norm_tree.specs.Items.{action_view};
 ghost use Rattle.lalrpop_norm_parts.specs.Reprs.{repr_view};
-ghost use Rattle.lalrpop_norm_steps.specs.Code.{absent_code, written_code, is_fallible};
+ghost use Rattle.lalrpop_norm_lowering.specs.Code.{absent_code, written_code, is_fallible};
 
 use lalrpop_norm_tree::grammar::parse_tree::{ActionKind, Atom};
 use lalrpop_norm_tree::grammar::repr::TypeRepr;

@@ -5,8 +5,8 @@ ghost use Rattle.lalrpop_norm_tree.specs.Items.{rule_view};
 ghost use Rattle.lalrpop_norm_tree.specs.Symbols.{symbol_view};
 ghost use Rattle.lalrpop_norm_model.specs.LoweringFaults.{action_number_faults, span_over, start_faults};
 ghost use Rattle.lalrpop_norm_repr.specs.Tables.{type_table};
-ghost use Rattle.lalrpop_norm_steps.specs.Counts.{count_faults, end_of};
-ghost use Rattle.lalrpop_norm_steps.specs.StartSymbols.{start_name, types_by_name};
+ghost use Rattle.lalrpop_norm_lowering.specs.Counts.{count_faults, end_of};
+ghost use Rattle.lalrpop_norm_lowering.specs.StartSymbols.{start_name, types_by_name};
 
 use lalrpop_norm_faults::{FaultKind, NormResult, refusal};
 use lalrpop_norm_repr::grammar::repr::{ActionFn, ActionFnDefn, Types};

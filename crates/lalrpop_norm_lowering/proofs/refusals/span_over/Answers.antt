@@ -1,8 +1,8 @@
 use Rattle.std.proofs.Common.{refl}
 use Rattle.lalrpop_norm_tree.specs.Symbols.{symbol_view}
 use Rattle.lalrpop_norm_model.specs.Sources.{Source}
-use Rattle.lalrpop_norm_steps.proofs.SpanLemmas.{span_made}
-use Rattle.lalrpop_norm_steps.proofs.refusals.span_over.Goals as goal
+use Rattle.lalrpop_norm_lowering.proofs.SpanLemmas.{span_made}
+use Rattle.lalrpop_norm_lowering.proofs.refusals.span_over.Goals as goal
 
 pub returns-in-Some : goal.returns-in-Some
 returns-in-Some c =

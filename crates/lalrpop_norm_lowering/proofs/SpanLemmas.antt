@@ -7,7 +7,7 @@ use Rattle.lalrpop_norm_tree.specs.Symbols.{Kind, Part, Parts, Call, Again, kind
 use Rattle.lalrpop_norm_model.specs.MadeRules.{span_of}
 use Rattle.lalrpop_norm_model.specs.LoweringFaults.{last_of, span_over}
 use Rattle.lalrpop_norm_model.specs.Sources.{Source}
-use Rattle.lalrpop_norm_steps.specs.Counts.{end_of}
+use Rattle.lalrpop_norm_lowering.specs.Counts.{end_of}
 
 end_is : (x : Source) (xs : List Source) → end_of (span_of x.symbol).1 xs ≡ (span_of (last_of x xs).symbol).1
 end_is x [] = refl

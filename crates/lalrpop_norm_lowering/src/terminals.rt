@@ -1,7 +1,7 @@
 //! The numbers of terminals.
 ghost use Rattle.std.specs.Prelude.{◌≡◌, ◌++◌, [], ◌∷◌, IfOk, OnOk, if◌then◌else◌};
 ghost use Rattle.std.specs.BTreeMap.{insert_entry};
-ghost use Rattle.lalrpop_norm_steps.specs.Terminals.{sorted_terminals, numbered_terminals, terminal_cmp};
+ghost use Rattle.lalrpop_norm_lowering.specs.Terminals.{sorted_terminals, numbered_terminals, terminal_cmp};
 
 use lalrpop_norm_repr::grammar::repr::{TerminalSet, TerminalString};
 use lalrpop_norm_tree::grammar::parse_tree::NoMemory;

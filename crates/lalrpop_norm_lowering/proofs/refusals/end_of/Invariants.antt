@@ -1,8 +1,8 @@
 use Rattle.std.proofs.Common.{◌≡◌, drop, map}
 use Rattle.lalrpop_norm_tree.specs.Symbols.{symbol_view}
 use Rattle.lalrpop_norm_model.specs.Sources.{Source}
-use Rattle.lalrpop_norm_steps.specs.Counts.{end_of}
-use Rattle.lalrpop_norm_steps.proofs.refusals.end_of.Given as goal
+use Rattle.lalrpop_norm_lowering.specs.Counts.{end_of}
+use Rattle.lalrpop_norm_lowering.proofs.refusals.end_of.Given as goal
 
 abbrev pub invariant-loop-symbol : goal.invariant-loop-symbol
 invariant-loop-symbol l =

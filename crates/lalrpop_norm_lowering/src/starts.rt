@@ -2,7 +2,7 @@
 ghost use Rattle.std.specs.Prelude.{◌≡◌, IfOk};
 ghost use Rattle.lalrpop_norm_tree.specs.Items.{alternative_view, rule_view};
 ghost use Rattle.lalrpop_norm_tree.specs.Symbols.{expr_view, symbol_view, nonterminal, at, part_and, no_parts};
-ghost use Rattle.lalrpop_norm_steps.specs.StartSymbols.{start_alternative};
+ghost use Rattle.lalrpop_norm_lowering.specs.StartSymbols.{start_alternative};
 
 use lalrpop_norm_tree::grammar::parse_tree::{
     Alternative, ExprSymbol, NoMemory, NonterminalData, NonterminalString, Span, Symbol, SymbolKind,

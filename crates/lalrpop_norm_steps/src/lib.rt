@@ -1,7 +1,0 @@
-//! Steps of lowering: each looks at one alternative, one public rule or one list of terminals, and at nothing else.
-#![tactic(auto)]
-
-pub mod code;
-pub mod refusals;
-pub mod starts;
-pub mod terminals;
