@@ -100,7 +100,7 @@ module _ (g h : GrammarData) (s : LooksSame g h) where
   rounds_same zero = refl
   rounds_same (suc k) = ap (λ rows. round g rows) (rounds_same k) ∙ round_same (type_rounds h k)
 
-  table_same : inferred_table g ≡ inferred_table h
+  pub table_same : inferred_table g ≡ inferred_table h
   table_same = ap table_of (ap (λ (rs : List RuleData). type_rounds g (length rs)) s.rules ∙ rounds_same (length (all_rules h)))
 
   -- ---- faults
@@ -208,12 +208,15 @@ module _ (t u : InternTokenData) (entries : t.match_entries ≡ u.match_entries)
         ap (λ rows. unwrap_or (row_of x rows) (token_type (with_tokens t g))) rows_beside
         ∙ ap (λ y. unwrap_or (row_of x (terminal_rows (with_tokens u g))) y) token_beside
 
-    -- the faults of inference are those of the entries, whatever the automaton
-    pub automaton_unseen : inference_faults (with_tokens t g) ≡ inference_faults (with_tokens u g)
-    automaton_unseen = faults_same (with_tokens t g) (with_tokens u g) (record {
+    pub look_same : LooksSame (with_tokens t g) (with_tokens u g)
+    look_same = record {
       rules = rules_beside g.items;
       terminals = terminal_beside;
       recovery = recovery_beside;
       location = location_beside;
       parameters = refl;
-    })
+    }
+
+    -- the faults of inference are those of the entries, whatever the automaton
+    pub automaton_unseen : inference_faults (with_tokens t g) ≡ inference_faults (with_tokens u g)
+    automaton_unseen = faults_same (with_tokens t g) (with_tokens u g) look_same

@@ -52,7 +52,7 @@ entry_flip d e =
     flipped _ _ _ _ (nat_cmp_total.antisymm d.precedence e.precedence)
     (flipped _ _ _ _ (literal_flip d.match_literal e.match_literal) (mapping_flip d.user_name e.user_name))
 
-one_below : (d e : MatchEntry) → entry_cmp d e ≡ Less → entry_cmp e d ≡ Less → ⊥
+pub one_below : (d e : MatchEntry) → entry_cmp d e ≡ Less → entry_cmp e d ≡ Less → ⊥
 one_below d e below above = let turned : ordering_reverse (entry_cmp e d) ≡ Less = sym (entry_flip d e) ∙ below in apart (entry_cmp e d) above turned
   where
     apart : (o : Ordering) → o ≡ Less → ordering_reverse o ≡ Less → ⊥
@@ -62,11 +62,11 @@ one_below d e below above = let turned : ordering_reverse (entry_cmp e d) ≡ Le
 
 -- ---- two rising lists with the same entries are one
 
-rises_above : (x : MatchEntry) (xs : List MatchEntry) → IsStrictlySortedBy entry_cmp (x ∷ xs) → (y : MatchEntry) → In y xs → entry_cmp x y ≡ Less
+pub rises_above : (x : MatchEntry) (xs : List MatchEntry) → IsStrictlySortedBy entry_cmp (x ∷ xs) → (y : MatchEntry) → In y xs → entry_cmp x y ≡ Less
 unfolding IsStrictlySortedBy
 rises_above x xs s y i = each_in (λ z. entry_cmp x z ≡ Less) xs s.0 y i
 
-rest_rises : (x : MatchEntry) (xs : List MatchEntry) → IsStrictlySortedBy entry_cmp (x ∷ xs) → IsStrictlySortedBy entry_cmp xs
+pub rest_rises : (x : MatchEntry) (xs : List MatchEntry) → IsStrictlySortedBy entry_cmp (x ∷ xs) → IsStrictlySortedBy entry_cmp xs
 unfolding IsStrictlySortedBy
 rest_rises x xs s = s.1
 

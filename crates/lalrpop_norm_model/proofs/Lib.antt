@@ -65,3 +65,9 @@ pub mod LateFaultExamples
 pub mod TokenFindingLemmas
 pub mod LexerFaultExamples
 pub mod AutomatonLemmas
+pub mod EntryOrder
+pub mod SameTerminalLemmas
+pub mod EntryLists
+pub mod EnteredLemmas
+pub mod EnteredTokens
+pub mod EnteredTypes

@@ -1,10 +1,12 @@
 -- What is proved of these definitions, each statement in one piece. The functions of the crate carry them.
 use Rattle.std.specs.Prelude.{◌≡◌, ◌⊎◌, ◌↔◌, ℕ, ◌≤◌, List, [], ◌∷◌, map, flat_map, length, filter}
-use Rattle.std.specs.Prelude.{take, slice_get, Option, Some, None, option_map, true, false, bytes_eq}
+use Rattle.std.specs.Prelude.{take, slice_get, Option, Some, None, IsSome, option_map, true, false, bytes_eq}
 use Rattle.lalrpop_norm_theory.specs.Rounds.{In, IsDistinct}
-use Rattle.lalrpop_norm_tree.specs.Items.{AlternativeData, RuleData, InternTokenData, GrammarData, rule_item}
+use Rattle.lalrpop_norm_tree.specs.Items.{AlternativeData, RuleData, ExternTokenData, InternTokenData, GrammarData, rule_item}
+use Rattle.lalrpop_norm_tree.specs.Items.{extern_item}
+use Rattle.lalrpop_norm_tree.specs.declared.items.MatchEntry.{MatchEntry}
 use Rattle.lalrpop_norm_model.specs.Features.{Features, is_active}
-use Rattle.lalrpop_norm_model.specs.Enabled.{Places, present, all_places, enabled_places, enabled_rule}
+use Rattle.lalrpop_norm_model.specs.Enabled.{Places, present, all_places, enabled_places, enabled_rule, enabled_extern}
 use Rattle.lalrpop_norm_model.specs.Scopes.{Global, globals, resolved_grammar}
 use Rattle.lalrpop_norm_model.specs.Levels.{every, Leveled, level_at, side_at, leveled_at, has_levels, with_levels, levels_of}
 use Rattle.lalrpop_norm_model.specs.Levels.{highest_level, previous_level}
@@ -39,10 +41,16 @@ use Rattle.lalrpop_norm_model.specs.PlainTables.{plain_table}
 use Rattle.lalrpop_norm_theory.specs.Leveled.{leveled_symbols, leveled_symbol, IsLeveled, recomposed}
 use Rattle.lalrpop_norm_theory.specs.Tables.{OneRuleAName, rule_of_symbol}
 use Rattle.lalrpop_norm_theory.specs.Laws.{OneToOne, level_named}
-use Rattle.lalrpop_norm_model.specs.Expanded.{rule_names}
+use Rattle.lalrpop_norm_model.specs.Expanded.{rule_names, interns, IsExpanded, IsTyped}
+use Rattle.lalrpop_norm_model.specs.TypeRelation.{IsRule}
+use Rattle.lalrpop_norm_model.specs.TypeTables.{Table}
 use Rattle.lalrpop_norm_model.specs.TuplePatterns.{IsTypable}
-use Rattle.lalrpop_norm_model.specs.CheckedTokens.{with_tokens}
-use Rattle.lalrpop_norm_model.specs.InferenceFaults.{inference_faults}
+use Rattle.lalrpop_norm_model.specs.CheckedTokens.{with_tokens, IsEntered}
+use Rattle.lalrpop_norm_model.specs.EnteredGrammars.{all_entries, entered_grammar}
+use Rattle.lalrpop_norm_model.specs.Entries.{AreEntries}
+use Rattle.lalrpop_norm_model.specs.InferenceFaults.{inference_faults, inferred_table}
+use Rattle.lalrpop_norm_model.specs.LoweringFaults.{lowering_faults}
+use Rattle.lalrpop_norm_model.specs.TokenFaults.{token_faults}
 use Rattle.lalrpop_norm_model.specs.LevelNames.{HasLevelNames, level_origin}
 use Rattle.lalrpop_norm_model.specs.Renumbered.{prepared_grammar, closed_up, rank_in, rank_by, ranked_clause, IsRenumbered}
 use Rattle.lalrpop_norm_model.specs.Renumbered.{TreesAreRenumbered, OneToOneByRank}
@@ -287,3 +295,27 @@ TypableExactly = (g : GrammarData) → IsDistinct (rule_names g) → IsTypable g
 abbrev pub AutomatonIsUnseen : Type 0
 AutomatonIsUnseen = (t u : InternTokenData) → t.match_entries ≡ u.match_entries → (g : GrammarData) →
     inference_faults (with_tokens t g) ≡ inference_faults (with_tokens u g)
+
+-- ---- entries
+
+-- The entries of a grammar are one list: those of the match block and those of the literals used, in their order.
+abbrev pub EntriesAreOneList : Type 0
+EntriesAreOneList = (g : GrammarData) (es : List MatchEntry) → AreEntries g es ↔ (es ≡ all_entries g)
+
+-- An expanded grammar without internal tokens stays expanded once it has its entries.
+abbrev pub EnteredAreExpanded : Type 0
+EnteredAreExpanded = (g h : GrammarData) → IsExpanded g → interns g ≡ [] → IsEntered g h → IsExpanded h
+
+-- Where the pass on tokens finds nothing wrong, and all conversions are active, an expanded grammar is typed, once it has its entries,
+-- by each table in which each of its rules has a type: its terminals are distinct, and each one used is one of them.
+abbrev pub EnteredAreTyped : Type 0
+EnteredAreTyped = (fs : Features) (g h : GrammarData) → IsExpanded g → interns g ≡ [] →
+    ((t : ExternTokenData) → In (extern_item t) g.items → enabled_extern fs t ≡ t) → token_faults g ≡ [] → IsEntered g h → (table : Table) →
+    ((r : RuleData) → IsRule h r → IsSome (table r.name.0)) → IsTyped fs h table
+
+-- What inference and lowering find wrong with a grammar that has its entries, and the types where its rounds end, are those of the
+-- grammar with these entries, whatever the automaton.
+abbrev pub EntriesDecideTypes : Type 0
+EntriesDecideTypes = (g h : GrammarData) → IsEntered g h →
+    (inference_faults h ≡ inference_faults (entered_grammar g)) × (inferred_table h ≡ inferred_table (entered_grammar g))
+    × ((types : Table) → lowering_faults h types ≡ lowering_faults (entered_grammar g) types)

@@ -35,3 +35,4 @@ pub mod InferenceFaults
 pub mod TokenFaults
 pub mod LexerFaults
 pub mod LoweringFaults
+pub mod EnteredGrammars

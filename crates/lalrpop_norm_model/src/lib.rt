@@ -16,6 +16,7 @@ ghost use Rattle.lalrpop_norm_model.specs.Laws.{MadeSymbolsAreScoped, RoundsAreR
 ghost use Rattle.lalrpop_norm_model.specs.Laws.{TextsInGrammars, PlainRulesAreRead};
 ghost use Rattle.lalrpop_norm_model.specs.Laws.{PlainGrammarsHoldPlainRules, DistinctNamesMeanOneRule, PlainRulesAreFaithful};
 ghost use Rattle.lalrpop_norm_model.specs.Laws.{TypableExactly, AutomatonIsUnseen};
+ghost use Rattle.lalrpop_norm_model.specs.Laws.{EntriesAreOneList, EnteredAreExpanded, EnteredAreTyped, EntriesDecideTypes};
 
 /// The text of a closed symbol without bounds is the text that its written symbol is displayed with.
 pub fn texts_are_displayed()
@@ -227,4 +228,26 @@ pub fn typable_exactly()
 /// is the same whether or not a lexer can build one.
 pub fn automaton_is_unseen()
     ensures { AutomatonIsUnseen }
+{}
+
+/// The entries of a grammar are one list: those of the match block and those that the literals used add, each once, in their
+/// order.
+pub fn entries_are_one_list()
+    ensures { EntriesAreOneList }
+{}
+
+/// An expanded grammar stays expanded once it has its entries.
+pub fn entered_are_expanded()
+    ensures { EnteredAreExpanded }
+{}
+
+/// Where the pass on tokens finds nothing wrong with an expanded grammar, its terminals are distinct once it has its entries, and
+/// each one used is one of them: it is typed by each table in which each of its rules has a type.
+pub fn entered_are_typed()
+    ensures { EnteredAreTyped }
+{}
+
+/// Types and the faults of inference and lowering depend on the entries of a grammar, and on no automaton.
+pub fn entries_decide_types()
+    ensures { EntriesDecideTypes }
 {}
