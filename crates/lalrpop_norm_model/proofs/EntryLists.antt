@@ -16,7 +16,7 @@ use Rattle.lalrpop_norm_theory.specs.Rounds.{In}
 use Rattle.lalrpop_norm_theory.proofs.RoundsLemmas.{in_left, in_right, in_cases, in_flat, of_flat}
 use Rattle.lalrpop_norm_model.specs.Terminals.{same_terminal, terminals_used}
 use Rattle.lalrpop_norm_model.specs.Entries.{entry_in, own_mapping, match_entries, catch_all, user_names, IsEntry, written, added, entry_cmp, AreEntries}
-use Rattle.lalrpop_norm_model.specs.EnteredGrammars.{added_for, added_entries, in_order, all_entries}
+use Rattle.lalrpop_norm_model.specs.EnteredGrammars.{added_for, added_entries, sorted_entries, all_entries}
 use Rattle.lalrpop_norm_model.specs.Laws.{EntriesAreOneList}
 use Rattle.lalrpop_norm_model.proofs.EntryOrder.{entries_total, entries_exact}
 use Rattle.lalrpop_norm_model.proofs.EntryLemmas.{one_list}
@@ -91,22 +91,22 @@ module _ (k : MatchEntry) where
 
 -- ---- entries in order
 
-in_ordered : (e : MatchEntry) (es : List MatchEntry) → In e es → In e (in_order es)
+in_ordered : (e : MatchEntry) (es : List MatchEntry) → In e es → In e (sorted_entries es)
 in_ordered e [] i = absurd i
-in_ordered e (d ∷ es) (inl same) = subst (λ x. In x (insert_key entry_cmp (in_order es) d)) (sym same) (insert_new d (in_order es))
-in_ordered e (d ∷ es) (inr i) = insert_keeps d e (in_order es) (in_ordered e es i)
+in_ordered e (d ∷ es) (inl same) = subst (λ x. In x (insert_key entry_cmp (sorted_entries es) d)) (sym same) (insert_new d (sorted_entries es))
+in_ordered e (d ∷ es) (inr i) = insert_keeps d e (sorted_entries es) (in_ordered e es i)
 
-of_ordered : (e : MatchEntry) (es : List MatchEntry) → In e (in_order es) → In e es
+of_ordered : (e : MatchEntry) (es : List MatchEntry) → In e (sorted_entries es) → In e es
 of_ordered e [] i = absurd i
-of_ordered e (d ∷ es) i = elim (insert_from d e (in_order es) i) [ inl same ↦ inl same | inr j ↦ inr (of_ordered e es j) ]
+of_ordered e (d ∷ es) i = elim (insert_from d e (sorted_entries es) i) [ inl same ↦ inl same | inr j ↦ inr (of_ordered e es j) ]
 
 none_rise : IsStrictlySortedBy entry_cmp []
 unfolding IsStrictlySortedBy
 none_rise = tt
 
-ordered_rises : (es : List MatchEntry) → IsStrictlySortedBy entry_cmp (in_order es)
+ordered_rises : (es : List MatchEntry) → IsStrictlySortedBy entry_cmp (sorted_entries es)
 ordered_rises [] = none_rise
-ordered_rises (e ∷ es) = insert_rises e (in_order es) (ordered_rises es)
+ordered_rises (e ∷ es) = insert_rises e (sorted_entries es) (ordered_rises es)
 
 -- ---- the entries of a grammar
 

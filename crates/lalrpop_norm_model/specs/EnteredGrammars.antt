@@ -26,13 +26,13 @@ abbrev pub added_entries : GrammarData → List MatchEntry
 added_entries g = flat_map (added_for (user_names (match_entries g)) (catch_all g)) (terminals_used g)
 
 -- entries in their order, each once
-abbrev pub in_order : List MatchEntry → List MatchEntry
-in_order [] = []
-in_order (e ∷ es) = insert_key entry_cmp (in_order es) e
+abbrev pub sorted_entries : List MatchEntry → List MatchEntry
+sorted_entries [] = []
+sorted_entries (e ∷ es) = insert_key entry_cmp (sorted_entries es) e
 
 -- the entries of a grammar
 abbrev pub all_entries : GrammarData → List MatchEntry
-all_entries g = in_order (match_entries g ++ added_entries g)
+all_entries g = sorted_entries (match_entries g ++ added_entries g)
 
 -- ---- the grammar with them
 
