@@ -1,5 +1,5 @@
 -- Rows and attributes, one after the other.
-use Rattle.std.proofs.Common.{◌≡◌, ◌∙◌, ℕ, Bool, true, List, [], ◌∷◌, ◌++◌, ◌||◌, map, refl, sym, ap, append_assoc}
+use Rattle.std.proofs.Common.{◌≡◌, ◌∙◌, ℕ, Bool, true, List, [], ◌∷◌, ◌++◌, ◌||◌, refl, sym, ap, append_assoc}
 use Rattle.std.specs.Prelude.{fold}
 use Rattle.std.specs.BTreeMap.{insert_entry}
 use Rattle.std.specs.List.{list_any, AllByRecursion}
