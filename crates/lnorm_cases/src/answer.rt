@@ -19,24 +19,48 @@ pub fn push_answer(
     bytes: &[u8],
 ) -> Result<(), AllocError> {
     match call_of(alloc, call)? {
-        Some(Call::Lnorm) => push_run(alloc, text, words, bytes),
-        Some(Call::CutReads) => push_cut_reads(alloc, text, words, bytes),
-        Some(Call::CutWrites) => push_cut_writes(alloc, text, words, bytes),
-        Some(Call::CutFaults) => push_cut_faults(alloc, text, words, bytes),
-        Some(Call::Values) => match push_made(alloc, text) {
+        Some(call) => push_called(alloc, text, &call, words, bytes),
+        None => text.push_str("no such call\n"),
+    }
+}
+
+fn push_called(
+    alloc: Global,
+    text: &mut String,
+    call: &Call,
+    words: &[String],
+    bytes: &[u8],
+) -> Result<(), AllocError> {
+    match call {
+        Call::Lnorm => push_run(alloc, text, words, bytes),
+        Call::CutReads => push_cut_reads(alloc, text, words, bytes),
+        Call::CutWrites => push_cut_writes(alloc, text, words, bytes),
+        Call::CutFaults => push_cut_faults(alloc, text, words, bytes),
+        Call::Values => match push_made(alloc, text) {
             Ok(()) => Ok(()),
             Err(_) => text.push_str("memory\n"),
         },
-        Some(Call::Passes(passes, last)) => match words {
-            [first, words @ ..] if first.as_str() == "whole" => {
-                push_passed(alloc, text, &passes, last, Form::Whole, words, bytes)
-            }
-            [first, words @ ..] if first.as_str() == "told" => {
-                push_passed(alloc, text, &passes, last, Form::Told, words, bytes)
-            }
-            _ => push_passed(alloc, text, &passes, last, Form::Lines, words, bytes),
-        },
-        None => text.push_str("no such call\n"),
+        Call::Passes(passes, last) => push_passes(alloc, text, passes, *last, words, bytes),
+    }
+}
+
+/// What the passes come to, in the form of the first word, if that names one.
+fn push_passes(
+    alloc: Global,
+    text: &mut String,
+    passes: &[Pass],
+    last: Last,
+    words: &[String],
+    bytes: &[u8],
+) -> Result<(), AllocError> {
+    match words {
+        [first, words @ ..] if first.as_str() == "whole" => {
+            push_passed(alloc, text, passes, last, Form::Whole, words, bytes)
+        }
+        [first, words @ ..] if first.as_str() == "told" => {
+            push_passed(alloc, text, passes, last, Form::Told, words, bytes)
+        }
+        _ => push_passed(alloc, text, passes, last, Form::Lines, words, bytes),
     }
 }
 

@@ -1,4 +1,5 @@
 //! What the accessors of a written grammar answer, and the pure functions that passes stand on.
+use crate::shown::push_or;
 use lalrpop_norm::normalize::Session;
 use lalrpop_norm::normalize::cond_comp::cfg_active;
 use lalrpop_norm::normalize::norm_util::{
@@ -7,11 +8,13 @@ use lalrpop_norm::normalize::norm_util::{
 use lalrpop_norm_precedence::precedence::{AlternativeLevel, Assoc, has_prec_attr, read_levels};
 use lalrpop_norm_print::symbols::{push_span, push_span_line, push_terminal};
 use lalrpop_norm_tree::grammar::parse_tree::{
-    ActionKind, Alternative, ArgPattern, AssociatedType, Atom, Attribute, AttributeArg, Conversion,
+    ActionKind, Alternative, ArgPattern, AssociatedType, Attribute, AttributeArg, Conversion,
     EnumToken, ExternToken, Grammar, GrammarItem, NoMemory, NonterminalData, Span, Symbol, TypeRef,
 };
+use lnorm_values::made::{atom, both, list_of_one, made_of, push_shown, string};
 use std::alloc::{AllocError, Global};
 use std::collections::BTreeSet;
+use std::slice;
 
 /// Of the first blocks, the attributes, the blocks, and of each rule with its alternatives.
 pub(crate) fn push_asked(
@@ -177,10 +180,12 @@ fn push_asked_head(
 }
 
 fn push_lowered_type(alloc: Global, text: &mut String, ty: &TypeRef) -> Result<(), AllocError> {
-    match ty.type_repr(alloc) {
-        Ok(lowered) => write!(text, ": {lowered}"),
-        Err(_) => text.push_str(" of a symbol"),
-    }
+    push_or(
+        text,
+        ty.type_repr(alloc),
+        |text, lowered| write!(text, ": {lowered}"),
+        " of a symbol",
+    )
 }
 
 /// ` levels 1 left 2 right` of the alternatives, the word only where the first one states a level.
@@ -188,10 +193,12 @@ fn push_levels(alloc: Global, text: &mut String, rule: &NonterminalData) -> Resu
     if has_prec_attr(rule) {
         text.push_str(" levels")?;
     }
-    match read_levels(alloc, rule) {
-        Ok(levels) => push_read_levels(text, &levels),
-        Err(_) => text.push_str(" wrong"),
-    }
+    push_or(
+        text,
+        read_levels(alloc, rule),
+        |text, levels| push_read_levels(text, levels),
+        " wrong",
+    )
 }
 
 fn push_read_levels(text: &mut String, levels: &[AlternativeLevel]) -> Result<(), AllocError> {
@@ -220,10 +227,18 @@ fn push_asked_alternative(
 ) -> Result<(), AllocError> {
     text.push_str("   ")?;
     push_span(text, alternative.span)?;
-    match analyze_action(alloc, alternative) {
-        Ok(AlternativeAction::User(action)) => push_presence(text, action),
-        Ok(AlternativeAction::Default(symbols)) => push_sources(text, &symbols),
-        Err(NoMemory) => text.push_str(" memory"),
+    push_or(
+        text,
+        analyze_action(alloc, alternative),
+        |text, action| push_analyzed(text, action),
+        " memory",
+    )
+}
+
+fn push_analyzed(text: &mut String, action: &AlternativeAction) -> Result<(), AllocError> {
+    match action {
+        AlternativeAction::User(action) => push_presence(text, action),
+        AlternativeAction::Default(symbols) => push_sources(text, symbols),
     }
 }
 
@@ -270,29 +285,38 @@ fn push_braces(text: &mut String, code: &str) -> Result<(), AllocError> {
 
 /// Whether `cfg(feature = "f")` is on where the set of features is empty.
 pub(crate) fn push_no_feature(alloc: Global, text: &mut String) -> Result<(), NoMemory> {
-    let attribute = feature_f(alloc)?;
+    let is_on = made_of(feature_f(alloc), |attribute| {
+        Ok(is_on_without_features(alloc, attribute))
+    });
+    push_shown(text, "with no feature ", is_on, "\n")
+}
+
+fn is_on_without_features(alloc: Global, attribute: &Attribute) -> bool {
     let session = Session {
         features: Some(BTreeSet::new(alloc)),
         macro_recursion_limit: 200,
         lexer: (),
     };
-    let is_on = cfg_active(&session, &[attribute]);
-    write!(text, "with no feature {is_on}\n")?;
-    Ok(())
+    cfg_active(&session, slice::from_ref(attribute))
 }
 
 /// `cfg(feature = "f")`
 fn feature_f(alloc: Global) -> Result<Attribute, NoMemory> {
-    let value = String::from_str(alloc, "f")?;
-    let inner = Attribute {
-        id_span: Span(4, 11),
-        id: Atom::new(alloc, "feature")?,
-        arg: AttributeArg::Equal(value),
-    };
-    let inner = vec![in alloc; inner]?;
+    let inner = list_of_one(alloc, named_f(alloc));
+    let (id, inner) = both(atom(alloc, "cfg"), inner)?;
     Ok(Attribute {
         id_span: Span(0, 3),
-        id: Atom::new(alloc, "cfg")?,
+        id,
         arg: AttributeArg::Paren(inner),
+    })
+}
+
+/// `feature = "f"`
+fn named_f(alloc: Global) -> Result<Attribute, NoMemory> {
+    let (id, value) = both(atom(alloc, "feature"), string(alloc, "f"))?;
+    Ok(Attribute {
+        id_span: Span(4, 11),
+        id,
+        arg: AttributeArg::Equal(value),
     })
 }

@@ -71,15 +71,35 @@ pub(crate) fn push_cut_reads(
     bytes: &[u8],
 ) -> Result<(), AllocError> {
     let whole = uncut(alloc, words, bytes);
+    push_each_read(alloc, text, words, bytes, &whole)
+}
+
+fn push_each_read(
+    alloc: Global,
+    text: &mut String,
+    words: &[String],
+    bytes: &[u8],
+    whole: &[u8],
+) -> Result<(), AllocError> {
     for fails_at in 0..20 {
-        let mut input = Cut::new(Vec::from_slice(alloc, bytes)?, fails_at, false);
-        let mut output = Vec::new(alloc);
-        let mut faults = Vec::new(alloc);
-        let status = run(alloc, words, &mut input, &mut output, &mut faults);
-        push_end(text, status, &input, &output, &faults)?;
-        push_difference(text, &whole, &output)?;
+        let input = Cut::new(Vec::from_slice(alloc, bytes)?, fails_at, false);
+        push_cut_read(alloc, text, words, input, whole)?;
     }
     Ok(())
+}
+
+fn push_cut_read(
+    alloc: Global,
+    text: &mut String,
+    words: &[String],
+    input: Cut,
+    whole: &[u8],
+) -> Result<(), AllocError> {
+    let mut input = input;
+    let mut output = Vec::new(alloc);
+    let mut faults = Vec::new(alloc);
+    let status = run(alloc, words, &mut input, &mut output, &mut faults);
+    push_compared(text, status, &input, &output, &faults, whole)
 }
 
 /// The runs on it whose first 20 writes fail in turn, or take nothing.
@@ -90,17 +110,38 @@ pub(crate) fn push_cut_writes(
     bytes: &[u8],
 ) -> Result<(), AllocError> {
     let whole = uncut(alloc, words, bytes);
+    push_each_write(alloc, text, words, bytes, &whole)
+}
+
+fn push_each_write(
+    alloc: Global,
+    text: &mut String,
+    words: &[String],
+    bytes: &[u8],
+    whole: &[u8],
+) -> Result<(), AllocError> {
     for fails_at in 0..20 {
         for takes_none in [false, true] {
-            let mut input = bytes;
-            let mut output = Cut::new(Vec::new(alloc), fails_at, takes_none);
-            let mut faults = Vec::new(alloc);
-            let status = run(alloc, words, &mut input, &mut output, &mut faults);
-            push_end(text, status, &output, &output.bytes, &faults)?;
-            push_difference(text, &whole, &output.bytes)?;
+            let output = Cut::new(Vec::new(alloc), fails_at, takes_none);
+            push_cut_write(alloc, text, words, bytes, output, whole)?;
         }
     }
     Ok(())
+}
+
+fn push_cut_write(
+    alloc: Global,
+    text: &mut String,
+    words: &[String],
+    bytes: &[u8],
+    output: Cut,
+    whole: &[u8],
+) -> Result<(), AllocError> {
+    let mut input = bytes;
+    let mut output = output;
+    let mut faults = Vec::new(alloc);
+    let status = run(alloc, words, &mut input, &mut output, &mut faults);
+    push_compared(text, status, &output, &output.bytes, &faults, whole)
 }
 
 /// The run on it whose line on standard error can't be written.
@@ -124,6 +165,19 @@ fn uncut(alloc: Global, words: &[String], bytes: &[u8]) -> Vec<u8> {
     let mut faults = Vec::new(alloc);
     let _status = run(alloc, words, &mut input, &mut output, &mut faults);
     output
+}
+
+/// How a run ended, and whether it wrote a beginning of the whole.
+fn push_compared(
+    text: &mut String,
+    status: u8,
+    stream: &Cut,
+    output: &[u8],
+    faults: &[u8],
+    whole: &[u8],
+) -> Result<(), AllocError> {
+    push_end(text, status, stream, output, faults)?;
+    push_difference(text, whole, output)
 }
 
 /// A line where what was written is no beginning of the whole.

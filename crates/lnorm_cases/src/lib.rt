@@ -10,3 +10,4 @@ mod outcome;
 mod passes;
 mod runs;
 pub mod script;
+mod shown;

@@ -1,7 +1,8 @@
 //! What passes come to, and how it is printed.
 use crate::asks::push_asked;
 use crate::call::{Last, Pass};
-use crate::passes::{resolved, tree_after, tree_after_all};
+use crate::passes::{tree_after, tree_after_all, typed};
+use crate::shown::{ended, push_or};
 use lalrpop_norm::grammar::repr;
 use lalrpop_norm::normalize::{NormFailure, NormResult, Session, normalize};
 use lalrpop_norm_json::{TreeError, read_tree};
@@ -9,8 +10,7 @@ use lalrpop_norm_print::lowered::{push_lowered, push_whole_lowered};
 use lalrpop_norm_print::tables::{push_types, push_whole_types};
 use lalrpop_norm_print::trees::{push_tree, push_whole_tree};
 use lalrpop_norm_repr::grammar::repr::Types;
-use lalrpop_norm_tree::grammar::parse_tree::{Grammar, NoMemory};
-use lalrpop_norm_tyinfer::tyinfer::infer_types;
+use lalrpop_norm_tree::grammar::parse_tree::Grammar;
 use lnorm_values::faults::push_told;
 use lnorm_values::lowered::push_lowered_copy;
 use lnorm_values::texts::push_texts;
@@ -64,8 +64,28 @@ fn push_answered(
 ) -> Result<(), AllocError> {
     match answer {
         Ok(tree) => push_last(alloc, text, session, form, last, tree),
-        Err(failure) => push_failure(text, form, &failure),
+        Err(failure) => push_failed(text, form, failure),
     }
+}
+
+/// The text of the value that was answered, or the failure. Either ends.
+fn push_answer_of<T: Drop, F: FnOnce(&mut String, &T) -> Result<(), AllocError>>(
+    text: &mut String,
+    form: Form,
+    answer: NormResult<T>,
+    push: F,
+) -> Result<(), AllocError>
+    requires { F.IsAlwaysCallable push }
+{
+    match answer {
+        Ok(value) => push(text, &value),
+        Err(failure) => push_failed(text, form, failure),
+    }
+}
+
+fn push_failed(text: &mut String, form: Form, failure: NormFailure) -> Result<(), AllocError> {
+    let done = push_failure(text, form, &failure);
+    ended(failure, done)
 }
 
 /// What stands last in a call.
@@ -79,12 +99,21 @@ fn push_last(
 ) -> Result<(), AllocError> {
     match last {
         Last::Pass(pass) => push_pass(text, form, pass, tree_after(alloc, session, pass, tree)),
-        Last::InferTypes => push_resolved_types(alloc, text, form, tree),
+        Last::InferTypes => push_typed(alloc, text, form, tree),
         Last::Normalize => push_normalized(text, form, normalize(alloc, session, tree)),
         Last::LoweredCopy => push_copied(alloc, text, form, normalize(alloc, session, tree)),
-        Last::Copy => push_copy(text, form, tree.clone()),
-        Last::Ask => push_asked(alloc, text, session, &tree),
-        Last::Texts => push_texts_or_memory(alloc, text, &tree),
+        Last::Copy => {
+            let done = push_copy(text, form, &tree);
+            ended(tree, done)
+        }
+        Last::Ask => {
+            let done = push_asked(alloc, text, session, &tree);
+            ended(tree, done)
+        }
+        Last::Texts => {
+            let done = push_texts_or_memory(alloc, text, &tree);
+            ended(tree, done)
+        }
     }
 }
 
@@ -94,10 +123,9 @@ fn push_pass(
     pass: Pass,
     answer: NormResult<Grammar>,
 ) -> Result<(), AllocError> {
-    match answer {
-        Ok(tree) => push_tree_after(text, form, pass, &tree),
-        Err(failure) => push_failure(text, form, &failure),
-    }
+    push_answer_of(text, form, answer, |text, tree| {
+        push_tree_after(text, form, pass, tree)
+    })
 }
 
 fn push_tree_after(
@@ -121,36 +149,23 @@ fn push_tree_as(text: &mut String, form: Form, tree: &Grammar) -> Result<(), All
 }
 
 /// The types of the tree's rules, once its names are resolved.
-fn push_resolved_types(
+fn push_typed(
     alloc: Global,
     text: &mut String,
     form: Form,
     tree: Grammar,
 ) -> Result<(), AllocError> {
-    match resolved(alloc, tree) {
-        Ok(tree) => push_inferred(text, form, &tree, infer_types(alloc, &tree)),
-        Err(failure) => push_failure(text, form, &failure),
-    }
-}
-
-fn push_inferred(
-    text: &mut String,
-    form: Form,
-    tree: &Grammar,
-    answer: NormResult<Types>,
-) -> Result<(), AllocError> {
-    match answer {
-        Ok(types) => push_types_as(text, form, tree, &types),
-        Err(failure) => push_failure(text, form, &failure),
-    }
+    push_answer_of(text, form, typed(alloc, tree), |text, typed| {
+        push_types_as(text, form, typed)
+    })
 }
 
 fn push_types_as(
     text: &mut String,
     form: Form,
-    tree: &Grammar,
-    types: &Types,
+    typed: &(Grammar, Types),
 ) -> Result<(), AllocError> {
+    let (tree, types) = typed;
     match form {
         Form::Lines | Form::Told => push_types(text, tree, types),
         Form::Whole => push_whole_types(text, types),
@@ -162,10 +177,9 @@ fn push_normalized(
     form: Form,
     answer: NormResult<repr::Grammar>,
 ) -> Result<(), AllocError> {
-    match answer {
-        Ok(lowered) => push_lowered_as(text, form, &lowered),
-        Err(failure) => push_failure(text, form, &failure),
-    }
+    push_answer_of(text, form, answer, |text, lowered| {
+        push_lowered_as(text, form, lowered)
+    })
 }
 
 fn push_lowered_as(
@@ -185,10 +199,9 @@ fn push_copied(
     form: Form,
     answer: NormResult<repr::Grammar>,
 ) -> Result<(), AllocError> {
-    match answer {
-        Ok(lowered) => push_lowered_copy_or_memory(alloc, text, &lowered),
-        Err(failure) => push_failure(text, form, &failure),
-    }
+    push_answer_of(text, form, answer, |text, lowered| {
+        push_lowered_copy_or_memory(alloc, text, lowered)
+    })
 }
 
 fn push_lowered_copy_or_memory(
@@ -202,15 +215,13 @@ fn push_lowered_copy_or_memory(
     }
 }
 
-fn push_copy(
-    text: &mut String,
-    form: Form,
-    copy: Result<Grammar, NoMemory>,
-) -> Result<(), AllocError> {
-    match copy {
-        Ok(tree) => push_tree_as(text, form, &tree),
-        Err(_) => text.push_str("memory\n"),
-    }
+fn push_copy(text: &mut String, form: Form, tree: &Grammar) -> Result<(), AllocError> {
+    push_or(
+        text,
+        tree.clone(),
+        |text, copy| push_tree_as(text, form, copy),
+        "memory\n",
+    )
 }
 
 fn push_texts_or_memory(

@@ -5,6 +5,7 @@ ghost use Rattle.lalrpop_norm_theory.specs.Rounds.{IsDistinct};
 ghost use Rattle.lalrpop_norm_tree.specs.Items.{grammar_view};
 
 use crate::call::Pass;
+use crate::shown::{beside, kept};
 use lalrpop_norm::normalize::cond_comp::remove_disabled_decls;
 use lalrpop_norm::normalize::precedence::expand_precedence;
 use lalrpop_norm::normalize::prevalidate::validate;
@@ -12,7 +13,9 @@ use lalrpop_norm::normalize::resolve::{check_globals, resolve};
 use lalrpop_norm::normalize::{NormResult, Session};
 use lalrpop_norm_expand::macro_expand::expand_macros;
 use lalrpop_norm_precedence::precedence::expand_levels;
+use lalrpop_norm_repr::grammar::repr::Types;
 use lalrpop_norm_tree::grammar::parse_tree::Grammar;
+use lalrpop_norm_tyinfer::tyinfer::infer_types;
 use lnorm_values::later::with_later_parts;
 use std::alloc::Global;
 
@@ -51,17 +54,24 @@ pub(crate) fn tree_after(
 }
 
 fn validated(alloc: Global, tree: Grammar) -> NormResult<Grammar> {
-    validate(alloc, &tree)?;
-    Ok(tree)
+    let done = validate(alloc, &tree);
+    kept(tree, done)
 }
 
 fn with_checked_globals(alloc: Global, tree: Grammar) -> NormResult<Grammar> {
-    check_globals(alloc, &tree)?;
-    Ok(tree)
+    let done = check_globals(alloc, &tree);
+    kept(tree, done)
+}
+
+/// The tree with its names resolved, and the types of its rules.
+pub(crate) fn typed(alloc: Global, tree: Grammar) -> NormResult<(Grammar, Types)> {
+    let tree = resolved(alloc, tree)?;
+    let types = infer_types(alloc, &tree);
+    beside(tree, types)
 }
 
 /// The tree with its names resolved. No two of its rules have one name then.
-pub(crate) fn resolved(alloc: Global, tree: Grammar) -> NormResult<Grammar>
+fn resolved(alloc: Global, tree: Grammar) -> NormResult<Grammar>
     ensures { IfOk result (λ g. IsDistinct (rule_names (grammar_view g))) }
 {
     let tree = resolve(alloc, tree)?;

@@ -13,8 +13,17 @@ pub(crate) fn push_run(
     let mut output = Vec::new(alloc);
     let mut faults = Vec::new(alloc);
     let status = run(alloc, words, &mut input, &mut output, &mut faults);
-    push_bytes(text, &output)?;
-    push_fault_line(text, &faults)?;
+    push_ended(text, status, &output, &faults)
+}
+
+fn push_ended(
+    text: &mut String,
+    status: u8,
+    output: &[u8],
+    faults: &[u8],
+) -> Result<(), AllocError> {
+    push_bytes(text, output)?;
+    push_fault_line(text, faults)?;
     write!(text, "status {status}\n")
 }
 
