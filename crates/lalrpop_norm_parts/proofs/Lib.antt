@@ -7,6 +7,7 @@ pub mod KnownTextLemmas
 pub mod LoweredTextLemmas
 pub mod MapLaws
 pub mod PatternLemmas
+pub mod PatternSeen
 pub mod PatternViews
 pub mod PatternWalks
 pub mod ReprTextLemmas
