@@ -1,8 +1,7 @@
 -- What types and inference see of internal tokens: their entries, and not their automaton.
-use Rattle.std.proofs.Common.{◌≡◌, ℕ, zero, suc, List, [], ◌∷◌, ◌++◌, length, map, filter, flat_map, Option, Some, None, option_map, option_and_then, unwrap_or, codes, is_none, refl, ap, ◌∙◌}
+use Rattle.std.proofs.Common.{◌≡◌, ℕ, zero, suc, List, [], ◌∷◌, ◌++◌, length, map, filter, flat_map, Option, Some, None, option_map, option_and_then, unwrap_or, codes, is_none, refl, ap, sym, ◌∙◌}
 use Rattle.lalrpop_norm_parts.specs.declared.names.TerminalString.{TerminalString}
 use Rattle.lalrpop_norm_parts.specs.declared.names.TerminalString.TheVariants.{Error}
-use Rattle.lalrpop_norm_tree.specs.declared.items.MatchEntry.{MatchEntry}
 use Rattle.lalrpop_norm_parts.specs.Accessors.{path_of}
 use Rattle.lalrpop_norm_tree.specs.Accessors.{or_else, first_of, enum_token_of, extern_token_of, intern_token_of, type_named}
 use Rattle.lalrpop_norm_tree.specs.Items.{AlternativeData, RuleData, AssociatedTypeData, EnumTokenData, ExternTokenData, InternTokenData, ItemData, GrammarData, intern_item}
@@ -14,7 +13,7 @@ use Rattle.lalrpop_norm_tree.specs.Symbols.{Kind, Part, group, ambiguous_id, ter
 use Rattle.lalrpop_norm_tree.specs.Types.{TypeData, TypesData, MaybeType, tuple, slice, nominal, reference, trait_object, of_lifetime, id, of_symbol, function, no_types, type_and, no_type, returns}
 use Rattle.lalrpop_norm_model.specs.PlainRules.{all_rules, rule_of_item}
 use Rattle.lalrpop_norm_model.specs.Entries.{user_names}
-use Rattle.lalrpop_norm_model.specs.TerminalTypes.{input_str, extern_enum, first_extern, declared_under, entries_of, location_with, declared_location, token_with, token_type, error_type, recovery_type, rows_with, terminal_rows, row_of, terminal_type}
+use Rattle.lalrpop_norm_model.specs.TerminalTypes.{input_str, extern_enum, first_extern, declared_under, named_with, named_terminals, location_with, declared_location, token_with, token_type, error_type, recovery_type, rows_with, terminal_rows, row_of, terminal_type}
 use Rattle.lalrpop_norm_model.specs.TypeRelation.{associated_in, associated_of, TypeClause, makes, locates, alternative_clause, type_clauses}
 use Rattle.lalrpop_norm_model.specs.TypeTables.{Table, kind_value, part_value, path_value, both, type_value, types_value, return_value, clause_value}
 use Rattle.lalrpop_norm_model.specs.TypeRounds.{TypeRow, table_of, first_value, taken, visit, visits, round, type_rounds}
@@ -149,13 +148,14 @@ module _ (t u : InternTokenData) (entries : t.match_entries ≡ u.match_entries)
   first_beside f e [] = ap (λ v. or_else v None) e
   first_beside f e (x ∷ items) = ap (λ v. or_else (f x) v) (first_beside f e items)
 
-  entries_after : (o v w : Option InternTokenData) → entries_of v ≡ entries_of w → entries_of (or_else o v) ≡ entries_of (or_else o w)
-  entries_after None v w e = e
-  entries_after (Some x) v w e = refl
+  or_both : {B : Type 0} (o p q : Option B) → or_else o (or_else p q) ≡ or_else (or_else o p) q
+  or_both None p q = refl
+  or_both (Some x) p q = refl
 
-  entries_beside : (items : List ItemData) → entries_of (first_of intern_token_of (items ++ intern_item t ∷ [])) ≡ entries_of (first_of intern_token_of (items ++ intern_item u ∷ []))
-  entries_beside [] = entries
-  entries_beside (x ∷ items) = entries_after (intern_token_of x) (first_of intern_token_of (items ++ intern_item t ∷ [])) (first_of intern_token_of (items ++ intern_item u ∷ [])) (entries_beside items)
+  interns_after : (v : InternTokenData) (items : List ItemData) → first_of intern_token_of (items ++ intern_item v ∷ []) ≡ or_else (first_of intern_token_of items) (Some v)
+  interns_after v [] = refl
+  interns_after v (x ∷ items) =
+      ap (or_else (intern_token_of x)) (interns_after v items) ∙ or_both (intern_token_of x) (first_of intern_token_of items) (Some v)
 
   module _ (g : GrammarData) where
     enum_beside : extern_enum (with_tokens t g) ≡ extern_enum (with_tokens u g)
@@ -193,9 +193,19 @@ module _ (t u : InternTokenData) (entries : t.match_entries ≡ u.match_entries)
         ∙ (ap (λ x. recovery_of (declared_location (with_tokens u g)) x (error_type (with_tokens t g))) token_beside
         ∙ ap (λ x. recovery_of (declared_location (with_tokens u g)) (token_type (with_tokens u g)) x) error_beside)
 
+    named_case : (o : Option InternTokenData) → named_with (or_else o (Some t)) (with_tokens t g) ≡ named_with (or_else o (Some u)) (with_tokens u g)
+    named_case None = ap user_names entries
+    named_case (Some x) = refl
+
+    named_beside : named_terminals (with_tokens t g) ≡ named_terminals (with_tokens u g)
+    named_beside =
+        ap (λ o. named_with o (with_tokens t g)) (interns_after t g.items)
+        ∙ (named_case (first_of intern_token_of g.items)
+        ∙ sym (ap (λ o. named_with o (with_tokens u g)) (interns_after u g.items)))
+
     rows_case : (o : Option EnumTokenData) → rows_with o (with_tokens t g) ≡ rows_with o (with_tokens u g)
     rows_case (Some e) = refl
-    rows_case None = ap (λ (es : List MatchEntry). map (λ (x : TerminalString). (x, input_str)) (user_names es)) (entries_beside g.items)
+    rows_case None = ap (λ (ts : List TerminalString). map (λ (x : TerminalString). (x, input_str)) ts) named_beside
 
     rows_beside : terminal_rows (with_tokens t g) ≡ terminal_rows (with_tokens u g)
     rows_beside =

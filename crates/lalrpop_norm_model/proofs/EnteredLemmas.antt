@@ -1,24 +1,22 @@
 -- A grammar with its entries has the rules that it had, and is expanded if it was.
-use Rattle.std.proofs.Common.{◌≡◌, ◌⊎◌, ◌∙◌, append-nil, ℕ, ◌<◌, ◌≤◌, Bool, true, false, List, [], ◌∷◌, ◌++◌, length, map, Option, Some, None, inl, inr, refl, sym, ap, subst, arith}
+use Rattle.std.proofs.Common.{◌≡◌, ◌⊎◌, ◌∙◌, append-nil, ℕ, ◌<◌, ◌≤◌, false, List, [], ◌∷◌, ◌++◌, length, map, Option, Some, None, inl, inr, refl, sym, ap, subst, arith}
 use Rattle.std.specs.Prelude.{flat_map, option_to_list}
 use Rattle.std.proofs.lemmas.Grind.{flat_map-append}
 use Rattle.lalrpop_norm_parts.specs.declared.names.TerminalString.{TerminalString}
-use Rattle.lalrpop_norm_parts.specs.declared.names.TerminalString.TheVariants.{Literal, Error}
-use Rattle.lalrpop_norm_parts.specs.Bounds.{WhereClauseData}
+use Rattle.lalrpop_norm_parts.specs.declared.names.TerminalString.TheVariants.{Error}
 use Rattle.lalrpop_norm_tree.specs.declared.items.MatchEntry.{MatchEntry}
 use Rattle.lalrpop_norm_tree.specs.Accessors.{or_else, first_of, enum_token_of, match_token_of, intern_token_of}
-use Rattle.lalrpop_norm_tree.specs.Items.{AlternativeData, RuleData, EnumTokenData, MatchTokenData, InternTokenData, ItemData, GrammarData, match_item, extern_item, intern_item, rule_item, use_item}
+use Rattle.lalrpop_norm_tree.specs.Items.{RuleData, EnumTokenData, MatchTokenData, InternTokenData, ItemData, GrammarData, match_item, extern_item, intern_item, rule_item, use_item}
 use Rattle.lalrpop_norm_tree.specs.LoweredTypes.{holds_symbol}
 use Rattle.lalrpop_norm_tree.specs.Types.{TypeData, ParameterData}
 use Rattle.lalrpop_norm_theory.specs.Rounds.{In, IsDistinct}
 use Rattle.lalrpop_norm_theory.proofs.RoundsLemmas.{in_left, in_right, in_cases, in_flat, of_flat}
 use Rattle.lalrpop_norm_model.specs.PlainRules.{all_rules, rule_of_item}
-use Rattle.lalrpop_norm_model.specs.Terminals.{terminals_used}
 use Rattle.lalrpop_norm_model.specs.Entries.{match_block, group_entries, entries_in, match_entries, terminal_named, user_names, IsEntry, written, added, AreEntries}
 use Rattle.lalrpop_norm_model.specs.TerminalTypes.{extern_enum, intern_entries, entries_of}
 use Rattle.lalrpop_norm_model.specs.TypeRelation.{IsRule}
-use Rattle.lalrpop_norm_model.specs.CheckedTokens.{input_parameter, with_tokens, HasEntries, IsEnteredWith, IsEntered}
-use Rattle.lalrpop_norm_model.specs.Expanded.{declared_symbols, rule_names, names_used_by, enum_in, match_in, intern_in, enums, match_blocks, interns, converted, mapped_terminals, types_in_clause, types_in_extern, types_beside_rules, terminals_converted, IsExpanded}
+use Rattle.lalrpop_norm_model.specs.CheckedTokens.{input_parameter, with_tokens, IsEnteredWith}
+use Rattle.lalrpop_norm_model.specs.Expanded.{rule_names, names_used_by, enum_in, match_in, intern_in, enums, match_blocks, interns, mapped_terminals, types_in_clause, types_in_extern, types_beside_rules, terminals_converted, IsExpanded}
 use Rattle.lalrpop_norm_model.specs.Laws.{EnteredAreExpanded}
 use Rattle.lalrpop_norm_model.proofs.LevelLemmas.{of_map}
 

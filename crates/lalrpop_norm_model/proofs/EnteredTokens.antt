@@ -1,6 +1,6 @@
 -- Where the pass on tokens finds nothing wrong, the terminals of a grammar with its entries are distinct, and each one used is one of them.
-use Rattle.std.proofs.Common.{append_assoc, ◌≡◌, ◌∙◌, ℕ, Bool, true, false, not, ◌||◌, List, [], ◌∷◌, ◌++◌, map, Option, Some, None, IsSome, inl, inr, refl, sym, ap, subst}
-use Rattle.std.specs.Prelude.{flat_map, filter, is_none, option_map, if◌then◌else◌}
+use Rattle.std.proofs.Common.{append_assoc, ◌≡◌, ◌∙◌, ℕ, Bool, true, false, not, ◌||◌, List, [], ◌∷◌, ◌++◌, Option, Some, None, IsSome, inl, inr, refl, sym, ap, subst}
+use Rattle.std.specs.Prelude.{flat_map, filter, is_none, option_map}
 use Rattle.std.specs.List.{list_any}
 use Rattle.std.specs.List.Sorted.{IsStrictlySortedBy}
 use Rattle.std.specs.declared.cmp.Ordering.TheVariants.{Less}
@@ -27,12 +27,12 @@ use Rattle.lalrpop_norm_model.specs.Enabled.{enabled_enum, enabled_extern}
 use Rattle.lalrpop_norm_model.specs.PlainRules.{all_rules}
 use Rattle.lalrpop_norm_model.specs.Terminals.{same_terminal, same_literal, terminals_in, terminals_in_kind, terminals_in_parts, terminals_in_rule, terminals_used}
 use Rattle.lalrpop_norm_model.specs.Entries.{match_block, item_entries, group_entries, entries_in, match_entries, catch_all, precedence_of, entry_in, own_mapping, terminal_named, user_names, IsEntry, written, added, entry_cmp, AreEntries}
-use Rattle.lalrpop_norm_model.specs.TerminalTypes.{extern_enum, intern_entries}
+use Rattle.lalrpop_norm_model.specs.TerminalTypes.{extern_enum}
 use Rattle.lalrpop_norm_model.specs.TypeRelation.{IsRule}
 use Rattle.lalrpop_norm_model.specs.TypeTables.{Table}
-use Rattle.lalrpop_norm_model.specs.TokenFaults.{each_after, literals_of, names_mapped_by, match_item_faults, items_of, match_items, repeated_conversion_faults, places_in, places_in_kind, places_in_parts, places_used, has_entry, has_conversion, input_faults, checked_enum_faults, entry_faults, token_faults_with, token_faults}
-use Rattle.lalrpop_norm_model.specs.CheckedTokens.{with_tokens, HasEntries, IsEnteredWith, IsEntered}
-use Rattle.lalrpop_norm_model.specs.Expanded.{is_plain_terminal, is_plain_kind, is_plain, are_plain, interns, terminals_converted, terminals_with, terminals_of, IsAlternative, IsExpanded, IsTyped}
+use Rattle.lalrpop_norm_model.specs.TokenFaults.{each_after, literals_of, names_mapped_by, match_item_faults, items_of, match_items, repeated_conversion_faults, places_in, places_in_kind, places_in_parts, places_used, has_entry, has_conversion, input_faults, checked_enum_faults, entry_faults, token_faults_with}
+use Rattle.lalrpop_norm_model.specs.CheckedTokens.{with_tokens, IsEnteredWith}
+use Rattle.lalrpop_norm_model.specs.Expanded.{is_plain_kind, is_plain, are_plain, interns, terminals_converted, terminals_with, terminals_of, IsExpanded, IsTyped}
 use Rattle.lalrpop_norm_model.specs.Laws.{EnteredAreTyped}
 use Rattle.lalrpop_norm_model.proofs.EntryLemmas.{rises_above, rest_rises, one_below}
 use Rattle.lalrpop_norm_model.proofs.EnteredLemmas.{rules_beside, enum_beside, entries_beside}

@@ -1,16 +1,15 @@
 -- What inference and lowering see of a grammar with its entries is what they see of these entries without an automaton.
-use Rattle.std.proofs.Common.{◌≡◌, ℕ, List, ◌++◌, length, map, filter, flat_map, Option, Some, None, refl, sym, ap, subst}
+use Rattle.std.proofs.Common.{◌≡◌, ℕ, List, ◌++◌, length, filter, flat_map, Option, Some, None, refl, sym, ap, subst}
 use Rattle.std.specs.List.{enumerate_from}
 use Rattle.lalrpop_norm_tree.specs.Accessors.{is_public}
 use Rattle.lalrpop_norm_tree.specs.Items.{AlternativeData, RuleData, EnumTokenData, InternTokenData, GrammarData}
 use Rattle.lalrpop_norm_faults.specs.Faults.{Fault}
-use Rattle.lalrpop_norm_model.specs.PlainRules.{all_rules}
 use Rattle.lalrpop_norm_model.specs.TerminalTypes.{extern_enum}
 use Rattle.lalrpop_norm_model.specs.TypeTables.{Table}
 use Rattle.lalrpop_norm_model.specs.InferenceFaults.{inferred_table, inference_faults}
 use Rattle.lalrpop_norm_model.specs.LoweringFaults.{start_faults, action_number_faults, code_faults, lowering_faults}
-use Rattle.lalrpop_norm_model.specs.CheckedTokens.{with_tokens, HasEntries, IsEnteredWith, IsEntered}
-use Rattle.lalrpop_norm_model.specs.EnteredGrammars.{tokens_without_automaton, entered_with, entered_grammar}
+use Rattle.lalrpop_norm_model.specs.CheckedTokens.{with_tokens, IsEnteredWith}
+use Rattle.lalrpop_norm_model.specs.EnteredGrammars.{tokens_without_automaton, entered_with}
 use Rattle.lalrpop_norm_model.specs.Laws.{EntriesDecideTypes}
 use Rattle.lalrpop_norm_model.proofs.AutomatonLemmas.{look_same, automaton_unseen, table_same}
 use Rattle.lalrpop_norm_model.proofs.EntryLists.{entries_are_one_list}

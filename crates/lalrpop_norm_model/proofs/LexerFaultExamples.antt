@@ -1,14 +1,17 @@
 -- Where lexers may refuse small grammars, and what is seen of a grammar for which none makes an automaton.
 use Rattle.std.proofs.Common.{◌≡◌, ℕ, List, [], ◌∷◌, Some, None, codes, inl, refl, ap, arith}
+use Rattle.std.specs.List.Sorted.{IsStrictlySortedBy}
 use Rattle.lalrpop_norm_parts.specs.declared.names.TerminalLiteral.{TerminalLiteral}
 use Rattle.lalrpop_norm_parts.specs.declared.names.TerminalLiteral.TheVariants.{Quoted, Regex}
+use Rattle.lalrpop_norm_tree.specs.declared.items.MatchEntry.{MatchEntry}
 use Rattle.lalrpop_norm_tree.specs.declared.items.MatchItem.TheVariants.{Unmapped}
 use Rattle.lalrpop_norm_tree.specs.declared.items.MatchMapping.TheVariants.{Terminal}
 use Rattle.lalrpop_norm_tree.specs.Symbols.{Kind}
 use Rattle.lalrpop_norm_tree.specs.Items.{InternTokenData, GrammarData}
 use Rattle.lalrpop_norm_faults.specs.Faults.{Fault, MayBeTold}
 use Rattle.lalrpop_norm_faults.specs.declared.kind.FaultKind.TheVariants.{BadRegex, RegexFeature, Ambiguity, NoMapping}
-use Rattle.lalrpop_norm_model.specs.Entries.{own_mapping, written}
+use Rattle.lalrpop_norm_theory.specs.Rounds.{In}
+use Rattle.lalrpop_norm_model.specs.Entries.{own_mapping, IsEntry, written, added, entry_cmp, AreEntries}
 use Rattle.lalrpop_norm_model.specs.Lexers.{look_around, Lexer}
 use Rattle.lalrpop_norm_model.specs.CheckedTokens.{with_tokens, IsEntered, IsChecked}
 use Rattle.lalrpop_norm_model.specs.InferenceFaults.{inference_faults}
@@ -81,14 +84,27 @@ feature_there = by_feature (place 1) (record {
 abbrev open_group : List Kind → GrammarData
 open_group uses = of_rules (match_tokens ((Unmapped (Regex (codes "(")) (place 1) ∷ []) ∷ []) ∷ []) (a_rule (codes "S") None (plain uses ∷ []) ∷ [])
 
+abbrev open_entry : MatchEntry
+open_entry = entry 2 (Regex (codes "(")) (own_mapping (Regex (codes "(")))
+
+open_given : (uses : List Kind) {e : MatchEntry} → IsEntry (open_group uses) e → In e (open_entry ∷ [])
+open_given uses (written e i) = i
+open_given uses (added l precedence used bare lets) = absurd cc
+
+open_rising : IsStrictlySortedBy entry_cmp (open_entry ∷ [])
+unfolding IsStrictlySortedBy
+open_rising = (tt, tt)
+
+open_are : (uses : List Kind) → AreEntries (open_group uses) (open_entry ∷ [])
+open_are uses = record { all = λ e. (λ i. written e i, λ h. open_given uses h); rising = open_rising }
+
 bad_text : (uses : List Kind) → LexerRefuses strict (open_group uses) (BadRegex, place 1)
 bad_text uses = by_text (place 1) (record {
-  entry = entry 2 (Regex (codes "(")) (own_mapping (Regex (codes "(")));
-  text = codes "(";
-  is_entry = written (entry 2 (Regex (codes "(")) (own_mapping (Regex (codes "(")))) (inl refl);
-  literal = refl;
-  bad = refl;
-  place = refl;
+  entries = open_entry ∷ [];
+  index = 0;
+  all_entries = open_are uses;
+  first = record { entry = open_entry; text = codes "("; at_index = refl; literal = refl; bad = refl; regexes = []; before = tt };
+  place = record { entry = open_entry; at_index = refl; place = refl };
 })
 
 -- it may be told where nothing comes before it

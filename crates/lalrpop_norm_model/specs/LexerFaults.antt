@@ -1,5 +1,5 @@
 -- Where a lexer may refuse, and what the pass on tokens looks for, the lexer's refusals among the rest.
-use Rattle.std.specs.Prelude.{◌≡◌, ℕ, ◌||◌, List, ◌∷◌, ◌++◌, map, Option, Some, None, is_none, slice_get}
+use Rattle.std.specs.Prelude.{◌≡◌, ℕ, ◌||◌, List, ◌∷◌, ◌++◌, map, Option, Some, None, is_none, slice_get, take}
 use Rattle.std.specs.Prelude.{if◌then◌else◌}
 use Rattle.std.specs.List.{list_any}
 use Rattle.lalrpop_norm_parts.specs.declared.names.Span.{Span}
@@ -14,7 +14,7 @@ use Rattle.lalrpop_norm_tree.specs.Items.{EnumTokenData, GrammarData}
 use Rattle.lalrpop_norm_faults.specs.Faults.{Fault, Finding, sure, maybe}
 use Rattle.lalrpop_norm_faults.specs.declared.kind.FaultKind.TheVariants.{BadRegex, RegexFeature, Ambiguity}
 use Rattle.lalrpop_norm_model.specs.Terminals.{same_literal, same_terminal}
-use Rattle.lalrpop_norm_model.specs.Entries.{match_entries, catch_all, user_names, AreEntries, IsEntry}
+use Rattle.lalrpop_norm_model.specs.Entries.{match_entries, catch_all, user_names, AreEntries}
 use Rattle.lalrpop_norm_model.specs.TerminalTypes.{extern_enum}
 use Rattle.lalrpop_norm_model.specs.Lexers.{Feature, Lexer, HasFeatureAt, IsAmbiguity}
 use Rattle.lalrpop_norm_model.specs.CheckedTokens.{AreRegexes, precedences}
@@ -41,20 +41,29 @@ literal_at g l = or_else (added_at g l) (first_of (item_place_if l) (match_items
 
 -- ---- where a lexer may refuse
 
--- the text of a regular expression among the entries is no pattern
-pub record IsBadAt {R : Type 0} (l : Lexer R) (g : GrammarData) (s : Span) : Type 0 where
-  pub entry : MatchEntry
-  pub text : List ℕ
-  pub is_entry : IsEntry g entry
-  pub literal : entry.match_literal ≡ Regex text
-  pub bad : l.IsBad text
-  pub place : literal_at g (Regex text) ≡ Some s
-
 -- the literal of the entry at that index stands there
 pub record StandsAt (g : GrammarData) (entries : List MatchEntry) (index : ℕ) (s : Span) : Type 0 where
   pub entry : MatchEntry
   pub at_index : slice_get entries index ≡ Some entry
   pub place : literal_at g entry.match_literal ≡ Some s
+
+-- The literal of the entry at that index is a bad pattern, and each entry before it has a regex.
+pub record IsFirstBad {R : Type 0} (l : Lexer R) (entries : List MatchEntry) (index : ℕ) : Type 0 where
+  pub entry : MatchEntry
+  pub text : List ℕ
+  pub at_index : slice_get entries index ≡ Some entry
+  pub literal : entry.match_literal ≡ Regex text
+  pub bad : l.IsBad text
+  pub regexes : List R
+  pub before : AreRegexes l (take index entries) regexes
+
+-- the first of the entries, in their order, whose text is no pattern
+pub record IsBadAt {R : Type 0} (l : Lexer R) (g : GrammarData) (s : Span) : Type 0 where
+  pub entries : List MatchEntry
+  pub index : ℕ
+  pub all_entries : AreEntries g entries
+  pub first : IsFirstBad l entries index
+  pub place : StandsAt g entries index s
 
 -- the regex of an entry has a feature that is not supported
 pub record HasFeatureThere {R : Type 0} (l : Lexer R) (g : GrammarData) (s : Span) : Type 0 where

@@ -60,16 +60,3 @@ abbrev pub KeepsBuilding : {R : Type 0} → Lexer R → List R → List ℕ → 
 KeepsBuilding l rs precedences (automaton code) = l.IsBuilt rs precedences code
 KeepsBuilding l rs precedences (unsupported i f) = HasFeatureAt l rs i f
 KeepsBuilding l rs precedences (ambiguous i j) = IsAmbiguity l rs precedences i j
-
--- Which answers the calls of a lexer may give.
-pub record Calls (R : Type 0) : Type 1 where
-  pub ReadsLiteral : List ℕ → Read R → Type 0
-  pub ReadsPattern : List ℕ → Read R → Type 0
-  pub Builds : List R → List ℕ → Built → Type 0
-
--- The laws of a lexer: each answer of its calls keeps to its relations. Building is asked for with as many precedences as regexes.
-pub record KeepsLaws {R : Type 0} (l : Lexer R) (calls : Calls R) : Type 0 where
-  pub literals : (text : List ℕ) (answer : Read R) → calls.ReadsLiteral text answer → KeepsLiteral l text answer
-  pub patterns : (text : List ℕ) (answer : Read R) → calls.ReadsPattern text answer → KeepsPattern l text answer
-  pub building : (rs : List R) (precedences : List ℕ) (answer : Built) → length rs ≡ length precedences →
-      calls.Builds rs precedences answer → KeepsBuilding l rs precedences answer

@@ -3,7 +3,7 @@ use Rattle.std.specs.Prelude.{ℕ, false, List, [], ◌∷◌, ◌++◌, map, fl
 use Rattle.std.specs.Prelude.{option_and_then, unwrap_or, codes, if◌then◌else◌}
 use Rattle.lalrpop_norm_parts.specs.declared.names.Lifetime.{Lifetime}
 use Rattle.lalrpop_norm_parts.specs.declared.names.TerminalString.{TerminalString}
-use Rattle.lalrpop_norm_parts.specs.declared.names.TerminalString.TheVariants.{Error}
+use Rattle.lalrpop_norm_parts.specs.declared.names.TerminalString.TheVariants.{Literal, Bare, Error}
 use Rattle.lalrpop_norm_tree.specs.declared.items.MatchEntry.{MatchEntry}
 use Rattle.lalrpop_norm_parts.specs.Accessors.{path_of}
 use Rattle.lalrpop_norm_tree.specs.Accessors.{first_of, enum_token_of, extern_token_of, intern_token_of, type_named}
@@ -14,8 +14,8 @@ pub use Rattle.lalrpop_norm_parts.specs.MappedPatterns.{chosen_in_kind, chosen_i
 use Rattle.lalrpop_norm_parts.specs.Reprs as lowered
 use Rattle.lalrpop_norm_parts.specs.Reprs.{ReprData, nominal, reference, of_lifetime, no_reprs, repr_and, reprs_of, named_repr}
 use Rattle.lalrpop_norm_parts.specs.Reprs.{unit_type, static_str}
-use Rattle.lalrpop_norm_model.specs.Entries.{user_names}
-use Rattle.lalrpop_norm_model.specs.Terminals.{same_terminal}
+use Rattle.lalrpop_norm_model.specs.Entries.{user_names, match_entries, catch_all}
+use Rattle.lalrpop_norm_model.specs.Terminals.{same_terminal, terminals_used}
 
 -- ---- types with a name
 
@@ -104,10 +104,25 @@ entries_of (Some t) = t.match_entries
 abbrev pub intern_entries : GrammarData → List MatchEntry
 intern_entries g = entries_of (first_of intern_token_of g.items)
 
+-- a literal that a catch-all of that precedence lets in
+abbrev pub let_in : Option ℕ → TerminalString → List TerminalString
+let_in (Some precedence) (Literal l) = Literal l ∷ []
+let_in None (Literal l) = []
+let_in o (Bare a) = []
+let_in o Error = []
+
+abbrev pub named_with : Option InternTokenData → GrammarData → List TerminalString
+named_with (Some t) g = user_names t.match_entries
+named_with None g = user_names (match_entries g) ++ flat_map (let_in (catch_all g)) (terminals_used g)
+
+-- the terminals that the entries of the internal tokens name; where there are no internal tokens yet, those that the grammar's entries will name
+abbrev pub named_terminals : GrammarData → List TerminalString
+named_terminals g = named_with (first_of intern_token_of g.items) g
+
 -- with an extern enum the conversions' rows; else `&'input str` for each terminal that an entry names
 abbrev pub rows_with : Option EnumTokenData → GrammarData → List TerminalRow
 rows_with (Some e) g = flat_map conversion_row e.conversions
-rows_with None g = map (λ t. (t, input_str)) (user_names (intern_entries g))
+rows_with None g = map (λ t. (t, input_str)) (named_terminals g)
 
 -- the terminals with a type of their own: the error terminal, and those of the grammar
 abbrev pub terminal_rows : GrammarData → List TerminalRow
