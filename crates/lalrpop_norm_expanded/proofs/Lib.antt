@@ -1,0 +1,5 @@
+pub mod ListTests
+pub mod PlainLemmas
+pub mod TokenLemmas
+pub mod TypeLemmas
+pub mod WholeLemmas

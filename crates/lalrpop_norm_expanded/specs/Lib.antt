@@ -1,0 +1,4 @@
+pub mod Plain
+pub mod Tokens
+pub mod Types
+pub mod Whole
