@@ -1,13 +1,9 @@
 -- The enabled grammar in two steps, as the code goes: whole items first, then the parts of each item.
-use Rattle.std.specs.Prelude.{Bool, true, List, map, filter}
-use Rattle.lalrpop_norm_tree.specs.Items.{AlternativeData, ConversionData, ItemData, match_item, extern_item, intern_item}
+use Rattle.std.specs.Prelude.{Bool, true, List, filter}
+use Rattle.lalrpop_norm_tree.specs.Items.{ConversionData, ItemData, match_item, extern_item, intern_item}
 use Rattle.lalrpop_norm_tree.specs.Items.{rule_item, use_item}
 use Rattle.lalrpop_norm_model.specs.Features.{Features, is_active}
-use Rattle.lalrpop_norm_model.specs.Enabled.{if_active, present, enabled_rule, enabled_extern}
-
--- the alternatives that are active
-abbrev pub active_alternatives : Features → List AlternativeData → List AlternativeData
-active_alternatives fs xs = present (map (if_active fs) xs)
+use Rattle.lalrpop_norm_model.specs.Enabled.{enabled_rule, enabled_extern}
 
 -- the conversions that are active
 abbrev pub active_conversions : Features → List ConversionData → List ConversionData

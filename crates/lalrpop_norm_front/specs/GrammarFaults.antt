@@ -28,7 +28,7 @@ use Rattle.lalrpop_norm_front.specs.declared.prevalidate.Blocks.{Blocks}
 use Rattle.lalrpop_norm_front.specs.SymbolFaults.{terminal_faults}
 use Rattle.lalrpop_norm_front.specs.AlternativeFaults.{alternative_faults}
 use Rattle.lalrpop_norm_front.specs.CfgFaults.{cfg_faults}
-use Rattle.lalrpop_norm_precedence.specs.LevelFaults.{level_faults}
+use Rattle.lalrpop_norm_alternatives.specs.LevelFaults.{level_faults}
 use Rattle.lalrpop_norm_front.specs.TypeFaults.{some_holds, clause_holds, pattern_holds}
 
 -- ---- rules

@@ -1,14 +1,13 @@
 //! Conditional compilation: what the features of a session leave of a grammar.
 ghost use Rattle.std.specs.Prelude.{◌≡◌, IsOkAnd, map, filter, option_map};
-ghost use Rattle.lalrpop_norm_tree.specs.Items.{alternative_view, conversion_view, enum_token_view, item_view, grammar_view};
+ghost use Rattle.lalrpop_norm_tree.specs.Items.{conversion_view, enum_token_view, item_view, grammar_view};
 ghost use Rattle.lalrpop_norm_model.specs.Enabled.{enabled_enum, enabled_grammar};
 ghost use Rattle.lalrpop_norm_util.specs.Sessions.{features_view};
-ghost use Rattle.lalrpop_norm_front.specs.EnabledItems.{active_alternatives, active_conversions, stays, trimmed};
+ghost use Rattle.lalrpop_norm_front.specs.EnabledItems.{active_conversions, stays, trimmed};
 
+use lalrpop_norm_alternatives::enabled::retain_alternatives;
 use lalrpop_norm_faults::NormResult;
-use lalrpop_norm_tree::grammar::parse_tree::{
-    Alternative, Conversion, EnumToken, Grammar, GrammarItem,
-};
+use lalrpop_norm_tree::grammar::parse_tree::{Conversion, EnumToken, Grammar, GrammarItem};
 use lalrpop_norm_util::Session;
 pub use lalrpop_norm_util::cfg_active;
 
@@ -56,12 +55,6 @@ fn trim<L>(session: &Session<L>, item: &mut GrammarItem)
         GrammarItem::ExternToken(token) => trim_enum(session, &mut token.enum_token),
         GrammarItem::MatchToken(_) | GrammarItem::InternToken(_) | GrammarItem::Use(_) => {}
     }
-}
-
-fn retain_alternatives<L>(session: &Session<L>, alternatives: &mut Vec<Alternative>)
-    ensures { map alternative_view alternatives.new.items ≡ active_alternatives (features_view session.now.features) (map alternative_view alternatives.old.items) }
-{
-    alternatives.retain(|alternative| cfg_active(session, &alternative.attributes));
 }
 
 fn trim_enum<L>(session: &Session<L>, tokens: &mut Option<EnumToken>)

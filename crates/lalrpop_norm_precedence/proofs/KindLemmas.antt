@@ -9,8 +9,9 @@ use Rattle.lalrpop_norm_model.specs.Levels.{Side, left, right, neither, every, i
 use Rattle.lalrpop_norm_model.specs.Occurrences.{count_part, count_parts, bound_at, own_bound}
 use Rattle.lalrpop_norm_model.specs.Grammars.{is_nil}
 use Rattle.lalrpop_norm_model.specs.LevelRules.{without_first, leveled_kind, leveled_part, leveled_parts, is_own}
-use Rattle.lalrpop_norm_precedence.specs.declared.precedence.replace.Direction.TheVariants.{Forward}
-use Rattle.lalrpop_norm_precedence.specs.Substituted.{is_target, substituted_kind, substituted_part, substituted_parts, occurrence, met_kind}
+use Rattle.lalrpop_norm_alternatives.specs.declared.occurrences.Direction.TheVariants.{Forward}
+use Rattle.lalrpop_norm_alternatives.specs.Substitutions.{occurrence, met_kind, plan_by_side, direction_by_side}
+use Rattle.lalrpop_norm_precedence.specs.Substituted.{is_target, substituted_kind, substituted_part, substituted_parts}
 use Rattle.lalrpop_norm_precedence.specs.Made.{kind_by_side, less_first}
 use Rattle.lalrpop_norm_precedence.proofs.WalkLemmas.{parts_shift}
 
@@ -19,9 +20,17 @@ one_kind : (k : Kind) (i : ℕ) → occurrence (k, k) false i ≡ k
 one_kind k zero = refl
 one_kind k (suc i) = refl
 
-pub every_one : (own : List ℕ → Bool) (k : Kind) (ps : Parts) →
+every_one : (own : List ℕ → Bool) (k : Kind) (ps : Parts) →
     substituted_parts own (met_kind (k, k) Forward false) 0 0 ps ≡ substituted_parts own (λ before after. k) 0 0 ps
 every_one own k ps = parts_shift own (met_kind (k, k) Forward false) (λ b a. k) 0 0 (λ b a. one_kind k b) 0 0 0 0 (omega arith) (omega arith) ps
+
+-- what an occurrence becomes by the side, met one after another
+pub by_side : (own : List ℕ → Bool) (s : Side) (c b : Kind) (ps : Parts) →
+    substituted_parts own (met_kind (plan_by_side s c b) (direction_by_side s) false) 0 0 ps ≡ substituted_parts own (kind_by_side s c b) 0 0 ps
+by_side own left c b ps = refl
+by_side own right c b ps = refl
+by_side own neither c b ps = every_one own b ps
+by_side own every c b ps = every_one own c ps
 
 -- where none is an own occurrence
 mutual

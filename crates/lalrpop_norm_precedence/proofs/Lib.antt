@@ -1,11 +1,11 @@
 mod NumberLemmas
 mod ReadLemmas
 mod WalkLemmas
+mod ItemLemmas
 mod GroupLemmas
 mod KindLemmas
 mod RuleLemmas
 mod UnleveledLemmas
-mod FirstLemmas
 mod SeveralLemmas
 pub mod LevelNameLemmas
 pub mod LevelFaultLemmas

@@ -26,7 +26,7 @@ use Rattle.lalrpop_norm_model.proofs.ReadingLemmas.{parts_kept}
 use Rattle.lalrpop_norm_model.proofs.LevelLemmas.{of_map, of_present, place_has_level, previous_is, has_previous, rising_rises}
 use Rattle.lalrpop_norm_resolve.specs.NameFaults.{repeated_faults, repeated_argument_faults, condition_faults, nonterminal_faults, parts_name_faults, alternative_name_faults, rule_name_faults, resolve_faults}
 use Rattle.lalrpop_norm_resolve.proofs.ResolvedFaults.{both_none, faults_gone}
-use Rattle.lalrpop_norm_precedence.specs.LevelFaults.{grammar_level_faults}
+use Rattle.lalrpop_norm_alternatives.specs.LevelFaults.{grammar_level_faults}
 use Rattle.lalrpop_norm_precedence.specs.MacroLevels.{macro_item_faults}
 use Rattle.lalrpop_norm_precedence.specs.PrecedenceFaults.{unstepped_rule, step_faults, level_rule_faults, level_items_faults, leveled_faults, precedence_faults}
 use Rattle.lalrpop_norm_precedence.proofs.LevelNameLemmas.{sense_kept, level_sense}

@@ -11,7 +11,7 @@ use Rattle.lalrpop_norm_model.specs.Enabled.{all_places, present}
 use Rattle.lalrpop_norm_model.specs.Levels.{Leveled, first_named, has_level_attribute, has_levels, with_levels}
 use Rattle.lalrpop_norm_model.specs.Stated.{level_after}
 use Rattle.lalrpop_norm_model.proofs.HandedLemmas.{levels_are_handed_on}
-use Rattle.lalrpop_norm_precedence.specs.LevelFaults.{missing_level_faults, level_argument_faults, side_argument_faults, level_attribute_faults, lowest_level, lowest_faults, barred_faults, lowest_level_faults, level_faults}
+use Rattle.lalrpop_norm_alternatives.specs.LevelFaults.{missing_level_faults, level_argument_faults, side_argument_faults, level_attribute_faults, lowest_level, lowest_faults, barred_faults, lowest_level_faults, level_faults}
 use Rattle.lalrpop_norm_precedence.specs.Handed.{handed_faults}
 use Rattle.lalrpop_norm_precedence.proofs.ReadLemmas.{faults_handed}
 

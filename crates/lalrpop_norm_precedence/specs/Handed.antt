@@ -1,27 +1,16 @@
 -- Levels and sides handed on from alternative to alternative, as they are read.
-use Rattle.std.specs.Prelude.{ℕ, Bool, false, not, nat_eq, List, [], ◌∷◌, ◌++◌, Option, Some, unwrap_or}
-use Rattle.std.specs.List.{list_any}
+use Rattle.std.specs.Prelude.{ℕ, List, [], ◌∷◌, ◌++◌, Option, Some, unwrap_or}
 use Rattle.lalrpop_norm_tree.specs.Items.{AlternativeData}
 use Rattle.lalrpop_norm_faults.specs.Faults.{Fault}
 use Rattle.lalrpop_norm_model.specs.Levels.{Side, every}
 use Rattle.lalrpop_norm_model.specs.Stated.{level_after, side_after}
-use Rattle.lalrpop_norm_precedence.specs.declared.precedence.read.AlternativeLevel.{AlternativeLevel}
-use Rattle.lalrpop_norm_precedence.specs.Sides.{side_of}
-use Rattle.lalrpop_norm_precedence.specs.LevelFaults.{lowest_faults}
-
-abbrev pub alternative_level_view : AlternativeLevel → ℕ × Side
-alternative_level_view a = (a.level, side_of a.side)
+use Rattle.lalrpop_norm_alternatives.specs.LevelFaults.{lowest_faults}
 
 abbrev pub handed_levels : Option ℕ → Option Side → List AlternativeData → List (ℕ × Side)
 handed_levels level side [] = []
 handed_levels level side (a ∷ rest) =
     (unwrap_or (level_after level (Some a)) 0, unwrap_or (side_after side (Some a)) every)
     ∷ handed_levels (level_after level (Some a)) (side_after side (Some a)) rest
-
--- some number is another than the first
-abbrev pub differ : List ℕ → Bool
-differ [] = false
-differ (l ∷ ls) = list_any (λ m. not (nat_eq m l)) (l ∷ ls)
 
 abbrev pub handed_faults : ℕ → Option ℕ → List AlternativeData → List Fault
 handed_faults lowest level [] = []

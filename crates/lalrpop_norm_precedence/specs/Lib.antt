@@ -1,6 +1,3 @@
-pub mod Sides
-pub mod Attributes
-pub mod LevelFaults
 pub mod Handed
 pub mod Substituted
 pub mod Grouped

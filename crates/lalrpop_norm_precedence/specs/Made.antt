@@ -1,5 +1,5 @@
 -- The rules of levels as they are made, one after another.
-use Rattle.std.specs.Prelude.{ℕ, false, List, [], ◌∷◌, ◌++◌, map, Option, Some, None, unwrap_or, codes}
+use Rattle.std.specs.Prelude.{ℕ, false, List, [], ◌∷◌, ◌++◌, map, Option, Some, unwrap_or, codes}
 use Rattle.std.specs.Prelude.{if◌then◌else◌}
 use Rattle.lalrpop_norm_parts.specs.declared.attribute.Attribute.{Attribute}
 use Rattle.lalrpop_norm_parts.specs.Attributes.{Attributes, attribute_view}
@@ -7,8 +7,10 @@ use Rattle.lalrpop_norm_tree.specs.Symbols.{Kind, nonterminal}
 use Rattle.lalrpop_norm_tree.specs.Items.{AlternativeData, RuleData}
 use Rattle.lalrpop_norm_model.specs.Levels.{Side, left, right, neither, every, Leveled, is_named, greatest}
 use Rattle.lalrpop_norm_model.specs.ClosedTexts.{level_name}
-use Rattle.lalrpop_norm_model.specs.LevelRules.{without_first, is_own, step_alternative}
-use Rattle.lalrpop_norm_precedence.specs.Substituted.{occurrence, substituted_parts}
+use Rattle.lalrpop_norm_model.specs.LevelRules.{without_first, is_own}
+use Rattle.lalrpop_norm_alternatives.specs.Substitutions.{occurrence}
+use Rattle.lalrpop_norm_alternatives.specs.Steps.{made_steps}
+use Rattle.lalrpop_norm_precedence.specs.Substituted.{substituted_parts}
 use Rattle.lalrpop_norm_precedence.specs.Grouped.{LevelGroup}
 
 -- what an own occurrence becomes in an alternative of a side, by how many stand before and after it
@@ -36,10 +38,6 @@ rewritten r current below a = record a.alternative {
 unfoldable pub made_alternative : RuleData → ℕ → Option ℕ → ℕ → Leveled → AlternativeData
 made_alternative r highest previous l a =
     rewritten r (nonterminal (level_name r.name.0 highest l)) (nonterminal (level_name r.name.0 highest (unwrap_or previous l))) a
-
-abbrev pub made_steps : RuleData → ℕ → Option ℕ → List AlternativeData
-made_steps r highest None = []
-made_steps r highest (Some l) = step_alternative r.span (level_name r.name.0 highest l) ∷ []
 
 unfoldable pub made_rule : RuleData → ℕ → Option ℕ → ℕ → List Leveled → RuleData
 made_rule r highest previous l xs = record r {

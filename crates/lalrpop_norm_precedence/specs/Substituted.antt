@@ -1,13 +1,8 @@
 -- Own occurrences replaced, by how many of them stand before and after each.
-use Rattle.std.specs.Prelude.{ℕ, zero, suc, ◌+◌, List, [], ◌∷◌, Bool, true, false, bytes_eq, if◌then◌else◌}
+use Rattle.std.specs.Prelude.{ℕ, zero, suc, ◌+◌, List, [], ◌∷◌, Bool, true, bytes_eq, if◌then◌else◌}
 use Rattle.lalrpop_norm_tree.specs.Symbols.{Kind, Part, Parts, group, ambiguous_id, terminal, nonterminal, call, repeated, chosen}
 use Rattle.lalrpop_norm_tree.specs.Symbols.{named, tupled, lookahead, lookbehind, error_terminal, at, no_parts, part_and}
-use Rattle.lalrpop_norm_tree.specs.Symbols.{kind_view}
 use Rattle.lalrpop_norm_model.specs.Occurrences.{count_part, count_parts}
-use Rattle.lalrpop_norm_precedence.specs.declared.precedence.replace.Substitution.{Substitution}
-use Rattle.lalrpop_norm_precedence.specs.declared.precedence.replace.Substitution.TheVariants.{OneThen, Every}
-use Rattle.lalrpop_norm_precedence.specs.declared.precedence.replace.Direction.{Direction}
-use Rattle.lalrpop_norm_precedence.specs.declared.precedence.replace.Direction.TheVariants.{Forward, Backward}
 
 abbrev pub is_target : List ℕ → List ℕ → Bool
 is_target target n = bytes_eq n target
@@ -36,32 +31,10 @@ abbrev mutual
   substituted_parts own kind before after (part_and p ps) =
       part_and (substituted_part own kind before (after + count_parts own ps) p) (substituted_parts own kind (before + count_part own p) after ps)
 
--- what the occurrence that is met first becomes, and what any other one does
-abbrev pub Plan : Type 0
-Plan = Kind × Kind
-
-abbrev pub substitution_view : Substitution → Plan
-substitution_view (OneThen k l) = (kind_view k.now, kind_view l.now)
-substitution_view (Every k) = (kind_view k.now, kind_view k.now)
-
--- what the next occurrence but so many becomes, where one was met before, or none
-abbrev pub occurrence : Plan → Bool → ℕ → Kind
-occurrence p true i = p.1
-occurrence p false zero = p.0
-occurrence p false (suc i) = p.1
-
 -- whether one was met, after so many more
 abbrev pub once_met : Bool → ℕ → Bool
 once_met is_met zero = is_met
 once_met is_met (suc k) = true
-
--- how many are met before this one
-abbrev pub met_as : Direction → ℕ → ℕ → ℕ
-met_as Forward before after = before
-met_as Backward before after = after
-
-abbrev pub met_kind : Plan → Direction → Bool → ℕ → ℕ → Kind
-met_kind p d is_met before after = occurrence p is_met (met_as d before after)
 
 -- the same of a list
 abbrev pub count_each : (List ℕ → Bool) → List Part → ℕ

@@ -6,12 +6,13 @@ ghost use Rattle.lalrpop_norm_faults.specs.Faults.{Refuses, fault_if};
 ghost use Rattle.lalrpop_norm_model.specs.Features.{is_one_of};
 ghost use Rattle.lalrpop_norm_front.specs.AlternativeFaults.{alternative_faults};
 ghost use Rattle.lalrpop_norm_front.specs.GrammarFaults.{is_known_on_rule, rule_attribute_faults, attributes_faults, rule_faults};
-ghost use Rattle.lalrpop_norm_precedence.specs.LevelFaults.{level_faults};
+ghost use Rattle.lalrpop_norm_alternatives.specs.LevelFaults.{level_faults};
 
 use super::Place;
 use super::alternatives::validate_alternative;
 use super::cfg::validate_cfg;
 use super::types::some_holds;
+use lalrpop_norm_alternatives::levels::without_levels;
 use lalrpop_norm_faults::{FaultKind, NormResult, refusal};
 use lalrpop_norm_precedence::precedence::read_levels;
 use lalrpop_norm_tree::grammar::parse_tree::{Alternative, Atom, Attribute, NonterminalData, Span};
@@ -119,11 +120,11 @@ fn validate_alternatives(
 }
 
 /// The levels and sides of all written alternatives.
+#[tactic(auto, using(lalrpop_norm_alternatives::proofs::ReadingLemmas::refuses_without))]
 fn validate_levels(alloc: Global, rule: &NonterminalData) -> NormResult<()>
     ensures { Refuses result (level_faults (rule_view rule.now)) }
 {
-    let _levels = read_levels(alloc, rule)?;
-    Ok(())
+    without_levels(read_levels(alloc, rule))
 }
 
 fn check_public(alloc: Global, public_macro: bool, span: Span) -> NormResult<()>

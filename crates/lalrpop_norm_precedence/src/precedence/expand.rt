@@ -11,7 +11,8 @@ ghost use Rattle.lalrpop_norm_precedence.specs.PrecedenceFaults.{precedence_faul
 
 use super::grammar::make_levels;
 use super::has_several_levels;
-use lalrpop_norm_faults::{FaultKind, NormResult, refusal};
+use lalrpop_norm_alternatives::levels::check_several;
+use lalrpop_norm_faults::NormResult;
 use lalrpop_norm_resolve::names::{GlobalNames, are_new, resolve_names};
 use lalrpop_norm_resolve::resolve::check_globals;
 use lalrpop_norm_tree::grammar::parse_tree::{Atom, Grammar, GrammarItem, NonterminalData};
@@ -74,21 +75,13 @@ fn check_item(alloc: Global, item: &GrammarItem) -> NormResult<()>
     }
 }
 
+#[tactic(auto, using(crate::proofs::ItemLemmas::several_in_macro))]
 fn check_macro(alloc: Global, rule: &NonterminalData) -> NormResult<()>
     ensures { Refuses result (macro_level_faults (rule_view rule.now)) }
 {
     if !rule.is_macro_def() {
         return Ok(());
     }
-    if has_several_levels(alloc, rule)? {
-        let name = &rule.name;
-        return Err(refusal(
-            FaultKind::NotNonterminal,
-            rule.span,
-            format!(in alloc;
-                "the macro `{name}` has two levels or more, and a level can't name the one below it without arguments"
-            ),
-        ));
-    }
-    Ok(())
+    let several = has_several_levels(alloc, rule)?;
+    check_several(alloc, rule, several)
 }

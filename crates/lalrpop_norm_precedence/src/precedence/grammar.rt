@@ -3,10 +3,11 @@ ghost use Rattle.std.specs.Prelude.{◌≡◌, ◌++◌, IfOk, OnOk, map, flat_m
 ghost use Rattle.lalrpop_norm_tree.specs.Items.{rule_item, rule_view, item_view, grammar_view};
 ghost use Rattle.lalrpop_norm_faults.specs.Faults.{RefusesOr};
 ghost use Rattle.lalrpop_norm_model.specs.LevelRules.{level_items, leveled_grammar};
-ghost use Rattle.lalrpop_norm_precedence.specs.LevelFaults.{item_level_faults, grammar_level_faults};
+ghost use Rattle.lalrpop_norm_alternatives.specs.LevelFaults.{item_level_faults, grammar_level_faults};
 ghost use Rattle.lalrpop_norm_precedence.specs.MadeNames.{rule_name, without_last, item_made_names, grammar_made_names};
 
 use super::expand_nonterm;
+use lalrpop_norm_alternatives::items::rule_or_push;
 use lalrpop_norm_faults::NormResult;
 use lalrpop_norm_tree::grammar::parse_tree::{
     Atom, Grammar, GrammarItem, NoMemory, NonterminalData,
@@ -67,6 +68,7 @@ fn expand_items(
 }
 
 /// Puts what stands for an item behind the items made so far, and the names made for it behind those so far.
+#[tactic(auto, using(crate::proofs::ItemLemmas::rule_faults, crate::proofs::ItemLemmas::rule_adds_none, crate::proofs::ItemLemmas::rule_items, crate::proofs::ItemLemmas::rule_names, crate::proofs::ItemLemmas::no_faults, crate::proofs::ItemLemmas::as_it_is, crate::proofs::ItemLemmas::names_none))]
 fn expand_item(
     alloc: Global,
     item: GrammarItem,
@@ -77,29 +79,14 @@ fn expand_item(
         (λ u. map item_view made.new.items ≡ map item_view made.old.items ++ level_items (item_view item)) }
     ensures names { OnOk result (names.new.items ≡ names.old.items ++ item_made_names (item_view item)) }
 {
-    match item {
-        GrammarItem::Nonterminal(rule) => {
+    match rule_or_push(item, made)? {
+        Some(rule) => {
             let rules = expand_nonterm(alloc, rule)?;
             push_made(&rules, names)?;
             push_rules(rules, made)?;
             Ok(())
         }
-        GrammarItem::MatchToken(token) => {
-            made.push(GrammarItem::MatchToken(token))?;
-            Ok(())
-        }
-        GrammarItem::ExternToken(token) => {
-            made.push(GrammarItem::ExternToken(token))?;
-            Ok(())
-        }
-        GrammarItem::InternToken(token) => {
-            made.push(GrammarItem::InternToken(token))?;
-            Ok(())
-        }
-        GrammarItem::Use(text) => {
-            made.push(GrammarItem::Use(text))?;
-            Ok(())
-        }
+        None => Ok(()),
     }
 }
 

@@ -1,29 +1,21 @@
 //! Levels and sides as a rule's alternatives state them.
-ghost use Rattle.std.specs.Prelude.{◌≡◌, ◌^◌, None, Some, IfOk, is_some, option_map, map, flat_map, codes, nat_eq, not, if◌then◌else◌};
-ghost use Rattle.std.specs.List.{list_any};
+ghost use Rattle.std.specs.Prelude.{◌≡◌, ◌^◌, None, IfOk, is_some, option_map, map, flat_map, codes, if◌then◌else◌};
 ghost use Rattle.lalrpop_norm_tree.specs.Accessors.{or_else};
 ghost use Rattle.lalrpop_norm_parts.specs.Attributes.{attribute_view, attributes_view};
 ghost use Rattle.lalrpop_norm_tree.specs.Items.{alternative_view, rule_view};
 ghost use Rattle.lalrpop_norm_faults.specs.Faults.{Refuses, RefusesOr};
-ghost use Rattle.lalrpop_norm_model.specs.Levels.{first_named, value_under, number_of, side_named, stated_level, stated_side, has_levels};
-ghost use Rattle.lalrpop_norm_precedence.specs.Sides.{side_of};
-ghost use Rattle.lalrpop_norm_precedence.specs.LevelFaults.{missing_level_faults, level_argument_faults, side_argument_faults, level_attribute_faults, lesser_level, least, is_narrow, is_barred, barred_faults, lowest_faults, level_faults, levels_and_sides, has_several_levels};
-ghost use Rattle.lalrpop_norm_precedence.specs.Handed.{alternative_level_view, handed_levels, handed_faults, differ};
+ghost use Rattle.lalrpop_norm_model.specs.Levels.{first_named, value_under, number_of, side_named, stated_level, stated_side};
+ghost use Rattle.lalrpop_norm_alternatives.specs.Sides.{side_of};
+ghost use Rattle.lalrpop_norm_alternatives.specs.LevelFaults.{level_argument_faults, side_argument_faults, level_attribute_faults, lesser_level, least, is_narrow, is_barred, barred_faults, lowest_faults, level_faults, levels_and_sides, has_several_levels};
+ghost use Rattle.lalrpop_norm_alternatives.specs.StatedLevels.{alternative_level_view};
+ghost use Rattle.lalrpop_norm_precedence.specs.Handed.{handed_levels, handed_faults};
 
-use super::attributes::{first_named, has_level_attribute};
-use super::{ASSOC_ATTR, Assoc, LVL_ARG, PREC_ATTR, SIDE_ARG};
+use super::{ASSOC_ATTR, AlternativeLevel, Assoc, LVL_ARG, PREC_ATTR, SIDE_ARG};
+use lalrpop_norm_alternatives::attributes::first_named;
+use lalrpop_norm_alternatives::levels::{check_first, differ, has_levels};
 use lalrpop_norm_faults::{FaultKind, NormResult, refusal};
 use lalrpop_norm_tree::grammar::parse_tree::{Alternative, Attribute, NonterminalData};
 use std::alloc::{AllocError, Global};
-
-/// The level and the side of an alternative.
-#[derive(Clone, Copy, PartialEq, Eq)]
-pub struct AlternativeLevel {
-    /// The level stated last at or before the alternative: 0 to 4294967295. Where none is stated, 0.
-    pub level: u32,
-    /// The side stated last at or before the alternative and not before its level; `all` where none is.
-    pub side: Assoc,
-}
 
 /// The level and the side of each alternative of a rule, in order. All alternatives count; those that are not enabled
 /// are to be taken out before.
@@ -57,27 +49,6 @@ pub fn has_several_levels(alloc: Global, rule: &NonterminalData) -> Result<bool,
     }
     let levels = hand_on(alloc, &rule.alternatives)?;
     Ok(differ(&levels))
-}
-
-/// Whether some level is another than the first.
-fn differ(levels: &[AlternativeLevel]) -> bool
-    ensures { result ≡ differ (map (λ l. (alternative_level_view l).0) levels.now) }
-{
-    match levels.first() {
-        Some(first) => any_other(first.level, levels),
-        None => false,
-    }
-}
-
-fn any_other(first: u32, levels: &[AlternativeLevel]) -> bool
-    ensures { result ≡ list_any (λ l. not (nat_eq l first)) (map (λ l. (alternative_level_view l).0) levels.now) }
-{
-    for level in levels {
-        if level.level != first {
-            return true;
-        }
-    }
-    false
 }
 
 // ---- what an alternative states
@@ -119,36 +90,6 @@ fn stated_side(attributes: &[Attribute]) -> Option<Assoc>
 {
     let attribute = first_named(attributes, ASSOC_ATTR)?;
     side_named(value_under(attribute, SIDE_ARG)?)
-}
-
-// ---- the first alternative
-
-/// Whether some alternative has a `precedence` or an `assoc`.
-pub(super) fn has_levels(alternatives: &[Alternative]) -> bool
-    ensures { result ≡ has_levels (map Some (map alternative_view alternatives.now)) }
-{
-    for alternative in alternatives {
-        if has_level_attribute(&alternative.attributes) {
-            return true;
-        }
-    }
-    false
-}
-
-fn check_first(alloc: Global, alternatives: &[Alternative]) -> NormResult<()>
-    ensures { Refuses result (missing_level_faults (map alternative_view alternatives.now)) }
-{
-    let Some(first) = alternatives.first() else {
-        return Ok(());
-    };
-    if has_levels(alternatives) && first_named(&first.attributes, PREC_ATTR).is_none() {
-        return Err(refusal(
-            FaultKind::MissingLevel,
-            first.span,
-            format!(in alloc; "the first alternative of a rule with levels has no `precedence`"),
-        ));
-    }
-    Ok(())
 }
 
 // ---- attributes
@@ -199,7 +140,7 @@ fn check_side(alloc: Global, attributes: &[Attribute]) -> NormResult<()>
     Ok(())
 }
 
-#[tactic(auto, unfolding(crate::specs::LevelFaults::level_attribute_faults), using(lalrpop_norm_faults::proofs::FaultLemmas::first_of_more))]
+#[tactic(auto, unfolding(lalrpop_norm_alternatives::specs::LevelFaults::level_attribute_faults), using(lalrpop_norm_faults::proofs::FaultLemmas::first_of_more))]
 fn check_alternative(alloc: Global, alternative: &Alternative) -> NormResult<()>
     ensures { Refuses result (level_attribute_faults (alternative_view alternative.now)) }
 {
@@ -290,7 +231,7 @@ fn is_barred(alternative: &Alternative) -> bool
         || is_narrow(stated_side(&alternative.attributes))
 }
 
-#[tactic(auto, unfolding(crate::specs::LevelFaults::lowest_faults))]
+#[tactic(auto, unfolding(lalrpop_norm_alternatives::specs::LevelFaults::lowest_faults))]
 fn check_place(alloc: Global, lowest: u32, level: u32, alternative: &Alternative) -> NormResult<()>
     ensures { Refuses result (lowest_faults lowest level (alternative_view alternative.now)) }
 {

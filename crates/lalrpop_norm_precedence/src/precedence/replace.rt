@@ -2,30 +2,14 @@
 ghost use Rattle.std.specs.Prelude.{◌≡◌, false, IfOk, OnOk, map};
 ghost use Rattle.lalrpop_norm_tree.specs.Symbols.{kind_view, symbol_view, repeat_view, parts_view};
 ghost use Rattle.lalrpop_norm_model.specs.Occurrences.{count_kind, count_part, count_parts};
-ghost use Rattle.lalrpop_norm_precedence.specs.Substituted.{is_target, substitution_view, occurrence, once_met, met_kind, substituted_kind, substituted_part, substituted_parts};
+ghost use Rattle.lalrpop_norm_alternatives.specs.Substitutions.{substitution_view, met_kind};
+ghost use Rattle.lalrpop_norm_precedence.specs.Substituted.{is_target, once_met, substituted_kind, substituted_part, substituted_parts};
 
+use super::{Direction, Substitution};
+use lalrpop_norm_alternatives::occurrences::occurrence;
 use lalrpop_norm_tree::grammar::parse_tree::{
     NoMemory, NonterminalString, RepeatSymbol, Symbol, SymbolKind,
 };
-use std::alloc::AllocError;
-
-/// What own occurrences become, one after another as they are met.
-#[derive(Clone, Copy, PartialEq, Eq)]
-pub enum Substitution<'a> {
-    /// The one met first becomes the first kind, all others become the second one.
-    OneThen(&'a SymbolKind, &'a SymbolKind),
-    /// Each becomes this kind.
-    Every(&'a SymbolKind),
-}
-
-/// In which order own occurrences are met.
-#[derive(Clone, Copy, PartialEq, Eq)]
-pub enum Direction {
-    /// In reading order.
-    Forward,
-    /// The last one first.
-    Backward,
-}
 
 /// Replaces each nonterminal `target` in the symbols, in macro arguments, groups, repeats and wrapped symbols too. The
 /// name of a macro that is called is none of them, and neither is a name that is not resolved. Spans stay. Where there
@@ -48,21 +32,6 @@ pub fn replace_nonterm(
             replace_symbols(symbols, target, kind, kind, dir, false)?;
             Ok(())
         }
-    }
-}
-
-/// A copy of the kind that the next occurrence becomes.
-fn occurrence(
-    first: &SymbolKind,
-    others: &SymbolKind,
-    is_met: bool,
-) -> Result<SymbolKind, AllocError>
-    ensures { IfOk result (λ k. kind_view k ≡ occurrence (kind_view first.now, kind_view others.now) is_met 0) }
-{
-    if is_met {
-        others.clone()
-    } else {
-        first.clone()
     }
 }
 

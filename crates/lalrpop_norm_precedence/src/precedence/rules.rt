@@ -1,5 +1,5 @@
 //! The rules of the levels of a rule.
-ghost use Rattle.std.specs.Prelude.{◌≡◌, ◌++◌, [], ◌∷◌, None, Some, IfOk, OnOk, map, unwrap_or};
+ghost use Rattle.std.specs.Prelude.{◌≡◌, None, IfOk, OnOk, map};
 ghost use Rattle.lalrpop_norm_parts.specs.Attributes.{attributes_view};
 ghost use Rattle.lalrpop_norm_tree.specs.Items.{alternative_view, rule_view};
 ghost use Rattle.lalrpop_norm_tree.specs.Symbols.{nonterminal, kind_view, parts_view};
@@ -7,20 +7,22 @@ ghost use Rattle.lalrpop_norm_faults.specs.Faults.{RefusesOr};
 ghost use Rattle.lalrpop_norm_model.specs.Levels.{greater, greatest};
 ghost use Rattle.lalrpop_norm_model.specs.Grammars.{is_nil};
 ghost use Rattle.lalrpop_norm_model.specs.ClosedTexts.{level_name};
-ghost use Rattle.lalrpop_norm_model.specs.LevelRules.{is_own, step_alternative, level_rules};
-ghost use Rattle.lalrpop_norm_precedence.specs.LevelFaults.{level_faults};
+ghost use Rattle.lalrpop_norm_model.specs.LevelRules.{is_own, level_rules};
+ghost use Rattle.lalrpop_norm_alternatives.specs.LevelFaults.{level_faults};
 ghost use Rattle.lalrpop_norm_precedence.specs.Substituted.{is_target, substituted_parts};
 ghost use Rattle.lalrpop_norm_precedence.specs.Grouped.{LevelGroup, marked_view, group_view};
-ghost use Rattle.lalrpop_norm_precedence.specs.Sides.{side_of};
-ghost use Rattle.lalrpop_norm_precedence.specs.Made.{kind_by_side, less_first, without_level_attributes, top_of, rewritten, made_alternative, made_steps, made_rule, made_level_rules};
+ghost use Rattle.lalrpop_norm_alternatives.specs.Sides.{side_of};
+ghost use Rattle.lalrpop_norm_precedence.specs.Made.{kind_by_side, less_first, without_level_attributes, top_of, rewritten, made_alternative, made_rule, made_level_rules};
 
 use super::groups::{Group, Marked, group_by_level, mark};
-use super::read::{has_levels, read_levels};
-use super::{ASSOC_ATTR, Assoc, Direction, PREC_ATTR, Substitution, replace_nonterm};
+use super::read::read_levels;
+use super::{ASSOC_ATTR, Assoc, PREC_ATTR, replace_nonterm};
+use lalrpop_norm_alternatives::levels::has_levels;
+use lalrpop_norm_alternatives::occurrences::{direction_by_side, substitution_by_side};
+use lalrpop_norm_alternatives::steps::{level_name, push_step};
 use lalrpop_norm_faults::NormResult;
 use lalrpop_norm_tree::grammar::parse_tree::{
-    Alternative, Atom, Attribute, ExprSymbol, NoMemory, NonterminalData, NonterminalString, Span,
-    Symbol, SymbolKind,
+    Alternative, Attribute, NoMemory, NonterminalData, NonterminalString, Symbol, SymbolKind,
 };
 use std::alloc::Global;
 use std::mem;
@@ -116,21 +118,6 @@ fn made_rule(
     rule.name = name;
     rule.alternatives = alternatives;
     Ok(rule)
-}
-
-fn level_name(
-    alloc: Global,
-    name: &NonterminalString,
-    highest: u32,
-    level: u32,
-) -> Result<NonterminalString, NoMemory>
-    ensures { IfOk result (λ n. n.0 ≡ level_name name.now.0 highest level) }
-{
-    if level == highest {
-        return Ok(name.clone()?);
-    }
-    let text = format!(in alloc; "{name}{level}")?;
-    Ok(NonterminalString(Atom::new(alloc, &text)?))
 }
 
 fn level_kind(
@@ -235,7 +222,7 @@ fn replace_own(
 }
 
 /// Replaces the own occurrences in an alternative of this side.
-#[tactic(auto, using(crate::proofs::KindLemmas::every_one))]
+#[tactic(auto, using(crate::proofs::KindLemmas::by_side))]
 fn replace_by_side(
     target: &NonterminalString,
     current: &SymbolKind,
@@ -246,69 +233,10 @@ fn replace_by_side(
     ensures { OnOk result (parts_view symbols.new
         ≡ substituted_parts (is_target target.now.0) (kind_by_side (side_of side) (kind_view current.now) (kind_view below.now)) 0 0 (parts_view symbols.old)) }
 {
-    match side {
-        Assoc::Left => replace_nonterm(
-            target,
-            Substitution::OneThen(current, below),
-            Direction::Forward,
-            symbols,
-        ),
-        Assoc::Right => replace_nonterm(
-            target,
-            Substitution::OneThen(current, below),
-            Direction::Backward,
-            symbols,
-        ),
-        Assoc::NonAssoc => replace_nonterm(
-            target,
-            Substitution::Every(below),
-            Direction::Forward,
-            symbols,
-        ),
-        Assoc::FullyAssoc => replace_nonterm(
-            target,
-            Substitution::Every(current),
-            Direction::Forward,
-            symbols,
-        ),
-    }
-}
-
-fn push_step(
-    alloc: Global,
-    head: &NonterminalData,
-    highest: u32,
-    previous: Option<u32>,
-    alternatives: &mut Vec<Alternative>,
-) -> Result<(), NoMemory>
-    ensures { OnOk result (map alternative_view alternatives.new.items ≡ map alternative_view alternatives.old.items ++ made_steps (rule_view head.now) highest previous) }
-{
-    match previous {
-        None => Ok(()),
-        Some(level) => {
-            let name = level_name(alloc, &head.name, highest, level)?;
-            alternatives.push(step_alternative(alloc, head.span, name)?)?;
-            Ok(())
-        }
-    }
-}
-
-/// The step to another rule: its name alone.
-fn step_alternative(
-    alloc: Global,
-    span: Span,
-    name: NonterminalString,
-) -> Result<Alternative, NoMemory>
-    ensures { IfOk result (λ a. alternative_view a ≡ step_alternative span name.0) }
-{
-    let kind = SymbolKind::Nonterminal(name);
-    let mut symbols = Vec::new(alloc);
-    symbols.push(Symbol { span, kind })?;
-    Ok(Alternative {
-        span,
-        expr: ExprSymbol { symbols },
-        condition: None,
-        action: None,
-        attributes: Vec::new(alloc),
-    })
+    replace_nonterm(
+        target,
+        substitution_by_side(side, current, below),
+        direction_by_side(side),
+        symbols,
+    )
 }

@@ -4,7 +4,7 @@ use Rattle.std.proofs.lemmas.Fn.{filter_same}
 use Rattle.lalrpop_norm_tree.specs.Items.{conversion_view}
 use Rattle.lalrpop_norm_model.specs.Features.{is_active}
 use Rattle.lalrpop_norm_util.specs.Sessions.{features_view}
-use Rattle.lalrpop_norm_front.proofs.EnabledLemmas.{filter_viewed}
+use Rattle.lalrpop_norm_alternatives.proofs.EnabledLemmas.{filter_viewed}
 use Rattle.lalrpop_norm_front.proofs.cond_comp.retain_conversions.Goals as goal
 
 pub returns : goal.returns

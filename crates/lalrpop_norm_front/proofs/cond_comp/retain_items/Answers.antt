@@ -4,7 +4,7 @@ use Rattle.std.proofs.lemmas.Fn.{filter_same}
 use Rattle.lalrpop_norm_tree.specs.Items.{item_view}
 use Rattle.lalrpop_norm_front.specs.EnabledItems.{stays}
 use Rattle.lalrpop_norm_util.specs.Sessions.{features_view}
-use Rattle.lalrpop_norm_front.proofs.EnabledLemmas.{filter_viewed}
+use Rattle.lalrpop_norm_alternatives.proofs.EnabledLemmas.{filter_viewed}
 use Rattle.lalrpop_norm_front.proofs.cond_comp.retain_items.Goals as goal
 
 pub returns : goal.returns

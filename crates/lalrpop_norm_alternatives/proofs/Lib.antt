@@ -1,0 +1,3 @@
+mod FirstLemmas
+pub mod EnabledLemmas
+pub mod ReadingLemmas
