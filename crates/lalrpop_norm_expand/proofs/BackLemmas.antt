@@ -14,9 +14,9 @@ use Rattle.lalrpop_norm_faults.proofs.FaultLemmas.{exit_at}
 use Rattle.lalrpop_norm_model.specs.MadeRules.{span_of}
 use Rattle.lalrpop_norm_expand.specs.Expansion.{unmade, past_cap}
 use Rattle.lalrpop_norm_expand.specs.Making.{rules_to_read}
-use Rattle.lalrpop_norm_expand.specs.Meeting.{met_view}
-use Rattle.lalrpop_norm_expand.specs.declared.macro_expand.expander.Met.{Met}
-use Rattle.lalrpop_norm_expand.proofs.SymbolLemmas.{part_is}
+use Rattle.lalrpop_norm_meeting.specs.Meeting.{met_view}
+use Rattle.lalrpop_norm_meeting.specs.declared.expander.Met.{Met}
+use Rattle.lalrpop_norm_meeting.proofs.SymbolLemmas.{part_is}
 
 view_at : (ss : List Met) (i : ℕ) (s : Met) → i < length ss → s ≡ get_or ss i s → met_view s ≡ get_or (map met_view ss) i (met_view s)
 view_at ss i s l e = ap met_view e ∙ sym (get_or-map met_view ss i s (met_view s) l)

@@ -19,11 +19,13 @@ use Rattle.lalrpop_norm_model.specs.MadeRules.{made_rules, instance_of, macro_na
 use Rattle.lalrpop_norm_model.specs.Expanded.{rule_names}
 use Rattle.lalrpop_norm_model.specs.PlainRules.{all_rules, rules_without_arguments, macros_of, replaced_rule, same_apart_from_spans, expansion_round, made_symbols, made_in, plain_grammar}
 use Rattle.lalrpop_norm_model.proofs.FaithfulLemmas.{plain_grammars_hold_plain_rules}
-use Rattle.lalrpop_norm_expand.specs.Expansion.{is_declared_name, meetings, met_before, shared_in, unmade_in, faults_from, expansion_faults}
+use Rattle.lalrpop_norm_making.specs.Names.{is_declared_name}
+use Rattle.lalrpop_norm_expand.specs.Expansion.{meetings, met_before, shared_in, unmade_in, faults_from, expansion_faults}
 use Rattle.lalrpop_norm_expand.specs.Laws.{NamesStayDistinct}
-use Rattle.lalrpop_norm_expand.specs.Meeting.{first_with_text, joined_by, after_one, after, clashes, clash_faults}
+use Rattle.lalrpop_norm_meeting.specs.Meeting.{first_with_text, joined_by, after_one, after, clashes, clash_faults}
 use Rattle.lalrpop_norm_faults.proofs.FaultLemmas.{none_first}
-use Rattle.lalrpop_norm_expand.proofs.FreshLemmas.{Tells, none_if, or_false, after_fresh, first_same, tells_after}
+use Rattle.lalrpop_norm_expand.proofs.FreshLemmas.{Tells, after_fresh, first_same, tells_after}
+use Rattle.lalrpop_norm_meeting.proofs.SamenessLemmas.{none_if, or_false}
 use Rattle.lalrpop_norm_theory.proofs.MadeLemmas.{distinct_append, distinct_reverse}
 
 -- ---- distinct lists

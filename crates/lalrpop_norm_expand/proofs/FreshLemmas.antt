@@ -1,49 +1,23 @@
 -- What the code meets first by its text is what is new by sameness, and its faults begin as those of the definition.
 use Rattle.std.proofs.Common.{◌≡◌, inl, inr, ℕ, List, [], ◌∷◌, ◌++◌, Bool, true, false, cond, Option, Some, None, bytes_eq, refl, sym, ap, ap₂, ◌∙◌, subst, append-nil, append_assoc}
 use Rattle.std.specs.Prelude.{not, ◌||◌, ◌&&◌, is_some, if◌then◌else◌}
-use Rattle.std.proofs.lemmas.Slice.Eq.{bytes_eq-Decides}
 use Rattle.lalrpop_norm_tree.specs.Symbols.{Part}
 use Rattle.lalrpop_norm_tree.specs.SymbolTexts.{part_text}
 use Rattle.lalrpop_norm_faults.specs.declared.kind.FaultKind.TheVariants.{SharedName}
 use Rattle.lalrpop_norm_faults.specs.Faults.{Fault, first, fault_if}
-use Rattle.lalrpop_norm_theory.specs.Symbols.{ClosedSymbol}
 use Rattle.lalrpop_norm_theory.specs.Same.{same_symbol}
 use Rattle.lalrpop_norm_theory.specs.Rounds.{is_in, fresh_of}
-use Rattle.lalrpop_norm_theory.proofs.SameLemmas.{symbol_test}
 use Rattle.lalrpop_norm_theory.proofs.RoundsLemmas.{fresh_append}
-use Rattle.lalrpop_norm_model.specs.ClosedTexts.{closed_text}
 use Rattle.lalrpop_norm_model.specs.MadeRules.{span_of}
 use Rattle.lalrpop_norm_model.specs.PlainRules.{same_apart_from_spans}
-use Rattle.lalrpop_norm_model.proofs.TextLemmas.{part_displayed}
-use Rattle.lalrpop_norm_expand.specs.Expansion.{is_declared_name, has_other, shared_names}
-use Rattle.lalrpop_norm_expand.proofs.IndexLemmas.{first_more, first_at, text_cases}
-use Rattle.lalrpop_norm_expand.specs.Meeting.{first_with_text, joined_by, after_one, after, differs, clashes, clash_faults}
+use Rattle.lalrpop_norm_making.specs.Names.{is_declared_name}
+use Rattle.lalrpop_norm_expand.specs.Expansion.{has_other, shared_names}
+use Rattle.lalrpop_norm_meeting.proofs.SamenessLemmas.{same_closed, closed_same, closed_text_same, text_is, is_text, false_where, or_false, none_if}
+use Rattle.lalrpop_norm_meeting.proofs.IndexLemmas.{first_more, first_at, text_cases}
+use Rattle.lalrpop_norm_meeting.specs.Meeting.{first_with_text, joined_by, after_one, after, differs, clashes, clash_faults}
 use Rattle.lalrpop_norm_model.specs.PlainTables.{closed}
 use Rattle.lalrpop_norm_theory.proofs.BoolLemmas.{or_nothing, not_false}
 use Rattle.lalrpop_norm_faults.proofs.FaultLemmas.{none_first}
-
--- ---- sameness
-
-pub same_closed : (p q : Part) → same_apart_from_spans p q ≡ true → closed p ≡ closed q
-same_closed p q e = symbol_test.sound (closed p) (closed q) e
-
-pub closed_same : (p q : Part) → closed p ≡ closed q → same_apart_from_spans p q ≡ true
-closed_same p q e = subst (λ (g : ClosedSymbol). same_symbol (closed p) g ≡ true) e (symbol_test.complete (closed p))
-
-pub closed_text_same : (p q : Part) → closed p ≡ closed q → part_text p ≡ part_text q
-closed_text_same p q e =
-    sym (part_displayed (λ n b. n) (λ n. refl) 0 0 p) ∙ ap (closed_text (λ n b. n)) e ∙ part_displayed (λ n b. n) (λ n. refl) 0 0 q
-
-text_is : (s t : List ℕ) → bytes_eq s t ≡ true → s ≡ t
-text_is s t e = (bytes_eq-Decides s t).0 e
-
-is_text : (s t : List ℕ) → s ≡ t → bytes_eq s t ≡ true
-is_text s t e = (bytes_eq-Decides s t).1 e
-
--- a test is false where it can't be true
-pub false_where : (b : Bool) → (b ≡ true → ⊥) → b ≡ false
-false_where true n = absurd (n refl)
-false_where false n = refl
 
 -- ---- what is new
 
@@ -72,15 +46,6 @@ one_fresh seen x h = cases (first_with_text (part_text x) seen) (is_in same_apar
     cases : (o : Option Part) (b : Bool) → b ≡ is_some o → joined_by o seen x ≡ seen ++ (if b then [] else x ∷ [])
     cases None b e = rw e refl
     cases (Some y) b e = rw e (sym (append-nil seen))
-
-pub or_false : (a b : Bool) → (a || b) ≡ false → (a ≡ false) × (b ≡ false)
-or_false true b e = absurd (cc e)
-or_false false b e = (refl, e)
-
--- a list of faults that begins with one that may stand
-pub none_if : (b : Bool) (f : Fault) (fs : List Fault) → fault_if b f ++ fs ≡ [] → (b ≡ false) × (fs ≡ [])
-none_if true f fs e = absurd (cc e)
-none_if false f fs e = (refl, e)
 
 module _ (names : List ℕ → Bool) where
   pub after_fresh : (seen xs : List Part) → clash_faults names seen xs ≡ [] → after seen xs ≡ seen ++ fresh_of same_apart_from_spans seen xs

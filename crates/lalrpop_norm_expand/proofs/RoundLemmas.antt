@@ -13,11 +13,13 @@ use Rattle.lalrpop_norm_model.specs.Grammars.{is_nil}
 use Rattle.lalrpop_norm_model.specs.MadeRules.{made_rules}
 use Rattle.lalrpop_norm_model.specs.Expanded.{rule_names}
 use Rattle.lalrpop_norm_model.specs.PlainRules.{met_in_rule, met_by_made, rule_of_item, macros_of, same_apart_from_spans, expansion_round, made_symbols, made_in, IsEnded, plain_item, plain_grammar, replaced_rule}
-use Rattle.lalrpop_norm_expand.specs.declared.macro_expand.expander.Expander.{Expander}
-use Rattle.lalrpop_norm_expand.specs.Expansion.{is_declared_name, shared_names, meetings, met_before, shared_in, unmade, unmade_in, past_cap, faults_from, expansion_faults}
-use Rattle.lalrpop_norm_expand.specs.Making.{rules_to_read, replaced_item, met_in_item, without_macro, macro_in}
+use Rattle.lalrpop_norm_meeting.specs.declared.expander.Expander.{Expander}
+use Rattle.lalrpop_norm_making.specs.Names.{is_declared_name}
+use Rattle.lalrpop_norm_expand.specs.Expansion.{shared_names, meetings, met_before, shared_in, unmade, unmade_in, past_cap, faults_from, expansion_faults}
+use Rattle.lalrpop_norm_expand.specs.Making.{rules_to_read}
+use Rattle.lalrpop_norm_making.specs.Items.{replaced_item, met_in_item, without_macro, macro_in}
 use Rattle.lalrpop_norm_conditions.specs.Conditions.{comparison}
-use Rattle.lalrpop_norm_expand.specs.Meeting.{after, clash_faults, were_met_inside, seen_of, has_key, is_taken_by, Meets, refused_by}
+use Rattle.lalrpop_norm_meeting.specs.Meeting.{after, clash_faults, were_met_inside, seen_of, has_key, is_taken_by, Meets, refused_by}
 use Rattle.lalrpop_norm_expand.proofs.FreshLemmas.{Tells, after_fresh, first_same, quiet_same, tells_after}
 use Rattle.lalrpop_norm_expand.proofs.ReadLemmas.{ReadsAs, reads_same, new_reads, read_replaced}
 

@@ -16,12 +16,10 @@ use Rattle.lalrpop_norm_model.specs.Expanded.{rule_names}
 use Rattle.lalrpop_norm_model.specs.Scopes.{resolved_grammar}
 use Rattle.lalrpop_norm_resolve.specs.NameFaults.{resolve_faults}
 use Rattle.lalrpop_norm_model.specs.MadeRules.{span_of}
-use Rattle.lalrpop_norm_expand.specs.Conditions.{called_faults}
+use Rattle.lalrpop_norm_making.specs.Conditions.{called_faults}
+use Rattle.lalrpop_norm_making.specs.Names.{is_declared_name}
 
 -- ---- F37: shared names
-
-abbrev pub is_declared_name : List (List ℕ) → List ℕ → Bool
-is_declared_name names t = list_any (bytes_eq t) names
 
 -- one of the symbols met has its text and is not the same, spans aside
 abbrev pub has_other : List Part → Part → Bool

@@ -1,133 +1,24 @@
 //! The rules of macro calls: those alternatives of the macro whose conditions hold, with the arguments put in.
-ghost use Rattle.std.specs.Prelude.{◌≡◌, ◌++◌, Some, IfOk, OnOk, map, flat_map, option_map};
-ghost use Rattle.lalrpop_norm_tree.specs.Symbols.{call, terminal, kind_view, parts_view};
-ghost use Rattle.lalrpop_norm_tree.specs.Types.{type_view};
-ghost use Rattle.lalrpop_norm_tree.specs.Items.{AlternativeData, action_view, alternative_view, rule_view};
-ghost use Rattle.lalrpop_norm_faults.specs.Faults.{Refuses, RefusesOr, fault_if};
-ghost use Rattle.lalrpop_norm_faults.specs.declared.kind.FaultKind.TheVariants.{ConditionPattern};
-ghost use Rattle.lalrpop_norm_conditions.specs.Conditions.{comparison, lacks_reading};
-ghost use Rattle.lalrpop_norm_model.specs.Grammars.{is_true};
-ghost use Rattle.lalrpop_norm_model.specs.Reading.{read_all};
-ghost use Rattle.lalrpop_norm_model.specs.MadeRules.{flat_reader, argument_kind, type_put_in, instance_alternative, instance_rule};
-ghost use Rattle.lalrpop_norm_expand.specs.Conditions.{quoted_text, value_faults, instance_faults};
+ghost use Rattle.std.specs.Prelude.{◌≡◌, ◌++◌, OnOk, map, flat_map};
+ghost use Rattle.lalrpop_norm_tree.specs.Symbols.{call, kind_view, parts_view};
+ghost use Rattle.lalrpop_norm_tree.specs.Items.{AlternativeData, alternative_view, rule_view};
+ghost use Rattle.lalrpop_norm_faults.specs.Faults.{Refuses, RefusesOr};
+ghost use Rattle.lalrpop_norm_conditions.specs.Conditions.{comparison};
+ghost use Rattle.lalrpop_norm_model.specs.MadeRules.{argument_kind, instance_rule};
+ghost use Rattle.lalrpop_norm_making.specs.Conditions.{value_faults, instance_faults};
 ghost use Rattle.lalrpop_norm_expand.specs.Making.{kept_of};
-ghost use Rattle.lalrpop_norm_expand.specs.Meeting.{IsNamed};
+ghost use Rattle.lalrpop_norm_meeting.specs.Meeting.{IsNamed};
 
-use super::expander::Met;
-use super::put_in::{Bindings, all_put_in, bound_to, type_put_in};
-use lalrpop_norm_conditions::{ConditionError, holds};
-use lalrpop_norm_faults::{FaultKind, NormFailure, NormResult, refusal};
+use lalrpop_norm_faults::NormResult;
+use lalrpop_norm_making::alternatives::{instance_alternative, instance_type};
+use lalrpop_norm_making::conditions::is_kept;
+use lalrpop_norm_making::put_in::Bindings;
+use lalrpop_norm_meeting::expander::Met;
 use lalrpop_norm_parts::attribute::copy::copy_attributes;
 use lalrpop_norm_tree::grammar::parse_tree::{
-    ActionKind, Alternative, Atom, Condition, ExprSymbol, NoMemory, NonterminalData,
-    NonterminalString, Span, Symbol, SymbolKind, TerminalLiteral, TerminalString, TypeRef,
+    Alternative, NonterminalData, NonterminalString, Span, Symbol,
 };
 use std::alloc::Global;
-
-// ---- conditions
-
-fn quoted(token: &TerminalString) -> Option<&Atom>
-    ensures { option_map (λ t. t.now) result ≡ quoted_text (Some (terminal token.now)) }
-{
-    match token {
-        TerminalString::Literal(TerminalLiteral::Quoted(text)) => Some(text),
-        TerminalString::Literal(TerminalLiteral::Regex(_))
-        | TerminalString::Bare(_)
-        | TerminalString::Error => None,
-    }
-}
-
-/// The text of the quoted literal that a name is bound to.
-fn literal_bound<'a>(bindings: &Bindings<'a>, name: &Atom) -> Option<&'a Atom>
-    ensures { option_map (λ t. t.now) result ≡ quoted_text (argument_kind bindings.now.names.now (parts_view bindings.now.symbols.now) name.now) }
-{
-    match bound_to(bindings, name)? {
-        SymbolKind::Terminal(token) => quoted(token),
-        SymbolKind::Expr(_)
-        | SymbolKind::AmbiguousId(_)
-        | SymbolKind::Nonterminal(_)
-        | SymbolKind::Macro(_)
-        | SymbolKind::Repeat(_)
-        | SymbolKind::Choose(_)
-        | SymbolKind::Name(_, _)
-        | SymbolKind::Tuple(_, _)
-        | SymbolKind::Lookahead
-        | SymbolKind::Lookbehind
-        | SymbolKind::Error => None,
-    }
-}
-
-/// What a condition says of a literal.
-///
-/// Errors: F34 (`ConditionPattern`) where a pattern is asked for and has no reading; `Memory`.
-fn says(alloc: Global, condition: &Condition, literal: &Atom) -> NormResult<bool>
-    ensures { RefusesOr result (fault_if (lacks_reading condition.now.op condition.now.rhs) (ConditionPattern, condition.now.span))
-        (λ b. b ≡ comparison condition.now.op literal.now condition.now.rhs) }
-{
-    let pattern = condition.rhs.as_str();
-    match holds(alloc, &condition.op, literal.as_str(), pattern) {
-        Ok(value) => Ok(value),
-        Err(ConditionError::NoReading) => Err(refusal(
-            FaultKind::ConditionPattern,
-            condition.span,
-            format!(in alloc; "`{pattern}` is no regular expression, or nests too deep"),
-        )),
-        Err(ConditionError::Memory) => Err(NormFailure::Memory),
-    }
-}
-
-/// Whether an alternative's condition is true or absent.
-///
-/// Errors: F33 (`ConditionArgument`) where its left side is bound to no quoted literal; F34 (`ConditionPattern`); `Memory`.
-fn is_kept(alloc: Global, bindings: &Bindings, condition: &Option<Condition>) -> NormResult<bool>
-    ensures { RefusesOr result (value_faults (argument_kind bindings.now.names.now (parts_view bindings.now.symbols.now)) condition.now)
-        (λ b. b ≡ is_true comparison bindings.now.names.now (read_all flat_reader (parts_view bindings.now.symbols.now)) condition.now) }
-{
-    let Some(condition) = condition else {
-        return Ok(true);
-    };
-    match literal_bound(bindings, &condition.lhs.0) {
-        Some(literal) => says(alloc, condition, literal),
-        None => Err(refusal(
-            FaultKind::ConditionArgument,
-            condition.span,
-            format!(in alloc; "`{}` is no quoted literal here", condition.lhs),
-        )),
-    }
-}
-
-// ---- alternatives
-
-fn copied_action(action: &Option<ActionKind>) -> Result<Option<ActionKind>, NoMemory>
-    ensures { IfOk result (λ a. option_map action_view a ≡ option_map action_view action.now) }
-{
-    match action {
-        None => Ok(None),
-        Some(action) => Ok(Some(action.clone()?)),
-    }
-}
-
-/// An alternative at the call's span, with the arguments put in and without its condition.
-fn instance_alternative(
-    alloc: Global,
-    bindings: &Bindings,
-    span: Span,
-    alternative: &Alternative,
-) -> Result<Alternative, NoMemory>
-    ensures { IfOk result (λ a. alternative_view a
-        ≡ instance_alternative span (argument_kind bindings.now.names.now (parts_view bindings.now.symbols.now)) (alternative_view alternative.now)) }
-{
-    let symbols = all_put_in(alloc, bindings, &alternative.expr.symbols)?;
-    let action = copied_action(&alternative.action)?;
-    let attributes = copy_attributes(&alternative.attributes)?;
-    Ok(Alternative {
-        span,
-        expr: ExprSymbol { symbols },
-        condition: None,
-        action,
-        attributes,
-    })
-}
 
 /// Adds an alternative, if its condition is true or absent.
 fn add_alternative(
@@ -162,22 +53,6 @@ fn instance_alternatives(
         add_alternative(alloc, bindings, span, alternative, &mut kept)?;
     }
     Ok(kept)
-}
-
-// ---- the rule
-
-fn instance_type(
-    alloc: Global,
-    bindings: &Bindings,
-    ty: &Option<TypeRef>,
-) -> Result<Option<TypeRef>, NoMemory>
-    ensures { IfOk result (λ t. option_map type_view t
-        ≡ option_map (type_put_in (argument_kind bindings.now.names.now (parts_view bindings.now.symbols.now))) (option_map type_view ty.now)) }
-{
-    match ty {
-        None => Ok(None),
-        Some(ty) => Ok(Some(type_put_in(alloc, bindings, ty)?)),
-    }
 }
 
 /// The rule of a call of a macro.

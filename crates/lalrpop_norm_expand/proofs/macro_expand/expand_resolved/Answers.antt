@@ -3,13 +3,14 @@ use Rattle.std.specs.List.{flat_map}
 use Rattle.lalrpop_norm_tree.specs.declared.items.GrammarItem.{GrammarItem}
 use Rattle.std.proofs.lemmas.List.{length-map}
 use Rattle.lalrpop_norm_tree.specs.Items.{GrammarData, item_view, grammar_view}
-use Rattle.lalrpop_norm_expand.specs.Making.{item_names, without_macro, macro_in}
-use Rattle.lalrpop_norm_expand.specs.Macros.{macros_in}
+use Rattle.lalrpop_norm_making.specs.Names.{item_names}
+use Rattle.lalrpop_norm_making.specs.Items.{without_macro, macro_in}
+use Rattle.lalrpop_norm_making.specs.Macros.{macros_in}
 use Rattle.lalrpop_norm_model.specs.PlainRules.{macros_of}
-use Rattle.lalrpop_norm_expand.specs.Expansion.{is_declared_name}
-use Rattle.lalrpop_norm_expand.specs.Meeting.{met_view, seen_of, has_key}
-use Rattle.lalrpop_norm_expand.proofs.NameLemmas.{rule_names_are}
-use Rattle.lalrpop_norm_expand.proofs.MeetingLemmas.{err_refuses}
+use Rattle.lalrpop_norm_making.specs.Names.{is_declared_name}
+use Rattle.lalrpop_norm_meeting.specs.Meeting.{met_view, seen_of, has_key}
+use Rattle.lalrpop_norm_making.proofs.NameLemmas.{rule_names_are}
+use Rattle.lalrpop_norm_meeting.proofs.MeetingLemmas.{err_refuses}
 use Rattle.lalrpop_norm_expand.proofs.RoundLemmas.{AtRound, macros_are, first_round, shared_refused, cap_refused, unmade_refused, next_round, grown, last_round}
 use Rattle.lalrpop_norm_expand.proofs.macro_expand.expand_resolved.Goals as goal
 

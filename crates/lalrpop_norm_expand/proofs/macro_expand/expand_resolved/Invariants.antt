@@ -1,8 +1,8 @@
 use Rattle.std.proofs.Common.{◌≡◌, ◌≤◌, ◌-◌, [], map, length}
 use Rattle.lalrpop_norm_tree.specs.Items.{item_view, grammar_view}
 use Rattle.lalrpop_norm_model.specs.Expanded.{rule_names}
-use Rattle.lalrpop_norm_expand.specs.Expansion.{is_declared_name}
-use Rattle.lalrpop_norm_expand.specs.Meeting.{IsExpander, seen_of, is_taken_by}
+use Rattle.lalrpop_norm_making.specs.Names.{is_declared_name}
+use Rattle.lalrpop_norm_meeting.specs.Meeting.{IsExpander, seen_of, is_taken_by}
 use Rattle.lalrpop_norm_expand.proofs.RoundLemmas.{AtRound}
 use Rattle.lalrpop_norm_expand.proofs.macro_expand.expand_resolved.Given as goal
 

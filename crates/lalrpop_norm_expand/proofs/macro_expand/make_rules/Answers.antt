@@ -1,8 +1,8 @@
 use Rattle.std.proofs.Common.{◌-◌, map, arith}
 use Rattle.lalrpop_norm_tree.specs.Items.{item_view}
-use Rattle.lalrpop_norm_expand.specs.Macros.{macros_in}
+use Rattle.lalrpop_norm_making.specs.Macros.{macros_in}
 use Rattle.lalrpop_norm_expand.proofs.BackLemmas.{quiet_back, made_back, exit_back}
-use Rattle.lalrpop_norm_expand.proofs.IndexLemmas.{named_at}
+use Rattle.lalrpop_norm_meeting.proofs.IndexLemmas.{named_at}
 use Rattle.lalrpop_norm_expand.proofs.macro_expand.make_rules.Goals as goal
 
 pub returns-in_err-add_rule-clause-refuses : goal.returns-in_err-add_rule-clause-refuses

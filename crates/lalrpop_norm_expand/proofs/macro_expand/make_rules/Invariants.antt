@@ -4,8 +4,8 @@ use Rattle.std.specs.List.{flat_map}
 use Rattle.lalrpop_norm_tree.specs.Items.{item_view, rule_item}
 use Rattle.lalrpop_norm_expand.specs.Expansion.{unmade}
 use Rattle.lalrpop_norm_expand.specs.Making.{rules_to_read}
-use Rattle.lalrpop_norm_expand.specs.Macros.{macros_in}
-use Rattle.lalrpop_norm_expand.specs.Meeting.{seen_of}
+use Rattle.lalrpop_norm_making.specs.Macros.{macros_in}
+use Rattle.lalrpop_norm_meeting.specs.Meeting.{seen_of}
 use Rattle.lalrpop_norm_expand.proofs.macro_expand.make_rules.Given as goal
 
 abbrev pub invariant-loop-i : goal.invariant-loop-i

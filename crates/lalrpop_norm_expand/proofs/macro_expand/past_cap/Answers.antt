@@ -1,6 +1,6 @@
 use Rattle.std.proofs.Common.{◌-◌, ◌∙◌, ap, sym, subst, ℕ, List, get_or}
 use Rattle.lalrpop_norm_faults.specs.Faults.{Fault, IsFirst}
-use Rattle.lalrpop_norm_expand.specs.declared.macro_expand.expander.Met.{Met}
+use Rattle.lalrpop_norm_meeting.specs.declared.expander.Met.{Met}
 use Rattle.lalrpop_norm_expand.proofs.BackLemmas.{past_cap_is}
 use Rattle.lalrpop_norm_expand.proofs.macro_expand.past_cap.Goals as goal
 

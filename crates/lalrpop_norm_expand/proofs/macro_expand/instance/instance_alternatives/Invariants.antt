@@ -3,7 +3,7 @@ use Rattle.std.specs.List.{flat_map}
 use Rattle.lalrpop_norm_tree.specs.Symbols.{parts_view}
 use Rattle.lalrpop_norm_tree.specs.Items.{AlternativeData, alternative_view}
 use Rattle.lalrpop_norm_model.specs.MadeRules.{argument_kind}
-use Rattle.lalrpop_norm_expand.specs.Conditions.{value_faults}
+use Rattle.lalrpop_norm_making.specs.Conditions.{value_faults}
 use Rattle.lalrpop_norm_expand.specs.Making.{kept_of}
 use Rattle.lalrpop_norm_expand.proofs.macro_expand.instance.instance_alternatives.Given as goal
 

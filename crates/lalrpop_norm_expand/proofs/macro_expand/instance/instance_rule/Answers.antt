@@ -4,8 +4,8 @@ use Rattle.lalrpop_norm_tree.specs.SymbolTexts.{kind_text, part_text}
 use Rattle.lalrpop_norm_tree.specs.Items.{RuleData, alternative_view, rule_view}
 use Rattle.lalrpop_norm_conditions.specs.Conditions.{comparison}
 use Rattle.lalrpop_norm_model.specs.MadeRules.{instance_alternatives}
-use Rattle.lalrpop_norm_expand.proofs.ConditionLemmas.{kept_alternatives}
-use Rattle.lalrpop_norm_expand.proofs.SymbolLemmas.{part_is}
+use Rattle.lalrpop_norm_expand.proofs.KeptLemmas.{kept_alternatives}
+use Rattle.lalrpop_norm_meeting.proofs.SymbolLemmas.{part_is}
 use Rattle.lalrpop_norm_expand.proofs.macro_expand.instance.instance_rule.Goals as goal
 
 pub returns : goal.returns

@@ -4,10 +4,10 @@ use Rattle.lalrpop_norm_tree.specs.Symbols.{call, parts_view}
 use Rattle.lalrpop_norm_tree.specs.Items.{RuleData, rule_view}
 use Rattle.lalrpop_norm_faults.specs.Faults.{IsFirst}
 use Rattle.lalrpop_norm_model.specs.MadeRules.{macro_named}
-use Rattle.lalrpop_norm_expand.specs.Conditions.{called_faults}
-use Rattle.lalrpop_norm_expand.specs.Macros.{macros_in}
-use Rattle.lalrpop_norm_expand.proofs.MacroLemmas.{named_so}
-use Rattle.lalrpop_norm_expand.proofs.MeetingLemmas.{err_refuses}
+use Rattle.lalrpop_norm_making.specs.Conditions.{called_faults}
+use Rattle.lalrpop_norm_making.specs.Macros.{macros_in}
+use Rattle.lalrpop_norm_making.proofs.MacroLemmas.{named_so}
+use Rattle.lalrpop_norm_meeting.proofs.MeetingLemmas.{err_refuses}
 use Rattle.lalrpop_norm_expand.proofs.macro_expand.make.add_instance.Goals as goal
 
 pub instance_rule-requires-clause-kind : goal.instance_rule-requires-clause-kind

@@ -1,0 +1,5 @@
+pub mod Conditions
+pub mod Items
+pub mod Macros
+pub mod Names
+pub mod Sources

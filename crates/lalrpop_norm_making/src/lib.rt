@@ -1,0 +1,15 @@
+//! What an expansion makes of a round: its items, read with their symbols met and replaced, and the parts of the rules that it
+//! makes of the symbols that were met.
+#![tactic(auto)]
+
+pub mod alternatives;
+pub mod conditions;
+pub mod groups;
+pub mod items;
+pub mod macros;
+pub mod names;
+pub mod put_in;
+mod replace;
+pub mod replaced;
+pub mod rules;
+mod sources;
