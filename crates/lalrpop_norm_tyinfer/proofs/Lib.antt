@@ -1,10 +1,1 @@
-mod ClauseLemmas
-mod FilledLemmas
-mod LoopLemmas
-mod LoweredViews
-mod MisfitLemmas
-mod ReadLemmas
-mod SameLemmas
-mod TokenLemmas
-mod ValueLemmas
-mod VisitLemmas
+mod ChosenLemmas

@@ -7,26 +7,22 @@ ghost use Rattle.lalrpop_norm_repr.specs.Tables.{type_table};
 ghost use Rattle.lalrpop_norm_model.specs.Expanded.{rule_names};
 ghost use Rattle.lalrpop_norm_model.specs.InferenceFaults.{inference_faults};
 ghost use Rattle.lalrpop_norm_model.specs.PlainRules.{all_rules};
-ghost use Rattle.lalrpop_norm_tyinfer.specs.Filled.{HasAllRows, table_faults};
-ghost use Rattle.lalrpop_norm_tyinfer.specs.Inferred.{IsInferred};
-ghost use Rattle.lalrpop_norm_tyinfer.specs.Visits.{rule_seen, with_clauses};
+ghost use Rattle.lalrpop_norm_typing.specs.Filled.{HasAllRows, table_faults};
+ghost use Rattle.lalrpop_norm_typing.specs.Inferred.{IsInferred};
+ghost use Rattle.lalrpop_norm_typing.specs.Visits.{rule_seen, with_clauses};
 
 mod agreement;
-mod clauses;
-mod grounded;
-mod patterns;
 mod rounds;
-mod same;
 mod tokens;
-mod values;
 
 use agreement::check_agreement;
-use grounded::{check_clauses, check_typed};
 use lalrpop_norm_faults::NormResult;
 use lalrpop_norm_repr::grammar::repr::Types;
 use lalrpop_norm_tree::grammar::parse_tree::{Grammar, NoMemory, TypeParameter};
-use patterns::check_patterns;
-use rounds::{PlainRule, plain_rules, run_rounds};
+use lalrpop_norm_typing::grounded::{check_clauses, check_typed};
+use lalrpop_norm_typing::patterns::check_patterns;
+use lalrpop_norm_typing::rounds::{PlainRule, plain_rules};
+use rounds::run_rounds;
 use std::alloc::Global;
 use tokens::token_types;
 

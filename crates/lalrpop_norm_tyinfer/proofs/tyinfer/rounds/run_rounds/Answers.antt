@@ -1,5 +1,5 @@
 use Rattle.std.proofs.Common.{◌≡◌, length, add-one, arith}
-use Rattle.lalrpop_norm_tyinfer.proofs.VisitLemmas.{ends_none, ends_more, ends_quiet}
+use Rattle.lalrpop_norm_typing.proofs.VisitLemmas.{ends_none, ends_more, ends_quiet}
 use Rattle.lalrpop_norm_tyinfer.proofs.tyinfer.rounds.run_rounds.Goals as goal
 
 pub loop-count-init : goal.loop-count-init

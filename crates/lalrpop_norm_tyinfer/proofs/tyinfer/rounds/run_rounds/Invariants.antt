@@ -1,6 +1,6 @@
 use Rattle.std.proofs.Common.{map}
 use Rattle.lalrpop_norm_repr.specs.Tables.{type_table}
-use Rattle.lalrpop_norm_tyinfer.specs.Visits.{rule_seen, EndsRounds}
+use Rattle.lalrpop_norm_typing.specs.Visits.{rule_seen, EndsRounds}
 use Rattle.lalrpop_norm_tyinfer.proofs.tyinfer.rounds.run_rounds.Given as goal
 
 abbrev pub invariant-loop-count : goal.invariant-loop-count

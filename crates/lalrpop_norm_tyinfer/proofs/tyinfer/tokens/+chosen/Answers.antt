@@ -5,7 +5,7 @@ use Rattle.lalrpop_norm_tree.specs.declared.types.TypeRef.{TypeRef}
 use Rattle.lalrpop_norm_parts.specs.Patterns.{pattern_view, patterns_view, field_view, fields_view}
 use Rattle.lalrpop_norm_tree.specs.Types.{type_view}
 use Rattle.lalrpop_norm_model.specs.TerminalTypes.{chosen_in_pattern, chosen_in_all, chosen_in_fields}
-use Rattle.lalrpop_norm_tyinfer.proofs.TokenLemmas.{next_chosen}
+use Rattle.lalrpop_norm_tyinfer.proofs.ChosenLemmas.{next_chosen}
 use Rattle.lalrpop_norm_tyinfer.proofs.tyinfer.tokens.+chosen.Goals as goal
 
 pub add_chosen_in_all-loop-pattern-preserved : goal.add_chosen_in_all-loop-pattern-preserved

@@ -1,0 +1,9 @@
+pub mod Clauses
+pub mod Filled
+pub mod Inferred
+pub mod Literals
+pub mod SameApplied
+pub mod TableFaults
+pub mod TableValues
+pub mod TokenTypes
+pub mod Visits

@@ -1,0 +1,247 @@
+//! By which rules have types.
+ghost use Rattle.std.specs.Prelude.{◌≡◌, [], ◌∷◌, ◌++◌, IfOk, OnOk, map, option_map, option_to_list, filter_map};
+ghost use Rattle.lalrpop_norm_tree.specs.Items.{alternative_view, rule_view};
+ghost use Rattle.lalrpop_norm_parts.specs.Reprs.{repr_view, reprs_view};
+ghost use Rattle.lalrpop_norm_tree.specs.Symbols.{kind_view, symbol_view, parts_view, expr_view};
+ghost use Rattle.lalrpop_norm_tree.specs.Types.{type_view};
+ghost use Rattle.lalrpop_norm_repr.specs.Tables.{type_table};
+ghost use Rattle.lalrpop_norm_model.specs.MadeRules.{all_kinds};
+ghost use Rattle.lalrpop_norm_model.specs.TypeRelation.{alternative_clause, type_clauses, type_clauses_of, makes};
+ghost use Rattle.lalrpop_norm_typing.specs.Clauses.{chosen_kind_in, chosen_kinds_listed, source_kinds, default_clause, kinds_in, sources_in, clause_view, clause_in, first_in};
+
+use crate::values::{copy_of, kind_value, type_value};
+use lalrpop_norm_repr::grammar::repr::{TypeRepr, Types};
+use lalrpop_norm_tree::grammar::parse_tree::{
+    ActionKind, Alternative, ExprSymbol, NoMemory, NonterminalData, Symbol, SymbolKind,
+    TypeParameter, TypeRef,
+};
+use lalrpop_norm_util::norm_util::has_name_value;
+use std::alloc::Global;
+
+/// By which a rule has a type.
+#[derive(Debug, Drop)]
+pub enum Clause<'g> {
+    /// It declares one.
+    Declared(&'g TypeRef),
+    /// An alternative gives the values of these symbols: one bare, any other number of them as a tuple.
+    Sources(Vec<&'g SymbolKind>),
+    /// A lookaround gives a location.
+    Location,
+}
+
+/// What is in a chosen symbol.
+fn chosen_in(kind: &SymbolKind) -> Option<&SymbolKind>
+    ensures { option_map (λ k. kind_view k.now) result ≡ chosen_kind_in (kind_view kind.now) }
+{
+    match kind {
+        SymbolKind::Choose(inner) => Some(&inner.kind),
+        SymbolKind::Expr(_)
+        | SymbolKind::AmbiguousId(_)
+        | SymbolKind::Terminal(_)
+        | SymbolKind::Nonterminal(_)
+        | SymbolKind::Macro(_)
+        | SymbolKind::Repeat(_)
+        | SymbolKind::Name(_, _)
+        | SymbolKind::Tuple(_, _)
+        | SymbolKind::Lookahead
+        | SymbolKind::Lookbehind
+        | SymbolKind::Error => None,
+    }
+}
+
+fn chosen_symbols(alloc: Global, symbols: &[Symbol]) -> Result<Vec<&SymbolKind>, NoMemory>
+    ensures { IfOk result (λ ks. map (λ k. kind_view k.now) ks.items ≡ chosen_kinds_listed (parts_view symbols.now)) }
+{
+    let mut found = Vec::new(alloc);
+    for symbol in symbols {
+        add_some(&mut found, chosen_in(&symbol.kind))?;
+    }
+    Ok(found)
+}
+
+/// Adds what is there.
+fn add_some<'g>(
+    found: &mut Vec<&'g SymbolKind>,
+    kind: Option<&'g SymbolKind>,
+) -> Result<(), NoMemory>
+    ensures { OnOk result (map (λ k. kind_view k.now) found.new.items
+        ≡ map (λ k. kind_view k.now) found.old.items ++ option_to_list (option_map (λ k. kind_view k.now) kind.entry)) }
+{
+    if let Some(kind) = kind {
+        found.push(kind)?;
+    }
+    Ok(())
+}
+
+fn all_symbols(alloc: Global, symbols: &[Symbol]) -> Result<Vec<&SymbolKind>, NoMemory>
+    ensures { IfOk result (λ ks. map (λ k. kind_view k.now) ks.items ≡ all_kinds (parts_view symbols.now)) }
+{
+    let mut found = Vec::new(alloc);
+    for symbol in symbols {
+        found.push(&symbol.kind)?;
+    }
+    Ok(found)
+}
+
+/// The chosen symbols, if there are any, else all.
+fn sources(alloc: Global, symbols: &[Symbol]) -> Result<Vec<&SymbolKind>, NoMemory>
+    ensures { IfOk result (λ ks. map (λ k. kind_view k.now) ks.items ≡ source_kinds (parts_view symbols.now)) }
+{
+    let chosen = chosen_symbols(alloc, symbols)?;
+    if !chosen.is_empty() {
+        return Ok(chosen);
+    }
+    all_symbols(alloc, symbols)
+}
+
+/// The clause of an alternative: one without code and names gives the values of its sources, and a lookaround a location.
+pub fn alternative_clause(
+    alloc: Global,
+    alternative: &Alternative,
+) -> Result<Option<Clause<'_>>, NoMemory>
+    ensures { IfOk result (λ o. option_map clause_view o ≡ alternative_clause (alternative_view alternative.now)) }
+{
+    match &alternative.action {
+        None => default_clause(alloc, &alternative.expr),
+        Some(ActionKind::Lookahead) | Some(ActionKind::Lookbehind) => Ok(Some(Clause::Location)),
+        Some(ActionKind::User(_)) | Some(ActionKind::Fallible(_)) => Ok(None),
+    }
+}
+
+/// The clause of an alternative of these symbols without code.
+fn default_clause(alloc: Global, expr: &ExprSymbol) -> Result<Option<Clause<'_>>, NoMemory>
+    ensures { IfOk result (λ o. option_map clause_view o ≡ default_clause (expr_view expr.now)) }
+{
+    if has_name_value(&expr.symbols) {
+        return Ok(None);
+    }
+    let sources = sources(alloc, &expr.symbols)?;
+    Ok(Some(Clause::Sources(sources)))
+}
+
+/// The clauses of a rule: its declared type alone; without one, those of its alternatives in order.
+pub(crate) fn rule_clauses(
+    alloc: Global,
+    rule: &NonterminalData,
+) -> Result<Vec<Clause<'_>>, NoMemory>
+    ensures { IfOk result (λ cs. map clause_view cs.items ≡ type_clauses (rule_view rule.now)) }
+{
+    clauses_of(alloc, &rule.type_decl, &rule.alternatives)
+}
+
+fn clauses_of<'g>(
+    alloc: Global,
+    declared: &'g Option<TypeRef>,
+    alternatives: &'g [Alternative],
+) -> Result<Vec<Clause<'g>>, NoMemory>
+    ensures { IfOk result (λ cs. map clause_view cs.items ≡ type_clauses_of (option_map type_view declared.now) (map alternative_view alternatives.now)) }
+{
+    match declared {
+        Some(ty) => declared_clause(alloc, ty),
+        None => alternative_clauses(alloc, alternatives),
+    }
+}
+
+fn declared_clause(alloc: Global, ty: &TypeRef) -> Result<Vec<Clause<'_>>, NoMemory>
+    ensures { IfOk result (λ cs. map clause_view cs.items ≡ makes (type_view ty.now) ∷ []) }
+{
+    let mut clauses = Vec::new(alloc);
+    clauses.push(Clause::Declared(ty))?;
+    Ok(clauses)
+}
+
+fn alternative_clauses(
+    alloc: Global,
+    alternatives: &[Alternative],
+) -> Result<Vec<Clause<'_>>, NoMemory>
+    ensures { IfOk result (λ cs. map clause_view cs.items ≡ filter_map alternative_clause (map alternative_view alternatives.now)) }
+{
+    let mut clauses = Vec::new(alloc);
+    for alternative in alternatives {
+        add_clause(&mut clauses, alternative_clause(alloc, alternative)?)?;
+    }
+    Ok(clauses)
+}
+
+/// Adds the clause that is there.
+fn add_clause<'g>(clauses: &mut Vec<Clause<'g>>, clause: Option<Clause<'g>>) -> Result<(), NoMemory>
+    ensures { OnOk result (map clause_view clauses.new.items ≡ map clause_view clauses.old.items ++ option_to_list (option_map clause_view clause.entry)) }
+{
+    if let Some(clause) = clause {
+        clauses.push(clause)?;
+    }
+    Ok(())
+}
+
+/// A copy of the type that a clause makes of the table, if it makes one.
+pub fn clause_value(
+    alloc: Global,
+    parameters: &[TypeParameter],
+    types: &Types,
+    clause: &Clause,
+) -> Result<Option<TypeRepr>, NoMemory>
+    ensures { IfOk result (λ o. option_map repr_view o ≡ clause_in parameters.now (type_table types.now) (clause_view clause.now)) }
+{
+    match clause {
+        Clause::Declared(written) => type_value(alloc, parameters, types, written),
+        Clause::Sources(kinds) => sources_value(alloc, types, kinds),
+        Clause::Location => location_value(types),
+    }
+}
+
+fn location_value(types: &Types) -> Result<Option<TypeRepr>, NoMemory>
+    ensures { IfOk result (λ o. option_map repr_view o ≡ (type_table types.now).location) }
+{
+    copy_of(types.opt_terminal_loc_type())
+}
+
+/// The type of the values of these symbols: one bare, any other number of them as a tuple.
+fn sources_value(
+    alloc: Global,
+    types: &Types,
+    kinds: &[&SymbolKind],
+) -> Result<Option<TypeRepr>, NoMemory>
+    ensures { IfOk result (λ o. option_map repr_view o ≡ sources_in (type_table types.now) (map (λ k. kind_view k.now) kinds.now)) }
+{
+    match kinds {
+        [kind] => kind_value(types, kind),
+        _ => match all_kind_values(alloc, types, kinds)? {
+            Some(values) => Ok(Some(TypeRepr::Tuple(values))),
+            None => Ok(None),
+        },
+    }
+}
+
+fn all_kind_values(
+    alloc: Global,
+    types: &Types,
+    kinds: &[&SymbolKind],
+) -> Result<Option<Vec<TypeRepr>>, NoMemory>
+    ensures { IfOk result (λ o. option_map (λ ts. reprs_view ts.items) o ≡ kinds_in (type_table types.now) (map (λ k. kind_view k.now) kinds.now)) }
+{
+    let mut values = Vec::new(alloc);
+    for kind in kinds {
+        match kind_value(types, kind)? {
+            Some(ty) => values.push(ty)?,
+            None => return Ok(None),
+        }
+    }
+    Ok(Some(values))
+}
+
+/// A copy of the type that the first clause makes of the table that makes one.
+pub(crate) fn first_value(
+    alloc: Global,
+    parameters: &[TypeParameter],
+    types: &Types,
+    clauses: &[Clause],
+) -> Result<Option<TypeRepr>, NoMemory>
+    ensures { IfOk result (λ o. option_map repr_view o ≡ first_in parameters.now (type_table types.now) (map clause_view clauses.now)) }
+{
+    for clause in clauses {
+        if let Some(ty) = clause_value(alloc, parameters, types, clause)? {
+            return Ok(Some(ty));
+        }
+    }
+    Ok(None)
+}

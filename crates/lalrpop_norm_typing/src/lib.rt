@@ -1,0 +1,11 @@
+//! Type inference up to the table: what the parts of a grammar mean by a table of types, and what a table shows of its rules.
+#![tactic(auto)]
+
+pub mod clauses;
+pub mod grounded;
+mod named;
+pub mod patterns;
+pub mod rounds;
+pub mod same;
+pub mod tokens;
+mod values;

@@ -1,0 +1,127 @@
+//! Rules with their clauses, and rounds in which they take their types.
+ghost use Rattle.std.specs.Prelude.{◌≡◌, ◌||◌, None, Some, IfOk, OnOk, map, flat_map};
+ghost use Rattle.lalrpop_norm_parts.specs.declared.names.NonterminalString.{NonterminalString};
+ghost use Rattle.lalrpop_norm_tree.specs.Items.{item_view, rule_view};
+ghost use Rattle.lalrpop_norm_parts.specs.Reprs.{repr_view};
+ghost use Rattle.lalrpop_norm_repr.specs.Tables.{type_table, type_of};
+ghost use Rattle.lalrpop_norm_model.specs.PlainRules.{rule_of_item};
+ghost use Rattle.lalrpop_norm_typing.specs.Clauses.{clause_view, first_in};
+ghost use Rattle.lalrpop_norm_typing.specs.Visits.{rule_seen, with_clauses, TakesType, Passes};
+
+use crate::clauses::{Clause, first_value, rule_clauses};
+use lalrpop_norm_repr::grammar::repr::{TypeRepr, Types};
+use lalrpop_norm_tree::grammar::parse_tree::{
+    GrammarItem, NoMemory, NonterminalData, NonterminalString, TypeParameter,
+};
+use std::alloc::Global;
+
+/// A rule, and by which it has a type.
+#[derive(Debug, Drop)]
+pub struct PlainRule<'g> {
+    /// The rule.
+    pub data: &'g NonterminalData,
+    /// By which it has a type.
+    pub clauses: Vec<Clause<'g>>,
+}
+
+fn plain_rule(alloc: Global, rule: &NonterminalData) -> Result<PlainRule<'_>, NoMemory>
+    ensures { IfOk result (λ r. rule_seen r ≡ with_clauses (rule_view rule.now)) }
+{
+    let clauses = rule_clauses(alloc, rule)?;
+    Ok(PlainRule {
+        data: rule,
+        clauses,
+    })
+}
+
+/// The rules among the items, with their clauses.
+pub fn plain_rules(alloc: Global, items: &[GrammarItem]) -> Result<Vec<PlainRule<'_>>, NoMemory>
+    ensures { IfOk result (λ rs. map rule_seen rs.items ≡ map with_clauses (flat_map rule_of_item (map item_view items.now))) }
+{
+    let mut rules = Vec::new(alloc);
+    for item in items {
+        match item {
+            GrammarItem::Nonterminal(data) => {
+                let rule = plain_rule(alloc, data)?;
+                rules.push(rule)?
+            }
+            GrammarItem::MatchToken(_)
+            | GrammarItem::ExternToken(_)
+            | GrammarItem::InternToken(_)
+            | GrammarItem::Use(_) => {}
+        }
+    }
+    Ok(rules)
+}
+
+/// Gives a nonterminal that has no type yet its type.
+fn put_type(types: &mut Types, name: &NonterminalString, ty: TypeRepr) -> Result<(), NoMemory>
+    requires { type_of name.now (type_table types.old) ≡ None }
+    ensures added { OnOk result (type_of name.now (type_table types.new) ≡ Some (repr_view ty)) }
+    ensures others { OnOk result ((other : NonterminalString) → (other ≡ name.now → ⊥) → type_of other (type_table types.new) ≡ type_of other (type_table types.old)) }
+    ensures rest { OnOk result (type_table types.new ≡ record (type_table types.old) { nonterminals = (type_table types.new).nonterminals }) }
+{
+    let name = name.clone()?;
+    types.add_type(name, ty)?;
+    Ok(())
+}
+
+/// Gives a rule without a type the type that its first clause makes that makes one; whether there is one.
+fn take_first(
+    alloc: Global,
+    parameters: &[TypeParameter],
+    types: &mut Types,
+    rule: &PlainRule,
+) -> Result<bool, NoMemory>
+    requires { type_of rule.now.data.now.name (type_table types.old) ≡ None }
+    ensures { IfOk result (λ added. TakesType (type_table types.old) (type_table types.new) rule.now.data.now.name.0
+        (first_in parameters.now (type_table types.old) (map clause_view rule.now.clauses.items)) added) }
+{
+    match first_value(alloc, parameters, types, &rule.clauses)? {
+        Some(ty) => {
+            put_type(types, &rule.data.name, ty)?;
+            Ok(true)
+        }
+        None => Ok(false),
+    }
+}
+
+/// The visit of a rule; whether it takes a type.
+fn visit(
+    alloc: Global,
+    parameters: &[TypeParameter],
+    types: &mut Types,
+    rule: &PlainRule,
+) -> Result<bool, NoMemory>
+    ensures { IfOk result (λ added. TakesType (type_table types.old) (type_table types.new) rule.now.data.now.name.0
+        (first_in parameters.now (type_table types.old) (map clause_view rule.now.clauses.items)) added) }
+{
+    let is_typed = types.lookup_nonterminal_type(&rule.data.name).is_some();
+    if is_typed {
+        return Ok(false);
+    }
+    take_first(alloc, parameters, types, rule)
+}
+
+fn either(a: bool, b: bool) -> bool
+    ensures { result ≡ (a || b) }
+{
+    a || b
+}
+
+/// A round over the rules in order; whether one of them takes a type.
+pub fn round(
+    alloc: Global,
+    parameters: &[TypeParameter],
+    types: &mut Types,
+    rules: &[PlainRule],
+) -> Result<bool, NoMemory>
+    ensures { IfOk result (λ added. Passes parameters.now (type_table types.old) (type_table types.new) (map rule_seen rules.now) added) }
+{
+    let mut added = false;
+    for rule in rules {
+        let took = visit(alloc, parameters, types, rule)?;
+        added = either(added, took);
+    }
+    Ok(added)
+}
