@@ -1,3 +1,4 @@
+pub mod CheckedLemmas
 pub mod ConstructLemmas
 pub mod EntryLemmas
 pub mod PatternLemmas

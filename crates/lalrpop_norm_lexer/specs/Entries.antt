@@ -13,16 +13,6 @@ abbrev pub KeepsReading : {R : Type 0} → Lexer R → TerminalLiteral → Read 
 KeepsReading l (Quoted text) answer = KeepsLiteral l text answer
 KeepsReading l (Regex text) answer = KeepsPattern l text answer
 
--- The literal of the entry at that index is a bad pattern, and each entry before it has a regex.
-pub record IsFirstBad {R : Type 0} (l : Lexer R) (entries : List MatchEntry) (index : ℕ) : Type 0 where
-  pub entry : MatchEntry
-  pub text : List ℕ
-  pub at_index : slice_get entries index ≡ Some entry
-  pub literal : entry.match_literal ≡ Regex text
-  pub bad : l.IsBad text
-  pub regexes : List R
-  pub before : AreRegexes l (take index entries) regexes
-
 -- the index at which reading was refused
 abbrev pub refused_at : {T : Type 0} → Result T ReadError → Option ℕ
 refused_at (Ok x) = None

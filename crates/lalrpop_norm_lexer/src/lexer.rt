@@ -3,7 +3,7 @@ mod answers;
 mod check_only;
 
 pub use answers::{DfaConstructionError, NfaConstructionError, Precedence, RegexError};
-pub use check_only::{CheckOnly, no_bad_text_is_read};
+pub use check_only::{CheckOnly, no_bad_text_is_read, nothing_checked_is_refused};
 use lalrpop_norm_tree::grammar::parse_tree::{Dfa, NoMemory};
 use std::alloc::Global;
 

@@ -2,7 +2,8 @@
 ghost use Rattle.std.specs.Prelude.{IfSome, IfOk};
 ghost use Rattle.lalrpop_norm_lexer.specs.Answers.{pattern_answer};
 ghost use Rattle.lalrpop_norm_model.specs.CheckedTokens.{AreRegexes};
-ghost use Rattle.lalrpop_norm_lexer.specs.Entries.{KeepsReading, refused_at, IsFirstBad};
+ghost use Rattle.lalrpop_norm_lexer.specs.Entries.{KeepsReading, refused_at};
+ghost use Rattle.lalrpop_norm_model.specs.LexerFaults.{IsFirstBad};
 
 use crate::lexer::{Lexer, RegexError};
 use lalrpop_norm_parts::names::TerminalLiteral;

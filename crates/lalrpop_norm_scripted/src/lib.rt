@@ -4,9 +4,6 @@
 ghost use Rattle.std.specs.Prelude.{◌≡◌};
 ghost use Rattle.lalrpop_norm_model.specs.Terminals.{same_literal};
 
-#[cfg(test)]
-mod tests;
-
 use lalrpop_norm_lexer::lexer::{
     DfaConstructionError, Lexer, NfaConstructionError, Precedence, RegexError,
 };

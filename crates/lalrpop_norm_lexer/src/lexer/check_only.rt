@@ -1,5 +1,5 @@
 //! A lexer that reads patterns and builds nothing.
-ghost use Rattle.lalrpop_norm_lexer.specs.CheckOnly.{of_regex};
+ghost use Rattle.lalrpop_norm_lexer.specs.CheckOnly.{of_regex, RefusesNoneChecked};
 ghost use Rattle.lalrpop_norm_lexer.specs.Entries.{TellsApart};
 
 use super::Lexer;
@@ -9,7 +9,7 @@ use regex::{Error, Regex};
 use std::alloc::Global;
 
 /// Reads patterns as `regex` does, and builds an automaton with no code. It finds no unsupported feature and no ambiguity.
-#[derive(Clone, Copy, Debug)]
+#[derive(Clone, Copy, Debug, PartialEq, Eq)]
 pub struct CheckOnly;
 
 impl Lexer for CheckOnly {
@@ -50,4 +50,9 @@ impl Lexer for CheckOnly {
 /// By the relations of `CheckOnly` no text is both bad and read: where it gives a regex of a text, that text is a pattern.
 pub fn no_bad_text_is_read()
     ensures { TellsApart of_regex }
+{}
+
+/// By the relations of `CheckOnly` nothing is refused of a grammar that gets its tokens by them: none of F42 to F44 stands there.
+pub fn nothing_checked_is_refused()
+    ensures { RefusesNoneChecked }
 {}

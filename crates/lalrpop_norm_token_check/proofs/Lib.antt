@@ -1,0 +1,12 @@
+pub mod AddedLemmas
+pub mod ConvertedLemmas
+pub mod ExitLemmas
+pub mod FindingSteps
+pub mod FoundLemmas
+pub mod KeyLemmas
+pub mod LoopLemmas
+pub mod OrderLemmas
+pub mod RefusalLemmas
+pub mod TypeViews
+pub mod UseLemmas
+pub mod WholeLemmas

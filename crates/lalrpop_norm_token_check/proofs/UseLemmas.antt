@@ -1,0 +1,23 @@
+-- One terminal that is used.
+use Rattle.std.proofs.Common.{◌≡◌, ℕ, true, false, cond, Option, Some, None, refl, sym, ap, ◌∙◌}
+use Rattle.lalrpop_norm_parts.specs.declared.names.Span.{Span}
+use Rattle.lalrpop_norm_parts.specs.declared.names.TerminalLiteral.{TerminalLiteral}
+use Rattle.lalrpop_norm_parts.specs.declared.names.TerminalString.{TerminalString}
+use Rattle.lalrpop_norm_parts.specs.declared.names.TerminalString.TheVariants.{Literal, Bare, Error}
+use Rattle.lalrpop_norm_token_check.specs.Keys.{terminal_in}
+use Rattle.lalrpop_norm_token_check.specs.Found.{FoundData, with_added, with_literal, with_terminal}
+
+-- what is named stays
+pub known_stays : (c : Option ℕ) (f : FoundData) (t : TerminalString) (s : Span) → terminal_in f.names t ≡ true → f ≡ with_terminal c f t s
+known_stays None f (Literal l) s h = refl
+known_stays (Some p) f (Literal l) s h = ap (λ b. cond b f (with_added p f l s)) (sym h)
+known_stays c f (Bare a) s h = refl
+known_stays c f Error s h = refl
+
+put_literal : (p : ℕ) (f : FoundData) (l : TerminalLiteral) (s : Span) → terminal_in f.names (Literal l) ≡ false → with_added p f l s ≡ with_literal (Some p) f l s
+put_literal p f l s h = ap (λ b. cond b f (with_added p f l s)) (sym h)
+
+-- a literal that is not named, and is let in
+pub put_terminal : (c : Option ℕ) (f new : FoundData) (t : TerminalString) (l : TerminalLiteral) (s : Span) (p : ℕ) → c ≡ Some p → t ≡ Literal l →
+    terminal_in f.names t ≡ false → new ≡ with_added p f l s → new ≡ with_terminal c f t s
+put_terminal c f new t l s p e d absent made = rw (e, d) (made ∙ put_literal p f l s (ap (terminal_in f.names) (sym d) ∙ absent))

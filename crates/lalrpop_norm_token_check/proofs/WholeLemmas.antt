@@ -1,0 +1,203 @@
+-- What is found of a grammar is its entries, and where their literals stand.
+use Rattle.std.proofs.Common.{◌≡◌, ◌⊎◌, Bool, true, false, ◌||◌, ◌&&◌, cond, not, List, [], ◌∷◌, ◌++◌, map, Option, None, is_none, inl, inr, refl, sym, ap, ap₂, subst, ◌∙◌}
+use Rattle.std.specs.List.{list_any, flat_map}
+use Rattle.std.proofs.lemmas.List.{map-append}
+use Rattle.std.proofs.lemmas.Slice.Eq.{bytes_eq-Decides}
+use Rattle.lalrpop_norm_parts.specs.declared.names.Span.{Span}
+use Rattle.lalrpop_norm_parts.specs.declared.names.TerminalLiteral.{TerminalLiteral}
+use Rattle.lalrpop_norm_parts.specs.declared.names.TerminalString.{TerminalString}
+use Rattle.lalrpop_norm_parts.specs.declared.names.TerminalString.TheVariants.{Literal, Bare, Error}
+use Rattle.lalrpop_norm_tree.specs.declared.items.MatchEntry.{MatchEntry}
+use Rattle.lalrpop_norm_tree.specs.Accessors.{or_else, first_of}
+use Rattle.lalrpop_norm_tree.specs.Items.{AlternativeData, RuleData, ItemData, MatchTokenData, GrammarData}
+use Rattle.lalrpop_norm_tree.specs.Symbols.{Kind, Part, Parts, group, ambiguous_id, terminal, nonterminal, call, repeated, chosen}
+use Rattle.lalrpop_norm_tree.specs.Symbols.{named, tupled, lookahead, lookbehind, error_terminal, at, no_parts, part_and}
+use Rattle.lalrpop_norm_theory.specs.Rounds.{In}
+use Rattle.lalrpop_norm_faults.specs.Faults.{Fault, fault_if}
+use Rattle.lalrpop_norm_faults.proofs.FaultLemmas.{left_none}
+use Rattle.lalrpop_norm_faults.specs.declared.kind.FaultKind.TheVariants.{NoMapping}
+use Rattle.lalrpop_norm_model.specs.PlainRules.{rule_of_item, all_rules}
+use Rattle.lalrpop_norm_model.specs.Terminals.{same_terminal, terminals_in, terminals_in_kind, terminals_in_parts, terminals_in_rule, terminals_used}
+use Rattle.lalrpop_norm_model.specs.Entries.{match_block, match_entries, catch_all, user_names, IsEntry, written, added, AreEntries}
+use Rattle.lalrpop_norm_model.specs.TokenFaults.{places_in, places_in_kind, places_in_parts, places_used, has_entry, entry_faults}
+use Rattle.lalrpop_norm_model.specs.LexerFaults.{place_if}
+use Rattle.lalrpop_norm_token_check.specs.Uses.{places_in_alternatives, places_in_item}
+use Rattle.lalrpop_norm_token_check.specs.Found.{FoundData, IsOrdered, lacks_entry, with_block, found_faults, all_found}
+use Rattle.lalrpop_norm_token_check.specs.Checked.{ArePlaced, ArePlacesOf, HasFound}
+use Rattle.lalrpop_norm_token_check.proofs.FoundLemmas.{literals_equal, literal_same, block_same, block_names, block_entries_are, block_has_entries, block_places, block_placed}
+use Rattle.lalrpop_norm_token_check.proofs.AddedLemmas.{Use, IsAdded, uses_same, uses_places, uses_entries_are, uses_have_entries, uses_placed}
+
+-- ---- the terminals used
+
+flat_joined : {A B : Type 0} (f : A → List B) (xs ys : List A) → flat_map f (xs ++ ys) ≡ flat_map f xs ++ flat_map f ys
+flat_joined f [] ys = refl
+flat_joined f (x ∷ xs) ys = ap (λ zs. f x ++ zs) (flat_joined f xs ys) ∙ sym (joined (f x) (flat_map f xs) (flat_map f ys))
+  where
+    joined : {B : Type 0} (zs bs cs : List B) → (zs ++ bs) ++ cs ≡ zs ++ (bs ++ cs)
+    joined [] bs cs = refl
+    joined (z ∷ zs) bs cs = ap (λ ds. z ∷ ds) (joined zs bs cs)
+
+uses_in : (items : List ItemData) →
+    flat_map places_in_item items ≡ flat_map (λ (r : RuleData). places_in_alternatives r.alternatives) (flat_map rule_of_item items)
+uses_in [] = refl
+uses_in (i ∷ items) =
+    ap (λ us. places_in_item i ++ us) (uses_in items)
+    ∙ sym (flat_joined (λ (r : RuleData). places_in_alternatives r.alternatives) (rule_of_item i) (flat_map rule_of_item items))
+
+-- the terminals of the items are those that the grammar uses
+pub uses_are : (g : GrammarData) → flat_map places_in_item g.items ≡ places_used g
+uses_are g = uses_in g.items
+
+mutual
+  terminals_are_kind : (s : Span) (k : Kind) → terminals_in_kind k ≡ map (λ (u : Use). u.0) (places_in_kind s k)
+  terminals_are_kind s (terminal t) = refl
+  terminals_are_kind s (chosen p) = terminals_are p
+  terminals_are_kind s (named n p) = terminals_are p
+  terminals_are_kind s (tupled ns p) = terminals_are p
+  terminals_are_kind s (nonterminal n) = refl
+  terminals_are_kind s error_terminal = refl
+  terminals_are_kind s (group ps) = refl
+  terminals_are_kind s (ambiguous_id a) = refl
+  terminals_are_kind s (call n ps) = refl
+  terminals_are_kind s (repeated op p) = refl
+  terminals_are_kind s lookahead = refl
+  terminals_are_kind s lookbehind = refl
+
+  terminals_are : (p : Part) → terminals_in p ≡ map (λ (u : Use). u.0) (places_in p)
+  terminals_are (at s k) = terminals_are_kind s k
+
+terminals_are_parts : (ps : Parts) → terminals_in_parts ps ≡ map (λ (u : Use). u.0) (places_in_parts ps)
+terminals_are_parts no_parts = refl
+terminals_are_parts (part_and p ps) =
+    ap₂ (λ (xs ys : List TerminalString). xs ++ ys) (terminals_are p) (terminals_are_parts ps) ∙ sym (map-append (λ (u : Use). u.0) (places_in p) (places_in_parts ps))
+
+flat_mapped : {A B C : Type 0} (f : A → List B) (h : A → List C) (v : C → B) → ((x : A) → f x ≡ map v (h x)) → (xs : List A) →
+    flat_map f xs ≡ map v (flat_map h xs)
+flat_mapped f h v e [] = refl
+flat_mapped f h v e (x ∷ xs) = ap₂ (λ ys zs. ys ++ zs) (e x) (flat_mapped f h v e xs) ∙ sym (map-append v (h x) (flat_map h xs))
+
+-- the terminals used are those that have places
+pub terminals_are_used : (g : GrammarData) → terminals_used g ≡ map (λ (u : Use). u.0) (places_used g)
+terminals_are_used g =
+    flat_mapped terminals_in_rule (λ (r : RuleData). places_in_alternatives r.alternatives) (λ (u : Use). u.0)
+    (λ r. flat_mapped (λ (a : AlternativeData). terminals_in_parts a.parts) (λ (a : AlternativeData). places_in_parts a.parts) (λ (u : Use). u.0)
+    (λ a. terminals_are_parts a.parts) r.alternatives) (all_rules g)
+
+-- ---- faults
+
+de_morgan : (a b : Bool) → (not a && b) ≡ not (a || not b)
+de_morgan true b = refl
+de_morgan false true = refl
+de_morgan false false = refl
+
+lacks_is : (g : GrammarData) (t : TerminalString) → lacks_entry (catch_all g) (with_block (match_block g)).names t ≡ not (has_entry g t)
+lacks_is g (Literal l) =
+    ap (λ b. not b && is_none (catch_all g)) (block_names (match_block g) (Literal l))
+    ∙ de_morgan (list_any (same_terminal (Literal l)) (user_names (match_entries g))) (is_none (catch_all g))
+lacks_is g (Bare a) = ap not (block_names (match_block g) (Bare a))
+lacks_is g Error = refl
+
+flat_alike : {A B : Type 0} (f h : A → List B) → ((x : A) → f x ≡ h x) → (xs : List A) → flat_map f xs ≡ flat_map h xs
+flat_alike f h e [] = refl
+flat_alike f h e (x ∷ xs) = ap₂ (λ ys zs. ys ++ zs) (e x) (flat_alike f h e xs)
+
+-- the faults of what is found are those of entries
+pub found_faults_are : (g : GrammarData) → found_faults (match_block g) (places_used g) ≡ entry_faults g
+found_faults_are g =
+    ap₂ (λ (xs ys : List Fault). xs ++ ys) (block_same (match_block g))
+    (uses_same (catch_all g) (with_block (match_block g)) (places_used g)
+    ∙ flat_alike _ _ (λ (u : Use). ap (λ b. fault_if b (NoMapping, u.1)) (lacks_is g u.0)) (places_used g))
+
+-- ---- entries
+
+terminals_equal : (t u : TerminalString) → same_terminal t u ≡ true → t ≡ u
+terminals_equal (Literal l) (Literal m) h = ap Literal (literals_equal l m h)
+terminals_equal (Literal l) (Bare b) h = cc
+terminals_equal (Literal l) Error h = cc
+terminals_equal (Bare a) (Literal m) h = cc
+terminals_equal (Bare a) (Bare b) h = ap Bare ((bytes_eq-Decides a b).0 h)
+terminals_equal (Bare a) Error h = cc
+terminals_equal Error (Literal m) h = cc
+terminals_equal Error (Bare b) h = cc
+terminals_equal Error Error h = refl
+
+any_in : (l : TerminalLiteral) (ts : List TerminalString) → In (Literal l) ts → list_any (same_terminal (Literal l)) ts ≡ true
+any_in l [] i = absurd i
+any_in l (t ∷ ts) (inl is) = ap (λ b. b || list_any (same_terminal (Literal l)) ts) (ap (same_terminal (Literal l)) (sym is) ∙ literal_same l)
+any_in l (t ∷ ts) (inr i) = ap (λ b. same_terminal (Literal l) t || b) (any_in l ts i) ∙ or_true (same_terminal (Literal l) t)
+  where
+    or_true : (b : Bool) → (b || true) ≡ true
+    or_true true = refl
+    or_true false = refl
+
+none_in : (l : TerminalLiteral) (ts : List TerminalString) → (In (Literal l) ts → ⊥) → list_any (same_terminal (Literal l)) ts ≡ false
+none_in l [] none = refl
+none_in l (t ∷ ts) none = neither _ _ (by_case (same_terminal (Literal l) t) refl) (none_in l ts (λ i. none (inr i)))
+  where
+    neither : (a b : Bool) → a ≡ false → b ≡ false → (a || b) ≡ false
+    neither a b e f = rw (e, f) refl
+
+    by_case : (b : Bool) → same_terminal (Literal l) t ≡ b → same_terminal (Literal l) t ≡ false
+    by_case true e = absurd (none (inl (terminals_equal (Literal l) t e)))
+    by_case false e = e
+
+module _ (g : GrammarData) where
+  is_entry : (e : MatchEntry) → IsAdded (catch_all g) (with_block (match_block g)).names (places_used g) e ⊎ In e (with_block (match_block g)).entries → IsEntry g e
+  is_entry e (inl h) =
+      subst (IsEntry g) (sym h.is)
+      (added h.literal h.precedence (subst (In (Literal h.literal)) (sym (terminals_are_used g)) h.used)
+      (λ i. apart (sym (block_names (match_block g) (Literal h.literal)) ∙ h.not_named) (any_in h.literal _ i)) h.let_in)
+    where
+      apart : {b : Bool} → b ≡ false → b ≡ true → ⊥
+      apart {b = b} off on = let both : true ≡ false = sym on ∙ off in cc
+  is_entry e (inr i) = written e (block_entries_are (match_block g) e i)
+
+  has_entry_of : (e : MatchEntry) → IsEntry g e → IsAdded (catch_all g) (with_block (match_block g)).names (places_used g) e ⊎ In e (with_block (match_block g)).entries
+  has_entry_of e (written _ i) = inr (block_has_entries (match_block g) e i)
+  has_entry_of e (added l precedence used none let_in) = inl (record {
+    literal = l;
+    precedence = precedence;
+    is = refl;
+    let_in = let_in;
+    used = subst (In (Literal l)) (terminals_are_used g) used;
+    not_named = block_names (match_block g) (Literal l) ∙ none_in l _ none;
+  })
+
+  -- what is found, in its order, is the entries of the grammar
+  pub found_entries : IsOrdered (all_found (match_block g) (places_used g)) → AreEntries g (all_found (match_block g) (places_used g)).entries
+  found_entries rising = record {
+    all = λ e. (
+      λ i. is_entry e (uses_entries_are (catch_all g) (with_block (match_block g)) (places_used g) e i),
+      λ h. uses_have_entries (catch_all g) (with_block (match_block g)) (places_used g) e (has_entry_of e h),
+    );
+    rising = rising;
+  }
+
+  pub found_placed : ArePlaced (all_found (match_block g) (places_used g)).places (all_found (match_block g) (places_used g)).entries
+  found_placed e i = uses_placed (catch_all g) (with_block (match_block g)) (places_used g) (block_placed (match_block g)) e i
+
+  found_places : found_faults (match_block g) (places_used g) ≡ [] → ArePlacesOf g (all_found (match_block g) (places_used g)).places
+  found_places none l =
+      uses_places (catch_all g) (with_block (match_block g)) (places_used g) l
+      ∙ ap₂ (λ (b : Bool) (o : Option Span). or_else (cond (b || is_none (catch_all g)) None (first_of (place_if l) (places_used g))) o)
+      (block_names (match_block g) (Literal l)) (block_places (match_block g) l (left_none _ _ none))
+
+  -- where nothing is wrong, what is found is all of it
+  pub found_all : found_faults (match_block g) (places_used g) ≡ [] → IsOrdered (all_found (match_block g) (places_used g)) →
+      HasFound g (all_found (match_block g) (places_used g)).entries (all_found (match_block g) (places_used g)).places
+  found_all none rising = record { entries_all = found_entries rising; placed = found_placed; where_they_stand = found_places none }
+
+-- the same, of the block and the terminals that the code reads
+module _ (g : GrammarData) (b : Option MatchTokenData) (uses : List Use) (of_block : b ≡ match_block g) (of_uses : uses ≡ places_used g) where
+  pub faults_are : found_faults b uses ≡ entry_faults g
+  faults_are = ap₂ (λ (x : Option MatchTokenData) (y : List Use). found_faults x y) of_block of_uses ∙ found_faults_are g
+
+  module _ (f : FoundData) (is : f ≡ all_found b uses) where
+    whole : f ≡ all_found (match_block g) (places_used g)
+    whole = is ∙ ap₂ (λ (x : Option MatchTokenData) (y : List Use). all_found x y) of_block of_uses
+
+    pub read_placed : ArePlaced f.places f.entries
+    read_placed = subst (λ (h : FoundData). ArePlaced h.places h.entries) (sym whole) (found_placed g)
+
+    pub read_all : entry_faults g ≡ [] → IsOrdered f → HasFound g f.entries f.places
+    read_all none = subst (λ (h : FoundData). IsOrdered h → HasFound g h.entries h.places) (sym whole) (found_all g (found_faults_are g ∙ none))
