@@ -24,8 +24,9 @@ use Rattle.lalrpop_norm_model.specs.MadeRules.{span_of, some_name_value, argumen
 use Rattle.lalrpop_norm_model.specs.PlainRules.{macros_of, expansion_round}
 use Rattle.lalrpop_norm_model.specs.PlainTables.{closed, flat_meaning, declared}
 use Rattle.lalrpop_norm_conditions.specs.Conditions.{lacks_reading}
-use Rattle.lalrpop_norm_expand.specs.Conditions.{quoted_text, comparison_faults, value_faults, called_faults}
-use Rattle.lalrpop_norm_expand.specs.Expansion.{met_before, meetings, is_declared_name, has_other, shared_names, shared_in, unmade, unmade_in, past_cap, faults_from, expansion_faults}
+use Rattle.lalrpop_norm_making.specs.Conditions.{quoted_text, comparison_faults, value_faults, called_faults}
+use Rattle.lalrpop_norm_expand.specs.Expansion.{met_before, meetings, has_other, shared_names, shared_in, unmade, unmade_in, past_cap, faults_from, expansion_faults}
+use Rattle.lalrpop_norm_making.specs.Names.{is_declared_name}
 use Rattle.lalrpop_norm.specs.Laws.{CapIsExact, FaultsAreByRound}
 
 -- ---- no other fault has the number of the cap

@@ -1,21 +1,21 @@
 -- From what the early passes promise to what the late ones ask, and to the headline.
-use Rattle.std.proofs.Common.{◌≡◌, ℕ, true, List, [], ◌++◌, Option, Some, None, IsSome, refl, subst}
+use Rattle.std.proofs.Common.{◌≡◌, ℕ, List, [], ◌++◌, map, Option, Some, None, IsSome, refl, subst}
 use Rattle.lalrpop_norm_parts.specs.declared.names.NonterminalString.{NonterminalString}
-use Rattle.lalrpop_norm_parts.specs.declared.names.TerminalString.{TerminalString}
-use Rattle.lalrpop_norm_parts.specs.declared.names.TerminalString.TheVariants.{Literal, Bare, Error}
 use Rattle.lalrpop_norm_parts.specs.declared.names.Span.{Span}
 use Rattle.lalrpop_norm_tree.specs.declared.items.Condition.{Condition}
-use Rattle.lalrpop_norm_tree.specs.Items.{AlternativeData, RuleData, EnumTokenData, GrammarData, rule_item}
+use Rattle.lalrpop_norm_tree.specs.Items.{AlternativeData, RuleData, GrammarData, rule_item}
 use Rattle.lalrpop_norm_parts.specs.Reprs.{ReprData}
 use Rattle.lalrpop_norm_theory.specs.Rounds.{In, IsDistinct}
 use Rattle.lalrpop_norm_conditions.specs.Conditions.{comparison}
 use Rattle.lalrpop_norm_model.specs.Features.{Features}
-use Rattle.lalrpop_norm_model.specs.Enabled.{enabled_enum, enabled_grammar}
+use Rattle.lalrpop_norm_model.specs.Enabled.{enabled_grammar}
 use Rattle.lalrpop_norm_model.specs.Scopes.{Definition, Global, globals, definition_of, global_sense, sense_of, resolved_grammar}
 use Rattle.lalrpop_norm_model.specs.PlainRules.{all_rules, rules_without_arguments, IsEnded}
 use Rattle.lalrpop_norm_model.specs.PlainTables.{IsSettled}
 use Rattle.lalrpop_norm_model.specs.TypeRelation.{IsRule}
-use Rattle.lalrpop_norm_model.specs.Expanded.{is_plain_terminal, terminals_converted, rule_names, IsExpanded, IsTyped}
+use Rattle.lalrpop_norm_model.specs.Expanded.{rule_names, interns, IsExpanded, IsTyped}
+use Rattle.lalrpop_norm_model.proofs.EnteredLemmas.{entered_expanded}
+use Rattle.lalrpop_norm_model.proofs.EnteredTokens.{entered_typed}
 use Rattle.lalrpop_norm_model.specs.InferenceFaults.{inference_faults}
 use Rattle.lalrpop_norm_model.specs.Lexers.{Lexer}
 use Rattle.lalrpop_norm_model.specs.CheckedTokens.{IsChecked}
@@ -33,46 +33,29 @@ use Rattle.lalrpop_norm_repr.specs.Tables.{TypeTable}
 use Rattle.lalrpop_norm_late.specs.Lowering.{public_rules_in}
 use Rattle.lalrpop_norm_late.specs.Made.{types_by_name}
 use Rattle.lalrpop_norm_late.specs.Shape.{HasStartTypes, IsLoweringOf}
-use Rattle.lalrpop_norm.specs.Faithful.{HasGroundedTypes, IsInferred, IsFaithful, no_lexer, grammar_with_levels, grammar_of_plain_rules}
-use Rattle.lalrpop_norm.specs.Laws.{HasFlatMacros}
-use Rattle.lalrpop_norm.specs.PlainLaws.{PassesExpansion, PassesLowering}
-use Rattle.lalrpop_norm.specs.TakenGrammars.{IsTaken}
+use Rattle.lalrpop_norm.specs.Faithful.{HasGroundedTypes, IsInferred, IsFaithful, grammar_with_levels, grammar_of_plain_rules}
+use Rattle.lalrpop_norm.specs.Laws.{HasFlatMacros, HasOwnNames}
+use Rattle.lalrpop_norm.specs.PlainLaws.{PassesExpansion, PassesTokens, PassesLowering}
 use Rattle.lalrpop_norm.proofs.ExpandedScopes.{from_all}
 use Rattle.lalrpop_norm.proofs.ScopedLemmas.{none_of}
 use Rattle.lalrpop_norm.proofs.TreesMacros.{levels_settle_macros}
-use Rattle.lalrpop_norm.proofs.ExpandedTokens.{HasOneEnum, resolved_tokens, leveled_tokens}
-use Rattle.lalrpop_norm.proofs.ExpandedSteps.{AreFitRules, IsTokenOf, resolved_rules_fit, leveled_rules_fit}
-use Rattle.lalrpop_norm.proofs.ExpandedPlain.{IsPrepared, plain_expanded, plain_terminals, tokens}
-use Rattle.lalrpop_norm.proofs.ExpandedWritten.{written_enum, enabled_tokens, distinct_tokens, enabled_fit}
-use Rattle.lalrpop_norm.proofs.TreesFaithful.{checked_entered, levels_settled, lowered_trees_faithful}
+use Rattle.lalrpop_norm.proofs.ExpandedActive.{plain_active}
+use Rattle.lalrpop_norm.proofs.ExpandedTokens.{HasTokens, resolved_tokens, leveled_tokens}
+use Rattle.lalrpop_norm.proofs.ExpandedSteps.{AreFitRules, resolved_rules_fit, leveled_rules_fit}
+use Rattle.lalrpop_norm.proofs.ExpandedPlain.{IsPrepared, plain_expanded, tokens}
+use Rattle.lalrpop_norm.proofs.ExpandedWritten.{IsPlainTerminal, enabled_tokens, enabled_fit}
+use Rattle.lalrpop_norm.proofs.TreesFaithful.{entered_same, levels_settled, lowered_trees_faithful}
 use Rattle.lalrpop_norm.proofs.ExpandedWhole.{expansion_whole}
-use Rattle.lalrpop_norm.proofs.TypedPlain.{enabled_active, typed_by, enum_checked}
 use Rattle.lalrpop_norm.proofs.GroundedTypes.{rule_typed, start_is_free, types_are_grounded}
 
--- a terminal of an enum that does not name the error terminal is plain
-token_plain : (u : EnumTokenData) → (In Error (terminals_converted u.conversions) → ⊥) → (t : TerminalString) → IsTokenOf u t → is_plain_terminal t ≡ true
-token_plain u none (Literal l) i = refl
-token_plain u none (Bare a) i = refl
-token_plain u none Error i = absurd (none i)
+module _ (fs : Features) (g : GrammarData) (valid : validate_faults g ≡ []) where
+  fit : AreFitRules IsPlainTerminal (grammar_with_levels fs g)
+  fit =
+      leveled_rules_fit IsPlainTerminal (resolved_grammar (enabled_grammar fs g))
+      (resolved_rules_fit IsPlainTerminal (λ a. refl) (enabled_grammar fs g) (enabled_fit fs g valid))
 
-module _ (fs : Features) (g : GrammarData) (taken : IsTaken fs g) (valid : validate_faults g ≡ []) where
-  -- the one extern enum, enabled
-  abbrev pub enum_of : EnumTokenData
-  enum_of = enabled_enum fs (written_enum fs g taken valid).0
-
-  of_enabled : HasOneEnum enum_of (enabled_grammar fs g)
-  of_enabled = enabled_tokens fs g taken valid (written_enum fs g taken valid).0 (written_enum fs g taken valid).1
-
-  fit_before : AreFitRules (IsTokenOf enum_of) (resolved_grammar (enabled_grammar fs g))
-  fit_before =
-      resolved_rules_fit enum_of (enabled_grammar fs g) of_enabled
-      (enabled_fit fs g taken valid (written_enum fs g taken valid).0 (written_enum fs g taken valid).1)
-
-  fit : AreFitRules (IsTokenOf enum_of) (grammar_with_levels fs g)
-  fit = leveled_rules_fit (IsTokenOf enum_of) (resolved_grammar (enabled_grammar fs g)) fit_before
-
-  plain : (t : TerminalString) → IsTokenOf enum_of t → is_plain_terminal t ≡ true
-  plain = token_plain enum_of of_enabled.no_error
+  leveled_have_tokens : HasTokens (grammar_with_levels fs g)
+  leveled_have_tokens = leveled_tokens (resolved_grammar (enabled_grammar fs g)) (resolved_tokens (enabled_grammar fs g) (enabled_tokens fs g valid))
 
 -- macros have one level, and no fault of names stands in the grammar with levels
 module _ (fs : Features) (g : GrammarData) (leveled : leveled_faults (prepared_grammar fs g) ≡ []) where
@@ -106,7 +89,6 @@ unconditional g free d i a j =
 
 -- What the passes up to that on levels find out of a written grammar.
 pub record PassesLevels (fs : Features) (g : GrammarData) : Type 0 where
-  pub taken : IsTaken fs g
   pub valid : validate_faults g ≡ []
   pub resolved : resolve_faults (enabled_grammar fs g) ≡ []
   pub leveled : leveled_faults (prepared_grammar fs g) ≡ []
@@ -116,90 +98,91 @@ module _ (fs : Features) (g : GrammarData) (B : PassesLevels fs g) where
   settled = levels_settled fs g B.resolved (flat fs g B.leveled) (names_free fs g B.leveled)
 
   -- what the expansion needs
-  pub prepared : IsPrepared (IsTokenOf (enum_of fs g B.taken B.valid)) (enum_of fs g B.taken B.valid) (grammar_with_levels fs g)
-  prepared =
-      let u : EnumTokenData = enum_of fs g B.taken B.valid in
-      let rules : AreFitRules (IsTokenOf u) (grammar_with_levels fs g) = fit fs g B.taken B.valid in record {
-        settled = settled;
-        no_conditions = unconditional (grammar_with_levels fs g) (names_free fs g B.leveled);
-        over = λ r i. (rules r i).over;
-        bare_types = λ r i. (rules r i).bare_type;
-        tokens = leveled_tokens u (resolved_grammar (enabled_grammar fs g)) (resolved_tokens u (enabled_grammar fs g) (of_enabled fs g B.taken B.valid));
-      }
+  pub prepared : IsPrepared IsPlainTerminal (grammar_with_levels fs g)
+  prepared = record {
+    settled = settled;
+    no_conditions = unconditional (grammar_with_levels fs g) (names_free fs g B.leveled);
+    over = λ r i. (fit fs g B.valid r i).over;
+    bare_types = λ r i. (fit fs g B.valid r i).bare_type;
+    tokens = leveled_have_tokens fs g B.valid;
+  }
 
 module _ (fs : Features) (g : GrammarData) (limit : ℕ) (E : PassesExpansion fs g limit) where
   abbrev p : GrammarData
   p = grammar_of_plain_rules fs g limit
 
-  abbrev t : EnumTokenData
-  t = enum_of fs g E.taken E.valid
-
   abbrev pub before_expansion : PassesLevels fs g
-  before_expansion = record { taken = E.taken; valid = E.valid; resolved = E.resolved; leveled = E.leveled }
+  before_expansion = record { valid = E.valid; resolved = E.resolved; leveled = E.leveled }
 
-  ready : IsPrepared (IsTokenOf (enum_of fs g E.taken E.valid)) (enum_of fs g E.taken E.valid) (grammar_with_levels fs g)
+  ready : IsPrepared IsPlainTerminal (grammar_with_levels fs g)
   ready = prepared fs g before_expansion
-
-  are_plain : (a : TerminalString) → IsTokenOf (enum_of fs g E.taken E.valid) a → is_plain_terminal a ≡ true
-  are_plain = plain fs g E.taken E.valid
 
   whole : IsEnded comparison (grammar_with_levels fs g) limit
   whole = expansion_whole comparison (grammar_with_levels fs g) limit E.expanded
 
-  of_plain : HasOneEnum t (grammar_of_plain_rules fs g limit)
-  of_plain = tokens (IsTokenOf t) are_plain t comparison (grammar_with_levels fs g) ready limit whole
-
-  -- The grammar of plain rules is typed by a table in which each of its rules has a type.
-  pub plain_is_typed : (table : List ℕ → Option ReprData) → ((r : RuleData) → IsRule (grammar_of_plain_rules fs g limit) r → IsSome (table r.name.0)) →
-      IsTyped fs (grammar_of_plain_rules fs g limit) table
-  plain_is_typed table some =
-      typed_by fs t p table (enabled_active fs (written_enum fs g E.taken E.valid).0) of_plain
-      (distinct_tokens fs g E.taken E.valid (written_enum fs g E.taken E.valid).0 (written_enum fs g E.taken E.valid).1)
-      (plain_terminals (IsTokenOf t) are_plain t comparison (grammar_with_levels fs g) ready limit whole) some
-
-  -- its tokens stay as they are
-  pub plain_is_checked : {R : Type 0} (lexer : Lexer R) → IsChecked lexer (grammar_of_plain_rules fs g limit) (grammar_of_plain_rules fs g limit)
-  plain_is_checked lexer = enum_checked lexer t p of_plain
-
   pub distinct_plain : IsDistinct (rule_names (grammar_of_plain_rules fs g limit))
   distinct_plain = names_stay_distinct comparison (grammar_with_levels fs g) limit E.expanded (settled fs g before_expansion).once
 
-  -- it is expanded
-  pub plain_is_expanded : IsExpanded (grammar_of_plain_rules fs g limit)
-  plain_is_expanded = plain_expanded (IsTokenOf t) are_plain t comparison (grammar_with_levels fs g) ready limit whole distinct_plain
+  -- The grammar of plain rules is expanded, and has no internal tokens.
+  pub plain_is_expanded : IsExpanded (grammar_of_plain_rules fs g limit) × (interns (grammar_of_plain_rules fs g limit) ≡ [])
+  plain_is_expanded = (
+    plain_expanded IsPlainTerminal (λ t h. h) comparison (grammar_with_levels fs g) ready limit whole distinct_plain,
+    (tokens IsPlainTerminal (λ t h. h) comparison (grammar_with_levels fs g) ready limit whole).no_intern,
+  )
+
+module _ (fs : Features) (g : GrammarData) (limit : ℕ) (h : GrammarData) (T : PassesTokens fs g limit h) where
+  -- With its entries it is expanded too.
+  pub entered_is_expanded : IsExpanded h
+  entered_is_expanded =
+      let (expanded, none) = plain_is_expanded fs g limit T.before in
+      entered_expanded (grammar_of_plain_rules fs g limit) h expanded none T.entries
+
+  -- It is typed by a table in which each of its rules has a type.
+  pub plain_is_typed : (table : List ℕ → Option ReprData) → ((r : RuleData) → IsRule h r → IsSome (table r.name.0)) → IsTyped fs h table
+  plain_is_typed table some =
+      let (expanded, none) = plain_is_expanded fs g limit T.before in
+      entered_typed fs (grammar_of_plain_rules fs g limit) h expanded none (plain_active fs g limit) T.supplied T.entries table some
 
   -- each rule has a type in the table of inference
-  pub inferred_total : (table : TypeTable) → inference_faults (grammar_of_plain_rules fs g limit) ≡ [] → IsInferred (grammar_of_plain_rules fs g limit) table →
-      (r : RuleData) → IsRule (grammar_of_plain_rules fs g limit) r → IsSome (types_by_name table r.name.0)
-  inferred_total table typable inferred = rule_typed p table inferred distinct_plain typable
+  pub inferred_total : (table : TypeTable) → inference_faults h ≡ [] → IsInferred h table → (r : RuleData) → IsRule h r → IsSome (types_by_name table r.name.0)
+  inferred_total table typable inferred = rule_typed h table inferred entered_is_expanded.distinct_names typable
 
-module _ (fs : Features) (g : GrammarData) (limit : ℕ) (table : TypeTable) (W : PassesLowering fs g limit table) where
+module _ (fs : Features) (g : GrammarData) (limit : ℕ) (h : GrammarData) (table : TypeTable) (W : PassesLowering fs g limit h table) where
   abbrev low : GrammarData
   low = grammar_of_plain_rules fs g limit
 
+  once : IsDistinct (rule_names h)
+  once = (entered_is_expanded fs g limit h W.before).distinct_names
+
   -- the start names are no rules' names
-  pub starts_free : (r : RuleData) → In r (public_rules_in (all_rules (grammar_of_plain_rules fs g limit))) →
-      In ((grammar_of_plain_rules fs g limit).prefix ++ r.name.0) (rule_names (grammar_of_plain_rules fs g limit)) → ⊥
-  starts_free = start_is_free low table W.inferred (distinct_plain fs g limit W.before) W.typable W.lowerable
+  pub starts_free : (r : RuleData) → In r (public_rules_in (all_rules h)) → In (h.prefix ++ r.name.0) (rule_names h) → ⊥
+  starts_free = start_is_free h table W.inferred once W.typable W.lowerable
 
   -- each nonterminal has its only grounded type
-  pub grounded : (types : TypeTable) →
-      HasStartTypes (grammar_of_plain_rules fs g limit).prefix (all_rules (grammar_of_plain_rules fs g limit)) table types →
-      HasGroundedTypes (grammar_of_plain_rules fs g limit) types
-  grounded = types_are_grounded low table W.inferred (distinct_plain fs g limit W.before) W.typable W.lowerable
+  pub grounded : (types : TypeTable) → HasStartTypes h.prefix (all_rules h) table types → HasGroundedTypes h types
+  grounded = types_are_grounded h table W.inferred once W.typable W.lowerable
 
-  -- What is lowered from the plain rules is faithful.
-  pub lowered_faithful : (l : LoweredGrammar) →
-      IsLoweringOf (grammar_of_plain_rules fs g limit) (all_rules (grammar_of_plain_rules fs g limit)) table l → IsClosed l → IsFaithful no_lexer fs g l
-  lowered_faithful l shape closed =
-      let E : PassesExpansion fs g limit = W.before in record {
+  -- the grammar of plain rules has the names of its own that it has with its entries
+  own_names : HasOwnNames (grammar_of_plain_rules fs g limit)
+  own_names =
+      let (rules, prefix) = entered_same (grammar_of_plain_rules fs g limit) h W.before.entries in record {
+        once = distinct_plain fs g limit W.before.before;
+        starts =
+            subst (λ (rs : List RuleData). (r : RuleData) → In r (public_rules_in rs) → In (low.prefix ++ r.name.0) (map (λ (s : RuleData). s.name.0) rs) → ⊥) rules
+            (subst (λ (before : List ℕ). (r : RuleData) → In r (public_rules_in (all_rules h)) → In (before ++ r.name.0) (rule_names h) → ⊥) prefix starts_free);
+      }
+
+  -- What is lowered from the plain rules with their tokens is faithful.
+  pub lowered_faithful : {R : Type 0} (lexer : Lexer R) → IsChecked lexer (grammar_of_plain_rules fs g limit) h → (l : LoweredGrammar) →
+      IsLoweringOf h (all_rules h) table l → IsClosed l → IsFaithful lexer fs g l
+  lowered_faithful lexer tokens l shape closed =
+      let E : PassesExpansion fs g limit = W.before.before in record {
         rounds = limit;
         trees =
             lowered_trees_faithful fs g E.resolved (flat fs g E.leveled) (names_free fs g E.leveled) limit (whole fs g limit E)
-            (record { once = distinct_plain fs g limit E; starts = starts_free }) low
-            (checked_entered no_lexer low low (plain_is_checked fs g limit E no_lexer)) table l shape;
-        plain = low;
-        tokens = plain_is_checked fs g limit E no_lexer;
+            own_names h W.before.entries table l shape;
+        plain = h;
+        tokens = tokens;
         types = grounded l.types shape.types;
         table = table;
         inferred = W.inferred;

@@ -1,48 +1,45 @@
 -- The grammar of plain rules is expanded.
-use Rattle.std.proofs.Common.{◌≡◌, ◌⊎◌, inl, inr, ℕ, ◌≤◌, true, not, List, [], length, map, None, refl, ap, sym, subst, arith}
+use Rattle.std.proofs.Common.{◌≡◌, ◌⊎◌, inl, inr, ℕ, ◌≤◌, true, not, List, [], length, map, None, sym, subst, arith}
 use Rattle.std.specs.Prelude.{flat_map}
 use Rattle.lalrpop_norm_parts.specs.declared.names.TerminalString.{TerminalString}
-use Rattle.lalrpop_norm_parts.specs.declared.names.TerminalString.TheVariants.{Error}
 use Rattle.lalrpop_norm_tree.specs.Symbols.{Kind, Part}
-use Rattle.lalrpop_norm_tree.specs.Items.{AlternativeData, RuleData, EnumTokenData, MatchTokenData, InternTokenData, GrammarData}
+use Rattle.lalrpop_norm_tree.specs.Items.{AlternativeData, RuleData, GrammarData}
 use Rattle.lalrpop_norm_theory.specs.Rounds.{In, IsDistinct}
 use Rattle.lalrpop_norm_theory.proofs.RoundsLemmas.{in_cases, in_flat, of_flat}
-use Rattle.lalrpop_norm_model.specs.Entries.{group_entries, user_names}
 use Rattle.lalrpop_norm_model.specs.Grammars.{is_nil, ConditionValue}
 use Rattle.lalrpop_norm_model.specs.MadeRules.{made_rules}
 use Rattle.lalrpop_norm_model.specs.PlainRules.{all_met, met_in_rule, met_by_made, all_rules, rules_without_arguments, macros_of, same_apart_from_spans, made_symbols, made_in, replaced_alternative, replaced_rule, plain_grammar, IsEnded}
 use Rattle.lalrpop_norm_model.specs.PlainTables.{IsSettled}
-use Rattle.lalrpop_norm_model.specs.Terminals.{terminals_in_parts, terminals_in_rule, terminals_used}
 use Rattle.lalrpop_norm_model.specs.TypeRelation.{IsRule}
-use Rattle.lalrpop_norm_model.specs.Expanded.{is_plain_terminal, is_plain_kind, are_plain, names_in_kind, names_in_parts, declared_symbols, rule_names, names_used_by, names_used, enums, match_blocks, interns, terminals_converted, converted, mapped_terminals, IsExpanded}
+use Rattle.lalrpop_norm_model.specs.Expanded.{is_plain_terminal, is_plain_kind, are_plain, names_in_kind, names_in_parts, declared_symbols, rule_names, names_used_by, names_used, interns, IsExpanded}
 use Rattle.lalrpop_norm_model.proofs.LevelLemmas.{of_map}
 use Rattle.lalrpop_norm_model.proofs.InferenceLemmas.{in_filtered}
 use Rattle.lalrpop_norm_model.proofs.FaithfulLemmas.{plain_grammars_hold_plain_rules}
-use Rattle.lalrpop_norm.proofs.ExpandedParts.{IsReady, AreReady, parts_plain, parts_terminals}
+use Rattle.lalrpop_norm.proofs.ExpandedParts.{IsReady, AreReady, parts_plain}
 use Rattle.lalrpop_norm.proofs.ExpandedSymbols.{Covered, parts_named, made_settled}
 use Rattle.lalrpop_norm.proofs.ExpandedRounds.{made_within, written_named, start_covered, made_covered, inside_covered}
 use Rattle.lalrpop_norm.proofs.ExpandedScopes.{IsOver, AreOver, from_all, part_ready, parts_ready, alternative_ready}
 use Rattle.lalrpop_norm.proofs.ExpandedInstances.{all_met_over, IsFitMade, made_fit}
 use Rattle.lalrpop_norm_model.proofs.RoundReadLemmas.{made_symbols_are_scoped, made_rules_scoped}
-use Rattle.lalrpop_norm.proofs.ExpandedTokens.{HasOneEnum, plain_tokens}
+use Rattle.lalrpop_norm.proofs.ExpandedTokens.{HasTokens, plain_tokens}
 
 -- ---- the grammar
 
 -- What the expansion needs of a grammar: its names are resolved, only macros have conditions, no symbol stands in a declared type, its
--- terminals are among those of P, and its tokens are of one enum.
-pub record IsPrepared (P : TerminalString → Type 0) (u : EnumTokenData) (g : GrammarData) : Type 0 where
+-- terminals are among those of P, and its tokens are as before the pass on tokens.
+pub record IsPrepared (P : TerminalString → Type 0) (g : GrammarData) : Type 0 where
   pub settled : IsSettled g
   pub no_conditions : (d : RuleData) → In d (rules_without_arguments g) → (a : AlternativeData) → In a d.alternatives → a.condition ≡ None
   pub over : (d : RuleData) → In d (all_rules g) → (a : AlternativeData) → In a d.alternatives → AreOver P a.parts
   pub bare_types : (d : RuleData) → In d (all_rules g) → declared_symbols d ≡ []
-  pub tokens : HasOneEnum u g
+  pub tokens : HasTokens g
 
 -- where a list is empty
 none_of : {A : Type 0} (xs : List A) (x : A) → xs ≡ [] → In x xs → ⊥
 none_of xs x e i = subst (λ ys. In x ys) e i
 
 module _ (P : TerminalString → Type 0) (plain : (t : TerminalString) → P t → is_plain_terminal t ≡ true)
-    (u : EnumTokenData) (value : ConditionValue) (g : GrammarData) (h : IsPrepared P u g) (n : ℕ) (whole : IsEnded value g n) where
+    (value : ConditionValue) (g : GrammarData) (h : IsPrepared P g) (n : ℕ) (whole : IsEnded value g n) where
   abbrev p : GrammarData
   p = plain_grammar value g n
 
@@ -144,13 +141,6 @@ module _ (P : TerminalString → Type 0) (plain : (t : TerminalString) → P t �
       (λ d i a j. parts_plain P Named plain a.parts (written_ready d i a j))
       (λ q i d j a k. parts_plain P Named plain a.parts (made_alternative_ready q i d j a k))
 
-  -- the terminals of alternatives are among those of P
-  each_terminal : (r : RuleData) → IsRule p r → (a : AlternativeData) → In a r.alternatives → (t : TerminalString) → In t (terminals_in_parts a.parts) → P t
-  each_terminal =
-      each_alternative (λ a. (t : TerminalString) → In t (terminals_in_parts a.parts) → P t)
-      (λ d i a j. parts_terminals P Named a.parts (written_ready d i a j))
-      (λ q i d j a k. parts_terminals P Named a.parts (made_alternative_ready q i d j a k))
-
   -- ---- names
 
   written_covered : (d : RuleData) → In d (rules_without_arguments g) → (a : AlternativeData) → In a d.alternatives → Covered P plain (rule_names p) (all_met a.parts)
@@ -189,29 +179,11 @@ module _ (P : TerminalString → Type 0) (plain : (t : TerminalString) → P t �
 
   -- ---- tokens
 
-  pub tokens : HasOneEnum u (plain_grammar value g n)
-  tokens = plain_tokens u value g n h.tokens
+  pub tokens : HasTokens (plain_grammar value g n)
+  tokens = plain_tokens value g n h.tokens
 
-  no_error_converted : In Error (converted p) → ⊥
-  no_error_converted i =
-      elim (in_cases Error (terminals_converted u.conversions) []
-      (subst (λ (es : List EnumTokenData). In Error (flat_map (λ (e : EnumTokenData). terminals_converted e.conversions) es)) tokens.one_enum i)) [
-        | inl j ↦ tokens.no_error j
-        | inr j ↦ j
-      ]
-
-  none_mapped : mapped_terminals p ≡ []
-  none_mapped =
-      rw (
-        ap (flat_map (λ (m : MatchTokenData). user_names (group_entries m.contents))) tokens.no_match,
-        ap (flat_map (λ (t : InternTokenData). user_names t.match_entries)) tokens.no_intern,
-      ) refl
-
-  at_most : {A : Type 0} (xs : List A) → xs ≡ [] → length xs ≤ 1
-  at_most xs e = subst (λ ys. length ys ≤ 1) (sym e) (omega arith)
-
-  just_one : length (enums p) ≤ 1
-  just_one = subst (λ (es : List EnumTokenData). length es ≤ 1) (sym tokens.one_enum) (omega arith)
+  at_most_one : {A : Type 0} (xs : List A) → xs ≡ [] → length xs ≤ 1
+  at_most_one xs e = subst (λ ys. length ys ≤ 1) (sym e) (omega arith)
 
   -- The grammar of plain rules is expanded, where its names are distinct.
   pub plain_expanded : IsDistinct (rule_names (plain_grammar value g n)) → IsExpanded (plain_grammar value g n)
@@ -221,21 +193,14 @@ module _ (P : TerminalString → Type 0) (plain : (t : TerminalString) → P t �
     plain_symbols = λ a i. plain_symbols i.0 i.1 a i.2;
     distinct_names = distinct;
     names_have_rules = name_used;
-    no_error_converted = no_error_converted;
-    no_error_mapped = λ i. none_of (mapped_terminals p) Error none_mapped i;
-    one_enum = just_one;
-    one_match = at_most (match_blocks p) tokens.no_match;
-    one_intern = at_most (interns p) tokens.no_intern;
-    enum_without_match = λ some. tokens.no_match;
+    no_error_converted = tokens.no_error_converted;
+    no_error_mapped = tokens.no_error_mapped;
+    one_enum = tokens.one_enum;
+    one_match = tokens.one_match;
+    one_intern = at_most_one (interns p) tokens.no_intern;
+    enum_without_match = tokens.enum_alone;
     enum_without_intern = λ some. tokens.no_intern;
     symbols_declared_only = tokens.bare_types;
     plain_in_types = λ r k i j. (types_settled r i k j).0;
     known_attributes = tokens.known;
   }
-
-  -- its terminals are among those of P
-  pub plain_terminals : (t : TerminalString) → In t (terminals_used (plain_grammar value g n)) → P t
-  plain_terminals t i =
-      let (r, j, k) = of_flat terminals_in_rule t (all_rules p) i in
-      let (a, l, m) = of_flat (λ (x : AlternativeData). terminals_in_parts x.parts) t r.alternatives k in
-      each_terminal r j a l t m

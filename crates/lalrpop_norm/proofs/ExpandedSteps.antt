@@ -1,27 +1,23 @@
 -- From the enabled grammar to the grammar with levels: rules keep their declared types and symbols their terminals, to which resolving
--- adds bare ones with a conversion.
-use Rattle.std.proofs.Common.{◌≡◌, inl, inr, ℕ, zero, suc, Bool, true, false, List, [], ◌∷◌, ◌++◌, length, map, Option, Some, None, refl, ap, sym, subst, ◌∙◌, arith}
-use Rattle.std.specs.Prelude.{flat_map, if◌then◌else◌, option_to_list, bytes_eq, nat_eq}
-use Rattle.lalrpop_norm_parts.specs.declared.names.NonterminalString.{NonterminalString}
-use Rattle.lalrpop_norm_parts.specs.declared.names.Span.{Span}
+-- adds bare ones.
+use Rattle.std.proofs.Common.{◌≡◌, inl, inr, ℕ, suc, Bool, true, false, List, [], ◌∷◌, ◌++◌, map, Option, Some, None, refl, ap, sym, subst}
+use Rattle.std.specs.Prelude.{flat_map, if◌then◌else◌, nat_eq}
 use Rattle.lalrpop_norm_parts.specs.declared.names.TerminalString.{TerminalString}
-use Rattle.lalrpop_norm_parts.specs.declared.names.TerminalString.TheVariants.{Literal, Bare, Error}
+use Rattle.lalrpop_norm_parts.specs.declared.names.TerminalString.TheVariants.{Bare}
 use Rattle.lalrpop_norm_tree.specs.Symbols.{Kind, Part, Parts, group, ambiguous_id, terminal, nonterminal, call, repeated, chosen, named, tupled, lookahead, lookbehind, error_terminal, at, no_parts, part_and}
-use Rattle.lalrpop_norm_tree.specs.Items.{AlternativeData, RuleData, ConversionData, EnumTokenData, ItemData, GrammarData, match_item, extern_item, intern_item, rule_item, use_item}
+use Rattle.lalrpop_norm_tree.specs.Items.{AlternativeData, RuleData, ItemData, GrammarData, match_item, extern_item, intern_item, rule_item, use_item}
 use Rattle.lalrpop_norm_theory.specs.Rounds.{In}
-use Rattle.lalrpop_norm_theory.proofs.RoundsLemmas.{in_left, in_right, in_cases, of_flat}
-use Rattle.lalrpop_norm_theory.proofs.SameLemmas.{text_sound}
+use Rattle.lalrpop_norm_theory.proofs.RoundsLemmas.{in_cases, of_flat}
 use Rattle.lalrpop_norm_model.specs.Features.{Features, is_active}
 use Rattle.lalrpop_norm_model.specs.Enabled.{Places, present, if_active, all_places, enabled_rule, enabled_item, enabled_grammar}
-use Rattle.lalrpop_norm_model.specs.Scopes.{Definition, a_rule, a_macro, a_terminal, Global, rule_definition, bare_global, conversions_in, rule_globals, conversion_globals, match_globals, globals, definition_of, Sense, an_argument, a_global, global_sense, is_argument, sense_of, by_sense, resolved_kind, resolved_part, resolved_parts, resolved_alternative, resolved_rule, resolved_item, resolved_grammar}
+use Rattle.lalrpop_norm_model.specs.Scopes.{a_rule, a_macro, a_terminal, Global, globals, Sense, an_argument, a_global, sense_of, by_sense, resolved_kind, resolved_part, resolved_parts, resolved_alternative, resolved_rule, resolved_item, resolved_grammar}
 use Rattle.lalrpop_norm_model.specs.Levels.{Leveled, with_levels, leveled_at, map_numbered, levels_of, previous_level, has_levels}
 use Rattle.lalrpop_norm_model.specs.LevelRules.{leveled_kind, leveled_part, leveled_parts, is_own, level_alternative, step_alternatives, of_level, level_rule, level_rules, leveled_grammar}
 use Rattle.lalrpop_norm_model.specs.PlainRules.{rule_of_item, all_rules}
-use Rattle.lalrpop_norm_model.specs.Expanded.{enum_in, match_in, enums, terminals_converted, declared_symbols}
+use Rattle.lalrpop_norm_model.specs.Expanded.{declared_symbols}
 use Rattle.lalrpop_norm_model.proofs.LevelLemmas.{of_map}
 use Rattle.lalrpop_norm_model.proofs.GrammarLemmas.{all_level_rules}
 use Rattle.lalrpop_norm.proofs.ExpandedScopes.{IsOverKind, IsOver, AreOver}
-use Rattle.lalrpop_norm.proofs.ExpandedTokens.{HasOneEnum}
 
 -- a rule with no symbol in its type, whose terminals are among those of P
 pub record IsFitRule (P : TerminalString → Type 0) (r : RuleData) : Type 0 where
@@ -102,120 +98,14 @@ module _ (P : TerminalString → Type 0) (sense : List ℕ → Option Sense) (ba
     resolved_over no_parts h = tt
     resolved_over (part_and p ps) h = (resolved_part_over p h.0, resolved_over ps h.1)
 
--- a name that is a terminal's is one of the definitions
-defined_in : (ds : List Global) (a : List ℕ) (x : Definition) → definition_of ds a ≡ Some x → (d : Global) × In d ds × (d.name ≡ a) × (d.definition ≡ x)
-defined_in [] a x h = absurd (grind arith)
-defined_in (d ∷ ds) a x h = by (bytes_eq d.name a) refl (defined_in ds a x) h
-  where
-    by : (b : Bool) → bytes_eq d.name a ≡ b → (definition_of ds a ≡ Some x → (e : Global) × In e ds × (e.name ≡ a) × (e.definition ≡ x)) →
-        (if b then Some d.definition else definition_of ds a) ≡ Some x → (e : Global) × In e (d ∷ ds) × (e.name ≡ a) × (e.definition ≡ x)
-    by true e f i = (d, inl refl, text_sound d.name a e, cc i)
-    by false e f i = let y = f i in (y.0, inr y.1, y.2, y.3)
-
-rule_no_terminal : (n : ℕ) → rule_definition n ≡ a_terminal → ⊥
-rule_no_terminal zero e = cc e
-rule_no_terminal (suc n) e = cc e
-
--- definitions of rules are none of terminals
-no_rule_defines : (items : List ItemData) (d : Global) → In d (flat_map rule_globals items) → d.definition ≡ a_terminal → ⊥
-no_rule_defines [] d i e = i
-no_rule_defines (rule_item r ∷ items) d (inl same) e = rule_no_terminal (length r.args) (ap (λ (x : Global). x.definition) (sym same) ∙ e)
-no_rule_defines (rule_item r ∷ items) d (inr i) e = no_rule_defines items d i e
-no_rule_defines (match_item m ∷ items) d i e = no_rule_defines items d i e
-no_rule_defines (extern_item t ∷ items) d i e = no_rule_defines items d i e
-no_rule_defines (intern_item t ∷ items) d i e = no_rule_defines items d i e
-no_rule_defines (use_item u ∷ items) d i e = no_rule_defines items d i e
-
--- without a match block nothing is defined in one
-no_match_defines : (items : List ItemData) → flat_map match_in items ≡ [] → flat_map match_globals items ≡ []
-no_match_defines [] e = refl
-no_match_defines (rule_item r ∷ items) e = no_match_defines items e
-no_match_defines (match_item m ∷ items) e = absurd (cc e)
-no_match_defines (extern_item t ∷ items) e = no_match_defines items e
-no_match_defines (intern_item t ∷ items) e = no_match_defines items e
-no_match_defines (use_item u ∷ items) e = no_match_defines items e
-
--- a bare name that a conversion gives is its terminal
-bare_from : (t : TerminalString) (s : Span) (d : Global) → In d (bare_global t s) → t ≡ Bare d.name
-bare_from (Bare a) s d (inl e) = ap (λ (x : Global). Bare x.name) (sym e)
-bare_from (Bare a) s d (inr i) = absurd i
-bare_from (Literal l) s d i = absurd i
-bare_from Error s d i = absurd i
-
-converted_from : (cs : List ConversionData) (d : Global) → In d (flat_map (λ (c : ConversionData). bare_global c.from c.span) cs) → In (Bare d.name) (terminals_converted cs)
-converted_from [] d i = absurd i
-converted_from (c ∷ cs) d i = elim (in_cases d (bare_global c.from c.span) (flat_map (λ (x : ConversionData). bare_global x.from x.span) cs) i) [
-  | inl j ↦ inl (sym (bare_from c.from c.span d j))
-  | inr j ↦ inr (converted_from cs d j)
-]
-
-abbrev of_enums : List EnumTokenData → List TerminalString
-of_enums es = flat_map (λ (e : EnumTokenData). terminals_converted e.conversions) es
-
-enum_from : (o : Option EnumTokenData) (es : List EnumTokenData) (d : Global) → In d (flat_map (λ (c : ConversionData). bare_global c.from c.span) (conversions_in o)) →
-    In (Bare d.name) (of_enums (option_to_list o ++ es))
-enum_from None es d i = absurd i
-enum_from (Some e) es d i = in_left (Bare d.name) (terminals_converted e.conversions) (of_enums es) (converted_from e.conversions d i)
-
-more_enums : (o : Option EnumTokenData) (es : List EnumTokenData) (t : TerminalString) → In t (of_enums es) → In t (of_enums (option_to_list o ++ es))
-more_enums None es t i = i
-more_enums (Some e) es t i = in_right t (terminals_converted e.conversions) (of_enums es) i
-
-conversion_defines : (items : List ItemData) (d : Global) → In d (flat_map conversion_globals items) → In (Bare d.name) (of_enums (flat_map enum_in items))
-conversion_defines [] d i = absurd i
-conversion_defines (rule_item r ∷ items) d i = conversion_defines items d i
-conversion_defines (match_item m ∷ items) d i = conversion_defines items d i
-conversion_defines (intern_item t ∷ items) d i = conversion_defines items d i
-conversion_defines (use_item u ∷ items) d i = conversion_defines items d i
-conversion_defines (extern_item t ∷ items) d i =
-    elim (in_cases d (flat_map (λ (c : ConversionData). bare_global c.from c.span) (conversions_in t.enum_token)) (flat_map conversion_globals items) i) [
-      | inl j ↦ enum_from t.enum_token (flat_map enum_in items) d j
-      | inr j ↦ more_enums t.enum_token (flat_map enum_in items) (Bare d.name) (conversion_defines items d j)
-    ]
-
--- a terminal of an enum
-abbrev pub IsTokenOf : EnumTokenData → TerminalString → Type 0
-IsTokenOf u t = In t (terminals_converted u.conversions)
-
-no_more : {A : Type 0} (x : A) (xs : List A) → In x (xs ++ []) → In x xs
-no_more x xs i = elim (in_cases x xs [] i) [ inl j ↦ j | inr j ↦ absurd j ]
-
-module _ (u : EnumTokenData) (g : GrammarData) (h : HasOneEnum u g) where
-  bare_token : (a : List ℕ) → definition_of (globals g) a ≡ Some a_terminal → IsTokenOf u (Bare a)
-  bare_token a e =
-      let (d, i, name, is) = defined_in (globals g) a a_terminal e in
-      elim (in_cases d (flat_map rule_globals g.items) (flat_map conversion_globals g.items ++ flat_map match_globals g.items) i) [
-        | inl j ↦ absurd (no_rule_defines g.items d j is)
-        | inr j ↦ elim (in_cases d (flat_map conversion_globals g.items) (flat_map match_globals g.items) j) [
-          | inl k ↦ by_conversion d name k
-          | inr k ↦ absurd (subst (λ (ds : List Global). In d ds) (no_match_defines g.items h.no_match) k)
-        ]
-      ]
-    where
-      by_conversion : (d : Global) → d.name ≡ a → In d (flat_map conversion_globals g.items) → IsTokenOf u (Bare a)
-      by_conversion d name k =
-          no_more (Bare a) (terminals_converted u.conversions)
-          (subst (λ (es : List EnumTokenData). In (Bare a) (of_enums es)) h.one_enum
-          (subst (λ m. In (Bare m) (of_enums (enums g))) name (conversion_defines g.items d k)))
-
-  sensed_token : (args : List NonterminalString) (a : List ℕ) → sense_of (globals g) args a ≡ Some (a_global a_terminal) → IsTokenOf u (Bare a)
-  sensed_token args a e = sensed (is_argument args a) e
-    where
-      by : (o : Option Definition) → definition_of (globals g) a ≡ o → global_sense o ≡ Some (a_global a_terminal) → IsTokenOf u (Bare a)
-      by None is i = absurd (grind arith)
-      by (Some x) is i = let same : x ≡ a_terminal = cc i in bare_token a (is ∙ ap Some same)
-
-      sensed : (b : Bool) → (if b then Some an_argument else global_sense (definition_of (globals g) a)) ≡ Some (a_global a_terminal) → IsTokenOf u (Bare a)
-      sensed true i = absurd (grind arith)
-      sensed false i = by (definition_of (globals g) a) refl i
-
-  resolved_fit : (r : RuleData) → IsFitRule (IsTokenOf u) r → IsFitRule (IsTokenOf u) (resolved_rule (globals g) r)
+module _ (P : TerminalString → Type 0) (bare : (a : List ℕ) → P (Bare a)) (g : GrammarData) where
+  resolved_fit : (r : RuleData) → IsFitRule P r → IsFitRule P (resolved_rule (globals g) r)
   resolved_fit r f = record {
     bare_type = f.bare_type;
     over = λ a i.
         let (b, j, e) = of_map (resolved_alternative (sense_of (globals g) r.args)) a r.alternatives i in
-        subst (λ (x : AlternativeData). AreOver (IsTokenOf u) x.parts) (sym e)
-        (resolved_over (IsTokenOf u) (sense_of (globals g) r.args) (λ n is. sensed_token r.args n is) b.parts (f.over b j));
+        subst (λ (x : AlternativeData). AreOver P x.parts) (sym e)
+        (resolved_over P (sense_of (globals g) r.args) (λ n is. bare n) b.parts (f.over b j));
   }
 
   resolved_rule_from : (ds : List Global) (items : List ItemData) (r : RuleData) → In r (flat_map rule_of_item (map (resolved_item ds) items)) →
@@ -228,10 +118,10 @@ module _ (u : EnumTokenData) (g : GrammarData) (h : HasOneEnum u g) where
   resolved_rule_from ds (intern_item t ∷ items) r i = resolved_rule_from ds items r i
   resolved_rule_from ds (use_item u ∷ items) r i = resolved_rule_from ds items r i
 
-  pub resolved_rules_fit : AreFitRules (IsTokenOf u) g → AreFitRules (IsTokenOf u) (resolved_grammar g)
+  pub resolved_rules_fit : AreFitRules P g → AreFitRules P (resolved_grammar g)
   resolved_rules_fit f r i =
       let (d, j, e) = resolved_rule_from (globals g) g.items r i in
-      subst (λ (x : RuleData). IsFitRule (IsTokenOf u) x) (sym e) (resolved_fit d (f d j))
+      subst (λ (x : RuleData). IsFitRule P x) (sym e) (resolved_fit d (f d j))
 
 -- ---- with levels
 

@@ -1,9 +1,9 @@
--- The tokens of a grammar with one extern enum and nothing else that gives tokens, along the steps that change rules alone.
-use Rattle.std.proofs.Common.{◌≡◌, ℕ, Bool, true, false, List, [], ◌∷◌, ◌++◌, map, Option, Some, None, refl, ap, sym, subst, ◌∙◌}
-use Rattle.std.specs.Prelude.{flat_map, if◌then◌else◌, option_to_list}
+-- The tokens of a grammar before the pass on tokens, along the steps that change rules alone.
+use Rattle.std.proofs.Common.{◌≡◌, ◌<◌, ◌≤◌, ℕ, Bool, true, false, List, [], ◌∷◌, ◌++◌, length, map, refl, ap, sym, subst, ◌∙◌}
+use Rattle.std.specs.Prelude.{flat_map, if◌then◌else◌}
+use Rattle.lalrpop_norm_parts.specs.declared.names.TerminalString.{TerminalString}
 use Rattle.lalrpop_norm_parts.specs.declared.names.TerminalString.TheVariants.{Error}
-use Rattle.lalrpop_norm_tree.specs.Accessors.{first_of, or_else, enum_token_of}
-use Rattle.lalrpop_norm_tree.specs.Items.{RuleData, EnumTokenData, ItemData, GrammarData, match_item, extern_item, intern_item, rule_item, use_item}
+use Rattle.lalrpop_norm_tree.specs.Items.{RuleData, EnumTokenData, MatchTokenData, InternTokenData, ItemData, GrammarData, match_item, extern_item, intern_item, rule_item, use_item}
 use Rattle.lalrpop_norm_tree.specs.LoweredTypes.{holds_symbol}
 use Rattle.lalrpop_norm_tree.specs.Types.{TypeData, ParameterData}
 use Rattle.lalrpop_norm_theory.specs.Rounds.{In}
@@ -11,36 +11,22 @@ use Rattle.lalrpop_norm_model.specs.Scopes.{Global, globals, resolved_item, reso
 use Rattle.lalrpop_norm_model.specs.LevelRules.{level_items, level_rules, leveled_grammar}
 use Rattle.lalrpop_norm_model.specs.Grammars.{is_nil, ConditionValue}
 use Rattle.lalrpop_norm_model.specs.PlainRules.{replaced_rule, plain_item, plain_grammar, made_in}
-use Rattle.lalrpop_norm_model.specs.TerminalTypes.{extern_enum}
-use Rattle.lalrpop_norm_model.specs.Expanded.{enum_in, match_in, intern_in, enums, match_blocks, interns, terminals_converted, types_in_clause, types_in_extern, types_beside_rules, all_known}
+use Rattle.lalrpop_norm_model.specs.Entries.{group_entries, user_names}
+use Rattle.lalrpop_norm_model.specs.Expanded.{enum_in, match_in, intern_in, enums, match_blocks, interns, terminals_converted, converted, mapped_terminals, types_in_clause, types_in_extern, types_beside_rules, all_known}
 
 -- ---- tokens
 
--- one extern enum, no match block and no internal tokens; no error terminal, no symbol in a type, and known attributes
-pub record HasOneEnum (enum : EnumTokenData) (g : GrammarData) : Type 0 where
-  pub one_enum : enums g ≡ enum ∷ []
-  pub no_match : match_blocks g ≡ []
+-- At most one extern enum, and beside it no match block, of which there is at most one; no internal tokens yet; nothing names the error
+-- terminal; no symbol stands in a type that no rule declares, and attributes are known.
+pub record HasTokens (g : GrammarData) : Type 0 where
+  pub one_enum : length (enums g) ≤ 1
+  pub one_match : length (match_blocks g) ≤ 1
   pub no_intern : interns g ≡ []
-  pub no_error : In Error (terminals_converted enum.conversions) → ⊥
+  pub enum_alone : 0 < length (enums g) → match_blocks g ≡ []
+  pub no_error_converted : In Error (converted g) → ⊥
+  pub no_error_mapped : In Error (mapped_terminals g) → ⊥
   pub bare_types : (t : TypeData) → In t (types_beside_rules g) → holds_symbol t ≡ false
   pub known : all_known g.attributes ≡ true
-
-first_listed : (items : List ItemData) (e : EnumTokenData) (rest : List EnumTokenData) → flat_map enum_in items ≡ e ∷ rest → first_of enum_token_of items ≡ Some e
-first_listed [] e rest h = absurd (cc h)
-first_listed (match_item m ∷ items) e rest h = first_listed items e rest h
-first_listed (intern_item t ∷ items) e rest h = first_listed items e rest h
-first_listed (rule_item r ∷ items) e rest h = first_listed items e rest h
-first_listed (use_item u ∷ items) e rest h = first_listed items e rest h
-first_listed (extern_item t ∷ items) e rest h = by t.enum_token (first_listed items e rest) h
-  where
-    by : (o : Option EnumTokenData) → (flat_map enum_in items ≡ e ∷ rest → first_of enum_token_of items ≡ Some e) →
-        option_to_list o ++ flat_map enum_in items ≡ e ∷ rest → or_else o (first_of enum_token_of items) ≡ Some e
-    by None f i = f i
-    by (Some u) f i = let same : u ≡ e = cc i in ap Some same
-
--- it is the extern enum of the grammar
-pub the_enum : (u : EnumTokenData) (g : GrammarData) → HasOneEnum u g → extern_enum g ≡ Some u
-the_enum u g h = first_listed g.items u [] h.one_enum
 
 -- ---- steps that change rules alone
 
@@ -96,37 +82,49 @@ pub record SayTheSame (items others : List ItemData) : Type 0 where
   pub interns : flat_map intern_in items ≡ flat_map intern_in others
   pub types : flat_map types_in_extern items ≡ flat_map types_in_extern others
 
+abbrev of_enums : List EnumTokenData → List TerminalString
+of_enums es = flat_map (λ (e : EnumTokenData). terminals_converted e.conversions) es
+
+abbrev of_blocks : List MatchTokenData → List InternTokenData → List TerminalString
+of_blocks ms ts =
+    flat_map (λ (m : MatchTokenData). user_names (group_entries m.contents)) ms
+    ++ flat_map (λ (t : InternTokenData). user_names t.match_entries) ts
+
 -- a grammar with such items has the same tokens
-kept_tokens : (u : EnumTokenData) (g : GrammarData) (items : List ItemData) → SayTheSame items g.items → HasOneEnum u g → HasOneEnum u (record g { items = items })
-kept_tokens u g items same h = record {
-  one_enum = same.enums ∙ h.one_enum;
-  no_match = same.matches ∙ h.no_match;
+kept_tokens : (g : GrammarData) (items : List ItemData) → SayTheSame items g.items → HasTokens g → HasTokens (record g { items = items })
+kept_tokens g items same h = record {
+  one_enum = subst (λ (es : List EnumTokenData). length es ≤ 1) (sym same.enums) h.one_enum;
+  one_match = subst (λ (ms : List MatchTokenData). length ms ≤ 1) (sym same.matches) h.one_match;
   no_intern = same.interns ∙ h.no_intern;
-  no_error = h.no_error;
+  enum_alone = λ some. same.matches ∙ h.enum_alone (subst (λ (es : List EnumTokenData). 0 < length es) same.enums some);
+  no_error_converted = subst (λ (es : List EnumTokenData). In Error (of_enums es) → ⊥) (sym same.enums) h.no_error_converted;
+  no_error_mapped =
+      subst (λ (ms : List MatchTokenData). In Error (of_blocks ms (flat_map intern_in items)) → ⊥) (sym same.matches)
+      (subst (λ (ts : List InternTokenData). In Error (of_blocks (match_blocks g) ts) → ⊥) (sym same.interns) h.no_error_mapped);
   bare_types =
       subst (λ (ts : List TypeData). (t : TypeData) →
       In t (map (λ (p : ParameterData). p.type) g.parameters ++ flat_map types_in_clause g.where_clauses ++ ts) → holds_symbol t ≡ false) (sym same.types) h.bare_types;
   known = h.known;
 }
 
-pub resolved_tokens : (u : EnumTokenData) (g : GrammarData) → HasOneEnum u g → HasOneEnum u (resolved_grammar g)
-resolved_tokens u g h = kept_tokens u g (map (resolved_item (globals g)) g.items) (record {
+pub resolved_tokens : (g : GrammarData) → HasTokens g → HasTokens (resolved_grammar g)
+resolved_tokens g h = kept_tokens g (map (resolved_item (globals g)) g.items) (record {
   enums = resolved_kept enum_in (λ r. refl) (globals g) g.items;
   matches = resolved_kept match_in (λ r. refl) (globals g) g.items;
   interns = resolved_kept intern_in (λ r. refl) (globals g) g.items;
   types = resolved_kept types_in_extern (λ r. refl) (globals g) g.items;
 }) h
 
-pub leveled_tokens : (u : EnumTokenData) (g : GrammarData) → HasOneEnum u g → HasOneEnum u (leveled_grammar g)
-leveled_tokens u g h = kept_tokens u g (flat_map level_items g.items) (record {
+pub leveled_tokens : (g : GrammarData) → HasTokens g → HasTokens (leveled_grammar g)
+leveled_tokens g h = kept_tokens g (flat_map level_items g.items) (record {
   enums = level_kept enum_in (λ r. refl) g.items;
   matches = level_kept match_in (λ r. refl) g.items;
   interns = level_kept intern_in (λ r. refl) g.items;
   types = level_kept types_in_extern (λ r. refl) g.items;
 }) h
 
-pub plain_tokens : (u : EnumTokenData) (value : ConditionValue) (g : GrammarData) (n : ℕ) → HasOneEnum u g → HasOneEnum u (plain_grammar value g n)
-plain_tokens u value g n h = kept_tokens u g (flat_map plain_item g.items ++ map (λ r. rule_item (replaced_rule r)) (made_in value g n)) (record {
+pub plain_tokens : (value : ConditionValue) (g : GrammarData) (n : ℕ) → HasTokens g → HasTokens (plain_grammar value g n)
+plain_tokens value g n h = kept_tokens g (flat_map plain_item g.items ++ map (λ r. rule_item (replaced_rule r)) (made_in value g n)) (record {
   enums = plain_kept enum_in (λ r. refl) (made_in value g n) g.items;
   matches = plain_kept match_in (λ r. refl) (made_in value g n) g.items;
   interns = plain_kept intern_in (λ r. refl) (made_in value g n) g.items;

@@ -1,56 +1,56 @@
--- What a written grammar without a later part and without faults says of its enabled grammar: one extern enum, whose terminals are all
--- that its symbols use, and rules in whose types no symbol stands.
-use Rattle.std.proofs.Common.{◌≡◌, inl, inr, ℕ, Bool, true, false, not, ◌||◌, List, [], ◌∷◌, ◌++◌, map, Option, Some, None, IsSome, refl, ap, sym, subst, ◌∙◌}
-use Rattle.std.specs.Prelude.{flat_map, filter, option_map, option_to_list, is_some, All, if◌then◌else◌}
-use Rattle.std.specs.List as list
-use Rattle.std.specs.List.{AllByRecursion, list_any}
-use Rattle.std.proofs.lemmas.List.Elements.{All-head, All-tail}
+-- What a written grammar without faults says of its enabled grammar: its tokens are as the pass on tokens asks, nothing in it names the
+-- error terminal, and no symbol stands in a declared type.
+use Rattle.std.proofs.Common.{◌≡◌, ◌<◌, ◌≤◌, inl, inr, ℕ, Bool, true, false, not, ◌||◌, List, [], ◌∷◌, ◌++◌, length, map, Option, Some, None, refl, ap, sym, subst, ◌∙◌, arith}
+use Rattle.std.specs.Prelude.{flat_map, filter, option_map, option_to_list, is_some, if◌then◌else◌}
+use Rattle.std.specs.List.{list_any}
+use Rattle.std.proofs.lemmas.Grind.{flat_map-append}
+use Rattle.std.proofs.lemmas.List.{length-map}
 use Rattle.lalrpop_norm_parts.specs.declared.names.Span.{Span}
 use Rattle.lalrpop_norm_parts.specs.declared.names.TerminalString.{TerminalString}
 use Rattle.lalrpop_norm_parts.specs.declared.names.TerminalString.TheVariants.{Literal, Bare, Error}
-use Rattle.lalrpop_norm_parts.specs.Bounds.{WhereClauseData}
-use Rattle.lalrpop_norm_tree.specs.Accessors.{or_else}
-use Rattle.lalrpop_norm_tree.specs.Items.{AlternativeData, RuleData, AssociatedTypeData, ConversionData, EnumTokenData, ExternTokenData, ItemData, GrammarData, match_item, extern_item, intern_item, rule_item, use_item}
+use Rattle.lalrpop_norm_parts.specs.Accessors.{is_known_name}
+use Rattle.lalrpop_norm_parts.specs.Attributes.{Attributes, attribute, no_attributes, attribute_and}
+use Rattle.lalrpop_norm_parts.specs.Bounds.{BoundParameterData, lifetime_parameter, type_parameter, associated_type, BoundData, lifetime_bound, function_bound, trait_bound, WhereClauseData, lifetime_clause, type_clause}
+use Rattle.lalrpop_norm_tree.specs.Accessors.{first_of, extern_token_of}
+use Rattle.lalrpop_norm_tree.specs.declared.items.MatchItem.{MatchItem}
+use Rattle.lalrpop_norm_tree.specs.declared.items.MatchItem.TheVariants.{CatchAll, Unmapped, Mapped}
+use Rattle.lalrpop_norm_tree.specs.declared.items.MatchMapping.TheVariants.{Terminal, Skip}
+use Rattle.lalrpop_norm_tree.specs.Items.{AlternativeData, RuleData, AssociatedTypeData, ConversionData, EnumTokenData, ExternTokenData, MatchTokenData, InternTokenData, ItemData, GrammarData, match_item, extern_item, intern_item, rule_item, use_item}
 use Rattle.lalrpop_norm_tree.specs.LoweredTypes.{holds_symbol, any_holds_symbol, result_holds_symbol}
 use Rattle.lalrpop_norm_parts.specs.Patterns as pattern
 use Rattle.lalrpop_norm_tree.specs.Symbols.{Kind, Part, Parts, group, ambiguous_id, terminal, nonterminal, call, repeated, chosen, named, tupled, lookahead, lookbehind, error_terminal, at, no_parts, part_and}
 use Rattle.lalrpop_norm_tree.specs.Types.{TypeData, TypesData, MaybeType, ParameterData, tuple, slice, nominal, reference, trait_object, of_lifetime, id, of_symbol, function, no_types, type_and, no_type, returns}
-use Rattle.lalrpop_norm_theory.specs.Rounds.{In, IsDistinct}
+use Rattle.lalrpop_norm_theory.specs.Rounds.{In}
 use Rattle.lalrpop_norm_theory.proofs.RoundsLemmas.{in_cases, of_flat}
+use Rattle.lalrpop_norm_theory.proofs.BoolLemmas.{left_false, right_false, not_false}
 use Rattle.lalrpop_norm_faults.specs.Faults.{fault_if}
-use Rattle.lalrpop_norm_faults.specs.declared.kind.FaultKind.TheVariants.{UnknownAssociatedType, RepeatedAssociatedType, WrittenOfSymbol}
+use Rattle.lalrpop_norm_faults.specs.declared.kind.FaultKind.TheVariants.{GrammarAttribute, SecondMatch, UnknownAssociatedType, RepeatedAssociatedType, WrittenOfSymbol}
+use Rattle.lalrpop_norm_faults.proofs.FaultLemmas.{not_fault}
+use Rattle.lalrpop_norm_model.specs.Entries.{group_entries, user_names}
 use Rattle.lalrpop_norm_model.specs.Features.{Features, is_active, is_one_of}
 use Rattle.lalrpop_norm_model.specs.Enabled.{enabled_rule, enabled_enum, enabled_extern, enabled_item, enabled_grammar}
-use Rattle.lalrpop_norm_model.specs.PlainRules.{rule_of_item, all_rules}
 use Rattle.lalrpop_norm_model.specs.TerminalTypes.{chosen_in_pattern, chosen_in_kind, chosen_in_all, chosen_in_fields}
+use Rattle.lalrpop_norm_model.specs.TokenFaults.{names_mapped_by}
 use Rattle.lalrpop_norm_model.specs.Expanded as expanded
-use Rattle.lalrpop_norm_model.specs.Expanded.{match_in, intern_in, terminals_converted, symbols_in, symbols_in_all, symbols_in_return, types_in_clause, types_in_enum, types_in_extern, types_beside_rules, all_known}
+use Rattle.lalrpop_norm_model.specs.Expanded.{is_plain_terminal, match_in, intern_in, terminals_converted, symbols_in, symbols_in_all, symbols_in_return, types_in_parameter, types_in_bound, types_in_clause, types_in_enum, types_in_extern, types_beside_rules, all_known}
+use Rattle.lalrpop_norm_model.proofs.EnteredTokens.{groups_names}
 use Rattle.lalrpop_norm_model.proofs.LevelLemmas.{of_map}
 use Rattle.lalrpop_norm_model.proofs.GrammarLemmas.{rule_item_of}
 use Rattle.lalrpop_norm_model.proofs.InferenceLemmas.{both_empty, none_made, in_filtered}
-use Rattle.lalrpop_norm_front.specs.EnabledItems.{active_conversions}
-use Rattle.lalrpop_norm_front.specs.TypeFaults.{some_holds, kind_holds, pattern_holds, patterns_hold, fields_hold}
+use Rattle.lalrpop_norm_front.specs.TypeFaults.{some_holds, parameter_holds, bound_holds, clause_holds, kind_holds, pattern_holds, patterns_hold, fields_hold}
 use Rattle.lalrpop_norm_front.specs.SymbolFaults.{terminal_faults, call_faults, kind_faults, part_faults, parts_faults, beside_faults, list_faults}
 use Rattle.lalrpop_norm_front.specs.AlternativeFaults.{alternative_faults}
-use Rattle.lalrpop_norm_front.specs.GrammarFaults.{rule_faults, associated_faults, types_faults, conversion_faults, enum_faults, extern_faults, is_known_type, unknown_grammar_faults, parameter_faults, clause_faults, is_match, is_extern, item_faults, items_faults, place_in, blocks_in, validate_faults}
+use Rattle.lalrpop_norm_front.specs.GrammarFaults.{rule_faults, mapping_faults, match_beside_extern_faults, match_faults, associated_faults, types_faults, conversion_faults, enum_faults, extern_faults, is_known_type, unknown_grammar_faults, parameter_faults, clause_faults, is_match, is_extern, item_faults, items_faults, enum_span, place_in, blocks_in, validate_faults}
 use Rattle.lalrpop_norm_front.specs.Walks.{types_along, items_along}
 use Rattle.lalrpop_norm_front.proofs.PlaceLemmas.{types_placed, items_placed}
-use Rattle.lalrpop_norm_late.proofs.KeyLaws.{terminals_decide}
-use Rattle.lalrpop_norm.specs.Grammars.{rules_among, externs_of, first_of, enum_of, conversions_in, conversions_of, terminal_listed, same_terminal}
-use Rattle.lalrpop_norm.specs.Later.{has_active_conversion}
-use Rattle.lalrpop_norm.specs.TakenGrammars.{IsConverted, IsTakenKind, IsTakenSymbol, AreTakenSymbols, IsTakenAlternative, IsTakenRule, IsNoMatchBlock, IsTaken}
+use Rattle.lalrpop_norm.specs.Grammars.{externs_of}
 use Rattle.lalrpop_norm.proofs.ExpandedScopes.{IsOverKind, IsOver, AreOver}
-use Rattle.lalrpop_norm.proofs.ExpandedTokens.{HasOneEnum}
-use Rattle.lalrpop_norm.proofs.ExpandedSteps.{AreFitRules, IsTokenOf, enabled_rules_fit}
-use Rattle.lalrpop_norm_theory.proofs.BoolLemmas.{left_false, right_false}
-use Rattle.lalrpop_norm_faults.proofs.FaultLemmas.{not_fault}
+use Rattle.lalrpop_norm.proofs.ExpandedTokens.{HasTokens}
+use Rattle.lalrpop_norm.proofs.ExpandedSteps.{AreFitRules, enabled_rules_fit}
 
--- ---- lists
-
-each_of : {A : Type 0} (P : A → Type 0) (xs : List A) → All P xs → (x : A) → In x xs → P x
-each_of P [] h x i = absurd i
-each_of P (y ∷ xs) h x (inl e) = subst P (sym e) (All-head P y xs h)
-each_of P (y ∷ xs) h x (inr i) = each_of P xs (All-tail P y xs h) x i
+-- a terminal other than the error terminal
+abbrev pub IsPlainTerminal : TerminalString → Type 0
+IsPlainTerminal t = is_plain_terminal t ≡ true
 
 -- ---- symbols in types
 
@@ -210,30 +210,7 @@ not_error s (Literal l) h e = cc e
 not_error s (Bare a) h e = cc e
 not_error s Error h e = cc h
 
--- ---- the enum
-
--- the first enum is that of the first extern block with one
-abbrev first_enum : List ExternTokenData → Option EnumTokenData
-first_enum ts = first_of (λ (t : ExternTokenData). t.enum_token) ts
-
-enum_of_externs : (items : List ItemData) → enum_of items ≡ first_enum (externs_of items)
-enum_of_externs [] = refl
-enum_of_externs (extern_item t ∷ items) = ap (or_else t.enum_token) (enum_of_externs items)
-enum_of_externs (match_item m ∷ items) = enum_of_externs items
-enum_of_externs (intern_item t ∷ items) = enum_of_externs items
-enum_of_externs (rule_item r ∷ items) = enum_of_externs items
-enum_of_externs (use_item u ∷ items) = enum_of_externs items
-
--- the only extern block with its enum
-the_block : (ts : List ExternTokenData) → IsSome (first_enum ts) → ((t : ExternTokenData) (rest : List ExternTokenData) → ts ≡ t ∷ rest → rest ≡ []) →
-    (t : ExternTokenData) × (u : EnumTokenData) × (ts ≡ t ∷ []) × (t.enum_token ≡ Some u)
-the_block [] h once = absurd (cc h)
-the_block (t ∷ rest) h once = by t.enum_token refl (subst (λ (ts : List ExternTokenData). IsSome (first_enum (t ∷ ts))) (once t rest refl) h)
-  where
-    by : (o : Option EnumTokenData) → t.enum_token ≡ o → IsSome (or_else o None) →
-        (x : ExternTokenData) × (u : EnumTokenData) × (t ∷ rest ≡ x ∷ []) × (x.enum_token ≡ Some u)
-    by None e some = absurd (cc some)
-    by (Some u) e some = (t, u, ap (λ ts. t ∷ ts) (once t rest refl), e)
+-- ---- enums
 
 enums_of_externs : (items : List ItemData) → flat_map expanded.enum_in items ≡ flat_map (λ (t : ExternTokenData). option_to_list t.enum_token) (externs_of items)
 enums_of_externs [] = refl
@@ -337,176 +314,322 @@ module _ (fs : Features) where
       by true h j = h j
       by false h j = h j
 
--- ---- items that are taken
+-- ---- parameters and where clauses
 
--- the two words for the rules of a grammar say the same
-rules_same : (items : List ItemData) → rules_among items ≡ flat_map rule_of_item items
-rules_same [] = refl
-rules_same (rule_item r ∷ items) = ap (λ rs. r ∷ rs) (rules_same items)
-rules_same (match_item m ∷ items) = rules_same items
-rules_same (extern_item t ∷ items) = rules_same items
-rules_same (intern_item t ∷ items) = rules_same items
-rules_same (use_item u ∷ items) = rules_same items
+parameters_bare : (s : Span) (ps : List ParameterData) → flat_map (parameter_faults s) ps ≡ [] → (t : TypeData) →
+    In t (map (λ (p : ParameterData). p.type) ps) → holds_symbol t ≡ false
+parameters_bare s ps h t i =
+    let (p, j, e) = of_map (λ (q : ParameterData). q.type) t ps i in
+    ap holds_symbol e ∙ not_fault (holds_symbol p.type) (WrittenOfSymbol, s) (none_made (parameter_faults s) ps h p j)
 
-no_matches : (items : List ItemData) → ((i : ItemData) → In i items → IsNoMatchBlock i) → flat_map match_in items ≡ []
-no_matches [] h = refl
-no_matches (match_item m ∷ items) h = absurd (h (match_item m) (inl refl))
-no_matches (extern_item t ∷ items) h = no_matches items (λ i j. h i (inr j))
-no_matches (intern_item t ∷ items) h = no_matches items (λ i j. h i (inr j))
-no_matches (use_item u ∷ items) h = no_matches items (λ i j. h i (inr j))
-no_matches (rule_item r ∷ items) h = no_matches items (λ i j. h i (inr j))
+none_holds : (ts : List TypeData) → list_any holds_symbol ts ≡ false → (t : TypeData) → In t ts → holds_symbol t ≡ false
+none_holds [] h t i = absurd i
+none_holds (u ∷ ts) h t (inl e) = ap holds_symbol e ∙ left_false (holds_symbol u) (list_any holds_symbol ts) h
+none_holds (u ∷ ts) h t (inr i) = none_holds ts (right_false (holds_symbol u) (list_any holds_symbol ts) h) t i
 
--- a terminal that a test over a list lets through is listed
-listed_in : (t : TerminalString) (ts : List TerminalString) → list_any (same_terminal t) ts ≡ true → In t ts
-listed_in t [] h = absurd (cc h)
-listed_in t (u ∷ ts) h = by (same_terminal t u) refl (listed_in t ts) h
+parameter_bare : (p : BoundParameterData TypeData) → parameter_holds p ≡ false → (t : TypeData) → In t (types_in_parameter p) → holds_symbol t ≡ false
+parameter_bare (lifetime_parameter l) h t i = absurd i
+parameter_bare (type_parameter u) h t (inl e) = ap holds_symbol e ∙ h
+parameter_bare (type_parameter u) h t (inr i) = absurd i
+parameter_bare (associated_type a u) h t (inl e) = ap holds_symbol e ∙ h
+parameter_bare (associated_type a u) h t (inr i) = absurd i
+
+some_bare : (o : Option TypeData) → some_holds o ≡ false → (t : TypeData) → In t (option_to_list o) → holds_symbol t ≡ false
+some_bare None h t i = absurd i
+some_bare (Some u) h t (inl e) = ap holds_symbol e ∙ h
+some_bare (Some u) h t (inr i) = absurd i
+
+each_parameter_bare : (ps : List (BoundParameterData TypeData)) → list_any parameter_holds ps ≡ false → (t : TypeData) →
+    In t (flat_map types_in_parameter ps) → holds_symbol t ≡ false
+each_parameter_bare [] h t i = absurd i
+each_parameter_bare (p ∷ ps) h t i = elim (in_cases t (types_in_parameter p) (flat_map types_in_parameter ps) i) [
+  | inl j ↦ parameter_bare p (left_false (parameter_holds p) (list_any parameter_holds ps) h) t j
+  | inr j ↦ each_parameter_bare ps (right_false (parameter_holds p) (list_any parameter_holds ps) h) t j
+]
+
+bound_bare : (b : BoundData TypeData) → bound_holds b ≡ false → (t : TypeData) → In t (types_in_bound b) → holds_symbol t ≡ false
+bound_bare (lifetime_bound l) h t i = absurd i
+bound_bare (function_bound fs p ts r) h t i = elim (in_cases t ts (option_to_list r) i) [
+  | inl j ↦ none_holds ts (left_false (list_any holds_symbol ts) (some_holds r) h) t j
+  | inr j ↦ some_bare r (right_false (list_any holds_symbol ts) (some_holds r) h) t j
+]
+bound_bare (trait_bound fs p ps) h t i = each_parameter_bare ps h t i
+
+each_bound_bare : (bs : List (BoundData TypeData)) → list_any bound_holds bs ≡ false → (t : TypeData) → In t (flat_map types_in_bound bs) → holds_symbol t ≡ false
+each_bound_bare [] h t i = absurd i
+each_bound_bare (b ∷ bs) h t i = elim (in_cases t (types_in_bound b) (flat_map types_in_bound bs) i) [
+  | inl j ↦ bound_bare b (left_false (bound_holds b) (list_any bound_holds bs) h) t j
+  | inr j ↦ each_bound_bare bs (right_false (bound_holds b) (list_any bound_holds bs) h) t j
+]
+
+clause_bare : (w : WhereClauseData TypeData) → clause_holds w ≡ false → (t : TypeData) → In t (types_in_clause w) → holds_symbol t ≡ false
+clause_bare (lifetime_clause l ls) h t i = absurd i
+clause_bare (type_clause fs u bs) h t (inl e) = ap holds_symbol e ∙ left_false (holds_symbol u) (list_any bound_holds bs) h
+clause_bare (type_clause fs u bs) h t (inr i) = each_bound_bare bs (right_false (holds_symbol u) (list_any bound_holds bs) h) t i
+
+clauses_bare : (s : Span) (ws : List (WhereClauseData TypeData)) → flat_map (clause_faults s) ws ≡ [] → (t : TypeData) → In t (flat_map types_in_clause ws) →
+    holds_symbol t ≡ false
+clauses_bare s ws h t i =
+    let (w, j, k) = of_flat types_in_clause t ws i in
+    clause_bare w (not_fault (clause_holds w) (WrittenOfSymbol, s) (none_made (clause_faults s) ws h w j)) t k
+
+attributes_known : (as_written : Attributes) → unknown_grammar_faults as_written ≡ [] → all_known as_written ≡ true
+attributes_known no_attributes h = refl
+attributes_known (attribute_and (attribute s name x) rest) h =
+    let both = both_empty (fault_if (not (is_known_name name)) (GrammarAttribute, s)) (unknown_grammar_faults rest) h in
+    let here : is_known_name name ≡ true = not_false (is_known_name name) (not_fault (not (is_known_name name)) (GrammarAttribute, s) both.0) in
+    rw here (attributes_known rest both.1)
+
+-- ---- match blocks
+
+items_named : (items : List MatchItem) → flat_map mapping_faults items ≡ [] → In Error (flat_map names_mapped_by items) → ⊥
+items_named [] h i = i
+items_named (x ∷ items) h i =
+    let both = both_empty (mapping_faults x) (flat_map mapping_faults items) h in
+    elim (in_cases Error (names_mapped_by x) (flat_map names_mapped_by items) i) [
+      | inl j ↦ by x both.0 j
+      | inr j ↦ items_named items both.1 j
+    ]
   where
-    by : (b : Bool) → same_terminal t u ≡ b → (list_any (same_terminal t) ts ≡ true → In t ts) → (b || list_any (same_terminal t) ts) ≡ true → In t (u ∷ ts)
-    by true e f i = inl ((terminals_decide t u).0 e)
-    by false e f i = inr (f i)
+    by : (x : MatchItem) → mapping_faults x ≡ [] → In Error (names_mapped_by x) → ⊥
+    by (CatchAll s) f j = j
+    by (Mapped l Skip s) f j = j
+    by (Mapped l (Terminal t) s) f (inl e) = not_error s t f (sym e)
+    by (Mapped l (Terminal t) s) f (inr j) = j
+    by (Unmapped l s) f (inl e) = cc e
+    by (Unmapped l s) f (inr j) = j
 
--- terminals of which no two are the same
-distinct_by : (ts : List TerminalString) → list.IsDistinct same_terminal ts → IsDistinct ts
-unfolding list.IsDistinct
-distinct_by [] h = tt
-distinct_by (t ∷ ts) h = ((λ i. once ts h.0 i), distinct_by ts h.1)
-  where
-    once : (us : List TerminalString) → AllByRecursion (λ u. same_terminal t u ≡ false) us → In t us → ⊥
-    once [] a i = i
-    once (u ∷ us) a (inl e) = (let no : same_terminal t u ≡ false = a.0 in let yes : same_terminal t u ≡ true = (terminals_decide t u).1 e in cc (no, yes))
-    once (u ∷ us) a (inr i) = once us a.1 i
+all_mapping_faults : (groups : List (List MatchItem)) → flat_map (flat_map mapping_faults) groups ≡ [] → flat_map mapping_faults (flat_map (λ items. items) groups) ≡ []
+all_mapping_faults [] h = refl
+all_mapping_faults (items ∷ groups) h =
+    let both = both_empty (flat_map mapping_faults items) (flat_map (flat_map mapping_faults) groups) h in
+    flat_map-append mapping_faults items (flat_map (λ more. more) groups)
+    ∙ none_appended (flat_map mapping_faults items) (flat_map mapping_faults (flat_map (λ more. more) groups)) both.0 (all_mapping_faults groups both.1)
 
--- ---- symbols that are taken
+block_named : (m : MatchTokenData) → flat_map (flat_map mapping_faults) m.contents ≡ [] → In Error (user_names (group_entries m.contents)) → ⊥
+block_named m h i =
+    items_named (flat_map (λ items. items) m.contents) (all_mapping_faults m.contents h)
+    (subst (λ ts. In Error ts) (groups_names m.contents) i)
 
-module _ (g : GrammarData) (converts : TerminalString → Bool) (P : TerminalString → Type 0) (converted : (t : TerminalString) → converts t ≡ true → P t) where
-  terminal_over : (s : Span) (t : TerminalString) → IsConverted converts t → terminal_faults s t ≡ [] → P t
+match_listed : (items : List ItemData) (m : MatchTokenData) → In m (flat_map match_in items) → In (match_item m) items
+match_listed [] m i = absurd i
+match_listed (match_item n ∷ items) m (inl e) = inl (ap match_item e)
+match_listed (match_item n ∷ items) m (inr i) = inr (match_listed items m i)
+match_listed (extern_item t ∷ items) m i = inr (match_listed items m i)
+match_listed (intern_item t ∷ items) m i = inr (match_listed items m i)
+match_listed (rule_item r ∷ items) m i = inr (match_listed items m i)
+match_listed (use_item u ∷ items) m i = inr (match_listed items m i)
+
+first_extern_is : (items : List ItemData) (t : ExternTokenData) (rest : List ExternTokenData) → externs_of items ≡ t ∷ rest → first_of extern_token_of items ≡ Some t
+first_extern_is [] t rest e = absurd (cc e)
+first_extern_is (extern_item x ∷ items) t rest e = (let same : x ≡ t = cc e in ap Some same)
+first_extern_is (match_item m ∷ items) t rest e = first_extern_is items t rest e
+first_extern_is (intern_item x ∷ items) t rest e = first_extern_is items t rest e
+first_extern_is (rule_item r ∷ items) t rest e = first_extern_is items t rest e
+first_extern_is (use_item u ∷ items) t rest e = first_extern_is items t rest e
+
+beside_none : (o : Option Span) → match_beside_extern_faults o ≡ [] → o ≡ None
+beside_none None h = refl
+beside_none (Some s) h = absurd (cc h)
+
+module _ (g : GrammarData) where
+  -- after a match block there is none
+  no_match : (e : Bool) (items : List ItemData) → items_along (place_in g) (blocks_in g) g.span true e items ≡ [] → flat_map match_in items ≡ []
+  unfolding item_faults match_faults
+  no_match e [] h = refl
+  no_match e (match_item m ∷ items) h = absurd (cc h)
+  no_match e (extern_item t ∷ items) h = no_match _ items (both_empty (item_faults (place_in g) (blocks_in g) g.span true e (extern_item t)) _ h).1
+  no_match e (intern_item t ∷ items) h = no_match _ items (both_empty (item_faults (place_in g) (blocks_in g) g.span true e (intern_item t)) _ h).1
+  no_match e (rule_item r ∷ items) h = no_match _ items (both_empty (item_faults (place_in g) (blocks_in g) g.span true e (rule_item r)) _ h).1
+  no_match e (use_item u ∷ items) h = no_match _ items (both_empty (item_faults (place_in g) (blocks_in g) g.span true e (use_item u)) _ h).1
+
+  one_match : (e : Bool) (items : List ItemData) → items_along (place_in g) (blocks_in g) g.span false e items ≡ [] → length (flat_map match_in items) ≤ 1
+  unfolding item_faults match_faults
+  one_match e [] h = omega arith
+  one_match e (match_item m ∷ items) h =
+      subst (λ (ms : List MatchTokenData). length (m ∷ ms) ≤ 1)
+      (sym (no_match _ items (both_empty (item_faults (place_in g) (blocks_in g) g.span false e (match_item m)) _ h).1)) (omega arith)
+  one_match e (extern_item t ∷ items) h = one_match _ items (both_empty (item_faults (place_in g) (blocks_in g) g.span false e (extern_item t)) _ h).1
+  one_match e (intern_item t ∷ items) h = one_match _ items (both_empty (item_faults (place_in g) (blocks_in g) g.span false e (intern_item t)) _ h).1
+  one_match e (rule_item r ∷ items) h = one_match _ items (both_empty (item_faults (place_in g) (blocks_in g) g.span false e (rule_item r)) _ h).1
+  one_match e (use_item u ∷ items) h = one_match _ items (both_empty (item_faults (place_in g) (blocks_in g) g.span false e (use_item u)) _ h).1
+
+  -- a match block stands beside no enum of the first extern block, and its mappings name no error terminal
+  match_free : (m : MatchTokenData) → IsFree g (match_item m) → ((blocks_in g).first_enum ≡ None) × (flat_map (flat_map mapping_faults) m.contents ≡ [])
+  unfolding item_faults match_faults
+  match_free m (seen, e, h) =
+      let behind = (both_empty (fault_if seen (SecondMatch, m.span)) _ h).1 in
+      let both = both_empty (match_beside_extern_faults (blocks_in g).first_enum) (flat_map (flat_map mapping_faults) m.contents) behind in
+      (beside_none (blocks_in g).first_enum both.0, both.1)
+
+-- ---- symbols
+
+module _ (g : GrammarData) where
+  terminal_over : (s : Span) (t : TerminalString) → terminal_faults s t ≡ [] → IsPlainTerminal t
   unfolding terminal_faults
-  terminal_over s (Literal l) h f = converted (Literal l) h
-  terminal_over s (Bare a) h f = converted (Bare a) h
-  terminal_over s Error h f = absurd (cc f)
+  terminal_over s (Literal l) f = refl
+  terminal_over s (Bare a) f = refl
+  terminal_over s Error f = absurd (cc f)
 
   mutual
-    kind_over : (s : Span) (k : Kind) → IsTakenKind converts k → kind_faults (place_in g) s k ≡ [] → IsOverKind P k
-    kind_over s (terminal t) h f = terminal_over s t h f
-    kind_over s (group ps) h f = parts_over ps h (both_empty (parts_faults (place_in g) ps) (beside_faults ps) f).0
-    kind_over s (ambiguous_id a) h f = tt
-    kind_over s (nonterminal n) h f = tt
-    kind_over s (call n ps) h f = parts_over ps h (both_empty (call_faults s ps) (parts_faults (place_in g) ps) f).1
-    kind_over s (repeated op p) h f = part_over p h f
-    kind_over s (chosen p) h f = part_over p h f
-    kind_over s (named n p) h f = part_over p h f
-    kind_over s (tupled ns p) h f = absurd h
-    kind_over s lookahead h f = tt
-    kind_over s lookbehind h f = tt
-    kind_over s error_terminal h f = tt
+    kind_over : (s : Span) (k : Kind) → kind_faults (place_in g) s k ≡ [] → IsOverKind IsPlainTerminal k
+    kind_over s (terminal t) f = terminal_over s t f
+    kind_over s (group ps) f = parts_over ps (both_empty (parts_faults (place_in g) ps) (beside_faults ps) f).0
+    kind_over s (ambiguous_id a) f = tt
+    kind_over s (nonterminal n) f = tt
+    kind_over s (call n ps) f = parts_over ps (both_empty (call_faults s ps) (parts_faults (place_in g) ps) f).1
+    kind_over s (repeated op p) f = part_over p f
+    kind_over s (chosen p) f = part_over p f
+    kind_over s (named n p) f = part_over p f
+    kind_over s (tupled ns p) f = part_over p f
+    kind_over s lookahead f = tt
+    kind_over s lookbehind f = tt
+    kind_over s error_terminal f = tt
 
-    part_over : (p : Part) → IsTakenSymbol converts p → part_faults (place_in g) p ≡ [] → IsOver P p
-    part_over (at s k) h f = kind_over s k h f
+    part_over : (p : Part) → part_faults (place_in g) p ≡ [] → IsOver IsPlainTerminal p
+    part_over (at s k) f = kind_over s k f
 
-    parts_over : (ps : Parts) → AreTakenSymbols converts ps → parts_faults (place_in g) ps ≡ [] → AreOver P ps
-    parts_over no_parts h f = tt
-    parts_over (part_and p ps) h f =
+    parts_over : (ps : Parts) → parts_faults (place_in g) ps ≡ [] → AreOver IsPlainTerminal ps
+    parts_over no_parts f = tt
+    parts_over (part_and p ps) f =
         let two = both_empty (part_faults (place_in g) p) (parts_faults (place_in g) ps) f in
-        (part_over p h.0 two.0, parts_over ps h.1 two.1)
+        (part_over p two.0, parts_over ps two.1)
 
 -- ---- the grammar
 
--- the enum of a written grammar, as its only extern block has it
-pub record HasWrittenEnum (g : GrammarData) (u : EnumTokenData) : Type 0 where
-  pub block : ExternTokenData
-  pub only_block : externs_of g.items ≡ block ∷ []
-  pub enum : block.enum_token ≡ Some u
+module _ (fs : Features) (g : GrammarData) (f : validate_faults g ≡ []) where
+  behind_attributes : flat_map (parameter_faults g.span) g.parameters
+      ++ (flat_map (clause_faults g.span) g.where_clauses ++ items_faults (place_in g) (blocks_in g) g.span g.items) ≡ []
+  behind_attributes = (both_empty (unknown_grammar_faults g.attributes) _ f).1
 
-module _ (fs : Features) (g : GrammarData) (h : IsTaken fs g) (f : validate_faults g ≡ []) where
+  behind_parameters : flat_map (clause_faults g.span) g.where_clauses ++ items_faults (place_in g) (blocks_in g) g.span g.items ≡ []
+  behind_parameters = (both_empty (flat_map (parameter_faults g.span) g.parameters) _ behind_attributes).1
+
   items_free : items_along (place_in g) (blocks_in g) g.span false false g.items ≡ []
-  items_free =
-      let items = items_faults (place_in g) (blocks_in g) g.span g.items in
-      let clauses = flat_map (clause_faults g.span) g.where_clauses in
-      let parameters = flat_map (parameter_faults g.span) g.parameters in
-      items_placed (place_in g) (blocks_in g) g.span g.items
-      ∙ (both_empty clauses items (both_empty parameters (clauses ++ items) (both_empty (unknown_grammar_faults g.attributes) (parameters ++ (clauses ++ items)) f).1).1).1
+  items_free = items_placed (place_in g) (blocks_in g) g.span g.items ∙ (both_empty (flat_map (clause_faults g.span) g.where_clauses) _ behind_parameters).1
 
   each_free : (i : ItemData) → In i g.items → IsFree g i
   each_free = item_free g false false g.items items_free
 
-  pub written_enum : (u : EnumTokenData) × HasWrittenEnum g u
-  written_enum =
-      let (t, u, e, is) = the_block (externs_of g.items) (subst IsSome (enum_of_externs g.items) h.enum_token) (one_extern g false g.items items_free) in
-      (u, record { block = t; only_block = e; enum = is })
+  -- ---- enums
 
-  module _ (u : EnumTokenData) (w : HasWrittenEnum g u) where
-    block_listed : In (extern_item w.block) g.items
-    block_listed = extern_listed g.items w.block (subst (λ (ts : List ExternTokenData). In w.block ts) (sym w.only_block) (inl refl))
+  one_block : (t : ExternTokenData) (rest : List ExternTokenData) → externs_of g.items ≡ t ∷ rest → rest ≡ []
+  one_block = one_extern g false g.items items_free
 
-    enum_free : enum_faults (Some u) ≡ []
-    enum_free =
-        subst (λ o. enum_faults o ≡ []) w.enum (extern_free g w.block (each_free (extern_item w.block) block_listed)).1
+  abbrev enums_in : List ExternTokenData → List EnumTokenData
+  enums_in ts = flat_map (λ (t : ExternTokenData). option_to_list t.enum_token) ts
 
-    conversions_are : conversions_of g.items ≡ u.conversions
-    conversions_are = ap conversions_in (enum_of_externs g.items ∙ ap first_enum w.only_block ∙ ap (λ (o : Option EnumTokenData). or_else o None) w.enum)
+  few_enums : (ts : List ExternTokenData) → externs_of g.items ≡ ts → length (enums_in ts) ≤ 1
+  few_enums [] e = omega arith
+  few_enums (t ∷ rest) e = subst (λ (us : List ExternTokenData). length (enums_in (t ∷ us)) ≤ 1) (sym (one_block t rest e)) (by t.enum_token)
+    where
+      by : (o : Option EnumTokenData) → length (option_to_list o ++ []) ≤ 1
+      by None = omega arith
+      by (Some u) = omega arith
 
-    the_conversions : active_conversions fs (conversions_of g.items) ≡ (enabled_enum fs u).conversions
-    the_conversions = ap (active_conversions fs) conversions_are
+  enabled_are : expanded.enums (enabled_grammar fs g) ≡ map (enabled_enum fs) (enums_in (externs_of g.items))
+  enabled_are = enabled_enums fs g.items ∙ ap (map (enabled_enum fs)) (enums_of_externs g.items)
 
-    no_error : In Error (terminals_converted (enabled_enum fs u).conversions) → ⊥
-    no_error i =
-        let (cv, j, e) = of_map (λ (x : ConversionData). x.from) Error (enabled_enum fs u).conversions i in
-        let k = (in_filtered (λ (x : ConversionData). is_active fs x.attributes) u.conversions cv j).0 in
-        let free = none_made conversion_faults u.conversions (both_empty (fault_if (holds_symbol u.type_name) _) _ enum_free).1 cv k in
-        not_error cv.span cv.from (conversion_free cv free).0 (sym e)
+  one_enum : length (expanded.enums (enabled_grammar fs g)) ≤ 1
+  one_enum =
+      let mapped : length (map (enabled_enum fs) (enums_in (externs_of g.items))) ≡ length (enums_in (externs_of g.items)) = length-map (enums_in (externs_of g.items)) (enabled_enum fs) in
+      let few = few_enums (externs_of g.items) refl in
+      subst (λ (es : List EnumTokenData). length es ≤ 1) (sym enabled_are) (omega (mapped, few, arith))
 
-    one_enum : expanded.enums (enabled_grammar fs g) ≡ enabled_enum fs u ∷ []
-    one_enum =
-        enabled_enums fs g.items
-        ∙ ap (map (enabled_enum fs))
-        (enums_of_externs g.items ∙ ap (flat_map (λ (t : ExternTokenData). option_to_list t.enum_token)) w.only_block
-        ∙ ap (λ o. option_to_list o ++ []) w.enum)
+  enum_free : (t : ExternTokenData) → In t (externs_of g.items) → (u : EnumTokenData) → t.enum_token ≡ Some u → enum_faults (Some u) ≡ []
+  enum_free t i u e = subst (λ o. enum_faults o ≡ []) e (extern_free g t (each_free (extern_item t) (extern_listed g.items t i))).1
 
-    bare_types : (t : TypeData) → In t (types_beside_rules (enabled_grammar fs g)) → holds_symbol t ≡ false
-    bare_types t i =
-        externs_bare fs g.items (λ x j. extern_free g x (each_free (extern_item x) j)) t
-        (subst (λ (ws : List (WhereClauseData TypeData)). In t (flat_map types_in_clause ws ++ flat_map types_in_extern (flat_map (enabled_item fs) g.items)))
-        h.where_clauses
-        (subst (λ (ps : List ParameterData). In t (map (λ (p : ParameterData). p.type) ps
-        ++ flat_map types_in_clause g.where_clauses ++ flat_map types_in_extern (flat_map (enabled_item fs) g.items))) h.parameters i))
+  no_error_converted : In Error (expanded.converted (enabled_grammar fs g)) → ⊥
+  no_error_converted i =
+      let (e, j, k) = of_flat (λ (x : EnumTokenData). terminals_converted x.conversions) Error (expanded.enums (enabled_grammar fs g)) i in
+      let (u, l, same) = of_map (enabled_enum fs) e (enums_in (externs_of g.items)) (subst (λ (es : List EnumTokenData). In e es) enabled_are j) in
+      let (t, m, n) = of_flat (λ (x : ExternTokenData). option_to_list x.enum_token) u (externs_of g.items) l in
+      let (cv, o, is) = of_map (λ (x : ConversionData). x.from) Error e.conversions k in
+      let kept = (in_filtered (λ (x : ConversionData). is_active fs x.attributes) u.conversions cv (subst (λ (y : EnumTokenData). In cv y.conversions) same o)).0 in
+      let free = none_made conversion_faults u.conversions (both_empty (fault_if (holds_symbol u.type_name) _) _ (enum_free t m u (listed t.enum_token u n))).1 cv kept in
+      not_error cv.span cv.from (conversion_free cv free).0 (sym is)
+    where
+      listed : (o : Option EnumTokenData) (u : EnumTokenData) → In u (option_to_list o) → o ≡ Some u
+      listed None u i = absurd i
+      listed (Some x) u (inl e) = ap Some (sym e)
+      listed (Some x) u (inr i) = absurd i
 
-    -- the enabled grammar has one enum
-    pub enabled_tokens : HasOneEnum (enabled_enum fs u) (enabled_grammar fs g)
-    enabled_tokens = record {
-      one_enum = one_enum;
-      no_match = enabled_matches fs g.items ∙ no_matches g.items (each_of IsNoMatchBlock g.items h.no_match);
-      no_intern = enabled_interns fs g.items ∙ no_intern g false false g.items items_free;
-      no_error = no_error;
-      bare_types = bare_types;
-      known = ap all_known h.attributes;
-    }
+  -- ---- match blocks
 
-    -- its terminals are distinct
-    pub distinct_tokens : IsDistinct (terminals_converted (enabled_enum fs u).conversions)
-    distinct_tokens = distinct_by (terminals_converted (enabled_enum fs u).conversions) (subst (λ cs. list.IsDistinct same_terminal (terminals_converted cs)) the_conversions h.terminals)
+  matches_are : expanded.match_blocks (enabled_grammar fs g) ≡ flat_map match_in g.items
+  matches_are = enabled_matches fs g.items
 
-    converted : (t : TerminalString) → has_active_conversion fs g.items t ≡ true → IsTokenOf (enabled_enum fs u) t
-    converted t e =
-        listed_in t (terminals_converted (enabled_enum fs u).conversions) (subst (λ cs. terminal_listed t (terminals_converted cs) ≡ true) the_conversions e)
+  interns_are : expanded.interns (enabled_grammar fs g) ≡ []
+  interns_are = enabled_interns fs g.items ∙ no_intern g false false g.items items_free
 
-    taken_rule : (r : RuleData) → In r (all_rules g) → IsTakenRule (has_active_conversion fs g.items) r
-    taken_rule r i =
-        each_of (IsTakenRule (has_active_conversion fs g.items)) (rules_among g.items) h.rules r (subst (λ (rs : List RuleData). In r rs) (sym (rules_same g.items)) i)
+  no_error_mapped : In Error (expanded.mapped_terminals (enabled_grammar fs g)) → ⊥
+  no_error_mapped i =
+      elim (in_cases Error (flat_map (λ (m : MatchTokenData). user_names (group_entries m.contents)) (expanded.match_blocks (enabled_grammar fs g)))
+      (flat_map (λ (t : InternTokenData). user_names t.match_entries) (expanded.interns (enabled_grammar fs g))) i) [
+        | inl j ↦ (let (m, k, l) = of_flat (λ (x : MatchTokenData). user_names (group_entries x.contents)) Error (expanded.match_blocks (enabled_grammar fs g)) j in
+            let listed = match_listed g.items m (subst (λ (ms : List MatchTokenData). In m ms) matches_are k) in
+            block_named m (match_free g m (each_free (match_item m) listed)).1 l)
+        | inr j ↦ subst (λ (ts : List InternTokenData). In Error (flat_map (λ (t : InternTokenData). user_names t.match_entries) ts)) interns_are j
+      ]
 
-    taken_alternative : (r : RuleData) → In r (all_rules g) → (a : AlternativeData) → In a r.alternatives → IsTakenAlternative (has_active_conversion fs g.items) a
-    taken_alternative r i = each_of (IsTakenAlternative (has_active_conversion fs g.items)) r.alternatives (taken_rule r i).alternatives
+  -- beside an enum there is no match block
+  enum_span_some : (t : ExternTokenData) (u : EnumTokenData) → t.enum_token ≡ Some u → enum_span (Some t) ≡ Some t.span
+  enum_span_some t u e = ap (λ (o : Option EnumTokenData). if is_some o then Some t.span else None) e
 
-    -- the rules of the written grammar fit
-    written_fit : AreFitRules (IsTokenOf (enabled_enum fs u)) g
-    written_fit r i =
-        let free = rule_free g r (each_free (rule_item r) (rule_item_of g r i)) in
-        record {
-          bare_type = none_declared r.type_decl free.0;
-          over = λ a j.
-              parts_over g (has_active_conversion fs g.items) (IsTokenOf (enabled_enum fs u)) converted a.parts (taken_alternative r i a j).symbols
-              (symbols_free g a (none_made (alternative_faults (place_in g)) r.alternatives free.1 a j));
-        }
+  no_block : (ts : List ExternTokenData) → externs_of g.items ≡ ts → 0 < length (enums_in ts) → (ms : List MatchTokenData) → flat_map match_in g.items ≡ ms → ms ≡ []
+  no_block ts e some [] is = refl
+  no_block [] e some (m ∷ ms) is = absurd (omega (some, arith))
+  no_block (t ∷ rest) e some (m ∷ ms) is =
+      let listed = match_listed g.items m (subst (λ (xs : List MatchTokenData). In m xs) (sym is) (inl refl)) in
+      let none : enum_span (first_of extern_token_of g.items) ≡ None = (match_free g m (each_free (match_item m) listed)).0 in
+      let here : enum_span (Some t) ≡ None = subst (λ (o : Option ExternTokenData). enum_span o ≡ None) (first_extern_is g.items t rest e) none in
+      absurd (by t.enum_token refl here (subst (λ (us : List ExternTokenData). 0 < length (enums_in (t ∷ us))) (one_block t rest e) some))
+    where
+      by : (o : Option EnumTokenData) → t.enum_token ≡ o → enum_span (Some t) ≡ None → 0 < length (option_to_list t.enum_token ++ []) → ⊥
+      by None is here some = (let few : 0 < 0 = subst (λ (x : Option EnumTokenData). 0 < length (option_to_list x ++ [])) is some in omega (few, arith))
+      by (Some u) is here some = cc (here, enum_span_some t u is)
 
-    -- and so do those of the enabled one
-    pub enabled_fit : AreFitRules (IsTokenOf (enabled_enum fs u)) (enabled_grammar fs g)
-    enabled_fit = enabled_rules_fit fs (IsTokenOf (enabled_enum fs u)) g written_fit
+  enum_alone : 0 < length (expanded.enums (enabled_grammar fs g)) → expanded.match_blocks (enabled_grammar fs g) ≡ []
+  enum_alone some =
+      let mapped : length (map (enabled_enum fs) (enums_in (externs_of g.items))) ≡ length (enums_in (externs_of g.items)) = length-map (enums_in (externs_of g.items)) (enabled_enum fs) in
+      let more : 0 < length (map (enabled_enum fs) (enums_in (externs_of g.items))) = subst (λ (es : List EnumTokenData). 0 < length es) enabled_are some in
+      matches_are ∙ no_block (externs_of g.items) refl (omega (mapped, more, arith)) (flat_map match_in g.items) refl
+
+  -- ---- types
+
+  bare_types : (t : TypeData) → In t (types_beside_rules (enabled_grammar fs g)) → holds_symbol t ≡ false
+  bare_types t i =
+      elim (in_cases t (map (λ (p : ParameterData). p.type) g.parameters ++ flat_map types_in_clause g.where_clauses) (flat_map types_in_extern (flat_map (enabled_item fs) g.items)) i) [
+        | inl j ↦ elim (in_cases t (map (λ (p : ParameterData). p.type) g.parameters) (flat_map types_in_clause g.where_clauses) j) [
+          | inl k ↦ parameters_bare g.span g.parameters (both_empty (flat_map (parameter_faults g.span) g.parameters) _ behind_attributes).0 t k
+          | inr k ↦ clauses_bare g.span g.where_clauses (both_empty (flat_map (clause_faults g.span) g.where_clauses) _ behind_parameters).0 t k
+        ]
+        | inr j ↦ externs_bare fs g.items (λ x k. extern_free g x (each_free (extern_item x) k)) t j
+      ]
+
+  -- the tokens of the enabled grammar are as before the pass on tokens
+  pub enabled_tokens : HasTokens (enabled_grammar fs g)
+  enabled_tokens = record {
+    one_enum = one_enum;
+    one_match = subst (λ (ms : List MatchTokenData). length ms ≤ 1) (sym matches_are) (one_match g false g.items items_free);
+    no_intern = interns_are;
+    enum_alone = enum_alone;
+    no_error_converted = no_error_converted;
+    no_error_mapped = no_error_mapped;
+    bare_types = bare_types;
+    known = attributes_known g.attributes (both_empty (unknown_grammar_faults g.attributes) _ f).0;
+  }
+
+  -- ---- rules
+
+  written_fit : AreFitRules IsPlainTerminal g
+  written_fit r i =
+      let free = rule_free g r (each_free (rule_item r) (rule_item_of g r i)) in
+      record {
+        bare_type = none_declared r.type_decl free.0;
+        over = λ a j. parts_over g a.parts (symbols_free g a (none_made (alternative_faults (place_in g)) r.alternatives free.1 a j));
+      }
+
+  -- the rules of the enabled grammar fit
+  pub enabled_fit : AreFitRules IsPlainTerminal (enabled_grammar fs g)
+  enabled_fit = enabled_rules_fit fs IsPlainTerminal g written_fit

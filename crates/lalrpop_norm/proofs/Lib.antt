@@ -1,4 +1,5 @@
 mod WordLemmas
+mod MapCompositions
 mod CapLemmas
 pub mod WalkLemmas
 pub mod KeyLemmas

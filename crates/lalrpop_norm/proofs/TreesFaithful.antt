@@ -33,8 +33,7 @@ use Rattle.lalrpop_norm_model.specs.PlainTables.{IsSettled, flat_meaning, declar
 use Rattle.lalrpop_norm_model.specs.LevelNames.{HasLevelNames, level_origin}
 use Rattle.lalrpop_norm_model.specs.Renumbered.{prepared_grammar}
 use Rattle.lalrpop_norm_model.specs.TerminalTypes.{extern_enum}
-use Rattle.lalrpop_norm_model.specs.CheckedTokens.{IsEnteredWith, IsEntered, IsCheckedWith, IsChecked}
-use Rattle.lalrpop_norm_model.specs.Lexers.{Lexer}
+use Rattle.lalrpop_norm_model.specs.CheckedTokens.{IsEnteredWith, IsEntered}
 use Rattle.lalrpop_norm_model.proofs.ResolvedLemmas.{resolved_once}
 use Rattle.lalrpop_norm_model.proofs.PlainReadLemmas.{origins_counted, plain_rules_are_read}
 use Rattle.lalrpop_norm_model.proofs.RenumberedTrees.{trees_only_renumber}
@@ -59,7 +58,7 @@ rule_symbol rs s i = elim (in_cases s (roots rs) (references rs) i) [
 ]
 
 -- tokens change no rules
-entered_same : (g h : GrammarData) → IsEntered g h → (all_rules h ≡ all_rules g) × (h.prefix ≡ g.prefix)
+pub entered_same : (g h : GrammarData) → IsEntered g h → (all_rules h ≡ all_rules g) × (h.prefix ≡ g.prefix)
 entered_same g h = by (extern_enum g)
   where
     by : (o : Option EnumTokenData) → IsEnteredWith o g h → (all_rules h ≡ all_rules g) × (h.prefix ≡ g.prefix)
@@ -68,14 +67,6 @@ entered_same g h = by (extern_enum g)
       ap all_rules entries.grammar ∙ flat_map-append rule_of_item g.items (intern_item t ∷ []) ∙ append-nil (all_rules g),
       ap (λ (x : GrammarData). x.prefix) entries.grammar,
     )
-
--- what is checked has its entries
-pub checked_entered : {R : Type 0} (lexer : Lexer R) (g h : GrammarData) → IsChecked lexer g h → IsEntered g h
-checked_entered lexer g h = by (extern_enum g)
-  where
-    by : (o : Option EnumTokenData) → IsCheckedWith o lexer g h → IsEnteredWith o g h
-    by (Some e) same = same
-    by None (t, entries, automaton) = (t, entries)
 
 -- ---- what the plain rules are lowered to
 

@@ -134,18 +134,6 @@ pub record HasGroundedTypes (plain : GrammarData) (types : TypeTable) : Type 0 w
   pub rules : (r : RuleData) → IsRule plain r → HasOnlyType plain types r
   pub starts : (r : RuleData) → In r (public_rules_in (all_rules plain)) → type_of (start_name plain.prefix r.name) types ≡ type_of r.name types
 
--- ---- tokens
-
--- In this stage no lexer is handed in, and no automaton is built.
-abbrev pub no_lexer : Lexer (Unit {0})
-no_lexer = record {
-  IsBad = λ text. ⊥;
-  IsRegexOf = λ literal regex. ⊥;
-  HasFeature = λ regex feature. ⊥;
-  AreAmbiguous = λ regexes precedences i j. ⊥;
-  IsBuilt = λ regexes precedences code. ⊥;
-}
-
 -- ---- the whole
 
 -- the grammar of plain rules, where so many rounds make all
@@ -153,8 +141,10 @@ abbrev pub grammar_of_plain_rules : Features → GrammarData → ℕ → Grammar
 grammar_of_plain_rules fs g rounds = plain_grammar comparison (grammar_with_levels fs g) rounds
 
 -- The lowered grammar is one of the written grammar: for a number of rounds after which nothing is new, its trees stand one to
--- one with the written ones, and each enabled public rule that is no macro has its start symbols; it has the shape of the plain
--- rules, in their order, with their tokens; each nonterminal has its only grounded type; and nothing in it is left open.
+-- one with the written ones, and each enabled public rule that is no macro has its start symbols. The grammar of plain rules has its
+-- tokens: beside an extern enum it stays as it is, else it has its entries and an automaton that the lexer builds for them. The
+-- lowered grammar has the shape of these rules, in their order, with these tokens; each nonterminal has its only grounded type; and
+-- nothing in it is left open.
 pub record IsFaithful {R : Type 0} (lexer : Lexer R) (fs : Features) (g : GrammarData) (l : LoweredGrammar) : Type 0 where
   pub rounds : ℕ
   pub trees : HasFaithfulTrees fs g (grammar_of_plain_rules fs g rounds) rounds l

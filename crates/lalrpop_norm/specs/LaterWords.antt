@@ -6,12 +6,6 @@ use Rattle.lalrpop_norm.specs.declared.later.LaterPart.{LaterPart}
 use Rattle.lalrpop_norm.specs.declared.later.LaterPart.TheVariants as later
 
 abbrev pub words_of : LaterPart → List ℕ
-words_of later.NoExternEnum = codes "a grammar without an extern enum"
-words_of later.MatchBlock = codes "a match block"
-words_of later.ErrorSymbol = codes "an error symbol"
-words_of later.MissingConversion = codes "a terminal without a conversion"
-words_of later.RepeatedConversion = codes "a second conversion of one terminal"
-words_of later.PatternKind = codes "a token pattern other than `P(..)`, `P`, `_` and `..`"
 words_of later.TupleSymbol = codes "a tuple symbol"
 words_of later.UndeclaredType = codes "a rule without a declared type"
 words_of later.AssociatedType = codes "an associated type"

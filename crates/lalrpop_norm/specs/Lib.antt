@@ -2,10 +2,10 @@ pub mod Grammars
 pub mod Later
 pub mod LaterWalks
 pub mod LaterWords
-pub mod TakenGrammars
 pub mod Normalize
 pub mod Passed
 pub mod Derivations
 pub mod Faithful
 pub mod PlainLaws
 pub mod Laws
+pub mod Maps

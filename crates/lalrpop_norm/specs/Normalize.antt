@@ -1,11 +1,15 @@
 -- What normalization makes of a written grammar, and where it refuses.
-use Rattle.std.specs.Prelude.{ℕ, List, ◌++◌}
+use Rattle.std.specs.Prelude.{ℕ, List, ◌++◌, map}
 use Rattle.lalrpop_norm_tree.specs.Items.{GrammarData}
-use Rattle.lalrpop_norm_faults.specs.Faults.{Fault}
+use Rattle.lalrpop_norm_faults.specs.Faults.{Fault, Finding, sure}
 use Rattle.lalrpop_norm_conditions.specs.Conditions.{comparison}
 use Rattle.lalrpop_norm_model.specs.Features.{Features}
 use Rattle.lalrpop_norm_model.specs.Enabled.{enabled_grammar}
 use Rattle.lalrpop_norm_model.specs.PlainRules.{all_rules}
+use Rattle.lalrpop_norm_model.specs.Lexers.{Lexer}
+use Rattle.lalrpop_norm_model.specs.LexerFaults.{LexerPlace, StandsAtLexer, token_findings}
+use Rattle.lalrpop_norm_model.specs.CheckedTokens.{IsChecked}
+use Rattle.lalrpop_norm_model.specs.EnteredGrammars.{entered_grammar}
 use Rattle.lalrpop_norm_model.specs.InferenceFaults.{inference_faults, inferred_table}
 use Rattle.lalrpop_norm_model.specs.LoweringFaults.{lowering_faults}
 use Rattle.lalrpop_norm_front.specs.GrammarFaults.{validate_faults}
@@ -18,26 +22,40 @@ use Rattle.lalrpop_norm_late.specs.Shape.{IsLoweringOf}
 use Rattle.lalrpop_norm.specs.Faithful.{grammar_with_levels, grammar_of_plain_rules}
 use Rattle.lalrpop_norm.specs.Later.{later_faults}
 
+-- Where the passes up to the expansion refuse a grammar, in their order: what no grammar may look like; of what is enabled, names,
+-- levels, and names once more; of the grammar with levels, its expansion in so many rounds.
+abbrev pub early_faults : Features → ℕ → GrammarData → List Fault
+early_faults fs limit g =
+    validate_faults g
+    ++ (precedence_faults (enabled_grammar fs g)
+    ++ expansion_faults comparison (grammar_with_levels fs g) limit)
+
 -- the faults of inference, then those of lowering with the types that are inferred
 abbrev pub late_faults : GrammarData → List Fault
 late_faults plain = inference_faults plain ++ lowering_faults plain (inferred_table plain)
 
--- Where the passes refuse a grammar, in their order: what no grammar may look like; of what is enabled, names, levels, and names
--- once more; of the grammar with levels, its expansion in so many rounds; of the plain rules, types and numbers.
-abbrev pub pass_faults : Features → ℕ → GrammarData → List Fault
-pass_faults fs limit g =
-    validate_faults g
-    ++ (precedence_faults (enabled_grammar fs g)
-    ++ (expansion_faults comparison (grammar_with_levels fs g) limit
-    ++ late_faults (grammar_of_plain_rules fs g limit)))
+-- What the passes after the expansion look for in a grammar of plain rules: what is wrong with its tokens, where a lexer may refuse
+-- too; then, once it has its entries, types and numbers.
+abbrev pub plain_findings : GrammarData → List (Finding LexerPlace)
+plain_findings plain = token_findings plain ++ map sure (late_faults (entered_grammar plain))
 
--- Where a grammar is refused: what a later stage brings, and then what the passes refuse.
-abbrev pub normalize_faults : Features → ℕ → GrammarData → List Fault
-normalize_faults fs limit g = later_faults fs g ++ pass_faults fs limit g
+-- what the passes look for, in their order
+abbrev pub pass_findings : Features → ℕ → GrammarData → List (Finding LexerPlace)
+pass_findings fs limit g = map sure (early_faults fs limit g) ++ plain_findings (grammar_of_plain_rules fs g limit)
 
--- What a written grammar is lowered to: the rules made in so many rounds have the inferred types, and over their table the grammar
--- of plain rules is lowered.
-pub record IsNormalized (fs : Features) (limit : ℕ) (g : GrammarData) (l : LoweredGrammar) : Type 0 where
+-- What normalization looks for: what a later stage brings, and then what the passes look for.
+abbrev pub normalize_findings : Features → ℕ → GrammarData → List (Finding LexerPlace)
+normalize_findings fs limit g = map sure (later_faults g) ++ pass_findings fs limit g
+
+-- What stands at the one place where a fault may go untold: a refusal of the lexer that is true of the plain rules.
+abbrev pub StandsThere : {R : Type 0} → Lexer R → Features → ℕ → GrammarData → LexerPlace → Fault → Type 0
+StandsThere lexer fs limit g = StandsAtLexer lexer (grammar_of_plain_rules fs g limit)
+
+-- What a written grammar is lowered to: the grammar of the plain rules that so many rounds make has its tokens, the rules have the
+-- inferred types, and over their table the grammar with its tokens is lowered.
+pub record IsNormalized {R : Type 0} (lexer : Lexer R) (fs : Features) (limit : ℕ) (g : GrammarData) (l : LoweredGrammar) : Type 0 where
+  pub checked : GrammarData
+  pub tokens : IsChecked lexer (grammar_of_plain_rules fs g limit) checked
   pub types : TypeTable
-  pub inferred : IsInferred (grammar_of_plain_rules fs g limit) types
-  pub lowering : IsLoweringOf (grammar_of_plain_rules fs g limit) (all_rules (grammar_of_plain_rules fs g limit)) types l
+  pub inferred : IsInferred checked types
+  pub lowering : IsLoweringOf checked (all_rules checked) types l

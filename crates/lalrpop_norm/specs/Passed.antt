@@ -1,11 +1,16 @@
 -- What is known where the passes find nothing wrong.
 use Rattle.std.specs.Prelude.{◌≡◌, ℕ, []}
-use Rattle.lalrpop_norm_tree.specs.Items.{GrammarData}
-use Rattle.lalrpop_norm_model.specs.Expanded.{IsTyped}
+use Rattle.lalrpop_norm_tree.specs.Items.{ExternTokenData, GrammarData, extern_item}
+use Rattle.lalrpop_norm_theory.specs.Rounds.{In}
+use Rattle.lalrpop_norm_model.specs.CheckedTokens.{IsChecked}
+use Rattle.lalrpop_norm_model.specs.Enabled.{enabled_extern}
+use Rattle.lalrpop_norm_model.specs.Expanded.{IsTyped, IsExpanded, interns}
 use Rattle.lalrpop_norm_model.specs.Features.{Features}
 use Rattle.lalrpop_norm_model.specs.InferenceFaults.{inference_faults}
+use Rattle.lalrpop_norm_model.specs.Lexers.{Lexer}
 use Rattle.lalrpop_norm_model.specs.LoweringFaults.{lowering_faults}
 use Rattle.lalrpop_norm_model.specs.PlainRules.{all_rules}
+use Rattle.lalrpop_norm_model.specs.TokenFaults.{token_faults}
 use Rattle.lalrpop_norm_repr.specs.Closed.{IsClosed}
 use Rattle.lalrpop_norm_repr.specs.Lowered.{LoweredGrammar}
 use Rattle.lalrpop_norm_repr.specs.Tables.{TypeTable}
@@ -21,7 +26,7 @@ abbrev pub IsTypedByInference : Features → GrammarData → Type 0
 IsTypedByInference fs plain =
     (types : TypeTable) → inference_faults plain ≡ [] → IsInferred plain types → IsTyped fs plain (types_by_name types)
 
--- the types of plain rules are inferred, and over them the active part of the grammar is lowered
+-- the types of a grammar's rules are inferred, and over them the active part of the grammar is lowered
 pub record IsTypedLowering (fs : Features) (plain : GrammarData) (l : LoweredGrammar) : Type 0 where
   pub types : TypeTable
   pub typable : inference_faults plain ≡ []
@@ -30,9 +35,24 @@ pub record IsTypedLowering (fs : Features) (plain : GrammarData) (l : LoweredGra
   pub shape : IsLoweringOf (active_grammar fs plain) (all_rules plain) types l
   pub closed : IsClosed l
 
--- no pass finds anything wrong with a written grammar, and it is lowered by its plain rules
-pub record IsPassed (fs : Features) (limit : ℕ) (g : GrammarData) (l : LoweredGrammar) : Type 0 where
+-- a grammar of plain rules, without internal tokens, whose conversions are all active
+pub record IsPlain (fs : Features) (plain : GrammarData) : Type 0 where
+  pub expanded : IsExpanded plain
+  pub no_tokens : interns plain ≡ []
+  pub active : (t : ExternTokenData) → In (extern_item t) plain.items → enabled_extern fs t ≡ t
+
+-- nothing is wrong with its tokens, and with these it is lowered
+pub record IsCheckedLowering {R : Type 0} (lexer : Lexer R) (fs : Features) (plain : GrammarData) (l : LoweredGrammar) : Type 0 where
+  pub checked : GrammarData
+  pub supplied : token_faults plain ≡ []
+  pub tokens : IsChecked lexer plain checked
+  pub lowered : IsTypedLowering fs checked l
+
+-- no pass finds anything wrong with a written grammar, and it is lowered by its plain rules with their tokens
+pub record IsPassed {R : Type 0} (lexer : Lexer R) (fs : Features) (limit : ℕ) (g : GrammarData) (l : LoweredGrammar) : Type 0 where
+  pub checked : GrammarData
+  pub tokens : IsChecked lexer (grammar_of_plain_rules fs g limit) checked
   pub types : TypeTable
-  pub passes : PassesLowering fs g limit types
-  pub shape : IsLoweringOf (grammar_of_plain_rules fs g limit) (all_rules (grammar_of_plain_rules fs g limit)) types l
+  pub passes : PassesLowering fs g limit checked types
+  pub shape : IsLoweringOf checked (all_rules checked) types l
   pub closed : IsClosed l

@@ -1,46 +1,30 @@
 //! What a later stage of this library brings. Until then a grammar that holds such a part is refused.
-ghost use Rattle.std.specs.Prelude.{◌≡◌, Some, IfErr, OnOk};
+ghost use Rattle.std.specs.Prelude.{◌≡◌, Some, IfErr};
 ghost use Rattle.lalrpop_norm_tree.specs.Items.{grammar_view};
-ghost use Rattle.lalrpop_norm_util.specs.Sessions.{features_view};
 ghost use Rattle.lalrpop_norm_faults.specs.Faults.{Refuses};
 ghost use Rattle.lalrpop_norm.specs.Later.{later_parts, later_faults};
 ghost use Rattle.lalrpop_norm.specs.LaterWalks.{Stops};
 ghost use Rattle.lalrpop_norm.specs.LaterWords.{words_of, NamesFirst};
-ghost use Rattle.lalrpop_norm.specs.TakenGrammars.{IsTaken};
 
 mod items;
 mod names;
 mod rules;
 mod starts;
 mod symbols;
-mod terminals;
 mod tokens;
 mod types;
 
 use items::{find_in_head, find_in_items};
 use lalrpop_norm_faults::{FaultKind, NormFailure, NormResult, refusal};
 use lalrpop_norm_tree::grammar::parse_tree::{Grammar, NoMemory};
-use lalrpop_norm_util::Session;
 use names::rule_names;
 use starts::find_taken_starts;
 use std::alloc::{AllocError, AllocFailed, Global};
 use std::fmt;
-use terminals::known_terminals;
 
 /// A part of a grammar that a later stage brings.
 #[derive(Clone, Copy, Debug, PartialEq, Eq)]
 pub(crate) enum LaterPart {
-    /// No extern block has an enum.
-    NoExternEnum,
-    MatchBlock,
-    /// `!`.
-    ErrorSymbol,
-    /// A terminal without an active conversion.
-    MissingConversion,
-    /// Two active conversions of one terminal.
-    RepeatedConversion,
-    /// A pattern of a conversion that is no enum's, no path, no `..`, no `_` and nothing chosen.
-    PatternKind,
     /// `<(x, y):X>`.
     TupleSymbol,
     /// A rule without a written type.
@@ -65,12 +49,6 @@ impl LaterPart {
         ensures { result.now ≡ words_of self }
     {
         match self {
-            LaterPart::NoExternEnum => "a grammar without an extern enum",
-            LaterPart::MatchBlock => "a match block",
-            LaterPart::ErrorSymbol => "an error symbol",
-            LaterPart::MissingConversion => "a terminal without a conversion",
-            LaterPart::RepeatedConversion => "a second conversion of one terminal",
-            LaterPart::PatternKind => "a token pattern other than `P(..)`, `P`, `_` and `..`",
             LaterPart::TupleSymbol => "a tuple symbol",
             LaterPart::UndeclaredType => "a rule without a declared type",
             LaterPart::AssociatedType => "an associated type",
@@ -141,18 +119,12 @@ impl<T: Drop> From<AllocFailed<T>> for Stop {
 }
 
 /// Refuses a grammar that holds a part of a later stage, with the fault F0 at the grammar's span. The message names
-/// the first such part. Of conversions those count that the features of the session leave active.
-pub(crate) fn refuse_later_parts<L>(
-    alloc: Global,
-    session: &Session<L>,
-    grammar: &Grammar,
-) -> NormResult<()>
-    ensures refuses { Refuses result (later_faults (features_view session.now.features) (grammar_view grammar.now)) }
-    ensures named { IfErr result (NamesFirst (later_parts (features_view session.now.features) (grammar_view grammar.now))) }
-    // What is not refused looks so.
-    ensures taken { OnOk result (IsTaken (features_view session.now.features) (grammar_view grammar.now)) }
+/// the first such part.
+pub(crate) fn refuse_later_parts(alloc: Global, grammar: &Grammar) -> NormResult<()>
+    ensures refuses { Refuses result (later_faults (grammar_view grammar.now)) }
+    ensures named { IfErr result (NamesFirst (later_parts (grammar_view grammar.now))) }
 {
-    match find(alloc, session, grammar) {
+    match find(alloc, grammar) {
         Ok(()) => Ok(()),
         Err(Stop::Found(part)) => Err(refusal(
             FaultKind::NotYet,
@@ -163,12 +135,11 @@ pub(crate) fn refuse_later_parts<L>(
     }
 }
 
-fn find<L>(alloc: Global, session: &Session<L>, grammar: &Grammar) -> Result<(), Stop>
-    ensures { Stops result (later_parts (features_view session.now.features) (grammar_view grammar.now)) }
+fn find(alloc: Global, grammar: &Grammar) -> Result<(), Stop>
+    ensures { Stops result (later_parts (grammar_view grammar.now)) }
 {
     find_in_head(grammar)?;
-    let terminals = known_terminals(alloc, session, grammar)?;
-    find_in_items(&terminals, &grammar.items)?;
+    find_in_items(&grammar.items)?;
     let names = rule_names(alloc, &grammar.items)?;
     find_taken_starts(alloc, grammar.prefix.as_str(), &names, &grammar.items)
 }

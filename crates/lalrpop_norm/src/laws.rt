@@ -1,6 +1,7 @@
 //! What is proved of the definitions alone. Each function here is a law: it does nothing, and its contract is a theorem, whose
-//! statement stands in `specs/Laws.antt`.
+//! statement stands in `specs/Laws.antt`, of maps in `specs/Maps.antt`.
 ghost use Rattle.lalrpop_norm.specs.Laws.{CapIsExact, ConditionsHaveOneValue, FaultsAreByRound, LevelsSettleMacros, LoweredTreesAreFaithful, NamesAreOwn, WordsAreEqual};
+ghost use Rattle.lalrpop_norm.specs.Maps.{PatternsCompose, BoundsCompose};
 
 /// The trees of what a grammar's plain rules are lowered to, once they have their tokens, stand one to one with the written trees,
 /// with the same words and the same written alternatives, for each rule by itself and within each of its levels. Each enabled public
@@ -54,3 +55,30 @@ pub fn conditions_have_one_value()
 {
     lalrpop_norm_conditions::conditions_say();
 }
+
+/// A pattern that is mapped twice, by closures that answer Ok with a function of the type that they are shown, is what it is mapped
+/// to by one that answers with the composition of the two.
+pub fn patterns_map_by_composition<
+    T,
+    U,
+    V,
+    E,
+    F: FnMut(&T) -> Result<U, E>,
+    G: FnMut(&U) -> Result<V, E>,
+    H: FnMut(&T) -> Result<V, E>,
+>()
+    ensures { PatternsCompose F.FnMut G.FnMut H.FnMut }
+{}
+
+/// A type bound that is mapped twice, likewise.
+pub fn bounds_map_by_composition<
+    T,
+    U,
+    V,
+    E,
+    F: FnMut(&T) -> Result<U, E>,
+    G: FnMut(&U) -> Result<V, E>,
+    H: FnMut(&T) -> Result<V, E>,
+>()
+    ensures { BoundsCompose F.FnMut G.FnMut H.FnMut }
+{}

@@ -7,6 +7,7 @@
 pub mod grammar;
 mod later;
 pub mod laws;
+pub mod lexer;
 pub mod normalize;
 mod passes;
 pub mod plain_laws;

@@ -2,6 +2,8 @@
 
 pub use crate::passes::normalize;
 pub use lalrpop_norm_expand::macro_expand;
+pub use lalrpop_norm_expanded::is_expanded;
 pub use lalrpop_norm_faults::{FaultKind, NormError, NormFailure, NormResult};
 pub use lalrpop_norm_front::{cond_comp, precedence, prevalidate, resolve};
+pub use lalrpop_norm_token_check::token_check;
 pub use lalrpop_norm_util::{Session, norm_util};

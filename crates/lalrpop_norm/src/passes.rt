@@ -1,17 +1,18 @@
 //! The passes, one after another.
-ghost use Rattle.std.specs.Prelude.{IfOk, IfErr};
-ghost use Rattle.lalrpop_norm_faults.specs.Faults.{Refuses};
+ghost use Rattle.std.specs.Prelude.{◌≡◌, IfOk, IfErr};
+ghost use Rattle.lalrpop_norm_faults.specs.Faults.{Refuses, RefusesOr, RefusesAmong};
 ghost use Rattle.lalrpop_norm_tree.specs.Items as written;
 ghost use Rattle.lalrpop_norm_util.specs.Sessions.{features_view};
 ghost use Rattle.lalrpop_norm_repr.specs.Lowered as lowered;
 ghost use Rattle.lalrpop_norm_repr.specs.Closed.{IsClosed};
-ghost use Rattle.lalrpop_norm.specs.Faithful.{IsFaithful, no_lexer};
+ghost use Rattle.lalrpop_norm_model.specs.Expanded.{IsExpanded};
+ghost use Rattle.lalrpop_norm_model.specs.LexerFaults.{StandsAtLexer};
+ghost use Rattle.lalrpop_norm.specs.Faithful.{IsFaithful, grammar_of_plain_rules};
 ghost use Rattle.lalrpop_norm.specs.Later.{later_parts};
 ghost use Rattle.lalrpop_norm.specs.LaterWords.{NamesFirst};
-ghost use Rattle.lalrpop_norm_model.specs.Expanded.{IsExpanded};
-ghost use Rattle.lalrpop_norm.specs.Normalize.{normalize_faults, pass_faults, late_faults, IsNormalized};
-ghost use Rattle.lalrpop_norm.specs.Passed.{IsPassed, IsTypedLowering, IsTypedByInference};
-ghost use Rattle.lalrpop_norm.specs.TakenGrammars.{IsTaken};
+ghost use Rattle.lalrpop_norm.specs.Normalize.{normalize_findings, pass_findings, plain_findings, early_faults, late_faults, StandsThere, IsNormalized};
+ghost use Rattle.lalrpop_norm.specs.Passed.{IsPlain, IsPassed, IsCheckedLowering, IsTypedLowering, IsTypedByInference};
+ghost use Rattle.lalrpop_norm.specs.PlainLaws.{PassesExpansion};
 
 use crate::later::refuse_later_parts;
 use lalrpop_norm_expand::macro_expand::expand_resolved;
@@ -19,51 +20,83 @@ use lalrpop_norm_faults::NormResult;
 use lalrpop_norm_front::cond_comp::remove_disabled_decls;
 use lalrpop_norm_front::prevalidate::validate;
 use lalrpop_norm_late::lower;
+use lalrpop_norm_lexer::lexer::Lexer;
 use lalrpop_norm_precedence::precedence::expand_precedence;
 use lalrpop_norm_repr::grammar::repr;
+use lalrpop_norm_token_check::token_check;
 use lalrpop_norm_tree::grammar::parse_tree;
 use lalrpop_norm_tyinfer::tyinfer::infer_types;
 use lalrpop_norm_util::Session;
 use std::alloc::Global;
 
 /// Normalizes a written grammar: the lowered grammar with its numbered productions, action functions, terminals and
-/// types. The grammar is consumed, also where it is refused. The session tells which features are on, and how many rounds of
-/// expansion may make rules.
+/// types. The grammar is consumed, also where it is refused. The session tells which features are on, how many rounds of
+/// expansion may make rules, and which lexer makes the tokenizer of a grammar without an extern enum.
 ///
 /// Errors: F0 (`NotYet`) at the grammar's span where it holds something that a later stage of this library brings; else the first
-/// fault in the order of the passes, at its place (docs/FAULTS.md says which are answered today); `Memory`.
-pub fn normalize<L>(
+/// fault in the order of the passes, at its place (docs/FAULTS.md says which are answered today), where a refusal of the lexer (F42
+/// to F44) is told only where the lexer finds it; `Memory`.
+pub fn normalize<L: Lexer>(
     alloc: Global,
     session: &Session<L>,
     grammar: parse_tree::Grammar,
 ) -> NormResult<repr::Grammar>
-    // Ok exactly where no fault stands, and a refusal names the first one, memory aside.
-    ensures refuses { Refuses result (normalize_faults (features_view session.now.features) session.now.macro_recursion_limit (written.grammar_view grammar)) }
+    // Ok only where no fault but one of the lexer stands, and a refusal names the first one, or a true one of the lexer with no
+    // other before it, memory aside.
+    ensures refuses { RefusesAmong (StandsThere (L.relations session.now.lexer) (features_view session.now.features) session.now.macro_recursion_limit (written.grammar_view grammar))
+        result (normalize_findings (features_view session.now.features) session.now.macro_recursion_limit (written.grammar_view grammar)) }
     // F0 names the first part of a later stage.
-    ensures named { IfErr result (NamesFirst (later_parts (features_view session.now.features) (written.grammar_view grammar))) }
-    ensures normalized { IfOk result (λ l. IsNormalized (features_view session.now.features) session.now.macro_recursion_limit (written.grammar_view grammar) (lowered.lowered_grammar_view l)) }
+    ensures named { IfErr result (NamesFirst (later_parts (written.grammar_view grammar))) }
+    ensures normalized { IfOk result (λ l. IsNormalized (L.relations session.now.lexer) (features_view session.now.features) session.now.macro_recursion_limit (written.grammar_view grammar) (lowered.lowered_grammar_view l)) }
     ensures closed { IfOk result (λ l. IsClosed (lowered.lowered_grammar_view l)) }
-    ensures faithful { IfOk result (λ l. IsFaithful no_lexer (features_view session.now.features) (written.grammar_view grammar) (lowered.lowered_grammar_view l)) }
+    ensures faithful { IfOk result (λ l. IsFaithful (L.relations session.now.lexer) (features_view session.now.features) (written.grammar_view grammar) (lowered.lowered_grammar_view l)) }
 {
-    refuse_later_parts(alloc, session, &grammar)?;
+    refuse_later_parts(alloc, &grammar)?;
     run_passes(alloc, session, grammar)
 }
 
-/// Runs the passes over a grammar that this stage takes.
-fn run_passes<L>(
+/// Runs the passes over a grammar.
+fn run_passes<L: Lexer>(
     alloc: Global,
     session: &Session<L>,
     grammar: parse_tree::Grammar,
 ) -> NormResult<repr::Grammar>
-    requires taken { IsTaken (features_view session.now.features) (written.grammar_view grammar) }
-    ensures refuses { Refuses result (pass_faults (features_view session.now.features) session.now.macro_recursion_limit (written.grammar_view grammar)) }
-    ensures lowered { IfOk result (λ l. IsPassed (features_view session.now.features) session.now.macro_recursion_limit (written.grammar_view grammar) (lowered.lowered_grammar_view l)) }
+    ensures refuses { RefusesAmong (StandsThere (L.relations session.now.lexer) (features_view session.now.features) session.now.macro_recursion_limit (written.grammar_view grammar))
+        result (pass_findings (features_view session.now.features) session.now.macro_recursion_limit (written.grammar_view grammar)) }
+    ensures lowered { IfOk result (λ l. IsPassed (L.relations session.now.lexer) (features_view session.now.features) session.now.macro_recursion_limit (written.grammar_view grammar) (lowered.lowered_grammar_view l)) }
+{
+    let plain = expand(alloc, session, grammar)?;
+    check_and_lower(alloc, session, plain)
+}
+
+/// The grammar of plain rules.
+fn expand<L>(
+    alloc: Global,
+    session: &Session<L>,
+    grammar: parse_tree::Grammar,
+) -> NormResult<parse_tree::Grammar>
+    ensures refuses { Refuses result (early_faults (features_view session.now.features) session.now.macro_recursion_limit (written.grammar_view grammar)) }
+    ensures passes { IfOk result (λ p. PassesExpansion (features_view session.now.features) (written.grammar_view grammar) session.now.macro_recursion_limit) }
+    ensures plain { IfOk result (λ p. written.grammar_view p ≡ grammar_of_plain_rules (features_view session.now.features) (written.grammar_view grammar) session.now.macro_recursion_limit) }
 {
     validate(alloc, &grammar)?;
     let enabled = remove_disabled_decls(session, grammar)?;
     let leveled = expand_precedence(alloc, enabled)?;
-    let plain = expand_resolved(alloc, leveled, session.macro_recursion_limit)?;
-    type_and_lower(alloc, session, &plain)
+    expand_resolved(alloc, leveled, session.macro_recursion_limit)
+}
+
+/// Gives plain rules their tokens, infers their types, and lowers them.
+fn check_and_lower<L: Lexer>(
+    alloc: Global,
+    session: &Session<L>,
+    plain: parse_tree::Grammar,
+) -> NormResult<repr::Grammar>
+    requires plain { IsPlain (features_view session.now.features) (written.grammar_view plain) }
+    ensures refuses { RefusesAmong (StandsAtLexer (L.relations session.now.lexer) (written.grammar_view plain)) result (plain_findings (written.grammar_view plain)) }
+    ensures lowered { IfOk result (λ l. IsCheckedLowering (L.relations session.now.lexer) (features_view session.now.features) (written.grammar_view plain) (lowered.lowered_grammar_view l)) }
+{
+    let checked = token_check::validate(alloc, &session.lexer, plain)?;
+    type_and_lower(alloc, session, &checked)
 }
 
 /// Infers the types of plain rules, and lowers them.

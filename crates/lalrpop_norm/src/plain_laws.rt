@@ -1,23 +1,24 @@
 //! What is proved of the definitions. Each function here is a law: it does nothing, and its contract is a theorem, whose statement
 //! stands in `specs/PlainLaws.antt`.
-ghost use Rattle.lalrpop_norm.specs.PlainLaws.{PlainGrammarsAreExpanded, PlainGrammarsAreTyped, PlainGrammarsHaveTokens, PlainConversionsAreActive};
+ghost use Rattle.lalrpop_norm.specs.PlainLaws.{PlainGrammarsAreExpanded, EnteredGrammarsAreExpanded, PlainGrammarsAreTyped, PlainConversionsAreActive};
 ghost use Rattle.lalrpop_norm.specs.PlainLaws.{InferredTypesAreTotal, StartNamesAreFree, LoweredTypesAreGrounded, LoweredGrammarsAreFaithful};
 
-/// The grammar of plain rules is expanded, where the passes up to the expansion find nothing wrong.
+use lalrpop_norm_lexer::lexer::Lexer;
+
+/// The grammar of plain rules is expanded and has no internal tokens, where the passes up to the expansion find nothing wrong.
 pub fn plain_grammars_are_expanded()
     ensures { PlainGrammarsAreExpanded }
 {}
 
-/// The grammar of plain rules is typed by each table in which each of its rules has a type, where the passes up to the expansion
-/// find nothing wrong.
-pub fn plain_grammars_are_typed()
-    ensures { PlainGrammarsAreTyped }
+/// With its entries the grammar of plain rules is expanded, where the passes up to that on tokens find nothing wrong.
+pub fn entered_grammars_are_expanded()
+    ensures { EnteredGrammarsAreExpanded }
 {}
 
-/// The grammar of plain rules, with its extern enum, has the tokens that it needs, where the passes up to the expansion find nothing
-/// wrong.
-pub fn plain_grammars_have_tokens()
-    ensures { PlainGrammarsHaveTokens }
+/// With its entries the grammar of plain rules is typed by each table in which each of its rules has a type, where the passes up to
+/// that on tokens find nothing wrong.
+pub fn plain_grammars_are_typed()
+    ensures { PlainGrammarsAreTyped }
 {}
 
 /// Each conversion in the grammar of plain rules is active.
@@ -25,7 +26,8 @@ pub fn plain_conversions_are_active()
     ensures { PlainConversionsAreActive }
 {}
 
-/// The table inferred for the plain rules has a type for each of them, where the passes up to inference find nothing wrong.
+/// The table inferred for the plain rules with their entries has a type for each of them, where the passes up to inference find
+/// nothing wrong.
 pub fn inferred_types_are_total()
     ensures { InferredTypesAreTotal }
 {}
@@ -41,7 +43,8 @@ pub fn lowered_types_are_grounded()
     ensures { LoweredTypesAreGrounded }
 {}
 
-/// What is lowered from the plain rules, with nothing left open, is faithful to the written grammar, where no pass finds a fault.
-pub fn lowered_grammars_are_faithful()
-    ensures { LoweredGrammarsAreFaithful }
+/// What is lowered from the plain rules with their tokens, with nothing left open, is faithful to the written grammar, where no pass
+/// finds a fault.
+pub fn lowered_grammars_are_faithful<L: Lexer>(lexer: &L)
+    ensures { LoweredGrammarsAreFaithful (L.relations lexer.now) }
 {}

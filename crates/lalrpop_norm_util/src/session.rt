@@ -8,6 +8,6 @@ pub struct Session<L> {
     pub features: Option<BTreeSet<String>>,
     /// How many rounds of macro expansion may make new rules: 0 to 65535.
     pub macro_recursion_limit: u16,
-    /// What makes the tokenizer. No pass asks it yet.
+    /// The lexer that builds the automaton of the tokenizer, where no extern enum names the tokens.
     pub lexer: L,
 }

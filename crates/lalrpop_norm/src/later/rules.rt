@@ -4,15 +4,12 @@ ghost use Rattle.std.specs.List.{flat_map};
 ghost use Rattle.lalrpop_norm_tree.specs.Items.{action_view, alternative_view, rule_view};
 ghost use Rattle.lalrpop_norm_tree.specs.Types.{type_view};
 ghost use Rattle.lalrpop_norm.specs.Later.{declared_parts, after_slot, has_several_slots, code_parts, action_parts, alternative_parts, later_rule_parts};
-ghost use Rattle.lalrpop_norm.specs.LaterWalks.{Finds, terminal_in};
+ghost use Rattle.lalrpop_norm.specs.LaterWalks.{Finds};
 
 use super::LaterPart;
 use super::symbols::find_in_symbols;
 use super::types::find_in_type;
-use lalrpop_norm_tree::grammar::parse_tree::{
-    ActionKind, Alternative, NonterminalData, TerminalString, TypeRef,
-};
-use std::collections::BTreeSet;
+use lalrpop_norm_tree::grammar::parse_tree::{ActionKind, Alternative, NonterminalData, TypeRef};
 
 /// The code behind its first `<>`.
 fn after_slot(code: &str) -> Option<&str>
@@ -53,46 +50,34 @@ fn find_in_action(action: &Option<ActionKind>) -> Result<(), LaterPart>
     }
 }
 
-fn find_in_alternative(
-    converted: &BTreeSet<TerminalString>,
-    alternative: &Alternative,
-) -> Result<(), LaterPart>
-    ensures { Finds result (alternative_parts (terminal_in converted.now.keys) (alternative_view alternative.now)) }
+fn find_in_alternative(alternative: &Alternative) -> Result<(), LaterPart>
+    ensures { Finds result (alternative_parts (alternative_view alternative.now)) }
 {
-    find_in_symbols(converted, &alternative.expr.symbols)?;
+    find_in_symbols(&alternative.expr.symbols)?;
     find_in_action(&alternative.action)
 }
 
-fn find_in_alternatives(
-    converted: &BTreeSet<TerminalString>,
-    alternatives: &[Alternative],
-) -> Result<(), LaterPart>
-    ensures { Finds result (flat_map (alternative_parts (terminal_in converted.now.keys)) (map alternative_view alternatives.now)) }
+fn find_in_alternatives(alternatives: &[Alternative]) -> Result<(), LaterPart>
+    ensures { Finds result (flat_map alternative_parts (map alternative_view alternatives.now)) }
 {
     for alternative in alternatives {
-        find_in_alternative(converted, alternative)?;
+        find_in_alternative(alternative)?;
     }
     Ok(())
 }
 
-fn find_in_declared(
-    converted: &BTreeSet<TerminalString>,
-    declared: &Option<TypeRef>,
-) -> Result<(), LaterPart>
-    ensures { Finds result (declared_parts (terminal_in converted.now.keys) (option_map type_view declared.now)) }
+fn find_in_declared(declared: &Option<TypeRef>) -> Result<(), LaterPart>
+    ensures { Finds result (declared_parts (option_map type_view declared.now)) }
 {
     match declared {
-        Some(written) => find_in_type(converted, written),
+        Some(written) => find_in_type(written),
         None => Err(LaterPart::UndeclaredType),
     }
 }
 
-pub(super) fn find_in_rule(
-    converted: &BTreeSet<TerminalString>,
-    rule: &NonterminalData,
-) -> Result<(), LaterPart>
-    ensures { Finds result (later_rule_parts (terminal_in converted.now.keys) (rule_view rule.now)) }
+pub(super) fn find_in_rule(rule: &NonterminalData) -> Result<(), LaterPart>
+    ensures { Finds result (later_rule_parts (rule_view rule.now)) }
 {
-    find_in_declared(converted, &rule.type_decl)?;
-    find_in_alternatives(converted, &rule.alternatives)
+    find_in_declared(&rule.type_decl)?;
+    find_in_alternatives(&rule.alternatives)
 }

@@ -3,18 +3,17 @@ ghost use Rattle.std.specs.Prelude.{map, option_map};
 ghost use Rattle.std.specs.List.{flat_map};
 ghost use Rattle.lalrpop_norm_parts.specs.Attributes.{attributes_view};
 ghost use Rattle.lalrpop_norm_tree.specs.Items.{conversion_view, enum_token_view, extern_token_view};
-ghost use Rattle.lalrpop_norm_parts.specs.Patterns.{pattern_kind_view, pattern_view, patterns_view};
+ghost use Rattle.lalrpop_norm_parts.specs.Patterns.{field_view, fields_view, pattern_kind_view, pattern_view, patterns_view};
 ghost use Rattle.lalrpop_norm_tree.specs.Types.{type_view};
-ghost use Rattle.lalrpop_norm.specs.Later.{part_of_any, attribute_parts, pattern_kind_parts, pattern_parts, patterns_parts, conversion_parts, enum_parts, extern_parts};
-ghost use Rattle.lalrpop_norm.specs.LaterWalks.{Finds, terminal_in};
+ghost use Rattle.lalrpop_norm.specs.Later.{part_of_any, attribute_parts, pattern_kind_parts, pattern_parts, patterns_parts, fields_parts, conversion_parts, enum_parts, extern_parts};
+ghost use Rattle.lalrpop_norm.specs.LaterWalks.{Finds};
 
 use super::LaterPart;
 use super::types::find_in_type;
 use lalrpop_norm_tree::grammar::parse_tree::{
-    Attribute, Conversion, EnumToken, ExternToken, TerminalString, TypeRef,
+    Attribute, Conversion, EnumToken, ExternToken, TypeRef,
 };
-use lalrpop_norm_tree::grammar::pattern::{Pattern, PatternKind};
-use std::collections::BTreeSet;
+use lalrpop_norm_tree::grammar::pattern::{FieldPattern, Pattern, PatternKind};
 
 /// Answers `part` where there is anything.
 pub(super) fn find_any<T>(part: LaterPart, things: &[T]) -> Result<(), LaterPart>
@@ -60,16 +59,35 @@ fn find_in_pattern_kind(kind: &PatternKind<TypeRef>) -> Result<(), LaterPart>
     ensures { Finds result (pattern_kind_parts (pattern_kind_view type_view kind.now)) }
 {
     match kind {
-        PatternKind::Enum(_, patterns) => find_in_patterns(patterns),
-        PatternKind::Path(_) | PatternKind::Underscore | PatternKind::DotDot => Ok(()),
+        PatternKind::Enum(_, patterns)
+        | PatternKind::Tuple(patterns)
+        | PatternKind::TupleStruct(_, patterns) => find_in_patterns(patterns),
+        PatternKind::Struct(_, fields, _) => find_in_fields(fields),
         PatternKind::Choose(_) => Err(LaterPart::ChosenType),
-        PatternKind::Struct(_, _, _)
-        | PatternKind::Tuple(_)
-        | PatternKind::TupleStruct(_, _)
+        PatternKind::Path(_)
         | PatternKind::Usize(_)
+        | PatternKind::Underscore
+        | PatternKind::DotDot
         | PatternKind::CharLiteral(_)
-        | PatternKind::String(_) => Err(LaterPart::PatternKind),
+        | PatternKind::String(_) => Ok(()),
     }
+}
+
+#[cycle(patterns)]
+fn find_in_fields(fields: &[FieldPattern<TypeRef>]) -> Result<(), LaterPart>
+    ensures { Finds result (fields_parts (fields_view type_view fields.now)) }
+{
+    for field in fields {
+        find_in_field(field)?;
+    }
+    Ok(())
+}
+
+#[cycle(patterns)]
+fn find_in_field(field: &FieldPattern<TypeRef>) -> Result<(), LaterPart>
+    ensures { Finds result (pattern_parts (field_view type_view field.now).pattern) }
+{
+    find_in_pattern(&field.pattern)
 }
 
 // ---- extern blocks
@@ -83,27 +101,21 @@ fn find_in_conversions(conversions: &[Conversion]) -> Result<(), LaterPart>
     Ok(())
 }
 
-fn find_in_enum(
-    converted: &BTreeSet<TerminalString>,
-    tokens: &Option<EnumToken>,
-) -> Result<(), LaterPart>
-    ensures { Finds result (enum_parts (terminal_in converted.now.keys) (option_map enum_token_view tokens.now)) }
+fn find_in_enum(tokens: &Option<EnumToken>) -> Result<(), LaterPart>
+    ensures { Finds result (enum_parts (option_map enum_token_view tokens.now)) }
 {
     match tokens {
         Some(tokens) => {
-            find_in_type(converted, &tokens.type_name)?;
+            find_in_type(&tokens.type_name)?;
             find_in_conversions(&tokens.conversions)
         }
         None => Ok(()),
     }
 }
 
-pub(super) fn find_in_extern(
-    converted: &BTreeSet<TerminalString>,
-    block: &ExternToken,
-) -> Result<(), LaterPart>
-    ensures { Finds result (extern_parts (terminal_in converted.now.keys) (extern_token_view block.now)) }
+pub(super) fn find_in_extern(block: &ExternToken) -> Result<(), LaterPart>
+    ensures { Finds result (extern_parts (extern_token_view block.now)) }
 {
     find_any(LaterPart::AssociatedType, &block.associated_types)?;
-    find_in_enum(converted, &block.enum_token)
+    find_in_enum(&block.enum_token)
 }
