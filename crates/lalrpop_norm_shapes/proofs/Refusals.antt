@@ -7,7 +7,7 @@ use Rattle.serde_json.specs.Find.{as_object, as_array, as_number, as_u64}
 use Rattle.serde_json.specs.View.{view, items_view, items_of}
 use Rattle.serde_json.specs.declared.value.Value.{Value}
 use Rattle.lalrpop_norm_shapes.specs.Weight.{weight, items_weight}
-use Rattle.lalrpop_norm_shapes.specs.Parts.{is_null, is_pair, is_variant, is_no_members, starts_with, are_keys, has_fields}
+use Rattle.lalrpop_norm_shapes.specs.Parts.{is_null, is_pair, is_triple, is_variant, is_no_members, starts_with, are_keys, has_fields}
 use Rattle.lalrpop_norm_shapes.specs.Shapes.{ShapeName, natural, Place, Held, Arrays, shape, struct_of, each, row, place, fits, fits_items, fits_members, struct, variants, arrayed, optional, Shape, is}
 
 pub not_pair : (vs : List Value) → length vs ≢ 2 → is_pair (array (items_view vs)) ≡ false
@@ -21,6 +21,21 @@ pair_of [] d two = cc
 pair_of (a ∷ []) d two = cc
 pair_of (a ∷ b ∷ []) d two = refl
 pair_of (a ∷ b ∷ c ∷ vs) d two = absurd (omega arith)
+
+pub not_triple : (vs : List Value) → length vs ≢ 3 → is_triple (array (items_view vs)) ≡ false
+not_triple [] other = refl
+not_triple (a ∷ []) other = refl
+not_triple (a ∷ b ∷ []) other = refl
+not_triple (a ∷ b ∷ c ∷ []) other = absurd (other refl)
+not_triple (a ∷ b ∷ c ∷ e ∷ vs) other = refl
+
+pub triple_of : (vs : List Value) (d : Value) → length vs ≡ 3
+    → items_view vs ≡ item (view (get_or vs 0 d)) (item (view (get_or vs 1 d)) (item (view (get_or vs 2 d)) no_items))
+triple_of [] d three = cc
+triple_of (a ∷ []) d three = cc
+triple_of (a ∷ b ∷ []) d three = cc
+triple_of (a ∷ b ∷ c ∷ []) d three = refl
+triple_of (a ∷ b ∷ c ∷ e ∷ vs) d three = absurd (omega arith)
 
 pub not_empty : (vs : List Value) → length vs ≢ 0 → fits_items (row []) (items_view vs) ≡ false
 not_empty [] other = absurd (other refl)
@@ -131,6 +146,19 @@ no_pair p q (array (item a (item b no_items))) e = cc
 no_pair p q (array (item a (item b (item c ds)))) e = and_false _ _ (and_false _ _ refl)
 no_pair p q (object ms) e = refl
 
+pub no_triple : (p q r : Place) (d : Data) → is_triple d ≡ false → fits (arrayed (row (p ∷ q ∷ r ∷ []))) d ≡ false
+no_triple p q r null e = refl
+no_triple p q r (boolean b) e = refl
+no_triple p q r (number n) e = refl
+no_triple p q r (string s) e = refl
+no_triple p q r (array no_items) e = refl
+no_triple p q r (array (item a no_items)) e = and_false _ _ refl
+no_triple p q r (array (item a (item b no_items))) e = and_false _ _ (and_false _ _ refl)
+no_triple p q r (array (item a (item b (item c no_items)))) e = cc
+no_triple p q r (array (item a (item b (item c (item d ds))))) e =
+    and_false (fits (place p) a) _ (and_false (fits (place q) b) _ (and_false (fits (place r) c) _ refl))
+no_triple p q r (object ms) e = refl
+
 pub no_optional : (s : Shape) (d : Data) → is_null d ≡ false → fits s d ≡ false → fits (optional s) d ≡ false
 no_optional s null there e = cc
 no_optional s (boolean b) there e = e
@@ -167,4 +195,4 @@ no_list n v vs i x is h at refused = rw is (no_item n vs i x h (ap (λ y. fits (
 pub whole_list : {X : Type 0} (f : X → Data) (xs : List X) (v : Data) (vs : List Value) (i : ℕ) → v ≡ array (items_view vs) → map f xs ≡ map view (take i vs) → length vs ≤ i → v ≡ array (items_of (map f xs))
 whole_list f xs v vs i is e h = is ∙ ap (λ ds. array (items_of ds)) (ap (map view) (sym (take_all i vs h)) ∙ sym e)
 
-pub ruleset refusals = (no_fields, and_false, no_variant, no_array, no_pair, no_optional, lighter, no_list)
+pub ruleset refusals = (no_fields, and_false, no_variant, no_array, no_pair, no_triple, no_optional, lighter, no_list)

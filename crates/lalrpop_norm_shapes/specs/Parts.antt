@@ -37,6 +37,10 @@ abbrev pub is_pair : Data → Bool
 is_pair (array (item a (item b no_items))) = true
 is_pair _ = false
 
+abbrev pub is_triple : Data → Bool
+is_triple (array (item a (item b (item c no_items)))) = true
+is_triple _ = false
+
 abbrev pub is_null : Data → Bool
 is_null null = true
 is_null _ = false

@@ -4,7 +4,7 @@ ghost use Rattle.serde_json.specs.Data.{null, boolean, number, unsigned, string,
 ghost use Rattle.serde_json.specs.Find.{as_object, as_array};
 ghost use Rattle.serde_json.specs.View.{view, items_view, members_view};
 ghost use Rattle.lalrpop_norm_shapes.specs.Shapes.{is, text, truth, natural, empty};
-ghost use Rattle.lalrpop_norm_shapes.specs.Parts.{starts_with, is_no_members, are_keys, has_fields, is_variant, is_pair, is_null, case_form};
+ghost use Rattle.lalrpop_norm_shapes.specs.Parts.{starts_with, is_no_members, are_keys, has_fields, is_variant, is_pair, is_triple, is_null, case_form};
 
 use serde_json::Value;
 use shared_text::NoMemory;
@@ -463,6 +463,19 @@ pub fn pair(value: &Value) -> Result<(&Value, &Value), TreeError>
         return Err(TreeError::NotATree);
     }
     Ok((&list[0], &list[1]))
+}
+
+/// The three items of an array of three.
+#[tactic(auto, using(crate::proofs::Refusals::not_triple, crate::proofs::Refusals::triple_of))]
+pub fn triple(value: &Value) -> Result<(&Value, &Value, &Value), TreeError>
+    ensures ok { IfOk result (λ p. view value.now ≡ array (item (view p.0.now) (item (view p.1.now) (item (view p.2.now) no_items)))) }
+    ensures err { IsErrOf result TreeError.NotATree → is_triple (view value.now) ≡ false }
+{
+    let list = items(value)?;
+    if list.len() != 3 {
+        return Err(TreeError::NotATree);
+    }
+    Ok((&list[0], &list[1], &list[2]))
 }
 
 /// A text.

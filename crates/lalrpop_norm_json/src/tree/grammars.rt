@@ -10,7 +10,7 @@ use super::attributes::attributes;
 use super::names::{span, string};
 use super::parts::{list, pushed};
 use super::rules::rule;
-use super::tokens::extern_token;
+use super::tokens::{extern_token, match_token};
 use lalrpop_norm_shapes::{Case, TreeError, case_of, eight_fields, items, nothing};
 use lalrpop_norm_tree::grammar::parse_tree::{Grammar, GrammarItem};
 use serde_json::Value;
@@ -24,6 +24,7 @@ fn grammar_item(alloc: Global, value: &Value) -> Result<GrammarItem, TreeError>
     match case_of(value)? {
         Case::Bare(_) => Err(TreeError::NotATree),
         Case::Of(variant, held) => match variant {
+            "MatchToken" => Ok(GrammarItem::MatchToken(match_token(alloc, held)?)),
             "ExternToken" => Ok(GrammarItem::ExternToken(extern_token(alloc, held)?)),
             "Nonterminal" => Ok(GrammarItem::Nonterminal(rule(alloc, held)?)),
             "Use" => Ok(GrammarItem::Use(string(alloc, held)?)),

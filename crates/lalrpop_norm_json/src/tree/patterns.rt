@@ -1,18 +1,24 @@
 //! Patterns of conversions.
-ghost use Rattle.std.specs.Prelude.{◌≡◌, IfOk, IsErrOf, false};
+ghost use Rattle.std.specs.Prelude.{◌≡◌, [], ◌∷◌, codes, IfOk, IsErrOf, false};
 ghost use Rattle.serde_json.specs.Data.{array};
 ghost use Rattle.serde_json.specs.View.{view};
 ghost use Rattle.lalrpop_norm_tree.specs.Types.{type_view};
-ghost use Rattle.lalrpop_norm_parts.specs.Patterns.{pattern_kind_view, pattern_view, patterns_view};
+ghost use Rattle.lalrpop_norm_parts.specs.Paths.{path_view};
+ghost use Rattle.lalrpop_norm_parts.specs.Patterns.{pattern_kind_view, pattern_view, patterns_view, field_view, fields_view};
 ghost use Rattle.lalrpop_norm_shapes.specs.Shapes as shape;
-ghost use Rattle.lalrpop_norm_shapes.specs.Shapes.{is, fits, place, many};
-ghost use Rattle.lalrpop_norm_json.specs.PatternForms.{pattern_kind_form, pattern_form, patterns_form};
+ghost use Rattle.lalrpop_norm_shapes.specs.Shapes.{is, fits, place, one, many, arrayed, row};
+ghost use Rattle.lalrpop_norm_json.specs.Json as json;
+ghost use Rattle.lalrpop_norm_json.specs.Json.{variant};
+ghost use Rattle.lalrpop_norm_json.specs.Forms.{path_form};
+ghost use Rattle.lalrpop_norm_json.specs.PatternForms.{pattern_kind_form, pattern_form, patterns_form, field_form, field_patterns_form};
 
-use super::names::{path, span};
+use super::names::{atom, path, span, string};
 use super::parts::pushed;
-use lalrpop_norm_shapes::{Case, TreeError, case_of, items, pair, two_fields};
-use lalrpop_norm_tree::grammar::parse_tree::TypeRef;
-use lalrpop_norm_tree::grammar::pattern::{Pattern, PatternKind};
+use lalrpop_norm_shapes::{
+    Case, TreeError, case_of, items, natural, pair, three_fields, triple, truth, two_fields,
+};
+use lalrpop_norm_tree::grammar::parse_tree::{Path, TypeRef};
+use lalrpop_norm_tree::grammar::pattern::{FieldPattern, Pattern, PatternKind};
 use serde_json::Value;
 use std::alloc::Global;
 
@@ -30,15 +36,85 @@ fn pattern_kind(alloc: Global, value: &Value) -> Result<PatternKind<TypeRef>, Tr
         },
         Case::Of(variant, held) => match variant {
             "Enum" => {
-                let (first, second) = pair(held)?;
-                let path = path(alloc, first)?;
-                let patterns = patterns(alloc, second)?;
+                let (path, patterns) = path_and_patterns(alloc, held)?;
                 Ok(PatternKind::Enum(path, patterns))
             }
+            "Struct" => structured(alloc, held),
             "Path" => Ok(PatternKind::Path(path(alloc, held)?)),
+            "Tuple" => Ok(PatternKind::Tuple(patterns(alloc, held)?)),
+            "TupleStruct" => {
+                let (path, patterns) = path_and_patterns(alloc, held)?;
+                Ok(PatternKind::TupleStruct(path, patterns))
+            }
+            "Usize" => Ok(PatternKind::Usize(natural(held)?)),
+            "CharLiteral" => Ok(PatternKind::CharLiteral(atom(alloc, held)?)),
+            "String" => Ok(PatternKind::String(string(alloc, held)?)),
             _ => Err(TreeError::NotATree),
         },
     }
+}
+
+/// What the patterns of an enum and of a tuple struct hold.
+#[cycle(pattern)]
+#[tactic(auto, using(lalrpop_norm_shapes::proofs::Refusals::refusals))]
+fn path_and_patterns(
+    alloc: Global,
+    value: &Value,
+) -> Result<(Path, Vec<Pattern<TypeRef>>), TreeError>
+    ensures ok { IfOk result (λ p. view value.now ≡
+        json.row (path_form (path_view p.0) ∷ array (patterns_form (patterns_view type_view p.1.items)) ∷ [])) }
+    ensures err { IsErrOf result TreeError.NotATree →
+        fits (arrayed (row (one shape.path ∷ many shape.pattern ∷ []))) (view value.now) ≡ false }
+{
+    let (first, second) = pair(value)?;
+    let path = path(alloc, first)?;
+    let patterns = patterns(alloc, second)?;
+    Ok((path, patterns))
+}
+
+/// The pattern of a struct with this path, these fields and that rest.
+#[cycle(pattern)]
+#[tactic(auto, using(lalrpop_norm_shapes::proofs::Refusals::refusals))]
+fn structured(alloc: Global, value: &Value) -> Result<PatternKind<TypeRef>, TreeError>
+    ensures ok { IfOk result (λ k. variant (codes "Struct") (view value.now) ≡ pattern_kind_form (pattern_kind_view type_view k)) }
+    ensures err { IsErrOf result TreeError.NotATree → is shape.pattern_kind (variant (codes "Struct") (view value.now)) ≡ false }
+{
+    let (first, second, third) = triple(value)?;
+    let rest = truth(third)?;
+    let path = path(alloc, first)?;
+    let fields = field_patterns(alloc, second)?;
+    Ok(PatternKind::Struct(path, fields, rest))
+}
+
+#[cycle(pattern)]
+#[tactic(auto, using(lalrpop_norm_shapes::proofs::Refusals::refusals))]
+fn field_pattern(alloc: Global, value: &Value) -> Result<FieldPattern<TypeRef>, TreeError>
+    ensures ok { IfOk result (λ f. view value.now ≡ field_form (field_view type_view f)) }
+    ensures err { IsErrOf result TreeError.NotATree → is shape.field_pattern (view value.now) ≡ false }
+{
+    let (name, at, of) = three_fields(value, "field_name", "field_span", "pattern")?;
+    let field_span = span(at)?;
+    let field_name = atom(alloc, name)?;
+    let pattern = pattern(alloc, of)?;
+    Ok(FieldPattern {
+        field_span,
+        field_name,
+        pattern,
+    })
+}
+
+#[cycle(pattern)]
+#[tactic(auto, using(lalrpop_norm_shapes::proofs::Refusals::refusals))]
+fn field_patterns(alloc: Global, value: &Value) -> Result<Vec<FieldPattern<TypeRef>>, TreeError>
+    ensures ok { IfOk result (λ fs. view value.now ≡ array (field_patterns_form (fields_view type_view fs.items))) }
+    ensures err { IsErrOf result TreeError.NotATree → fits (place (many shape.field_pattern)) (view value.now) ≡ false }
+{
+    let values = items(value)?;
+    let mut fields = Vec::new(alloc);
+    for value in values {
+        fields = pushed(fields, field_pattern(alloc, value))?;
+    }
+    Ok(fields)
 }
 
 #[cycle(pattern)]

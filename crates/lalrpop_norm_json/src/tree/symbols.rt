@@ -53,6 +53,7 @@ pub(super) fn kind(alloc: Global, value: &Value) -> Result<SymbolKind, TreeError
         Case::Bare(variant) => match variant {
             "Lookahead" => Ok(SymbolKind::Lookahead),
             "Lookbehind" => Ok(SymbolKind::Lookbehind),
+            "Error" => Ok(SymbolKind::Error),
             _ => Err(TreeError::NotATree),
         },
         Case::Of(variant, held) => match variant {

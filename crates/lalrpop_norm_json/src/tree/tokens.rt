@@ -1,20 +1,116 @@
-//! Extern blocks.
-ghost use Rattle.std.specs.Prelude.{◌≡◌, IfOk, IsErrOf, false};
+//! Match blocks and extern blocks.
+ghost use Rattle.std.specs.Prelude.{◌≡◌, codes, IfOk, IsErrOf, false};
 ghost use Rattle.serde_json.specs.View.{view};
-ghost use Rattle.lalrpop_norm_tree.specs.Items.{enum_token_view, extern_token_view};
+ghost use Rattle.lalrpop_norm_tree.specs.Items.{enum_token_view, extern_token_view, match_token_view};
 ghost use Rattle.lalrpop_norm_shapes.specs.Shapes as shape;
 ghost use Rattle.lalrpop_norm_shapes.specs.Shapes.{is};
-ghost use Rattle.lalrpop_norm_json.specs.ItemForms.{enum_token_form, extern_token_form};
+ghost use Rattle.lalrpop_norm_json.specs.Json.{variant};
+ghost use Rattle.lalrpop_norm_json.specs.ItemForms.{enum_token_form, extern_token_form, mapping_form, match_item_form, match_token_form};
 
 use super::attributes::attributes;
-use super::names::{span, terminal};
+use super::names::{literal, span, terminal};
 use super::parts::{FromValue, list, maybe};
 use super::patterns::pattern;
 use super::types::type_ref;
-use lalrpop_norm_shapes::{TreeError, four_fields, nothing, three_fields};
-use lalrpop_norm_tree::grammar::parse_tree::{Conversion, EnumToken, ExternToken};
+use lalrpop_norm_shapes::{
+    Case, TreeError, case_of, four_fields, nothing, only_field, pair, three_fields, triple,
+    two_fields,
+};
+use lalrpop_norm_tree::grammar::parse_tree::{
+    Conversion, EnumToken, ExternToken, MatchContents, MatchItem, MatchMapping, MatchToken,
+};
 use serde_json::Value;
 use std::alloc::Global;
+
+#[tactic(auto, using(lalrpop_norm_shapes::proofs::Refusals::refusals))]
+fn mapping(alloc: Global, value: &Value) -> Result<MatchMapping, TreeError>
+    ensures ok { IfOk result (λ m. view value.now ≡ mapping_form m) }
+    ensures err { IsErrOf result TreeError.NotATree → is shape.match_mapping (view value.now) ≡ false }
+{
+    match case_of(value)? {
+        Case::Bare(variant) => match variant {
+            "Skip" => Ok(MatchMapping::Skip),
+            _ => Err(TreeError::NotATree),
+        },
+        Case::Of(variant, held) => match variant {
+            "Terminal" => Ok(MatchMapping::Terminal(terminal(alloc, held)?)),
+            _ => Err(TreeError::NotATree),
+        },
+    }
+}
+
+/// The item that stands for itself.
+#[tactic(auto, using(lalrpop_norm_shapes::proofs::Refusals::refusals))]
+fn unmapped(alloc: Global, value: &Value) -> Result<MatchItem, TreeError>
+    ensures ok { IfOk result (λ i. variant (codes "Unmapped") (view value.now) ≡ match_item_form i) }
+    ensures err { IsErrOf result TreeError.NotATree → is shape.match_item (variant (codes "Unmapped") (view value.now)) ≡ false }
+{
+    let (of, at) = pair(value)?;
+    let span = span(at)?;
+    Ok(MatchItem::Unmapped(literal(alloc, of)?, span))
+}
+
+/// The item that makes what is named beside it.
+#[tactic(auto, using(lalrpop_norm_shapes::proofs::Refusals::refusals))]
+fn mapped(alloc: Global, value: &Value) -> Result<MatchItem, TreeError>
+    ensures ok { IfOk result (λ i. variant (codes "Mapped") (view value.now) ≡ match_item_form i) }
+    ensures err { IsErrOf result TreeError.NotATree → is shape.match_item (variant (codes "Mapped") (view value.now)) ≡ false }
+{
+    let (of, to, at) = triple(value)?;
+    let span = span(at)?;
+    let literal = literal(alloc, of)?;
+    let mapping = mapping(alloc, to)?;
+    Ok(MatchItem::Mapped(literal, mapping, span))
+}
+
+impl FromValue for MatchItem {
+    ghost use Rattle.lalrpop_norm_json.specs.ItemForms.{match_item_form};
+    ghost use Rattle.lalrpop_norm_shapes.specs.Shapes as shape;
+
+    ghost form = { match_item_form };
+
+    ghost named = { shape.match_item };
+
+    #[tactic(auto, using(lalrpop_norm_shapes::proofs::Refusals::refusals))]
+    fn from_value(alloc: Global, value: &Value) -> Result<MatchItem, TreeError> {
+        match case_of(value)? {
+            Case::Bare(_) => Err(TreeError::NotATree),
+            Case::Of(variant, held) => match variant {
+                "CatchAll" => Ok(MatchItem::CatchAll(span(held)?)),
+                "Unmapped" => unmapped(alloc, held),
+                "Mapped" => mapped(alloc, held),
+                _ => Err(TreeError::NotATree),
+            },
+        }
+    }
+}
+
+impl FromValue for MatchContents {
+    ghost use Rattle.lalrpop_norm_tree.specs.Items.{match_contents_view};
+    ghost use Rattle.lalrpop_norm_json.specs.ItemForms.{match_contents_form};
+    ghost use Rattle.lalrpop_norm_shapes.specs.Shapes as shape;
+
+    ghost form = { λ c. match_contents_form (match_contents_view c) };
+
+    ghost named = { shape.match_contents };
+
+    #[tactic(auto, using(lalrpop_norm_shapes::proofs::Refusals::refusals))]
+    fn from_value(alloc: Global, value: &Value) -> Result<MatchContents, TreeError> {
+        let items = list(alloc, only_field(value, "items")?)?;
+        Ok(MatchContents { items })
+    }
+}
+
+#[tactic(auto, using(lalrpop_norm_shapes::proofs::Refusals::refusals))]
+pub(super) fn match_token(alloc: Global, value: &Value) -> Result<MatchToken, TreeError>
+    ensures ok { IfOk result (λ m. view value.now ≡ match_token_form (match_token_view m)) }
+    ensures err { IsErrOf result TreeError.NotATree → is shape.match_token (view value.now) ≡ false }
+{
+    let (contents, at) = two_fields(value, "contents", "span")?;
+    let span = span(at)?;
+    let contents = list(alloc, contents)?;
+    Ok(MatchToken { contents, span })
+}
 
 impl FromValue for Conversion {
     ghost use Rattle.lalrpop_norm_tree.specs.Items.{conversion_view};

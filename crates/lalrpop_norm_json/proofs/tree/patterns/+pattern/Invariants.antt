@@ -1,8 +1,8 @@
 use Rattle.std.proofs.Common.{◌≡◌, map, take}
 use Rattle.serde_json.specs.View.{view}
 use Rattle.lalrpop_norm_tree.specs.Types.{type_view}
-use Rattle.lalrpop_norm_parts.specs.Patterns.{pattern_view}
-use Rattle.lalrpop_norm_json.specs.PatternForms.{pattern_form}
+use Rattle.lalrpop_norm_parts.specs.Patterns.{pattern_view, field_view}
+use Rattle.lalrpop_norm_json.specs.PatternForms.{pattern_form, field_form}
 use Rattle.lalrpop_norm_shapes.specs.Weight.{weight}
 use Rattle.lalrpop_norm_json.proofs.tree.patterns.+pattern.Given as goal
 
@@ -11,6 +11,21 @@ decreases-pattern l = weight (view l.value.now)
 
 abbrev pub decreases-pattern_kind : goal.decreases-pattern_kind
 decreases-pattern_kind l = weight (view l.value.now)
+
+abbrev pub decreases-path_and_patterns : goal.decreases-path_and_patterns
+decreases-path_and_patterns l = weight (view l.value.now)
+
+abbrev pub decreases-structured : goal.decreases-structured
+decreases-structured l = weight (view l.value.now)
+
+abbrev pub decreases-field_pattern : goal.decreases-field_pattern
+decreases-field_pattern l = weight (view l.value.now)
+
+abbrev pub decreases-field_patterns : goal.decreases-field_patterns
+decreases-field_patterns l = weight (view l.value.now)
+
+abbrev pub invariant-field_patterns-loop-value : goal.invariant-field_patterns-loop-value
+invariant-field_patterns-loop-value l = map (λ f. field_form (field_view type_view f)) l.fields.items ≡ map view (take l.value-index l.values)
 
 abbrev pub decreases-patterns : goal.decreases-patterns
 decreases-patterns l = weight (view l.value.now)
