@@ -3,9 +3,9 @@ use Rattle.std.proofs.Common.{ℕ, List, Option}
 use Rattle.std.specs.Io.KnownBytes.{Keeps}
 use Rattle.lalrpop_norm_faults.specs.declared.failure.NormFailure.{NormFailure}
 use Rattle.lalrpop_norm_faults.specs.declared.failure.NormFailure.TheVariants.{Refused, Memory as no_room}
-use Rattle.lalrpop_norm_faults.specs.Faults.{IsFirst}
+use Rattle.lalrpop_norm_faults.specs.Faults.{IsTold}
 use Rattle.lalrpop_norm_tree.specs.Items.{GrammarData}
-use Rattle.lnorm_run.specs.Answers.{IsFormOf, faults_of}
+use Rattle.lnorm_run.specs.Answers.{IsFormOf, findings_of, StandsAtPlace}
 use Rattle.lnorm_run.specs.Settings.{Settings}
 use Rattle.lnorm_run.specs.Runs.{TakesInput}
 use Rattle.lnorm_run.specs.Halts.{Explains, Halts}
@@ -17,14 +17,14 @@ use Rattle.lnorm_run.proofs.TakenLemmas.{taken_is_tree}
 pub halts_explained : (h : Halt) (words : List (List ℕ)) (s : Settings) (bytes : List ℕ) (in_old in_new out_old out_new : Option (List ℕ))
     → TakesInput words in_old in_new s bytes → Keeps out_old out_new → Explains s bytes h → Halts h words in_old in_new out_old out_new
 halts_explained Usage words s bytes in_old in_new out_old out_new t k e = absurd e
-halts_explained NotATree words s bytes in_old in_new out_old out_new t k e = (record { settings = s; bytes = bytes; takes = t; no_tree = e; not_taken = λ f. e (taken_is_tree s bytes f) }, k)
+halts_explained NotATree words s bytes in_old in_new out_old out_new t k e = (record { settings = s; bytes = bytes; takes = t; no_tree = e; not_taken = λ f. e (taken_is_tree bytes f) }, k)
 halts_explained (Failed (Refused x)) words s bytes in_old in_new out_old out_new t k e = (record { settings = s; bytes = bytes; takes = t; stands = e }, k)
 halts_explained (Failed no_room) words s bytes in_old in_new out_old out_new t k e = k
 halts_explained Input words s bytes in_old in_new out_old out_new t k e = absurd e
 halts_explained Output words s bytes in_old in_new out_old out_new t k e = absurd e
 
 -- where the passes refused the tree that the input is
-pub refused_explained : (s : Settings) (bytes : List ℕ) (tree : GrammarData) (e : NormFailure) → IsFormOf tree bytes → IsFirst (faults_of s tree) e
+pub refused_explained : (s : Settings) (bytes : List ℕ) (tree : GrammarData) (e : NormFailure) → IsFormOf tree bytes → IsTold (StandsAtPlace s tree) (findings_of s tree) e
     → Explains s bytes (Failed e)
 refused_explained s bytes tree (Refused x) form h = record { tree = tree; form = form; stands = h }
 refused_explained s bytes tree no_room form h = tt

@@ -5,14 +5,16 @@ use Rattle.serde_json.specs.Read.{read}
 use Rattle.lalrpop_norm_parts.specs.declared.names.Span.{Span}
 use Rattle.lalrpop_norm_tree.specs.Items.{GrammarData}
 use Rattle.lalrpop_norm_faults.specs.declared.kind.FaultKind.{FaultKind}
-use Rattle.lalrpop_norm_faults.specs.Faults.{Fault, first}
+use Rattle.lalrpop_norm_faults.specs.Faults.{Fault, Finding, StandsAmong, MayBeTold}
+use Rattle.lalrpop_norm_model.specs.LexerFaults.{LexerPlace}
+use Rattle.lalrpop_norm_lexer.specs.CheckOnly.{of_regex}
 use Rattle.lalrpop_norm_json.specs.ItemForms.{grammar_form}
 use Rattle.lalrpop_norm_shapes.specs.Shapes as shape
 use Rattle.lalrpop_norm_shapes.specs.Shapes.{is}
 use Rattle.lnorm_run.specs.Settings.{Settings}
-use Rattle.lalrpop_norm.specs.Faithful.{IsFaithful, no_lexer}
+use Rattle.lalrpop_norm.specs.Faithful.{IsFaithful}
 use Rattle.lalrpop_norm.specs.Later.{later_parts}
-use Rattle.lalrpop_norm.specs.Normalize.{normalize_faults, IsNormalized}
+use Rattle.lalrpop_norm.specs.Normalize.{normalize_findings, StandsThere, IsNormalized}
 use Rattle.lalrpop_norm_repr.specs.Closed.{IsClosed}
 use Rattle.lalrpop_norm_repr.specs.Lowered.{LoweredGrammar}
 use Rattle.lnorm_run.specs.Lines.{lines}
@@ -32,21 +34,25 @@ pub record IsFormOf (g : GrammarData) (bytes : List ℕ) : Type 0 where
   pub is_form : grammar_form g ≡ Some value
 
 -- the input is the form of a tree without a part of a later stage
-pub record IsTakenForm (s : Settings) (bytes : List ℕ) : Type 0 where
+pub record IsTakenForm (bytes : List ℕ) : Type 0 where
   pub tree : GrammarData
   pub form : IsFormOf tree bytes
-  pub taken : later_parts s.features tree ≡ []
+  pub taken : later_parts tree ≡ []
 
--- the faults of a tree in their order
-abbrev pub faults_of : Settings → GrammarData → List Fault
-faults_of s g = normalize_faults s.features s.limit g
+-- what is looked for in a tree, in order
+abbrev pub findings_of : Settings → GrammarData → List (Finding LexerPlace)
+findings_of s g = normalize_findings s.features s.limit g
+
+-- what the program's lexer may refuse of a tree
+abbrev pub StandsAtPlace : Settings → GrammarData → LexerPlace → Fault → Type 0
+StandsAtPlace s g = StandsThere of_regex s.features s.limit g
 
 -- The lowered grammar is one that the tree has under the settings: no fault of the tree stands; it is what the tree is lowered to
--- by its definition; it is faithful to the tree; and nothing in it is left open.
+-- by its definition; it is faithful to the tree; and nothing in it is left open. Its tokens are those of the program's lexer.
 pub record IsLowered (s : Settings) (g : GrammarData) (l : LoweredGrammar) : Type 0 where
-  pub faultless : faults_of s g ≡ []
-  pub normalized : IsNormalized s.features s.limit g l
-  pub faithful : IsFaithful no_lexer s.features g l
+  pub faultless : (f : Fault) → StandsAmong (StandsAtPlace s g) (findings_of s g) f → ⊥
+  pub normalized : IsNormalized of_regex s.features s.limit g l
+  pub faithful : IsFaithful of_regex s.features g l
   pub closed : IsClosed l
 
 -- the input is the form of a tree, and the text is the lines of a lowered grammar that this tree has
@@ -57,8 +63,9 @@ pub record IsAnswer (s : Settings) (bytes text : List ℕ) : Type 0 where
   pub lowers : IsLowered s tree lowered
   pub printed : text ≡ lines lowered
 
--- the first fault of the tree that the input is, and where it stands
+-- The first fault of the tree that the input is, and where it stands; or one of its lexer that stands there, with no fault but of the
+-- lexer before it.
 pub record IsFirstFault (s : Settings) (bytes : List ℕ) (fault : FaultKind) (span : Span) : Type 0 where
   pub tree : GrammarData
   pub form : IsFormOf tree bytes
-  pub stands : first (faults_of s tree) ≡ Some (fault, span)
+  pub stands : MayBeTold (StandsAtPlace s tree) (findings_of s tree) (fault, span)

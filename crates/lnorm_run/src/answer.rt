@@ -11,6 +11,7 @@ ghost use Rattle.lnorm_run.specs.Settings.{Settings, settings_view};
 
 use crate::lines::lines;
 use lalrpop_norm::grammar::repr;
+use lalrpop_norm::lexer::CheckOnly;
 use lalrpop_norm::normalize::{NormFailure, Session, normalize};
 use lalrpop_norm_json::{TreeError, read_tree};
 use lalrpop_norm_tree::grammar::parse_tree::Grammar;
@@ -21,7 +22,7 @@ use std::alloc::Global;
 ///
 /// Errors: `NotATree` where they are the form of no tree that is read; `Failed` with the first fault of the tree, or with want of
 /// memory.
-pub fn answer(alloc: Global, session: &Session<()>, bytes: &[u8]) -> Result<String, Halt>
+pub fn answer(alloc: Global, session: &Session<CheckOnly>, bytes: &[u8]) -> Result<String, Halt>
     ensures ok { IfOk result (λ text. IsAnswer (settings_view session.now) bytes.now (string_bytes text)) }
     ensures err { IfErr result (Explains (settings_view session.now) bytes.now) }
 {

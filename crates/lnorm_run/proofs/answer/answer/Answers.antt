@@ -2,6 +2,7 @@ use Rattle.std.proofs.lemmas.Result.{IfOk-weaker, err_from_is_err_and}
 use Rattle.lalrpop_norm_tree.specs.Items.{grammar_view}
 use Rattle.lalrpop_norm_repr.specs.Lowered.{lowered_grammar_view as lowered_view}
 use Rattle.lnorm_run.specs.Settings.{settings_view}
+use Rattle.lnorm_run.proofs.FaultlessLemmas.{no_fault_stands}
 use Rattle.lnorm_run.proofs.HaltLemmas.{refused_explained}
 use Rattle.lnorm_run.proofs.answer.answer.Goals as goal
 
@@ -21,7 +22,7 @@ returns-in-Ok-clause-ok c = IfOk-weaker c.text_of.result _ _
       form = c.in_ok-tree.ensures.ok;
       lowered = lowered_view c.in-Ok.lowered;
       lowers = record {
-        faultless = c.in-Ok.ensures.refuses;
+        faultless = no_fault_stands (settings_view c.args.session.now) (grammar_view c.in_ok-tree.tree) (lowered_view c.in-Ok.lowered) c.in-Ok.ensures.refuses c.in-Ok.ensures.normalized;
         normalized = c.in-Ok.ensures.normalized;
         faithful = c.in-Ok.ensures.faithful;
         closed = c.in-Ok.ensures.closed;
