@@ -6,13 +6,13 @@
 
 DATA is the folder of the trees, SCRIPT and OUTPUT are a crate's stdin and stdout. Where this script can't tell the answer it
 prints `?`, and compares nothing. It knows the printed forms, and what the passes make of a grammar that they take; of refusals
-only those of names (F25 to F32) and of the expansion (F33 to F37). So what stands at a tree that is refused otherwise, or is no
-tree, is to be written by hand: the comparison counts these lines, and says nothing of them.
+only those of names (F25 to F32), of the expansion (F33 to F37) and of tokens (F38 to F46). So what stands at a tree that is
+refused otherwise, or is no tree, is to be written by hand: the comparison counts these lines, and says nothing of them.
 
 The passes are written here a second time, after the published source of lalrpop 0.23.1: briefly, for macros, groups, repeats,
-lookarounds, levels, names and features, not for what this library refuses as a later part. Patterns of conditions are read by
-`re`, so they are to mean the same there as in the library; none is told where it looks around, repeats a hundred times or more,
-or nests past 250.
+lookarounds, levels, names, features and tokens, not for what this library refuses as a later part. Patterns are read by `re`, so
+they are to mean the same there as in the library; none is told where it looks around, repeats a hundred times or more, or nests
+past 250.
 """
 import copy
 import json
@@ -21,12 +21,13 @@ import re
 import sys
 
 sys.dont_write_bytecode = True
-from wanted_forms import (Unknown, argument, attributes, canonical, one, path, pattern, place, terminal, tree_text,
-                          type_text, visibility)
+from wanted_forms import (Refused, Unknown, argument, attributes, canonical, intern, one, path, pattern, place, signature,
+                          terminal, tree_text, type_text, visibility)
+from wanted_tokens import (CheckOnly, Scripted, blocks_of, check_tokens, extern_enum, is_expanded, item_parts, named_terminals,
+                           terminals_of_entries)
 
 
-class Refused(Exception):
-    """A fault: its number and its span."""
+LOOKAROUNDS = ("Lookahead", "Lookbehind")
 
 
 # ---- what is asked of a tree
@@ -136,13 +137,15 @@ def length(value):
 
 
 def asked(tree, features):
-    blocks = [c for n, c in map(one, tree["items"]) if n == "ExternToken"]
-    enums = [b["enum_token"] for b in blocks if b["enum_token"]]
-    text = "first extern %s\n" % place(blocks[0]["span"]) if blocks else ""
-    text += "first enum %s\n" % place(enums[0]["type_span"]) if enums else ""
-    text += asked_attributes(tree["attributes"], features)
+    enum, tokenizers = extern_enum(tree), blocks_of(tree, "InternToken")
+    text = "".join("first match %s\n" % place(b["span"]) for b in blocks_of(tree, "MatchToken")[:1])
+    text += "".join("first extern %s\n" % place(b["span"]) for b in blocks_of(tree, "ExternToken")[:1])
+    text += "first enum %s\n" % place(enum["type_span"]) if enum else ""
+    text += ("tokenizer\n" if tokenizers else "") + asked_attributes(tree["attributes"], features)
     for name, content in map(one, tree["items"]):
-        if name == "ExternToken":
+        if name in ("MatchToken", "InternToken"):
+            text += "match %s\n" % place(content["span"]) if name == "MatchToken" else "tokenizer\n"
+        elif name == "ExternToken":
             text += "extern\n"
             for c in (content["enum_token"] or {"conversions": []})["conversions"]:
                 text += "  %s length %d" % (terminal(c["from"]), length(c["from"]))
@@ -157,7 +160,7 @@ def asked(tree, features):
 # ---- the passes
 
 def rules_of(tree):
-    return [c for n, c in map(one, tree["items"]) if n == "Nonterminal"]
+    return blocks_of(tree, "Nonterminal")
 
 
 def symbols_under(values):
@@ -181,11 +184,13 @@ def remove_disabled(tree, features):
 
 
 def global_names(tree):
-    """The rules, and then the bare terminals of conversions; each name once."""
+    """The rules, the bare terminals of conversions, and those of match blocks; each name once."""
     named = {}
-    bare = [c for n, b in map(one, tree["items"]) if n == "ExternToken" for c in (b["enum_token"] or {"conversions": []})["conversions"]]
+    bare = [(c["from"], c["span"]) for b in blocks_of(tree, "ExternToken") for c in (b["enum_token"] or {"conversions": []})["conversions"]]
+    items = [i for b in blocks_of(tree, "MatchToken") for g in b["contents"] for i in g["items"]]
+    bare += [(t, span) for _, mapping, span in map(item_parts, items) if mapping for t in named_terminals([mapping])]
     whole = [(r["name"], "macro" if r["args"] else "rule", r["span"]) for r in rules_of(tree)]
-    whole += [(one(c["from"])[1], "bare", c["span"]) for c in bare if one(c["from"])[0] == "Bare"]
+    whole += [(one(t)[1], "bare", span) for t, span in bare if one(t)[0] == "Bare"]
     for name, what, span in whole:
         if name in named:
             raise Refused("F25 " + place(span))
@@ -369,7 +374,7 @@ def made_rule(text, s, macros):
     seen, marks = "Priv", [{"id_span": span, "id": "inline", "arg": "Empty"}]
     if name == "Macro":
         seen, marks, ty, made = instance_rule(span, macros[content["name"]], content["args"])
-    elif name in ("Lookahead", "Lookbehind"):
+    elif name in LOOKAROUNDS:
         ty, made = None, [{"span": span, "expr": {"symbols": []}, "condition": None, "action": name, "attributes": []}]
     else:
         ty, made, inline = group_rule(span, content) if name == "Expr" else repeat_rule(span, content)
@@ -406,7 +411,7 @@ def expand_macros(tree, limit):
         for rule in rest:
             for a in rule["alternatives"]:
                 for s in symbols_under(a["expr"]["symbols"]):
-                    if one(s["kind"])[0] in ("Expr", "Repeat", "Macro", "Lookahead", "Lookbehind"):
+                    if one(s["kind"])[0] in ("Expr", "Repeat", "Macro") + LOOKAROUNDS:
                         waiting += meet(s, seen, declared)
         if not waiting:
             return
@@ -423,13 +428,19 @@ class Types:
     """The types of the rules and of the terminals."""
 
     def __init__(self, tree):
-        enums = [b["enum_token"] for n, b in map(one, tree["items"]) if n == "ExternToken" and b["enum_token"]]
-        if not enums:
-            raise Unknown
-        self.prefix = tree["prefix"]
-        self.token = type_text(enums[0]["type_name"])
+        enum = extern_enum(tree)
+        self.prefix, self.location = tree["prefix"], None if enum else "usize"
+        self.token = type_text(enum["type_name"]) if enum else "Token<'input>"
+        self.named = [] if enum else terminals_of_entries(tree)
         self.rules = {r["name"]: r for r in rules_of(tree)}
         self.known = {}
+
+    def of_terminal(self, value):
+        """Beside an extern enum that of a token; else that of a text where an entry names the terminal."""
+        return "&'input str" if value in self.named else self.token
+
+    def of_fault(self, name):
+        return "%slalrpop_util::%s<%s, %s, &'static str>" % (self.prefix, name, self.location or "()", self.token)
 
     def of_rule(self, name):
         if name not in self.known:
@@ -443,6 +454,8 @@ class Types:
         if rule["type_decl"] is not None:
             return self.lowered(rule["type_decl"])
         for a in rule["alternatives"]:
+            if a["action"] in LOOKAROUNDS and self.location:
+                return self.location
             named, parts = selected(a["expr"]["symbols"])
             if a["action"] is None and not named:
                 try:
@@ -455,7 +468,9 @@ class Types:
     def of_kind(self, value):
         name, content = one(value)
         if name == "Terminal":
-            return self.token
+            return self.of_terminal(content)
+        if name == "Error":
+            return self.of_fault("ErrorRecovery")
         if name == "Nonterminal":
             return self.of_rule(content)
         if name in ("Expr", "Repeat"):
@@ -478,8 +493,8 @@ class Types:
         return type_text(ty)
 
     def text(self):
-        error = "%slalrpop_util::%%s<(), %s, &'static str>" % (self.prefix, self.token)
-        return "token: %s\nrecovery: %s\nparse error: %s\n" % (self.token, error % "ErrorRecovery", error % "ParseError")
+        location = "location: %s\n" % self.location if self.location else ""
+        return "token: %s\n%srecovery: %s\nparse error: %s\n" % (self.token, location, self.of_fault("ErrorRecovery"), self.of_fault("ParseError"))
 
 
 def types_text(tree):
@@ -488,6 +503,9 @@ def types_text(tree):
     for name, content in map(one, tree["items"]):
         if name == "ExternToken" and content["enum_token"]:
             text += "".join("terminal %s: token\n" % terminal(c["from"]) for c in content["enum_token"]["conversions"])
+        elif name == "InternToken":
+            named = named_terminals([e["user_name"] for e in content["match_entries"]])
+            text += "".join("terminal %s: %s\n" % (terminal(t), types.of_terminal(t)) for t in named)
         elif name == "Nonterminal":
             text += "rule %s: %s\n" % (content["name"], types.of_rule(content["name"]))
     return text
@@ -499,16 +517,29 @@ def lowered_symbol(value):
     name, content = one(value["kind"])
     if name in ("Choose", "Name"):
         return lowered_symbol(content if name == "Choose" else content[1])
-    return terminal(content, False) if name == "Terminal" else content
+    return terminal(content, False) if name == "Terminal" else "error" if name == "Error" else content
+
+
+def conversions_of(tree):
+    """The terminals of conversions or entries, with the patterns of their tokens."""
+    enum = extern_enum(tree)
+    if enum:
+        return [(c["from"], pattern(c["to"])) for c in enum["conversions"]]
+    entries = [e for t in blocks_of(tree, "InternToken") for e in t["match_entries"]]
+    return [(t, "Token(%d, &'input str)" % i) for i, e in enumerate(entries) for t in named_terminals([e["user_name"]])]
 
 
 def action_text(types, values, ty, action):
-    """An action with the patterns and the types of its arguments, its own type, and its code."""
+    """An action with the patterns and the types of its arguments, its own type, and its code; a lookaround has none of these."""
+    if action in LOOKAROUNDS:
+        return action + "\n"
     named, parts = selected(values)
     shown = ["_"] * len(values)
     for count, (i, name, _) in enumerate(parts):
         shown[i] = name if named else "%s%d" % (types.prefix, count)
     names = [shown[i].replace("mut ", "") for i, _, _ in parts]
+    if action in ("Lookahead", "Lookbehind"):
+        return action + "\n"
     code = one(action)[1] if action else "()" if ty == "()" else "<>" if len(parts) == 1 else "(<>)"
     if code.count("<>") > 1:
         raise Unknown
@@ -530,6 +561,7 @@ class Lowered:
             ty = self.types.of_rule(rule["name"])
             made = [self.production(rule["name"], a["expr"]["symbols"], ty, a["action"], a["span"]) for a in rule["alternatives"]]
             self.found[rule["name"]] = (rule, ty, rule["attributes"], made)
+        self.recovers = any(name == "Error" for name, _ in every_kind(tree))
 
     def production(self, name, values, ty, action, span):
         self.actions.append(action_text(self.types, values, ty, action))
@@ -545,11 +577,15 @@ class Lowered:
         self.starts[rule["name"]] = name
 
     def text(self):
-        text = "lowered " + self.tree["prefix"] + "\n" + "".join("  #![%s]\n" % a for a in self.tree["module_attributes"])
+        text = "lowered " + self.tree["prefix"] + (" recovers" if self.recovers else "") + "\n"
+        text += "".join("  #![%s]\n" % a for a in self.tree["module_attributes"]) + signature(self.tree)
         text += "".join("use %s\n" % c for n, c in map(one, self.tree["items"]) if n == "Use") + self.types.text()
-        enums = [b["enum_token"] for n, b in map(one, self.tree["items"]) if n == "ExternToken" and b["enum_token"]]
-        for number, c in enumerate(enums[0]["conversions"]):
-            text += "terminal %s: %s = %s #%d\n" % (terminal(c["from"]), self.types.token, pattern(c["to"]), number)
+        conversions = conversions_of(self.tree)
+        for number, (t, shown) in enumerate(conversions):
+            text += "terminal %s: %s = %s #%d\n" % (terminal(t), self.types.of_terminal(t), shown, number)
+        if self.recovers:
+            text += "terminal $!: %s #%d\n" % (self.types.of_fault("ErrorRecovery"), len(conversions))
+        text += "".join(map(intern, blocks_of(self.tree, "InternToken")))
         for name in sorted(self.found, key=str.encode):
             rule, ty, marks, made = self.found[name]
             text += "%snonterminal %s: %s %s%s\n" % (visibility(rule["visibility"]), name, ty, place(rule["span"]), attributes(marks))
@@ -581,7 +617,11 @@ def settings(words):
     return features, limit
 
 
-def run_pass(name, tree, features, limit):
+class NotExpanded(Exception):
+    """What the pass on tokens asks for does not hold."""
+
+
+def run_pass(name, tree, features, limit, lexer=None):
     if name in ("remove_disabled", "remove_disabled_decls"):
         remove_disabled(tree, features)
     elif name in ("resolve", "expand_precedence"):
@@ -594,6 +634,10 @@ def run_pass(name, tree, features, limit):
     elif name == "expand_macros":
         resolve(tree)
         expand_macros(tree, limit)
+    elif name in ("token_check", "token_check_scripted"):
+        if not is_expanded(tree) or blocks_of(tree, "InternToken"):
+            raise NotExpanded
+        check_tokens(tree, lexer or CheckOnly())
     elif name not in ("read", "copy"):
         raise Unknown
 
@@ -605,12 +649,11 @@ def every_kind(tree):
 
 def is_taken(tree):
     """Whether `normalize` takes it, as far as that is told here."""
-    rules = rules_of(tree)
-    enums = [b["enum_token"] for n, b in map(one, tree["items"]) if n == "ExternToken" and b["enum_token"]]
-    known = {terminal(c["from"]) for c in enums[0]["conversions"]} if enums else set()
-    used = {terminal(content) for name, content in every_kind(tree) if name == "Terminal"}
-    typed = all(r["type_decl"] is not None for r in rules)
-    return typed and used <= known and not tree["attributes"] and not tree["type_parameters"]
+    typed = all(r["type_decl"] is not None for r in rules_of(tree))
+    codes = [one(a["action"])[1] or "<><>" for r in rules_of(tree) for a in r["alternatives"] if a["action"]]
+    kinds = every_kind(tree)
+    plain = ("Terminal", "Error") not in kinds and not (extern_enum(tree) and any(name in LOOKAROUNDS for name, _ in kinds))
+    return typed and plain and all(c.count("<>") < 2 for c in codes) and not tree["attributes"] + tree["type_parameters"]
 
 
 def normalized(tree, features, limit):
@@ -623,6 +666,7 @@ def normalized(tree, features, limit):
     expand_levels(tree)
     resolve(tree)
     expand_macros(tree, limit)
+    check_tokens(tree, CheckOnly())
     return Lowered(tree)
 
 
@@ -632,7 +676,9 @@ def answer(data, name, call, *words):
         return "no file\n"
     try:
         tree = json.load(open(file, encoding="utf-8"))
-        features, limit = settings(words)
+        scripted = call.endswith("token_check_scripted")
+        lexer = Scripted(words) if scripted else CheckOnly()
+        features, limit = settings(() if scripted else words)
         if call == "lnorm":
             return normalized(tree, features, limit).lines() + "status 0\n"
         *first, last = call.split(",")
@@ -648,8 +694,10 @@ def answer(data, name, call, *words):
         if last == "check_globals":
             global_names(tree)
             return "ok\n"
-        run_pass(last, tree, features, limit)
+        run_pass(last, tree, features, limit, lexer)
         return tree_text(tree)
+    except NotExpanded:
+        return "not expanded\n"
     except Refused as fault:
         return "standard error: %s\nstatus 1\n" % fault if call == "lnorm" else str(fault) + "\n"
     except (Unknown, AttributeError, LookupError, TypeError, ValueError):
@@ -668,6 +716,10 @@ def answers_of(text):
     return found
 
 
+# what stands where a tree is refused, or is none
+REFUSED = re.compile(r"(standard error: )?(F\d+[a-f]? |lnorm: not a tree)|not a tree")
+
+
 def main():
     data, others = sys.argv[1], sys.argv[2:]
     got = answers_of(open(others[1], encoding="utf-8").read()) if others else {}
@@ -683,7 +735,7 @@ def main():
                 unknown += 1
             elif got.get(line) == want:
                 same += 1
-            elif re.match(r"(standard error: )?(F\d+[a-f]? |lnorm: not a tree)|not a tree", got.get(line, "")) and not want.startswith("F"):
+            elif REFUSED.match(got.get(line, "")) and not re.match("(standard error: )?F", want):
                 refused += 1
             else:
                 differ.append("== %s\n-- wanted\n%s-- got\n%s" % (line, want, got.get(line)))

@@ -6,6 +6,10 @@ class Unknown(Exception):
     """What is not told here."""
 
 
+class Refused(Exception):
+    """A fault: its number and its span."""
+
+
 # ---- names, spans, terminals, types
 
 ESCAPES = {"\0": "\\0", "\t": "\\t", "\r": "\\r", "\n": "\\n", "\\": "\\\\", '"': '\\"'}
@@ -87,10 +91,23 @@ def type_text(value):
     return "dyn " + binder + path(content["path"]) + "(" + ", ".join(map(type_text, content["parameters"])) + ")" + value
 
 
+def fields(values, open_ended):
+    parts = [f["field_name"] + ": " + pattern(f["pattern"]) for f in values]
+    return " { " + ", ".join(parts + [".."] * open_ended) + " }"
+
+
 def pattern(value):
     name, content = one(value["kind"])
     if name in ("Enum", "TupleStruct"):
         return path(content[0]) + "(" + ", ".join(map(pattern, content[1])) + ")"
+    if name == "Struct":
+        return path(content[0]) + fields(content[1], content[2])
+    if name == "Tuple":
+        return "(" + ", ".join(map(pattern, content)) + ")"
+    if name in ("Usize", "CharLiteral"):
+        return str(content) if name == "Usize" else "'%s'" % content
+    if name in ("String", "Choose"):
+        return '"%s"' % escaped(content) if name == "String" else type_text(content)
     return path(content) if name == "Path" else {"Underscore": "_", "DotDot": ".."}[name]
 
 
@@ -113,8 +130,8 @@ def canonical(value):
         return "<" + canonical(content["kind"]) + ">"
     if name == "Name":
         return argument(content[0]) + ":" + canonical(content[1]["kind"])
-    if name in LOOKAROUNDS:
-        return LOOKAROUNDS[name]
+    if name in LOOKAROUNDS or name == "Error":
+        return LOOKAROUNDS.get(name, "error")
     raise Unknown
 
 
@@ -144,8 +161,8 @@ def kind(value):
         return "<" + symbol(content) + ">"
     if name == "Name":
         return "<" + argument(content[0]) + ":" + symbol(content[1]) + ">"
-    if name in LOOKAROUNDS:
-        return LOOKAROUNDS[name]
+    if name in LOOKAROUNDS or name == "Error":
+        return LOOKAROUNDS.get(name, "!")
     raise Unknown
 
 
@@ -188,12 +205,37 @@ def extern(value):
     return text
 
 
+def mapping(value):
+    name, content = one(value)
+    return " => " + (terminal(content, False) if name == "Terminal" else "{ }")
+
+
+def match_item(value):
+    name, content = one(value)
+    if name == "CatchAll":
+        return "    _ %s\n" % place(content)
+    return "    %s%s %s\n" % (literal(content[0]), mapping(content[1]) if name == "Mapped" else "", place(content[-1]))
+
+
+def match(value):
+    groups = ["  group\n" + "".join(map(match_item, g["items"])) for g in value["contents"]]
+    return "match " + place(value["span"]) + "\n" + "".join(groups)
+
+
+def intern(value):
+    """The entries, and the code of the automaton where it has one."""
+    text = "intern\n"
+    for e in value["match_entries"]:
+        text += "    %d %s%s\n" % (e["precedence"], literal(e["match_literal"]), mapping(e["user_name"]))
+    return text + ("    automaton" + "".join(" %d" % n for n in value["code"]) + "\n" if value["code"] else "")
+
+
 def item(value):
     name, content = one(value)
     if name == "Use":
         return "use " + content + "\n"
-    if name == "ExternToken":
-        return extern(content)
+    if name in ("ExternToken", "MatchToken", "InternToken"):
+        return {"ExternToken": extern, "MatchToken": match, "InternToken": intern}[name](content)
     text = visibility(content["visibility"]) + "rule " + rule_name(content["name"])
     text += "<" + ", ".join(content["args"]) + ">" if content["args"] else ""
     text += ": " + type_text(content["type_decl"]) if content["type_decl"] is not None else ""
@@ -201,9 +243,13 @@ def item(value):
     return text + "".join(map(alternative, content["alternatives"]))
 
 
+def signature(tree):
+    text = "".join("  <%s>\n" % one(p)[1] for p in tree["type_parameters"])
+    return text + "".join("  (%s: %s)\n" % (p["name"], type_text(p["ty"])) for p in tree["parameters"])
+
+
 def tree_text(tree):
     text = "grammar " + place(tree["span"]) + " " + tree["prefix"] + "\n"
     text += "".join("  #![%s]\n" % a for a in tree["module_attributes"])
     text += "".join("  #[%s]\n" % attribute(a) for a in tree["attributes"])
-    text += "".join("  <%s>\n" % one(p)[1] for p in tree["type_parameters"])
-    return text + "".join(map(item, tree["items"]))
+    return text + signature(tree) + "".join(map(item, tree["items"]))

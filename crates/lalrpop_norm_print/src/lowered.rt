@@ -2,6 +2,7 @@
 use crate::attributes::push_attributes;
 use crate::symbols::{push_span, push_span_line, push_terminal};
 use crate::tables::push_token_types;
+use crate::tokens::push_intern;
 use crate::trees::push_lines;
 use lalrpop_norm_repr::grammar::repr::{
     ActionFnDefn, Algorithm, Grammar, LrCodeGeneration, NonterminalData, NonterminalString,
@@ -9,11 +10,14 @@ use lalrpop_norm_repr::grammar::repr::{
 };
 use std::alloc::AllocError;
 
-/// A lowered grammar: its head, its tokens, its nonterminals, its actions, its start symbols.
+/// A lowered grammar: its head, its tokens and tokenizer, its nonterminals, its actions, its start symbols.
 pub fn push_lowered(text: &mut String, lowered: &Grammar) -> Result<(), AllocError> {
     push_head(text, lowered)?;
     push_token_types(text, &lowered.types)?;
     push_terminals(text, lowered)?;
+    if let Some(tokens) = &lowered.intern_token {
+        push_intern(text, tokens)?;
+    }
     push_nonterminals(text, lowered)?;
     push_actions(text, &lowered.action_fn_defns)?;
     push_starts(text, lowered)

@@ -2,11 +2,11 @@
 use crate::symbols::push_terminal;
 use lalrpop_norm_repr::grammar::repr::Types;
 use lalrpop_norm_tree::grammar::parse_tree::{
-    EnumToken, Grammar, GrammarItem, NonterminalData, TerminalString,
+    EnumToken, Grammar, GrammarItem, InternToken, MatchMapping, NonterminalData, TerminalString,
 };
 use std::alloc::AllocError;
 
-/// The types of the tokens, of the terminals of conversions, and of the rules, each in item order.
+/// The types of the tokens, of the terminals of conversions or entries, and of the rules, each in item order.
 pub fn push_types(text: &mut String, tree: &Grammar, types: &Types) -> Result<(), AllocError> {
     push_token_types(text, types)?;
     for item in &tree.items {
@@ -34,14 +34,29 @@ fn push_item_types(text: &mut String, item: &GrammarItem, types: &Types) -> Resu
             Some(tokens) => push_enum_types(text, tokens, types),
             None => Ok(()),
         },
+        GrammarItem::InternToken(tokens) => push_entry_types(text, tokens, types),
         GrammarItem::Nonterminal(rule) => push_rule_type(text, rule, types),
-        GrammarItem::MatchToken(_) | GrammarItem::InternToken(_) | GrammarItem::Use(_) => Ok(()),
+        GrammarItem::MatchToken(_) | GrammarItem::Use(_) => Ok(()),
     }
 }
 
 fn push_enum_types(text: &mut String, tokens: &EnumToken, types: &Types) -> Result<(), AllocError> {
     for conversion in &tokens.conversions {
         push_terminal_type(text, &conversion.from, types)?;
+    }
+    Ok(())
+}
+
+/// Of each terminal that an entry names; what is skipped names none.
+fn push_entry_types(
+    text: &mut String,
+    tokens: &InternToken,
+    types: &Types,
+) -> Result<(), AllocError> {
+    for entry in &tokens.match_entries {
+        if let MatchMapping::Terminal(terminal) = &entry.user_name {
+            push_terminal_type(text, terminal, types)?;
+        }
     }
     Ok(())
 }

@@ -2,8 +2,8 @@
 use crate::attributes::push_attributes;
 use crate::symbols::{push_span, push_span_line, push_terminal};
 use lalrpop_norm_tree::grammar::parse_tree::{
-    AssociatedType, Conversion, EnumToken, ExternToken, InternToken, MatchContents, MatchEntry,
-    MatchItem, MatchMapping, MatchToken, TerminalLiteral, TypeRef,
+    AssociatedType, Conversion, Dfa, EnumToken, ExternToken, InternToken, MatchContents,
+    MatchEntry, MatchItem, MatchMapping, MatchToken, TerminalLiteral, TypeRef,
 };
 use lalrpop_norm_tree::grammar::pattern::Pattern;
 use std::alloc::AllocError;
@@ -55,6 +55,23 @@ pub(crate) fn push_intern(text: &mut String, tokens: &InternToken) -> Result<(),
     text.push_str("intern\n")?;
     for entry in &tokens.match_entries {
         push_entry(text, entry)?;
+    }
+    push_automaton(text, &tokens.dfa)
+}
+
+/// The code of the automaton, where there is any.
+fn push_automaton(text: &mut String, dfa: &Dfa) -> Result<(), AllocError> {
+    if dfa.code.is_empty() {
+        return Ok(());
+    }
+    text.push_str("    automaton")?;
+    push_numbers(text, &dfa.code)?;
+    text.push_str("\n")
+}
+
+fn push_numbers(text: &mut String, numbers: &[u32]) -> Result<(), AllocError> {
+    for number in numbers {
+        write!(text, " {number}")?;
     }
     Ok(())
 }

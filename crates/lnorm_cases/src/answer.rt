@@ -4,6 +4,9 @@ use crate::call::{Call, Last, Pass, call_of};
 use crate::cuts::{push_cut_faults, push_cut_reads, push_cut_writes};
 use crate::outcome::{Form, push_outcome};
 use crate::runs::push_run;
+use crate::scripted::scripted_session;
+use lalrpop_norm::normalize::Session;
+use lalrpop_norm_lexer::lexer::Lexer;
 use lnorm_run::words::{WordsError, session_of};
 use lnorm_values::values::push_values;
 use shared_text::NoMemory;
@@ -70,7 +73,7 @@ fn push_made(alloc: Global, text: &mut String) -> Result<(), NoMemory> {
     push_no_feature(alloc, text)
 }
 
-/// What the passes come to, in the session of the words.
+/// What the passes come to, in the session of the words: where the lexer is described, that is all that they do.
 fn push_passed(
     alloc: Global,
     text: &mut String,
@@ -80,7 +83,28 @@ fn push_passed(
     words: &[String],
     bytes: &[u8],
 ) -> Result<(), AllocError> {
-    match session_of(alloc, words) {
+    match last {
+        Last::TokenCheckScripted => {
+            let session = scripted_session(alloc, words);
+            push_in_session(alloc, text, session, form, passes, last, bytes)
+        }
+        _ => {
+            let session = session_of(alloc, words);
+            push_in_session(alloc, text, session, form, passes, last, bytes)
+        }
+    }
+}
+
+fn push_in_session<L: Lexer + Drop>(
+    alloc: Global,
+    text: &mut String,
+    session: Result<Session<L>, WordsError>,
+    form: Form,
+    passes: &[Pass],
+    last: Last,
+    bytes: &[u8],
+) -> Result<(), AllocError> {
+    match session {
         Ok(session) => push_outcome(alloc, text, &session, form, passes, last, bytes),
         Err(WordsError::Usage) => text.push_str("usage\n"),
         Err(WordsError::Memory) => text.push_str("memory\n"),

@@ -17,10 +17,10 @@ use std::collections::BTreeSet;
 use std::slice;
 
 /// Of the first blocks, the attributes, the blocks, and of each rule with its alternatives.
-pub(crate) fn push_asked(
+pub(crate) fn push_asked<L>(
     alloc: Global,
     text: &mut String,
-    session: &Session<()>,
+    session: &Session<L>,
     tree: &Grammar,
 ) -> Result<(), AllocError> {
     push_first_blocks(text, tree)?;
@@ -51,9 +51,9 @@ fn push_first_blocks(text: &mut String, tree: &Grammar) -> Result<(), AllocError
 }
 
 /// ` on` or ` off`, and the first argument of each that is `key = "value"`.
-fn push_asked_attributes(
+fn push_asked_attributes<L>(
     text: &mut String,
-    session: &Session<()>,
+    session: &Session<L>,
     attributes: &[Attribute],
 ) -> Result<(), AllocError> {
     if cfg_active(session, attributes) {
@@ -74,10 +74,10 @@ fn push_pairs(text: &mut String, attributes: &[Attribute]) -> Result<(), AllocEr
     Ok(())
 }
 
-fn push_asked_item(
+fn push_asked_item<L>(
     alloc: Global,
     text: &mut String,
-    session: &Session<()>,
+    session: &Session<L>,
     item: &GrammarItem,
 ) -> Result<(), AllocError> {
     if item.is_macro_def() {
@@ -144,10 +144,10 @@ fn push_length(text: &mut String, conversion: &Conversion) -> Result<(), AllocEr
     text.push_str("\n")
 }
 
-fn push_asked_rule(
+fn push_asked_rule<L>(
     alloc: Global,
     text: &mut String,
-    session: &Session<()>,
+    session: &Session<L>,
     rule: &NonterminalData,
 ) -> Result<(), AllocError> {
     push_asked_head(alloc, text, rule)?;

@@ -39,6 +39,8 @@ pub(crate) enum Pass {
     ExpandPrecedence,
     /// `expand_macros`.
     ExpandMacros,
+    /// The pass on tokens, with the lexer of the session.
+    TokenCheck,
 }
 
 impl Pass {
@@ -49,6 +51,7 @@ impl Pass {
             Pass::Read | Pass::WithLaterParts | Pass::RemoveDisabledDecls => false,
             Pass::Resolve => false,
             Pass::ExpandLevels | Pass::ExpandPrecedence | Pass::ExpandMacros => false,
+            Pass::TokenCheck => false,
         }
     }
 }
@@ -58,6 +61,8 @@ impl Pass {
 pub(crate) enum Last {
     /// A pass.
     Pass(Pass),
+    /// The pass on tokens, with the lexer that the words describe.
+    TokenCheckScripted,
     /// `infer_types`: the table of types.
     InferTypes,
     /// `normalize`: the lowered grammar.
@@ -104,6 +109,7 @@ fn passes_of(alloc: Global, name: &str) -> Result<Option<Call>, AllocError> {
 
 fn last_of(name: &str) -> Option<Last> {
     match name {
+        "token_check_scripted" => Some(Last::TokenCheckScripted),
         "infer_types" => Some(Last::InferTypes),
         "normalize" => Some(Last::Normalize),
         "lowered_copy" => Some(Last::LoweredCopy),
@@ -147,6 +153,7 @@ fn expansion_of(name: &str) -> Option<Pass> {
         "expand_levels" => Some(Pass::ExpandLevels),
         "expand_precedence" => Some(Pass::ExpandPrecedence),
         "expand_macros" => Some(Pass::ExpandMacros),
+        "token_check" => Some(Pass::TokenCheck),
         _ => None,
     }
 }

@@ -10,4 +10,5 @@ mod outcome;
 mod passes;
 mod runs;
 pub mod script;
+mod scripted;
 mod shown;

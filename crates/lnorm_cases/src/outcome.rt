@@ -1,11 +1,12 @@
 //! What passes come to, and how it is printed.
 use crate::asks::push_asked;
 use crate::call::{Last, Pass};
-use crate::passes::{tree_after, tree_after_all, typed};
+use crate::passes::{Stopped, normalized, tree_after, tree_after_all, typed};
 use crate::shown::{ended, push_or};
 use lalrpop_norm::grammar::repr;
-use lalrpop_norm::normalize::{NormFailure, NormResult, Session, normalize};
+use lalrpop_norm::normalize::{NormFailure, Session};
 use lalrpop_norm_json::{TreeError, read_tree};
+use lalrpop_norm_lexer::lexer::Lexer;
 use lalrpop_norm_print::lowered::{push_lowered, push_whole_lowered};
 use lalrpop_norm_print::tables::{push_types, push_whole_types};
 use lalrpop_norm_print::trees::{push_tree, push_whole_tree};
@@ -28,10 +29,10 @@ pub(crate) enum Form {
 }
 
 /// What the passes come to on the tree that the bytes are, in that form.
-pub(crate) fn push_outcome(
+pub(crate) fn push_outcome<L: Lexer>(
     alloc: Global,
     text: &mut String,
-    session: &Session<()>,
+    session: &Session<L>,
     form: Form,
     passes: &[Pass],
     last: Last,
@@ -54,17 +55,17 @@ fn read(alloc: Global, bytes: &[u8]) -> Result<Grammar, TreeError> {
     }
 }
 
-fn push_answered(
+fn push_answered<L: Lexer>(
     alloc: Global,
     text: &mut String,
-    session: &Session<()>,
+    session: &Session<L>,
     form: Form,
     last: Last,
-    answer: NormResult<Grammar>,
+    answer: Result<Grammar, Stopped>,
 ) -> Result<(), AllocError> {
     match answer {
         Ok(tree) => push_last(alloc, text, session, form, last, tree),
-        Err(failure) => push_failed(text, form, failure),
+        Err(stopped) => push_stopped(text, form, stopped),
     }
 }
 
@@ -72,36 +73,40 @@ fn push_answered(
 fn push_answer_of<T: Drop, F: FnOnce(&mut String, &T) -> Result<(), AllocError>>(
     text: &mut String,
     form: Form,
-    answer: NormResult<T>,
+    answer: Result<T, Stopped>,
     push: F,
 ) -> Result<(), AllocError>
     requires { F.IsAlwaysCallable push }
 {
     match answer {
         Ok(value) => push(text, &value),
-        Err(failure) => push_failed(text, form, failure),
+        Err(stopped) => push_stopped(text, form, stopped),
     }
 }
 
-fn push_failed(text: &mut String, form: Form, failure: NormFailure) -> Result<(), AllocError> {
-    let done = push_failure(text, form, &failure);
-    ended(failure, done)
+fn push_stopped(text: &mut String, form: Form, stopped: Stopped) -> Result<(), AllocError> {
+    let done = push_reason(text, form, &stopped);
+    ended(stopped, done)
 }
 
 /// What stands last in a call.
-fn push_last(
+fn push_last<L: Lexer>(
     alloc: Global,
     text: &mut String,
-    session: &Session<()>,
+    session: &Session<L>,
     form: Form,
     last: Last,
     tree: Grammar,
 ) -> Result<(), AllocError> {
     match last {
         Last::Pass(pass) => push_pass(text, form, pass, tree_after(alloc, session, pass, tree)),
+        Last::TokenCheckScripted => {
+            let pass = Pass::TokenCheck;
+            push_pass(text, form, pass, tree_after(alloc, session, pass, tree))
+        }
         Last::InferTypes => push_typed(alloc, text, form, tree),
-        Last::Normalize => push_normalized(text, form, normalize(alloc, session, tree)),
-        Last::LoweredCopy => push_copied(alloc, text, form, normalize(alloc, session, tree)),
+        Last::Normalize => push_normalized(text, form, normalized(alloc, session, tree)),
+        Last::LoweredCopy => push_copied(alloc, text, form, normalized(alloc, session, tree)),
         Last::Copy => {
             let done = push_copy(text, form, &tree);
             ended(tree, done)
@@ -121,7 +126,7 @@ fn push_pass(
     text: &mut String,
     form: Form,
     pass: Pass,
-    answer: NormResult<Grammar>,
+    answer: Result<Grammar, Stopped>,
 ) -> Result<(), AllocError> {
     push_answer_of(text, form, answer, |text, tree| {
         push_tree_after(text, form, pass, tree)
@@ -175,7 +180,7 @@ fn push_types_as(
 fn push_normalized(
     text: &mut String,
     form: Form,
-    answer: NormResult<repr::Grammar>,
+    answer: Result<repr::Grammar, Stopped>,
 ) -> Result<(), AllocError> {
     push_answer_of(text, form, answer, |text, lowered| {
         push_lowered_as(text, form, lowered)
@@ -197,7 +202,7 @@ fn push_copied(
     alloc: Global,
     text: &mut String,
     form: Form,
-    answer: NormResult<repr::Grammar>,
+    answer: Result<repr::Grammar, Stopped>,
 ) -> Result<(), AllocError> {
     push_answer_of(text, form, answer, |text, lowered| {
         push_lowered_copy_or_memory(alloc, text, lowered)
@@ -232,6 +237,14 @@ fn push_texts_or_memory(
     match push_texts(alloc, text, tree) {
         Ok(()) => Ok(()),
         Err(_) => text.push_str("memory\n"),
+    }
+}
+
+/// Why there is no answer.
+fn push_reason(text: &mut String, form: Form, stopped: &Stopped) -> Result<(), AllocError> {
+    match stopped {
+        Stopped::Failed(failure) => push_failure(text, form, failure),
+        Stopped::NotExpanded => text.push_str("not expanded\n"),
     }
 }
 

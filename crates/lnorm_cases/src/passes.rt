@@ -6,26 +6,51 @@ ghost use Rattle.lalrpop_norm_tree.specs.Items.{grammar_view};
 
 use crate::call::Pass;
 use crate::shown::{beside, kept};
+use lalrpop_norm::grammar::repr;
 use lalrpop_norm::normalize::cond_comp::remove_disabled_decls;
 use lalrpop_norm::normalize::precedence::expand_precedence;
 use lalrpop_norm::normalize::prevalidate::validate;
 use lalrpop_norm::normalize::resolve::{check_globals, resolve};
-use lalrpop_norm::normalize::{NormResult, Session};
+use lalrpop_norm::normalize::{
+    NormFailure, NormResult, Session, is_expanded, normalize, token_check,
+};
 use lalrpop_norm_expand::macro_expand::expand_macros;
+use lalrpop_norm_lexer::lexer::Lexer;
 use lalrpop_norm_precedence::precedence::expand_levels;
 use lalrpop_norm_repr::grammar::repr::Types;
-use lalrpop_norm_tree::grammar::parse_tree::Grammar;
+use lalrpop_norm_tree::grammar::parse_tree::{Grammar, NoMemory};
 use lalrpop_norm_tyinfer::tyinfer::infer_types;
 use lnorm_values::later::with_later_parts;
 use std::alloc::Global;
 
+/// Why there is no answer of passes.
+#[derive(Drop)]
+pub(crate) enum Stopped {
+    /// One of them failed.
+    Failed(NormFailure),
+    /// The pass on tokens was not run: the tree is not expanded, or it has a tokenizer.
+    NotExpanded,
+}
+
+impl From<NormFailure> for Stopped {
+    fn from(failure: NormFailure) -> Stopped {
+        Stopped::Failed(failure)
+    }
+}
+
+impl From<NoMemory> for Stopped {
+    fn from(_: NoMemory) -> Stopped {
+        Stopped::Failed(NormFailure::Memory)
+    }
+}
+
 /// The tree after those passes.
-pub(crate) fn tree_after_all(
+pub(crate) fn tree_after_all<L: Lexer>(
     alloc: Global,
-    session: &Session<()>,
+    session: &Session<L>,
     passes: &[Pass],
     tree: Grammar,
-) -> NormResult<Grammar> {
+) -> Result<Grammar, Stopped> {
     let mut tree = tree;
     for pass in passes {
         tree = tree_after(alloc, session, *pass, tree)?;
@@ -34,22 +59,32 @@ pub(crate) fn tree_after_all(
 }
 
 /// The tree after that pass.
-pub(crate) fn tree_after(
+pub(crate) fn tree_after<L: Lexer>(
     alloc: Global,
-    session: &Session<()>,
+    session: &Session<L>,
     pass: Pass,
     tree: Grammar,
-) -> NormResult<Grammar> {
+) -> Result<Grammar, Stopped> {
     match pass {
         Pass::Read => Ok(tree),
         Pass::WithLaterParts => Ok(with_later_parts(alloc, tree)?),
-        Pass::Validate => validated(alloc, tree),
-        Pass::CheckGlobals => with_checked_globals(alloc, tree),
-        Pass::RemoveDisabledDecls => remove_disabled_decls(session, tree),
-        Pass::Resolve => resolve(alloc, tree),
-        Pass::ExpandLevels => expand_levels(alloc, tree),
-        Pass::ExpandPrecedence => expand_precedence(alloc, tree),
-        Pass::ExpandMacros => expand_macros(alloc, tree, session.macro_recursion_limit),
+        Pass::Validate => Ok(validated(alloc, tree)?),
+        Pass::CheckGlobals => Ok(with_checked_globals(alloc, tree)?),
+        Pass::RemoveDisabledDecls => Ok(remove_disabled_decls(session, tree)?),
+        Pass::Resolve => Ok(resolve(alloc, tree)?),
+        Pass::ExpandLevels => Ok(expand_levels(alloc, tree)?),
+        Pass::ExpandPrecedence => Ok(expand_precedence(alloc, tree)?),
+        Pass::ExpandMacros => Ok(expand_macros(alloc, tree, session.macro_recursion_limit)?),
+        Pass::TokenCheck => token_checked(alloc, &session.lexer, tree),
+    }
+}
+
+/// The tree after the pass on tokens, which is run where the tree is expanded and has no tokenizer.
+fn token_checked<L: Lexer>(alloc: Global, lexer: &L, tree: Grammar) -> Result<Grammar, Stopped> {
+    if is_expanded(&tree) && tree.intern_token().is_none() {
+        Ok(token_check::validate(alloc, lexer, tree)?)
+    } else {
+        Err(Stopped::NotExpanded)
     }
 }
 
@@ -63,11 +98,20 @@ fn with_checked_globals(alloc: Global, tree: Grammar) -> NormResult<Grammar> {
     kept(tree, done)
 }
 
+/// The lowered grammar.
+pub(crate) fn normalized<L: Lexer>(
+    alloc: Global,
+    session: &Session<L>,
+    tree: Grammar,
+) -> Result<repr::Grammar, Stopped> {
+    Ok(normalize(alloc, session, tree)?)
+}
+
 /// The tree with its names resolved, and the types of its rules.
-pub(crate) fn typed(alloc: Global, tree: Grammar) -> NormResult<(Grammar, Types)> {
+pub(crate) fn typed(alloc: Global, tree: Grammar) -> Result<(Grammar, Types), Stopped> {
     let tree = resolved(alloc, tree)?;
     let types = infer_types(alloc, &tree);
-    beside(tree, types)
+    Ok(beside(tree, types)?)
 }
 
 /// The tree with its names resolved. No two of its rules have one name then.

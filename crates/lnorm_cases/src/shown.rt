@@ -23,7 +23,7 @@ pub(crate) fn ended<T: Drop>(_value: T, done: Result<(), AllocError>) -> Result<
 }
 
 /// The value, unless there was a failure.
-pub(crate) fn kept<T: Drop>(value: T, done: NormResult<()>) -> NormResult<T> {
+pub(crate) fn kept<T: Drop, E: Drop>(value: T, done: Result<(), E>) -> Result<T, E> {
     done?;
     Ok(value)
 }

@@ -1,17 +1,17 @@
 //! Parts of grammars that the JSON form does not have yet, from parts that it has.
 //!
-//! A rule of the name `match`, `else`, `intern`, `type NAME`, `parameter NAME` or `where` stands for what the name says, a symbol
-//! `!` for itself, a name `(x, mut y)` for a tuple of names, and some paths of patterns for other patterns.
+//! A rule of the name `intern`, `type NAME`, `parameter NAME` or `where` stands for what the name says, a name `(x, mut y)` for a
+//! tuple of names, and two paths of patterns for other patterns.
 use crate::made::{
-    add_made, atom, both, cloned, kept, leave_out, list_of_one, list_of_two, name_pattern,
-    nothing_of, push_if, push_made, put_each, put_later,
+    add_made, atom, both, cloned, kept, list_of_one, list_of_two, name_pattern, nothing_of,
+    push_if, push_made, put_each, put_later,
 };
 use crate::names::{automaton, binder, named_path};
 use lalrpop_norm_tree::grammar::parse_tree::{
     Alternative, ArgPattern, AssociatedType, Atom, Conversion, ExternToken, Grammar, GrammarItem,
-    InternToken, Lifetime, MatchContents, MatchEntry, MatchItem, MatchMapping, MatchToken, Name,
-    NoMemory, NonterminalData, Parameter, Path, Span, Symbol, SymbolKind, TerminalLiteral,
-    TerminalString, Tuple, TypeBound, TypeBoundParameter, TypeRef, WhereClause,
+    InternToken, Lifetime, MatchEntry, MatchMapping, Name, NoMemory, NonterminalData, Parameter,
+    Path, Span, Symbol, SymbolKind, TerminalLiteral, TerminalString, Tuple, TypeBound,
+    TypeBoundParameter, TypeRef, WhereClause,
 };
 use lalrpop_norm_tree::grammar::pattern::{FieldPattern, Pattern, PatternKind};
 use std::alloc::Global;
@@ -53,8 +53,6 @@ fn put_part_of(
 /// What a rule stands for.
 #[derive(Clone, Copy)]
 enum Meaning {
-    Match,
-    Group,
     Tokenizer,
     Clause,
     Type,
@@ -64,8 +62,6 @@ enum Meaning {
 
 fn meaning_of(name: &str) -> Meaning {
     match name {
-        "match" => Meaning::Match,
-        "else" => Meaning::Group,
         "intern" => Meaning::Tokenizer,
         "where" => Meaning::Clause,
         other => match other.split_once(" ") {
@@ -102,8 +98,6 @@ fn put_part(
     rule: &NonterminalData,
 ) -> Result<(), NoMemory> {
     match meaning {
-        Meaning::Match => push_made(&mut tree.items, match_block(alloc, rule)),
-        Meaning::Group => put_group(alloc, tree, rule),
         Meaning::Tokenizer => push_made(&mut tree.items, tokenizer(alloc, rule)),
         Meaning::Clause => push_made(&mut tree.where_clauses, clause(alloc)),
         Meaning::Type => put_type(alloc, tree, rule),
@@ -121,96 +115,6 @@ fn name_behind(alloc: Global, rule: &NonterminalData) -> Result<Atom, NoMemory> 
 }
 
 // ---- tokens
-
-/// A match block of one group.
-fn match_block(alloc: Global, rule: &NonterminalData) -> Result<GrammarItem, NoMemory> {
-    let block = MatchToken::new(alloc, contents(alloc, rule)?, rule.span)?;
-    Ok(GrammarItem::MatchToken(block))
-}
-
-/// One more group of the match block before it.
-fn put_group(alloc: Global, tree: &mut Grammar, rule: &NonterminalData) -> Result<(), NoMemory> {
-    match tree.items.pop() {
-        Some(item) => put_group_into(alloc, tree, item, rule),
-        None => Ok(()),
-    }
-}
-
-fn put_group_into(
-    alloc: Global,
-    tree: &mut Grammar,
-    item: GrammarItem,
-    rule: &NonterminalData,
-) -> Result<(), NoMemory> {
-    match item {
-        GrammarItem::MatchToken(block) => {
-            push_made(&mut tree.items, longer(alloc, block, contents(alloc, rule)))
-        }
-        other => leave_out(other),
-    }
-}
-
-fn longer(
-    alloc: Global,
-    block: MatchToken,
-    group: Result<MatchContents, NoMemory>,
-) -> Result<GrammarItem, NoMemory> {
-    let (block, group) = both(Ok(block), group)?;
-    Ok(GrammarItem::MatchToken(block.add(alloc, group)?))
-}
-
-fn contents(alloc: Global, rule: &NonterminalData) -> Result<MatchContents, NoMemory> {
-    let mut items = Vec::new(alloc);
-    let done = add_items(&mut items, rule);
-    let items = kept(items, done)?;
-    Ok(MatchContents { items })
-}
-
-fn add_items(items: &mut Vec<MatchItem>, rule: &NonterminalData) -> Result<(), NoMemory> {
-    for alternative in &rule.alternatives {
-        add_made(items, match_item(alternative))?;
-    }
-    Ok(())
-}
-
-/// `_` without symbols, a literal, or a literal and what it is mapped to.
-fn match_item(alternative: &Alternative) -> Result<Option<MatchItem>, NoMemory> {
-    let at = alternative.span;
-    match alternative.expr.symbols.as_slice() {
-        [] => Ok(Some(MatchItem::CatchAll(at))),
-        [from] => match literal_of(from)? {
-            Some(from) => Ok(Some(MatchItem::Unmapped(from, at))),
-            None => Ok(None),
-        },
-        [from, to, ..] => match literal_of(from)? {
-            Some(from) => mapped(from, to, at),
-            None => Ok(None),
-        },
-    }
-}
-
-fn mapped(from: TerminalLiteral, to: &Symbol, at: Span) -> Result<Option<MatchItem>, NoMemory> {
-    match both(Ok(from), mapping_of(to))? {
-        (from, Some(to)) => Ok(Some(MatchItem::Mapped(from, to, at))),
-        (from, None) => nothing_of(from),
-    }
-}
-
-fn literal_of(symbol: &Symbol) -> Result<Option<TerminalLiteral>, NoMemory> {
-    match &symbol.kind {
-        SymbolKind::Terminal(TerminalString::Literal(literal)) => Ok(Some(literal.clone()?)),
-        _ => Ok(None),
-    }
-}
-
-/// A terminal, or for the empty group that a token is skipped.
-fn mapping_of(symbol: &Symbol) -> Result<Option<MatchMapping>, NoMemory> {
-    match &symbol.kind {
-        SymbolKind::Terminal(terminal) => Ok(Some(MatchMapping::Terminal(terminal.clone()?))),
-        SymbolKind::Expr(_) => Ok(Some(MatchMapping::Skip)),
-        _ => Ok(None),
-    }
-}
 
 /// A tokenizer with an entry for each mapped literal, and an automaton of two words.
 fn tokenizer(alloc: Global, rule: &NonterminalData) -> Result<GrammarItem, NoMemory> {
@@ -231,18 +135,41 @@ fn add_entries(entries: &mut Vec<MatchEntry>, rule: &NonterminalData) -> Result<
     Ok(())
 }
 
+/// The entry of a literal and of what it is mapped to.
 fn entry_of(alternative: &Alternative) -> Result<Option<MatchEntry>, NoMemory> {
-    match match_item(alternative)? {
-        Some(MatchItem::Mapped(literal, mapping, _)) => Ok(Some(entry(literal, mapping))),
-        other => nothing_of(other),
+    match alternative.expr.symbols.as_slice() {
+        [from, to, ..] => match literal_of(from)? {
+            Some(from) => entry(from, to),
+            None => Ok(None),
+        },
+        _ => Ok(None),
     }
 }
 
-fn entry(literal: TerminalLiteral, mapping: MatchMapping) -> MatchEntry {
-    MatchEntry {
-        precedence: literal.base_precedence(),
-        match_literal: literal,
-        user_name: mapping,
+fn entry(from: TerminalLiteral, to: &Symbol) -> Result<Option<MatchEntry>, NoMemory> {
+    match both(Ok(from), mapping_of(to))? {
+        (from, Some(user_name)) => Ok(Some(MatchEntry {
+            precedence: from.base_precedence(),
+            match_literal: from,
+            user_name,
+        })),
+        (from, None) => nothing_of(from),
+    }
+}
+
+fn literal_of(symbol: &Symbol) -> Result<Option<TerminalLiteral>, NoMemory> {
+    match &symbol.kind {
+        SymbolKind::Terminal(TerminalString::Literal(literal)) => Ok(Some(literal.clone()?)),
+        _ => Ok(None),
+    }
+}
+
+/// A terminal, or for the empty group that a token is skipped.
+fn mapping_of(symbol: &Symbol) -> Result<Option<MatchMapping>, NoMemory> {
+    match &symbol.kind {
+        SymbolKind::Terminal(terminal) => Ok(Some(MatchMapping::Terminal(terminal.clone()?))),
+        SymbolKind::Expr(_) => Ok(Some(MatchMapping::Skip)),
+        _ => Ok(None),
     }
 }
 
@@ -305,13 +232,7 @@ fn later_pattern(
 
 fn pattern_of(alloc: Global, id: &str) -> Result<Option<PatternKind<TypeRef>>, NoMemory> {
     match id {
-        "7" => Ok(Some(PatternKind::Usize(7))),
         "<u8>" => Ok(Some(chosen(alloc)?)),
-        "'c'" => Ok(Some(PatternKind::CharLiteral(atom(alloc, "c")?))),
-        "\"s\"" => Ok(Some(PatternKind::String(String::from_str(alloc, "s")?))),
-        "()" => Ok(Some(PatternKind::Tuple(Vec::new(alloc)))),
-        "Option()" => Ok(Some(tuple_struct(alloc)?)),
-        "Option { .. }" => Ok(Some(open_struct(alloc)?)),
         "Option { f: <u8>, .. }" => Ok(Some(field_struct(alloc)?)),
         _ => Ok(None),
     }
@@ -320,16 +241,6 @@ fn pattern_of(alloc: Global, id: &str) -> Result<Option<PatternKind<TypeRef>>, N
 /// `<u8>`
 fn chosen(alloc: Global) -> Result<PatternKind<TypeRef>, NoMemory> {
     Ok(PatternKind::Choose(named_type(alloc, "u8")?))
-}
-
-/// `Option()`
-fn tuple_struct(alloc: Global) -> Result<PatternKind<TypeRef>, NoMemory> {
-    Ok(PatternKind::TupleStruct(Path::option(alloc)?, Vec::new(alloc)))
-}
-
-/// `Option { .. }`
-fn open_struct(alloc: Global) -> Result<PatternKind<TypeRef>, NoMemory> {
-    Ok(PatternKind::Struct(Path::option(alloc)?, Vec::new(alloc), true))
 }
 
 /// `Option { f: <u8>, .. }`
@@ -456,7 +367,6 @@ fn put_kind(alloc: Global, kind: &mut SymbolKind) -> Result<(), NoMemory> {
 
 fn later_kind(alloc: Global, kind: &SymbolKind) -> Result<Option<SymbolKind>, NoMemory> {
     match kind {
-        SymbolKind::Nonterminal(name) => Ok(later_name(name.0.as_str())),
         SymbolKind::Name(name, inner) => match tuple_of(alloc, name)? {
             Some(tuple) => named_by(tuple, inner),
             None => Ok(None),
@@ -468,13 +378,6 @@ fn later_kind(alloc: Global, kind: &SymbolKind) -> Result<Option<SymbolKind>, No
 fn named_by(tuple: Tuple, inner: &Box<Symbol>) -> Result<Option<SymbolKind>, NoMemory> {
     let (tuple, inner) = both(Ok(tuple), cloned(inner))?;
     Ok(Some(SymbolKind::Tuple(tuple, inner)))
-}
-
-fn later_name(name: &str) -> Option<SymbolKind> {
-    match name {
-        "!" => Some(SymbolKind::Error),
-        _ => None,
-    }
 }
 
 /// The tuple of `(x, mut y)`; one of no names of `()`.

@@ -3,7 +3,7 @@ use crate::actions::push_actions;
 use crate::faults::{push_refusals, push_sides};
 use crate::names::push_names;
 use crate::parts::push_parts;
-use crate::patterns::push_pattern;
+use crate::patterns::push_patterns;
 use crate::tables::push_tables;
 use shared_text::NoMemory;
 use std::alloc::Global;
@@ -16,6 +16,6 @@ pub fn push_values(alloc: Global, text: &mut String) -> Result<(), NoMemory> {
     push_refusals(alloc, text)?;
     push_sides(text)?;
     push_parts(alloc, text)?;
-    push_pattern(alloc, text)?;
+    push_patterns(alloc, text)?;
     Ok(())
 }
