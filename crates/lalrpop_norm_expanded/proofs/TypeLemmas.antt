@@ -8,10 +8,10 @@ use Rattle.lalrpop_norm_parts.specs.Bounds.{BoundParameterData, lifetime_paramet
 use Rattle.lalrpop_norm_parts.specs.Bounds.{BoundData, lifetime_bound, function_bound, trait_bound}
 use Rattle.lalrpop_norm_parts.specs.Bounds.{WhereClauseData, lifetime_clause, type_clause}
 use Rattle.lalrpop_norm_parts.specs.MappedBounds.{types_in_parameter, types_in_bound}
-use Rattle.lalrpop_norm_parts.specs.MappedPatterns.{chosen_in_kind, chosen_in_pattern, chosen_in_all, chosen_in_fields}
-use Rattle.lalrpop_norm_parts.specs.Patterns.{PatternKindData, enumerated, structured, path, tuple, tuple_struct, number}
-use Rattle.lalrpop_norm_parts.specs.Patterns.{underscore, dot_dot, chosen, character, text, PatternData, pattern_at}
-use Rattle.lalrpop_norm_parts.specs.Patterns.{Patterns, no_patterns, pattern_and, Fields, no_fields, field_and}
+use Rattle.lalrpop_norm_pattern.specs.MappedPatterns.{chosen_in_kind, chosen_in_pattern, chosen_in_all, chosen_in_fields}
+use Rattle.lalrpop_norm_pattern.specs.Patterns.{PatternKindData, enumerated, structured, path, tuple, tuple_struct, number}
+use Rattle.lalrpop_norm_pattern.specs.Patterns.{underscore, dot_dot, chosen, character, text, PatternData, pattern_at}
+use Rattle.lalrpop_norm_pattern.specs.Patterns.{Patterns, no_patterns, pattern_and, Fields, no_fields, field_and}
 use Rattle.lalrpop_norm_tree.specs.Items.{AssociatedTypeData, ConversionData, EnumTokenData, ItemData, GrammarData, match_item, extern_item, intern_item, rule_item, use_item}
 use Rattle.lalrpop_norm_tree.specs.LoweredTypes.{holds_symbol}
 use Rattle.lalrpop_norm_tree.specs.Types.{TypeData, ParameterData}

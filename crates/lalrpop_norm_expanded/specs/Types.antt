@@ -4,9 +4,9 @@ use Rattle.std.specs.List.{list_all}
 use Rattle.lalrpop_norm_parts.specs.Bounds.{BoundParameterData, lifetime_parameter, type_parameter, associated_type}
 use Rattle.lalrpop_norm_parts.specs.Bounds.{BoundData, lifetime_bound, function_bound, trait_bound}
 use Rattle.lalrpop_norm_parts.specs.Bounds.{WhereClauseData, lifetime_clause, type_clause}
-use Rattle.lalrpop_norm_parts.specs.Patterns.{PatternKindData, enumerated, structured, path, tuple, tuple_struct, number}
-use Rattle.lalrpop_norm_parts.specs.Patterns.{underscore, dot_dot, chosen, character, text, PatternData, pattern_at}
-use Rattle.lalrpop_norm_parts.specs.Patterns.{Patterns, no_patterns, pattern_and, Fields, no_fields, field_and}
+use Rattle.lalrpop_norm_pattern.specs.Patterns.{PatternKindData, enumerated, structured, path, tuple, tuple_struct, number}
+use Rattle.lalrpop_norm_pattern.specs.Patterns.{underscore, dot_dot, chosen, character, text, PatternData, pattern_at}
+use Rattle.lalrpop_norm_pattern.specs.Patterns.{Patterns, no_patterns, pattern_and, Fields, no_fields, field_and}
 use Rattle.lalrpop_norm_tree.specs.Items.{AssociatedTypeData, ConversionData, EnumTokenData, ItemData, extern_item, GrammarData}
 use Rattle.lalrpop_norm_tree.specs.LoweredTypes.{holds_symbol}
 use Rattle.lalrpop_norm_tree.specs.Types.{TypeData, ParameterData}

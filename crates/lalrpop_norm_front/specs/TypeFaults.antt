@@ -6,9 +6,9 @@ use Rattle.lalrpop_norm_tree.specs.LoweredTypes.{holds_symbol}
 use Rattle.lalrpop_norm_parts.specs.Bounds.{BoundParameterData, lifetime_parameter, type_parameter, associated_type, BoundData}
 use Rattle.lalrpop_norm_parts.specs.Bounds.{lifetime_bound, function_bound, trait_bound, WhereClauseData, lifetime_clause}
 use Rattle.lalrpop_norm_parts.specs.Bounds.{type_clause}
-use Rattle.lalrpop_norm_parts.specs.Patterns.{PatternKindData, enumerated, structured, path, tuple, tuple_struct, number}
-use Rattle.lalrpop_norm_parts.specs.Patterns.{underscore, dot_dot, chosen, character, text, PatternData, pattern_at, Patterns}
-use Rattle.lalrpop_norm_parts.specs.Patterns.{no_patterns, pattern_and, Fields, no_fields, field_and}
+use Rattle.lalrpop_norm_pattern.specs.Patterns.{PatternKindData, enumerated, structured, path, tuple, tuple_struct, number}
+use Rattle.lalrpop_norm_pattern.specs.Patterns.{underscore, dot_dot, chosen, character, text, PatternData, pattern_at, Patterns}
+use Rattle.lalrpop_norm_pattern.specs.Patterns.{no_patterns, pattern_and, Fields, no_fields, field_and}
 
 abbrev pub some_holds : Option TypeData → Bool
 some_holds None = false

@@ -13,7 +13,7 @@ use Rattle.lalrpop_norm_parts.specs.Bounds.{BoundParameterData, lifetime_paramet
 use Rattle.lalrpop_norm_parts.specs.MappedBounds.{mapped_bound_parameter, mapped_bound, bound_shape, types_in_parameter, types_in_bound}
 use Rattle.lalrpop_norm_parts.specs.Paths.{path_view}
 use Rattle.lalrpop_norm_parts.specs.Walks.{Answered}
-use Rattle.lalrpop_norm_parts.proofs.MapLaws.{answered_mapped}
+use Rattle.lalrpop_norm_parts.proofs.AnsweredWalks.{answered_mapped}
 
 -- of one shape, and with types that are seen as the same: seen as the same
 module _ {T U V : Type 0} (v : U → V) (g : T → V) where

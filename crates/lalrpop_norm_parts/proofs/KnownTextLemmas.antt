@@ -10,10 +10,6 @@ use Rattle.lalrpop_norm_parts.specs.declared.bound.TypeBound.{TypeBound}
 use Rattle.lalrpop_norm_parts.specs.declared.bound.TypeBound.TheVariants.{Trait}
 use Rattle.lalrpop_norm_parts.specs.declared.bound.WhereClause.{WhereClause}
 use Rattle.lalrpop_norm_parts.specs.declared.bound.WhereClause.TheVariants.{OfType}
-use Rattle.lalrpop_norm_parts.specs.declared.pattern.Pattern.{Pattern}
-use Rattle.lalrpop_norm_parts.specs.declared.pattern.FieldPattern.{FieldPattern}
-use Rattle.lalrpop_norm_parts.specs.Patterns.{pattern_view, patterns_view, field_view, fields_view}
-use Rattle.lalrpop_norm_parts.specs.PatternTexts.{pattern_text, pattern_texts, field_text, field_texts, rest_texts}
 use Rattle.lalrpop_norm_parts.specs.Bounds.{bound_parameter_view, bound_view, where_clause_view}
 use Rattle.lalrpop_norm_parts.specs.BoundTexts.{bound_parameter_text, bound_text, where_clause_text}
 use Rattle.std.proofs.Output.{has_written_append}
@@ -26,7 +22,7 @@ use Rattle.lalrpop_norm_parts.specs.KnownTexts.{texts_after, joined_known, angle
 
 -- ---- texts that may be open
 
-known_assoc : (o p q : Option (List ℕ)) → (o ++? p) ++? q ≡ o ++? (p ++? q)
+pub known_assoc : (o p q : Option (List ℕ)) → (o ++? p) ++? q ≡ o ++? (p ++? q)
 known_assoc None p q = refl
 known_assoc (Some a) None q = refl
 known_assoc (Some a) (Some b) None = refl
@@ -41,7 +37,7 @@ then_nothing None = refl
 then_nothing (Some a) = ap Some (append-nil a)
 
 -- one more text at the end
-each_after-end : (separator : List ℕ) (ts : List (Option (List ℕ))) (u : Option (List ℕ)) → texts_after separator (ts ++ u ∷ []) ≡ texts_after separator ts ++? (Some separator ++? u)
+pub each_after-end : (separator : List ℕ) (ts : List (Option (List ℕ))) (u : Option (List ℕ)) → texts_after separator (ts ++ u ∷ []) ≡ texts_after separator ts ++? (Some separator ++? u)
 each_after-end separator [] u = then_nothing (Some separator ++? u) ∙ sym (nothing_then _)
 each_after-end separator (t ∷ ts) u = rw (each_after-end separator ts u) (sym (known_assoc (Some separator ++? t) _ _))
 
@@ -62,23 +58,6 @@ map_same (x ∷ xs) = ap (λ ys. x ∷ ys) (map_same xs)
 pub map_twice : {X Y Z : Type 0} (g : Y → Z) (f : X → Y) (xs : List X) → map (λ x. g (f x)) xs ≡ map g (map f xs)
 map_twice g f [] = refl
 map_twice g f (x ∷ xs) = ap (λ zs. g (f x) ∷ zs) (map_twice g f xs)
-
--- the texts of patterns and of fields, one by one
-module _ {T : Type 0} (output : T → Option (List ℕ)) where
-  pub texts_of_patterns : (ps : List (Pattern T)) → map (λ p. pattern_text (pattern_view output p)) ps ≡ pattern_texts (patterns_view output ps)
-  texts_of_patterns [] = refl
-  texts_of_patterns (p ∷ ps) = ap (λ ts. pattern_text (pattern_view output p) ∷ ts) (texts_of_patterns ps)
-
-  pub texts_of_fields : (fs : List (FieldPattern T)) → map (λ f. field_text (field_view output f)) fs ≡ field_texts (fields_view output fs)
-  texts_of_fields [] = refl
-  texts_of_fields (f ∷ fs) = ap (λ ts. field_text (field_view output f) ∷ ts) (texts_of_fields fs)
-
--- the rest, behind the fields
-pub rest_behind : {T : Type 0} (output : T → Option (List ℕ)) (fs : List (FieldPattern T)) (rest : Bool) → rest ≡ true → (length fs == 0) ≡ false
-    → joined_known (codes ", ") (field_texts (fields_view output fs)) ++? Some (codes ", ..") ≡ joined_known (codes ", ") (field_texts (fields_view output fs) ++ rest_texts rest)
-rest_behind output [] rest h n = absurd (true≢false n)
-rest_behind output (f ∷ fs) rest h n =
-    rw (h, each_after-end (codes ", ") (field_texts (fields_view output fs)) (Some (codes ".."))) (known_assoc (field_text (field_view output f)) _ _)
 
 -- one level of a bound, and of a where clause
 module _ {T : Type 0} (text : T → Option (List ℕ)) where

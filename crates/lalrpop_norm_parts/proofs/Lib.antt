@@ -1,3 +1,4 @@
+pub mod AnsweredWalks
 pub mod AttributeViews
 pub mod BoundLemmas
 pub mod BoundMapLaws
@@ -5,11 +6,6 @@ pub mod BoundViews
 pub mod BoundWalks
 pub mod KnownTextLemmas
 pub mod LoweredTextLemmas
-pub mod MapLaws
-pub mod PatternLemmas
-pub mod PatternSeen
-pub mod PatternViews
-pub mod PatternWalks
 pub mod ReprTextLemmas
 pub mod ReprViews
 pub mod WrittenLemmas

@@ -2,15 +2,12 @@ pub mod Paths
 pub mod Attributes
 pub mod Reprs
 pub mod Bounds
-pub mod Patterns
 pub mod Texts
 pub mod TypeTexts
 pub mod Accessors
 pub mod BoundTexts
 pub mod KnownTexts
 pub mod LoweredTexts
-pub mod PatternTexts
 pub mod Terminals
 pub mod MappedBounds
-pub mod MappedPatterns
 pub mod Walks

@@ -26,7 +26,7 @@ fn write_escaped_char<W: fmt::Write>(c: char, f: &mut fmt::Formatter<W>) -> fmt:
 }
 
 /// A text as a literal shows it, each character of it escaped.
-pub(crate) fn write_escaped<W: fmt::Write>(text: &str, f: &mut fmt::Formatter<W>) -> fmt::Result
+pub fn write_escaped<W: fmt::Write>(text: &str, f: &mut fmt::Formatter<W>) -> fmt::Result
     ensures { WritesOnOk W.write_str_gives f.old result (escape text.now) f.new }
 {
     for c in text.chars() {

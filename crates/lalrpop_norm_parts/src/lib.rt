@@ -1,4 +1,4 @@
-//! The parts of written grammars that hold no symbol: names, paths, attributes, patterns, bounds; and the lowered types that
+//! The parts of written grammars that hold no symbol: names, paths, attributes, bounds; and the lowered types that
 //! stand on no table.
 //!
 //! `lalrpop_norm_tree` gives the types again, under the paths that users know. Each type that holds a list, a box or a
@@ -7,10 +7,9 @@
 
 pub mod attribute;
 pub mod bound;
-mod escape;
+pub mod escape;
 pub mod lowered;
 pub mod names;
 pub mod path;
-pub mod pattern;
 pub mod show;
-mod walk;
+pub mod walk;

@@ -7,14 +7,14 @@ ghost use Rattle.lalrpop_norm_parts.specs.Walks.{Answered, Ended};
 use shared_text::{Atom, NoMemory};
 
 /// One more at the end.
-pub(crate) fn add<X: Drop>(all: &mut Vec<X>, one: X) -> Result<(), NoMemory>
+pub fn add<X: Drop>(all: &mut Vec<X>, one: X) -> Result<(), NoMemory>
     ensures { OnOk result (all.new.items ≡ all.old.items ++ one ∷ []) }
 {
     Ok(all.push(one)?)
 }
 
 /// The walk over one place.
-pub(crate) fn map_one<T, U: Drop, E: From<NoMemory>, F: FnMut(&T) -> Result<U, E>>(
+pub fn map_one<T, U: Drop, E: From<NoMemory>, F: FnMut(&T) -> Result<U, E>>(
     one: &T,
     f: &mut F,
 ) -> Result<U, E>
@@ -27,7 +27,7 @@ pub(crate) fn map_one<T, U: Drop, E: From<NoMemory>, F: FnMut(&T) -> Result<U, E
 }
 
 /// The same text.
-pub(crate) fn same_name(name: &Atom) -> Result<Atom, NoMemory>
+pub fn same_name(name: &Atom) -> Result<Atom, NoMemory>
     ensures { IfOk result (λ n. n ≡ name.now) }
 {
     Ok(name.clone()?)

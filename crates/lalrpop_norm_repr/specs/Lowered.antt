@@ -5,7 +5,7 @@ use Rattle.lalrpop_norm_parts.specs.declared.names.NonterminalString.{Nontermina
 use Rattle.lalrpop_norm_parts.specs.declared.names.TerminalString.{TerminalString}
 use Rattle.lalrpop_norm_parts.specs.declared.names.TypeParameter.{TypeParameter}
 use Rattle.lalrpop_norm_tree.specs.Items.{InternTokenData, intern_token_view}
-use Rattle.lalrpop_norm_parts.specs.Patterns.{PatternData, pattern_view}
+use Rattle.lalrpop_norm_pattern.specs.Patterns.{PatternData, pattern_view}
 use Rattle.lalrpop_norm_parts.specs.Reprs.{ReprData, repr_view, LoweredClause, lowered_where_clause_view}
 use Rattle.lalrpop_norm_repr.specs.declared.whole.Grammar.{Grammar}
 use Rattle.lalrpop_norm_repr.specs.declared.whole.Parameter.{Parameter}

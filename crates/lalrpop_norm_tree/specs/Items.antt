@@ -26,7 +26,7 @@ use Rattle.lalrpop_norm_tree.specs.declared.items.Visibility.TheVariants as visi
 use Rattle.lalrpop_norm_parts.specs.Attributes.{Attributes, attributes_view}
 use Rattle.lalrpop_norm_parts.specs.Bounds.{WhereClauseData, where_clause_view}
 use Rattle.lalrpop_norm_parts.specs.Paths.{PathData, path_view}
-use Rattle.lalrpop_norm_parts.specs.Patterns.{PatternData, pattern_view}
+use Rattle.lalrpop_norm_pattern.specs.Patterns.{PatternData, pattern_view}
 use Rattle.lalrpop_norm_tree.specs.Symbols.{Parts, expr_view}
 use Rattle.lalrpop_norm_tree.specs.Types.{TypeData, type_view, ParameterData, parameter_view}
 

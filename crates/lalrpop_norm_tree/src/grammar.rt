@@ -25,7 +25,7 @@ pub mod parse_tree {
 
 /// Patterns of conversions.
 pub mod pattern {
-    pub use lalrpop_norm_parts::pattern::{FieldPattern, Pattern, PatternKind};
+    pub use lalrpop_norm_pattern::pattern::{FieldPattern, Pattern, PatternKind};
 }
 
 /// The types of lowered grammars that stand on no table.

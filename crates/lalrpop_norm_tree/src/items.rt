@@ -15,7 +15,7 @@ use lalrpop_norm_parts::names::{
     NonterminalString, Span, TerminalLiteral, TerminalString, TypeParameter,
 };
 use lalrpop_norm_parts::path::Path;
-use lalrpop_norm_parts::pattern::Pattern;
+use lalrpop_norm_pattern::pattern::Pattern;
 use shared_text::Atom;
 use std::fmt;
 

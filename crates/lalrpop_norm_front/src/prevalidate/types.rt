@@ -3,7 +3,7 @@ ghost use Rattle.std.specs.Prelude.{◌≡◌, map, option_map};
 ghost use Rattle.std.specs.List.{list_any};
 ghost use Rattle.lalrpop_norm_parts.specs.Bounds.{bound_parameter_view, bound_view, where_clause_view};
 ghost use Rattle.lalrpop_norm_tree.specs.LoweredTypes.{holds_symbol};
-ghost use Rattle.lalrpop_norm_parts.specs.Patterns.{pattern_kind_view, pattern_view, patterns_view, fields_view};
+ghost use Rattle.lalrpop_norm_pattern.specs.Patterns.{pattern_kind_view, pattern_view, patterns_view, fields_view};
 ghost use Rattle.lalrpop_norm_tree.specs.Types.{type_view};
 ghost use Rattle.lalrpop_norm_front.specs.TypeFaults.{some_holds, parameter_holds, bound_holds, clause_holds, kind_holds, pattern_holds, patterns_hold, fields_hold};
 

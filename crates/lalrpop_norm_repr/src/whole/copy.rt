@@ -2,7 +2,7 @@
 ghost use Rattle.std.specs.Prelude.{◌≡◌, IfOk, OnOk, map, option_map, string_bytes};
 ghost use Rattle.std.specs.BTreeMap.{insert_entry};
 ghost use Rattle.lalrpop_norm_tree.specs.Items.{intern_token_view};
-ghost use Rattle.lalrpop_norm_parts.specs.Patterns.{pattern_view};
+ghost use Rattle.lalrpop_norm_pattern.specs.Patterns.{pattern_view};
 ghost use Rattle.lalrpop_norm_parts.specs.Reprs.{repr_view, lowered_where_clause_view};
 ghost use Rattle.lalrpop_norm_repr.specs.Actions.{action_defn_view};
 ghost use Rattle.lalrpop_norm_repr.specs.Lowered.{lowered_grammar_view, lowered_parameter_view, terminal_set_view};

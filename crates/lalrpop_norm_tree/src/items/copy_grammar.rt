@@ -2,7 +2,7 @@
 ghost use Rattle.std.specs.Prelude.{◌≡◌, IfOk, map, option_map, string_bytes};
 ghost use Rattle.lalrpop_norm_parts.specs.Bounds.{where_clause_view};
 ghost use Rattle.lalrpop_norm_tree.specs.Items.{conversion_view, enum_token_view, extern_token_view, grammar_view, item_view};
-ghost use Rattle.lalrpop_norm_parts.specs.Patterns.{pattern_view};
+ghost use Rattle.lalrpop_norm_pattern.specs.Patterns.{pattern_view};
 ghost use Rattle.lalrpop_norm_tree.specs.Types.{parameter_view, type_view};
 
 use super::copy::copy_associated_types;
@@ -11,7 +11,7 @@ use crate::types::{Parameter, TypeRef};
 use lalrpop_norm_parts::attribute::copy::copy_attributes;
 use lalrpop_norm_parts::bound::WhereClause;
 use lalrpop_norm_parts::names::copy::{copy_texts, copy_type_parameters};
-use lalrpop_norm_parts::pattern::Pattern;
+use lalrpop_norm_pattern::pattern::Pattern;
 use shared_text::NoMemory;
 use std::alloc::Global;
 

@@ -1,5 +1,5 @@
 use Rattle.std.proofs.Common.{◌≡◌, drop}
-use Rattle.lalrpop_norm_parts.specs.Patterns.{fields_view, patterns_view}
+use Rattle.lalrpop_norm_pattern.specs.Patterns.{fields_view, patterns_view}
 use Rattle.lalrpop_norm_tree.specs.Types.{type_view}
 use Rattle.lalrpop_norm_expanded.specs.Types.{fields_lack_symbol, patterns_lack_symbol}
 use Rattle.lalrpop_norm_expanded.proofs.types.+patterns.Given as goal

@@ -1,6 +1,6 @@
 use Rattle.std.proofs.Common.{◌≡◌, drop}
 use Rattle.lalrpop_norm_tree.specs.Types.{type_view}
-use Rattle.lalrpop_norm_parts.specs.Patterns.{patterns_view, fields_view}
+use Rattle.lalrpop_norm_pattern.specs.Patterns.{patterns_view, fields_view}
 use Rattle.lalrpop_norm_front.specs.TypeFaults.{patterns_hold, fields_hold}
 use Rattle.lalrpop_norm_front.proofs.prevalidate.types.+patterns.Given as goal
 

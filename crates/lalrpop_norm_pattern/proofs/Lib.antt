@@ -1,0 +1,6 @@
+pub mod PatternLemmas
+pub mod PatternSeen
+pub mod PatternViews
+pub mod PatternWalks
+pub mod MapLaws
+pub mod PatternTextLemmas
