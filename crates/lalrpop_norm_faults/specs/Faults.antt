@@ -3,7 +3,7 @@ use Rattle.std.specs.Prelude.{String, string_bytes, ◌≡◌, ℕ, Bool, if◌t
 use Rattle.std.specs.Prelude.{Option, Some, None, Result, Ok, Err, codes}
 use Rattle.lalrpop_norm_parts.specs.declared.names.Span.{Span}
 use Rattle.lalrpop_norm_faults.specs.declared.kind.FaultKind.{FaultKind}
-use Rattle.lalrpop_norm_faults.specs.declared.kind.FaultKind.TheVariants.{NotYet, GrammarAttribute, SecondMatch, MatchWithExtern}
+use Rattle.lalrpop_norm_faults.specs.declared.kind.FaultKind.TheVariants.{GrammarAttribute, SecondMatch, MatchWithExtern}
 use Rattle.lalrpop_norm_faults.specs.declared.kind.FaultKind.TheVariants.{SecondExtern, UnknownAssociatedType}
 use Rattle.lalrpop_norm_faults.specs.declared.kind.FaultKind.TheVariants.{RepeatedAssociatedType, PublicMacro}
 use Rattle.lalrpop_norm_faults.specs.declared.kind.FaultKind.TheVariants.{UnknownRuleAttribute, RepeatedRuleAttribute}
@@ -119,7 +119,6 @@ RefusesAmongOr At (Err e) fs Q = IsTold At fs e
 
 -- the number of a fault
 abbrev pub code_of : FaultKind → List ℕ
-code_of NotYet = codes "F0"
 code_of GrammarAttribute = codes "F1"
 code_of SecondMatch = codes "F2"
 code_of MatchWithExtern = codes "F3"

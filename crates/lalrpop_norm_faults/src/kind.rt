@@ -5,8 +5,6 @@ ghost use Rattle.lalrpop_norm_faults.specs.Faults.{code_of};
 /// What is wrong with a grammar. Each kind has a number, by which users know it.
 #[derive(Clone, Copy, Debug, PartialEq, Eq)]
 pub enum FaultKind {
-    /// F0: what a later stage of this library brings.
-    NotYet,
     /// F1: a grammar attribute is not known.
     GrammarAttribute,
     /// F2: a match block is not the first.
@@ -132,12 +130,11 @@ pub enum FaultKind {
 }
 
 impl FaultKind {
-    /// Its number: `F0` to `F56`, that of levels and sides with a letter.
+    /// Its number: `F1` to `F56`, that of levels and sides with a letter.
     pub fn code(self) -> &'static str
         ensures { result.now ≡ code_of self }
     {
         match self {
-            FaultKind::NotYet => "F0",
             FaultKind::GrammarAttribute => "F1",
             FaultKind::SecondMatch => "F2",
             FaultKind::MatchWithExtern => "F3",

@@ -11,7 +11,7 @@ use Rattle.lalrpop_norm_tree.specs.declared.symbol.RepeatOp.TheVariants.{Star, P
 use Rattle.lalrpop_norm_parts.specs.Attributes.{AttributeData, empty, paren, equal, attribute, no_attributes, attributes_of}
 use Rattle.lalrpop_norm_tree.specs.Symbols.{Kind, Part, Parts, terminal, nonterminal, ambiguous_id, repeated, named, at, parts_of}
 use Rattle.lalrpop_norm_tree.specs.Types.{id}
-use Rattle.lalrpop_norm_parts.specs.Patterns.{pattern_at, underscore}
+use Rattle.lalrpop_norm_pattern.specs.Patterns.{pattern_at, underscore}
 use Rattle.lalrpop_norm_tree.specs.Items.{AlternativeData, RuleData, ConversionData, ExternTokenData, ItemData, GrammarData, private, rule_item}
 use Rattle.lalrpop_norm_model.specs.Features.{Features}
 use Rattle.lalrpop_norm_model.specs.Grammars.{ConditionValue}

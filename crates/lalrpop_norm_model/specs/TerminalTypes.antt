@@ -10,7 +10,7 @@ use Rattle.lalrpop_norm_tree.specs.Accessors.{first_of, enum_token_of, extern_to
 use Rattle.lalrpop_norm_tree.specs.Items.{AssociatedTypeData, ConversionData, EnumTokenData, ExternTokenData, InternTokenData}
 use Rattle.lalrpop_norm_tree.specs.Items.{GrammarData}
 use Rattle.lalrpop_norm_tree.specs.LoweredTypes.{repr_of}
-pub use Rattle.lalrpop_norm_parts.specs.MappedPatterns.{chosen_in_kind, chosen_in_pattern, chosen_in_all, chosen_in_fields}
+pub use Rattle.lalrpop_norm_pattern.specs.MappedPatterns.{chosen_in_kind, chosen_in_pattern, chosen_in_all, chosen_in_fields}
 use Rattle.lalrpop_norm_parts.specs.Reprs as lowered
 use Rattle.lalrpop_norm_parts.specs.Reprs.{ReprData, nominal, reference, of_lifetime, no_reprs, repr_and, reprs_of, named_repr}
 use Rattle.lalrpop_norm_parts.specs.Reprs.{unit_type, static_str}
