@@ -2,3 +2,4 @@ pub mod ListLemmas
 pub mod Slots
 pub mod FeatureLemmas
 pub mod SymbolLemmas
+pub mod ExprLemmas
