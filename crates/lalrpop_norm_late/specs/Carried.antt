@@ -3,8 +3,6 @@ use Rattle.std.specs.Prelude.{ℕ, ◌||◌, Bool, true, false, List, [], ◌∷
 use Rattle.std.specs.Prelude.{Some, None, option_map, unwrap_or, bytes_eq, codes}
 use Rattle.std.specs.List.{list_any, enumerate_from}
 use Rattle.lalrpop_norm_tree.specs.declared.items.MatchEntry.{MatchEntry}
-use Rattle.lalrpop_norm_tree.specs.declared.items.MatchMapping.{MatchMapping}
-use Rattle.lalrpop_norm_tree.specs.declared.items.MatchMapping.TheVariants as mapping
 use Rattle.lalrpop_norm_parts.specs.declared.lowered.LrCodeGeneration.{LrCodeGeneration}
 use Rattle.lalrpop_norm_parts.specs.declared.lowered.LrCodeGeneration.TheVariants.{TableDriven}
 use Rattle.lalrpop_norm_parts.specs.declared.names.Span.{Span}
@@ -16,8 +14,8 @@ use Rattle.lalrpop_norm_parts.specs.Bounds.{BoundData, lifetime_bound, WhereClau
 use Rattle.lalrpop_norm_parts.specs.MappedBounds.{mapped_bound}
 use Rattle.lalrpop_norm_tree.specs.Items.{ItemData, extern_item, intern_item, use_item, RuleData, GrammarData}
 use Rattle.lalrpop_norm_tree.specs.LoweredTypes.{repr_of, named_path}
-use Rattle.lalrpop_norm_parts.specs.Patterns.{PatternData, pattern_at, tuple_struct, pattern_and, no_patterns, number}
-use Rattle.lalrpop_norm_parts.specs.Patterns.{chosen as chosen_type}
+use Rattle.lalrpop_norm_pattern.specs.Patterns.{PatternData, pattern_at, tuple_struct, pattern_and, no_patterns, number}
+use Rattle.lalrpop_norm_pattern.specs.Patterns.{chosen as chosen_type}
 use Rattle.lalrpop_norm_parts.specs.Reprs.{ReprData, of_lifetime, reference, named_repr, LoweredClause, for_all, has_bound}
 use Rattle.lalrpop_norm_tree.specs.Symbols.{Kind, group, ambiguous_id, terminal, nonterminal, call, repeated, chosen, named}
 use Rattle.lalrpop_norm_tree.specs.Symbols.{tupled, lookahead, lookbehind, error_terminal, Part, at, Parts, no_parts, part_and}
@@ -25,6 +23,7 @@ use Rattle.lalrpop_norm_tree.specs.Types.{TypeData, ParameterData}
 use Rattle.lalrpop_norm_repr.specs.Lowered.{LoweredParameter}
 use Rattle.lalrpop_norm_model.specs.Scopes.{conversions_in}
 use Rattle.lalrpop_norm_late.specs.Conversions.{mapped_pattern}
+pub use Rattle.lalrpop_norm_lowering.specs.Terminals.{terminal_of_mapping}
 
 -- ---- tokens
 
@@ -40,10 +39,6 @@ input_type = reference (Some (record { 0 = codes "'input" })) false (named_repr 
 abbrev pub internal_pattern : Span → ℕ → PatternData ReprData
 internal_pattern span i =
     pattern_at span (tuple_struct (named_path (codes "Token")) (pattern_and (pattern_at span (number i)) (pattern_and (pattern_at span (chosen_type input_type)) no_patterns)))
-
-abbrev pub terminal_of_mapping : MatchMapping → Option TerminalString
-terminal_of_mapping (mapping.Terminal t) = Some t
-terminal_of_mapping mapping.Skip = None
 
 -- the entries of a tokenizer that name a terminal, each with its own place
 abbrev pub entry_rows : Span → List MatchEntry → List TokenRow

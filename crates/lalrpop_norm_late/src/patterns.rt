@@ -1,6 +1,6 @@
 //! The patterns of conversions.
 ghost use Rattle.std.specs.Prelude.{◌≡◌, IfOk};
-ghost use Rattle.lalrpop_norm_parts.specs.Patterns.{pattern_view};
+ghost use Rattle.lalrpop_norm_pattern.specs.Patterns.{pattern_view};
 ghost use Rattle.lalrpop_norm_parts.specs.Reprs.{repr_view};
 ghost use Rattle.lalrpop_norm_tree.specs.LoweredTypes.{repr_of};
 ghost use Rattle.lalrpop_norm_tree.specs.Types.{type_view};

@@ -5,7 +5,7 @@ ghost use Rattle.std.specs.Map.{keys_of};
 ghost use Rattle.lalrpop_norm_tree.specs.Items.{conversion_view, grammar_view, item_view};
 ghost use Rattle.lalrpop_norm_tree.specs.LoweredTypes.{named_path};
 ghost use Rattle.lalrpop_norm_parts.specs.Paths.{path_view};
-ghost use Rattle.lalrpop_norm_parts.specs.Patterns.{pattern_view, patterns_view, pattern_at, pattern_and, no_patterns, number, chosen};
+ghost use Rattle.lalrpop_norm_pattern.specs.Patterns.{pattern_view, patterns_view, pattern_at, pattern_and, no_patterns, number, chosen};
 ghost use Rattle.lalrpop_norm_parts.specs.Reprs.{repr_view};
 ghost use Rattle.lalrpop_norm_util.specs.Sessions.{features_view};
 ghost use Rattle.lalrpop_norm_repr.specs.Tables.{rows};
@@ -14,11 +14,10 @@ ghost use Rattle.lalrpop_norm_late.specs.Conversions.{sorted_terminals, numbered
 ghost use Rattle.lalrpop_norm_late.specs.Made.{conversion_rows, row_of_entry, entry_rows_from, token_rows, made_tokens};
 
 use crate::patterns::lowered_pattern;
-use lalrpop_norm_lowering::terminals::terminal_set;
+use lalrpop_norm_lowering::terminals::{terminal_of_entry, terminal_set};
 use lalrpop_norm_repr::grammar::repr::{TerminalSet, TerminalString, TypeRepr};
 use lalrpop_norm_tree::grammar::parse_tree::{
-    Atom, Conversion, Grammar, GrammarItem, Lifetime, MatchEntry, MatchMapping, NoMemory, Path,
-    Span,
+    Atom, Conversion, Grammar, GrammarItem, Lifetime, MatchEntry, NoMemory, Path, Span,
 };
 use lalrpop_norm_tree::grammar::pattern::{Pattern, PatternKind};
 use lalrpop_norm_util::{Session, cfg_active};
@@ -147,11 +146,12 @@ fn add_entry(
     ensures patterns { OnOk result (rows (pattern_view repr_view) tokens.new.patterns
         ≡ sorted_terminals (rows (pattern_view repr_view) tokens.old.patterns) (row_of_entry span index entry.now)) }
 {
-    match &entry.user_name {
-        MatchMapping::Terminal(terminal) => {
-            add_token(tokens, terminal, internal_pattern(alloc, span, index)?)
+    match terminal_of_entry(entry)? {
+        Some(terminal) => {
+            let pattern = internal_pattern(alloc, span, index)?;
+            add_token(tokens, &terminal, pattern)
         }
-        MatchMapping::Skip => Ok(()),
+        None => Ok(()),
     }
 }
 

@@ -1,12 +1,22 @@
-//! The numbers of terminals.
+//! The terminals of a tokenizer's entries, and the numbers of terminals.
 ghost use Rattle.std.specs.Prelude.{◌≡◌, ◌++◌, [], ◌∷◌, IfOk, OnOk, if◌then◌else◌};
 ghost use Rattle.std.specs.BTreeMap.{insert_entry};
-ghost use Rattle.lalrpop_norm_lowering.specs.Terminals.{sorted_terminals, numbered_terminals, terminal_cmp};
+ghost use Rattle.lalrpop_norm_lowering.specs.Terminals.{sorted_terminals, numbered_terminals, terminal_cmp, terminal_of_mapping};
 
 use lalrpop_norm_repr::grammar::repr::{TerminalSet, TerminalString};
-use lalrpop_norm_tree::grammar::parse_tree::NoMemory;
+use lalrpop_norm_tree::grammar::parse_tree::{MatchEntry, MatchMapping, NoMemory};
 use std::alloc::Global;
 use std::collections::BTreeMap;
+
+/// The terminal of an entry: the one that it names. A skip has none, and so no number.
+pub fn terminal_of_entry(entry: &MatchEntry) -> Result<Option<TerminalString>, NoMemory>
+    ensures { IfOk result (λ o. o ≡ terminal_of_mapping entry.now.user_name) }
+{
+    match &entry.user_name {
+        MatchMapping::Terminal(terminal) => Ok(Some(terminal.clone()?)),
+        MatchMapping::Skip => Ok(None),
+    }
+}
 
 /// The terminals with their numbers: those given, then the error terminal where it is used.
 pub fn terminal_set(

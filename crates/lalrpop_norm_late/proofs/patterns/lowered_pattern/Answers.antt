@@ -1,6 +1,6 @@
 use Rattle.std.proofs.Common.{rules}
 use Rattle.lalrpop_norm_parts.specs.Reprs.{repr_view}
-use Rattle.lalrpop_norm_parts.proofs.MapLaws.{pattern_map_gives}
+use Rattle.lalrpop_norm_pattern.proofs.MapLaws.{pattern_map_gives}
 use Rattle.lalrpop_norm_tree.specs.Types.{type_view}
 use Rattle.lalrpop_norm_tree.specs.LoweredTypes.{repr_of}
 use Rattle.lalrpop_norm_late.proofs.patterns.lowered_pattern.Goals as goal

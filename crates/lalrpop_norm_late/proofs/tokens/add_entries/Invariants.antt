@@ -1,6 +1,6 @@
 use Rattle.std.proofs.Common.{◌≡◌, ◌++◌, drop}
 use Rattle.std.specs.Map.{keys_of}
-use Rattle.lalrpop_norm_parts.specs.Patterns.{pattern_view}
+use Rattle.lalrpop_norm_pattern.specs.Patterns.{pattern_view}
 use Rattle.lalrpop_norm_parts.specs.Reprs.{repr_view}
 use Rattle.lalrpop_norm_repr.specs.Tables.{rows}
 use Rattle.lalrpop_norm_late.specs.Conversions.{sorted_terminals}

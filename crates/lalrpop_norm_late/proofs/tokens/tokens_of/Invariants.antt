@@ -2,7 +2,7 @@ use Rattle.std.proofs.Common.{◌≡◌, ◌++◌, [], drop, map}
 use Rattle.std.specs.Prelude.{flat_map}
 use Rattle.std.specs.Map.{keys_of}
 use Rattle.lalrpop_norm_tree.specs.Items.{item_view}
-use Rattle.lalrpop_norm_parts.specs.Patterns.{pattern_view}
+use Rattle.lalrpop_norm_pattern.specs.Patterns.{pattern_view}
 use Rattle.lalrpop_norm_parts.specs.Reprs.{repr_view}
 use Rattle.lalrpop_norm_util.specs.Sessions.{features_view}
 use Rattle.lalrpop_norm_repr.specs.Tables.{rows}
