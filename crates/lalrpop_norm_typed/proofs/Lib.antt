@@ -1,0 +1,5 @@
+pub mod ListTests
+pub mod RuleLemmas
+pub mod TerminalLemmas
+pub mod UsedLemmas
+pub mod WholeLemmas

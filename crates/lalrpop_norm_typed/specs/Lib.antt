@@ -1,0 +1,4 @@
+pub mod Rules
+pub mod Terminals
+pub mod Used
+pub mod Whole
