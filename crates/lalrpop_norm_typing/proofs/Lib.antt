@@ -1,10 +1,13 @@
 mod ClauseLemmas
+mod DependentLemmas
 pub mod FilledLemmas
 mod LiteralLemmas
 pub mod LoopLemmas
 mod LoweredViews
+mod MentionLemmas
 mod MisfitLemmas
 mod ReadLemmas
+pub mod RoundLemmas
 mod SameLemmas
 pub mod TokenLemmas
 mod ValueLemmas

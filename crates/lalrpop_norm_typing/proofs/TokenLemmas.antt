@@ -1,10 +1,8 @@
 -- The types that need no inference.
-use Rattle.std.proofs.Common.{◌≡◌, ◌<◌, ◌+◌, ℕ, Bool, true, false, List, [], ◌∷◌, ◌++◌, length, drop, get_or, map, Option, Some, None, cond, bytes_eq, append_assoc, refl, sym, ap, ap₂, subst, ◌∙◌}
+use Rattle.std.proofs.Common.{◌≡◌, ℕ, Bool, true, false, List, [], ◌∷◌, Option, Some, None, cond, bytes_eq, refl, sym, ap, ap₂, subst, ◌∙◌}
 use Rattle.std.specs.Prelude.{Result, IfOk, option_map}
-use Rattle.std.proofs.lemmas.List.{map-append}
 use Rattle.std.proofs.lemmas.Bool.Decides.{same_from_decides}
 use Rattle.std.proofs.lemmas.Slice.Eq.{bytes_eq-Decides}
-use Rattle.lalrpop_norm_faults.proofs.FaultLemmas.{at_drop_item}
 use Rattle.lalrpop_norm_parts.specs.declared.lowered.TypeRepr.{TypeRepr}
 use Rattle.lalrpop_norm_parts.specs.declared.names.NonterminalString.{NonterminalString}
 use Rattle.lalrpop_norm_parts.specs.declared.names.TerminalLiteral.{TerminalLiteral}
@@ -15,7 +13,6 @@ use Rattle.lalrpop_norm_tree.specs.Accessors.{or_else, first_of, extern_token_of
 use Rattle.lalrpop_norm_tree.specs.Items.{AssociatedTypeData, ExternTokenData, GrammarData}
 use Rattle.lalrpop_norm_tree.specs.LoweredTypes.{repr_of}
 use Rattle.lalrpop_norm_parts.specs.Reprs.{ReprData, repr_view}
-use Rattle.lalrpop_norm_tree.specs.Types.{TypeData}
 use Rattle.lalrpop_norm_repr.specs.Tables as table
 use Rattle.lalrpop_norm_repr.specs.Tables.{TypeTable, found_terminal}
 use Rattle.lalrpop_norm_model.specs.Terminals.{same_literal, same_terminal}

@@ -1,5 +1,5 @@
 -- Visits, rounds of them, and the rounds of the model.
-use Rattle.std.proofs.Common.{◌≡◌, ◌≤◌, ◌+◌, ◌-◌, ◌||◌, ℕ, zero, suc, Bool, true, false, List, [], ◌∷◌, ◌++◌, Option, Some, None, map, length, take, get_or, ◌<◌, refl, sym, ap, subst, ◌∙◌, bytes_eq, if◌then◌else◌, arith}
+use Rattle.std.proofs.Common.{◌≡◌, ◌≤◌, ◌+◌, ◌-◌, ℕ, zero, suc, Bool, true, false, List, [], ◌∷◌, ◌++◌, Option, Some, None, map, length, slice_get, take, get_or, ◌<◌, refl, sym, ap, subst, ◌∙◌, bytes_eq, if◌then◌else◌, arith}
 use Rattle.std.specs.Prelude.{option_map, is_some}
 use Rattle.std.proofs.lemmas.List.{map-append, take_more}
 use Rattle.std.proofs.lemmas.Slice.Eq.{bytes_eq-Decides}
@@ -9,24 +9,25 @@ use Rattle.lalrpop_norm_tree.specs.Items.{RuleData, GrammarData}
 use Rattle.lalrpop_norm_parts.specs.Reprs.{ReprData}
 use Rattle.lalrpop_norm_repr.specs.Tables.{TypeTable, type_of}
 use Rattle.lalrpop_norm_model.specs.PlainRules.{all_rules}
-use Rattle.lalrpop_norm_model.specs.TypeRounds.{TypeRow, table_of, taken, visit, visits, type_rounds}
+use Rattle.lalrpop_norm_model.specs.TypeRounds.{TypeRow, table_of, first_value, taken, visit, visits, type_rounds}
 use Rattle.lalrpop_norm_typing.specs.declared.rounds.PlainRule.{PlainRule}
 use Rattle.lalrpop_norm_typing.specs.Clauses.{first_in}
 use Rattle.lalrpop_norm_typing.specs.TableValues.{named_by, type_by_name}
-use Rattle.lalrpop_norm_typing.specs.Visits.{Seen, rule_seen, with_clauses, visit_seen, visits_seen, rounds_seen, HasRows, Grows, TakesType, Passes, EndsRounds}
+use Rattle.lalrpop_norm_typing.specs.Visits.{Seen, rule_seen, with_clauses, visit_seen, visits_seen, rounds_seen, HasRows, IsReadBy, TakesType, Passes, EndsRounds}
+use Rattle.lalrpop_norm_typing.specs.Waiting.{IsQuiet}
 use Rattle.lalrpop_norm_typing.proofs.ReadLemmas.{first_at, kept_read, rest_after}
-use Rattle.lalrpop_norm_theory.proofs.BoolLemmas.{left_false, right_false}
 
 -- ---- a visit
 
 -- a rule that has a type keeps it
-taken_kept : (tt : TypeTable) (n : List ℕ) (v : Option ReprData) (x : ReprData) → Some x ≡ type_by_name tt n → TakesType tt tt n v false
+pub taken_kept : (tt : TypeTable) (n : List ℕ) (v : Option ReprData) (x : ReprData) → Some x ≡ type_by_name tt n → TakesType tt tt n v false
 taken_kept tt n v x e = record {
   table = λ rows h. let is : table_of rows n ≡ Some x = sym (h n) ∙ sym e in rw is h;
-  quiet = λ _ rows h. let is : table_of rows n ≡ Some x = sym (h n) ∙ sym e in rw is refl;
+  quiet = λ _ none. let clash : Some x ≡ None = e ∙ none in absurd cc;
   still = λ _. refl;
   told = λ no. absurd cc;
   kept = λ m y is. is;
+  others = λ m _. refl;
   rest = refl;
 }
 
@@ -43,10 +44,11 @@ untyped_none f (Some x) w e none = absurd cc
 pub taken_none : (tt : TypeTable) (n : List ℕ) (v : Option ReprData) → type_by_name tt n ≡ None → None ≡ v → TakesType tt tt n v false
 taken_none tt n v none e = record {
   table = λ rows h. let is : table_of rows n ≡ None = sym (h n) ∙ none in rw (is, ← e) h;
-  quiet = λ _ rows h. let is : table_of rows n ≡ None = sym (h n) ∙ none in rw (is, ← e) refl;
+  quiet = λ _ _. sym e;
   still = λ _. refl;
   told = λ no. absurd cc;
   kept = λ m y is. is;
+  others = λ m _. refl;
   rest = refl;
 }
 
@@ -81,61 +83,61 @@ taken_new before after n v x none e added others rest = record {
   table = λ rows h. let is : table_of rows n ≡ None = sym (h n) ∙ none in rw (is, ← e) (λ m. added_case before after n x added others rows h m (bytes_eq n m) refl);
   quiet = λ no. absurd cc;
   still = λ no. absurd cc;
-  told = λ _. record { name = n; ty = x; untyped = none; typed = added };
+  told = λ _. ap is_some added;
   kept = kept_beside before after n none others;
+  others = λ m apart. others (named_by m) (λ same. apart (ap (λ (a : NonterminalString). a.0) same));
   rest = rest;
 }
 
 -- ---- a round
 
-pub passes_none : (ps : List TypeParameter) (tt : TypeTable) → Passes ps tt tt [] false
-passes_none ps tt = record {
-  table = λ g read rows h. h;
-  quiet = λ no g read rows h. refl;
-  still = λ _. refl;
-  told = λ no. absurd cc;
-  rest = refl;
-}
+pub passes_none : (ps : List TypeParameter) (tt : TypeTable) → Passes ps tt tt []
+passes_none ps tt = record { table = λ g read rows h. h; rest = refl }
 
 visits_last : (g : GrammarData) (rows : List TypeRow) (ss : List Seen) (s : Seen) → visits_seen g rows (ss ++ s ∷ []) ≡ visit_seen g (visits_seen g rows ss) s
 visits_last g rows [] s = refl
 visits_last g rows (r ∷ ss) s = visits_last g (visit_seen g rows r) ss s
 
-grows_more : (before mid after : TypeTable) (n : List ℕ) (v : Option ReprData) (b a : Bool) → (b ≡ false → mid ≡ before) → (b ≡ true → Grows before mid) →
-    TakesType mid after n v a → (b || a) ≡ true → Grows before after
-grows_more before mid after n v true a still told t e =
-    let g = told refl in
-    record { name = g.name; ty = g.ty; untyped = g.untyped; typed = t.kept g.name g.ty g.typed }
-grows_more before mid after n v false a still told t e = subst (λ tt. Grows tt after) (still refl) (t.told e)
-
-pub passes_more : (ps : List TypeParameter) (before mid after : TypeTable) (ss : List Seen) (s : Seen) (b a : Bool) → Passes ps before mid ss b →
-    TakesType mid after s.0.name.0 (first_in ps mid s.1) a → Passes ps before after (ss ++ s ∷ []) (b || a)
-passes_more ps before mid after ss s b a p t = record {
+pub passes_more : (ps : List TypeParameter) (before mid after : TypeTable) (ss : List Seen) (s : Seen) (a : Bool) → Passes ps before mid ss →
+    TakesType mid after s.0.name.0 (first_in ps mid s.1) a → Passes ps before after (ss ++ s ∷ [])
+passes_more ps before mid after ss s a p t = record {
   table = λ g read rows h.
       let here = p.table g read rows h in
       let same = first_at g ps mid (kept_read g ps before mid read p.rest) (visits_seen g rows ss) here s.1 in
       subst (λ later. HasRows after later)
       (ap (λ v. taken (visits_seen g rows ss) s.0.name.0 (table_of (visits_seen g rows ss) s.0.name.0) v) same ∙ sym (visits_last g rows ss s))
       (t.table (visits_seen g rows ss) here);
-  quiet = λ no g read rows h.
-      let here = p.table g read rows h in
-      let same = first_at g ps mid (kept_read g ps before mid read p.rest) (visits_seen g rows ss) here s.1 in
-      visits_last g rows ss s
-      ∙ (ap (λ v. taken (visits_seen g rows ss) s.0.name.0 (table_of (visits_seen g rows ss) s.0.name.0) v) (sym same)
-      ∙ (t.quiet (right_false b a no) (visits_seen g rows ss) here ∙ p.quiet (left_false b a no) g read rows h));
-  still = λ no. t.still (right_false b a no) ∙ p.still (left_false b a no);
-  told = grows_more before mid after _ _ b a p.still p.told t;
   rest = rest_after before mid after p.rest t.rest;
 }
+
+-- ---- quiet rules
+
+-- the visit of one
+visit_quiet : (g : GrammarData) (ps : List TypeParameter) (tt : TypeTable) → IsReadBy g ps tt → (rows : List TypeRow) → HasRows tt rows → (s : Seen) → IsQuiet ps tt s →
+    (o : Option ReprData) → type_by_name tt s.0.name.0 ≡ o → visit_seen g rows s ≡ rows
+visit_quiet g ps tt read rows h s quiet (Some x) e =
+    let is : table_of rows s.0.name.0 ≡ Some x = sym (h s.0.name.0) ∙ e in
+    ap (λ o. taken rows s.0.name.0 o (first_value g (table_of rows) s.1)) is
+visit_quiet g ps tt read rows h s quiet None e =
+    let is : table_of rows s.0.name.0 ≡ None = sym (h s.0.name.0) ∙ e in
+    let none : first_value g (table_of rows) s.1 ≡ None = sym (first_at g ps tt read rows h s.1) ∙ quiet e in
+    ap (λ o. taken rows s.0.name.0 o (first_value g (table_of rows) s.1)) is ∙ ap (taken rows s.0.name.0 None) none
+
+visits_quiet : (g : GrammarData) (ps : List TypeParameter) (tt : TypeTable) → IsReadBy g ps tt → (rows : List TypeRow) → HasRows tt rows → (ss : List Seen) →
+    ((k : ℕ) (s : Seen) → slice_get ss k ≡ Some s → IsQuiet ps tt s) → visits_seen g rows ss ≡ rows
+visits_quiet g ps tt read rows h [] quiet = refl
+visits_quiet g ps tt read rows h (s ∷ ss) quiet =
+    ap (λ later. visits_seen g later ss) (visit_quiet g ps tt read rows h s (quiet 0 s refl) (type_by_name tt s.0.name.0) refl)
+    ∙ visits_quiet g ps tt read rows h ss (λ k r here. quiet (suc k) r here)
 
 -- ---- rounds
 
 pub ends_none : (ps : List TypeParameter) (tt : TypeTable) (ss : List Seen) → EndsRounds ps tt tt ss 0
 ends_none ps tt ss = record { table = λ g read h. h; rest = refl }
 
-pub ends_more : (ps : List TypeParameter) (before mid after : TypeTable) (ss : List Seen) (k : ℕ) (b : Bool) → EndsRounds ps before mid ss k →
-    Passes ps mid after ss b → EndsRounds ps before after ss (suc k)
-ends_more ps before mid after ss k b e p = record {
+pub ends_more : (ps : List TypeParameter) (before mid after : TypeTable) (ss : List Seen) (k : ℕ) → EndsRounds ps before mid ss k →
+    Passes ps mid after ss → EndsRounds ps before after ss (suc k)
+ends_more ps before mid after ss k e p = record {
   table = λ g read h. p.table g (kept_read g ps before mid read e.rest) (rounds_seen g ss k) (e.table g read h);
   rest = rest_after before mid after e.rest p.rest;
 }
@@ -146,17 +148,16 @@ stays g ss k (suc m) quiet =
     let next : k + suc m ≡ suc (k + m) = omega arith in
     ap (rounds_seen g ss) next ∙ (ap (λ rows. visits_seen g rows ss) (stays g ss k m quiet) ∙ quiet)
 
--- a round that adds nothing is the last
-pub ends_quiet : (ps : List TypeParameter) (before mid after : TypeTable) (ss : List Seen) (k n : ℕ) → EndsRounds ps before mid ss k →
-    Passes ps mid after ss false → k ≤ n → EndsRounds ps before after ss n
-ends_quiet ps before mid after ss k n e p le = record {
+-- where all rules are quiet the rounds have come to their end
+pub ends_quiet : (ps : List TypeParameter) (before after : TypeTable) (ss : List Seen) (k n : ℕ) → EndsRounds ps before after ss k →
+    ((i : ℕ) (s : Seen) → slice_get ss i ≡ Some s → IsQuiet ps after s) → k ≤ n → EndsRounds ps before after ss n
+ends_quiet ps before after ss k n e quiet le = record {
   table = λ g read h.
-      let read_here = kept_read g ps before mid read e.rest in
-      let quiet = p.quiet refl g read_here (rounds_seen g ss k) (e.table g read h) in
+      let here = e.table g read h in
+      let same = visits_quiet g ps after (kept_read g ps before after read e.rest) (rounds_seen g ss k) here ss quiet in
       let all : k + (n - k) ≡ n = omega arith in
-      subst (λ rows. HasRows after rows) (quiet ∙ (sym (stays g ss k (n - k) quiet) ∙ ap (rounds_seen g ss) all))
-      (p.table g read_here (rounds_seen g ss k) (e.table g read h));
-  rest = rest_after before mid after e.rest p.rest;
+      subst (λ rows. HasRows after rows) (sym (stays g ss k (n - k) same) ∙ ap (rounds_seen g ss) all) here;
+  rest = e.rest;
 }
 
 -- ---- the rounds of the model

@@ -7,3 +7,4 @@ pub mod TableFaults
 pub mod TableValues
 pub mod TokenTypes
 pub mod Visits
+pub mod Waiting

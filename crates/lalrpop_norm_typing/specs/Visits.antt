@@ -1,5 +1,5 @@
 -- Rounds of visits over rules with their clauses, and what they do to a type table.
-use Rattle.std.specs.Prelude.{◌≡◌, ℕ, zero, suc, Bool, true, false, List, [], ◌∷◌, Option, Some, None, map}
+use Rattle.std.specs.Prelude.{◌≡◌, ℕ, zero, suc, Bool, true, false, List, [], ◌∷◌, Option, Some, None, IsSome, map}
 use Rattle.lalrpop_norm_parts.specs.declared.names.TypeParameter.{TypeParameter}
 use Rattle.lalrpop_norm_tree.specs.Items.{RuleData, GrammarData, rule_view}
 use Rattle.lalrpop_norm_parts.specs.Reprs.{ReprData}
@@ -46,30 +46,20 @@ pub record IsReadBy (g : GrammarData) (ps : List TypeParameter) (tt : TypeTable)
   pub parameters : g.type_parameters ≡ ps
   pub tokens : HasTokens g tt
 
--- a name has a type after that had none before
-pub record Grows (before after : TypeTable) : Type 0 where
-  pub name : List ℕ
-  pub ty : ReprData
-  pub untyped : type_by_name before name ≡ None
-  pub typed : type_by_name after name ≡ Some ty
-
 -- The visit of a rule of that name that may take that type, and whether it does: if not, the table stays as it is. A name that has a
 -- type keeps it.
 pub record TakesType (before after : TypeTable) (n : List ℕ) (v : Option ReprData) (added : Bool) : Type 0 where
   pub table : (rows : List TypeRow) → HasRows before rows → HasRows after (taken rows n (table_of rows n) v)
-  pub quiet : added ≡ false → (rows : List TypeRow) → HasRows before rows → taken rows n (table_of rows n) v ≡ rows
+  pub quiet : added ≡ false → type_by_name before n ≡ None → v ≡ None
   pub still : added ≡ false → after ≡ before
-  pub told : added ≡ true → Grows before after
+  pub told : added ≡ true → IsSome (type_by_name after n)
   pub kept : (m : List ℕ) (x : ReprData) → type_by_name before m ≡ Some x → type_by_name after m ≡ Some x
+  pub others : (m : List ℕ) → (m ≡ n → ⊥) → type_by_name after m ≡ type_by_name before m
   pub rest : after ≡ record before { nonterminals = after.nonterminals }
 
--- the visits of some rules, and whether one of them takes a type: if none does, the table stays as it is
-pub record Passes (ps : List TypeParameter) (before after : TypeTable) (ss : List Seen) (added : Bool) : Type 0 where
+-- the visits of some rules
+pub record Passes (ps : List TypeParameter) (before after : TypeTable) (ss : List Seen) : Type 0 where
   pub table : (g : GrammarData) → IsReadBy g ps before → (rows : List TypeRow) → HasRows before rows → HasRows after (visits_seen g rows ss)
-  pub quiet : added ≡ false → (g : GrammarData) → IsReadBy g ps before → (rows : List TypeRow) → HasRows before rows →
-      visits_seen g rows ss ≡ rows
-  pub still : added ≡ false → after ≡ before
-  pub told : added ≡ true → Grows before after
   pub rest : after ≡ record before { nonterminals = after.nonterminals }
 
 -- so many rounds of visits

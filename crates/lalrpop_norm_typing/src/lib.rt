@@ -2,9 +2,11 @@
 #![tactic(auto)]
 
 pub mod clauses;
+pub mod dependents;
 pub mod grounded;
 mod named;
 pub mod patterns;
+pub mod places;
 pub mod rounds;
 pub mod same;
 pub mod tokens;

@@ -1,5 +1,5 @@
 //! Rules with their clauses, and rounds in which they take their types.
-ghost use Rattle.std.specs.Prelude.{◌≡◌, ◌||◌, None, Some, IfOk, OnOk, map, flat_map};
+ghost use Rattle.std.specs.Prelude.{◌≡◌, [], ◌∷◌, None, Some, IfOk, OnOk, map, flat_map};
 ghost use Rattle.lalrpop_norm_parts.specs.declared.names.NonterminalString.{NonterminalString};
 ghost use Rattle.lalrpop_norm_tree.specs.Items.{item_view, rule_view};
 ghost use Rattle.lalrpop_norm_parts.specs.Reprs.{repr_view};
@@ -7,8 +7,11 @@ ghost use Rattle.lalrpop_norm_repr.specs.Tables.{type_table, type_of};
 ghost use Rattle.lalrpop_norm_model.specs.PlainRules.{rule_of_item};
 ghost use Rattle.lalrpop_norm_typing.specs.Clauses.{clause_view, first_in};
 ghost use Rattle.lalrpop_norm_typing.specs.Visits.{rule_seen, with_clauses, TakesType, Passes};
+ghost use Rattle.lalrpop_norm_typing.specs.Waiting.{Covers, VisitsOne, Waits, Wakes};
 
 use crate::clauses::{Clause, first_value, rule_clauses};
+use crate::dependents::Dependents;
+use crate::places::Places;
 use lalrpop_norm_repr::grammar::repr::{TypeRepr, Types};
 use lalrpop_norm_tree::grammar::parse_tree::{
     GrammarItem, NoMemory, NonterminalData, NonterminalString, TypeParameter,
@@ -103,25 +106,74 @@ fn visit(
     take_first(alloc, parameters, types, rule)
 }
 
-fn either(a: bool, b: bool) -> bool
-    ensures { result ≡ (a || b) }
+/// Lets some places wait for a visit: those behind the place in this round, the others in the next one.
+fn wake(places: &[usize], place: usize, now: &mut Places, next: &mut Places) -> Result<(), NoMemory>
+    ensures { OnOk result (Wakes places.now place now.old now.new next.old next.new) }
 {
-    a || b
+    for other in places {
+        wake_one(*other, place, now, next)?;
+    }
+    Ok(())
 }
 
-/// A round over the rules in order; whether one of them takes a type.
+fn wake_one(other: usize, place: usize, now: &mut Places, next: &mut Places) -> Result<(), NoMemory>
+    ensures { OnOk result (Wakes (other ∷ []) place now.old now.new next.old next.new) }
+{
+    if place < other {
+        return now.add(other);
+    }
+    next.add(other)
+}
+
+/// Visits the rule at a place, and lets those wait that a type of its name may change.
+fn step(
+    alloc: Global,
+    parameters: &[TypeParameter],
+    types: &mut Types,
+    dependents: &Dependents,
+    rule: &PlainRule,
+    place: usize,
+    now: &mut Places,
+    next: &mut Places,
+) -> Result<(), NoMemory>
+    ensures { OnOk result (VisitsOne dependents.now parameters.now (type_table types.old) (type_table types.new) (rule_seen rule.now) place now.old now.new next.old next.new) }
+{
+    let took = visit(alloc, parameters, types, rule)?;
+    if took {
+        return wake(dependents.places(&rule.data.name), place, now, next);
+    }
+    Ok(())
+}
+
+/// A round over the rules in order, of which only those at some places may take a type; the places of which that holds in the
+/// next round.
 pub fn round(
     alloc: Global,
     parameters: &[TypeParameter],
     types: &mut Types,
     rules: &[PlainRule],
-) -> Result<bool, NoMemory>
-    ensures { IfOk result (λ added. Passes parameters.now (type_table types.old) (type_table types.new) (map rule_seen rules.now) added) }
+    dependents: &Dependents,
+    now: &mut Places,
+) -> Result<Places, NoMemory>
+    requires covers { Covers dependents.now (map rule_seen rules.now) }
+    requires waits { Waits parameters.now (type_table types.old) (map rule_seen rules.now) now.old }
+    ensures passes { IfOk result (λ next. Passes parameters.now (type_table types.old) (type_table types.new) (map rule_seen rules.now)) }
+    ensures waits { IfOk result (λ next. Waits parameters.now (type_table types.new) (map rule_seen rules.now) next) }
 {
-    let mut added = false;
-    for rule in rules {
-        let took = visit(alloc, parameters, types, rule)?;
-        added = either(added, took);
+    let mut next = Places::new(alloc);
+    let mut from = 0;
+    while let Some(place) = now.take_least() {
+        step(
+            alloc,
+            parameters,
+            types,
+            dependents,
+            &rules[place],
+            place,
+            now,
+            &mut next,
+        )?;
+        from = place + 1;
     }
-    Ok(added)
+    Ok(next)
 }

@@ -1,16 +1,23 @@
-use Rattle.std.proofs.Common.{arith}
-use Rattle.std.proofs.lemmas.List.{take_all}
+use Rattle.std.proofs.Common.{◌≡◌, ◌<◌, Some, length, map, slice_get, refl, ap, ◌∙◌, arith}
+use Rattle.std.specs.Prelude.{option_map}
+use Rattle.std.proofs.lemmas.List.{length-map}
+use Rattle.std.proofs.lemmas.Option.{slice_get-map, slice_get_read}
 use Rattle.lalrpop_norm_typing.specs.Visits.{rule_seen}
-use Rattle.lalrpop_norm_typing.proofs.VisitLemmas.{passes_none, passes_more, seen_more}
+use Rattle.lalrpop_norm_typing.proofs.RoundLemmas.{midway_next, midway_passes}
 use Rattle.lalrpop_norm_typing.proofs.rounds.round.Goals as goal
 
-pub loop-rule-init : goal.loop-rule-init
-loop-rule-init c = passes_none _ _
+pub loop-place-preserved : goal.loop-place-preserved
+loop-place-preserved c =
+    let rules = c.args.rules.now in
+    let rule = c.index-rules-place.result in
+    let long = length-map rules rule_seen in
+    let low = c.loop-place.invariant.within_now c.in-Some.place c.in-Some.ensures.there in
+    let lt : c.in-Some.place < length rules = omega arith in
+    let there : slice_get (map rule_seen rules) c.in-Some.place ≡ Some (rule_seen rule) =
+    slice_get-map rule_seen rules c.in-Some.place ∙ ap (option_map rule_seen) (slice_get_read rules (length rules) c.in-Some.place rule refl lt c.index-rules-place.is) in
+    midway_next _ _ _ _ _ _ _ _ _ _ _ _ _ _ c.requires.covers c.loop-place.invariant c.in-Some.ensures there c.in_ok-step.ensures
 
-pub loop-rule-preserved : goal.loop-rule-preserved
-loop-rule-preserved c =
-    rw (seen_more c.args.rules.now c.loop-rule.rule-index c.rule-item.result (omega arith) c.rule-item.is, c.either-added.ensures)
-    (passes_more _ _ _ _ _ (rule_seen c.rule-item.result) _ _ c.loop-rule.invariant c.in_ok-took.ensures)
-
-pub returns : goal.returns
-returns c = rw (take_all c.loop-rule.rule-index c.args.rules.now (omega arith)) at c.loop-rule.invariant
+pub returns-clause-passes : goal.returns-clause-passes
+returns-clause-passes c =
+    let none = rw c.in_default.is at c.take_least.ensures in
+    midway_passes _ _ _ _ _ _ _ c.loop-place.invariant none

@@ -1,7 +1,11 @@
-use Rattle.std.proofs.Common.{take, map}
+use Rattle.std.proofs.Common.{◌-◌, length, map}
 use Rattle.lalrpop_norm_repr.specs.Tables.{type_table}
-use Rattle.lalrpop_norm_typing.specs.Visits.{rule_seen, Passes}
+use Rattle.lalrpop_norm_typing.specs.Visits.{rule_seen}
+use Rattle.lalrpop_norm_typing.proofs.RoundLemmas.{Midway}
 use Rattle.lalrpop_norm_typing.proofs.rounds.round.Given as goal
 
-abbrev pub invariant-loop-rule : goal.invariant-loop-rule
-invariant-loop-rule l = Passes l.parameters (type_table l.initial.types) (type_table l.types) (map rule_seen (take l.rule-index l.rules)) l.added
+abbrev pub invariant-loop-place : goal.invariant-loop-place
+invariant-loop-place l = Midway l.parameters (type_table l.initial.types) (type_table l.types) (map rule_seen l.rules) l.from l.now l.next
+
+abbrev pub decreases-loop-place : goal.decreases-loop-place
+decreases-loop-place l = length l.rules - l.from

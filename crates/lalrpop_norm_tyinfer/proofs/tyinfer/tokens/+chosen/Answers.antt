@@ -1,8 +1,8 @@
 use Rattle.std.proofs.Common.{List, refl, arith}
-use Rattle.lalrpop_norm_parts.specs.declared.pattern.FieldPattern.{FieldPattern}
-use Rattle.lalrpop_norm_parts.specs.declared.pattern.Pattern.{Pattern}
+use Rattle.lalrpop_norm_pattern.specs.declared.pattern.FieldPattern.{FieldPattern}
+use Rattle.lalrpop_norm_pattern.specs.declared.pattern.Pattern.{Pattern}
 use Rattle.lalrpop_norm_tree.specs.declared.types.TypeRef.{TypeRef}
-use Rattle.lalrpop_norm_parts.specs.Patterns.{pattern_view, patterns_view, field_view, fields_view}
+use Rattle.lalrpop_norm_pattern.specs.Patterns.{pattern_view, patterns_view, field_view, fields_view}
 use Rattle.lalrpop_norm_tree.specs.Types.{type_view}
 use Rattle.lalrpop_norm_model.specs.TerminalTypes.{chosen_in_pattern, chosen_in_all, chosen_in_fields}
 use Rattle.lalrpop_norm_tyinfer.proofs.ChosenLemmas.{next_chosen}

@@ -1,6 +1,6 @@
 use Rattle.std.proofs.Common.{◌≡◌, ◌++◌, drop, map}
 use Rattle.lalrpop_norm_tree.specs.LoweredTypes.{repr_of}
-use Rattle.lalrpop_norm_parts.specs.Patterns.{patterns_view, fields_view}
+use Rattle.lalrpop_norm_pattern.specs.Patterns.{patterns_view, fields_view}
 use Rattle.lalrpop_norm_parts.specs.Reprs.{repr_view}
 use Rattle.lalrpop_norm_tree.specs.Types.{type_view}
 use Rattle.lalrpop_norm_model.specs.TerminalTypes.{chosen_in_all, chosen_in_fields}
