@@ -2,15 +2,15 @@
 use Rattle.std.proofs.Common.{◌≡◌, ℕ, Bool, List, Vec, Global, sym, ap, ◌∙◌}
 use Rattle.lalrpop_norm_parts.specs.declared.names.Span.{Span}
 use Rattle.lalrpop_norm_parts.specs.declared.path.Path.{Path}
-use Rattle.lalrpop_norm_parts.specs.declared.pattern.FieldPattern.{FieldPattern}
-use Rattle.lalrpop_norm_parts.specs.declared.pattern.Pattern.{Pattern}
-use Rattle.lalrpop_norm_parts.specs.declared.pattern.PatternKind.{PatternKind}
-use Rattle.lalrpop_norm_parts.specs.declared.pattern.PatternKind.TheFolds.{fold-roll-PatternKind, fold-roll-FieldPattern}
-use Rattle.lalrpop_norm_parts.specs.declared.pattern.PatternKind.TheOpen.{PatternKind-F, FieldPattern-F}
-use Rattle.lalrpop_norm_parts.specs.declared.pattern.PatternKind.TheVariants as kind
-use Rattle.lalrpop_norm_parts.specs.declared.pattern.PatternKind.TheViews.{rolls-Enum, rolls-Struct, rolls-Path, rolls-Tuple, rolls-TupleStruct, rolls-Usize, rolls-struct-FieldPattern}
+use Rattle.lalrpop_norm_pattern.specs.declared.pattern.FieldPattern.{FieldPattern}
+use Rattle.lalrpop_norm_pattern.specs.declared.pattern.Pattern.{Pattern}
+use Rattle.lalrpop_norm_pattern.specs.declared.pattern.PatternKind.{PatternKind}
+use Rattle.lalrpop_norm_pattern.specs.declared.pattern.PatternKind.TheFolds.{fold-roll-PatternKind, fold-roll-FieldPattern}
+use Rattle.lalrpop_norm_pattern.specs.declared.pattern.PatternKind.TheOpen.{PatternKind-F, FieldPattern-F}
+use Rattle.lalrpop_norm_pattern.specs.declared.pattern.PatternKind.TheVariants as kind
+use Rattle.lalrpop_norm_pattern.specs.declared.pattern.PatternKind.TheViews.{rolls-Enum, rolls-Struct, rolls-Path, rolls-Tuple, rolls-TupleStruct, rolls-Usize, rolls-struct-FieldPattern}
 use Rattle.lalrpop_norm_parts.specs.Paths.{path_view}
-use Rattle.lalrpop_norm_parts.specs.Patterns.{PatternKindData, enumerated, structured, path, tuple, tuple_struct, number, PatternData, FieldData, pattern_kind_step, field_step, pattern_step, pattern_kind_view, pattern_view, field_view, patterns_view, fields_view}
+use Rattle.lalrpop_norm_pattern.specs.Patterns.{PatternKindData, enumerated, structured, path, tuple, tuple_struct, number, PatternData, FieldData, pattern_kind_step, field_step, pattern_step, pattern_kind_view, pattern_view, field_view, patterns_view, fields_view}
 use Rattle.lalrpop_norm_tree.specs.declared.types.TypeRef.{TypeRef}
 use Rattle.lalrpop_norm_tree.specs.Types.{TypeData, type_view}
 

@@ -9,10 +9,9 @@ ghost use Rattle.std.specs.Prelude.{◌≡◌, Some, IfOk, IsErrOf, false};
 ghost use Rattle.serde_json.specs.Data.{Data};
 ghost use Rattle.serde_json.specs.Read.{read};
 ghost use Rattle.lalrpop_norm_tree.specs.Items.{grammar_view};
-ghost use Rattle.lalrpop_norm_json.specs.ItemForms.{grammar_form};
+ghost use Rattle.lalrpop_norm_json.specs.ItemForms.{grammar_form, IsForm};
 ghost use Rattle.lalrpop_norm_shapes.specs.Shapes as shape;
 ghost use Rattle.lalrpop_norm_shapes.specs.Shapes.{is};
-ghost use Rattle.lalrpop_norm_json.specs.ReadTrees.{IsFormOfRead};
 
 mod tree;
 
@@ -23,17 +22,16 @@ use std::alloc::Global;
 
 /// The grammar whose form in JSON the text is: members in any order, blanks as JSON has them.
 ///
-/// A grammar with an `InternToken` has no form. Of a key that an object repeats the last value counts. Forms that are
-/// not read yet are refused, as `shape` of specs/ says; `IsReadGrammar` says which trees are read.
+/// A grammar with an `InternToken` has no form. Of a key that an object repeats the last value counts.
 ///
 /// # Errors
 ///
 /// `NotATree`: the text is not JSON (127 levels of arrays and objects are read), or its value has not the shape of a
-/// grammar; so it is the form of no tree that is read. `Memory`: there was no memory for the value or the grammar.
+/// grammar; so it is the form of no tree. `Memory`: there was no memory for the value or the grammar.
 pub fn read_tree(alloc: Global, text: &str) -> Result<Grammar, TreeError>
     ensures ok { IfOk result (λ g. (d : Data) × (read text.now ≡ Some d) × (grammar_form (grammar_view g) ≡ Some d)) }
     ensures not { IsErrOf result TreeError.NotATree → (d : Data) → read text.now ≡ Some d → is shape.grammar d ≡ false }
-    ensures form { IsErrOf result TreeError.NotATree → IsFormOfRead text.now → ⊥ }
+    ensures form { IsErrOf result TreeError.NotATree → IsForm text.now → ⊥ }
 {
     let value = value_of(alloc, text)?;
     tree::grammar(alloc, &value)

@@ -37,14 +37,6 @@ triple_of (a ∷ b ∷ []) d three = cc
 triple_of (a ∷ b ∷ c ∷ []) d three = refl
 triple_of (a ∷ b ∷ c ∷ e ∷ vs) d three = absurd (omega arith)
 
-pub not_empty : (vs : List Value) → length vs ≢ 0 → fits_items (row []) (items_view vs) ≡ false
-not_empty [] other = absurd (other refl)
-not_empty (a ∷ vs) other = refl
-
-pub empty_of : (vs : List Value) → length vs ≡ 0 → items_view vs ≡ no_items
-empty_of [] none = refl
-empty_of (a ∷ vs) none = absurd (omega arith)
-
 pub natural_of : (d : Data) (n : ℕ) → option_and_then as_u64 (as_number d) ≡ Some n → d ≡ number (unsigned n)
 natural_of (number (unsigned m)) n e = cc
 natural_of (number (negative z)) n e = cc

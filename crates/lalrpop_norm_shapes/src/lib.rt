@@ -14,8 +14,8 @@ mod value;
 use serde_json::Value;
 use std::alloc::Global;
 pub use value::{
-    Case, TreeError, case_of, eight_fields, five_fields, four_fields, items, natural, nothing,
-    only_field, pair, present, seven_fields, text, three_fields, triple, truth, two_fields,
+    Case, TreeError, case_of, eight_fields, five_fields, four_fields, items, natural, only_field,
+    pair, present, seven_fields, text, three_fields, triple, truth, two_fields,
 };
 
 /// The value that a JSON text says. Of a key that an object repeats the last value counts.

@@ -3,7 +3,7 @@ ghost use Rattle.std.specs.Prelude.{◌≡◌, [], ◌∷◌, Some, None, IfOk, 
 ghost use Rattle.serde_json.specs.Data.{null, boolean, number, unsigned, string, array, object, item, no_items, member, no_members};
 ghost use Rattle.serde_json.specs.Find.{as_object, as_array};
 ghost use Rattle.serde_json.specs.View.{view, items_view, members_view};
-ghost use Rattle.lalrpop_norm_shapes.specs.Shapes.{is, text, truth, natural, empty};
+ghost use Rattle.lalrpop_norm_shapes.specs.Shapes.{is, text, truth, natural};
 ghost use Rattle.lalrpop_norm_shapes.specs.Parts.{starts_with, is_no_members, are_keys, has_fields, is_variant, is_pair, is_triple, is_null, case_form};
 
 use serde_json::Value;
@@ -512,20 +512,6 @@ pub fn natural(value: &Value) -> Result<usize, TreeError>
     match value.as_u64() {
         Some(n) => Ok(n as usize),
         None => Err(TreeError::NotATree),
-    }
-}
-
-/// An array of nothing.
-#[tactic(auto, using(crate::proofs::Refusals::no_array, crate::proofs::Refusals::not_empty, crate::proofs::Refusals::empty_of))]
-pub fn nothing(value: &Value) -> Result<(), TreeError>
-    ensures ok { IfOk result (λ _. view value.now ≡ array no_items) }
-    ensures err { IsErrOf result TreeError.NotATree → is empty (view value.now) ≡ false }
-{
-    let list = items(value)?;
-    if list.is_empty() {
-        Ok(())
-    } else {
-        Err(TreeError::NotATree)
     }
 }
 

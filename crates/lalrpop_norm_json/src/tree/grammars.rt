@@ -11,7 +11,7 @@ use super::names::{span, string};
 use super::parts::{list, pushed};
 use super::rules::rule;
 use super::tokens::{extern_token, match_token};
-use lalrpop_norm_shapes::{Case, TreeError, case_of, eight_fields, items, nothing};
+use lalrpop_norm_shapes::{Case, TreeError, case_of, eight_fields, items};
 use lalrpop_norm_tree::grammar::parse_tree::{Grammar, GrammarItem};
 use serde_json::Value;
 use std::alloc::Global;
@@ -46,7 +46,7 @@ fn grammar_items(alloc: Global, value: &Value) -> Result<Vec<GrammarItem>, TreeE
     Ok(read)
 }
 
-/// The grammar whose form the value is: no parameter and no where clause is read yet.
+/// The grammar whose form the value is.
 #[tactic(auto, using(lalrpop_norm_shapes::proofs::Refusals::refusals))]
 pub fn grammar(alloc: Global, value: &Value) -> Result<Grammar, TreeError>
     ensures ok { IfOk result (λ g. grammar_form (grammar_view g) ≡ Some (view value.now)) }
@@ -64,20 +64,20 @@ pub fn grammar(alloc: Global, value: &Value) -> Result<Grammar, TreeError>
             "type_parameters",
             "where_clauses",
         )?;
-    nothing(parameters)?;
-    nothing(where_clauses)?;
     let span = span(at)?;
     let prefix = string(alloc, prefix)?;
     let module_attributes = list(alloc, module_attributes)?;
     let type_parameters = list(alloc, type_parameters)?;
+    let parameters = list(alloc, parameters)?;
+    let where_clauses = list(alloc, where_clauses)?;
     let attributes = attributes(alloc, listed)?;
     let items = grammar_items(alloc, held)?;
     Ok(Grammar {
         prefix,
         span,
         type_parameters,
-        parameters: Vec::new(alloc),
-        where_clauses: Vec::new(alloc),
+        parameters,
+        where_clauses,
         items,
         attributes,
         module_attributes,

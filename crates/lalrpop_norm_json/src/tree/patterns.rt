@@ -4,7 +4,7 @@ ghost use Rattle.serde_json.specs.Data.{array};
 ghost use Rattle.serde_json.specs.View.{view};
 ghost use Rattle.lalrpop_norm_tree.specs.Types.{type_view};
 ghost use Rattle.lalrpop_norm_parts.specs.Paths.{path_view};
-ghost use Rattle.lalrpop_norm_parts.specs.Patterns.{pattern_kind_view, pattern_view, patterns_view, field_view, fields_view};
+ghost use Rattle.lalrpop_norm_pattern.specs.Patterns.{pattern_kind_view, pattern_view, patterns_view, field_view, fields_view};
 ghost use Rattle.lalrpop_norm_shapes.specs.Shapes as shape;
 ghost use Rattle.lalrpop_norm_shapes.specs.Shapes.{is, fits, place, one, many, arrayed, row};
 ghost use Rattle.lalrpop_norm_json.specs.Json as json;
@@ -14,6 +14,7 @@ ghost use Rattle.lalrpop_norm_json.specs.PatternForms.{pattern_kind_form, patter
 
 use super::names::{atom, path, span, string};
 use super::parts::pushed;
+use super::types::type_ref;
 use lalrpop_norm_shapes::{
     Case, TreeError, case_of, items, natural, pair, three_fields, triple, truth, two_fields,
 };
@@ -47,6 +48,7 @@ fn pattern_kind(alloc: Global, value: &Value) -> Result<PatternKind<TypeRef>, Tr
                 Ok(PatternKind::TupleStruct(path, patterns))
             }
             "Usize" => Ok(PatternKind::Usize(natural(held)?)),
+            "Choose" => Ok(PatternKind::Choose(type_ref(alloc, held)?)),
             "CharLiteral" => Ok(PatternKind::CharLiteral(atom(alloc, held)?)),
             "String" => Ok(PatternKind::String(string(alloc, held)?)),
             _ => Err(TreeError::NotATree),

@@ -2,16 +2,17 @@
 ghost use Rattle.std.specs.Prelude.{◌≡◌, codes, IfOk, IsErrOf, false};
 ghost use Rattle.serde_json.specs.Data.{array};
 ghost use Rattle.serde_json.specs.View.{view};
-ghost use Rattle.lalrpop_norm_tree.specs.Symbols.{kind_view, symbol_view, expr_view, parts_view};
+ghost use Rattle.lalrpop_norm_tree.specs.Symbols.{kind_view, symbol_view, expr_view, parts_view, argument_pattern_view, argument_patterns_view, tuple_view};
 ghost use Rattle.lalrpop_norm_shapes.specs.Shapes as shape;
 ghost use Rattle.lalrpop_norm_shapes.specs.Shapes.{is, fits, place, many};
 ghost use Rattle.lalrpop_norm_json.specs.Json.{variant};
-ghost use Rattle.lalrpop_norm_json.specs.SymbolForms.{op_form, name_form, kind_form, part_form, parts_form, group_form};
+ghost use Rattle.lalrpop_norm_json.specs.SymbolForms.{op_form, name_form, argument_pattern_form, argument_patterns_form, tuple_form, kind_form, part_form, parts_form, group_form};
 
 use super::names::{atom, span, terminal};
 use lalrpop_norm_shapes::{Case, TreeError, case_of, items, only_field, pair, truth, two_fields};
 use lalrpop_norm_tree::grammar::parse_tree::{
-    ExprSymbol, MacroSymbol, Name, NonterminalString, RepeatOp, RepeatSymbol, Symbol, SymbolKind,
+    ArgPattern, ExprSymbol, MacroSymbol, Name, NonterminalString, RepeatOp, RepeatSymbol, Symbol,
+    SymbolKind, Tuple,
 };
 use serde_json::Value;
 use std::alloc::Global;
@@ -43,6 +44,47 @@ fn name(alloc: Global, value: &Value) -> Result<Name, TreeError>
     Ok(Name { mutable, name })
 }
 
+#[cycle(tuple)]
+#[tactic(auto, using(lalrpop_norm_shapes::proofs::Refusals::refusals))]
+fn argument_pattern(alloc: Global, value: &Value) -> Result<ArgPattern, TreeError>
+    ensures ok { IfOk result (λ p. view value.now ≡ argument_pattern_form (argument_pattern_view p)) }
+    ensures err { IsErrOf result TreeError.NotATree → is shape.argument_pattern (view value.now) ≡ false }
+{
+    match case_of(value)? {
+        Case::Bare(_) => Err(TreeError::NotATree),
+        Case::Of(variant, held) => match variant {
+            "Name" => Ok(ArgPattern::Name(name(alloc, held)?)),
+            "Tuple" => Ok(ArgPattern::Tuple(tuple(alloc, held)?)),
+            _ => Err(TreeError::NotATree),
+        },
+    }
+}
+
+/// Names for the parts of a tuple.
+#[cycle(tuple)]
+#[tactic(auto, using(lalrpop_norm_shapes::proofs::Refusals::refusals))]
+fn tuple(alloc: Global, value: &Value) -> Result<Tuple, TreeError>
+    ensures ok { IfOk result (λ t. view value.now ≡ tuple_form (tuple_view t)) }
+    ensures err { IsErrOf result TreeError.NotATree → is shape.name_tuple (view value.now) ≡ false }
+{
+    let tuples = argument_patterns(alloc, only_field(value, "tuples")?)?;
+    Ok(Tuple { tuples })
+}
+
+#[cycle(tuple)]
+#[tactic(auto, using(lalrpop_norm_shapes::proofs::Refusals::refusals))]
+fn argument_patterns(alloc: Global, value: &Value) -> Result<Vec<ArgPattern>, TreeError>
+    ensures ok { IfOk result (λ ps. view value.now ≡ array (argument_patterns_form (argument_patterns_view ps.items))) }
+    ensures err { IsErrOf result TreeError.NotATree → fits (place (many shape.argument_pattern)) (view value.now) ≡ false }
+{
+    let values = items(value)?;
+    let mut patterns = Vec::new(alloc);
+    for value in values {
+        patterns.push(argument_pattern(alloc, value)?)?;
+    }
+    Ok(patterns)
+}
+
 #[cycle(symbol)]
 #[tactic(auto, using(lalrpop_norm_shapes::proofs::Refusals::refusals))]
 pub(super) fn kind(alloc: Global, value: &Value) -> Result<SymbolKind, TreeError>
@@ -65,6 +107,7 @@ pub(super) fn kind(alloc: Global, value: &Value) -> Result<SymbolKind, TreeError
             "Repeat" => repeated(alloc, held),
             "Choose" => chosen(alloc, held),
             "Name" => named(alloc, held),
+            "Tuple" => tupled(alloc, held),
             _ => Err(TreeError::NotATree),
         },
     }
@@ -130,6 +173,19 @@ fn named(alloc: Global, value: &Value) -> Result<SymbolKind, TreeError>
     let name = name(alloc, first)?;
     let symbol = symbol(alloc, second)?;
     Ok(SymbolKind::Name(name, Box::new(alloc, symbol)?))
+}
+
+/// The symbol whose value is a tuple with names for its parts.
+#[cycle(symbol)]
+#[tactic(auto, using(lalrpop_norm_shapes::proofs::Refusals::refusals))]
+fn tupled(alloc: Global, value: &Value) -> Result<SymbolKind, TreeError>
+    ensures ok { IfOk result (λ k. variant (codes "Tuple") (view value.now) ≡ kind_form (kind_view k)) }
+    ensures err { IsErrOf result TreeError.NotATree → is shape.kind (variant (codes "Tuple") (view value.now)) ≡ false }
+{
+    let (first, second) = pair(value)?;
+    let names = tuple(alloc, first)?;
+    let symbol = symbol(alloc, second)?;
+    Ok(SymbolKind::Tuple(names, Box::new(alloc, symbol)?))
 }
 
 #[cycle(symbol)]

@@ -8,16 +8,16 @@ ghost use Rattle.lalrpop_norm_json.specs.Json.{variant};
 ghost use Rattle.lalrpop_norm_json.specs.ItemForms.{enum_token_form, extern_token_form, mapping_form, match_item_form, match_token_form};
 
 use super::attributes::attributes;
-use super::names::{literal, span, terminal};
+use super::names::{atom, literal, span, terminal};
 use super::parts::{FromValue, list, maybe};
 use super::patterns::pattern;
 use super::types::type_ref;
 use lalrpop_norm_shapes::{
-    Case, TreeError, case_of, four_fields, nothing, only_field, pair, three_fields, triple,
-    two_fields,
+    Case, TreeError, case_of, four_fields, only_field, pair, three_fields, triple, two_fields,
 };
 use lalrpop_norm_tree::grammar::parse_tree::{
-    Conversion, EnumToken, ExternToken, MatchContents, MatchItem, MatchMapping, MatchToken,
+    AssociatedType, Conversion, EnumToken, ExternToken, MatchContents, MatchItem, MatchMapping,
+    MatchToken,
 };
 use serde_json::Value;
 use std::alloc::Global;
@@ -172,7 +172,29 @@ impl FromValue for EnumToken {
     }
 }
 
-/// No associated type is read yet.
+impl FromValue for AssociatedType {
+    ghost use Rattle.lalrpop_norm_tree.specs.Items.{associated_type_view};
+    ghost use Rattle.lalrpop_norm_json.specs.ItemForms.{associated_type_form};
+    ghost use Rattle.lalrpop_norm_shapes.specs.Shapes as shape;
+
+    ghost form = { λ a. associated_type_form (associated_type_view a) };
+
+    ghost named = { shape.associated_type };
+
+    #[tactic(auto, using(lalrpop_norm_shapes::proofs::Refusals::refusals))]
+    fn from_value(alloc: Global, value: &Value) -> Result<AssociatedType, TreeError> {
+        let (name, of, at) = three_fields(value, "type_name", "type_ref", "type_span")?;
+        let type_span = span(at)?;
+        let type_name = atom(alloc, name)?;
+        let type_ref = type_ref(alloc, of)?;
+        Ok(AssociatedType {
+            type_span,
+            type_name,
+            type_ref,
+        })
+    }
+}
+
 #[tactic(auto, using(lalrpop_norm_shapes::proofs::Refusals::refusals))]
 pub(super) fn extern_token(alloc: Global, value: &Value) -> Result<ExternToken, TreeError>
     ensures ok { IfOk result (λ t. view value.now ≡ extern_token_form (extern_token_view t)) }
@@ -185,11 +207,11 @@ pub(super) fn extern_token(alloc: Global, value: &Value) -> Result<ExternToken, 
         "span",
     )?;
     let span = span(at)?;
-    nothing(associated)?;
+    let associated_types = list(alloc, associated)?;
     let enum_token = maybe(alloc, enum_token)?;
     Ok(ExternToken {
         span,
-        associated_types: Vec::new(alloc),
+        associated_types,
         enum_token,
     })
 }

@@ -16,7 +16,7 @@ use super::symbols::kind;
 use lalrpop_norm_shapes::{
     Case, TreeError, case_of, four_fields, items, present, three_fields, truth, two_fields,
 };
-use lalrpop_norm_tree::grammar::parse_tree::{Lifetime, Path, TypeRef};
+use lalrpop_norm_tree::grammar::parse_tree::{Lifetime, Parameter, Path, TypeRef};
 use serde_json::Value;
 use std::alloc::Global;
 
@@ -31,6 +31,24 @@ impl FromValue for TypeRef {
 
     fn from_value(alloc: Global, value: &Value) -> Result<TypeRef, TreeError> {
         type_ref(alloc, value)
+    }
+}
+
+impl FromValue for Parameter {
+    ghost use Rattle.lalrpop_norm_tree.specs.Types.{parameter_view};
+    ghost use Rattle.lalrpop_norm_json.specs.TypeForms.{parameter_form};
+    ghost use Rattle.lalrpop_norm_shapes.specs.Shapes as shape;
+
+    ghost form = { λ p. parameter_form (parameter_view p) };
+
+    ghost named = { shape.parameter };
+
+    #[tactic(auto, using(lalrpop_norm_shapes::proofs::Refusals::refusals))]
+    fn from_value(alloc: Global, value: &Value) -> Result<Parameter, TreeError> {
+        let (name, of) = two_fields(value, "name", "ty")?;
+        let name = atom(alloc, name)?;
+        let ty = type_ref(alloc, of)?;
+        Ok(Parameter { name, ty })
     }
 }
 

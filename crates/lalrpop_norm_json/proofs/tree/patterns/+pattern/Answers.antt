@@ -1,6 +1,6 @@
 use Rattle.std.proofs.Common.{refl, ap, sym, ◌∙◌}
 use Rattle.serde_json.specs.Data.{array, object}
-use Rattle.lalrpop_norm_parts.proofs.PatternViews.{pattern_seen}
+use Rattle.lalrpop_norm_pattern.proofs.PatternViews.{pattern_seen}
 use Rattle.lalrpop_norm_tree.specs.Types.{type_view}
 use Rattle.lalrpop_norm_json.specs.PatternForms.{pattern_form, field_form}
 use Rattle.lalrpop_norm_shapes.proofs.Refusals.{whole_list}

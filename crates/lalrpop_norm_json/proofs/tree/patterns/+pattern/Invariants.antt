@@ -1,7 +1,7 @@
 use Rattle.std.proofs.Common.{◌≡◌, map, take}
 use Rattle.serde_json.specs.View.{view}
 use Rattle.lalrpop_norm_tree.specs.Types.{type_view}
-use Rattle.lalrpop_norm_parts.specs.Patterns.{pattern_view, field_view}
+use Rattle.lalrpop_norm_pattern.specs.Patterns.{pattern_view, field_view}
 use Rattle.lalrpop_norm_json.specs.PatternForms.{pattern_form, field_form}
 use Rattle.lalrpop_norm_shapes.specs.Weight.{weight}
 use Rattle.lalrpop_norm_json.proofs.tree.patterns.+pattern.Given as goal

@@ -20,6 +20,9 @@ decreases-repeated l = weight (view l.value.now) + weight (view l.value.now)
 abbrev pub decreases-named : goal.decreases-named
 decreases-named l = weight (view l.value.now) + weight (view l.value.now)
 
+abbrev pub decreases-tupled : goal.decreases-tupled
+decreases-tupled l = weight (view l.value.now) + weight (view l.value.now)
+
 abbrev pub decreases-group : goal.decreases-group
 decreases-group l = weight (view l.value.now) + weight (view l.value.now)
 
