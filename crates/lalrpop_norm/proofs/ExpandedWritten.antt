@@ -1,7 +1,7 @@
 -- What a written grammar without faults says of its enabled grammar: its tokens are as the pass on tokens asks, nothing in it names the
 -- error terminal, and no symbol stands in a declared type.
 use Rattle.std.proofs.Common.{◌≡◌, ◌<◌, ◌≤◌, inl, inr, ℕ, Bool, true, false, not, ◌||◌, List, [], ◌∷◌, ◌++◌, length, map, Option, Some, None, refl, ap, sym, subst, ◌∙◌, arith}
-use Rattle.std.specs.Prelude.{flat_map, filter, option_map, option_to_list, is_some, if◌then◌else◌}
+use Rattle.std.specs.Prelude.{flat_map, filter, filter_map, option_map, option_to_list, is_some, if◌then◌else◌}
 use Rattle.std.specs.List.{list_any}
 use Rattle.std.proofs.lemmas.Grind.{flat_map-append}
 use Rattle.std.proofs.lemmas.List.{length-map}
@@ -17,7 +17,7 @@ use Rattle.lalrpop_norm_tree.specs.declared.items.MatchItem.TheVariants.{CatchAl
 use Rattle.lalrpop_norm_tree.specs.declared.items.MatchMapping.TheVariants.{Terminal, Skip}
 use Rattle.lalrpop_norm_tree.specs.Items.{AlternativeData, RuleData, AssociatedTypeData, ConversionData, EnumTokenData, ExternTokenData, MatchTokenData, InternTokenData, ItemData, GrammarData, match_item, extern_item, intern_item, rule_item, use_item}
 use Rattle.lalrpop_norm_tree.specs.LoweredTypes.{holds_symbol, any_holds_symbol, result_holds_symbol}
-use Rattle.lalrpop_norm_parts.specs.Patterns as pattern
+use Rattle.lalrpop_norm_pattern.specs.Patterns as pattern
 use Rattle.lalrpop_norm_tree.specs.Symbols.{Kind, Part, Parts, group, ambiguous_id, terminal, nonterminal, call, repeated, chosen, named, tupled, lookahead, lookbehind, error_terminal, at, no_parts, part_and}
 use Rattle.lalrpop_norm_tree.specs.Types.{TypeData, TypesData, MaybeType, ParameterData, tuple, slice, nominal, reference, trait_object, of_lifetime, id, of_symbol, function, no_types, type_and, no_type, returns}
 use Rattle.lalrpop_norm_theory.specs.Rounds.{In}
@@ -43,10 +43,13 @@ use Rattle.lalrpop_norm_front.specs.AlternativeFaults.{alternative_faults}
 use Rattle.lalrpop_norm_front.specs.GrammarFaults.{rule_faults, mapping_faults, match_beside_extern_faults, match_faults, associated_faults, types_faults, conversion_faults, enum_faults, extern_faults, is_known_type, unknown_grammar_faults, parameter_faults, clause_faults, is_match, is_extern, item_faults, items_faults, enum_span, place_in, blocks_in, validate_faults}
 use Rattle.lalrpop_norm_front.specs.Walks.{types_along, items_along}
 use Rattle.lalrpop_norm_front.proofs.PlaceLemmas.{types_placed, items_placed}
-use Rattle.lalrpop_norm.specs.Grammars.{externs_of}
 use Rattle.lalrpop_norm.proofs.ExpandedScopes.{IsOverKind, IsOver, AreOver}
 use Rattle.lalrpop_norm.proofs.ExpandedTokens.{HasTokens}
 use Rattle.lalrpop_norm.proofs.ExpandedSteps.{AreFitRules, enabled_rules_fit}
+
+-- the extern blocks among items
+abbrev externs_of : List ItemData → List ExternTokenData
+externs_of items = filter_map extern_token_of items
 
 -- a terminal other than the error terminal
 abbrev pub IsPlainTerminal : TerminalString → Type 0

@@ -1,9 +1,6 @@
 mod WordLemmas
 mod MapCompositions
 mod CapLemmas
-pub mod WalkLemmas
-pub mod KeyLemmas
-pub mod LaterLemmas
 pub mod ShapeTrees
 pub mod PassLemmas
 pub mod ExpandedParts

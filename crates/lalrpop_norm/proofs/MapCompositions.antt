@@ -1,13 +1,13 @@
 -- Mapping twice is mapping the composition.
 use Rattle.std.proofs.Common.{◌≡◌, Bor, Result, Ok, sym, ap, ◌∙◌}
 use Rattle.std.specs.Fn.{Mut}
-use Rattle.lalrpop_norm_parts.specs.declared.pattern.Pattern.{Pattern}
+use Rattle.lalrpop_norm_pattern.specs.declared.pattern.Pattern.{Pattern}
 use Rattle.lalrpop_norm_parts.specs.declared.bound.TypeBound.{TypeBound}
-use Rattle.lalrpop_norm_parts.specs.Patterns.{pattern_view}
-use Rattle.lalrpop_norm_parts.specs.MappedPatterns.{mapped_pattern}
+use Rattle.lalrpop_norm_pattern.specs.Patterns.{pattern_view}
+use Rattle.lalrpop_norm_pattern.specs.MappedPatterns.{mapped_pattern}
 use Rattle.lalrpop_norm_parts.specs.Bounds.{bound_view}
 use Rattle.lalrpop_norm_parts.specs.MappedBounds.{mapped_bound}
-use Rattle.lalrpop_norm_parts.proofs.MapLaws.{pattern_map_gives, pattern_twice}
+use Rattle.lalrpop_norm_pattern.proofs.MapLaws.{pattern_map_gives, pattern_twice}
 use Rattle.lalrpop_norm_parts.proofs.BoundMapLaws.{bound_map_gives, bound_twice}
 use Rattle.lalrpop_norm.specs.Maps.{Computes, IsMapped, IsMappedBound, PatternsCompose, BoundsCompose}
 

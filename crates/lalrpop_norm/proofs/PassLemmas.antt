@@ -11,6 +11,7 @@ use Rattle.lalrpop_norm_faults.specs.declared.failure.NormFailure.TheVariants.{R
 use Rattle.lalrpop_norm_faults.specs.Faults.{Fault, IsFirst, Refuses, Finding, sure, sure_ones, IsTold, RefusesAmong}
 use Rattle.lalrpop_norm_faults.proofs.FaultLemmas.{exit_at}
 use Rattle.lalrpop_norm_faults.proofs.FindingLemmas.{sure_all, sure_append, first_told, told_left, told_right, refuses_among}
+use Rattle.lalrpop_norm_repr.specs.Closed.{IsClosed}
 use Rattle.lalrpop_norm_repr.specs.Lowered.{LoweredGrammar}
 use Rattle.lalrpop_norm_repr.specs.Tables.{TypeTable}
 use Rattle.lalrpop_norm_model.specs.CheckedTokens.{IsEnteredWith, IsEntered, IsChecked}
@@ -44,8 +45,8 @@ use Rattle.lalrpop_norm_late.specs.Made.{types_by_name}
 use Rattle.lalrpop_norm_late.specs.Shape.{IsLoweringOf}
 use Rattle.lalrpop_norm.specs.Faithful.{grammar_with_levels, grammar_of_plain_rules, IsFaithful}
 use Rattle.lalrpop_norm.specs.Normalize.{early_faults, late_faults, plain_findings, IsNormalized}
-use Rattle.lalrpop_norm.specs.Passed.{IsTypedByInference, IsTypedLowering, IsPlain, IsCheckedLowering, IsPassed}
-use Rattle.lalrpop_norm.specs.PlainLaws.{PassesExpansion}
+use Rattle.lalrpop_norm.specs.Passed.{IsTypedByInference, IsTypedLowering, IsPlain, IsCheckedLowering}
+use Rattle.lalrpop_norm.specs.PlainLaws.{PassesExpansion, PassesLowering}
 use Rattle.lalrpop_norm.proofs.ComposedFaithful.{plain_is_expanded, lowered_faithful}
 use Rattle.lalrpop_norm.proofs.ExpandedActive.{plain_active, items_kept}
 use Rattle.lalrpop_norm.proofs.GroundedTypes.{rule_typed}
@@ -213,6 +214,15 @@ all_active : (fs : Features) (p h : GrammarData) → IsPlain fs p → IsEntered 
 all_active fs p h plain entered =
     ap (λ (is : List ItemData). record h { items = is })
     (items_kept (active_item fs) (λ m. refl) (λ t. refl) (λ r. refl) (λ u. refl) h.items (λ t i. ap extern_item (entered_active fs p h plain entered t i)))
+
+-- no pass finds anything wrong with a written grammar, and it is lowered by its plain rules with their tokens
+pub record IsPassed {R : Type 0} (lexer : Lexer R) (fs : Features) (limit : ℕ) (g : GrammarData) (l : LoweredGrammar) : Type 0 where
+  pub checked : GrammarData
+  pub tokens : IsChecked lexer (grammar_of_plain_rules fs g limit) checked
+  pub types : TypeTable
+  pub passes : PassesLowering fs g limit checked types
+  pub shape : IsLoweringOf checked (all_rules checked) types l
+  pub closed : IsClosed l
 
 -- what is lowered from the plain rules has passed
 pub passed : {R : Type 0} (lexer : Lexer R) (fs : Features) (limit : ℕ) (g p : GrammarData) → PassesExpansion fs g limit → p ≡ grammar_of_plain_rules fs g limit →

@@ -1,7 +1,3 @@
-pub mod Grammars
-pub mod Later
-pub mod LaterWalks
-pub mod LaterWords
 pub mod Normalize
 pub mod Passed
 pub mod Derivations

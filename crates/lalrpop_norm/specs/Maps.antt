@@ -2,11 +2,11 @@
 use Rattle.std.specs.Prelude.{◌≡◌, Result, Ok}
 use Rattle.std.specs.Borrow.{Bor}
 use Rattle.std.specs.Fn.{Mut, Called, CalledAt}
-use Rattle.lalrpop_norm_parts.specs.declared.pattern.Pattern.{Pattern}
+use Rattle.lalrpop_norm_pattern.specs.declared.pattern.Pattern.{Pattern}
 use Rattle.lalrpop_norm_parts.specs.declared.bound.TypeBound.{TypeBound}
 use Rattle.lalrpop_norm_parts.specs.Walks.{Answered}
-use Rattle.lalrpop_norm_parts.specs.Patterns.{pattern_view}
-use Rattle.lalrpop_norm_parts.specs.MappedPatterns.{mapped_pattern, pattern_shape, chosen_in_pattern}
+use Rattle.lalrpop_norm_pattern.specs.Patterns.{pattern_view}
+use Rattle.lalrpop_norm_pattern.specs.MappedPatterns.{mapped_pattern, pattern_shape, chosen_in_pattern}
 use Rattle.lalrpop_norm_parts.specs.Bounds.{bound_view}
 use Rattle.lalrpop_norm_parts.specs.MappedBounds.{mapped_bound, bound_shape, types_in_bound}
 

@@ -20,7 +20,6 @@ use Rattle.lalrpop_norm_repr.specs.Tables.{TypeTable}
 use Rattle.lalrpop_norm_tyinfer.specs.Inferred.{IsInferred}
 use Rattle.lalrpop_norm_late.specs.Shape.{IsLoweringOf}
 use Rattle.lalrpop_norm.specs.Faithful.{grammar_with_levels, grammar_of_plain_rules}
-use Rattle.lalrpop_norm.specs.Later.{later_faults}
 
 -- Where the passes up to the expansion refuse a grammar, in their order: what no grammar may look like; of what is enabled, names,
 -- levels, and names once more; of the grammar with levels, its expansion in so many rounds.
@@ -39,13 +38,9 @@ late_faults plain = inference_faults plain ++ lowering_faults plain (inferred_ta
 abbrev pub plain_findings : GrammarData → List (Finding LexerPlace)
 plain_findings plain = token_findings plain ++ map sure (late_faults (entered_grammar plain))
 
--- what the passes look for, in their order
-abbrev pub pass_findings : Features → ℕ → GrammarData → List (Finding LexerPlace)
-pass_findings fs limit g = map sure (early_faults fs limit g) ++ plain_findings (grammar_of_plain_rules fs g limit)
-
--- What normalization looks for: what a later stage brings, and then what the passes look for.
+-- what normalization looks for: what its passes look for, in their order
 abbrev pub normalize_findings : Features → ℕ → GrammarData → List (Finding LexerPlace)
-normalize_findings fs limit g = map sure (later_faults g) ++ pass_findings fs limit g
+normalize_findings fs limit g = map sure (early_faults fs limit g) ++ plain_findings (grammar_of_plain_rules fs g limit)
 
 -- What stands at the one place where a fault may go untold: a refusal of the lexer that is true of the plain rules.
 abbrev pub StandsThere : {R : Type 0} → Lexer R → Features → ℕ → GrammarData → LexerPlace → Fault → Type 0

@@ -1,5 +1,5 @@
 -- What is known where the passes find nothing wrong.
-use Rattle.std.specs.Prelude.{◌≡◌, ℕ, []}
+use Rattle.std.specs.Prelude.{◌≡◌, []}
 use Rattle.lalrpop_norm_tree.specs.Items.{ExternTokenData, GrammarData, extern_item}
 use Rattle.lalrpop_norm_theory.specs.Rounds.{In}
 use Rattle.lalrpop_norm_model.specs.CheckedTokens.{IsChecked}
@@ -18,8 +18,6 @@ use Rattle.lalrpop_norm_tyinfer.specs.Inferred.{IsInferred}
 use Rattle.lalrpop_norm_late.specs.Active.{active_grammar}
 use Rattle.lalrpop_norm_late.specs.Made.{types_by_name}
 use Rattle.lalrpop_norm_late.specs.Shape.{IsLoweringOf}
-use Rattle.lalrpop_norm.specs.Faithful.{grammar_of_plain_rules}
-use Rattle.lalrpop_norm.specs.PlainLaws.{PassesLowering}
 
 -- a grammar is typed by each table that inference may answer
 abbrev pub IsTypedByInference : Features → GrammarData → Type 0
@@ -47,12 +45,3 @@ pub record IsCheckedLowering {R : Type 0} (lexer : Lexer R) (fs : Features) (pla
   pub supplied : token_faults plain ≡ []
   pub tokens : IsChecked lexer plain checked
   pub lowered : IsTypedLowering fs checked l
-
--- no pass finds anything wrong with a written grammar, and it is lowered by its plain rules with their tokens
-pub record IsPassed {R : Type 0} (lexer : Lexer R) (fs : Features) (limit : ℕ) (g : GrammarData) (l : LoweredGrammar) : Type 0 where
-  pub checked : GrammarData
-  pub tokens : IsChecked lexer (grammar_of_plain_rules fs g limit) checked
-  pub types : TypeTable
-  pub passes : PassesLowering fs g limit checked types
-  pub shape : IsLoweringOf checked (all_rules checked) types l
-  pub closed : IsClosed l

@@ -5,7 +5,6 @@
 #![tactic(auto)]
 
 pub mod grammar;
-mod later;
 pub mod laws;
 pub mod lexer;
 pub mod normalize;

@@ -1,6 +1,6 @@
 //! The passes, one after another.
-ghost use Rattle.std.specs.Prelude.{◌≡◌, IfOk, IfErr};
-ghost use Rattle.lalrpop_norm_faults.specs.Faults.{Refuses, RefusesOr, RefusesAmong};
+ghost use Rattle.std.specs.Prelude.{◌≡◌, IfOk};
+ghost use Rattle.lalrpop_norm_faults.specs.Faults.{Refuses, RefusesAmong};
 ghost use Rattle.lalrpop_norm_tree.specs.Items as written;
 ghost use Rattle.lalrpop_norm_util.specs.Sessions.{features_view};
 ghost use Rattle.lalrpop_norm_repr.specs.Lowered as lowered;
@@ -8,13 +8,10 @@ ghost use Rattle.lalrpop_norm_repr.specs.Closed.{IsClosed};
 ghost use Rattle.lalrpop_norm_model.specs.Expanded.{IsExpanded};
 ghost use Rattle.lalrpop_norm_model.specs.LexerFaults.{StandsAtLexer};
 ghost use Rattle.lalrpop_norm.specs.Faithful.{IsFaithful, grammar_of_plain_rules};
-ghost use Rattle.lalrpop_norm.specs.Later.{later_parts};
-ghost use Rattle.lalrpop_norm.specs.LaterWords.{NamesFirst};
-ghost use Rattle.lalrpop_norm.specs.Normalize.{normalize_findings, pass_findings, plain_findings, early_faults, late_faults, StandsThere, IsNormalized};
-ghost use Rattle.lalrpop_norm.specs.Passed.{IsPlain, IsPassed, IsCheckedLowering, IsTypedLowering, IsTypedByInference};
+ghost use Rattle.lalrpop_norm.specs.Normalize.{normalize_findings, plain_findings, early_faults, late_faults, StandsThere, IsNormalized};
+ghost use Rattle.lalrpop_norm.specs.Passed.{IsPlain, IsCheckedLowering, IsTypedLowering, IsTypedByInference};
 ghost use Rattle.lalrpop_norm.specs.PlainLaws.{PassesExpansion};
 
-use crate::later::refuse_later_parts;
 use lalrpop_norm_expand::macro_expand::expand_resolved;
 use lalrpop_norm_faults::NormResult;
 use lalrpop_norm_front::cond_comp::remove_disabled_decls;
@@ -33,9 +30,8 @@ use std::alloc::Global;
 /// types. The grammar is consumed, also where it is refused. The session tells which features are on, how many rounds of
 /// expansion may make rules, and which lexer makes the tokenizer of a grammar without an extern enum.
 ///
-/// Errors: F0 (`NotYet`) at the grammar's span where it holds something that a later stage of this library brings; else the first
-/// fault in the order of the passes, at its place (docs/FAULTS.md says which are answered today), where a refusal of the lexer (F42
-/// to F44) is told only where the lexer finds it; `Memory`.
+/// Errors: the first fault in the order of the passes, at its place (docs/FAULTS.md lists them), where a refusal of the lexer (F42 to
+/// F44) is told only where the lexer finds it; `Memory`.
 pub fn normalize<L: Lexer>(
     alloc: Global,
     session: &Session<L>,
@@ -45,25 +41,9 @@ pub fn normalize<L: Lexer>(
     // other before it, memory aside.
     ensures refuses { RefusesAmong (StandsThere (L.relations session.now.lexer) (features_view session.now.features) session.now.macro_recursion_limit (written.grammar_view grammar))
         result (normalize_findings (features_view session.now.features) session.now.macro_recursion_limit (written.grammar_view grammar)) }
-    // F0 names the first part of a later stage.
-    ensures named { IfErr result (NamesFirst (later_parts (written.grammar_view grammar))) }
     ensures normalized { IfOk result (λ l. IsNormalized (L.relations session.now.lexer) (features_view session.now.features) session.now.macro_recursion_limit (written.grammar_view grammar) (lowered.lowered_grammar_view l)) }
     ensures closed { IfOk result (λ l. IsClosed (lowered.lowered_grammar_view l)) }
     ensures faithful { IfOk result (λ l. IsFaithful (L.relations session.now.lexer) (features_view session.now.features) (written.grammar_view grammar) (lowered.lowered_grammar_view l)) }
-{
-    refuse_later_parts(alloc, &grammar)?;
-    run_passes(alloc, session, grammar)
-}
-
-/// Runs the passes over a grammar.
-fn run_passes<L: Lexer>(
-    alloc: Global,
-    session: &Session<L>,
-    grammar: parse_tree::Grammar,
-) -> NormResult<repr::Grammar>
-    ensures refuses { RefusesAmong (StandsThere (L.relations session.now.lexer) (features_view session.now.features) session.now.macro_recursion_limit (written.grammar_view grammar))
-        result (pass_findings (features_view session.now.features) session.now.macro_recursion_limit (written.grammar_view grammar)) }
-    ensures lowered { IfOk result (λ l. IsPassed (L.relations session.now.lexer) (features_view session.now.features) session.now.macro_recursion_limit (written.grammar_view grammar) (lowered.lowered_grammar_view l)) }
 {
     let plain = expand(alloc, session, grammar)?;
     check_and_lower(alloc, session, plain)
