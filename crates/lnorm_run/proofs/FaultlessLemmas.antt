@@ -10,8 +10,7 @@ use Rattle.lalrpop_norm_lexer.specs.CheckOnly.{of_regex}
 use Rattle.lalrpop_norm_lexer.proofs.CheckedLemmas.{none_refused_of_checked}
 use Rattle.lalrpop_norm_repr.specs.Lowered.{LoweredGrammar}
 use Rattle.lalrpop_norm.specs.Faithful.{grammar_of_plain_rules}
-use Rattle.lalrpop_norm.specs.Later.{later_faults}
-use Rattle.lalrpop_norm.specs.Normalize.{early_faults, late_faults, plain_findings, pass_findings, IsNormalized}
+use Rattle.lalrpop_norm.specs.Normalize.{early_faults, late_faults, plain_findings, IsNormalized}
 use Rattle.lalrpop_norm_model.specs.EnteredGrammars.{entered_grammar}
 use Rattle.lalrpop_norm_faults.proofs.FaultLemmas.{left_none, right_none}
 use Rattle.lnorm_run.specs.Settings.{Settings}
@@ -55,10 +54,8 @@ pub no_fault_stands : (s : Settings) (g : GrammarData) (l : LoweredGrammar) → 
 no_fault_stands s g l h n =
     let plain = grammar_of_plain_rules s.features g s.limit in
     let at = StandsAtPlace s g in
-    none_of_two at (map sure (later_faults g)) (pass_findings s.features s.limit g)
-    (none_sure at (later_faults g))
-    (none_of_two at (map sure (early_faults s.features s.limit g)) (plain_findings plain)
+    none_of_two at (map sure (early_faults s.features s.limit g)) (plain_findings plain)
     (none_sure at (early_faults s.features s.limit g))
     (none_of_two at (token_findings plain) (map sure (late_faults (entered_grammar plain)))
     (tokens_with (extern_enum plain) plain (λ none f r. none_refused_of_checked plain n.checked f none n.tokens r))
-    (none_sure at (late_faults (entered_grammar plain))))) h
+    (none_sure at (late_faults (entered_grammar plain)))) h

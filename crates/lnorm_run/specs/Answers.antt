@@ -1,5 +1,5 @@
 -- What the text and the faults of an input are.
-use Rattle.std.specs.Prelude.{◌≡◌, ℕ, List, [], Some, true, IsUtf8}
+use Rattle.std.specs.Prelude.{◌≡◌, ℕ, List, Some, true, IsUtf8}
 use Rattle.serde_json.specs.Data.{Data}
 use Rattle.serde_json.specs.Read.{read}
 use Rattle.lalrpop_norm_parts.specs.declared.names.Span.{Span}
@@ -13,7 +13,6 @@ use Rattle.lalrpop_norm_shapes.specs.Shapes as shape
 use Rattle.lalrpop_norm_shapes.specs.Shapes.{is}
 use Rattle.lnorm_run.specs.Settings.{Settings}
 use Rattle.lalrpop_norm.specs.Faithful.{IsFaithful}
-use Rattle.lalrpop_norm.specs.Later.{later_parts}
 use Rattle.lalrpop_norm.specs.Normalize.{normalize_findings, StandsThere, IsNormalized}
 use Rattle.lalrpop_norm_repr.specs.Closed.{IsClosed}
 use Rattle.lalrpop_norm_repr.specs.Lowered.{LoweredGrammar}
@@ -32,12 +31,6 @@ pub record IsFormOf (g : GrammarData) (bytes : List ℕ) : Type 0 where
   pub value : Data
   pub is_read : read bytes ≡ Some value
   pub is_form : grammar_form g ≡ Some value
-
--- the input is the form of a tree without a part of a later stage
-pub record IsTakenForm (bytes : List ℕ) : Type 0 where
-  pub tree : GrammarData
-  pub form : IsFormOf tree bytes
-  pub taken : later_parts tree ≡ []
 
 -- what is looked for in a tree, in order
 abbrev pub findings_of : Settings → GrammarData → List (Finding LexerPlace)

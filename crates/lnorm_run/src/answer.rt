@@ -20,7 +20,7 @@ use std::alloc::Global;
 
 /// The text for the bytes that were read: the lines of the lowered grammar of the tree whose JSON form they are.
 ///
-/// Errors: `NotATree` where they are the form of no tree that is read; `Failed` with the first fault of the tree, or with want of
+/// Errors: `NotATree` where they are the form of no tree; `Failed` with the first fault of the tree, or with want of
 /// memory.
 pub fn answer(alloc: Global, session: &Session<CheckOnly>, bytes: &[u8]) -> Result<String, Halt>
     ensures ok { IfOk result (λ text. IsAnswer (settings_view session.now) bytes.now (string_bytes text)) }
