@@ -56,6 +56,15 @@ def argument(name):
     return ("mut " if name["mutable"] else "") + name["name"]
 
 
+def names_text(value):
+    """A tuple of names and of tuples."""
+    return "(" + ", ".join(argument(c) if n == "Name" else names_text(c) for n, c in map(one, value["tuples"])) + ")"
+
+
+# the kinds that hold one symbol, and that symbol
+WRAPPERS = {"Choose": lambda content: content, "Name": lambda content: content[1], "Tuple": lambda content: content[1]}
+
+
 REPEATS = {"Star": "*", "Plus": "+", "Question": "?"}
 LOOKAROUNDS = {"Lookahead": "@L", "Lookbehind": "@R"}
 OPERATORS = {"Equals": "==", "NotEquals": "!=", "Match": "~~", "NotMatch": "!~"}
@@ -86,9 +95,47 @@ def type_text(value):
         return content
     if name == "OfSymbol":
         return "`" + canonical(content) + "`"
-    binder = "for<" + ", ".join(one(p)[1] for p in content["forall"]) + "> " if content["forall"] else ""
-    value = " -> " + type_text(content["ret"]) if content["ret"] else ""
-    return "dyn " + binder + path(content["path"]) + "(" + ", ".join(map(type_text, content["parameters"])) + ")" + value
+    return "dyn " + function(content)
+
+
+def binder(values):
+    return "for<" + ", ".join(one(p)[1] for p in values) + "> " if values else ""
+
+
+def function(value):
+    """A function, as a type and as a bound have it."""
+    returned = " -> " + type_text(value["ret"]) if value["ret"] else ""
+    parameters = ", ".join(map(type_text, value["parameters"]))
+    return binder(value["forall"]) + path(value["path"]) + "(" + parameters + ")" + returned
+
+
+def bound_argument(value):
+    name, content = one(value)
+    return content if name == "Lifetime" else type_text(content) if name == "TypeParameter" else content[0] + " = " + type_text(content[1])
+
+
+def bound(value):
+    name, content = one(value)
+    if name in ("Lifetime", "Fn"):
+        return content if name == "Lifetime" else function(content)
+    arguments = "<" + ", ".join(map(bound_argument, content["parameters"])) + ">" if content["parameters"] else ""
+    return binder(content["forall"]) + path(content["path"]) + arguments
+
+
+def clause(value):
+    """A where clause as it is written: one blank more behind the colon where it bounds a type."""
+    name, content = one(value)
+    if name == "Lifetime":
+        return content["lifetime"] + ":" + " +".join(" " + b for b in content["bounds"])
+    return binder(content["forall"]) + type_text(content["ty"]) + ": " + " +".join(" " + bound(b) for b in content["bounds"])
+
+
+def lowered_clauses(value):
+    """What it is lowered to: one clause for each bound."""
+    name, content = one(value)
+    if name == "Lifetime":
+        return [content["lifetime"] + ": " + b for b in content["bounds"]]
+    return [binder(content["forall"]) + type_text(content["ty"]) + ": " + bound(b) for b in content["bounds"]]
 
 
 def fields(values, open_ended):
@@ -130,6 +177,8 @@ def canonical(value):
         return "<" + canonical(content["kind"]) + ">"
     if name == "Name":
         return argument(content[0]) + ":" + canonical(content[1]["kind"])
+    if name == "Tuple":
+        return names_text(content[0]) + ":" + canonical(content[1]["kind"])
     if name in LOOKAROUNDS or name == "Error":
         return LOOKAROUNDS.get(name, "error")
     raise Unknown
@@ -161,6 +210,8 @@ def kind(value):
         return "<" + symbol(content) + ">"
     if name == "Name":
         return "<" + argument(content[0]) + ":" + symbol(content[1]) + ">"
+    if name == "Tuple":
+        return "<" + names_text(content[0]) + ":" + symbol(content[1]) + ">"
     if name in LOOKAROUNDS or name == "Error":
         return LOOKAROUNDS.get(name, "!")
     raise Unknown
@@ -196,6 +247,8 @@ def alternative(value):
 
 def extern(value):
     text = "extern " + place(value["span"]) + "\n"
+    for t in value["associated_types"]:
+        text += "  type %s = %s %s\n" % (t["type_name"], type_text(t["type_ref"]), place(t["type_span"]))
     if value["enum_token"]:
         tokens = value["enum_token"]
         text += "  enum %s %s\n" % (type_text(tokens["type_name"]), place(tokens["type_span"]))
@@ -248,8 +301,13 @@ def signature(tree):
     return text + "".join("  (%s: %s)\n" % (p["name"], type_text(p["ty"])) for p in tree["parameters"])
 
 
+def clause_lines(values):
+    return "".join("  where %s\n" % c for c in values)
+
+
 def tree_text(tree):
     text = "grammar " + place(tree["span"]) + " " + tree["prefix"] + "\n"
     text += "".join("  #![%s]\n" % a for a in tree["module_attributes"])
     text += "".join("  #[%s]\n" % attribute(a) for a in tree["attributes"])
-    return text + signature(tree) + "".join(map(item, tree["items"]))
+    text += signature(tree) + clause_lines(map(clause, tree["where_clauses"]))
+    return text + "".join(map(item, tree["items"]))

@@ -5,7 +5,7 @@ pattern, and `Scripted`, which refuses what its lists name.
 """
 import re
 
-from wanted_forms import Refused, Unknown, one, place
+from wanted_forms import WRAPPERS, Refused, Unknown, one, place
 
 KNOWN_ATTRIBUTES = ("LALR", "table_driven", "recursive_ascent", "test_all")
 
@@ -29,15 +29,15 @@ def plain_rules(tree):
 def is_plain(kind):
     """Whether a symbol is a terminal other than the error terminal, a nonterminal or `!`, under wrappers."""
     name, content = one(kind)
-    if name in ("Choose", "Name"):
-        return is_plain((content if name == "Choose" else content[1])["kind"])
+    if name in WRAPPERS:
+        return is_plain(WRAPPERS[name](content)["kind"])
     return name in ("Nonterminal", "Error") or name == "Terminal" and one(content)[0] != "Error"
 
 
 def names_in(kind):
     name, content = one(kind)
-    if name in ("Choose", "Name"):
-        return names_in((content if name == "Choose" else content[1])["kind"])
+    if name in WRAPPERS:
+        return names_in(WRAPPERS[name](content)["kind"])
     return [content] if name == "Nonterminal" else []
 
 
@@ -166,8 +166,8 @@ def terminals_used(tree):
     values = [s for r in plain_rules(tree) for a in r["alternatives"] for s in a["expr"]["symbols"]]
     for s in values:
         name, content = one(s["kind"])
-        while name in ("Choose", "Name"):
-            s = content if name == "Choose" else content[1]
+        while name in WRAPPERS:
+            s = WRAPPERS[name](content)
             name, content = one(s["kind"])
         if name == "Terminal":
             yield content, s["span"]

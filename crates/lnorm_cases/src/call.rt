@@ -23,8 +23,6 @@ pub(crate) enum Call {
 pub(crate) enum Pass {
     /// None: the tree as it was read.
     Read,
-    /// `with_later_parts`: parts that the JSON form does not have yet, put for others.
-    WithLaterParts,
     /// `validate`, which only looks for faults.
     Validate,
     /// `check_globals`, which only looks for faults.
@@ -48,7 +46,7 @@ impl Pass {
     pub(crate) fn only_looks(self) -> bool {
         match self {
             Pass::Validate | Pass::CheckGlobals => true,
-            Pass::Read | Pass::WithLaterParts | Pass::RemoveDisabledDecls => false,
+            Pass::Read | Pass::RemoveDisabledDecls => false,
             Pass::Resolve => false,
             Pass::ExpandLevels | Pass::ExpandPrecedence | Pass::ExpandMacros => false,
             Pass::TokenCheck => false,
@@ -65,6 +63,8 @@ pub(crate) enum Last {
     TokenCheckScripted,
     /// `infer_types`: the table of types.
     InferTypes,
+    /// `is_typed`: whether `lower` takes that table.
+    IsTyped,
     /// `normalize`: the lowered grammar.
     Normalize,
     /// The tree's `clone`.
@@ -111,6 +111,7 @@ fn last_of(name: &str) -> Option<Last> {
     match name {
         "token_check_scripted" => Some(Last::TokenCheckScripted),
         "infer_types" => Some(Last::InferTypes),
+        "is_typed" => Some(Last::IsTyped),
         "normalize" => Some(Last::Normalize),
         "lowered_copy" => Some(Last::LoweredCopy),
         _ => look_of(name),
@@ -132,7 +133,6 @@ fn look_of(name: &str) -> Option<Last> {
 fn pass_of(name: &str) -> Option<Pass> {
     match name {
         "read" => Some(Pass::Read),
-        "with_later_parts" => Some(Pass::WithLaterParts),
         "validate" => Some(Pass::Validate),
         "check_globals" => Some(Pass::CheckGlobals),
         _ => change_of(name),

@@ -4,6 +4,7 @@ use crate::call::{Last, Pass};
 use crate::passes::{Stopped, normalized, tree_after, tree_after_all, typed};
 use crate::shown::{ended, push_or};
 use lalrpop_norm::grammar::repr;
+use lalrpop_norm::normalize::lower::is_typed;
 use lalrpop_norm::normalize::{NormFailure, Session};
 use lalrpop_norm_json::{TreeError, read_tree};
 use lalrpop_norm_lexer::lexer::Lexer;
@@ -105,6 +106,7 @@ fn push_last<L: Lexer>(
             push_pass(text, form, pass, tree_after(alloc, session, pass, tree))
         }
         Last::InferTypes => push_typed(alloc, text, form, tree),
+        Last::IsTyped => push_is_typed(alloc, text, session, form, tree),
         Last::Normalize => push_normalized(text, form, normalized(alloc, session, tree)),
         Last::LoweredCopy => push_copied(alloc, text, form, normalized(alloc, session, tree)),
         Last::Copy => {
@@ -175,6 +177,33 @@ fn push_types_as(
         Form::Lines | Form::Told => push_types(text, tree, types),
         Form::Whole => push_whole_types(text, types),
     }
+}
+
+/// Whether the tree is typed by the types of its rules, once its names are resolved.
+fn push_is_typed<L>(
+    alloc: Global,
+    text: &mut String,
+    session: &Session<L>,
+    form: Form,
+    tree: Grammar,
+) -> Result<(), AllocError> {
+    match typed(alloc, tree) {
+        Ok(typed) => {
+            let done = push_is_typed_line(text, session, &typed);
+            ended(typed, done)
+        }
+        Err(stopped) => push_stopped(text, form, stopped),
+    }
+}
+
+fn push_is_typed_line<L>(
+    text: &mut String,
+    session: &Session<L>,
+    typed: &(Grammar, Types),
+) -> Result<(), AllocError> {
+    let (tree, types) = typed;
+    let is_typed = is_typed(session, tree, types);
+    write!(text, "typed: {is_typed}\n")
 }
 
 fn push_normalized(

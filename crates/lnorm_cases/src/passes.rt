@@ -18,9 +18,8 @@ use lalrpop_norm_expand::macro_expand::expand_macros;
 use lalrpop_norm_lexer::lexer::Lexer;
 use lalrpop_norm_precedence::precedence::expand_levels;
 use lalrpop_norm_repr::grammar::repr::Types;
-use lalrpop_norm_tree::grammar::parse_tree::{Grammar, NoMemory};
+use lalrpop_norm_tree::grammar::parse_tree::Grammar;
 use lalrpop_norm_tyinfer::tyinfer::infer_types;
-use lnorm_values::later::with_later_parts;
 use std::alloc::Global;
 
 /// Why there is no answer of passes.
@@ -35,12 +34,6 @@ pub(crate) enum Stopped {
 impl From<NormFailure> for Stopped {
     fn from(failure: NormFailure) -> Stopped {
         Stopped::Failed(failure)
-    }
-}
-
-impl From<NoMemory> for Stopped {
-    fn from(_: NoMemory) -> Stopped {
-        Stopped::Failed(NormFailure::Memory)
     }
 }
 
@@ -67,7 +60,6 @@ pub(crate) fn tree_after<L: Lexer>(
 ) -> Result<Grammar, Stopped> {
     match pass {
         Pass::Read => Ok(tree),
-        Pass::WithLaterParts => Ok(with_later_parts(alloc, tree)?),
         Pass::Validate => Ok(validated(alloc, tree)?),
         Pass::CheckGlobals => Ok(with_checked_globals(alloc, tree)?),
         Pass::RemoveDisabledDecls => Ok(remove_disabled_decls(session, tree)?),

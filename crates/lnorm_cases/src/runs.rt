@@ -34,7 +34,7 @@ fn push_bytes(text: &mut String, bytes: &[u8]) -> Result<(), AllocError> {
     }
 }
 
-/// The line on standard error: of a fault other than F0 what stands before the message, whose words are not promised.
+/// The line on standard error: of a fault what stands before the message, whose words are not promised.
 fn push_fault_line(text: &mut String, bytes: &[u8]) -> Result<(), AllocError> {
     match str::from_utf8(bytes) {
         Ok("") => Ok(()),
@@ -49,7 +49,7 @@ fn push_fault_line(text: &mut String, bytes: &[u8]) -> Result<(), AllocError> {
 /// What is promised of a line, which ends with a line feed.
 fn promised_part(line: &str) -> Option<&str> {
     let line = line.strip_suffix("\n")?;
-    if line.starts_with("F") && !line.starts_with("F0 ") {
+    if line.starts_with("F") {
         let (part, _message) = line.split_once(": ")?;
         Some(part)
     } else {

@@ -10,7 +10,7 @@ pub(crate) fn push_refusals(alloc: Global, text: &mut String) -> Result<(), NoMe
     let told = refused(String::from_str(alloc, "no type follows"));
     show_made(text, Ok(told), push_with_copy)?;
     show_made(text, Ok(refused(Err(AllocError))), push_with_copy)?;
-    push_code(text, FaultKind::NotYet)?;
+    push_code(text, FaultKind::GrammarAttribute)?;
     push_code(text, FaultKind::SideOnLowest)?;
     push_code(text, FaultKind::TooManyActions)?;
     Ok(())

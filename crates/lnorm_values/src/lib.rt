@@ -3,7 +3,6 @@
 
 mod actions;
 pub mod faults;
-pub mod later;
 pub mod lowered;
 pub mod made;
 mod names;

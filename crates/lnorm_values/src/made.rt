@@ -77,19 +77,6 @@ pub fn made_of<T: Drop, U, F: FnOnce(&T) -> Result<U, NoMemory>>(
     make(&value)
 }
 
-/// Puts each value where it belongs, until memory is wanting.
-pub(crate) fn put_each<T: Drop, F: FnMut(T) -> Result<(), NoMemory>>(
-    values: Vec<T>,
-    mut put: F,
-) -> Result<(), NoMemory>
-    requires { F.IsAlwaysCallable put }
-{
-    for value in values {
-        put(value)?;
-    }
-    Ok(())
-}
-
 /// Puts the text of the value that was made, which ends.
 pub(crate) fn show_made<T: Drop, F: FnOnce(&mut String, &T) -> Result<(), NoMemory>>(
     text: &mut String,
@@ -112,51 +99,12 @@ pub(crate) fn leave_out<T: Drop>(_value: T) -> Result<(), NoMemory> {
     Ok(())
 }
 
-/// Pushes the value where it stays.
-pub(crate) fn push_if<T: Drop>(
-    values: &mut Vec<T>,
-    value: T,
-    stays: Result<bool, NoMemory>,
-) -> Result<(), NoMemory> {
-    if stays? {
-        values.push(value)?;
-    }
-    Ok(())
-}
-
 /// Pushes the value that was made.
 pub(crate) fn push_made<T: Drop>(
     values: &mut Vec<T>,
     made: Result<T, NoMemory>,
 ) -> Result<(), NoMemory> {
     Ok(values.push(made?)?)
-}
-
-/// Pushes the value, if there is one.
-pub(crate) fn add_made<T: Drop>(
-    values: &mut Vec<T>,
-    made: Result<Option<T>, NoMemory>,
-) -> Result<(), NoMemory> {
-    if let Some(value) = made? {
-        values.push(value)?;
-    }
-    Ok(())
-}
-
-/// No value; the other one ends.
-pub(crate) fn nothing_of<T: Drop, U>(_value: T) -> Result<Option<U>, NoMemory> {
-    Ok(None)
-}
-
-/// Puts the later value, if there is one, in the place of the other.
-pub(crate) fn put_later<T: Drop>(
-    place: &mut T,
-    later: Result<Option<T>, NoMemory>,
-) -> Result<(), NoMemory> {
-    if let Some(later) = later? {
-        *place = later;
-    }
-    Ok(())
 }
 
 /// The text before it, the value that was made, and the text behind it.

@@ -99,7 +99,7 @@ fn copied_automaton(alloc: Global) -> Result<Dfa, NoMemory> {
 }
 
 /// An automaton of two words.
-pub(crate) fn automaton(alloc: Global) -> Result<Dfa, NoMemory> {
+fn automaton(alloc: Global) -> Result<Dfa, NoMemory> {
     let code = vec![in alloc; 7, 9]?;
     Ok(Dfa { code })
 }
@@ -115,7 +115,7 @@ fn level(alloc: Global) -> Result<Attribute, NoMemory> {
 }
 
 /// The binder of `for<'a>`.
-pub(crate) fn binder(alloc: Global) -> Result<Vec<TypeParameter>, NoMemory> {
+fn binder(alloc: Global) -> Result<Vec<TypeParameter>, NoMemory> {
     list_of_one(alloc, lifetime(alloc))
 }
 

@@ -1,5 +1,4 @@
 //! Terminals, names and patterns that calls make, and copies of parts.
-use crate::later::named_type;
 use crate::made::{atom, both, cloned, list_of_two, made_of, name_pattern, push_shown, show_made};
 use lalrpop_norm_tree::grammar::parse_tree::{
     ArgPattern, Name, NoMemory, TerminalString, Tuple, TypeBoundParameter, TypeRef,
@@ -89,7 +88,7 @@ fn push_bound_parameter(alloc: Global, text: &mut String) -> Result<(), NoMemory
 }
 
 fn bound_parameter(alloc: Global) -> Result<TypeBoundParameter<TypeRef>, NoMemory> {
-    Ok(TypeBoundParameter::TypeParameter(named_type(alloc, "T")?))
+    Ok(TypeBoundParameter::TypeParameter(TypeRef::Id(atom(alloc, "T")?)))
 }
 
 fn is_parameter_copied(parameter: &TypeBoundParameter<TypeRef>) -> Result<bool, NoMemory> {
