@@ -1,8 +1,7 @@
 -- Whether two lowered types are equal, as a test.
 use Rattle.std.specs.Prelude.{Bool, true, false, ◌&&◌, List, [], ◌∷◌, Option, Some, None, bytes_eq}
 use Rattle.lalrpop_norm_parts.specs.declared.names.Lifetime.{Lifetime}
-use Rattle.lalrpop_norm_parts.specs.declared.names.TypeParameter.{TypeParameter}
-use Rattle.lalrpop_norm_parts.specs.declared.names.TypeParameter.TheVariants as parameter
+pub use Rattle.lalrpop_norm_parts.specs.FreeVariables.{same_parameter}
 use Rattle.lalrpop_norm_parts.specs.Paths.{PathData}
 use Rattle.lalrpop_norm_parts.specs.Reprs.{ReprData, Reprs, MaybeRepr, tuple, slice, nominal, associated, of_lifetime, reference}
 use Rattle.lalrpop_norm_parts.specs.Reprs.{trait_object, function, no_reprs, repr_and, no_repr, returns}
@@ -12,11 +11,6 @@ abbrev pub same_lifetime : Option Lifetime → Option Lifetime → Bool
 same_lifetime None None = true
 same_lifetime (Some a) (Some b) = bytes_eq a.0 b.0
 same_lifetime _ _ = false
-
-abbrev pub same_parameter : TypeParameter → TypeParameter → Bool
-same_parameter (parameter.Lifetime a) (parameter.Lifetime b) = bytes_eq a.0 b.0
-same_parameter (parameter.Id a) (parameter.Id b) = bytes_eq a b
-same_parameter _ _ = false
 
 -- of one length, and the same at each place
 abbrev pub all_same : {A : Type 0} → (A → A → Bool) → List A → List A → Bool

@@ -11,3 +11,9 @@ pub mod ReprViews
 pub mod WrittenLemmas
 pub mod CopyLemmas
 pub mod WalkLemmas
+pub mod ReprSeen
+pub mod BottomUpLaws
+pub mod BottomUpLemmas
+pub mod FreeLemmas
+pub mod LifetimeExamples
+pub mod OutlivesLemmas

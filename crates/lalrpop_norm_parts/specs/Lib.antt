@@ -11,3 +11,6 @@ pub mod LoweredTexts
 pub mod Terminals
 pub mod MappedBounds
 pub mod Walks
+pub mod BottomUp
+pub mod FreeVariables
+pub mod LifetimeNames

@@ -2,8 +2,12 @@
 ghost use Rattle.std.specs.Prelude.{◌≡◌, false};
 ghost use Rattle.lalrpop_norm_parts.specs.declared.lowered.LrCodeGeneration.TheVariants.{TableDriven};
 
+mod bottom_up;
 mod copy;
+mod free;
 mod make;
+mod naming;
+mod outlives;
 mod show;
 
 use crate::bound::TypeBound;

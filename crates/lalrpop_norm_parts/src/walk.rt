@@ -2,8 +2,12 @@
 ghost use Rattle.std.specs.Prelude.{◌≡◌, ◌++◌, [], ◌∷◌, IfOk, OnOk};
 ghost use Rattle.std.specs.Fn.{CalledAt};
 ghost use Rattle.std.specs.Result.{IfErr};
+ghost use Rattle.lalrpop_norm_parts.specs.Paths.{path_view};
 ghost use Rattle.lalrpop_norm_parts.specs.Walks.{Answered, Ended};
 
+use crate::names::TypeParameter;
+use crate::names::copy::copy_type_parameters;
+use crate::path::Path;
 use shared_text::{Atom, NoMemory};
 
 /// One more at the end.
@@ -31,4 +35,15 @@ pub fn same_name(name: &Atom) -> Result<Atom, NoMemory>
     ensures { IfOk result (λ n. n ≡ name.now) }
 {
     Ok(name.clone()?)
+}
+
+/// What a function type begins with, once more.
+pub fn same_head(
+    forall: &Vec<TypeParameter>,
+    path: &Path,
+) -> Result<(Vec<TypeParameter>, Path), NoMemory>
+    ensures { IfOk result (λ h. (h.0.items ≡ forall.now.items) × (path_view h.1 ≡ path_view path.now)) }
+{
+    let forall = copy_type_parameters(forall)?;
+    Ok((forall, path.clone()?))
 }

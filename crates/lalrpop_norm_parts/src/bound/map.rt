@@ -11,7 +11,7 @@ use super::{TypeBound, TypeBoundParameter};
 use crate::names::copy::copy_type_parameters;
 use crate::names::{Lifetime, TypeParameter};
 use crate::path::Path;
-use crate::walk::{add, map_one, same_name};
+use crate::walk::{add, map_one, same_head, same_name};
 use shared_text::NoMemory;
 use std::alloc::Global;
 
@@ -189,14 +189,4 @@ fn map_trait<T, U: Drop, E: From<NoMemory>, F: FnMut(&T) -> Result<U, E>>(
         path,
         parameters,
     })
-}
-
-fn same_head(
-    forall: &Vec<TypeParameter>,
-    path: &Path,
-) -> Result<(Vec<TypeParameter>, Path), NoMemory>
-    ensures { IfOk result (λ h. (h.0.items ≡ forall.now.items) × (path_view h.1 ≡ path_view path.now)) }
-{
-    let forall = copy_type_parameters(forall)?;
-    Ok((forall, path.clone()?))
 }
