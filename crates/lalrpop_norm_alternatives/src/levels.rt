@@ -62,7 +62,9 @@ pub fn check_first(alloc: Global, alternatives: &[Alternative]) -> NormResult<()
         return Err(refusal(
             FaultKind::MissingLevel,
             first.span,
-            format!(in alloc; "the first alternative of a rule with levels has no `precedence`"),
+            format!(in alloc;
+                "the first alternative of a rule with levels has no `precedence`: add one, as `#[precedence(level=\"0\")]`"
+            ),
         ));
     }
     Ok(())
@@ -99,7 +101,7 @@ pub fn check_several(alloc: Global, rule: &NonterminalData, several: bool) -> No
             FaultKind::NotNonterminal,
             rule.span,
             format!(in alloc;
-                "the macro `{name}` has two levels or more, and a level can't name the one below it without arguments"
+                "the macro `{name}` has two levels or more, and a level can't name the one below it without arguments: give the levels to a rule"
             ),
         ));
     }

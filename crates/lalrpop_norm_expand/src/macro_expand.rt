@@ -61,7 +61,9 @@ fn past_cap(alloc: Global, expander: &Expander, from: usize) -> NormFailure
     refusal(
         FaultKind::RecursionCap,
         last.span,
-        format!(in alloc; "`{last}` is past the limit of rounds"),
+        format!(in alloc;
+            "`{last}` is past the limit of rounds: end the macro that calls itself with ever larger arguments, or raise the limit"
+        ),
     )
 }
 

@@ -61,7 +61,9 @@ fn says(alloc: Global, condition: &Condition, literal: &Atom) -> NormResult<bool
         Err(ConditionError::NoReading) => Err(refusal(
             FaultKind::ConditionPattern,
             condition.span,
-            format!(in alloc; "`{pattern}` is no regular expression, or nests too deep"),
+            format!(in alloc;
+                "`{pattern}` is no regular expression, or nests too deep: correct the pattern of this condition"
+            ),
         )),
         Err(ConditionError::Memory) => Err(NormFailure::Memory),
     }
@@ -86,7 +88,10 @@ pub fn is_kept(
         None => Err(refusal(
             FaultKind::ConditionArgument,
             condition.span,
-            format!(in alloc; "`{}` is no quoted literal here", condition.lhs),
+            format!(in alloc;
+                "a condition tests quoted literals, and a call gives `{}` another symbol: call the macro with a literal",
+                condition.lhs
+            ),
         )),
     }
 }

@@ -38,7 +38,9 @@ fn shared_name(alloc: Global, name: &Atom, span: Span) -> NormFailure
     refusal(
         FaultKind::SharedName,
         span,
-        format!(in alloc; "`{name}` names something else already"),
+        format!(in alloc;
+            "a rule would be made for `{name}`, and something else has that name already: rename the one or the other"
+        ),
     )
 }
 

@@ -54,7 +54,7 @@ impl Lexer for Scripted {
         for bad in &self.bad {
             if bad.as_str() == text {
                 return Err(RegexError::Refused {
-                    message: String::new(alloc),
+                    message: format!(in alloc; "`{text}` is on the list of bad texts")?,
                 });
             }
         }

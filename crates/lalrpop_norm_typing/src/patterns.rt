@@ -93,7 +93,9 @@ fn check_symbol(alloc: Global, types: &Types, tuple: &Tuple, symbol: &Symbol) ->
             None => Err(refusal(
                 FaultKind::TupleOverType,
                 symbol.span,
-                format!(in alloc; "a tuple of names needs a tuple type, and `{name}` has no type"),
+                format!(in alloc;
+                    "a tuple of names needs a tuple type, and `{name}` has no type: give the value one name"
+                ),
             )),
         },
         SymbolKind::Expr(_)
@@ -142,7 +144,9 @@ fn check_tuple(alloc: Global, span: Span, patterns: &[ArgPattern], ty: &TypeRepr
         None => Err(refusal(
             FaultKind::TupleOverType,
             span,
-            format!(in alloc; "a tuple of names needs a tuple type, and `{ty}` is none"),
+            format!(in alloc;
+                "a tuple of names needs a tuple type, and `{ty}` is none: give the value one name"
+            ),
         )),
     }
 }

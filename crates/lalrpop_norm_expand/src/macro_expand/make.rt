@@ -77,7 +77,9 @@ pub(super) fn add_rule(
                 return Err(refusal(
                     FaultKind::NamedInGroup,
                     symbol.span,
-                    format!(in alloc; "a symbol in the group `{symbol}` has a name"),
+                    format!(in alloc;
+                        "a symbol in the group `{symbol}` has a name: leave it out, or write a rule with code for the group"
+                    ),
                 ));
             }
             add(items, group_rule(alloc, met, expr)?)?;

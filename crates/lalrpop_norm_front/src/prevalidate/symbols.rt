@@ -253,7 +253,9 @@ fn validate_call(alloc: Global, span: Span, args: &[Symbol]) -> NormResult<()>
         return Err(refusal(
             FaultKind::MacroWithoutArguments,
             span,
-            format!(in alloc; "a macro is called with at least one argument"),
+            format!(in alloc;
+                "a macro is called with at least one argument: name one, or leave out the brackets"
+            ),
         ));
     }
     Ok(())

@@ -250,7 +250,9 @@ fn check_barred(alloc: Global, alternative: &Alternative) -> NormResult<()>
                 return Err(refusal(
                     FaultKind::SideOnLowest,
                     attribute.id_span,
-                    format!(in alloc; "the lowest level of a rule takes no side"),
+                    format!(in alloc;
+                        "the lowest level of a rule takes no side: leave out `assoc`, or add a lower level"
+                    ),
                 ));
             }
             Ok(())

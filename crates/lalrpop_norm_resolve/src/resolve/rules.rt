@@ -48,7 +48,7 @@ fn tests_other(alloc: Global, span: Span, name: &Atom, def: Def) -> NormFailure
         FaultKind::ConditionOnOther,
         span,
         format!(in alloc;
-            "a condition can only test an argument of its macro, and `{name}` is a {what}"
+            "a condition can only test an argument of its macro, and `{name}` is a {what}: name an argument"
         ),
     )
 }

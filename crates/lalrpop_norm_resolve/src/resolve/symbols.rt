@@ -92,7 +92,7 @@ fn terminal_named(alloc: Global, span: Span, name: &Atom) -> NormFailure
     refusal(
         FaultKind::NotNonterminal,
         span,
-        format!(in alloc; "`{name}` is a terminal, and a nonterminal is wanted here"),
+        format!(in alloc; "`{name}` is a terminal, and a nonterminal is wanted here: name a rule"),
     )
 }
 

@@ -33,19 +33,21 @@ pub(super) fn automaton_of<L: Lexer>(
         Err(ConstructError::Bad { index, message }) => Err(refusal(
             FaultKind::BadRegex,
             place_at(places, entries, index),
-            Ok(message),
+            format!(in alloc; "this is no regular expression: {message}"),
         )),
         Err(ConstructError::Unsupported { index, error }) => Err(refusal(
             FaultKind::RegexFeature,
             place_at(places, entries, index),
             format!(in alloc;
-                "a regular expression has a feature that is not supported: {error:?}"
+                "this regular expression has a feature that the tokenizer lacks ({error:?}): write it without"
             ),
         )),
         Err(ConstructError::Ambiguous { match0, match1 }) => Err(refusal(
             FaultKind::Ambiguity,
             place_at(places, entries, match0),
-            format!(in alloc; "the entries {match0} and {match1} are ambiguous"),
+            format!(in alloc;
+                "the entries {match0} and {match1} of the tokenizer, counted from 0, match one text, and neither goes before: put one of them into an earlier block of `match`"
+            ),
         )),
         Err(ConstructError::Memory) => Err(NormFailure::Memory),
     }

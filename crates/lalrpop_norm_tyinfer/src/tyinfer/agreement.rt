@@ -107,7 +107,9 @@ fn check_same(
         (Some(given), None) => Err(refusal(
             FaultKind::Disagreement,
             span,
-            format!(in alloc; "this alternative gives `{given}`, and `{name}` has no type"),
+            format!(in alloc;
+                "this alternative gives `{given}`, and `{name}` has no type: declare one, as `{name}: T`"
+            ),
         )),
     }
 }
