@@ -50,7 +50,7 @@ marks place n names = flat_map (λ m. if bytes_eq m n then place ∷ [] else [])
 abbrev pub Notes : Dependents → Dependents → List (List ℕ) → ℕ → Type 0
 Notes before after names place = (n : List ℕ) → places_of after n ≡ places_of before n ++ marks place n names
 
--- each of the rules is kept under each name that it mentions, and nothing else is
+-- each of the rules is kept under each name that it mentions, and what is kept are places of rules
 pub record Covers (d : Dependents) (ss : List Seen) : Type 0 where
   pub all : (k : ℕ) (s : Seen) (n : List ℕ) → slice_get ss k ≡ Some s → In n (mentioned s.1) → In k (places_of d n)
   pub within : (k : ℕ) (n : List ℕ) → In k (places_of d n) → k < length ss
@@ -76,7 +76,8 @@ pub record Wakes (places : List ℕ) (place : ℕ) (now now_after next next_afte
   pub only_next : (k : ℕ) → has next_after k ≡ true → (has next k ≡ true) ⊎ In k places
 
 -- the rule at the place is visited, and where it takes a type those that mention its name wait
-pub record VisitsOne (d : Dependents) (ps : List TypeParameter) (before after : TypeTable) (s : Seen) (place : ℕ) (now now_after next next_after : Places) : Type 0 where
+pub record VisitsOne (d : Dependents) (ps : List TypeParameter) (before after : TypeTable) (s : Seen)
+    (place : ℕ) (now now_after next next_after : Places) : Type 0 where
   pub added : Bool
   pub takes : TakesType before after s.0.name.0 (first_in ps before s.1) added
   pub wakes : Wakes (if added then places_of d s.0.name.0 else []) place now now_after next next_after
