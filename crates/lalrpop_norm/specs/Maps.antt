@@ -20,7 +20,8 @@ module _ {S T U E : Type 0} (calls : Mut S (Bor T × Unit {0}) (Result U E)) whe
     pub before : S
     pub after : S
     pub kept : pattern_shape (pattern_view (λ u. u) q) ≡ pattern_shape (pattern_view (λ t. t) p)
-    pub answered : Answered (CalledAt calls) before (chosen_in_pattern (pattern_view (λ t. t) p)) (chosen_in_pattern (pattern_view (λ u. u) q)) after
+    pub answered : Answered (CalledAt calls) before (chosen_in_pattern (pattern_view (λ t. t) p))
+        (chosen_in_pattern (pattern_view (λ u. u) q)) after
 
   -- and that of a bound
   pub record IsMappedBound (b : TypeBound T) (c : TypeBound U) : Type 0 where

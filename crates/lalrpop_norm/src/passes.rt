@@ -76,20 +76,20 @@ fn check_and_lower<L: Lexer>(
     ensures lowered { IfOk result (λ l. IsCheckedLowering (L.relations session.now.lexer) (features_view session.now.features) (written.grammar_view plain) (lowered.lowered_grammar_view l)) }
 {
     let checked = token_check::validate(alloc, &session.lexer, plain)?;
-    type_and_lower(alloc, session, &checked)
+    type_and_lower(alloc, session, checked)
 }
 
 /// Infers the types of plain rules, and lowers them.
 fn type_and_lower<L>(
     alloc: Global,
     session: &Session<L>,
-    plain: &parse_tree::Grammar,
+    plain: parse_tree::Grammar,
 ) -> NormResult<repr::Grammar>
-    requires expanded { IsExpanded (written.grammar_view plain.now) }
-    requires typed { IsTypedByInference (features_view session.now.features) (written.grammar_view plain.now) }
-    ensures refuses { Refuses result (late_faults (written.grammar_view plain.now)) }
-    ensures lowered { IfOk result (λ l. IsTypedLowering (features_view session.now.features) (written.grammar_view plain.now) (lowered.lowered_grammar_view l)) }
+    requires expanded { IsExpanded (written.grammar_view plain) }
+    requires typed { IsTypedByInference (features_view session.now.features) (written.grammar_view plain) }
+    ensures refuses { Refuses result (late_faults (written.grammar_view plain)) }
+    ensures lowered { IfOk result (λ l. IsTypedLowering (features_view session.now.features) (written.grammar_view plain) (lowered.lowered_grammar_view l)) }
 {
-    let types = infer_types(alloc, plain)?;
+    let types = infer_types(alloc, &plain)?;
     lower(alloc, session, plain, types)
 }

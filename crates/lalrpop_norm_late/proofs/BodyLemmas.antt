@@ -15,10 +15,10 @@ use Rattle.lalrpop_norm_late.specs.Lowering.{start_name, start_alternative, lowe
 use Rattle.lalrpop_norm_late.specs.Made.{user_body, body, made_action, made_starts, made_actions}
 use Rattle.lalrpop_norm_late.specs.Naming.{source_names}
 use Rattle.lalrpop_norm_late.specs.Shape.{start_clause, rule_clauses, IsCodeOf, IsKindOf, IsActionOf}
-use Rattle.lalrpop_norm_late.specs.Slots.{filled_code}
+use Rattle.lalrpop_norm_lowering.specs.Slots.{filled_code}
 use Rattle.lalrpop_norm_late.proofs.ActionLemmas.{HasTypes, IsStartReady, zip_types, zip_append}
 use Rattle.lalrpop_norm_late.proofs.ArgumentLemmas.{named_listed, patterns_counted, names_counted}
-use Rattle.lalrpop_norm_late.proofs.SlotLemmas.{is_filled}
+use Rattle.lalrpop_norm_lowering.proofs.SlotLemmas.{is_filled}
 use Rattle.lalrpop_norm_late.proofs.SourceLemmas.{enough}
 
 -- what is asked of an alternative

@@ -1,6 +1,5 @@
 pub mod LoopLemmas
 pub mod ArgumentLemmas
-pub mod CodeLemmas
 pub mod TableLemmas
 pub mod KeyLaws
 pub mod ClauseLemmas
@@ -11,7 +10,6 @@ pub mod ApartLemmas
 pub mod ClosedLemmas
 pub mod ArgumentExamples
 pub mod ShapeExamples
-pub mod SlotLemmas
 pub mod SourceLemmas
 pub mod FaultCounts
 pub mod BodyLemmas

@@ -1,16 +1,15 @@
--- The arguments of an alternative's code: which symbols give it values, under which names, and the code itself. All of it by
--- places, which count from 0.
-use Rattle.std.specs.Prelude.{◌≡◌, ℕ, Bool, true, ◌||◌, List, [], ◌∷◌, ◌++◌, length, map, filter, take, zip}
-use Rattle.std.specs.Prelude.{flat_map, replicate, nat_le, All, Option, Some, None, unwrap_or, if◌then◌else◌, codes}
+-- The arguments of an alternative's code: which symbols give it values, and under which names. All of it by places, which count
+-- from 0. How they are put into the code is `IsFilled`.
+use Rattle.std.specs.Prelude.{ℕ, Bool, true, List, [], ◌∷◌, length, map, filter, take}
+use Rattle.std.specs.Prelude.{Option, Some, None, unwrap_or, if◌then◌else◌, codes}
 use Rattle.std.specs.List.{list_any, enumerate_from}
-use Rattle.lalrpop_norm_util.specs.Braces.{around_slot}
 use Rattle.lalrpop_norm_tree.specs.Symbols.{ArgumentPattern, one_name, several, Kind, named, tupled, Part, at, Parts, no_parts}
 use Rattle.lalrpop_norm_tree.specs.Symbols.{part_and}
-use Rattle.lalrpop_norm_parts.specs.Texts.{joined}
 use Rattle.lalrpop_norm_tree.specs.SymbolTexts.{tuple_text}
 use Rattle.lalrpop_norm_model.specs.MadeRules.{names_value}
 use Rattle.lalrpop_norm_util.specs.Values.{is_chosen}
 use Rattle.lalrpop_norm_late.specs.Sources.{source_name, plain_name}
+pub use Rattle.lalrpop_norm_lowering.specs.Filled.{in_slots, IsFilled}
 
 -- the symbols of an alternative
 abbrev pub part_list : Parts → List Part
@@ -57,23 +56,3 @@ name_given (several ns) = tuple_text ns
 -- the names of the sources, in order
 abbrev pub names : List ℕ → List Part → List (List ℕ)
 names prefix ps = map (λ e. name_given (pattern_at_place prefix ps e.0 e.1)) (filter (λ e. is_source_of ps e.1) (enumerate_from 0 ps))
-
--- ---- code
-
--- the code is these pieces with `<>` between each two, and no piece holds a `<>`
-pub record ArePieces (code first : List ℕ) (others : List (List ℕ)) : Type 0 where
-  pub whole : joined (codes "<>") (first ∷ others) ≡ code
-  pub slotless : All (λ p. around_slot p ≡ None) (first ∷ others)
-
--- what stands in the places of n `<>`: in each all names, joined by `, `, where symbols are named or there is at most one
--- `<>`; else one name in each
-abbrev pub in_slots : Bool → List (List ℕ) → ℕ → List (List ℕ)
-in_slots is_named ns n = if is_named || nat_le n 1 then replicate n (joined (codes ", ") ns) else ns
-
--- the code with its `<>` replaced, all at once
-pub record IsFilled (is_named : Bool) (ns : List (List ℕ)) (code filled : List ℕ) : Type 0 where
-  pub first : List ℕ
-  pub others : List (List ℕ)
-  pub pieces : ArePieces code first others
-  pub enough : length (in_slots is_named ns (length others)) ≡ length others
-  pub is : filled ≡ first ++ flat_map (λ e. e.0 ++ e.1) (zip (in_slots is_named ns (length others)) others)

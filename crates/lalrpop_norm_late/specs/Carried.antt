@@ -1,22 +1,17 @@
 -- What a lowered grammar carries over from the written one.
-use Rattle.std.specs.Prelude.{ℕ, ◌||◌, Bool, true, false, List, [], ◌∷◌, map, flat_map, filter_map, fold, Option}
-use Rattle.std.specs.Prelude.{Some, None, option_map, unwrap_or, bytes_eq, codes}
+use Rattle.std.specs.Prelude.{ℕ, ◌||◌, Bool, true, false, List, [], map, flat_map, filter_map, Option}
+use Rattle.std.specs.Prelude.{Some, None, option_map, codes}
 use Rattle.std.specs.List.{list_any, enumerate_from}
 use Rattle.lalrpop_norm_tree.specs.declared.items.MatchEntry.{MatchEntry}
-use Rattle.lalrpop_norm_parts.specs.declared.lowered.LrCodeGeneration.{LrCodeGeneration}
-use Rattle.lalrpop_norm_parts.specs.declared.lowered.LrCodeGeneration.TheVariants.{TableDriven}
 use Rattle.lalrpop_norm_parts.specs.declared.names.Span.{Span}
 use Rattle.lalrpop_norm_parts.specs.declared.names.TerminalString.{TerminalString}
-use Rattle.lalrpop_norm_parts.specs.declared.names.TypeParameter.{TypeParameter}
-use Rattle.lalrpop_norm_parts.specs.Accessors.{codegen_named}
-use Rattle.lalrpop_norm_parts.specs.Attributes.{Attributes, no_attributes, attribute_and, attribute}
 use Rattle.lalrpop_norm_parts.specs.Bounds.{BoundData, lifetime_bound, WhereClauseData, lifetime_clause, type_clause}
 use Rattle.lalrpop_norm_parts.specs.MappedBounds.{mapped_bound}
 use Rattle.lalrpop_norm_tree.specs.Items.{ItemData, extern_item, intern_item, use_item, RuleData, GrammarData}
 use Rattle.lalrpop_norm_tree.specs.LoweredTypes.{repr_of, named_path}
 use Rattle.lalrpop_norm_pattern.specs.Patterns.{PatternData, pattern_at, tuple_struct, pattern_and, no_patterns, number}
 use Rattle.lalrpop_norm_pattern.specs.Patterns.{chosen as chosen_type}
-use Rattle.lalrpop_norm_parts.specs.Reprs.{ReprData, of_lifetime, reference, named_repr, LoweredClause, for_all, has_bound}
+use Rattle.lalrpop_norm_parts.specs.Reprs.{ReprData, of_lifetime, reference, named_repr, LoweredClause, has_bound}
 use Rattle.lalrpop_norm_tree.specs.Symbols.{Kind, group, ambiguous_id, terminal, nonterminal, call, repeated, chosen, named}
 use Rattle.lalrpop_norm_tree.specs.Symbols.{tupled, lookahead, lookbehind, error_terminal, Part, at, Parts, no_parts, part_and}
 use Rattle.lalrpop_norm_tree.specs.Types.{TypeData, ParameterData}
@@ -24,6 +19,8 @@ use Rattle.lalrpop_norm_repr.specs.Lowered.{LoweredParameter}
 use Rattle.lalrpop_norm_model.specs.Scopes.{conversions_in}
 use Rattle.lalrpop_norm_late.specs.Conversions.{mapped_pattern}
 pub use Rattle.lalrpop_norm_lowering.specs.Terminals.{terminal_of_mapping}
+pub use Rattle.lalrpop_norm_lowering.specs.Clauses.{under}
+pub use Rattle.lalrpop_norm_lowering.specs.Algorithm.{asks_lalr, asked_code}
 
 -- ---- tokens
 
@@ -38,7 +35,8 @@ input_type = reference (Some (record { 0 = codes "'input" })) false (named_repr 
 -- `Token(i, <&'input str>)`
 abbrev pub internal_pattern : Span → ℕ → PatternData ReprData
 internal_pattern span i =
-    pattern_at span (tuple_struct (named_path (codes "Token")) (pattern_and (pattern_at span (number i)) (pattern_and (pattern_at span (chosen_type input_type)) no_patterns)))
+    pattern_at span (tuple_struct (named_path (codes "Token"))
+    (pattern_and (pattern_at span (number i)) (pattern_and (pattern_at span (chosen_type input_type)) no_patterns)))
 
 -- the entries of a tokenizer that name a terminal, each with its own place
 abbrev pub entry_rows : Span → List MatchEntry → List TokenRow
@@ -91,11 +89,6 @@ lowered_parameter p = record { name = p.name; ty = repr_of p.type }
 abbrev pub lowered_bound : BoundData TypeData → BoundData ReprData
 lowered_bound b = mapped_bound repr_of b
 
--- under its `for<..>`, if there is one
-abbrev pub under : List TypeParameter → LoweredClause → LoweredClause
-under [] c = c
-under (f ∷ fs) c = for_all (f ∷ fs) c
-
 -- a where clause: one clause for each of its bounds
 abbrev pub lowered_clauses : WhereClauseData TypeData → List LoweredClause
 lowered_clauses (lifetime_clause l ls) = map (λ m. has_bound (of_lifetime l) (lifetime_bound m)) ls
@@ -104,15 +97,3 @@ lowered_clauses (type_clause fs t bs) = map (λ b. under fs (has_bound (repr_of 
 abbrev pub use_of : ItemData → Option (List ℕ)
 use_of (use_item s) = Some s
 use_of _ = None
-
-abbrev pub attribute_names : Attributes → List (List ℕ)
-attribute_names no_attributes = []
-attribute_names (attribute_and (attribute s n a) rest) = n ∷ attribute_names rest
-
--- whether an attribute asks for LALR tables
-abbrev pub asks_lalr : Attributes → Bool
-asks_lalr as_written = list_any (λ n. bytes_eq n (codes "LALR")) (attribute_names as_written)
-
--- the code that the attributes ask for, the last one standing; by tables, if none does
-abbrev pub asked_code : Attributes → LrCodeGeneration
-asked_code as_written = fold (λ code n. unwrap_or (codegen_named n) code) TableDriven (attribute_names as_written)

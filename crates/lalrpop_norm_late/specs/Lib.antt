@@ -1,7 +1,6 @@
 pub mod Sources
 pub mod Arguments
 pub mod Naming
-pub mod Slots
 pub mod Lowering
 pub mod Typing
 pub mod Starts

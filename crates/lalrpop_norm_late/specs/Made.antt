@@ -29,7 +29,7 @@ use Rattle.lalrpop_norm_late.specs.Conversions.{mapped_pattern, sorted_terminals
 use Rattle.lalrpop_norm_late.specs.Lowering.{rules_among, public_rules_in, start_alternative, lowered_symbols, type_or_unit}
 use Rattle.lalrpop_norm_late.specs.Lowering.{is_fallible, rule_type, start_names, start_rows, rule_rows, sorted_onto}
 use Rattle.lalrpop_norm_late.specs.Naming.{argument_patterns, source_names}
-use Rattle.lalrpop_norm_late.specs.Slots.{filled_code}
+use Rattle.lalrpop_norm_lowering.specs.Slots.{filled_code}
 use Rattle.lalrpop_norm_late.specs.Typing.{start_types, AddsTypes}
 pub use Rattle.lalrpop_norm_lowering.specs.StartSymbols.{types_by_name}
 
@@ -117,7 +117,8 @@ made_terminals fs g = keys_of (made_tokens fs g) ++ (if uses_recovery (rules_amo
 pub record IsMade (fs : Features) (g : GrammarData) (types : TypeTable) (l : LoweredGrammar) : Type 0 where
   pub actions : l.actions ≡ made_starts g.prefix types (public_rules_in (rules_among g.items)) ++ made_actions g.prefix types (rules_among g.items)
   pub nonterminals : l.nonterminals
-      ≡ sorted_onto (sorted_onto [] (start_rows g.prefix 0 (public_rules_in (rules_among g.items)))) (rule_rows (length (public_rules_in (rules_among g.items))) (rules_among g.items))
+      ≡ sorted_onto (sorted_onto [] (start_rows g.prefix 0 (public_rules_in (rules_among g.items))))
+      (rule_rows (length (public_rules_in (rules_among g.items))) (rules_among g.items))
   pub start_nonterminals : l.start_nonterminals ≡ sorted_onto [] (start_names g.prefix (public_rules_in (rules_among g.items)))
   pub all_terminals : l.terminals.all ≡ made_terminals fs g
   pub terminal_numbers : l.terminals.bits ≡ sorted_terminals [] (numbered_terminals 0 (made_terminals fs g))

@@ -53,7 +53,8 @@ pub record IsCodeOf (prefix : List ℕ) (types : TypeTable) (type : ReprData) (a
   pub is : kind ≡ user (patterns prefix (part_list a.parts)) argument_types code
   -- each argument has the type of its symbol
   pub typed : AllZip (λ s t. symbol_type s types ≡ Some t) (lowered_symbols a.parts) argument_types
-  pub filled : IsFilled (list_any names_value (part_list a.parts)) (names prefix (part_list a.parts)) (written_code type (names prefix (part_list a.parts)) a.action) code
+  pub filled : IsFilled (list_any names_value (part_list a.parts)) (names prefix (part_list a.parts))
+      (written_code type (names prefix (part_list a.parts)) a.action) code
 
 -- what the action of an alternative does
 abbrev pub IsKindOf : List ℕ → TypeTable → ReprData → AlternativeData → ActionKindData → Option Action → Type 0

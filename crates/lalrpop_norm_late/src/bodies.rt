@@ -11,8 +11,8 @@ ghost use Rattle.lalrpop_norm_late.specs.Made.{made_action, body, user_body};
 
 use crate::actions::symbol_types;
 use crate::arguments::arguments_of;
-use crate::placeholders::filled;
 use lalrpop_norm_lowering::code::{is_fallible, written_code};
+use lalrpop_norm_lowering::placeholders::filled;
 use lalrpop_norm_repr::grammar::repr::{
     ActionFnDefn, ActionFnDefnKind, LookaroundActionFnDefn, Symbol, TypeRepr, Types,
     UserActionFnDefn,

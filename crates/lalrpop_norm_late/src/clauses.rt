@@ -6,7 +6,7 @@ ghost use Rattle.lalrpop_norm_tree.specs.LoweredTypes.{repr_of};
 ghost use Rattle.lalrpop_norm_tree.specs.Types.{type_view};
 ghost use Rattle.lalrpop_norm_late.specs.Carried.{under, lowered_bound, lowered_clauses};
 
-use lalrpop_norm_parts::names::copy::copy_type_parameters;
+use lalrpop_norm_lowering::clauses::under;
 use lalrpop_norm_repr::grammar::repr::{TypeRepr, WhereClause};
 use lalrpop_norm_tree::grammar::parse_tree as pt;
 use lalrpop_norm_tree::grammar::parse_tree::{
@@ -100,12 +100,7 @@ fn clause_under(
     ensures { IfOk result (λ c. lowered_where_clause_view c
         ≡ under forall.now.items (has_bound (repr_of (type_view ty.now)) (lowered_bound (bound_view type_view bound.now)))) }
 {
-    if forall.is_empty() {
-        return plain_clause(alloc, ty, bound);
-    }
-    let binder = copy_type_parameters(forall)?;
-    let clause = Box::new(alloc, plain_clause(alloc, ty, bound)?)?;
-    Ok(WhereClause::Forall { binder, clause })
+    under(alloc, forall, plain_clause(alloc, ty, bound)?)
 }
 
 /// The clause of one bound, without a `for<..>`.

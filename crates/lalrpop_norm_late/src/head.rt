@@ -1,21 +1,17 @@
 //! What stands at the head of a lowered grammar.
-ghost use Rattle.std.specs.Prelude.{◌≡◌, IfOk, IsTrue, All, flat_map, filter_map, map, option_map, string_bytes, true};
+ghost use Rattle.std.specs.Prelude.{◌≡◌, IfOk, flat_map, filter_map, map, option_map, string_bytes};
 ghost use Rattle.lalrpop_norm_tree.specs.Accessors.{first_of, intern_token_of};
-ghost use Rattle.lalrpop_norm_parts.specs.Attributes.{attributes_view};
 ghost use Rattle.lalrpop_norm_tree.specs.Items.{grammar_view, intern_token_view, item_view};
 ghost use Rattle.lalrpop_norm_parts.specs.Reprs.{lowered_where_clause_view};
 ghost use Rattle.lalrpop_norm_tree.specs.Types.{parameter_view};
-ghost use Rattle.lalrpop_norm_model.specs.Expanded.{all_known};
 ghost use Rattle.lalrpop_norm_repr.specs.Lowered.{lowered_parameter_view};
-ghost use Rattle.lalrpop_norm_late.specs.Carried.{lowered_clauses, lowered_parameter, use_of, asks_lalr, asked_code};
+ghost use Rattle.lalrpop_norm_late.specs.Carried.{lowered_clauses, lowered_parameter, use_of};
 
 use crate::clauses::lowered_clauses;
 use lalrpop_norm_parts::names::copy::{copy_texts, copy_type_parameters};
-use lalrpop_norm_repr::grammar::repr::{Algorithm, Parameter, WhereClause};
+use lalrpop_norm_repr::grammar::repr::{Parameter, WhereClause};
 use lalrpop_norm_tree::grammar::parse_tree as pt;
-use lalrpop_norm_tree::grammar::parse_tree::{
-    Attribute, GrammarItem, InternToken, NoMemory, TypeParameter, read_algorithm,
-};
+use lalrpop_norm_tree::grammar::parse_tree::{GrammarItem, InternToken, NoMemory, TypeParameter};
 use std::alloc::Global;
 
 /// What a lowered grammar takes over as it is.
@@ -61,17 +57,6 @@ pub(crate) fn signature_of(alloc: Global, grammar: &pt::Grammar) -> Result<Signa
         parameters: lowered_parameters(alloc, &grammar.parameters)?,
         where_clauses: lowered_clauses(alloc, &grammar.where_clauses)?,
     })
-}
-
-/// The algorithm that the attributes ask for.
-pub(crate) fn algorithm_of(attributes: &[Attribute]) -> Algorithm
-    requires { all_known (attributes_view attributes.now) ≡ true }
-    ensures lalr { result.lalr ≡ asks_lalr (attributes_view attributes.now) }
-    ensures codegen { result.codegen ≡ asked_code (attributes_view attributes.now) }
-{
-    let mut algorithm = Algorithm::default();
-    read_algorithm(attributes, &mut algorithm);
-    algorithm
 }
 
 /// The texts of `use` items.

@@ -18,7 +18,7 @@ use crate::starts::{Start, insert, rule_type};
 use crate::typing::unit_type;
 use lalrpop_norm_faults::NormResult;
 use lalrpop_norm_lowering::refusals::check_start;
-use lalrpop_norm_lowering::starts::start_alternative;
+use lalrpop_norm_lowering::starts::{start_alternative, start_data};
 use lalrpop_norm_parts::attribute::copy::copy_attributes;
 use lalrpop_norm_repr::grammar::repr::{
     ActionFnDefn, NonterminalData, Production, TypeRepr, Types,
@@ -75,25 +75,6 @@ fn start_production(
         &alternative,
         actions,
     )
-}
-
-/// The nonterminal of a start symbol with that one production.
-fn start_data(
-    alloc: Global,
-    rule: &pt::NonterminalData,
-    production: Production,
-) -> Result<NonterminalData, NoMemory>
-    ensures { IfOk result (λ n. nonterminal_data_view n
-        ≡ record { visibility = (rule_view rule.now).visibility; span = rule.now.span; attributes = no_attributes; productions = production_view production ∷ [] }) }
-{
-    let mut productions = Vec::new(alloc);
-    productions.push(production)?;
-    Ok(NonterminalData {
-        visibility: rule.visibility.clone()?,
-        span: rule.span,
-        attributes: Vec::new(alloc),
-        productions,
-    })
 }
 
 /// The nonterminal of a rule.

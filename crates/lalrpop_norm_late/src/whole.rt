@@ -18,7 +18,7 @@ ghost use Rattle.lalrpop_norm_late.specs.Shape.{IsLoweringOf};
 ghost use Rattle.lalrpop_norm_late.specs.Starts.{start_rule, start_typed};
 ghost use Rattle.lalrpop_norm_late.specs.Typing.{start_types};
 
-use crate::head::{algorithm_of, head_of, signature_of};
+use crate::head::{head_of, signature_of};
 use crate::nonterminals::{lower_rules, lower_starts};
 use crate::recovery::uses_recovery;
 use crate::rules::{public_rules, rules_of};
@@ -26,6 +26,7 @@ use crate::starts::{Start, start_table, starts_of};
 use crate::tokens::terminals_of;
 use crate::typing::add_start_types;
 use lalrpop_norm_faults::NormResult;
+use lalrpop_norm_lowering::algorithm::algorithm_of;
 use lalrpop_norm_repr::grammar::repr::{
     ActionFnDefn, Grammar, NonterminalData, NonterminalString, Types,
 };
@@ -35,7 +36,8 @@ use std::alloc::Global;
 use std::collections::BTreeMap;
 
 /// Lowers an expanded grammar over the types of its rules: `types` has one for each rule. The terminals of the active conversions,
-/// or of the tokenizer's entries, are distinct, and each terminal that is used is one of them.
+/// or of the tokenizer's entries, are distinct, and each terminal that is used is one of them. The grammar and the types are
+/// consumed, also where the answer is an error.
 ///
 /// Action k, from 0, is that of the k-th of the start symbols of public rules, then of the alternatives in item order. Terminals
 /// are numbered from 0 in the order of the active conversions, or of the tokenizer's entries without its skips, the error terminal
@@ -46,6 +48,23 @@ use std::collections::BTreeMap;
 /// code with several `<>`, not as many as there are sources; F56 (`TooManyActions`) at the rule or alternative whose action would have a
 /// number past the greatest; `Memory`.
 pub fn lower<L>(
+    alloc: Global,
+    session: &Session<L>,
+    grammar: pt::Grammar,
+    types: Types,
+) -> NormResult<Grammar>
+    requires expanded { IsExpanded (written.grammar_view grammar) }
+    requires typed { IsTyped (features_view session.now.features) (written.grammar_view grammar) (types_by_name (type_table types)) }
+    ensures refuses { Refuses result (lowering_faults (written.grammar_view grammar) (types_by_name (type_table types))) }
+    ensures lowered { IfOk result (λ l. IsLoweringOf (active_grammar (features_view session.now.features) (written.grammar_view grammar))
+        (all_rules (written.grammar_view grammar)) (type_table types) (lowered.lowered_grammar_view l)) }
+    ensures closed { IfOk result (λ l. IsClosed (lowered.lowered_grammar_view l)) }
+{
+    lower_kept(alloc, session, &grammar, types)
+}
+
+/// The same, of a grammar that the caller keeps.
+fn lower_kept<L>(
     alloc: Global,
     session: &Session<L>,
     grammar: &pt::Grammar,
@@ -63,7 +82,7 @@ pub fn lower<L>(
     lower_over(alloc, session, grammar, types, &rules, &public)
 }
 
-/// The same, with the grammar's rules and the public ones among them.
+/// The same, of its rules and the public ones among them.
 fn lower_over<L>(
     alloc: Global,
     session: &Session<L>,

@@ -1,1 +1,4 @@
+pub mod AttributeLemmas
+pub mod CodeLemmas
+pub mod SlotLemmas
 pub mod SpanLemmas

@@ -1,7 +1,10 @@
 //! Parts of lowering: each looks at one alternative, one public rule or one list of terminals, and at nothing else.
 #![tactic(auto)]
 
+pub mod algorithm;
+pub mod clauses;
 pub mod code;
+pub mod placeholders;
 pub mod refusals;
 pub mod starts;
 pub mod terminals;

@@ -28,10 +28,13 @@ pub fn check_count(
     if sources.len() == count {
         return Ok(());
     }
+    let values = sources.len();
     Err(refusal(
         FaultKind::Placeholders,
         span_over(span, sources),
-        format!(in alloc; "{count} `<>`, but the number of values is another one"),
+        format!(in alloc;
+            "the code has {count} `<>`, and the number of values is {values}: write one `<>` for each value, or give the values names"
+        ),
     ))
 }
 
@@ -73,7 +76,9 @@ pub fn check_start(
     Err(refusal(
         FaultKind::StartTaken,
         rule.span,
-        format!(in alloc; "`{name}`, the name of a start symbol, is taken"),
+        format!(in alloc;
+            "the start symbol of this rule would be `{name}`, and a rule has that name: rename that rule"
+        ),
     ))
 }
 
@@ -89,6 +94,6 @@ pub fn next_action(alloc: Global, actions: &[ActionFnDefn], span: Span) -> NormR
     Err(refusal(
         FaultKind::TooManyActions,
         span,
-        format!(in alloc; "more than {ACTIONS} actions"),
+        format!(in alloc; "the grammar has more than {ACTIONS} actions: make it smaller"),
     ))
 }

@@ -1,9 +1,12 @@
-//! The alternatives of start symbols.
-ghost use Rattle.std.specs.Prelude.{◌≡◌, IfOk};
+//! Start symbols: their alternatives, and their nonterminals.
+ghost use Rattle.std.specs.Prelude.{◌≡◌, ◌∷◌, [], IfOk};
+ghost use Rattle.lalrpop_norm_parts.specs.Attributes.{no_attributes};
 ghost use Rattle.lalrpop_norm_tree.specs.Items.{alternative_view, rule_view};
 ghost use Rattle.lalrpop_norm_tree.specs.Symbols.{expr_view, symbol_view, nonterminal, at, part_and, no_parts};
+ghost use Rattle.lalrpop_norm_repr.specs.Productions.{nonterminal_data_view, production_view};
 ghost use Rattle.lalrpop_norm_lowering.specs.StartSymbols.{start_alternative};
 
+use lalrpop_norm_repr::grammar::repr::{self, Production};
 use lalrpop_norm_tree::grammar::parse_tree::{
     Alternative, ExprSymbol, NoMemory, NonterminalData, NonterminalString, Span, Symbol, SymbolKind,
 };
@@ -38,4 +41,25 @@ fn named_symbol(span: Span, name: &NonterminalString) -> Result<Symbol, NoMemory
 {
     let kind = SymbolKind::Nonterminal(name.clone()?);
     Ok(Symbol { span, kind })
+}
+
+/// The nonterminal of a start symbol with that one production: it is seen and stands where its rule does, and has no attributes.
+pub fn start_data(
+    alloc: Global,
+    rule: &NonterminalData,
+    production: Production,
+) -> Result<repr::NonterminalData, NoMemory>
+    ensures { IfOk result (λ n. nonterminal_data_view n
+        ≡ record { visibility = (rule_view rule.now).visibility; span = rule.now.span; attributes = no_attributes; productions = production_view production ∷ [] }) }
+{
+    let span = rule.span;
+    let attributes = Vec::new(alloc);
+    let mut productions = Vec::new(alloc);
+    productions.push(production)?;
+    Ok(repr::NonterminalData {
+        visibility: rule.visibility.clone()?,
+        span,
+        attributes,
+        productions,
+    })
 }

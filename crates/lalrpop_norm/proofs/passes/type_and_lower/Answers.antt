@@ -11,6 +11,6 @@ lower-requires-clause-typed g c = c.requires.typed (type_table c.in_ok-types.typ
 pub returns-clause-refuses : goal.returns-clause-refuses
 returns-clause-refuses g c =
     subst (Refuses c.lower.result)
-    (late_same (written.grammar_view c.args.plain.now) (type_table c.in_ok-types.types) c.requires.expanded.distinct_names
+    (late_same (written.grammar_view c.args.plain) (type_table c.in_ok-types.types) c.requires.expanded.distinct_names
     c.in_ok-types.ensures.refuses c.in_ok-types.ensures.inferred)
     c.lower.ensures.refuses

@@ -1,7 +1,7 @@
 use Rattle.std.proofs.Common.{◌≡◌, ◌++◌, drop, map, string_bytes}
 use Rattle.std.specs.Prelude.{zip}
 use Rattle.std.specs.List.{flat_map}
-use Rattle.lalrpop_norm_late.proofs.placeholders.push_with_names.Given as goal
+use Rattle.lalrpop_norm_lowering.proofs.placeholders.push_with_names.Given as goal
 
 abbrev pub invariant-loop-index : goal.invariant-loop-index
 invariant-loop-index l =

@@ -1,8 +1,8 @@
 use denote.Shadow.{shadow}
 use denote.Text.{Utf8}
 use Rattle.std.proofs.Common.{◌≡◌, ◌++◌, length, map}
-use Rattle.lalrpop_norm_late.specs.Slots.{pieces}
-use Rattle.lalrpop_norm_late.proofs.placeholders.pieces.Given as goal
+use Rattle.lalrpop_norm_lowering.specs.Slots.{pieces}
+use Rattle.lalrpop_norm_lowering.proofs.placeholders.pieces.Given as goal
 
 -- the pieces so far and those of the rest are those of the code
 abbrev pub invariant-loop-before : goal.invariant-loop-before

@@ -1,6 +1,6 @@
 use Rattle.std.proofs.Common.{◌≡◌, ◌++◌, drop, map, string_bytes}
 use Rattle.std.specs.List.{flat_map}
-use Rattle.lalrpop_norm_late.proofs.placeholders.push_joined.Given as goal
+use Rattle.lalrpop_norm_lowering.proofs.placeholders.push_joined.Given as goal
 
 abbrev pub invariant-loop-other : goal.invariant-loop-other
 invariant-loop-other l =

@@ -8,9 +8,9 @@ use Rattle.std.proofs.lemmas.List.Elements.{All-from_recursion}
 use Rattle.lalrpop_norm_parts.specs.Texts.{joined}
 use Rattle.lalrpop_norm_util.specs.Braces.{is_slot, around_slot}
 use Rattle.lalrpop_norm_model.specs.LoweringFaults.{slots}
-use Rattle.lalrpop_norm_late.specs.Arguments.{in_slots, IsFilled}
-use Rattle.lalrpop_norm_late.specs.Slots.{Cut, cut_with, cut, pieces, in_order, filled_code}
-use Rattle.lalrpop_norm_late.proofs.CodeLemmas.{first_slot, slot_front, not_in_front}
+use Rattle.lalrpop_norm_lowering.specs.Filled.{in_slots, IsFilled}
+use Rattle.lalrpop_norm_lowering.specs.Slots.{Cut, cut_with, cut, pieces, in_order, filled_code}
+use Rattle.lalrpop_norm_lowering.proofs.CodeLemmas.{first_slot, slot_front, not_in_front}
 
 -- ---- slots
 

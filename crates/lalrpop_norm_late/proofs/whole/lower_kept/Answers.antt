@@ -12,7 +12,7 @@ use Rattle.lalrpop_norm_late.specs.Made.{made_faults, IsMade}
 use Rattle.lalrpop_norm_late.specs.Shape.{IsLoweringOf}
 use Rattle.lalrpop_norm_late.proofs.FaultCounts.{faults_same}
 use Rattle.lalrpop_norm_late.proofs.MadeLemmas.{made_is_lowered, made_is_closed, where_clean}
-use Rattle.lalrpop_norm_late.proofs.whole.lower.Goals as goal
+use Rattle.lalrpop_norm_late.proofs.whole.lower_kept.Goals as goal
 
 pub lower_over-requires-clause-known : goal.lower_over-requires-clause-known
 lower_over-requires-clause-known g c = c.requires.expanded.known_attributes

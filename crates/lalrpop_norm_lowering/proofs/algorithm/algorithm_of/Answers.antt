@@ -3,8 +3,8 @@ use Rattle.std.specs.Prelude.{fold, unwrap_or}
 use Rattle.std.specs.List.{list_any}
 use Rattle.std.proofs.lemmas.List.Elements.{All-from_recursion}
 use Rattle.lalrpop_norm_parts.specs.Accessors.{is_known_name, codegen_named}
-use Rattle.lalrpop_norm_late.proofs.RowLemmas.{known_each, names_any, names_fold}
-use Rattle.lalrpop_norm_late.proofs.head.algorithm_of.Goals as goal
+use Rattle.lalrpop_norm_lowering.proofs.AttributeLemmas.{known_each, names_any, names_fold}
+use Rattle.lalrpop_norm_lowering.proofs.algorithm.algorithm_of.Goals as goal
 
 pub read_algorithm-requires : goal.read_algorithm-requires
 read_algorithm-requires c = All-from_recursion (λ a. is_known_name a.id ≡ _) c.args.attributes.now (known_each c.args.attributes.now c.requires)

@@ -1,6 +1,6 @@
 use Rattle.std.proofs.Common.{◌∙◌, rules, sym, refl}
-use Rattle.lalrpop_norm_late.proofs.SlotLemmas.{shorter, pushed_last, pushed_more}
-use Rattle.lalrpop_norm_late.proofs.placeholders.pieces.Goals as goal
+use Rattle.lalrpop_norm_lowering.proofs.SlotLemmas.{shorter, pushed_last, pushed_more}
+use Rattle.lalrpop_norm_lowering.proofs.placeholders.pieces.Goals as goal
 
 pub loop-before-smaller : goal.loop-before-smaller
 loop-before-smaller c = shorter c.loop-before.rest.now (c.in-Some.before.now, c.in-Some.after.now) (sym c.in-Some.ensures)

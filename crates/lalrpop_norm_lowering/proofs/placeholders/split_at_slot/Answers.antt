@@ -1,6 +1,6 @@
 use Rattle.std.proofs.Common.{drop, sym}
 use Rattle.lalrpop_norm_util.proofs.Slots.{slot_found, slot_missing}
-use Rattle.lalrpop_norm_late.proofs.placeholders.split_at_slot.Goals as goal
+use Rattle.lalrpop_norm_lowering.proofs.placeholders.split_at_slot.Goals as goal
 
 pub returns-in-Some : goal.returns-in-Some
 returns-in-Some c =
