@@ -194,6 +194,10 @@ def remove_disabled(tree, features):
     tree["items"] = [i for i in tree["items"] if one(i)[0] != "Nonterminal" or is_active(one(i)[1]["attributes"], features)]
     for rule in rules_of(tree):
         rule["alternatives"] = [a for a in rule["alternatives"] if is_active(a["attributes"], features)]
+    remove_conversions(tree, features)
+
+
+def remove_conversions(tree, features):
     for name, content in map(one, tree["items"]):
         if name == "ExternToken" and content["enum_token"]:
             tokens = content["enum_token"]
@@ -577,7 +581,11 @@ class Lowered:
         for name in ("S", "U"):
             made = [shown for shown, _ in self.found[name][3]] if name in self.found else []
             text += "productions of %s [%s]\n" % (name, ", ".join(made))
-        return text + "%d terminals with a number\n" % (len({str(t) for t, _ in conversions_of(self.tree)}) + self.recovers)
+        conversions = conversions_of(self.tree)
+        text += "%d terminals with a number\n" % (len({str(t) for t, _ in conversions}) + self.recovers)
+        text += "".join("pattern of %s: %s\n" % (terminal(t, marked=False), shown) for t, shown in conversions)
+        failing = [" %d" % n for n, shown in enumerate(self.actions) if shown.startswith("fallible ")]
+        return text + "actions that may fail" + "".join(failing) + "\n"
 
     def lines(self):
         """What the program `lnorm` prints."""
@@ -654,6 +662,16 @@ def normalized(tree, features, limit):
     return Lowered(tree)
 
 
+def lowered_alone(tree, features):
+    """What `lower` makes of a tree whose names are resolved; types are those of all conversions, terminals of the active ones."""
+    types_text(tree)
+    if not is_expanded(tree) or not is_typed(tree, features):
+        raise NotExpanded
+    lowered = Lowered(tree)
+    remove_conversions(tree, features)
+    return lowered.text()
+
+
 def lines_of(data, words):
     """What `lnorm` prints."""
     tree = None
@@ -671,7 +689,7 @@ def lines_of(data, words):
 
 PASSES = ("read", "validate", "check_globals", "remove_disabled_decls", "resolve", "expand_levels", "expand_precedence",
           "expand_macros", "token_check")
-LAST = ("token_check_scripted", "infer_types", "normalize", "lowered_copy", "copy", "is_typed", "ask", "texts")
+LAST = ("token_check_scripted", "infer_types", "normalize", "lowered_copy", "copy", "lower", "is_typed", "ask", "texts")
 
 
 def passes_answer(data, call, words):
@@ -686,11 +704,14 @@ def passes_answer(data, call, words):
         return "not a tree\n"
     for one_pass in first:
         run_pass(one_pass, tree, features, limit)
-    if whole and last in LAST[1:4]:
+    if whole and last in LAST[1:4] + ("lower",):
         raise Unknown
     if last in ("normalize", "lowered_copy"):
         lowered = normalized(tree, features, limit)
         return lowered.text() if last == "normalize" else lowered.copied()
+    if last == "lower":
+        resolve(tree)
+        return lowered_alone(tree, features)
     if last in ("infer_types", "is_typed"):
         resolve(tree)
         text = types_text(tree)

@@ -65,6 +65,8 @@ pub(crate) enum Last {
     InferTypes,
     /// `is_typed`: whether `lower` takes that table.
     IsTyped,
+    /// `lower`: the tree lowered over that table.
+    Lower,
     /// `normalize`: the lowered grammar.
     Normalize,
     /// The tree's `clone`.
@@ -112,6 +114,7 @@ fn last_of(name: &str) -> Option<Last> {
         "token_check_scripted" => Some(Last::TokenCheckScripted),
         "infer_types" => Some(Last::InferTypes),
         "is_typed" => Some(Last::IsTyped),
+        "lower" => Some(Last::Lower),
         "normalize" => Some(Last::Normalize),
         "lowered_copy" => Some(Last::LoweredCopy),
         _ => look_of(name),

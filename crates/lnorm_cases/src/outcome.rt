@@ -1,7 +1,7 @@
 //! What passes come to, and how it is printed.
 use crate::asks::push_asked;
 use crate::call::{Last, Pass};
-use crate::passes::{Stopped, normalized, tree_after, tree_after_all, typed};
+use crate::passes::{Stopped, lowered, normalized, tree_after, tree_after_all, typed};
 use crate::shown::{ended, push_or};
 use lalrpop_norm::grammar::repr;
 use lalrpop_norm::normalize::lower::is_typed;
@@ -107,6 +107,7 @@ fn push_last<L: Lexer>(
         }
         Last::InferTypes => push_typed(alloc, text, form, tree),
         Last::IsTyped => push_is_typed(alloc, text, session, form, tree),
+        Last::Lower => push_normalized(text, form, lowered(alloc, session, tree)),
         Last::Normalize => push_normalized(text, form, normalized(alloc, session, tree)),
         Last::LoweredCopy => push_copied(alloc, text, form, normalized(alloc, session, tree)),
         Last::Copy => {

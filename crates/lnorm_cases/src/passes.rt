@@ -8,6 +8,7 @@ use crate::call::Pass;
 use crate::shown::{beside, kept};
 use lalrpop_norm::grammar::repr;
 use lalrpop_norm::normalize::cond_comp::remove_disabled_decls;
+use lalrpop_norm::normalize::lower::{is_typed, lower};
 use lalrpop_norm::normalize::precedence::expand_precedence;
 use lalrpop_norm::normalize::prevalidate::validate;
 use lalrpop_norm::normalize::resolve::{check_globals, resolve};
@@ -27,7 +28,7 @@ use std::alloc::Global;
 pub(crate) enum Stopped {
     /// One of them failed.
     Failed(NormFailure),
-    /// The pass on tokens was not run: the tree is not expanded, or it has a tokenizer.
+    /// The pass on tokens or `lower` was not run: the tree is not expanded, or it has a tokenizer already, or is not typed.
     NotExpanded,
 }
 
@@ -97,6 +98,20 @@ pub(crate) fn normalized<L: Lexer>(
     tree: Grammar,
 ) -> Result<repr::Grammar, Stopped> {
     Ok(normalize(alloc, session, tree)?)
+}
+
+/// The tree with its names resolved, lowered over the types of its rules, where both are what `lower` takes.
+pub(crate) fn lowered<L>(
+    alloc: Global,
+    session: &Session<L>,
+    tree: Grammar,
+) -> Result<repr::Grammar, Stopped> {
+    let (tree, types) = typed(alloc, tree)?;
+    if is_expanded(&tree) && is_typed(session, &tree, &types) {
+        Ok(lower(alloc, session, tree, types)?)
+    } else {
+        Err(Stopped::NotExpanded)
+    }
 }
 
 /// The tree with its names resolved, and the types of its rules.

@@ -23,11 +23,13 @@ fn two_symbols(alloc: Global) -> Result<Vec<Symbol>, NoMemory> {
     list_of_two(alloc, nonterminal(alloc, "A"), terminal(alloc, "b"))
 }
 
-fn nonterminal(alloc: Global, name: &str) -> Result<Symbol, NoMemory> {
+/// The nonterminal of that name.
+pub(crate) fn nonterminal(alloc: Global, name: &str) -> Result<Symbol, NoMemory> {
     Ok(Symbol::Nonterminal(NonterminalString(atom(alloc, name)?)))
 }
 
-fn terminal(alloc: Global, name: &str) -> Result<Symbol, NoMemory> {
+/// The bare terminal of that name.
+pub(crate) fn terminal(alloc: Global, name: &str) -> Result<Symbol, NoMemory> {
     Ok(Symbol::Terminal(TerminalString::Bare(atom(alloc, name)?)))
 }
 

@@ -3,6 +3,8 @@
 
 mod actions;
 pub mod faults;
+mod lifetimes;
+mod looks;
 pub mod lowered;
 pub mod made;
 mod names;

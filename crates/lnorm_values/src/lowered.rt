@@ -3,7 +3,7 @@ use crate::actions::parameter;
 use crate::made::{atom, push_made, push_shown, show_made};
 use crate::names::{input, named};
 use lalrpop_norm_print::lowered::push_lowered;
-use lalrpop_norm_repr::grammar::repr::{self, NonterminalString};
+use lalrpop_norm_repr::grammar::repr::{self, ActionFn, NonterminalString, TerminalString};
 use shared_text::NoMemory;
 use std::alloc::Global;
 
@@ -21,7 +21,41 @@ fn push_asked(alloc: Global, text: &mut String, copy: &mut repr::Grammar) -> Res
     push_lowered(text, copy)?;
     add_parameters(alloc, copy)?;
     push_references(alloc, text, copy)?;
-    push_productions(alloc, text, copy)
+    push_productions(alloc, text, copy)?;
+    push_patterns(text, copy)?;
+    push_fallible(text, copy)
+}
+
+/// The pattern of each terminal that has one.
+fn push_patterns(text: &mut String, lowered: &repr::Grammar) -> Result<(), NoMemory> {
+    for terminal in &lowered.terminals.all {
+        push_pattern_of(text, lowered, terminal)?;
+    }
+    Ok(())
+}
+
+fn push_pattern_of(
+    text: &mut String,
+    lowered: &repr::Grammar,
+    terminal: &TerminalString,
+) -> Result<(), NoMemory> {
+    if lowered.conversions.contains_key(terminal) {
+        let pattern = lowered.pattern(terminal);
+        write!(text, "pattern of {terminal}: {pattern}\n")?;
+    }
+    Ok(())
+}
+
+/// The numbers of the actions that may fail.
+fn push_fallible(text: &mut String, lowered: &repr::Grammar) -> Result<(), NoMemory> {
+    text.push_str("actions that may fail")?;
+    for number in 0..lowered.action_fn_defns.len() {
+        if number < 4294967296 && lowered.action_is_fallible(ActionFn::new(number)) {
+            write!(text, " {number}")?;
+        }
+    }
+    text.push_str("\n")?;
+    Ok(())
 }
 
 /// The productions of the nonterminals `S` and `U`, and how many terminals have a number.

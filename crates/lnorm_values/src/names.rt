@@ -120,7 +120,7 @@ fn binder(alloc: Global) -> Result<Vec<TypeParameter>, NoMemory> {
 }
 
 /// `'a`
-fn lifetime(alloc: Global) -> Result<TypeParameter, NoMemory> {
+pub(crate) fn lifetime(alloc: Global) -> Result<TypeParameter, NoMemory> {
     Ok(TypeParameter::Lifetime(Lifetime(atom(alloc, "'a")?)))
 }
 
@@ -136,7 +136,7 @@ fn forall_clause(alloc: Global) -> Result<WhereClause, NoMemory> {
 }
 
 /// `T: Foo`
-fn bound_clause(alloc: Global) -> Result<WhereClause, NoMemory> {
+pub(crate) fn bound_clause(alloc: Global) -> Result<WhereClause, NoMemory> {
     let (subject, bound) = both(of_parameter(alloc, named(alloc, "T")), trait_bound(alloc))?;
     Ok(WhereClause::Bound { subject, bound })
 }

@@ -131,7 +131,7 @@ fn closed_structure(alloc: Global) -> Result<Pattern<Atom>, NoMemory> {
 }
 
 /// `f: NAME`
-fn field(alloc: Global, name: &str) -> Result<FieldPattern<Atom>, NoMemory> {
+pub(crate) fn field(alloc: Global, name: &str) -> Result<FieldPattern<Atom>, NoMemory> {
     let (field_name, pattern) = both(atom(alloc, "f"), choice(alloc, name))?;
     Ok(FieldPattern {
         field_span: Span(0, 0),
@@ -140,7 +140,8 @@ fn field(alloc: Global, name: &str) -> Result<FieldPattern<Atom>, NoMemory> {
     })
 }
 
-fn choice(alloc: Global, name: &str) -> Result<Pattern<Atom>, NoMemory> {
+/// The pattern that chooses a part of that name.
+pub(crate) fn choice(alloc: Global, name: &str) -> Result<Pattern<Atom>, NoMemory> {
     Ok(at_start(PatternKind::Choose(atom(alloc, name)?)))
 }
 

@@ -1,6 +1,8 @@
 //! Values that no tree holds: each call that makes one runs once, with memory enough.
 use crate::actions::push_actions;
 use crate::faults::{push_refusals, push_sides};
+use crate::lifetimes::push_lifetimes;
+use crate::looks::push_looks;
 use crate::names::push_names;
 use crate::parts::push_parts;
 use crate::patterns::push_patterns;
@@ -17,5 +19,7 @@ pub fn push_values(alloc: Global, text: &mut String) -> Result<(), NoMemory> {
     push_sides(text)?;
     push_parts(alloc, text)?;
     push_patterns(alloc, text)?;
+    push_lifetimes(alloc, text)?;
+    push_looks(alloc, text)?;
     Ok(())
 }

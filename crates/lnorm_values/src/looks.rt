@@ -1,0 +1,192 @@
+//! Small questions, match blocks that calls make, arguments of bounds that are mapped, and texts that no grammar shows.
+use crate::actions::{nonterminal, terminal};
+use crate::made::{
+    atom, both, boxed, copy_of, list_of_one, list_of_two, made_of, push_debug, push_shown,
+    show_made,
+};
+use crate::names::{bound_clause, lifetime, named, named_path, of_parameter};
+use crate::patterns::{choice, field};
+use lalrpop_norm_repr::grammar::repr::{
+    ActionFn, LookaroundActionFnDefn, NominalTypeRepr, Symbol, TypeRepr, WhereClause,
+};
+use lalrpop_norm_tree::grammar::parse_tree::{
+    Lifetime, MatchContents, MatchItem, MatchToken, NoMemory, NonterminalString, Span, TypeBound,
+    TypeBoundParameter,
+};
+use lalrpop_norm_tree::grammar::pattern::{FieldPattern, PatternKind};
+use shared_text::Atom;
+use std::alloc::Global;
+
+/// Of each kind some lines.
+pub(crate) fn push_looks(alloc: Global, text: &mut String) -> Result<(), NoMemory> {
+    push_lengths(alloc, text)?;
+    push_kinds(alloc, text)?;
+    push_blocks(alloc, text)?;
+    push_mapped(alloc, text)?;
+    push_texts(alloc, text)
+}
+
+// ---- names and symbols
+
+/// How long names and lifetimes are, and whether a lifetime is anonymous.
+fn push_lengths(alloc: Global, text: &mut String) -> Result<(), NoMemory> {
+    show_made(text, name(alloc, "Expr"), push_name)?;
+    show_made(text, name(alloc, ""), push_name)?;
+    show_made(text, Lifetime::anonymous(alloc), push_lifetime)?;
+    show_made(text, Lifetime::input(alloc), push_lifetime)
+}
+
+fn name(alloc: Global, name: &str) -> Result<NonterminalString, NoMemory> {
+    Ok(NonterminalString(atom(alloc, name)?))
+}
+
+fn push_name(text: &mut String, name: &NonterminalString) -> Result<(), NoMemory> {
+    let length = name.len();
+    let is_empty = name.is_empty();
+    write!(text, "name of length {length}, empty {is_empty}\n")?;
+    Ok(())
+}
+
+fn push_lifetime(text: &mut String, lifetime: &Lifetime) -> Result<(), NoMemory> {
+    let length = lifetime.len();
+    let is_empty = lifetime.is_empty();
+    let is_anonymous = lifetime.is_anonymous();
+    write!(
+        text,
+        "lifetime of length {length}, empty {is_empty}, anonymous {is_anonymous}\n"
+    )?;
+    Ok(())
+}
+
+/// Whether symbols are terminals, and the number of an action.
+fn push_kinds(alloc: Global, text: &mut String) -> Result<(), NoMemory> {
+    show_made(text, nonterminal(alloc, "A"), push_symbol)?;
+    show_made(text, terminal(alloc, "b"), push_symbol)?;
+    let index = ActionFn::new(22).index();
+    let lookahead = LookaroundActionFnDefn::Lookahead;
+    write!(text, "action {index}, {lookahead:?}\n")?;
+    Ok(())
+}
+
+fn push_symbol(text: &mut String, symbol: &Symbol) -> Result<(), NoMemory> {
+    let is_terminal = symbol.is_terminal();
+    write!(text, "symbol {symbol:?}, terminal {is_terminal}\n")?;
+    Ok(())
+}
+
+// ---- match blocks
+
+/// A block of one group, and the same with one more.
+fn push_blocks(alloc: Global, text: &mut String) -> Result<(), NoMemory> {
+    show_made(text, block(alloc), push_block)?;
+    show_made(text, longer_block(alloc), push_block)
+}
+
+fn push_block(text: &mut String, block: &MatchToken) -> Result<(), NoMemory> {
+    let groups = &block.contents;
+    let span = block.span;
+    write!(text, "match block {span:?} {groups:?}\n")?;
+    Ok(())
+}
+
+/// `match { _ }` at 3..8.
+fn block(alloc: Global) -> Result<MatchToken, NoMemory> {
+    MatchToken::new(alloc, catch_all(alloc, Span(5, 6))?, Span(3, 8))
+}
+
+/// `match { _ } else { _ }` at 3..8.
+fn longer_block(alloc: Global) -> Result<MatchToken, NoMemory> {
+    let (block, contents) = both(block(alloc), catch_all(alloc, Span(6, 7)))?;
+    block.add(alloc, contents)
+}
+
+fn catch_all(alloc: Global, span: Span) -> Result<MatchContents, NoMemory> {
+    let items = list_of_one(alloc, Ok(MatchItem::CatchAll(span)))?;
+    Ok(MatchContents { items })
+}
+
+// ---- maps
+
+/// Arguments of bounds, what a pattern is, and a field of one, each with the lengths of its names in their places.
+fn push_mapped(alloc: Global, text: &mut String) -> Result<(), NoMemory> {
+    push_shown(text, "mapped ", mapped_argument(alloc), "")?;
+    push_shown(text, ", ", mapped_kind(alloc), "")?;
+    push_shown(text, ", ", mapped_field(alloc), "\n")
+}
+
+fn length(name: &Atom) -> Result<usize, NoMemory> {
+    Ok(name.as_str().len())
+}
+
+fn mapped_argument(alloc: Global) -> Result<TypeBoundParameter<usize>, NoMemory> {
+    made_of(argument(alloc), |argument| {
+        argument.map(&mut |name: &Atom| length(name))
+    })
+}
+
+/// `Item = cde`
+fn argument(alloc: Global) -> Result<TypeBoundParameter<Atom>, NoMemory> {
+    let (item, ty) = both(atom(alloc, "Item"), atom(alloc, "cde"))?;
+    Ok(TypeBoundParameter::Associated(item, ty))
+}
+
+fn mapped_kind(alloc: Global) -> Result<PatternKind<usize>, NoMemory> {
+    made_of(
+        tuple(alloc),
+        |kind| kind.map(&mut |name: &Atom| length(name)),
+    )
+}
+
+/// `(ab, cde)`
+fn tuple(alloc: Global) -> Result<PatternKind<Atom>, NoMemory> {
+    let patterns = list_of_two(alloc, choice(alloc, "ab"), choice(alloc, "cde"))?;
+    Ok(PatternKind::Tuple(patterns))
+}
+
+fn mapped_field(alloc: Global) -> Result<FieldPattern<usize>, NoMemory> {
+    made_of(field(alloc, "u16"), |field| {
+        field.map(&mut |name: &Atom| length(name))
+    })
+}
+
+// ---- texts
+
+/// A bound by a function with a binder, a clause under an empty one, and a path with an argument.
+fn push_texts(alloc: Global, text: &mut String) -> Result<(), NoMemory> {
+    push_shown(text, "bound ", function_bound(alloc), "\n")?;
+    push_shown(text, "where ", clause_under_nothing(alloc), "\n")?;
+    push_debug(text, "type ", copy_of(applied(alloc)), "\n")
+}
+
+/// `for<'a> Fn(A, B) -> R`
+fn function_bound(alloc: Global) -> Result<TypeBound<TypeRepr>, NoMemory> {
+    let types = list_of_two(alloc, type_named(alloc, "A"), type_named(alloc, "B"));
+    let head = both(list_of_one(alloc, lifetime(alloc)), named_path(alloc, "Fn"));
+    let ((forall, path), (parameters, ret)) = both(head, both(types, type_named(alloc, "R")))?;
+    Ok(TypeBound::Fn {
+        forall,
+        path,
+        parameters,
+        ret: Some(ret),
+    })
+}
+
+/// `for<> T: Foo`
+fn clause_under_nothing(alloc: Global) -> Result<WhereClause, NoMemory> {
+    let clause = boxed(alloc, bound_clause(alloc))?;
+    Ok(WhereClause::Forall {
+        binder: Vec::new(alloc),
+        clause,
+    })
+}
+
+/// `Vec<A>`
+fn applied(alloc: Global) -> Result<NominalTypeRepr, NoMemory> {
+    let types = list_of_one(alloc, type_named(alloc, "A"));
+    let (path, types) = both(named_path(alloc, "Vec"), types)?;
+    Ok(NominalTypeRepr { path, types })
+}
+
+fn type_named(alloc: Global, name: &str) -> Result<TypeRepr, NoMemory> {
+    of_parameter(alloc, named(alloc, name))
+}
