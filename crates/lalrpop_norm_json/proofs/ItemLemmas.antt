@@ -1,25 +1,50 @@
 -- The form of the items of a grammar, item by item.
-use Rattle.std.proofs.Common.{◌≡◌, ℕ, ◌≤◌, List, [], ◌∷◌, map, take, length, Some, option_map, refl, sym, ap, ◌∙◌}
-use Rattle.std.proofs.lemmas.List.{take_all}
-use Rattle.serde_json.specs.Data.{Data, array}
-use Rattle.serde_json.specs.View.{view, items_view}
-use Rattle.serde_json.specs.declared.value.Value.{Value}
+use Rattle.std.specs.Prelude.{IfOk}
+use Rattle.std.proofs.Common.{◌≡◌, List, [], ◌∷◌, ◌++◌, map, Option, Some, None, option_map, option_and_then, Result, Ok, refl, sym, ap, ◌∙◌, subst}
+use Rattle.serde_json.specs.Data.{Data, Items, no_items, item, array}
 use Rattle.lalrpop_norm_tree.specs.declared.items.GrammarItem.{GrammarItem}
-use Rattle.lalrpop_norm_tree.specs.Items.{item_view}
+use Rattle.lalrpop_norm_tree.specs.Items.{ItemData, item_view}
 use Rattle.lalrpop_norm_json.specs.Json.{row}
 use Rattle.lalrpop_norm_json.specs.ItemForms.{item_form, item_forms, items_form}
+use Rattle.lalrpop_norm_shapes.proofs.Refusals.{onto, one_more, whole_list}
 
-forms_of : (is : List GrammarItem) (vs : List Value) → map (λ i. item_form (item_view i)) is ≡ map (λ v. Some (view v)) vs → item_forms (map item_view is) ≡ Some (map view vs)
-forms_of [] [] e = refl
-forms_of [] (v ∷ vs) e = cc
-forms_of (i ∷ is) [] e = cc
-forms_of (i ∷ is) (v ∷ vs) e =
-    let first : item_form (item_view i) ≡ Some (view v) = cc in
-    let rest : map (λ i. item_form (item_view i)) is ≡ map (λ v. Some (view v)) vs = cc in
-    rw (first, forms_of is vs rest) refl
+split : (i : ItemData) (is : List ItemData) (ds : List Data) → item_forms (i ∷ is) ≡ Some ds → (e : Data) × (es : List Data) × (item_form i ≡ Some e) × (item_forms is ≡ Some es) × (e ∷ es ≡ ds)
+split i is ds h = at (item_form i) (item_forms is) refl refl h
+  where
+    at : (a : Option Data) (b : Option (List Data)) → item_form i ≡ a → item_forms is ≡ b → option_and_then (λ d. option_map (λ es. d ∷ es) b) a ≡ Some ds
+        → (e : Data) × (es : List Data) × (item_form i ≡ Some e) × (item_forms is ≡ Some es) × (e ∷ es ≡ ds)
+    at None b x y h = absurd (cc)
+    at (Some e) None x y h = absurd (cc)
+    at (Some e) (Some es) x y h = (e, es, x, y, cc)
+
+forms_push : (is : List ItemData) (i : ItemData) (ds : List Data) (d : Data) → item_forms is ≡ Some ds → item_form i ≡ Some d → item_forms (is ++ i ∷ []) ≡ Some (ds ++ d ∷ [])
+forms_push [] i ds d e x = rw x (ap (λ z. Some (z ++ d ∷ [])) (inner e))
+  where
+    inner : Some [] ≡ Some ds → [] ≡ ds
+    inner e = cc
+forms_push (j ∷ is) i ds d e x =
+    let s = split j is ds e in
+    rw (s.2, forms_push is i s.1 d s.3 x) (ap (λ z. Some (z ++ d ∷ [])) s.4)
+
+views_push : (is : List GrammarItem) (i : GrammarItem) → map item_view (is ++ i ∷ []) ≡ map item_view is ++ item_view i ∷ []
+views_push [] i = refl
+views_push (j ∷ is) i = ap (λ z. item_view j ∷ z) (views_push is i)
+
+-- of the list v these items were read, and the others are left
+abbrev pub ItemsRead : Data → List GrammarItem → Items → Type 0
+ItemsRead v is left = (ds : List Data) × (item_forms (map item_view is) ≡ Some ds) × (v ≡ array (onto ds left))
+
+item_read : (v : Data) (is : List GrammarItem) (left : Items) (i : GrammarItem) (d : Data) (es : Items) → ItemsRead v is left → left ≡ item d es → item_form (item_view i) ≡ Some d → ItemsRead v (is ++ i ∷ []) es
+item_read v is left i d es r next form =
+    (r.0 ++ d ∷ [], ap item_forms (views_push is i) ∙ forms_push (map item_view is) (item_view i) r.0 d r.1 form, one_more v r.0 left d es r.2 next)
+
+-- one more item was read and pushed
+pub items_pushed : {E : Type 0} (v : Data) (is ys : List GrammarItem) (r : Result GrammarItem E) (left : Items) (d : Data) (es : Items) → ItemsRead v is left → left ≡ item d es
+    → IfOk r (λ i. item_form (item_view i) ≡ Some d) → ((i : GrammarItem) × (r ≡ Ok i) × (ys ≡ is ++ i ∷ [])) → ItemsRead v ys es
+items_pushed v is ys r left d es so_far next form more =
+    let here = subst (λ o. IfOk o (λ i. item_form (item_view i) ≡ Some d)) more.1 form in
+    subst (λ zs. ItemsRead v zs es) (sym more.2) (item_read v is left more.0 d es so_far next here)
 
 -- items that were read to the end of their list
-pub whole_items : (is : List GrammarItem) (v : Data) (vs : List Value) (i : ℕ) → v ≡ array (items_view vs)
-    → map (λ i. item_form (item_view i)) is ≡ map (λ v. Some (view v)) (take i vs) → length vs ≤ i → items_form (map item_view is) ≡ Some v
-whole_items is v vs i form e h =
-    ap (option_map row) (forms_of is (take i vs) e) ∙ ap (λ ws. Some (array (items_view ws))) (take_all i vs h) ∙ ap Some (sym form)
+pub whole_items : (v : Data) (is : List GrammarItem) (left : Items) → ItemsRead v is left → left ≡ no_items → items_form (map item_view is) ≡ Some v
+whole_items v is left r none = ap (option_map row) r.1 ∙ ap Some (sym (whole_list v r.0 left r.2 none))

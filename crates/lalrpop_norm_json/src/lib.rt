@@ -15,8 +15,9 @@ ghost use Rattle.lalrpop_norm_shapes.specs.Shapes.{is};
 
 mod tree;
 
+use json_document::Scratch;
 pub use lalrpop_norm_shapes::TreeError;
-use lalrpop_norm_shapes::value_of;
+use lalrpop_norm_shapes::document_of;
 use lalrpop_norm_tree::grammar::parse_tree::Grammar;
 use std::alloc::Global;
 
@@ -27,12 +28,16 @@ use std::alloc::Global;
 /// # Errors
 ///
 /// `NotATree`: the text is not JSON (127 levels of arrays and objects are read), or its value has not the shape of a
-/// grammar; so it is the form of no tree. `Memory`: there was no memory for the value or the grammar.
+/// grammar; so it is the form of no tree. `Memory`: there was no memory for the text's document or the grammar, or
+/// the text is longer than 4 GiB less 256 bytes.
 pub fn read_tree(alloc: Global, text: &str) -> Result<Grammar, TreeError>
     ensures ok { IfOk result (λ g. (d : Data) × (read text.now ≡ Some d) × (grammar_form (grammar_view g) ≡ Some d)) }
     ensures not { IsErrOf result TreeError.NotATree → (d : Data) → read text.now ≡ Some d → is shape.grammar d ≡ false }
     ensures form { IsErrOf result TreeError.NotATree → IsForm text.now → ⊥ }
 {
-    let value = value_of(alloc, text)?;
-    tree::grammar(alloc, &value)
+    let mut scratch = Scratch::new(alloc);
+    match document_of(alloc, text, &mut scratch) {
+        Ok(document) => tree::grammar(alloc, document.root()),
+        Err(error) => Err(error),
+    }
 }

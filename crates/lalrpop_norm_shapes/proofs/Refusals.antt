@@ -1,41 +1,28 @@
 -- What has not the parts of a shape does not have the shape.
-use Rattle.std.proofs.Common.{◌≡◌, ◌≢◌, ℕ, zero, suc, ◌<◌, ◌≤◌, map, List, [], ◌∷◌, length, get_or, take, Some, None, option_and_then, Bool, true, false, ◌&&◌, refl, sym, ap, ◌∙◌, arith}
+use Rattle.std.proofs.Common.{◌≡◌, ℕ, suc, ◌<◌, ◌≤◌, map, List, [], ◌∷◌, ◌++◌, Some, None, option_and_then, Bool, true, false, ◌&&◌, refl, sym, ap, ◌∙◌, arith}
 use Rattle.std.specs.Str.{bytes_eq}
-use Rattle.std.proofs.lemmas.List.{take_all}
-use Rattle.serde_json.specs.Data.{Data, null, boolean, number, unsigned, negative, float, string, array, object, no_items, item, Members, no_members, member}
+use Rattle.serde_json.specs.Data.{Data, null, boolean, number, unsigned, negative, float, string, array, object, Items, no_items, item, Members, no_members, member}
 use Rattle.serde_json.specs.Find.{as_object, as_array, as_number, as_u64}
-use Rattle.serde_json.specs.View.{view, items_view, items_of}
-use Rattle.serde_json.specs.declared.value.Value.{Value}
+use Rattle.serde_json.specs.View.{items_of}
 use Rattle.lalrpop_norm_shapes.specs.Weight.{weight, items_weight}
 use Rattle.lalrpop_norm_shapes.specs.Parts.{is_null, is_pair, is_triple, is_variant, is_no_members, starts_with, are_keys, has_fields}
-use Rattle.lalrpop_norm_shapes.specs.Shapes.{ShapeName, natural, Place, Held, Arrays, shape, struct_of, each, row, place, fits, fits_items, fits_members, struct, variants, arrayed, optional, Shape, is}
+use Rattle.lalrpop_norm_shapes.specs.Shapes.{ShapeName, natural, Place, Held, Arrays, struct_of, each, row, place, fits, fits_items, fits_members, struct, variants, arrayed, optional, Shape, is}
 
-pub not_pair : (vs : List Value) → length vs ≢ 2 → is_pair (array (items_view vs)) ≡ false
-not_pair [] other = refl
-not_pair (a ∷ []) other = refl
-not_pair (a ∷ b ∷ []) other = absurd (other refl)
-not_pair (a ∷ b ∷ c ∷ vs) other = refl
+pub no_array_pair : (d : Data) → as_array d ≡ None → is_pair d ≡ false
+no_array_pair null e = refl
+no_array_pair (boolean b) e = refl
+no_array_pair (number n) e = refl
+no_array_pair (string s) e = refl
+no_array_pair (array ds) e = cc
+no_array_pair (object ms) e = refl
 
-pub pair_of : (vs : List Value) (d : Value) → length vs ≡ 2 → items_view vs ≡ item (view (get_or vs 0 d)) (item (view (get_or vs 1 d)) no_items)
-pair_of [] d two = cc
-pair_of (a ∷ []) d two = cc
-pair_of (a ∷ b ∷ []) d two = refl
-pair_of (a ∷ b ∷ c ∷ vs) d two = absurd (omega arith)
-
-pub not_triple : (vs : List Value) → length vs ≢ 3 → is_triple (array (items_view vs)) ≡ false
-not_triple [] other = refl
-not_triple (a ∷ []) other = refl
-not_triple (a ∷ b ∷ []) other = refl
-not_triple (a ∷ b ∷ c ∷ []) other = absurd (other refl)
-not_triple (a ∷ b ∷ c ∷ e ∷ vs) other = refl
-
-pub triple_of : (vs : List Value) (d : Value) → length vs ≡ 3
-    → items_view vs ≡ item (view (get_or vs 0 d)) (item (view (get_or vs 1 d)) (item (view (get_or vs 2 d)) no_items))
-triple_of [] d three = cc
-triple_of (a ∷ []) d three = cc
-triple_of (a ∷ b ∷ []) d three = cc
-triple_of (a ∷ b ∷ c ∷ []) d three = refl
-triple_of (a ∷ b ∷ c ∷ e ∷ vs) d three = absurd (omega arith)
+pub no_array_triple : (d : Data) → as_array d ≡ None → is_triple d ≡ false
+no_array_triple null e = refl
+no_array_triple (boolean b) e = refl
+no_array_triple (number n) e = refl
+no_array_triple (string s) e = refl
+no_array_triple (array ds) e = cc
+no_array_triple (object ms) e = refl
 
 pub natural_of : (d : Data) (n : ℕ) → option_and_then as_u64 (as_number d) ≡ Some n → d ≡ number (unsigned n)
 natural_of (number (unsigned m)) n e = cc
@@ -159,32 +146,63 @@ no_optional s (string t) there e = e
 no_optional s (array ds) there e = e
 no_optional s (object ms) there e = e
 
--- ---- lists
+-- ---- lists, of which some items were read
 
-pub item_weight : (vs : List Value) (i : ℕ) (d : Value) → i < length vs → weight (view (get_or vs i d)) ≤ items_weight (items_view vs)
-item_weight [] i d h = absurd (omega arith)
-item_weight (v ∷ vs) zero d h = omega arith
-item_weight (v ∷ vs) (suc i) d h = let later = item_weight vs i d (omega arith) in omega arith
+-- the items ds, and those after them
+abbrev pub onto : List Data → Items → Items
+onto [] es = es
+onto (d ∷ ds) es = item d (onto ds es)
 
-pub no_item : (n : ShapeName) (vs : List Value) (i : ℕ) (d : Value) → i < length vs → is n (view (get_or vs i d)) ≡ false → fits_items (each n) (items_view vs) ≡ false
-no_item n [] i d h e = absurd (omega arith)
-no_item n (v ∷ vs) zero d h e = rw e refl
-no_item n (v ∷ vs) (suc i) d h e = and_false _ _ (no_item n vs i d (omega arith) e)
+abbrev pub count : Items → ℕ
+count no_items = 0
+count (item d ds) = suc (count ds)
+
+onto_push : (ds : List Data) (d : Data) (es : Items) → onto ds (item d es) ≡ onto (ds ++ d ∷ []) es
+onto_push [] d es = refl
+onto_push (c ∷ ds) d es = ap (item c) (onto_push ds d es)
+
+onto_end : (ds : List Data) → onto ds no_items ≡ items_of ds
+onto_end [] = refl
+onto_end (d ∷ ds) = ap (item d) (onto_end ds)
+
+onto_weight : (ds : List Data) (d : Data) (es : Items) → weight d ≤ items_weight (onto ds (item d es))
+onto_weight [] d es = omega arith
+onto_weight (c ∷ ds) d es = omega (arith, onto_weight ds d es)
+
+onto_refused : (n : ShapeName) (ds : List Data) (d : Data) (es : Items) → is n d ≡ false → fits_items (each n) (onto ds (item d es)) ≡ false
+onto_refused n [] d es e = rw e refl
+onto_refused n (c ∷ ds) d es e = and_false _ _ (onto_refused n ds d es e)
+
+-- one more item was read
+pub one_more : (v : Data) (ds : List Data) (left : Items) (d : Data) (es : Items) → v ≡ array (onto ds left) → left ≡ item d es → v ≡ array (onto (ds ++ d ∷ []) es)
+one_more v ds left d es is next = is ∙ ap (λ x. array (onto ds x)) next ∙ ap array (onto_push ds d es)
+
+map_push : {X : Type 0} (f : X → Data) (xs : List X) (x : X) → map f xs ++ f x ∷ [] ≡ map f (xs ++ x ∷ [])
+map_push f [] x = refl
+map_push f (y ∷ xs) x = ap (λ ds. f y ∷ ds) (map_push f xs x)
+
+-- one more value was read, whose form is the next item
+pub read_more : {X : Type 0} (f : X → Data) (v : Data) (xs ys : List X) (x : X) (left : Items) (d : Data) (es : Items) → v ≡ array (onto (map f xs) left) → left ≡ item d es → d ≡ f x → ys ≡ xs ++ x ∷ []
+    → v ≡ array (onto (map f ys) es)
+read_more f v xs ys x left d es is next form more =
+    one_more v (map f xs) left d es is next ∙ ap (λ e. array (onto (map f xs ++ e ∷ []) es)) form ∙ ap (λ ds. array (onto ds es)) (map_push f xs x ∙ ap (map f) (sym more))
 
 -- an item of a list is lighter than the list
-pub lighter : (v : Data) (vs : List Value) (i : ℕ) (x : Value) → v ≡ array (items_view vs) → i < length vs → x ≡ get_or vs i x → weight (view x) < weight v
-lighter v vs i x is h at =
-    let e : weight v ≡ suc (items_weight (items_view vs)) = ap weight is in
-    let below : weight (view (get_or vs i x)) ≤ items_weight (items_view vs) = item_weight vs i x h in
-    let here : weight (view x) ≡ weight (view (get_or vs i x)) = ap (λ y. weight (view y)) at in
-    omega arith
+pub lighter : (v : Data) (ds : List Data) (left : Items) (d : Data) (es : Items) → v ≡ array (onto ds left) → left ≡ item d es → weight d < weight v
+lighter v ds left d es is next =
+    let e : weight v ≡ suc (items_weight (onto ds (item d es))) = ap weight (is ∙ ap (λ x. array (onto ds x)) next) in
+    omega (arith, e, onto_weight ds d es)
 
 -- a list with a refused item is refused
-pub no_list : (n : ShapeName) (v : Data) (vs : List Value) (i : ℕ) (x : Value) → v ≡ array (items_view vs) → i < length vs → x ≡ get_or vs i x → is n (view x) ≡ false → fits (arrayed (each n)) v ≡ false
-no_list n v vs i x is h at refused = rw is (no_item n vs i x h (ap (λ y. fits (shape n) (view y)) (sym at) ∙ refused))
+pub no_list : (n : ShapeName) (v : Data) (ds : List Data) (left : Items) (d : Data) (es : Items) → v ≡ array (onto ds left) → left ≡ item d es → is n d ≡ false → fits (arrayed (each n)) v ≡ false
+no_list n v ds left d es is next refused = rw (is ∙ ap (λ x. array (onto ds x)) next) (onto_refused n ds d es refused)
 
 -- a list that was read to its end
-pub whole_list : {X : Type 0} (f : X → Data) (xs : List X) (v : Data) (vs : List Value) (i : ℕ) → v ≡ array (items_view vs) → map f xs ≡ map view (take i vs) → length vs ≤ i → v ≡ array (items_of (map f xs))
-whole_list f xs v vs i is e h = is ∙ ap (λ ds. array (items_of ds)) (ap (map view) (sym (take_all i vs h)) ∙ sym e)
+pub whole_list : (v : Data) (ds : List Data) (left : Items) → v ≡ array (onto ds left) → left ≡ no_items → v ≡ array (items_of ds)
+whole_list v ds left is none = is ∙ ap (λ x. array (onto ds x)) none ∙ ap array (onto_end ds)
 
-pub ruleset refusals = (no_fields, and_false, no_variant, no_array, no_pair, no_triple, no_optional, lighter, no_list)
+-- each item that is taken leaves one less
+pub shorter : (left : Items) (d : Data) (es : Items) → left ≡ item d es → count es < count left
+shorter left d es e = omega (arith, ap count e)
+
+pub ruleset refusals = (no_fields, and_false, no_variant, no_array, no_pair, no_triple, no_optional, lighter, no_list, shorter)

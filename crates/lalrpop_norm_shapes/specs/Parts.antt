@@ -2,7 +2,7 @@
 use Rattle.std.specs.Prelude.{ℕ, Bool, true, false, ◌&&◌, List, [], ◌∷◌}
 use Rattle.std.specs.Str.{bytes_eq}
 use Rattle.serde_json.specs.Data.{Data, null, string, array, object, no_items, item, Members, no_members, member}
-use Rattle.serde_json.specs.View.{view}
+use Rattle.json_document.specs.View.{view}
 use Rattle.lalrpop_norm_shapes.specs.declared.value.Case.{Case}
 use Rattle.lalrpop_norm_shapes.specs.declared.value.Case.TheVariants.{Bare, Of}
 
@@ -48,4 +48,4 @@ is_null _ = false
 -- a variant's name, alone or with what it holds
 abbrev pub case_form : Case → Data
 case_form (Bare name) = string name.now
-case_form (Of name d) = object (member name.now (view d.now) no_members)
+case_form (Of name d) = object (member name.now (view d) no_members)

@@ -7,35 +7,35 @@
 
 ghost use Rattle.std.specs.Prelude.{◌≡◌, Some, None, IfOk, IsErrOf};
 ghost use Rattle.serde_json.specs.Read.{read};
-ghost use Rattle.serde_json.specs.View.{view};
+ghost use Rattle.json_document.specs.View.{document_view};
 
 mod value;
 
-use serde_json::Value;
+use json_document::{Document, OpenError, Scratch};
 use std::alloc::Global;
 pub use value::{
     Case, TreeError, case_of, eight_fields, five_fields, four_fields, items, natural, only_field,
     pair, present, seven_fields, text, three_fields, triple, truth, two_fields,
 };
 
-/// The value that a JSON text says. Of a key that an object repeats the last value counts.
+/// The document that a JSON text is. Of a key that an object repeats the last value counts.
 ///
 /// # Errors
 ///
 /// `NotATree`: the text is not JSON, of which 127 levels of arrays and objects are read. `Memory`: there was no memory
-/// for the value.
-pub fn value_of(alloc: Global, text: &str) -> Result<Value, TreeError>
-    ensures ok { IfOk result (λ v. read text.now ≡ Some (view v)) }
+/// for the document, or the text is longer than 4 GiB less 256 bytes.
+pub fn document_of<'a>(
+    alloc: Global,
+    text: &'a str,
+    scratch: &'a mut Scratch,
+) -> Result<Document<'a>, TreeError>
+    ensures ok { IfOk result (λ d. read text.now ≡ Some (document_view d)) }
     ensures err { IsErrOf result TreeError.NotATree → read text.now ≡ None }
 {
-    match Value::from_str(alloc, text) {
-        Ok(value) => Ok(value),
-        Err(error) => {
-            if error.is_memory() {
-                Err(TreeError::Memory)
-            } else {
-                Err(TreeError::NotATree)
-            }
-        }
+    match Document::open(text, scratch, Vec::new(alloc)) {
+        Ok(document) => Ok(document),
+        Err(OpenError::NotJson) => Err(TreeError::NotATree),
+        Err(OpenError::TooLong) => Err(TreeError::Memory),
+        Err(OpenError::Memory) => Err(TreeError::Memory),
     }
 }

@@ -1,7 +1,7 @@
 //! Attributes.
 ghost use Rattle.std.specs.Prelude.{◌≡◌, IfOk, IsErrOf, false};
 ghost use Rattle.serde_json.specs.Data.{array};
-ghost use Rattle.serde_json.specs.View.{view};
+ghost use Rattle.json_document.specs.View.{view};
 ghost use Rattle.lalrpop_norm_parts.specs.Attributes.{argument_view, attribute_view, attributes_view};
 ghost use Rattle.lalrpop_norm_shapes.specs.Shapes as shape;
 ghost use Rattle.lalrpop_norm_shapes.specs.Shapes.{is, fits, place, many};
@@ -9,17 +9,17 @@ ghost use Rattle.lalrpop_norm_json.specs.Forms.{argument_form, attribute_form, a
 
 use super::names::{atom, span, string};
 use super::parts::pushed;
+use json_document::Value;
 use lalrpop_norm_shapes::{Case, TreeError, case_of, items, three_fields};
 use lalrpop_norm_tree::grammar::parse_tree::{Attribute, AttributeArg};
-use serde_json::Value;
 use std::alloc::Global;
 
 /// What stands behind an attribute's name.
 #[cycle(attributes)]
 #[tactic(auto, using(lalrpop_norm_shapes::proofs::Refusals::refusals))]
-fn argument(alloc: Global, value: &Value) -> Result<AttributeArg, TreeError>
-    ensures ok { IfOk result (λ g. view value.now ≡ argument_form (argument_view g)) }
-    ensures err { IsErrOf result TreeError.NotATree → is shape.attribute_argument (view value.now) ≡ false }
+fn argument(alloc: Global, value: Value<'_, '_>) -> Result<AttributeArg, TreeError>
+    ensures ok { IfOk result (λ g. view value.entry ≡ argument_form (argument_view g)) }
+    ensures err { IsErrOf result TreeError.NotATree → is shape.attribute_argument (view value.entry) ≡ false }
 {
     match case_of(value)? {
         Case::Bare(variant) => match variant {
@@ -36,9 +36,9 @@ fn argument(alloc: Global, value: &Value) -> Result<AttributeArg, TreeError>
 
 #[cycle(attributes)]
 #[tactic(auto, using(lalrpop_norm_shapes::proofs::Refusals::refusals))]
-fn attribute(alloc: Global, value: &Value) -> Result<Attribute, TreeError>
-    ensures ok { IfOk result (λ a. view value.now ≡ attribute_form (attribute_view a)) }
-    ensures err { IsErrOf result TreeError.NotATree → is shape.attribute (view value.now) ≡ false }
+fn attribute(alloc: Global, value: Value<'_, '_>) -> Result<Attribute, TreeError>
+    ensures ok { IfOk result (λ a. view value.entry ≡ attribute_form (attribute_view a)) }
+    ensures err { IsErrOf result TreeError.NotATree → is shape.attribute (view value.entry) ≡ false }
 {
     let (arg, id, at) = three_fields(value, "arg", "id", "id_span")?;
     let id_span = span(at)?;
@@ -49,14 +49,14 @@ fn attribute(alloc: Global, value: &Value) -> Result<Attribute, TreeError>
 
 #[cycle(attributes)]
 #[tactic(auto, using(lalrpop_norm_shapes::proofs::Refusals::refusals))]
-pub(super) fn attributes(alloc: Global, value: &Value) -> Result<Vec<Attribute>, TreeError>
-    ensures ok { IfOk result (λ xs. view value.now ≡ array (attributes_form (attributes_view xs.items))) }
-    ensures err { IsErrOf result TreeError.NotATree → fits (place (many shape.attribute)) (view value.now) ≡ false }
+pub(super) fn attributes(alloc: Global, value: Value<'_, '_>) -> Result<Vec<Attribute>, TreeError>
+    ensures ok { IfOk result (λ xs. view value.entry ≡ array (attributes_form (attributes_view xs.items))) }
+    ensures err { IsErrOf result TreeError.NotATree → fits (place (many shape.attribute)) (view value.entry) ≡ false }
 {
-    let values = items(value)?;
+    let mut values = items(value)?;
     let mut attributes = Vec::new(alloc);
-    for value in values {
-        attributes = pushed(attributes, attribute(alloc, value))?;
+    while let Some(element) = values.next() {
+        attributes = pushed(attributes, attribute(alloc, element))?;
     }
     Ok(attributes)
 }

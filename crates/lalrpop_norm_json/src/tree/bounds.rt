@@ -1,6 +1,6 @@
 //! Where clauses and their bounds.
 ghost use Rattle.std.specs.Prelude.{◌≡◌, codes, IfOk, IsErrOf, false};
-ghost use Rattle.serde_json.specs.View.{view};
+ghost use Rattle.json_document.specs.View.{view};
 ghost use Rattle.lalrpop_norm_parts.specs.Bounds.{bound_parameter_view, bound_view, where_clause_view};
 ghost use Rattle.lalrpop_norm_tree.specs.Types.{type_view};
 ghost use Rattle.lalrpop_norm_shapes.specs.Shapes as shape;
@@ -11,18 +11,18 @@ ghost use Rattle.lalrpop_norm_json.specs.TypeForms.{bound_parameter_form, bound_
 use super::names::{atom, path};
 use super::parts::{FromValue, list, maybe};
 use super::types::type_ref;
+use json_document::Value;
 use lalrpop_norm_shapes::{Case, TreeError, case_of, four_fields, pair, three_fields, two_fields};
 use lalrpop_norm_tree::grammar::parse_tree::{
     Lifetime, TypeBound, TypeBoundParameter, TypeRef, WhereClause,
 };
-use serde_json::Value;
 use std::alloc::Global;
 
 /// The associated type with that name.
 #[tactic(auto, using(lalrpop_norm_shapes::proofs::Refusals::refusals))]
-fn associated(alloc: Global, value: &Value) -> Result<TypeBoundParameter<TypeRef>, TreeError>
-    ensures ok { IfOk result (λ p. variant (codes "Associated") (view value.now) ≡ bound_parameter_form (bound_parameter_view type_view p)) }
-    ensures err { IsErrOf result TreeError.NotATree → is shape.bound_parameter (variant (codes "Associated") (view value.now)) ≡ false }
+fn associated(alloc: Global, value: Value<'_, '_>) -> Result<TypeBoundParameter<TypeRef>, TreeError>
+    ensures ok { IfOk result (λ p. variant (codes "Associated") (view value.entry) ≡ bound_parameter_form (bound_parameter_view type_view p)) }
+    ensures err { IsErrOf result TreeError.NotATree → is shape.bound_parameter (variant (codes "Associated") (view value.entry)) ≡ false }
 {
     let (first, second) = pair(value)?;
     let name = atom(alloc, first)?;
@@ -41,7 +41,10 @@ impl FromValue for TypeBoundParameter<TypeRef> {
     ghost named = { shape.bound_parameter };
 
     #[tactic(auto, using(lalrpop_norm_shapes::proofs::Refusals::refusals))]
-    fn from_value(alloc: Global, value: &Value) -> Result<TypeBoundParameter<TypeRef>, TreeError> {
+    fn from_value(
+        alloc: Global,
+        value: Value<'_, '_>,
+    ) -> Result<TypeBoundParameter<TypeRef>, TreeError> {
         match case_of(value)? {
             Case::Bare(_) => Err(TreeError::NotATree),
             Case::Of(variant, held) => match variant {
@@ -56,9 +59,9 @@ impl FromValue for TypeBoundParameter<TypeRef> {
 
 /// The bound by a function's type.
 #[tactic(auto, using(lalrpop_norm_shapes::proofs::Refusals::refusals))]
-fn function_bound(alloc: Global, value: &Value) -> Result<TypeBound<TypeRef>, TreeError>
-    ensures ok { IfOk result (λ b. variant (codes "Fn") (view value.now) ≡ bound_form (bound_view type_view b)) }
-    ensures err { IsErrOf result TreeError.NotATree → is shape.bound (variant (codes "Fn") (view value.now)) ≡ false }
+fn function_bound(alloc: Global, value: Value<'_, '_>) -> Result<TypeBound<TypeRef>, TreeError>
+    ensures ok { IfOk result (λ b. variant (codes "Fn") (view value.entry) ≡ bound_form (bound_view type_view b)) }
+    ensures err { IsErrOf result TreeError.NotATree → is shape.bound (variant (codes "Fn") (view value.entry)) ≡ false }
 {
     let (forall, parameters, named, ret) = four_fields(
         value,
@@ -81,9 +84,9 @@ fn function_bound(alloc: Global, value: &Value) -> Result<TypeBound<TypeRef>, Tr
 
 /// The bound by a trait.
 #[tactic(auto, using(lalrpop_norm_shapes::proofs::Refusals::refusals))]
-fn trait_bound(alloc: Global, value: &Value) -> Result<TypeBound<TypeRef>, TreeError>
-    ensures ok { IfOk result (λ b. variant (codes "Trait") (view value.now) ≡ bound_form (bound_view type_view b)) }
-    ensures err { IsErrOf result TreeError.NotATree → is shape.bound (variant (codes "Trait") (view value.now)) ≡ false }
+fn trait_bound(alloc: Global, value: Value<'_, '_>) -> Result<TypeBound<TypeRef>, TreeError>
+    ensures ok { IfOk result (λ b. variant (codes "Trait") (view value.entry) ≡ bound_form (bound_view type_view b)) }
+    ensures err { IsErrOf result TreeError.NotATree → is shape.bound (variant (codes "Trait") (view value.entry)) ≡ false }
 {
     let (forall, parameters, named) = three_fields(value, "forall", "parameters", "path")?;
     let forall = list(alloc, forall)?;
@@ -107,7 +110,7 @@ impl FromValue for TypeBound<TypeRef> {
     ghost named = { shape.bound };
 
     #[tactic(auto, using(lalrpop_norm_shapes::proofs::Refusals::refusals))]
-    fn from_value(alloc: Global, value: &Value) -> Result<TypeBound<TypeRef>, TreeError> {
+    fn from_value(alloc: Global, value: Value<'_, '_>) -> Result<TypeBound<TypeRef>, TreeError> {
         match case_of(value)? {
             Case::Bare(_) => Err(TreeError::NotATree),
             Case::Of(variant, held) => match variant {
@@ -122,9 +125,9 @@ impl FromValue for TypeBound<TypeRef> {
 
 /// What is asked of a lifetime.
 #[tactic(auto, using(lalrpop_norm_shapes::proofs::Refusals::refusals))]
-fn lifetime_clause(alloc: Global, value: &Value) -> Result<WhereClause<TypeRef>, TreeError>
-    ensures ok { IfOk result (λ c. variant (codes "Lifetime") (view value.now) ≡ where_clause_form (where_clause_view type_view c)) }
-    ensures err { IsErrOf result TreeError.NotATree → is shape.where_clause (variant (codes "Lifetime") (view value.now)) ≡ false }
+fn lifetime_clause(alloc: Global, value: Value<'_, '_>) -> Result<WhereClause<TypeRef>, TreeError>
+    ensures ok { IfOk result (λ c. variant (codes "Lifetime") (view value.entry) ≡ where_clause_form (where_clause_view type_view c)) }
+    ensures err { IsErrOf result TreeError.NotATree → is shape.where_clause (variant (codes "Lifetime") (view value.entry)) ≡ false }
 {
     let (bounds, of) = two_fields(value, "bounds", "lifetime")?;
     let lifetime = Lifetime(atom(alloc, of)?);
@@ -134,9 +137,9 @@ fn lifetime_clause(alloc: Global, value: &Value) -> Result<WhereClause<TypeRef>,
 
 /// What is asked of a type.
 #[tactic(auto, using(lalrpop_norm_shapes::proofs::Refusals::refusals))]
-fn type_clause(alloc: Global, value: &Value) -> Result<WhereClause<TypeRef>, TreeError>
-    ensures ok { IfOk result (λ c. variant (codes "OfType") (view value.now) ≡ where_clause_form (where_clause_view type_view c)) }
-    ensures err { IsErrOf result TreeError.NotATree → is shape.where_clause (variant (codes "OfType") (view value.now)) ≡ false }
+fn type_clause(alloc: Global, value: Value<'_, '_>) -> Result<WhereClause<TypeRef>, TreeError>
+    ensures ok { IfOk result (λ c. variant (codes "OfType") (view value.entry) ≡ where_clause_form (where_clause_view type_view c)) }
+    ensures err { IsErrOf result TreeError.NotATree → is shape.where_clause (variant (codes "OfType") (view value.entry)) ≡ false }
 {
     let (bounds, forall, of) = three_fields(value, "bounds", "forall", "ty")?;
     let forall = list(alloc, forall)?;
@@ -156,7 +159,7 @@ impl FromValue for WhereClause<TypeRef> {
     ghost named = { shape.where_clause };
 
     #[tactic(auto, using(lalrpop_norm_shapes::proofs::Refusals::refusals))]
-    fn from_value(alloc: Global, value: &Value) -> Result<WhereClause<TypeRef>, TreeError> {
+    fn from_value(alloc: Global, value: Value<'_, '_>) -> Result<WhereClause<TypeRef>, TreeError> {
         match case_of(value)? {
             Case::Bare(_) => Err(TreeError::NotATree),
             Case::Of(variant, held) => match variant {

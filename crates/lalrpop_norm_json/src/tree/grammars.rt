@@ -1,6 +1,6 @@
 //! Items and grammars.
 ghost use Rattle.std.specs.Prelude.{◌≡◌, map, Some, IfOk, IsErrOf, false};
-ghost use Rattle.serde_json.specs.View.{view};
+ghost use Rattle.json_document.specs.View.{view};
 ghost use Rattle.lalrpop_norm_tree.specs.Items.{item_view, grammar_view};
 ghost use Rattle.lalrpop_norm_shapes.specs.Shapes as shape;
 ghost use Rattle.lalrpop_norm_shapes.specs.Shapes.{is, fits, place, many};
@@ -11,15 +11,15 @@ use super::names::{span, string};
 use super::parts::{list, pushed};
 use super::rules::rule;
 use super::tokens::{extern_token, match_token};
+use json_document::Value;
 use lalrpop_norm_shapes::{Case, TreeError, case_of, eight_fields, items};
 use lalrpop_norm_tree::grammar::parse_tree::{Grammar, GrammarItem};
-use serde_json::Value;
 use std::alloc::Global;
 
 #[tactic(auto, using(lalrpop_norm_shapes::proofs::Refusals::refusals))]
-fn grammar_item(alloc: Global, value: &Value) -> Result<GrammarItem, TreeError>
-    ensures ok { IfOk result (λ i. item_form (item_view i) ≡ Some (view value.now)) }
-    ensures err { IsErrOf result TreeError.NotATree → is shape.grammar_item (view value.now) ≡ false }
+fn grammar_item(alloc: Global, value: Value<'_, '_>) -> Result<GrammarItem, TreeError>
+    ensures ok { IfOk result (λ i. item_form (item_view i) ≡ Some (view value.entry)) }
+    ensures err { IsErrOf result TreeError.NotATree → is shape.grammar_item (view value.entry) ≡ false }
 {
     match case_of(value)? {
         Case::Bare(_) => Err(TreeError::NotATree),
@@ -34,23 +34,23 @@ fn grammar_item(alloc: Global, value: &Value) -> Result<GrammarItem, TreeError>
 }
 
 #[tactic(auto, using(lalrpop_norm_shapes::proofs::Refusals::refusals))]
-fn grammar_items(alloc: Global, value: &Value) -> Result<Vec<GrammarItem>, TreeError>
-    ensures ok { IfOk result (λ is. items_form (map item_view is.items) ≡ Some (view value.now)) }
-    ensures err { IsErrOf result TreeError.NotATree → fits (place (many shape.grammar_item)) (view value.now) ≡ false }
+fn grammar_items(alloc: Global, value: Value<'_, '_>) -> Result<Vec<GrammarItem>, TreeError>
+    ensures ok { IfOk result (λ is. items_form (map item_view is.items) ≡ Some (view value.entry)) }
+    ensures err { IsErrOf result TreeError.NotATree → fits (place (many shape.grammar_item)) (view value.entry) ≡ false }
 {
-    let values = items(value)?;
+    let mut values = items(value)?;
     let mut read = Vec::new(alloc);
-    for value in values {
-        read = pushed(read, grammar_item(alloc, value))?;
+    while let Some(element) = values.next() {
+        read = pushed(read, grammar_item(alloc, element))?;
     }
     Ok(read)
 }
 
 /// The grammar whose form the value is.
 #[tactic(auto, using(lalrpop_norm_shapes::proofs::Refusals::refusals))]
-pub fn grammar(alloc: Global, value: &Value) -> Result<Grammar, TreeError>
-    ensures ok { IfOk result (λ g. grammar_form (grammar_view g) ≡ Some (view value.now)) }
-    ensures err { IsErrOf result TreeError.NotATree → is shape.grammar (view value.now) ≡ false }
+pub fn grammar(alloc: Global, value: Value<'_, '_>) -> Result<Grammar, TreeError>
+    ensures ok { IfOk result (λ g. grammar_form (grammar_view g) ≡ Some (view value.entry)) }
+    ensures err { IsErrOf result TreeError.NotATree → is shape.grammar (view value.entry) ≡ false }
 {
     let (listed, held, module_attributes, parameters, prefix, at, type_parameters, where_clauses) =
         eight_fields(

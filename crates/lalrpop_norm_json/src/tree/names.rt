@@ -1,24 +1,24 @@
 //! Places, names, terminals and paths.
 ghost use Rattle.std.specs.Prelude.{◌≡◌, IfOk, IsErrOf, string_bytes, false};
 ghost use Rattle.serde_json.specs.Data.{string};
-ghost use Rattle.serde_json.specs.View.{view};
+ghost use Rattle.json_document.specs.View.{view};
 ghost use Rattle.lalrpop_norm_parts.specs.Paths.{path_view};
 ghost use Rattle.lalrpop_norm_shapes.specs.Shapes as shape;
 ghost use Rattle.lalrpop_norm_shapes.specs.Shapes.{is};
 ghost use Rattle.lalrpop_norm_json.specs.Forms.{span_form, literal_form, terminal_form, path_form};
 
 use super::parts::{FromValue, list};
+use json_document::Value;
 use lalrpop_norm_shapes::{Case, TreeError, case_of, natural, pair, text, truth, two_fields};
 use lalrpop_norm_tree::grammar::parse_tree::{
     Atom, Lifetime, NonterminalString, Path, Span, TerminalLiteral, TerminalString, TypeParameter,
 };
-use serde_json::Value;
 use std::alloc::Global;
 
 #[tactic(auto, using(lalrpop_norm_shapes::proofs::Refusals::no_pair, lalrpop_norm_shapes::proofs::Refusals::and_false))]
-pub(super) fn span(value: &Value) -> Result<Span, TreeError>
-    ensures ok { IfOk result (λ s. view value.now ≡ span_form s) }
-    ensures err { IsErrOf result TreeError.NotATree → is shape.span (view value.now) ≡ false }
+pub(super) fn span(value: Value<'_, '_>) -> Result<Span, TreeError>
+    ensures ok { IfOk result (λ s. view value.entry ≡ span_form s) }
+    ensures err { IsErrOf result TreeError.NotATree → is shape.span (view value.entry) ≡ false }
 {
     let (from, to) = pair(value)?;
     let from = natural(from)?;
@@ -26,26 +26,26 @@ pub(super) fn span(value: &Value) -> Result<Span, TreeError>
     Ok(Span(from, to))
 }
 
-pub(super) fn atom(alloc: Global, value: &Value) -> Result<Atom, TreeError>
-    ensures ok { IfOk result (λ a. view value.now ≡ string a) }
-    ensures err { IsErrOf result TreeError.NotATree → is shape.text (view value.now) ≡ false }
+pub(super) fn atom(alloc: Global, value: Value<'_, '_>) -> Result<Atom, TreeError>
+    ensures ok { IfOk result (λ a. view value.entry ≡ string a) }
+    ensures err { IsErrOf result TreeError.NotATree → is shape.text (view value.entry) ≡ false }
 {
     let atom = Atom::new(alloc, text(value)?)?;
     Ok(atom)
 }
 
-pub(super) fn string(alloc: Global, value: &Value) -> Result<String, TreeError>
-    ensures ok { IfOk result (λ s. view value.now ≡ string (string_bytes s)) }
-    ensures err { IsErrOf result TreeError.NotATree → is shape.text (view value.now) ≡ false }
+pub(super) fn string(alloc: Global, value: Value<'_, '_>) -> Result<String, TreeError>
+    ensures ok { IfOk result (λ s. view value.entry ≡ string (string_bytes s)) }
+    ensures err { IsErrOf result TreeError.NotATree → is shape.text (view value.entry) ≡ false }
 {
     let string = String::from_str(alloc, text(value)?)?;
     Ok(string)
 }
 
 #[tactic(auto, using(lalrpop_norm_shapes::proofs::Refusals::no_variant))]
-pub(super) fn literal(alloc: Global, value: &Value) -> Result<TerminalLiteral, TreeError>
-    ensures ok { IfOk result (λ l. view value.now ≡ literal_form l) }
-    ensures err { IsErrOf result TreeError.NotATree → is shape.literal (view value.now) ≡ false }
+pub(super) fn literal(alloc: Global, value: Value<'_, '_>) -> Result<TerminalLiteral, TreeError>
+    ensures ok { IfOk result (λ l. view value.entry ≡ literal_form l) }
+    ensures err { IsErrOf result TreeError.NotATree → is shape.literal (view value.entry) ≡ false }
 {
     match case_of(value)? {
         Case::Bare(_) => Err(TreeError::NotATree),
@@ -58,9 +58,9 @@ pub(super) fn literal(alloc: Global, value: &Value) -> Result<TerminalLiteral, T
 }
 
 #[tactic(auto, using(lalrpop_norm_shapes::proofs::Refusals::no_variant))]
-pub(super) fn terminal(alloc: Global, value: &Value) -> Result<TerminalString, TreeError>
-    ensures ok { IfOk result (λ l. view value.now ≡ terminal_form l) }
-    ensures err { IsErrOf result TreeError.NotATree → is shape.terminal (view value.now) ≡ false }
+pub(super) fn terminal(alloc: Global, value: Value<'_, '_>) -> Result<TerminalString, TreeError>
+    ensures ok { IfOk result (λ l. view value.entry ≡ terminal_form l) }
+    ensures err { IsErrOf result TreeError.NotATree → is shape.terminal (view value.entry) ≡ false }
 {
     match case_of(value)? {
         Case::Bare(variant) => match variant {
@@ -76,9 +76,9 @@ pub(super) fn terminal(alloc: Global, value: &Value) -> Result<TerminalString, T
 }
 
 #[tactic(auto, using(lalrpop_norm_shapes::proofs::Refusals::refusals))]
-pub(super) fn path(alloc: Global, value: &Value) -> Result<Path, TreeError>
-    ensures ok { IfOk result (λ p. view value.now ≡ path_form (path_view p)) }
-    ensures err { IsErrOf result TreeError.NotATree → is shape.path (view value.now) ≡ false }
+pub(super) fn path(alloc: Global, value: Value<'_, '_>) -> Result<Path, TreeError>
+    ensures ok { IfOk result (λ p. view value.entry ≡ path_form (path_view p)) }
+    ensures err { IsErrOf result TreeError.NotATree → is shape.path (view value.entry) ≡ false }
 {
     let (absolute, ids) = two_fields(value, "absolute", "ids")?;
     let absolute = truth(absolute)?;
@@ -94,7 +94,7 @@ impl FromValue for Atom {
 
     ghost named = { text };
 
-    fn from_value(alloc: Global, value: &Value) -> Result<Atom, TreeError> {
+    fn from_value(alloc: Global, value: Value<'_, '_>) -> Result<Atom, TreeError> {
         atom(alloc, value)
     }
 }
@@ -108,7 +108,7 @@ impl FromValue for String {
 
     ghost named = { text };
 
-    fn from_value(alloc: Global, value: &Value) -> Result<String, TreeError> {
+    fn from_value(alloc: Global, value: Value<'_, '_>) -> Result<String, TreeError> {
         string(alloc, value)
     }
 }
@@ -121,7 +121,7 @@ impl FromValue for NonterminalString {
 
     ghost named = { text };
 
-    fn from_value(alloc: Global, value: &Value) -> Result<NonterminalString, TreeError> {
+    fn from_value(alloc: Global, value: Value<'_, '_>) -> Result<NonterminalString, TreeError> {
         Ok(NonterminalString(atom(alloc, value)?))
     }
 }
@@ -134,7 +134,7 @@ impl FromValue for Lifetime {
 
     ghost named = { text };
 
-    fn from_value(alloc: Global, value: &Value) -> Result<Lifetime, TreeError> {
+    fn from_value(alloc: Global, value: Value<'_, '_>) -> Result<Lifetime, TreeError> {
         Ok(Lifetime(atom(alloc, value)?))
     }
 }
@@ -148,7 +148,7 @@ impl FromValue for TypeParameter {
     ghost named = { type_parameter };
 
     #[tactic(auto, using(lalrpop_norm_shapes::proofs::Refusals::refusals))]
-    fn from_value(alloc: Global, value: &Value) -> Result<TypeParameter, TreeError> {
+    fn from_value(alloc: Global, value: Value<'_, '_>) -> Result<TypeParameter, TreeError> {
         match case_of(value)? {
             Case::Bare(_) => Err(TreeError::NotATree),
             Case::Of(variant, held) => match variant {
@@ -169,7 +169,7 @@ impl FromValue for Path {
 
     ghost named = { shape.path };
 
-    fn from_value(alloc: Global, value: &Value) -> Result<Path, TreeError> {
+    fn from_value(alloc: Global, value: Value<'_, '_>) -> Result<Path, TreeError> {
         path(alloc, value)
     }
 }

@@ -1,12 +1,12 @@
 //! What has a JSON form, and lists and options of it.
 ghost use Rattle.std.specs.Prelude.{◌≡◌, [], ◌∷◌, ◌++◌, Ok, IfOk, IsErrOf, false};
 ghost use Rattle.serde_json.specs.Data.{Data};
-ghost use Rattle.serde_json.specs.View.{view};
+ghost use Rattle.json_document.specs.View.{view};
 ghost use Rattle.lalrpop_norm_shapes.specs.Shapes.{ShapeName, is, fits, place, many, maybe};
 ghost use Rattle.lalrpop_norm_json.specs.Json.{list_form, maybe_form};
 
+use json_document::Value;
 use lalrpop_norm_shapes::{TreeError, items, present};
-use serde_json::Value;
 use std::alloc::Global;
 
 /// What is read from its JSON form.
@@ -16,16 +16,19 @@ pub(super) trait FromValue: Sized {
     ghost named: { ShapeName };
 
     /// The value whose form that is.
-    fn from_value(alloc: Global, value: &Value) -> Result<Self, TreeError>
-        ensures ok { IfOk result (λ x. view value.now ≡ form x) }
-        ensures err { IsErrOf result TreeError.NotATree → is named (view value.now) ≡ false };
+    fn from_value(alloc: Global, value: Value<'_, '_>) -> Result<Self, TreeError>
+        ensures ok { IfOk result (λ x. view value.entry ≡ form x) }
+        ensures err { IsErrOf result TreeError.NotATree → is named (view value.entry) ≡ false };
 }
 
 /// Null, or what is there.
 #[tactic(auto, using(lalrpop_norm_shapes::proofs::Refusals::refusals))]
-pub(super) fn maybe<T: FromValue>(alloc: Global, value: &Value) -> Result<Option<T>, TreeError>
-    ensures ok { IfOk result (λ o. view value.now ≡ maybe_form T.FromValue.form o) }
-    ensures err { IsErrOf result TreeError.NotATree → fits (place (maybe T.FromValue.named)) (view value.now) ≡ false }
+pub(super) fn maybe<T: FromValue>(
+    alloc: Global,
+    value: Value<'_, '_>,
+) -> Result<Option<T>, TreeError>
+    ensures ok { IfOk result (λ o. view value.entry ≡ maybe_form T.FromValue.form o) }
+    ensures err { IsErrOf result TreeError.NotATree → fits (place (maybe T.FromValue.named)) (view value.entry) ≡ false }
 {
     match present(value) {
         None => Ok(None),
@@ -47,14 +50,17 @@ pub(super) fn pushed<T: Drop>(
 
 /// An array of values of one type.
 #[tactic(auto, using(lalrpop_norm_shapes::proofs::Refusals::refusals))]
-pub(super) fn list<T: FromValue + Drop>(alloc: Global, value: &Value) -> Result<Vec<T>, TreeError>
-    ensures ok { IfOk result (λ xs. view value.now ≡ list_form T.FromValue.form xs.items) }
-    ensures err { IsErrOf result TreeError.NotATree → fits (place (many T.FromValue.named)) (view value.now) ≡ false }
+pub(super) fn list<T: FromValue + Drop>(
+    alloc: Global,
+    value: Value<'_, '_>,
+) -> Result<Vec<T>, TreeError>
+    ensures ok { IfOk result (λ xs. view value.entry ≡ list_form T.FromValue.form xs.items) }
+    ensures err { IsErrOf result TreeError.NotATree → fits (place (many T.FromValue.named)) (view value.entry) ≡ false }
 {
-    let values = items(value)?;
+    let mut values = items(value)?;
     let mut read = Vec::new(alloc);
-    for value in values {
-        read.push(T::from_value(alloc, value)?)?;
+    while let Some(element) = values.next() {
+        read.push(T::from_value(alloc, element)?)?;
     }
     Ok(read)
 }

@@ -1,7 +1,7 @@
 //! Patterns of conversions.
 ghost use Rattle.std.specs.Prelude.{◌≡◌, [], ◌∷◌, codes, IfOk, IsErrOf, false};
 ghost use Rattle.serde_json.specs.Data.{array};
-ghost use Rattle.serde_json.specs.View.{view};
+ghost use Rattle.json_document.specs.View.{view};
 ghost use Rattle.lalrpop_norm_tree.specs.Types.{type_view};
 ghost use Rattle.lalrpop_norm_parts.specs.Paths.{path_view};
 ghost use Rattle.lalrpop_norm_pattern.specs.Patterns.{pattern_kind_view, pattern_view, patterns_view, field_view, fields_view};
@@ -15,19 +15,19 @@ ghost use Rattle.lalrpop_norm_json.specs.PatternForms.{pattern_kind_form, patter
 use super::names::{atom, path, span, string};
 use super::parts::pushed;
 use super::types::type_ref;
+use json_document::Value;
 use lalrpop_norm_shapes::{
     Case, TreeError, case_of, items, natural, pair, three_fields, triple, truth, two_fields,
 };
 use lalrpop_norm_tree::grammar::parse_tree::{Path, TypeRef};
 use lalrpop_norm_tree::grammar::pattern::{FieldPattern, Pattern, PatternKind};
-use serde_json::Value;
 use std::alloc::Global;
 
 #[cycle(pattern)]
 #[tactic(auto, using(lalrpop_norm_shapes::proofs::Refusals::refusals))]
-fn pattern_kind(alloc: Global, value: &Value) -> Result<PatternKind<TypeRef>, TreeError>
-    ensures ok { IfOk result (λ k. view value.now ≡ pattern_kind_form (pattern_kind_view type_view k)) }
-    ensures err { IsErrOf result TreeError.NotATree → is shape.pattern_kind (view value.now) ≡ false }
+fn pattern_kind(alloc: Global, value: Value<'_, '_>) -> Result<PatternKind<TypeRef>, TreeError>
+    ensures ok { IfOk result (λ k. view value.entry ≡ pattern_kind_form (pattern_kind_view type_view k)) }
+    ensures err { IsErrOf result TreeError.NotATree → is shape.pattern_kind (view value.entry) ≡ false }
 {
     match case_of(value)? {
         Case::Bare(variant) => match variant {
@@ -61,12 +61,12 @@ fn pattern_kind(alloc: Global, value: &Value) -> Result<PatternKind<TypeRef>, Tr
 #[tactic(auto, using(lalrpop_norm_shapes::proofs::Refusals::refusals))]
 fn path_and_patterns(
     alloc: Global,
-    value: &Value,
+    value: Value<'_, '_>,
 ) -> Result<(Path, Vec<Pattern<TypeRef>>), TreeError>
-    ensures ok { IfOk result (λ p. view value.now ≡
+    ensures ok { IfOk result (λ p. view value.entry ≡
         json.row (path_form (path_view p.0) ∷ array (patterns_form (patterns_view type_view p.1.items)) ∷ [])) }
     ensures err { IsErrOf result TreeError.NotATree →
-        fits (arrayed (row (one shape.path ∷ many shape.pattern ∷ []))) (view value.now) ≡ false }
+        fits (arrayed (row (one shape.path ∷ many shape.pattern ∷ []))) (view value.entry) ≡ false }
 {
     let (first, second) = pair(value)?;
     let path = path(alloc, first)?;
@@ -77,9 +77,9 @@ fn path_and_patterns(
 /// The pattern of a struct with this path, these fields and that rest.
 #[cycle(pattern)]
 #[tactic(auto, using(lalrpop_norm_shapes::proofs::Refusals::refusals))]
-fn structured(alloc: Global, value: &Value) -> Result<PatternKind<TypeRef>, TreeError>
-    ensures ok { IfOk result (λ k. variant (codes "Struct") (view value.now) ≡ pattern_kind_form (pattern_kind_view type_view k)) }
-    ensures err { IsErrOf result TreeError.NotATree → is shape.pattern_kind (variant (codes "Struct") (view value.now)) ≡ false }
+fn structured(alloc: Global, value: Value<'_, '_>) -> Result<PatternKind<TypeRef>, TreeError>
+    ensures ok { IfOk result (λ k. variant (codes "Struct") (view value.entry) ≡ pattern_kind_form (pattern_kind_view type_view k)) }
+    ensures err { IsErrOf result TreeError.NotATree → is shape.pattern_kind (variant (codes "Struct") (view value.entry)) ≡ false }
 {
     let (first, second, third) = triple(value)?;
     let rest = truth(third)?;
@@ -90,9 +90,9 @@ fn structured(alloc: Global, value: &Value) -> Result<PatternKind<TypeRef>, Tree
 
 #[cycle(pattern)]
 #[tactic(auto, using(lalrpop_norm_shapes::proofs::Refusals::refusals))]
-fn field_pattern(alloc: Global, value: &Value) -> Result<FieldPattern<TypeRef>, TreeError>
-    ensures ok { IfOk result (λ f. view value.now ≡ field_form (field_view type_view f)) }
-    ensures err { IsErrOf result TreeError.NotATree → is shape.field_pattern (view value.now) ≡ false }
+fn field_pattern(alloc: Global, value: Value<'_, '_>) -> Result<FieldPattern<TypeRef>, TreeError>
+    ensures ok { IfOk result (λ f. view value.entry ≡ field_form (field_view type_view f)) }
+    ensures err { IsErrOf result TreeError.NotATree → is shape.field_pattern (view value.entry) ≡ false }
 {
     let (name, at, of) = three_fields(value, "field_name", "field_span", "pattern")?;
     let field_span = span(at)?;
@@ -107,23 +107,26 @@ fn field_pattern(alloc: Global, value: &Value) -> Result<FieldPattern<TypeRef>, 
 
 #[cycle(pattern)]
 #[tactic(auto, using(lalrpop_norm_shapes::proofs::Refusals::refusals))]
-fn field_patterns(alloc: Global, value: &Value) -> Result<Vec<FieldPattern<TypeRef>>, TreeError>
-    ensures ok { IfOk result (λ fs. view value.now ≡ array (field_patterns_form (fields_view type_view fs.items))) }
-    ensures err { IsErrOf result TreeError.NotATree → fits (place (many shape.field_pattern)) (view value.now) ≡ false }
+fn field_patterns(
+    alloc: Global,
+    value: Value<'_, '_>,
+) -> Result<Vec<FieldPattern<TypeRef>>, TreeError>
+    ensures ok { IfOk result (λ fs. view value.entry ≡ array (field_patterns_form (fields_view type_view fs.items))) }
+    ensures err { IsErrOf result TreeError.NotATree → fits (place (many shape.field_pattern)) (view value.entry) ≡ false }
 {
-    let values = items(value)?;
+    let mut values = items(value)?;
     let mut fields = Vec::new(alloc);
-    for value in values {
-        fields = pushed(fields, field_pattern(alloc, value))?;
+    while let Some(element) = values.next() {
+        fields = pushed(fields, field_pattern(alloc, element))?;
     }
     Ok(fields)
 }
 
 #[cycle(pattern)]
 #[tactic(auto, using(lalrpop_norm_shapes::proofs::Refusals::refusals))]
-pub(super) fn pattern(alloc: Global, value: &Value) -> Result<Pattern<TypeRef>, TreeError>
-    ensures ok { IfOk result (λ p. view value.now ≡ pattern_form (pattern_view type_view p)) }
-    ensures err { IsErrOf result TreeError.NotATree → is shape.pattern (view value.now) ≡ false }
+pub(super) fn pattern(alloc: Global, value: Value<'_, '_>) -> Result<Pattern<TypeRef>, TreeError>
+    ensures ok { IfOk result (λ p. view value.entry ≡ pattern_form (pattern_view type_view p)) }
+    ensures err { IsErrOf result TreeError.NotATree → is shape.pattern (view value.entry) ≡ false }
 {
     let (kind, at) = two_fields(value, "kind", "span")?;
     let span = span(at)?;
@@ -133,14 +136,14 @@ pub(super) fn pattern(alloc: Global, value: &Value) -> Result<Pattern<TypeRef>, 
 
 #[cycle(pattern)]
 #[tactic(auto, using(lalrpop_norm_shapes::proofs::Refusals::refusals))]
-fn patterns(alloc: Global, value: &Value) -> Result<Vec<Pattern<TypeRef>>, TreeError>
-    ensures ok { IfOk result (λ ps. view value.now ≡ array (patterns_form (patterns_view type_view ps.items))) }
-    ensures err { IsErrOf result TreeError.NotATree → fits (place (many shape.pattern)) (view value.now) ≡ false }
+fn patterns(alloc: Global, value: Value<'_, '_>) -> Result<Vec<Pattern<TypeRef>>, TreeError>
+    ensures ok { IfOk result (λ ps. view value.entry ≡ array (patterns_form (patterns_view type_view ps.items))) }
+    ensures err { IsErrOf result TreeError.NotATree → fits (place (many shape.pattern)) (view value.entry) ≡ false }
 {
-    let values = items(value)?;
+    let mut values = items(value)?;
     let mut patterns = Vec::new(alloc);
-    for value in values {
-        patterns = pushed(patterns, pattern(alloc, value))?;
+    while let Some(element) = values.next() {
+        patterns = pushed(patterns, pattern(alloc, element))?;
     }
     Ok(patterns)
 }

@@ -1,6 +1,6 @@
 //! Rules and their alternatives.
 ghost use Rattle.std.specs.Prelude.{◌≡◌, IfOk, IsErrOf, false};
-ghost use Rattle.serde_json.specs.View.{view};
+ghost use Rattle.json_document.specs.View.{view};
 ghost use Rattle.lalrpop_norm_tree.specs.Items.{alternative_view, rule_view, visibility_view};
 ghost use Rattle.lalrpop_norm_shapes.specs.Shapes as shape;
 ghost use Rattle.lalrpop_norm_shapes.specs.Shapes.{is};
@@ -10,11 +10,11 @@ use super::attributes::attributes;
 use super::names::{atom, path, span, string};
 use super::parts::{FromValue, list, maybe};
 use super::symbols::group;
+use json_document::Value;
 use lalrpop_norm_shapes::{Case, TreeError, case_of, five_fields, four_fields, seven_fields};
 use lalrpop_norm_tree::grammar::parse_tree::{
     ActionKind, Alternative, Condition, ConditionOp, NonterminalData, NonterminalString, Visibility,
 };
-use serde_json::Value;
 use std::alloc::Global;
 
 impl FromValue for ActionKind {
@@ -27,7 +27,7 @@ impl FromValue for ActionKind {
     ghost named = { shape.action };
 
     #[tactic(auto, using(lalrpop_norm_shapes::proofs::Refusals::refusals))]
-    fn from_value(alloc: Global, value: &Value) -> Result<ActionKind, TreeError> {
+    fn from_value(alloc: Global, value: Value<'_, '_>) -> Result<ActionKind, TreeError> {
         match case_of(value)? {
             Case::Bare(variant) => match variant {
                 "Lookahead" => Ok(ActionKind::Lookahead),
@@ -44,9 +44,9 @@ impl FromValue for ActionKind {
 }
 
 #[tactic(auto, using(lalrpop_norm_shapes::proofs::Refusals::refusals))]
-fn condition_op(value: &Value) -> Result<ConditionOp, TreeError>
-    ensures ok { IfOk result (λ o. view value.now ≡ condition_op_form o) }
-    ensures err { IsErrOf result TreeError.NotATree → is shape.condition_operator (view value.now) ≡ false }
+fn condition_op(value: Value<'_, '_>) -> Result<ConditionOp, TreeError>
+    ensures ok { IfOk result (λ o. view value.entry ≡ condition_op_form o) }
+    ensures err { IsErrOf result TreeError.NotATree → is shape.condition_operator (view value.entry) ≡ false }
 {
     match case_of(value)? {
         Case::Bare(variant) => match variant {
@@ -69,7 +69,7 @@ impl FromValue for Condition {
     ghost named = { shape.condition };
 
     #[tactic(auto, using(lalrpop_norm_shapes::proofs::Refusals::refusals))]
-    fn from_value(alloc: Global, value: &Value) -> Result<Condition, TreeError> {
+    fn from_value(alloc: Global, value: Value<'_, '_>) -> Result<Condition, TreeError> {
         let (lhs, op, rhs, at) = four_fields(value, "lhs", "op", "rhs", "span")?;
         let span = span(at)?;
         let lhs = NonterminalString(atom(alloc, lhs)?);
@@ -80,9 +80,9 @@ impl FromValue for Condition {
 }
 
 #[tactic(auto, using(lalrpop_norm_shapes::proofs::Refusals::refusals))]
-fn alternative(alloc: Global, value: &Value) -> Result<Alternative, TreeError>
-    ensures ok { IfOk result (λ a. view value.now ≡ alternative_form (alternative_view a)) }
-    ensures err { IsErrOf result TreeError.NotATree → is shape.alternative (view value.now) ≡ false }
+fn alternative(alloc: Global, value: Value<'_, '_>) -> Result<Alternative, TreeError>
+    ensures ok { IfOk result (λ a. view value.entry ≡ alternative_form (alternative_view a)) }
+    ensures err { IsErrOf result TreeError.NotATree → is shape.alternative (view value.entry) ≡ false }
 {
     let (code, listed, condition, expr, at) = five_fields(
         value,
@@ -115,15 +115,15 @@ impl FromValue for Alternative {
 
     ghost named = { shape.alternative };
 
-    fn from_value(alloc: Global, value: &Value) -> Result<Alternative, TreeError> {
+    fn from_value(alloc: Global, value: Value<'_, '_>) -> Result<Alternative, TreeError> {
         alternative(alloc, value)
     }
 }
 
 #[tactic(auto, using(lalrpop_norm_shapes::proofs::Refusals::refusals, crate::proofs::FormLemmas::maybe_seen))]
-fn visibility(alloc: Global, value: &Value) -> Result<Visibility, TreeError>
-    ensures ok { IfOk result (λ v. view value.now ≡ visibility_form (visibility_view v)) }
-    ensures err { IsErrOf result TreeError.NotATree → is shape.visibility (view value.now) ≡ false }
+fn visibility(alloc: Global, value: Value<'_, '_>) -> Result<Visibility, TreeError>
+    ensures ok { IfOk result (λ v. view value.entry ≡ visibility_form (visibility_view v)) }
+    ensures err { IsErrOf result TreeError.NotATree → is shape.visibility (view value.entry) ≡ false }
 {
     match case_of(value)? {
         Case::Bare(variant) => match variant {
@@ -139,9 +139,9 @@ fn visibility(alloc: Global, value: &Value) -> Result<Visibility, TreeError>
 }
 
 #[tactic(auto, using(lalrpop_norm_shapes::proofs::Refusals::refusals))]
-pub(super) fn rule(alloc: Global, value: &Value) -> Result<NonterminalData, TreeError>
-    ensures ok { IfOk result (λ n. view value.now ≡ rule_form (rule_view n)) }
-    ensures err { IsErrOf result TreeError.NotATree → is shape.rule (view value.now) ≡ false }
+pub(super) fn rule(alloc: Global, value: Value<'_, '_>) -> Result<NonterminalData, TreeError>
+    ensures ok { IfOk result (λ n. view value.entry ≡ rule_form (rule_view n)) }
+    ensures err { IsErrOf result TreeError.NotATree → is shape.rule (view value.entry) ≡ false }
 {
     let (alternatives, args, listed, name, at, type_decl, seen) = seven_fields(
         value,

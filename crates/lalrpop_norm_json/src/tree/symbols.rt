@@ -1,7 +1,7 @@
 //! Symbols.
 ghost use Rattle.std.specs.Prelude.{◌≡◌, codes, IfOk, IsErrOf, false};
 ghost use Rattle.serde_json.specs.Data.{array};
-ghost use Rattle.serde_json.specs.View.{view};
+ghost use Rattle.json_document.specs.View.{view};
 ghost use Rattle.lalrpop_norm_tree.specs.Symbols.{kind_view, symbol_view, expr_view, parts_view, argument_pattern_view, argument_patterns_view, tuple_view};
 ghost use Rattle.lalrpop_norm_shapes.specs.Shapes as shape;
 ghost use Rattle.lalrpop_norm_shapes.specs.Shapes.{is, fits, place, many};
@@ -9,18 +9,18 @@ ghost use Rattle.lalrpop_norm_json.specs.Json.{variant};
 ghost use Rattle.lalrpop_norm_json.specs.SymbolForms.{op_form, name_form, argument_pattern_form, argument_patterns_form, tuple_form, kind_form, part_form, parts_form, group_form};
 
 use super::names::{atom, span, terminal};
+use json_document::Value;
 use lalrpop_norm_shapes::{Case, TreeError, case_of, items, only_field, pair, truth, two_fields};
 use lalrpop_norm_tree::grammar::parse_tree::{
     ArgPattern, ExprSymbol, MacroSymbol, Name, NonterminalString, RepeatOp, RepeatSymbol, Symbol,
     SymbolKind, Tuple,
 };
-use serde_json::Value;
 use std::alloc::Global;
 
 #[tactic(auto, using(lalrpop_norm_shapes::proofs::Refusals::refusals))]
-fn repeat_op(value: &Value) -> Result<RepeatOp, TreeError>
-    ensures ok { IfOk result (λ o. view value.now ≡ op_form o) }
-    ensures err { IsErrOf result TreeError.NotATree → is shape.repeat_operator (view value.now) ≡ false }
+fn repeat_op(value: Value<'_, '_>) -> Result<RepeatOp, TreeError>
+    ensures ok { IfOk result (λ o. view value.entry ≡ op_form o) }
+    ensures err { IsErrOf result TreeError.NotATree → is shape.repeat_operator (view value.entry) ≡ false }
 {
     match case_of(value)? {
         Case::Bare(variant) => match variant {
@@ -34,9 +34,9 @@ fn repeat_op(value: &Value) -> Result<RepeatOp, TreeError>
 }
 
 #[tactic(auto, using(lalrpop_norm_shapes::proofs::Refusals::refusals))]
-fn name(alloc: Global, value: &Value) -> Result<Name, TreeError>
-    ensures ok { IfOk result (λ n. view value.now ≡ name_form n) }
-    ensures err { IsErrOf result TreeError.NotATree → is shape.symbol_name (view value.now) ≡ false }
+fn name(alloc: Global, value: Value<'_, '_>) -> Result<Name, TreeError>
+    ensures ok { IfOk result (λ n. view value.entry ≡ name_form n) }
+    ensures err { IsErrOf result TreeError.NotATree → is shape.symbol_name (view value.entry) ≡ false }
 {
     let (mutable, name) = two_fields(value, "mutable", "name")?;
     let mutable = truth(mutable)?;
@@ -46,9 +46,9 @@ fn name(alloc: Global, value: &Value) -> Result<Name, TreeError>
 
 #[cycle(tuple)]
 #[tactic(auto, using(lalrpop_norm_shapes::proofs::Refusals::refusals))]
-fn argument_pattern(alloc: Global, value: &Value) -> Result<ArgPattern, TreeError>
-    ensures ok { IfOk result (λ p. view value.now ≡ argument_pattern_form (argument_pattern_view p)) }
-    ensures err { IsErrOf result TreeError.NotATree → is shape.argument_pattern (view value.now) ≡ false }
+fn argument_pattern(alloc: Global, value: Value<'_, '_>) -> Result<ArgPattern, TreeError>
+    ensures ok { IfOk result (λ p. view value.entry ≡ argument_pattern_form (argument_pattern_view p)) }
+    ensures err { IsErrOf result TreeError.NotATree → is shape.argument_pattern (view value.entry) ≡ false }
 {
     match case_of(value)? {
         Case::Bare(_) => Err(TreeError::NotATree),
@@ -63,9 +63,9 @@ fn argument_pattern(alloc: Global, value: &Value) -> Result<ArgPattern, TreeErro
 /// Names for the parts of a tuple.
 #[cycle(tuple)]
 #[tactic(auto, using(lalrpop_norm_shapes::proofs::Refusals::refusals))]
-fn tuple(alloc: Global, value: &Value) -> Result<Tuple, TreeError>
-    ensures ok { IfOk result (λ t. view value.now ≡ tuple_form (tuple_view t)) }
-    ensures err { IsErrOf result TreeError.NotATree → is shape.name_tuple (view value.now) ≡ false }
+fn tuple(alloc: Global, value: Value<'_, '_>) -> Result<Tuple, TreeError>
+    ensures ok { IfOk result (λ t. view value.entry ≡ tuple_form (tuple_view t)) }
+    ensures err { IsErrOf result TreeError.NotATree → is shape.name_tuple (view value.entry) ≡ false }
 {
     let tuples = argument_patterns(alloc, only_field(value, "tuples")?)?;
     Ok(Tuple { tuples })
@@ -73,23 +73,23 @@ fn tuple(alloc: Global, value: &Value) -> Result<Tuple, TreeError>
 
 #[cycle(tuple)]
 #[tactic(auto, using(lalrpop_norm_shapes::proofs::Refusals::refusals))]
-fn argument_patterns(alloc: Global, value: &Value) -> Result<Vec<ArgPattern>, TreeError>
-    ensures ok { IfOk result (λ ps. view value.now ≡ array (argument_patterns_form (argument_patterns_view ps.items))) }
-    ensures err { IsErrOf result TreeError.NotATree → fits (place (many shape.argument_pattern)) (view value.now) ≡ false }
+fn argument_patterns(alloc: Global, value: Value<'_, '_>) -> Result<Vec<ArgPattern>, TreeError>
+    ensures ok { IfOk result (λ ps. view value.entry ≡ array (argument_patterns_form (argument_patterns_view ps.items))) }
+    ensures err { IsErrOf result TreeError.NotATree → fits (place (many shape.argument_pattern)) (view value.entry) ≡ false }
 {
-    let values = items(value)?;
+    let mut values = items(value)?;
     let mut patterns = Vec::new(alloc);
-    for value in values {
-        patterns.push(argument_pattern(alloc, value)?)?;
+    while let Some(element) = values.next() {
+        patterns.push(argument_pattern(alloc, element)?)?;
     }
     Ok(patterns)
 }
 
 #[cycle(symbol)]
 #[tactic(auto, using(lalrpop_norm_shapes::proofs::Refusals::refusals))]
-pub(super) fn kind(alloc: Global, value: &Value) -> Result<SymbolKind, TreeError>
-    ensures ok { IfOk result (λ k. view value.now ≡ kind_form (kind_view k)) }
-    ensures err { IsErrOf result TreeError.NotATree → is shape.kind (view value.now) ≡ false }
+pub(super) fn kind(alloc: Global, value: Value<'_, '_>) -> Result<SymbolKind, TreeError>
+    ensures ok { IfOk result (λ k. view value.entry ≡ kind_form (kind_view k)) }
+    ensures err { IsErrOf result TreeError.NotATree → is shape.kind (view value.entry) ≡ false }
 {
     match case_of(value)? {
         Case::Bare(variant) => match variant {
@@ -115,9 +115,9 @@ pub(super) fn kind(alloc: Global, value: &Value) -> Result<SymbolKind, TreeError
 
 #[cycle(symbol)]
 #[tactic(auto, using(lalrpop_norm_shapes::proofs::Refusals::refusals))]
-fn symbol(alloc: Global, value: &Value) -> Result<Symbol, TreeError>
-    ensures ok { IfOk result (λ s. view value.now ≡ part_form (symbol_view s)) }
-    ensures err { IsErrOf result TreeError.NotATree → is shape.symbol (view value.now) ≡ false }
+fn symbol(alloc: Global, value: Value<'_, '_>) -> Result<Symbol, TreeError>
+    ensures ok { IfOk result (λ s. view value.entry ≡ part_form (symbol_view s)) }
+    ensures err { IsErrOf result TreeError.NotATree → is shape.symbol (view value.entry) ≡ false }
 {
     let (of, at) = two_fields(value, "kind", "span")?;
     let span = span(at)?;
@@ -128,9 +128,9 @@ fn symbol(alloc: Global, value: &Value) -> Result<Symbol, TreeError>
 /// The call whose macro and arguments these are.
 #[cycle(symbol)]
 #[tactic(auto, using(lalrpop_norm_shapes::proofs::Refusals::refusals))]
-fn called(alloc: Global, value: &Value) -> Result<SymbolKind, TreeError>
-    ensures ok { IfOk result (λ k. variant (codes "Macro") (view value.now) ≡ kind_form (kind_view k)) }
-    ensures err { IsErrOf result TreeError.NotATree → is shape.kind (variant (codes "Macro") (view value.now)) ≡ false }
+fn called(alloc: Global, value: Value<'_, '_>) -> Result<SymbolKind, TreeError>
+    ensures ok { IfOk result (λ k. variant (codes "Macro") (view value.entry) ≡ kind_form (kind_view k)) }
+    ensures err { IsErrOf result TreeError.NotATree → is shape.kind (variant (codes "Macro") (view value.entry)) ≡ false }
 {
     let (args, name) = two_fields(value, "args", "name")?;
     let name = NonterminalString(atom(alloc, name)?);
@@ -141,9 +141,9 @@ fn called(alloc: Global, value: &Value) -> Result<SymbolKind, TreeError>
 /// The repeat whose operator and symbol these are.
 #[cycle(symbol)]
 #[tactic(auto, using(lalrpop_norm_shapes::proofs::Refusals::refusals))]
-fn repeated(alloc: Global, value: &Value) -> Result<SymbolKind, TreeError>
-    ensures ok { IfOk result (λ k. variant (codes "Repeat") (view value.now) ≡ kind_form (kind_view k)) }
-    ensures err { IsErrOf result TreeError.NotATree → is shape.kind (variant (codes "Repeat") (view value.now)) ≡ false }
+fn repeated(alloc: Global, value: Value<'_, '_>) -> Result<SymbolKind, TreeError>
+    ensures ok { IfOk result (λ k. variant (codes "Repeat") (view value.entry) ≡ kind_form (kind_view k)) }
+    ensures err { IsErrOf result TreeError.NotATree → is shape.kind (variant (codes "Repeat") (view value.entry)) ≡ false }
 {
     let (op, repeated) = two_fields(value, "op", "symbol")?;
     let op = repeat_op(op)?;
@@ -154,9 +154,9 @@ fn repeated(alloc: Global, value: &Value) -> Result<SymbolKind, TreeError>
 /// The chosen symbol.
 #[cycle(symbol)]
 #[tactic(auto, using(lalrpop_norm_shapes::proofs::Refusals::refusals))]
-fn chosen(alloc: Global, value: &Value) -> Result<SymbolKind, TreeError>
-    ensures ok { IfOk result (λ k. variant (codes "Choose") (view value.now) ≡ kind_form (kind_view k)) }
-    ensures err { IsErrOf result TreeError.NotATree → is shape.kind (variant (codes "Choose") (view value.now)) ≡ false }
+fn chosen(alloc: Global, value: Value<'_, '_>) -> Result<SymbolKind, TreeError>
+    ensures ok { IfOk result (λ k. variant (codes "Choose") (view value.entry) ≡ kind_form (kind_view k)) }
+    ensures err { IsErrOf result TreeError.NotATree → is shape.kind (variant (codes "Choose") (view value.entry)) ≡ false }
 {
     let symbol = symbol(alloc, value)?;
     Ok(SymbolKind::Choose(Box::new(alloc, symbol)?))
@@ -165,9 +165,9 @@ fn chosen(alloc: Global, value: &Value) -> Result<SymbolKind, TreeError>
 /// The symbol with a name.
 #[cycle(symbol)]
 #[tactic(auto, using(lalrpop_norm_shapes::proofs::Refusals::refusals))]
-fn named(alloc: Global, value: &Value) -> Result<SymbolKind, TreeError>
-    ensures ok { IfOk result (λ k. variant (codes "Name") (view value.now) ≡ kind_form (kind_view k)) }
-    ensures err { IsErrOf result TreeError.NotATree → is shape.kind (variant (codes "Name") (view value.now)) ≡ false }
+fn named(alloc: Global, value: Value<'_, '_>) -> Result<SymbolKind, TreeError>
+    ensures ok { IfOk result (λ k. variant (codes "Name") (view value.entry) ≡ kind_form (kind_view k)) }
+    ensures err { IsErrOf result TreeError.NotATree → is shape.kind (variant (codes "Name") (view value.entry)) ≡ false }
 {
     let (first, second) = pair(value)?;
     let name = name(alloc, first)?;
@@ -178,9 +178,9 @@ fn named(alloc: Global, value: &Value) -> Result<SymbolKind, TreeError>
 /// The symbol whose value is a tuple with names for its parts.
 #[cycle(symbol)]
 #[tactic(auto, using(lalrpop_norm_shapes::proofs::Refusals::refusals))]
-fn tupled(alloc: Global, value: &Value) -> Result<SymbolKind, TreeError>
-    ensures ok { IfOk result (λ k. variant (codes "Tuple") (view value.now) ≡ kind_form (kind_view k)) }
-    ensures err { IsErrOf result TreeError.NotATree → is shape.kind (variant (codes "Tuple") (view value.now)) ≡ false }
+fn tupled(alloc: Global, value: Value<'_, '_>) -> Result<SymbolKind, TreeError>
+    ensures ok { IfOk result (λ k. variant (codes "Tuple") (view value.entry) ≡ kind_form (kind_view k)) }
+    ensures err { IsErrOf result TreeError.NotATree → is shape.kind (variant (codes "Tuple") (view value.entry)) ≡ false }
 {
     let (first, second) = pair(value)?;
     let names = tuple(alloc, first)?;
@@ -190,9 +190,9 @@ fn tupled(alloc: Global, value: &Value) -> Result<SymbolKind, TreeError>
 
 #[cycle(symbol)]
 #[tactic(auto, using(lalrpop_norm_shapes::proofs::Refusals::refusals))]
-pub(super) fn group(alloc: Global, value: &Value) -> Result<ExprSymbol, TreeError>
-    ensures ok { IfOk result (λ e. view value.now ≡ group_form (expr_view e)) }
-    ensures err { IsErrOf result TreeError.NotATree → is shape.group (view value.now) ≡ false }
+pub(super) fn group(alloc: Global, value: Value<'_, '_>) -> Result<ExprSymbol, TreeError>
+    ensures ok { IfOk result (λ e. view value.entry ≡ group_form (expr_view e)) }
+    ensures err { IsErrOf result TreeError.NotATree → is shape.group (view value.entry) ≡ false }
 {
     let symbols = symbols(alloc, only_field(value, "symbols")?)?;
     Ok(ExprSymbol { symbols })
@@ -200,14 +200,14 @@ pub(super) fn group(alloc: Global, value: &Value) -> Result<ExprSymbol, TreeErro
 
 #[cycle(symbol)]
 #[tactic(auto, using(lalrpop_norm_shapes::proofs::Refusals::refusals))]
-fn symbols(alloc: Global, value: &Value) -> Result<Vec<Symbol>, TreeError>
-    ensures ok { IfOk result (λ ss. view value.now ≡ array (parts_form (parts_view ss.items))) }
-    ensures err { IsErrOf result TreeError.NotATree → fits (place (many shape.symbol)) (view value.now) ≡ false }
+fn symbols(alloc: Global, value: Value<'_, '_>) -> Result<Vec<Symbol>, TreeError>
+    ensures ok { IfOk result (λ ss. view value.entry ≡ array (parts_form (parts_view ss.items))) }
+    ensures err { IsErrOf result TreeError.NotATree → fits (place (many shape.symbol)) (view value.entry) ≡ false }
 {
-    let values = items(value)?;
+    let mut values = items(value)?;
     let mut symbols = Vec::new(alloc);
-    for value in values {
-        symbols.push(symbol(alloc, value)?)?;
+    while let Some(element) = values.next() {
+        symbols.push(symbol(alloc, element)?)?;
     }
     Ok(symbols)
 }

@@ -1,6 +1,6 @@
 //! Match blocks and extern blocks.
 ghost use Rattle.std.specs.Prelude.{◌≡◌, codes, IfOk, IsErrOf, false};
-ghost use Rattle.serde_json.specs.View.{view};
+ghost use Rattle.json_document.specs.View.{view};
 ghost use Rattle.lalrpop_norm_tree.specs.Items.{enum_token_view, extern_token_view, match_token_view};
 ghost use Rattle.lalrpop_norm_shapes.specs.Shapes as shape;
 ghost use Rattle.lalrpop_norm_shapes.specs.Shapes.{is};
@@ -12,6 +12,7 @@ use super::names::{atom, literal, span, terminal};
 use super::parts::{FromValue, list, maybe};
 use super::patterns::pattern;
 use super::types::type_ref;
+use json_document::Value;
 use lalrpop_norm_shapes::{
     Case, TreeError, case_of, four_fields, only_field, pair, three_fields, triple, two_fields,
 };
@@ -19,13 +20,12 @@ use lalrpop_norm_tree::grammar::parse_tree::{
     AssociatedType, Conversion, EnumToken, ExternToken, MatchContents, MatchItem, MatchMapping,
     MatchToken,
 };
-use serde_json::Value;
 use std::alloc::Global;
 
 #[tactic(auto, using(lalrpop_norm_shapes::proofs::Refusals::refusals))]
-fn mapping(alloc: Global, value: &Value) -> Result<MatchMapping, TreeError>
-    ensures ok { IfOk result (λ m. view value.now ≡ mapping_form m) }
-    ensures err { IsErrOf result TreeError.NotATree → is shape.match_mapping (view value.now) ≡ false }
+fn mapping(alloc: Global, value: Value<'_, '_>) -> Result<MatchMapping, TreeError>
+    ensures ok { IfOk result (λ m. view value.entry ≡ mapping_form m) }
+    ensures err { IsErrOf result TreeError.NotATree → is shape.match_mapping (view value.entry) ≡ false }
 {
     match case_of(value)? {
         Case::Bare(variant) => match variant {
@@ -41,9 +41,9 @@ fn mapping(alloc: Global, value: &Value) -> Result<MatchMapping, TreeError>
 
 /// The item that stands for itself.
 #[tactic(auto, using(lalrpop_norm_shapes::proofs::Refusals::refusals))]
-fn unmapped(alloc: Global, value: &Value) -> Result<MatchItem, TreeError>
-    ensures ok { IfOk result (λ i. variant (codes "Unmapped") (view value.now) ≡ match_item_form i) }
-    ensures err { IsErrOf result TreeError.NotATree → is shape.match_item (variant (codes "Unmapped") (view value.now)) ≡ false }
+fn unmapped(alloc: Global, value: Value<'_, '_>) -> Result<MatchItem, TreeError>
+    ensures ok { IfOk result (λ i. variant (codes "Unmapped") (view value.entry) ≡ match_item_form i) }
+    ensures err { IsErrOf result TreeError.NotATree → is shape.match_item (variant (codes "Unmapped") (view value.entry)) ≡ false }
 {
     let (of, at) = pair(value)?;
     let span = span(at)?;
@@ -52,9 +52,9 @@ fn unmapped(alloc: Global, value: &Value) -> Result<MatchItem, TreeError>
 
 /// The item that makes what is named beside it.
 #[tactic(auto, using(lalrpop_norm_shapes::proofs::Refusals::refusals))]
-fn mapped(alloc: Global, value: &Value) -> Result<MatchItem, TreeError>
-    ensures ok { IfOk result (λ i. variant (codes "Mapped") (view value.now) ≡ match_item_form i) }
-    ensures err { IsErrOf result TreeError.NotATree → is shape.match_item (variant (codes "Mapped") (view value.now)) ≡ false }
+fn mapped(alloc: Global, value: Value<'_, '_>) -> Result<MatchItem, TreeError>
+    ensures ok { IfOk result (λ i. variant (codes "Mapped") (view value.entry) ≡ match_item_form i) }
+    ensures err { IsErrOf result TreeError.NotATree → is shape.match_item (variant (codes "Mapped") (view value.entry)) ≡ false }
 {
     let (of, to, at) = triple(value)?;
     let span = span(at)?;
@@ -72,7 +72,7 @@ impl FromValue for MatchItem {
     ghost named = { shape.match_item };
 
     #[tactic(auto, using(lalrpop_norm_shapes::proofs::Refusals::refusals))]
-    fn from_value(alloc: Global, value: &Value) -> Result<MatchItem, TreeError> {
+    fn from_value(alloc: Global, value: Value<'_, '_>) -> Result<MatchItem, TreeError> {
         match case_of(value)? {
             Case::Bare(_) => Err(TreeError::NotATree),
             Case::Of(variant, held) => match variant {
@@ -95,16 +95,16 @@ impl FromValue for MatchContents {
     ghost named = { shape.match_contents };
 
     #[tactic(auto, using(lalrpop_norm_shapes::proofs::Refusals::refusals))]
-    fn from_value(alloc: Global, value: &Value) -> Result<MatchContents, TreeError> {
+    fn from_value(alloc: Global, value: Value<'_, '_>) -> Result<MatchContents, TreeError> {
         let items = list(alloc, only_field(value, "items")?)?;
         Ok(MatchContents { items })
     }
 }
 
 #[tactic(auto, using(lalrpop_norm_shapes::proofs::Refusals::refusals))]
-pub(super) fn match_token(alloc: Global, value: &Value) -> Result<MatchToken, TreeError>
-    ensures ok { IfOk result (λ m. view value.now ≡ match_token_form (match_token_view m)) }
-    ensures err { IsErrOf result TreeError.NotATree → is shape.match_token (view value.now) ≡ false }
+pub(super) fn match_token(alloc: Global, value: Value<'_, '_>) -> Result<MatchToken, TreeError>
+    ensures ok { IfOk result (λ m. view value.entry ≡ match_token_form (match_token_view m)) }
+    ensures err { IsErrOf result TreeError.NotATree → is shape.match_token (view value.entry) ≡ false }
 {
     let (contents, at) = two_fields(value, "contents", "span")?;
     let span = span(at)?;
@@ -122,7 +122,7 @@ impl FromValue for Conversion {
     ghost named = { shape.conversion };
 
     #[tactic(auto, using(lalrpop_norm_shapes::proofs::Refusals::refusals))]
-    fn from_value(alloc: Global, value: &Value) -> Result<Conversion, TreeError> {
+    fn from_value(alloc: Global, value: Value<'_, '_>) -> Result<Conversion, TreeError> {
         let (listed, from, at, to) = four_fields(value, "attributes", "from", "span", "to")?;
         let span = span(at)?;
         let from = terminal(alloc, from)?;
@@ -138,9 +138,9 @@ impl FromValue for Conversion {
 }
 
 #[tactic(auto, using(lalrpop_norm_shapes::proofs::Refusals::refusals))]
-fn enum_token(alloc: Global, value: &Value) -> Result<EnumToken, TreeError>
-    ensures ok { IfOk result (λ e. view value.now ≡ enum_token_form (enum_token_view e)) }
-    ensures err { IsErrOf result TreeError.NotATree → is shape.enum_token (view value.now) ≡ false }
+fn enum_token(alloc: Global, value: Value<'_, '_>) -> Result<EnumToken, TreeError>
+    ensures ok { IfOk result (λ e. view value.entry ≡ enum_token_form (enum_token_view e)) }
+    ensures err { IsErrOf result TreeError.NotATree → is shape.enum_token (view value.entry) ≡ false }
 {
     let (conversions, type_name, at) = three_fields(
         value,
@@ -167,7 +167,7 @@ impl FromValue for EnumToken {
 
     ghost named = { shape.enum_token };
 
-    fn from_value(alloc: Global, value: &Value) -> Result<EnumToken, TreeError> {
+    fn from_value(alloc: Global, value: Value<'_, '_>) -> Result<EnumToken, TreeError> {
         enum_token(alloc, value)
     }
 }
@@ -182,7 +182,7 @@ impl FromValue for AssociatedType {
     ghost named = { shape.associated_type };
 
     #[tactic(auto, using(lalrpop_norm_shapes::proofs::Refusals::refusals))]
-    fn from_value(alloc: Global, value: &Value) -> Result<AssociatedType, TreeError> {
+    fn from_value(alloc: Global, value: Value<'_, '_>) -> Result<AssociatedType, TreeError> {
         let (name, of, at) = three_fields(value, "type_name", "type_ref", "type_span")?;
         let type_span = span(at)?;
         let type_name = atom(alloc, name)?;
@@ -196,9 +196,9 @@ impl FromValue for AssociatedType {
 }
 
 #[tactic(auto, using(lalrpop_norm_shapes::proofs::Refusals::refusals))]
-pub(super) fn extern_token(alloc: Global, value: &Value) -> Result<ExternToken, TreeError>
-    ensures ok { IfOk result (λ t. view value.now ≡ extern_token_form (extern_token_view t)) }
-    ensures err { IsErrOf result TreeError.NotATree → is shape.extern_token (view value.now) ≡ false }
+pub(super) fn extern_token(alloc: Global, value: Value<'_, '_>) -> Result<ExternToken, TreeError>
+    ensures ok { IfOk result (λ t. view value.entry ≡ extern_token_form (extern_token_view t)) }
+    ensures err { IsErrOf result TreeError.NotATree → is shape.extern_token (view value.entry) ≡ false }
 {
     let (associated, enum_token, at) = three_fields(
         value,

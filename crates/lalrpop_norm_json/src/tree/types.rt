@@ -1,7 +1,7 @@
 //! Written types.
 ghost use Rattle.std.specs.Prelude.{◌≡◌, [], ◌∷◌, codes, option_map, IfOk, IsErrOf, false};
 ghost use Rattle.serde_json.specs.Data.{array};
-ghost use Rattle.serde_json.specs.View.{view};
+ghost use Rattle.json_document.specs.View.{view};
 ghost use Rattle.lalrpop_norm_parts.specs.Paths.{path_view};
 ghost use Rattle.lalrpop_norm_tree.specs.Types.{type_view, types_view, maybe_of};
 ghost use Rattle.lalrpop_norm_shapes.specs.Shapes as shape;
@@ -13,11 +13,11 @@ ghost use Rattle.lalrpop_norm_json.specs.TypeForms.{type_form, types_form, maybe
 use super::names::{atom, path};
 use super::parts::{FromValue, list, maybe};
 use super::symbols::kind;
+use json_document::Value;
 use lalrpop_norm_shapes::{
     Case, TreeError, case_of, four_fields, items, present, three_fields, truth, two_fields,
 };
 use lalrpop_norm_tree::grammar::parse_tree::{Lifetime, Parameter, Path, TypeRef};
-use serde_json::Value;
 use std::alloc::Global;
 
 impl FromValue for TypeRef {
@@ -29,7 +29,7 @@ impl FromValue for TypeRef {
 
     ghost named = { shape.type };
 
-    fn from_value(alloc: Global, value: &Value) -> Result<TypeRef, TreeError> {
+    fn from_value(alloc: Global, value: Value<'_, '_>) -> Result<TypeRef, TreeError> {
         type_ref(alloc, value)
     }
 }
@@ -44,7 +44,7 @@ impl FromValue for Parameter {
     ghost named = { shape.parameter };
 
     #[tactic(auto, using(lalrpop_norm_shapes::proofs::Refusals::refusals))]
-    fn from_value(alloc: Global, value: &Value) -> Result<Parameter, TreeError> {
+    fn from_value(alloc: Global, value: Value<'_, '_>) -> Result<Parameter, TreeError> {
         let (name, of) = two_fields(value, "name", "ty")?;
         let name = atom(alloc, name)?;
         let ty = type_ref(alloc, of)?;
@@ -54,9 +54,9 @@ impl FromValue for Parameter {
 
 #[cycle(type_ref)]
 #[tactic(auto, using(lalrpop_norm_shapes::proofs::Refusals::refusals))]
-pub(super) fn type_ref(alloc: Global, value: &Value) -> Result<TypeRef, TreeError>
-    ensures ok { IfOk result (λ t. view value.now ≡ type_form (type_view t)) }
-    ensures err { IsErrOf result TreeError.NotATree → is shape.type (view value.now) ≡ false }
+pub(super) fn type_ref(alloc: Global, value: Value<'_, '_>) -> Result<TypeRef, TreeError>
+    ensures ok { IfOk result (λ t. view value.entry ≡ type_form (type_view t)) }
+    ensures err { IsErrOf result TreeError.NotATree → is shape.type (view value.entry) ≡ false }
 {
     match case_of(value)? {
         Case::Bare(_) => Err(TreeError::NotATree),
@@ -84,11 +84,11 @@ pub(super) fn type_ref(alloc: Global, value: &Value) -> Result<TypeRef, TreeErro
 /// What a named type and a trait object hold.
 #[cycle(type_ref)]
 #[tactic(auto, using(lalrpop_norm_shapes::proofs::Refusals::refusals))]
-fn path_and_types(alloc: Global, value: &Value) -> Result<(Path, Vec<TypeRef>), TreeError>
-    ensures ok { IfOk result (λ p. view value.now ≡
+fn path_and_types(alloc: Global, value: Value<'_, '_>) -> Result<(Path, Vec<TypeRef>), TreeError>
+    ensures ok { IfOk result (λ p. view value.entry ≡
         fields ((codes "path", path_form (path_view p.0)) ∷ (codes "types", array (types_form (types_view p.1.items))) ∷ [])) }
     ensures err { IsErrOf result TreeError.NotATree →
-        fits (struct ((codes "path", one shape.path) ∷ (codes "types", many shape.type) ∷ [])) (view value.now) ≡ false }
+        fits (struct ((codes "path", one shape.path) ∷ (codes "types", many shape.type) ∷ [])) (view value.entry) ≡ false }
 {
     let (named, arguments) = two_fields(value, "path", "types")?;
     let path = path(alloc, named)?;
@@ -99,9 +99,9 @@ fn path_and_types(alloc: Global, value: &Value) -> Result<(Path, Vec<TypeRef>), 
 /// The reference whose fields these are.
 #[cycle(type_ref)]
 #[tactic(auto, using(lalrpop_norm_shapes::proofs::Refusals::refusals))]
-fn reference_type(alloc: Global, value: &Value) -> Result<TypeRef, TreeError>
-    ensures ok { IfOk result (λ t. variant (codes "Ref") (view value.now) ≡ type_form (type_view t)) }
-    ensures err { IsErrOf result TreeError.NotATree → is shape.type (variant (codes "Ref") (view value.now)) ≡ false }
+fn reference_type(alloc: Global, value: Value<'_, '_>) -> Result<TypeRef, TreeError>
+    ensures ok { IfOk result (λ t. variant (codes "Ref") (view value.entry) ≡ type_form (type_view t)) }
+    ensures err { IsErrOf result TreeError.NotATree → is shape.type (variant (codes "Ref") (view value.entry)) ≡ false }
 {
     let (lifetime, mutable, referent) = three_fields(value, "lifetime", "mutable", "referent")?;
     let mutable = truth(mutable)?;
@@ -117,9 +117,9 @@ fn reference_type(alloc: Global, value: &Value) -> Result<TypeRef, TreeError>
 /// The function type whose fields these are.
 #[cycle(type_ref)]
 #[tactic(auto, using(lalrpop_norm_shapes::proofs::Refusals::refusals))]
-fn function_type(alloc: Global, value: &Value) -> Result<TypeRef, TreeError>
-    ensures ok { IfOk result (λ t. variant (codes "Fn") (view value.now) ≡ type_form (type_view t)) }
-    ensures err { IsErrOf result TreeError.NotATree → is shape.type (variant (codes "Fn") (view value.now)) ≡ false }
+fn function_type(alloc: Global, value: Value<'_, '_>) -> Result<TypeRef, TreeError>
+    ensures ok { IfOk result (λ t. variant (codes "Fn") (view value.entry) ≡ type_form (type_view t)) }
+    ensures err { IsErrOf result TreeError.NotATree → is shape.type (variant (codes "Fn") (view value.entry)) ≡ false }
 {
     let (forall, parameters, named, ret) = four_fields(
         value,
@@ -143,9 +143,9 @@ fn function_type(alloc: Global, value: &Value) -> Result<TypeRef, TreeError>
 /// Null, or a type.
 #[cycle(type_ref)]
 #[tactic(auto, using(lalrpop_norm_shapes::proofs::Refusals::refusals))]
-fn maybe_type_ref(alloc: Global, value: &Value) -> Result<Option<Box<TypeRef>>, TreeError>
-    ensures ok { IfOk result (λ o. view value.now ≡ maybe_type_form (maybe_of (option_map (λ b. type_view b.value) o))) }
-    ensures err { IsErrOf result TreeError.NotATree → fits (place (maybe shape.type)) (view value.now) ≡ false }
+fn maybe_type_ref(alloc: Global, value: Value<'_, '_>) -> Result<Option<Box<TypeRef>>, TreeError>
+    ensures ok { IfOk result (λ o. view value.entry ≡ maybe_type_form (maybe_of (option_map (λ b. type_view b.value) o))) }
+    ensures err { IsErrOf result TreeError.NotATree → fits (place (maybe shape.type)) (view value.entry) ≡ false }
 {
     match present(value) {
         None => Ok(None),
@@ -155,14 +155,14 @@ fn maybe_type_ref(alloc: Global, value: &Value) -> Result<Option<Box<TypeRef>>, 
 
 #[cycle(type_ref)]
 #[tactic(auto, using(lalrpop_norm_shapes::proofs::Refusals::refusals))]
-fn type_refs(alloc: Global, value: &Value) -> Result<Vec<TypeRef>, TreeError>
-    ensures ok { IfOk result (λ ts. view value.now ≡ array (types_form (types_view ts.items))) }
-    ensures err { IsErrOf result TreeError.NotATree → fits (place (many shape.type)) (view value.now) ≡ false }
+fn type_refs(alloc: Global, value: Value<'_, '_>) -> Result<Vec<TypeRef>, TreeError>
+    ensures ok { IfOk result (λ ts. view value.entry ≡ array (types_form (types_view ts.items))) }
+    ensures err { IsErrOf result TreeError.NotATree → fits (place (many shape.type)) (view value.entry) ≡ false }
 {
-    let values = items(value)?;
+    let mut values = items(value)?;
     let mut types = Vec::new(alloc);
-    for value in values {
-        types.push(type_ref(alloc, value)?)?;
+    while let Some(element) = values.next() {
+        types.push(type_ref(alloc, element)?)?;
     }
     Ok(types)
 }

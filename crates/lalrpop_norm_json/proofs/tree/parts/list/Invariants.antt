@@ -1,6 +1,11 @@
-use Rattle.std.proofs.Common.{◌≡◌, map, take}
-use Rattle.serde_json.specs.View.{view}
+use Rattle.std.proofs.Common.{◌≡◌, map}
+use Rattle.serde_json.specs.Data.{array}
+use Rattle.json_document.specs.View.{view, items_view}
+use Rattle.lalrpop_norm_shapes.proofs.Refusals.{onto, count}
 use Rattle.lalrpop_norm_json.proofs.tree.parts.list.Given as goal
 
-abbrev pub invariant-loop-value : goal.invariant-loop-value
-invariant-loop-value g l = map g.T.FromValue.form l.read.items ≡ map view (take l.value-index l.values)
+abbrev pub invariant-loop-element : goal.invariant-loop-element
+invariant-loop-element g l = view l.fn.value ≡ array (onto (map g.T.FromValue.form l.read.items) (items_view l.values))
+
+abbrev pub decreases-loop-element : goal.decreases-loop-element
+decreases-loop-element g l = count (items_view l.values)

@@ -1,0 +1,4 @@
+pub mod Tokens
+pub mod Limits
+pub mod Order
+pub mod View

@@ -1,0 +1,59 @@
+//! Numbers: which are taken, and which natural number one is.
+ghost use Rattle.std.specs.Prelude.{◌≡◌, ◌==◌, ◌<◌, length, slice_index, true, false, option_map, IsTrue};
+ghost use Rattle.serde_json.specs.Find.{as_u64};
+ghost use Rattle.serde_json.specs.Read.{number_of, number_from, float_of};
+
+use fast_float::Numeral;
+
+/// Nothing where the number is out of range; else the natural number below 2 ^ 64 that it is, if it is one.
+pub fn number(text: &str) -> Option<Option<u64>>
+    ensures { result ≡ option_map as_u64 (number_of text.now) }
+{
+    let bytes = text.as_bytes();
+    if has_minus(bytes) {
+        negative(&Numeral::scan(&bytes[1..]))
+    } else {
+        unsigned(&Numeral::scan(bytes))
+    }
+}
+
+/// The same of a number without a sign.
+fn unsigned(numeral: &Numeral<'_>) -> Option<Option<u64>>
+    ensures { result ≡ option_map as_u64 (number_from false numeral.now) }
+{
+    match numeral.to_u64() {
+        Some(n) => Some(Some(n)),
+        None => nearest(false, numeral),
+    }
+}
+
+/// The same of what stands behind a minus.
+fn negative(numeral: &Numeral<'_>) -> Option<Option<u64>>
+    ensures { result ≡ option_map as_u64 (number_from true numeral.now) }
+{
+    if let Some(n) = numeral.to_i64(true) {
+        if n < 0 {
+            return Some(None);
+        }
+    }
+    nearest(true, numeral)
+}
+
+/// The same of a number that is read as the nearest float.
+fn nearest(negative: bool, numeral: &Numeral<'_>) -> Option<Option<u64>>
+    ensures { result ≡ option_map as_u64 (float_of negative numeral.now) }
+{
+    if numeral.to_float::<f64>(negative).is_finite() {
+        Some(None)
+    } else {
+        None
+    }
+}
+
+/// Whether a minus stands first.
+fn has_minus(bytes: &[u8]) -> bool
+    ensures value { result ≡ (slice_index bytes.now 0 == 45) }
+    ensures len { IsTrue result → 0 < length bytes.now }
+{
+    !bytes.is_empty() && bytes[0] == b'-'
+}

@@ -1,0 +1,7 @@
+//! JSON texts read in two ways, for runs: by `serde_json`'s own values, and by documents. Beside a text stand ten that are
+//! damaged.
+#![tactic(auto)]
+
+mod damage;
+mod same;
+pub mod twice;
