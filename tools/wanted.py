@@ -21,7 +21,7 @@ import sys
 sys.dont_write_bytecode = True
 from wanted_forms import (WRAPPERS, Refused, Unknown, argument, attributes, canonical, clause_lines, intern, lowered_clauses,
                           names_text, one, pattern, place, signature, terminal, tree_text, type_text, visibility)
-from wanted_shapes import debug_tree, tree_of
+from wanted_shapes import beginnings, debug_tree, readings, tree_of
 from wanted_tokens import (KNOWN_ATTRIBUTES, CheckOnly, Scripted, blocks_of, check_tokens, extern_enum, is_expanded, item_parts,
                            named_terminals, terminals_used)
 from wanted_types import LOOKAROUNDS, Types, sources, text_of
@@ -733,6 +733,8 @@ def answer(data, name, call, *words):
     try:
         if call in ("cut_reads", "cut_writes", "cut_faults", "values"):
             raise Unknown
+        if call in ("read_twice", "beginnings"):
+            return readings(content) if call == "read_twice" else beginnings(content)
         return lines_of(content, words) if call == "lnorm" else passes_answer(content, call, words)
     except NotExpanded:
         return "not expanded\n"

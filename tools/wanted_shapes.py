@@ -3,6 +3,7 @@
 In the tables a `name` is a text that `Debug` shows as it is.
 """
 import json
+import math
 import re
 
 from wanted_forms import escaped, literal, mapping, terminal
@@ -131,22 +132,62 @@ def no_number(text):
     raise ValueError(text)
 
 
+def in_range(text):
+    """A number past the range of floats is none."""
+    value = float(text)
+    return value if math.isfinite(value) else no_number(text)
+
+
 def natural(text):
     """A number with a sign is none that a tree has."""
-    return int(text) if text[0] != "-" else float(text)
+    value = in_range(text)
+    return int(text) if text[0] != "-" else value
+
+
+def value_of(data):
+    """The value of the JSON text that the bytes are; where they are none that is read, a `ValueError`."""
+    text = data.decode("utf-8")
+    if depth(text) > 127:
+        raise ValueError("too deep")
+    value = json.loads(text, parse_int=natural, parse_float=in_range, parse_constant=no_number, object_pairs_hook=members)
+    json.dumps(value, ensure_ascii=False).encode("utf-8")
+    return value
+
+
+def members(pairs):
+    """Of a key that stands twice the last value counts; each has to be a text."""
+    for key, value in pairs:
+        json.dumps([key, value], ensure_ascii=False).encode("utf-8")
+    return dict(pairs)
 
 
 def tree_of(data):
     """The tree that the bytes are, or none."""
     try:
-        text = data.decode("utf-8")
-        if depth(text) > 127:
-            return None
-        tree = json.loads(text, parse_int=natural, parse_constant=no_number)
-        json.dumps(tree, ensure_ascii=False).encode("utf-8")
+        tree = value_of(data)
     except ValueError:
         return None
     return tree if has_shape("Grammar", tree) else None
+
+
+def readings(data):
+    """What two readers make of the bytes, and of ten that are damaged."""
+    try:
+        value_of(data)
+        told = "read"
+    except UnicodeDecodeError:
+        told = "no UTF-8"
+    except ValueError:
+        told = "refused"
+    return told + "\ndamaged: 10 of 10 alike\n"
+
+
+def beginnings(data):
+    """What they make of its beginnings."""
+    read = 0
+    for end in range(len(data)):
+        read += readings(data[:end]).startswith("read")
+    return "beginnings: %d of %d alike, %d read\n" % (len(data), len(data), read)
 
 
 # ---- a tree by its `Debug`

@@ -12,6 +12,10 @@ pub(crate) enum Call {
     CutWrites,
     /// A run of it whose line on standard error can't be written.
     CutFaults,
+    /// What two readers of JSON make of the text, and of damaged ones.
+    ReadTwice,
+    /// What they make of its beginnings.
+    Beginnings,
     /// Values that no tree holds.
     Values,
     /// Passes one after another, and what is asked for the tree then.
@@ -87,6 +91,8 @@ pub(crate) fn call_of(alloc: Global, name: &str) -> Result<Option<Call>, AllocEr
         "cut_writes" => Ok(Some(Call::CutWrites)),
         "cut_faults" => Ok(Some(Call::CutFaults)),
         "values" => Ok(Some(Call::Values)),
+        "read_twice" => Ok(Some(Call::ReadTwice)),
+        "beginnings" => Ok(Some(Call::Beginnings)),
         _ => passes_of(alloc, name),
     }
 }
