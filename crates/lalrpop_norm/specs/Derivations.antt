@@ -21,7 +21,8 @@ tree_symbol (Nonterminal n) = nonterminal_symbol n.0
 
 -- a production with the origin at the number of its action
 abbrev pub traced : List Origin → ProductionData → Production
-traced origins p = record { origin = unwrap_or (slice_get origins (action_index p.action)) from_start; symbols = map tree_symbol p.symbols }
+traced origins p =
+    record { origin = unwrap_or (slice_get origins (action_index p.action)) from_start; symbols = map tree_symbol p.symbols }
 
 -- the lowered grammar as trees see it, where the origins of its actions are given in their order
 abbrev pub derivations : List Origin → lowered.LoweredGrammar → ProductionTable

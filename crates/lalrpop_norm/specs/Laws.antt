@@ -44,12 +44,14 @@ HasFlatMacros g = (d : RuleData) → In d (all_rules g) → is_nil d.args ≡ fa
 -- Where the pass over levels finds no fault, no macro has two levels, and no fault of names stands in the grammar with levels.
 abbrev pub LevelsSettleMacros : Type 0
 LevelsSettleMacros =
-    (g : GrammarData) → resolved_grammar g ≡ g → leveled_faults g ≡ [] → HasFlatMacros g × (resolve_faults (leveled_grammar g) ≡ [])
+    (g : GrammarData) → resolved_grammar g ≡ g → leveled_faults g ≡ [] →
+    HasFlatMacros g × (resolve_faults (leveled_grammar g) ≡ [])
 
 -- names stand once, and no start symbol has the name of a rule
 pub record HasOwnNames (g : GrammarData) : Type 0 where
   pub once : IsDistinct (rule_names g)
-  pub starts : (r : RuleData) → In r (public_rules_in (all_rules g)) → In (start_name g.prefix r.name).0 (rule_names g) → ⊥
+  pub starts : (r : RuleData) → In r (public_rules_in (all_rules g)) →
+      In (start_name g.prefix r.name).0 (rule_names g) → ⊥
 
 -- Names that stand once are a grammar's own where lowering has no fault and each rule has a type.
 abbrev pub NamesAreOwn : Type 0
@@ -63,8 +65,10 @@ abbrev pub LoweredTreesAreFaithful : Type 0
 LoweredTreesAreFaithful =
     (fs : Features) (g : GrammarData) → resolve_faults (enabled_grammar fs g) ≡ [] →
     HasFlatMacros (prepared_grammar fs g) →
-    resolve_faults (grammar_with_levels fs g) ≡ [] → (rounds : ℕ) → IsEnded comparison (grammar_with_levels fs g) rounds →
-    HasOwnNames (grammar_of_plain_rules fs g rounds) → (plain : GrammarData) → IsEntered (grammar_of_plain_rules fs g rounds) plain →
+    resolve_faults (grammar_with_levels fs g) ≡ [] → (rounds : ℕ) →
+    IsEnded comparison (grammar_with_levels fs g) rounds →
+    HasOwnNames (grammar_of_plain_rules fs g rounds) → (plain : GrammarData) →
+    IsEntered (grammar_of_plain_rules fs g rounds) plain →
     (types : TypeTable) (l : LoweredGrammar) → IsLoweringOf plain (all_rules plain) types l →
     HasFaithfulTrees fs g (grammar_of_plain_rules fs g rounds) rounds l
 
@@ -73,10 +77,11 @@ LoweredTreesAreFaithful =
 abbrev pub CapIsExact : Type 0
 CapIsExact = (value : ConditionValue) (g : GrammarData) → IsSettled g → (limit : ℕ) →
     ((s : Span) × In (RecursionCap, s) (expansion_faults value g limit))
-    ↔ ((x : ClosedSymbol) × NewIn (rule_meets (flat_meaning value g)) (flat_map (rule_meets (flat_meaning value g)) (declared g)) limit x)
+    ↔ ((x : ClosedSymbol) × NewIn (rule_meets (flat_meaning value g))
+    (flat_map (rule_meets (flat_meaning value g)) (declared g)) limit x)
 
--- The faults of an expansion, round by round: of each round that may make rules, what shares a name as it is met, then what no rule is
--- made of; of the one after them, what shares a name, then that something is new there.
+-- The faults of an expansion, round by round: of each round that may make rules, what shares a name as it is met, then what no
+-- rule is made of; of the one after them, what shares a name, then that something is new there.
 abbrev pub FaultsAreByRound : Type 0
 FaultsAreByRound = (value : ConditionValue) (g : GrammarData) (limit : ℕ) →
     expansion_faults value g limit
@@ -86,9 +91,12 @@ FaultsAreByRound = (value : ConditionValue) (g : GrammarData) (limit : ℕ) →
 -- Where trees are faithful, each enabled written rule that is no macro has in both languages the same words, by itself and within
 -- each of its levels: the leaves of its written trees are the leaves of the derivation trees of its nonterminal.
 abbrev pub WordsAreEqual : Type 0
-WordsAreEqual = (fs : Features) (g plain : GrammarData) (rounds : ℕ) (l : LoweredGrammar) → HasFaithfulTrees fs g plain rounds l →
-    (r : RuleData) (s : ClosedSymbol) → IsSymbolOf r s → In s (roots (written_rules fs g) ++ references (written_rules fs g)) →
-    (w : List Terminal) → IsWrittenWord (written_meaning fs g) s w ↔ IsWordOf (traced_derivations fs g plain rounds l) (lowered_name fs g s).0 w
+WordsAreEqual =
+    (fs : Features) (g plain : GrammarData) (rounds : ℕ) (l : LoweredGrammar) → HasFaithfulTrees fs g plain rounds l →
+    (r : RuleData) (s : ClosedSymbol) → IsSymbolOf r s →
+    In s (roots (written_rules fs g) ++ references (written_rules fs g)) →
+    (w : List Terminal) → IsWrittenWord (written_meaning fs g) s w
+    ↔ IsWordOf (traced_derivations fs g plain rounds l) (lowered_name fs g s).0 w
 
 -- Where a condition has a value by what its left side is bound to, that is its value in the meaning of a grammar.
 abbrev pub ConditionsHaveOneValue : Type 0

@@ -28,17 +28,21 @@ module _ {S T U E : Type 0} (calls : Mut S (Bor T × Unit {0}) (Result U E)) whe
     pub before : S
     pub after : S
     pub kept : bound_shape (bound_view (λ u. u) c) ≡ bound_shape (bound_view (λ t. t) b)
-    pub answered : Answered (CalledAt calls) before (types_in_bound (bound_view (λ t. t) b)) (types_in_bound (bound_view (λ u. u) c)) after
+    pub answered : Answered (CalledAt calls) before (types_in_bound (bound_view (λ t. t) b))
+        (types_in_bound (bound_view (λ u. u) c)) after
 
-module _ {R S B T U V E : Type 0} (first : Mut R (Bor T × Unit {0}) (Result U E)) (second : Mut S (Bor U × Unit {0}) (Result V E))
+module _ {R S B T U V E : Type 0} (first : Mut R (Bor T × Unit {0}) (Result U E))
+    (second : Mut S (Bor U × Unit {0}) (Result V E))
     (both : Mut B (Bor T × Unit {0}) (Result V E)) where
   -- what is mapped by f and then by g is mapped as by their composition
   abbrev pub PatternsCompose : Type 0
   PatternsCompose = (f : T → U) (g : U → V) → Computes first f → Computes second g → Computes both (λ t. g (f t)) →
-      (p : Pattern T) (q : Pattern U) (twice once : Pattern V) → IsMapped first p q → IsMapped second q twice → IsMapped both p once →
+      (p : Pattern T) (q : Pattern U) (twice once : Pattern V) → IsMapped first p q → IsMapped second q twice →
+      IsMapped both p once →
       pattern_view (λ v. v) twice ≡ pattern_view (λ v. v) once
 
   abbrev pub BoundsCompose : Type 0
   BoundsCompose = (f : T → U) (g : U → V) → Computes first f → Computes second g → Computes both (λ t. g (f t)) →
-      (b : TypeBound T) (c : TypeBound U) (twice once : TypeBound V) → IsMappedBound first b c → IsMappedBound second c twice →
+      (b : TypeBound T) (c : TypeBound U) (twice once : TypeBound V) → IsMappedBound first b c →
+      IsMappedBound second c twice →
       IsMappedBound both b once → bound_view (λ v. v) twice ≡ bound_view (λ v. v) once

@@ -21,8 +21,8 @@ use Rattle.lalrpop_norm_tyinfer.specs.Inferred.{IsInferred}
 use Rattle.lalrpop_norm_late.specs.Shape.{IsLoweringOf}
 use Rattle.lalrpop_norm.specs.Faithful.{grammar_with_levels, grammar_of_plain_rules}
 
--- Where the passes up to the expansion refuse a grammar, in their order: what no grammar may look like; of what is enabled, names,
--- levels, and names once more; of the grammar with levels, its expansion in so many rounds.
+-- Where the passes up to the expansion refuse a grammar, in their order: what no grammar may look like; of what is enabled,
+-- names, levels, and names once more; of the grammar with levels, its expansion in so many rounds.
 abbrev pub early_faults : Features → ℕ → GrammarData → List Fault
 early_faults fs limit g =
     validate_faults g
@@ -33,8 +33,8 @@ early_faults fs limit g =
 abbrev pub late_faults : GrammarData → List Fault
 late_faults plain = inference_faults plain ++ lowering_faults plain (inferred_table plain)
 
--- What the passes after the expansion look for in a grammar of plain rules: what is wrong with its tokens, where a lexer may refuse
--- too; then, once it has its entries, types and numbers.
+-- What the passes after the expansion look for in a grammar of plain rules: what is wrong with its tokens, where a lexer may
+-- refuse too; then, once it has its entries, types and numbers.
 abbrev pub plain_findings : GrammarData → List (Finding LexerPlace)
 plain_findings plain = token_findings plain ++ map sure (late_faults (entered_grammar plain))
 
@@ -46,9 +46,10 @@ normalize_findings fs limit g = map sure (early_faults fs limit g) ++ plain_find
 abbrev pub StandsThere : {R : Type 0} → Lexer R → Features → ℕ → GrammarData → LexerPlace → Fault → Type 0
 StandsThere lexer fs limit g = StandsAtLexer lexer (grammar_of_plain_rules fs g limit)
 
--- What a written grammar is lowered to: the grammar of the plain rules that so many rounds make has its tokens, the rules have the
--- inferred types, and over their table the grammar with its tokens is lowered.
-pub record IsNormalized {R : Type 0} (lexer : Lexer R) (fs : Features) (limit : ℕ) (g : GrammarData) (l : LoweredGrammar) : Type 0 where
+-- What a written grammar is lowered to: the grammar of the plain rules that so many rounds make has its tokens, the rules have
+-- the inferred types, and over their table the grammar with its tokens is lowered.
+pub record IsNormalized {R : Type 0} (lexer : Lexer R) (fs : Features) (limit : ℕ) (g : GrammarData)
+    (l : LoweredGrammar) : Type 0 where
   pub checked : GrammarData
   pub tokens : IsChecked lexer (grammar_of_plain_rules fs g limit) checked
   pub types : TypeTable

@@ -40,7 +40,8 @@ pub record IsPlain (fs : Features) (plain : GrammarData) : Type 0 where
   pub active : (t : ExternTokenData) → In (extern_item t) plain.items → enabled_extern fs t ≡ t
 
 -- nothing is wrong with its tokens, and with these it is lowered
-pub record IsCheckedLowering {R : Type 0} (lexer : Lexer R) (fs : Features) (plain : GrammarData) (l : LoweredGrammar) : Type 0 where
+pub record IsCheckedLowering {R : Type 0} (lexer : Lexer R) (fs : Features) (plain : GrammarData)
+    (l : LoweredGrammar) : Type 0 where
   pub checked : GrammarData
   pub supplied : token_faults plain ≡ []
   pub tokens : IsChecked lexer plain checked

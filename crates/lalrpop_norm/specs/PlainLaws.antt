@@ -1,5 +1,5 @@
--- What is proved of the definitions: what the early passes promise is what the late ones ask, and with what these promise it is the
--- headline.
+-- What is proved of the definitions: what the early passes promise is what the late ones ask, and with what these promise it is
+-- the headline.
 use Rattle.std.specs.Prelude.{◌≡◌, ℕ, ◌++◌, List, [], Option, IsSome}
 use Rattle.lalrpop_norm_tree.specs.Items.{RuleData, ExternTokenData, GrammarData, extern_item}
 use Rattle.lalrpop_norm_parts.specs.Reprs.{ReprData}
@@ -44,7 +44,8 @@ pub record PassesTokens (fs : Features) (g : GrammarData) (limit : ℕ) (entered
   pub entries : IsEntered (grammar_of_plain_rules fs g limit) entered
 
 -- Nor do inference, which infers that table, and lowering with the grammar with its entries.
-pub record PassesLowering (fs : Features) (g : GrammarData) (limit : ℕ) (entered : GrammarData) (table : TypeTable) : Type 0 where
+pub record PassesLowering (fs : Features) (g : GrammarData) (limit : ℕ) (entered : GrammarData)
+    (table : TypeTable) : Type 0 where
   pub before : PassesTokens fs g limit entered
   pub typable : inference_faults entered ≡ []
   pub inferred : IsInferred entered table
@@ -61,11 +62,13 @@ PlainGrammarsAreExpanded =
 -- With its entries it is expanded too.
 abbrev pub EnteredGrammarsAreExpanded : Type 0
 EnteredGrammarsAreExpanded =
-    (fs : Features) (g : GrammarData) (limit : ℕ) (entered : GrammarData) → PassesTokens fs g limit entered → IsExpanded entered
+    (fs : Features) (g : GrammarData) (limit : ℕ) (entered : GrammarData) →
+    PassesTokens fs g limit entered → IsExpanded entered
 
 -- With its entries it is typed by each table in which each of its rules has a type.
 abbrev pub PlainGrammarsAreTyped : Type 0
-PlainGrammarsAreTyped = (fs : Features) (g : GrammarData) (limit : ℕ) (entered : GrammarData) → PassesTokens fs g limit entered →
+PlainGrammarsAreTyped =
+    (fs : Features) (g : GrammarData) (limit : ℕ) (entered : GrammarData) → PassesTokens fs g limit entered →
     (table : List ℕ → Option ReprData) → ((r : RuleData) → IsRule entered r → IsSome (table r.name.0)) →
     IsTyped fs entered table
 
@@ -96,7 +99,8 @@ LoweredTypesAreGrounded = (fs : Features) (g : GrammarData) (limit : ℕ) (enter
 
 -- ---- the whole
 
--- What is lowered from the plain rules with their tokens, for which that lexer builds the automaton, with nothing left open, is faithful.
+-- What is lowered from the plain rules with their tokens, for which that lexer builds the automaton, with nothing left open, is
+-- faithful.
 abbrev pub LoweredGrammarsAreFaithful : {R : Type 0} → Lexer R → Type 0
 LoweredGrammarsAreFaithful lexer =
     (fs : Features) (g : GrammarData) (limit : ℕ) (checked : GrammarData) (table : TypeTable) (l : LoweredGrammar) →

@@ -47,7 +47,8 @@ side_argument_faults (Some a) = side_text_faults (value_under (codes "side") a) 
 
 unfoldable pub level_attribute_faults : AlternativeData → List Fault
 level_attribute_faults a =
-    level_argument_faults (first_named (codes "precedence") a.attributes) ++ side_argument_faults (first_named (codes "assoc") a.attributes)
+    level_argument_faults (first_named (codes "precedence") a.attributes)
+    ++ side_argument_faults (first_named (codes "assoc") a.attributes)
 
 -- ---- the lowest level
 
@@ -71,7 +72,8 @@ is_narrow (Some right) = true
 is_narrow (Some neither) = true
 is_narrow (Some every) = false
 
--- where an alternative states its level, and that is the lowest one, it states no side; where it inherits that level, none but `all`
+-- where an alternative states its level, and that is the lowest one, it states no side; where it inherits that level, none but
+-- `all`
 abbrev pub is_barred : AlternativeData → Bool
 is_barred a = is_some (stated_level a.attributes) || is_narrow (stated_side a.attributes)
 

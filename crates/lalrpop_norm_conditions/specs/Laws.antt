@@ -33,8 +33,10 @@ ValuesAreOfLiterals = (op : ConditionOp) (left : ClosedSymbol) (right : Name) (v
 -- none, and a pattern is found in the bytes where a search by the tree that it read finds something.
 pub record AgreesWithRegex (pattern : Name) : Type 0 where
   pub read : (hir : Hir) (names : Names) → Reads default_config pattern hir names → has_reading pattern ≡ true
-  pub refused : (kind : ErrorKind) → Refuses default_config pattern kind → kind ≢ OutOfMemory → has_reading pattern ≡ false
-  pub found : (hir : Hir) (names : Names) → Reads default_config pattern hir names → (text : Name) → All (λ b. b < 256) text →
+  pub refused : (kind : ErrorKind) → Refuses default_config pattern kind → kind ≢ OutOfMemory →
+      has_reading pattern ≡ false
+  pub found : (hir : Hir) (names : Names) → Reads default_config pattern hir names → (text : Name) →
+      All (λ b. b < 256) text →
       is_found pattern text ≡ is_some (find_str (meaning hir) text 0)
 
 abbrev pub PatternsAreThoseOfRegex : Type 0

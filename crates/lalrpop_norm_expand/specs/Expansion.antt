@@ -30,7 +30,8 @@ has_other met x = list_any (λ y. bytes_eq (part_text y) (part_text x) && not (s
 abbrev pub shared_names : List (List ℕ) → List Part → List Part → List Fault
 shared_names names met [] = []
 shared_names names met (x ∷ xs) =
-    fault_if (is_declared_name names (part_text x) || has_other met x) (SharedName, span_of x) ++ shared_names names (met ++ x ∷ []) xs
+    fault_if (is_declared_name names (part_text x) || has_other met x) (SharedName, span_of x)
+    ++ shared_names names (met ++ x ∷ []) xs
 
 -- what round k + 1 meets: round 1 in the rules of the grammar, each later one in those that the round before made
 abbrev pub meetings : ConditionValue → GrammarData → ℕ → List Part
@@ -76,8 +77,8 @@ past_cap (x ∷ y ∷ xs) = past_cap (y ∷ xs)
 
 -- ---- all of them
 
--- Of round k + 1 and those after it, where the rules of so many rounds may still be made: what shares a name, as it is met; then that
--- something is new past the cap, or what no rule is made of.
+-- Of round k + 1 and those after it, where the rules of so many rounds may still be made: what shares a name, as it is met;
+-- then that something is new past the cap, or what no rule is made of.
 abbrev pub faults_from : ConditionValue → GrammarData → ℕ → ℕ → List Fault
 faults_from value g k zero = shared_in value g k ++ past_cap (expansion_round value g k).fresh
 faults_from value g k (suc left) = shared_in value g k ++ (unmade_in value g k ++ faults_from value g (suc k) left)

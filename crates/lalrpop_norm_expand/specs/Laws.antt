@@ -7,7 +7,8 @@ use Rattle.lalrpop_norm_model.specs.Expanded.{rule_names}
 use Rattle.lalrpop_norm_model.specs.PlainRules.{plain_grammar}
 use Rattle.lalrpop_norm_expand.specs.Expansion.{expansion_faults}
 
--- Where the names of a grammar's rules are distinct and no fault stands in its expansion, the names of the plain rules are distinct.
+-- Where the names of a grammar's rules are distinct and no fault stands in its expansion, the names of the plain rules are
+-- distinct.
 abbrev pub NamesStayDistinct : Type 0
 NamesStayDistinct =
     (value : ConditionValue) (g : GrammarData) (limit : ℕ) → expansion_faults value g limit ≡ [] →

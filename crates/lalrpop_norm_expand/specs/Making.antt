@@ -30,4 +30,5 @@ rules_to_read macros (at s error_terminal) = []
 -- an alternative of a macro in a call's rule, if its condition is true or absent
 abbrev pub kept_of : Span → List NonterminalString → Parts → AlternativeData → List AlternativeData
 kept_of s params args a =
-    if is_true comparison params (read_all flat_reader args) a.condition then instance_alternative s (argument_kind params args) a ∷ [] else []
+    if is_true comparison params (read_all flat_reader args) a.condition
+    then instance_alternative s (argument_kind params args) a ∷ [] else []

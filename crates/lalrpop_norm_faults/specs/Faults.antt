@@ -76,8 +76,8 @@ fault_if b f = if b then f ∷ [] else []
 
 -- ---- faults that are told one way
 
--- What a pass looks for, in the order of looking: a fault, which is told wherever it stands; or a place, where one may be told that
--- stands there, and may go untold.
+-- What a pass looks for, in the order of looking: a fault, which is told wherever it stands; or a place, where one may be told
+-- that stands there, and may go untold.
 pub data Finding (P : Type 0) : Type 0 where
   sure : Fault → Finding P
   maybe : P → Finding P
@@ -111,7 +111,8 @@ RefusesAmong At (Ok _) fs = sure_ones fs ≡ []
 RefusesAmong At (Err e) fs = IsTold At fs e
 
 -- likewise, with a fact of the value where the answer is Ok
-abbrev pub RefusesAmongOr : {P T : Type 0} → (P → Fault → Type 0) → Result T NormFailure → List (Finding P) → (T → Type 0) → Type 0
+abbrev pub RefusesAmongOr : {P T : Type 0} → (P → Fault → Type 0) → Result T NormFailure → List (Finding P) →
+    (T → Type 0) → Type 0
 RefusesAmongOr At (Ok x) fs Q = (sure_ones fs ≡ []) × Q x
 RefusesAmongOr At (Err e) fs Q = IsTold At fs e
 

@@ -53,7 +53,8 @@ attribute_list (attribute_and a rest) = a ∷ attribute_list rest
 
 -- each attribute after those before it
 abbrev pub attributes_faults : Bool → Attributes → List Fault
-attributes_faults public xs = each_after (λ before a. rule_attribute_faults public (map attribute_name before) a) [] (attribute_list xs)
+attributes_faults public xs =
+    each_after (λ before a. rule_attribute_faults public (map attribute_name before) a) [] (attribute_list xs)
 
 -- F7, F23, then attributes, levels, alternatives
 unfoldable pub rule_faults : Place → RuleData → List Fault
@@ -96,7 +97,8 @@ associated_faults before t =
 -- each associated type after those before it
 abbrev pub types_faults : List AssociatedTypeData → List Fault
 types_faults ts =
-    each_after (λ (before : List AssociatedTypeData) t. associated_faults (map (λ (b : AssociatedTypeData). b.type_name) before) t) [] ts
+    each_after (λ (before : List AssociatedTypeData) t. associated_faults
+    (map (λ (b : AssociatedTypeData). b.type_name) before) t) [] ts
 
 -- F22, F23
 unfoldable pub conversion_faults : ConversionData → List Fault
@@ -104,7 +106,8 @@ conversion_faults c = terminal_faults c.span c.from ++ fault_if (pattern_holds c
 
 abbrev pub enum_faults : Option EnumTokenData → List Fault
 enum_faults None = []
-enum_faults (Some e) = fault_if (holds_symbol e.type_name) (WrittenOfSymbol, e.type_span) ++ flat_map conversion_faults e.conversions
+enum_faults (Some e) =
+    fault_if (holds_symbol e.type_name) (WrittenOfSymbol, e.type_span) ++ flat_map conversion_faults e.conversions
 
 -- an extern block, after another one or not: F4, F3 where it has an enum, associated types, enum
 unfoldable pub extern_faults : Blocks → Bool → ExternTokenData → List Fault
@@ -156,7 +159,11 @@ lacks_location None = false
 lacks_location (Some t) = is_some t.enum_token && is_none (first_of (type_named (codes "Location")) t.associated_types)
 
 abbrev pub place_in : GrammarData → Place
-place_in g = record { has_ascent = is_asked (ascent_asked g.attributes); lacks_location = lacks_location (first_of extern_token_of g.items) }
+place_in g =
+    record {
+      has_ascent = is_asked (ascent_asked g.attributes);
+      lacks_location = lacks_location (first_of extern_token_of g.items);
+    }
 
 abbrev pub match_span : Option MatchTokenData → Option Span
 match_span None = None
@@ -168,7 +175,11 @@ enum_span None = None
 enum_span (Some t) = if is_some t.enum_token then Some t.span else None
 
 abbrev pub blocks_in : GrammarData → Blocks
-blocks_in g = record { first_match = match_span (first_of match_token_of g.items); first_enum = enum_span (first_of extern_token_of g.items) }
+blocks_in g =
+    record {
+      first_match = match_span (first_of match_token_of g.items);
+      first_enum = enum_span (first_of extern_token_of g.items);
+    }
 
 -- ---- the grammar
 

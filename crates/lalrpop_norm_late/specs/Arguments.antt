@@ -55,4 +55,5 @@ name_given (several ns) = tuple_text ns
 
 -- the names of the sources, in order
 abbrev pub names : List ℕ → List Part → List (List ℕ)
-names prefix ps = map (λ e. name_given (pattern_at_place prefix ps e.0 e.1)) (filter (λ e. is_source_of ps e.1) (enumerate_from 0 ps))
+names prefix ps =
+    map (λ e. name_given (pattern_at_place prefix ps e.0 e.1)) (filter (λ e. is_source_of ps e.1) (enumerate_from 0 ps))

@@ -41,7 +41,8 @@ internal_pattern span i =
 -- the entries of a tokenizer that name a terminal, each with its own place
 abbrev pub entry_rows : Span → List MatchEntry → List TokenRow
 entry_rows span entries =
-    filter_map (λ e. option_map (λ t. (t, internal_pattern span e.0)) (terminal_of_mapping e.1.user_name)) (enumerate_from 0 entries)
+    filter_map (λ e. option_map (λ t. (t, internal_pattern span e.0)) (terminal_of_mapping e.1.user_name))
+    (enumerate_from 0 entries)
 
 abbrev pub item_tokens : Span → ItemData → List TokenRow
 item_tokens span (extern_item t) = map (λ c. (c.from, mapped_pattern repr_of c.to)) (conversions_in t.enum_token)

@@ -63,7 +63,8 @@ type_or_unit types s = unwrap_or (symbol_type s types) unit_type
 
 -- the production of an alternative, with the action of that number
 abbrev pub production_of : NonterminalString → ℕ → AlternativeData → ProductionData
-production_of name k a = record { nonterminal = name; symbols = lowered_symbols a.parts; action = record { 0 = k }; span = a.span }
+production_of name k a =
+    record { nonterminal = name; symbols = lowered_symbols a.parts; action = record { 0 = k }; span = a.span }
 
 -- the productions of a nonterminal; their actions are numbered from k on
 abbrev pub productions_from : NonterminalString → ℕ → List AlternativeData → List ProductionData
@@ -113,10 +114,12 @@ start_names prefix (r ∷ rs) = (r.name, start_name prefix r.name) ∷ start_nam
 
 -- ---- tables sorted by names
 
-abbrev pub with_entry : {V : Type 0} → List (NonterminalString × V) → NonterminalString × V → List (NonterminalString × V)
+abbrev pub with_entry : {V : Type 0} → List (NonterminalString × V) → NonterminalString × V →
+    List (NonterminalString × V)
 with_entry rows r = insert_entry (λ (a : NonterminalString) (b : NonterminalString). slice_cmp nat_cmp a.0 b.0) rows r.0 r.1
 
 -- the rows in the order of their names, a later one in the place of an earlier one of its name
-abbrev pub sorted_onto : {V : Type 0} → List (NonterminalString × V) → List (NonterminalString × V) → List (NonterminalString × V)
+abbrev pub sorted_onto : {V : Type 0} → List (NonterminalString × V) → List (NonterminalString × V) →
+    List (NonterminalString × V)
 sorted_onto rows [] = rows
 sorted_onto rows (r ∷ rs) = sorted_onto (with_entry rows r) rs

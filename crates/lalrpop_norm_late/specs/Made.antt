@@ -39,7 +39,8 @@ pub use Rattle.lalrpop_norm_lowering.specs.StartSymbols.{types_by_name}
 abbrev pub user_body : List ℕ → TypeTable → ReprData → AlternativeData → ActionKindData
 user_body prefix types type a =
     user (argument_patterns prefix a.parts) (map (type_or_unit types) (lowered_symbols a.parts))
-    (filled_code (some_name_value a.parts) (source_names prefix a.parts) (written_code type (source_names prefix a.parts) a.action))
+    (filled_code (some_name_value a.parts) (source_names prefix a.parts)
+    (written_code type (source_names prefix a.parts) a.action))
 
 abbrev pub body : List ℕ → TypeTable → ReprData → AlternativeData → Option Action → ActionKindData
 body prefix types type a (Some lookahead_code) = lookaround Lookahead
@@ -48,7 +49,8 @@ body prefix types type a _ = user_body prefix types type a
 
 -- the action of an alternative of a rule of that type
 abbrev pub made_action : List ℕ → TypeTable → ReprData → AlternativeData → ActionData
-made_action prefix types type a = record { fallible = is_fallible a.action; ret_type = type; kind = body prefix types type a a.action }
+made_action prefix types type a =
+    record { fallible = is_fallible a.action; ret_type = type; kind = body prefix types type a a.action }
 
 -- of start symbols, and of the alternatives in item order
 abbrev pub made_starts : List ℕ → TypeTable → List RuleData → List ActionData
@@ -56,7 +58,8 @@ made_starts prefix types rs = map (λ r. made_action prefix types (rule_type typ
 
 abbrev pub made_actions : List ℕ → TypeTable → List RuleData → List ActionData
 made_actions prefix types [] = []
-made_actions prefix types (r ∷ rs) = map (made_action prefix types (rule_type types r)) r.alternatives ++ made_actions prefix types rs
+made_actions prefix types (r ∷ rs) =
+    map (made_action prefix types (rule_type types r)) r.alternatives ++ made_actions prefix types rs
 
 -- ---- faults
 
@@ -75,7 +78,8 @@ made_rules_faults k [] = []
 made_rules_faults k (r ∷ rs) = alternatives_faults k r.alternatives ++ made_rules_faults (k + length r.alternatives) rs
 
 abbrev pub made_faults : List ℕ → TypeTable → List RuleData → List Fault
-made_faults prefix types rules = made_starts_faults prefix types 0 (public_rules_in rules) ++ made_rules_faults (length (public_rules_in rules)) rules
+made_faults prefix types rules =
+    made_starts_faults prefix types 0 (public_rules_in rules) ++ made_rules_faults (length (public_rules_in rules)) rules
 
 -- ---- tokens
 
@@ -109,13 +113,15 @@ abbrev pub made_tokens : Features → GrammarData → List TokenRow
 made_tokens fs g = flat_map (token_rows fs g.span) g.items
 
 abbrev pub made_terminals : Features → GrammarData → List TerminalString
-made_terminals fs g = keys_of (made_tokens fs g) ++ (if uses_recovery (rules_among g.items) then terminal_string.Error ∷ [] else [])
+made_terminals fs g =
+    keys_of (made_tokens fs g) ++ (if uses_recovery (rules_among g.items) then terminal_string.Error ∷ [] else [])
 
 -- ---- the whole
 
 -- what lowering makes of the grammar, where `types` is the table of its rules
 pub record IsMade (fs : Features) (g : GrammarData) (types : TypeTable) (l : LoweredGrammar) : Type 0 where
-  pub actions : l.actions ≡ made_starts g.prefix types (public_rules_in (rules_among g.items)) ++ made_actions g.prefix types (rules_among g.items)
+  pub actions : l.actions ≡ made_starts g.prefix types (public_rules_in (rules_among g.items))
+      ++ made_actions g.prefix types (rules_among g.items)
   pub nonterminals : l.nonterminals
       ≡ sorted_onto (sorted_onto [] (start_rows g.prefix 0 (public_rules_in (rules_among g.items))))
       (rule_rows (length (public_rules_in (rules_among g.items))) (rules_among g.items))

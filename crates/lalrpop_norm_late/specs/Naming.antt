@@ -18,7 +18,8 @@ source_pattern prefix j p = unwrap_or (written_pattern p) (plain_name (source_na
 abbrev pub names_from : List ℕ → Bool → Bool → ℕ → Parts → List (List ℕ)
 names_from prefix some_named some_chosen j no_parts = []
 names_from prefix some_named some_chosen j (part_and p ps) =
-    if is_source some_named some_chosen p then name_given (source_pattern prefix j p) ∷ names_from prefix some_named some_chosen (j + 1) ps
+    if is_source some_named some_chosen p then name_given (source_pattern prefix j p)
+    ∷ names_from prefix some_named some_chosen (j + 1) ps
     else names_from prefix some_named some_chosen j ps
 
 abbrev pub source_names : List ℕ → Parts → List (List ℕ)
@@ -28,7 +29,8 @@ source_names prefix ps = names_from prefix (some_name_value ps) (has_chosen ps) 
 abbrev pub patterns_from : List ℕ → Bool → Bool → ℕ → Parts → List ArgumentPattern
 patterns_from prefix some_named some_chosen j no_parts = []
 patterns_from prefix some_named some_chosen j (part_and p ps) =
-    if is_source some_named some_chosen p then source_pattern prefix j p ∷ patterns_from prefix some_named some_chosen (j + 1) ps
+    if is_source some_named some_chosen p then source_pattern prefix j p
+    ∷ patterns_from prefix some_named some_chosen (j + 1) ps
     else plain_name (codes "_") ∷ patterns_from prefix some_named some_chosen j ps
 
 abbrev pub argument_patterns : List ℕ → Parts → List ArgumentPattern

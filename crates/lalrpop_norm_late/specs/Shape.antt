@@ -47,7 +47,8 @@ alternatives_in_order prefix rules = map (start_clause prefix) (public_rules_in 
 -- ---- actions
 
 -- code over one argument for each symbol
-pub record IsCodeOf (prefix : List ℕ) (types : TypeTable) (type : ReprData) (a : AlternativeData) (kind : ActionKindData) : Type 0 where
+pub record IsCodeOf (prefix : List ℕ) (types : TypeTable) (type : ReprData) (a : AlternativeData)
+    (kind : ActionKindData) : Type 0 where
   pub argument_types : List ReprData
   pub code : List ℕ
   pub is : kind ≡ user (patterns prefix (part_list a.parts)) argument_types code
@@ -74,13 +75,21 @@ pub record IsActionOf (prefix : List ℕ) (types : TypeTable) (c : OwnedAlternat
 
 -- the productions of a name: of the alternatives that have it, in order, each with its number
 abbrev pub productions_named : NonterminalString → List OwnedAlternative → List ProductionData
-productions_named n clauses = map (λ e. production_of n e.0 e.1.1) (filter (λ e. bytes_eq n.0 e.1.0.0) (enumerate_from 0 clauses))
+productions_named n clauses =
+    map (λ e. production_of n e.0 e.1.1) (filter (λ e. bytes_eq n.0 e.1.0.0) (enumerate_from 0 clauses))
 
 -- a start symbol has its rule's visibility and span, and no attributes
 abbrev pub start_entry_of : List ℕ → List OwnedAlternative → RuleData → NonterminalString × EntryData
 start_entry_of prefix clauses r =
-    let n = start_name prefix r.name in
-    (n, record { visibility = r.visibility; span = r.span; attributes = no_attributes; productions = productions_named n clauses })
+    let n = start_name prefix r.name in (
+      n,
+      record {
+        visibility = r.visibility;
+        span = r.span;
+        attributes = no_attributes;
+        productions = productions_named n clauses;
+      },
+    )
 
 abbrev pub rule_entry_of : List OwnedAlternative → RuleData → NonterminalString × EntryData
 rule_entry_of clauses r = (

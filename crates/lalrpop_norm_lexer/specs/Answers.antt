@@ -1,7 +1,8 @@
 -- What the answers of a lexer's calls say, want of memory aside.
 use Rattle.std.specs.Prelude.{ℕ, List, map, Option, Some, None, Result, Ok, Err}
 use Rattle.shared_text.specs.declared.atom.NoMemory.{NoMemory}
-use Rattle.lalrpop_norm_model.specs.Lexers.{Feature, named_captures, non_greedy, look_around, byte_regex, Read, regex, bad, Built, automaton, unsupported, ambiguous}
+use Rattle.lalrpop_norm_model.specs.Lexers.{Feature, named_captures, non_greedy, look_around, byte_regex, Read, regex, bad}
+use Rattle.lalrpop_norm_model.specs.Lexers.{Built, automaton, unsupported, ambiguous}
 use Rattle.lalrpop_norm_tree.specs.declared.items.Dfa.{Dfa}
 use Rattle.lalrpop_norm_lexer.specs.declared.lexer.answers.Precedence.{Precedence}
 use Rattle.lalrpop_norm_lexer.specs.declared.lexer.answers.RegexError.{RegexError}
@@ -9,7 +10,8 @@ use Rattle.lalrpop_norm_lexer.specs.declared.lexer.answers.RegexError.TheVariant
 use Rattle.lalrpop_norm_lexer.specs.declared.lexer.answers.DfaConstructionError.{DfaConstructionError}
 use Rattle.lalrpop_norm_lexer.specs.declared.lexer.answers.DfaConstructionError.TheVariants as build
 use Rattle.lalrpop_norm_lexer.specs.declared.lexer.answers.NfaConstructionError as features
-use Rattle.lalrpop_norm_lexer.specs.declared.lexer.answers.NfaConstructionError.TheVariants.{NamedCaptures, NonGreedy, LookAround, ByteRegex}
+use Rattle.lalrpop_norm_lexer.specs.declared.lexer.answers.NfaConstructionError.TheVariants.{NamedCaptures, NonGreedy}
+use Rattle.lalrpop_norm_lexer.specs.declared.lexer.answers.NfaConstructionError.TheVariants.{LookAround, ByteRegex}
 
 -- a literal's text is read
 abbrev pub literal_answer : {R : Type 0} → Result R NoMemory → Option (Read R)

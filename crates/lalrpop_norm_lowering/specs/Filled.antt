@@ -1,5 +1,6 @@
 -- A code with its `<>` replaced, all at once.
-use Rattle.std.specs.Prelude.{◌≡◌, ℕ, Bool, ◌||◌, List, ◌∷◌, ◌++◌, length, zip, flat_map, replicate, nat_le, All, None}
+use Rattle.std.specs.Prelude.{◌≡◌, ℕ, Bool, ◌||◌, List, ◌∷◌, ◌++◌}
+use Rattle.std.specs.Prelude.{length, zip, flat_map, replicate, nat_le, All, None}
 use Rattle.std.specs.Prelude.{if◌then◌else◌, codes}
 use Rattle.lalrpop_norm_util.specs.Braces.{around_slot}
 use Rattle.lalrpop_norm_parts.specs.Texts.{joined}

@@ -12,7 +12,8 @@ terminal_of_mapping (mapping.Terminal t) = Some t
 terminal_of_mapping mapping.Skip = None
 
 -- the rows in the order of their terminals, a later one in the place of an earlier one of its terminal
-abbrev pub sorted_terminals : {V : Type 0} → List (TerminalString × V) → List (TerminalString × V) → List (TerminalString × V)
+abbrev pub sorted_terminals : {V : Type 0} → List (TerminalString × V) → List (TerminalString × V) →
+    List (TerminalString × V)
 sorted_terminals rows [] = rows
 sorted_terminals rows (r ∷ rs) = sorted_terminals (insert_entry terminal_cmp rows r.0 r.1) rs
 

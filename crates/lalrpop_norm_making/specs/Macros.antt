@@ -15,5 +15,6 @@ macro_place m n = get (slice_cmp nat_cmp) m.places n
 
 -- the places lead to the first macro of each name
 pub record AreByName (m : Macros) : Type 0 where
-  pub finds : (n : List ℕ) → option_and_then (λ i. slice_get (macros_in m) i) (macro_place m n) ≡ macro_named (macros_in m) n
+  pub finds : (n : List ℕ) → option_and_then (λ i. slice_get (macros_in m) i) (macro_place m n)
+      ≡ macro_named (macros_in m) n
   pub in_range : (n : List ℕ) (i : ℕ) → macro_place m n ≡ Some i → i < length m.rules.items

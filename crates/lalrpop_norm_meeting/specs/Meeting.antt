@@ -99,7 +99,8 @@ clashes names seen x = names (part_text x) || differs (first_with_text (part_tex
 
 abbrev pub clash_faults : (List ℕ → Bool) → List Part → List Part → List Fault
 clash_faults names seen [] = []
-clash_faults names seen (x ∷ xs) = fault_if (clashes names seen x) (SharedName, span_of x) ++ clash_faults names (after_one seen x) xs
+clash_faults names seen (x ∷ xs) =
+    fault_if (clashes names seen x) (SharedName, span_of x) ++ clash_faults names (after_one seen x) xs
 
 -- a symbol of its text was met that is the same, and its text is no name
 abbrev pub was_met : (List ℕ → Bool) → List Part → Part → Bool
@@ -138,7 +139,8 @@ place_noted e t = get (slice_cmp nat_cmp) e.places t
 
 -- the places lead to the symbols by their texts, which are their names, and what is inside a symbol that was met was met
 pub record IsExpander (e : Expander) : Type 0 where
-  pub finds : (t : List ℕ) → option_and_then (λ i. slice_get (seen_of e) i) (place_noted e t) ≡ first_with_text t (seen_of e)
+  pub finds : (t : List ℕ) → option_and_then (λ i. slice_get (seen_of e) i) (place_noted e t)
+      ≡ first_with_text t (seen_of e)
   pub in_range : (t : List ℕ) (i : ℕ) → place_noted e t ≡ Some i → i < length e.met.items
   pub named : AreNamed e.met.items
   pub inward : were_met_inside (is_taken_by e) (seen_of e) (seen_of e) ≡ true

@@ -1,4 +1,5 @@
--- What bounds and conditions come to: the bounds of all own occurrences of an alternative by its side, and when a condition is true.
+-- What bounds and conditions come to: the bounds of all own occurrences of an alternative by its side, and when a condition is
+-- true.
 use Rattle.std.specs.Prelude.{◌≡◌, ℕ, zero, suc, true, List, [], ◌∷◌, ◌++◌, replicate, Option, Some, None}
 use Rattle.std.specs.Prelude.{bytes_eq, if◌then◌else◌}
 use Rattle.lalrpop_norm_parts.specs.declared.names.NonterminalString.{NonterminalString}

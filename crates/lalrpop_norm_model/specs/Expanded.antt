@@ -111,7 +111,8 @@ abbrev pub rule_names : GrammarData → List (List ℕ)
 rule_names g = map (λ (r : RuleData). r.name.0) (all_rules g)
 
 abbrev pub names_used_by : RuleData → List (List ℕ)
-names_used_by r = flat_map (λ (a : AlternativeData). names_in_parts a.parts) r.alternatives ++ flat_map names_in_kind (declared_symbols r)
+names_used_by r =
+    flat_map (λ (a : AlternativeData). names_in_parts a.parts) r.alternatives ++ flat_map names_in_kind (declared_symbols r)
 
 -- the nonterminals that alternatives and declared types use
 abbrev pub names_used : GrammarData → List (List ℕ)
@@ -171,7 +172,8 @@ types_in_extern _ = []
 -- all types of a grammar but those that its rules declare
 abbrev pub types_beside_rules : GrammarData → List TypeData
 types_beside_rules g =
-    map (λ (p : ParameterData). p.type) g.parameters ++ flat_map types_in_clause g.where_clauses ++ flat_map types_in_extern g.items
+    map (λ (p : ParameterData). p.type) g.parameters ++ flat_map types_in_clause g.where_clauses
+    ++ flat_map types_in_extern g.items
 
 -- ---- attributes
 

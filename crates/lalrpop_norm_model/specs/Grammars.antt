@@ -59,7 +59,8 @@ parts_at rs r passes (Some (Some a)) = if passes a.level then Some (read_all (ru
 parts_at rs r passes (Some None) = None
 parts_at rs r passes None = None
 
-abbrev pub rule_parts : List WrittenRule → (WrittenRule → ℕ → Bool) → ℕ → Option WrittenRule → Option ClosedSymbols
+abbrev pub rule_parts : List WrittenRule → (WrittenRule → ℕ → Bool) → ℕ →
+    Option WrittenRule → Option ClosedSymbols
 rule_parts rs passes k None = None
 rule_parts rs passes k (Some r) = if has_arguments r then None else parts_at rs r (passes r) (slice_get r.places k)
 
@@ -70,7 +71,8 @@ place_count (Some r) = length r.places
 -- the bound one level down, in a rule that has levels and is no macro
 abbrev pub previous_bound : Option WrittenRule → Option ℕ → Option (Option ℕ)
 previous_bound None b = None
-previous_bound (Some r) b = if r.has_levels && not (has_arguments r) then option_map Some (previous_level r.places (level_within r b)) else None
+previous_bound (Some r) b =
+    if r.has_levels && not (has_arguments r) then option_map Some (previous_level r.places (level_within r b)) else None
 
 abbrev pub depth_of : Option WrittenRule → Option ℕ → ℕ
 depth_of None b = 0
@@ -107,9 +109,11 @@ abbrev pub is_true : ConditionValue → List NonterminalString → ClosedSymbols
 is_true value params args None = true
 is_true value params args (Some c) = value_of value c (bound_argument params args c.lhs.0)
 
-abbrev pub instance_at : ConditionValue → List WrittenRule → WrittenRule → ClosedSymbols → Option (Option Leveled) → Option ClosedSymbols
+abbrev pub instance_at : ConditionValue → List WrittenRule → WrittenRule → ClosedSymbols →
+    Option (Option Leveled) → Option ClosedSymbols
 instance_at value rs r args (Some (Some a)) =
-    if is_true value r.args args a.alternative.condition then Some (read_all (macro_reader rs r args) a.alternative.parts) else None
+    if is_true value r.args args a.alternative.condition
+    then Some (read_all (macro_reader rs r args) a.alternative.parts) else None
 instance_at value rs r args (Some None) = None
 instance_at value rs r args None = None
 
@@ -124,7 +128,8 @@ abbrev pub instance_count : Option WrittenRule → ℕ
 instance_count None = 0
 instance_count (Some r) = if has_arguments r then length r.places else 0
 
-abbrev pub instance_parts : ConditionValue → List WrittenRule → ClosedSymbols → ℕ → Option WrittenRule → Option ClosedSymbols
+abbrev pub instance_parts : ConditionValue → List WrittenRule → ClosedSymbols → ℕ →
+    Option WrittenRule → Option ClosedSymbols
 instance_parts value rs args k None = None
 instance_parts value rs args k (Some r) =
     if has_arguments r && arguments_fit r.args args then instance_at value rs r args (slice_get r.places k) else None

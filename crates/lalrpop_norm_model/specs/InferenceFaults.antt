@@ -61,8 +61,8 @@ disagreeing g = flat_map (disagreeing_in g) (undeclared g)
 
 -- ---- all of them
 
--- Undeclared rules that lack what gives a type; then the rules without a type; then the alternatives that disagree; then the tuple
--- patterns that do not fit.
+-- Undeclared rules that lack what gives a type; then the rules without a type; then the alternatives that disagree; then the
+-- tuple patterns that do not fit.
 abbrev pub inference_faults : GrammarData → List Fault
 inference_faults g =
     flat_map lacking (undeclared g)

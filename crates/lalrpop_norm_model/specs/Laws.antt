@@ -57,14 +57,16 @@ use Rattle.lalrpop_norm_model.specs.Renumbered.{TreesAreRenumbered, OneToOneByRa
 
 -- The meaning of each grammar has what the theory of trees asks: numbers within the count, and levels one above the other.
 abbrev pub MeaningsHaveLevels : Type 0
-MeaningsHaveLevels = (value : ConditionValue) (rs : List WrittenRule) → HasCounts (meaning value rs) × HasLevels (meaning value rs)
+MeaningsHaveLevels =
+    (value : ConditionValue) (rs : List WrittenRule) → HasCounts (meaning value rs) × HasLevels (meaning value rs)
 
 -- Where each name has a meaning, the references that the rules declare are closed: they lead to declared ones alone.
 abbrev pub MeaningsAreResolved : Type 0
-MeaningsAreResolved = (value : ConditionValue) (rs : List WrittenRule) → IsScoped rs → IsResolved (meaning value rs) (references rs)
+MeaningsAreResolved =
+    (value : ConditionValue) (rs : List WrittenRule) → IsScoped rs → IsResolved (meaning value rs) (references rs)
 
--- Of the rules that a grammar is read as, only the names are to be looked at: where these have a meaning, the rules are scoped. And
--- a rule without levels has no two levels.
+-- Of the rules that a grammar is read as, only the names are to be looked at: where these have a meaning, the rules are scoped.
+-- And a rule without levels has no two levels.
 abbrev pub AreScopedByNames : List WrittenRule → Type 0
 AreScopedByNames rs =
     (NamesAreScoped rs → IsScoped rs)
@@ -82,7 +84,8 @@ TextsAreDisplayed = (k : Kind) → closed_text (λ n b. n) (read_kind flat_reade
 
 -- The levels of a rule are those that its alternatives have, rising.
 abbrev pub LevelsAreListed : Type 0
-LevelsAreListed = (ps : List (Option Leveled)) → IsRising (levels_of ps) × ((l : ℕ) → In l (levels_of ps) ↔ HasLevel ps l)
+LevelsAreListed =
+    (ps : List (Option Leveled)) → IsRising (levels_of ps) × ((l : ℕ) → In l (levels_of ps) ↔ HasLevel ps l)
 
 -- The previous level is the one below: the greatest lower one.
 abbrev pub PreviousIsBelow : Type 0
@@ -98,11 +101,13 @@ PlacesAreLeveled = (ps : Places) (k : ℕ) → slice_get (with_levels ps) k ≡ 
 
 -- The level of place k is the one stated last at or before it; without any it is 0.
 abbrev pub LevelsAreStated : Type 0
-LevelsAreStated = (ps : Places) (k : ℕ) → IsStatedLevel ps k (level_at ps k) ⊎ (NoLevelIsStated ps k × (level_at ps k ≡ 0))
+LevelsAreStated =
+    (ps : Places) (k : ℕ) → IsStatedLevel ps k (level_at ps k) ⊎ (NoLevelIsStated ps k × (level_at ps k ≡ 0))
 
 -- The side of place k is the one stated last at or before it and not before its level; without any it is every side.
 abbrev pub SidesAreStated : Type 0
-SidesAreStated = (ps : Places) (k : ℕ) → IsStatedSide ps k (side_at ps k) ⊎ (NoSideIsStated ps k × (side_at ps k ≡ every))
+SidesAreStated =
+    (ps : Places) (k : ℕ) → IsStatedSide ps k (side_at ps k) ⊎ (NoSideIsStated ps k × (side_at ps k ≡ every))
 
 -- Levels and sides are handed on from place to place, from the first one on.
 abbrev pub LevelsAreHandedOn : Type 0
@@ -121,9 +126,13 @@ BoundsAreBySide = (rs : List WrittenRule) (r : WrittenRule) (a : Leveled) (previ
 
 -- An alternative of a macro is there for arguments that fit exactly where its condition is true.
 abbrev pub ConditionsDecide : Type 0
-ConditionsDecide = (value : ConditionValue) (rs : List WrittenRule) (n : Name) (r : WrittenRule) (args : ClosedSymbols) (k : ℕ) (a : Leveled) →
-    rule_named rs n ≡ Some r → has_arguments r ≡ true → arguments_fit r.args args ≡ true → slice_get r.places k ≡ Some (Some a) →
-    ((parts : ClosedSymbols) × ((meaning value rs).call_parts n args k ≡ Some parts)) ↔ IsTrue value r.args args a.alternative.condition
+ConditionsDecide =
+    (value : ConditionValue) (rs : List WrittenRule) (n : Name) (r : WrittenRule) (args : ClosedSymbols)
+    (k : ℕ) (a : Leveled) →
+    rule_named rs n ≡ Some r → has_arguments r ≡ true → arguments_fit r.args args ≡ true →
+    slice_get r.places k ≡ Some (Some a) →
+    ((parts : ClosedSymbols) × ((meaning value rs).call_parts n args k ≡ Some parts))
+    ↔ IsTrue value r.args args a.alternative.condition
 
 -- ---- enabled and resolved
 
@@ -142,7 +151,8 @@ ResolvedOnce = (g : GrammarData) → resolved_grammar (resolved_grammar g) ≡ r
 
 -- The rules that the pass on levels gets are those of the written grammar, in order, each without its holes.
 abbrev pub DisabledAreLeftOut : Type 0
-DisabledAreLeftOut = (fs : Features) (g : GrammarData) → leveled_rules (prepared_grammar fs g) ≡ map closed_up (written_rules fs g)
+DisabledAreLeftOut =
+    (fs : Features) (g : GrammarData) → leveled_rules (prepared_grammar fs g) ≡ map closed_up (written_rules fs g)
 
 -- The rank of a place is the number of enabled alternatives written before it.
 abbrev pub RanksCountEnabled : Type 0
@@ -150,11 +160,12 @@ RanksCountEnabled = (fs : Features) (ds : List Global) (r : RuleData) (k : ℕ) 
     rank_in (written_rule_with_levels ds r (enabled_places fs r)).places k
     ≡ length (filter (λ a. is_active fs a.attributes) (take k r.alternatives))
 
--- Disabled alternatives only renumber: the grammar that the pass on levels gets is the written one, each alternative with its rank
--- for its number. The references that it declares and its roots are the same.
+-- Disabled alternatives only renumber: the grammar that the pass on levels gets is the written one, each alternative with its
+-- rank for its number. The references that it declares and its roots are the same.
 abbrev pub DisabledOnlyRenumber : Type 0
 DisabledOnlyRenumber = (value : ConditionValue) (fs : Features) (g : GrammarData) →
-    IsRenumbered (meaning value (written_rules fs g)) (meaning value (leveled_rules (prepared_grammar fs g))) (rank_by (written_rules fs g))
+    IsRenumbered (meaning value (written_rules fs g)) (meaning value (leveled_rules (prepared_grammar fs g)))
+    (rank_by (written_rules fs g))
     × (references (leveled_rules (prepared_grammar fs g)) ≡ references (written_rules fs g))
     × (roots (leveled_rules (prepared_grammar fs g)) ≡ roots (written_rules fs g))
 
@@ -164,33 +175,36 @@ ClausesOnlyRenumber = (value : ConditionValue) (fs : Features) (g : GrammarData)
     clauses (meaning value (leveled_rules (prepared_grammar fs g))) x
     ≡ map (ranked_clause (rank_by (written_rules fs g))) (clauses (meaning value (written_rules fs g)) x)
 
--- The written trees of each closed symbol stand one to one with its trees in the grammar that the pass on levels gets: the number of
--- each node becomes its rank, and all else stays.
+-- The written trees of each closed symbol stand one to one with its trees in the grammar that the pass on levels gets: the
+-- number of each node becomes its rank, and all else stays.
 abbrev pub TreesOnlyRenumber : Type 0
 TreesOnlyRenumber = (value : ConditionValue) (fs : Features) (g : GrammarData) →
-    TreesAreRenumbered (meaning value (written_rules fs g)) (meaning value (leveled_rules (prepared_grammar fs g))) (rank_by (written_rules fs g))
+    TreesAreRenumbered (meaning value (written_rules fs g)) (meaning value (leveled_rules (prepared_grammar fs g)))
+    (rank_by (written_rules fs g))
 
 -- ---- level rules
 
 -- The rule of a level, its symbols read without bounds, holds the clauses of that level, each bounded reference by the name of
 -- its level: the level's own alternatives in order, then the step to the level below.
 abbrev pub LevelRulesAreRead : Type 0
-LevelRulesAreRead = (value : ConditionValue) (g : GrammarData) → resolved_grammar g ≡ g → NamesAreScoped (leveled_rules g) →
+LevelRulesAreRead =
+    (value : ConditionValue) (g : GrammarData) → resolved_grammar g ≡ g → NamesAreScoped (leveled_rules g) →
     (d : RuleData) → In (rule_item d) g.items → rule_named (leveled_rules g) d.name.0
     ≡ Some (written_rule_with_levels (globals g) d (all_places d)) →
     has_levels (all_places d) ≡ true → is_nil d.args ≡ true → (l : ℕ) →
     map (λ a. read_all flat_reader a.parts) (level_rule d (with_levels (all_places d)) l).alternatives
-    ≡ map (λ c. leveled_symbols (level_names (leveled_rules g)) c.parts) (clauses (meaning value (leveled_rules g)) (reference d.name.0 (Some l)))
+    ≡ map (λ c. leveled_symbols (level_names (leveled_rules g)) c.parts)
+    (clauses (meaning value (leveled_rules g)) (reference d.name.0 (Some l)))
 
--- The grammar with levels is that of the written grammar, as the theory of trees has it: place by place its rules hold the clauses
--- of the levels, macros keep their numbers, and each alternative has its origin.
+-- The grammar with levels is that of the written grammar, as the theory of trees has it: place by place its rules hold the
+-- clauses of the levels, macros keep their numbers, and each alternative has its origin.
 abbrev pub GrammarsAreLeveled : Type 0
 GrammarsAreLeveled = (value : ConditionValue) (g : GrammarData) → HasLevelNames g →
     IsLeveled (meaning value (leveled_rules g)) (meaning value (flat_rules (leveled_grammar g)))
     (level_names (leveled_rules g)) (level_origin value g) (references (leveled_rules g))
 
--- Of a grammar whose levels can become rules: with a lowered grammar that realizes the symbols of the grammar with levels, the trees
--- of each resolved symbol pair in two steps, from bounds to levels and from levels to the lowered grammar.
+-- Of a grammar whose levels can become rules: with a lowered grammar that realizes the symbols of the grammar with levels, the
+-- trees of each resolved symbol pair in two steps, from bounds to levels and from levels to the lowered grammar.
 abbrev pub LevelsAreSteps : Type 0
 LevelsAreSteps = (value : ConditionValue) (g : GrammarData) → HasLevelNames g →
     (name : ClosedSymbol → Name) (P : ProductionTable) (declared met : List ClosedSymbol) →
@@ -200,16 +214,19 @@ LevelsAreSteps = (value : ConditionValue) (g : GrammarData) → HasLevelNames g 
     PairsInTwoSteps (meaning value (leveled_rules g)) (meaning value (flat_rules (leveled_grammar g)))
     (level_names (leveled_rules g)) (level_origin value g) name P x
 
--- Of a grammar whose levels can become rules once it is prepared: with a lowered grammar that realizes the symbols of its grammar with
--- levels, the written trees of each resolved symbol, by the written numbers, stand one to one with the derivation trees.
+-- Of a grammar whose levels can become rules once it is prepared: with a lowered grammar that realizes the symbols of its
+-- grammar with levels, the written trees of each resolved symbol, by the written numbers, stand one to one with the derivation
+-- trees.
 abbrev pub WrittenTreesAreLowered : Type 0
 WrittenTreesAreLowered = (value : ConditionValue) (fs : Features) (g : GrammarData) → HasLevelNames (prepared_grammar fs g) →
     (name : ClosedSymbol → Name) (P : ProductionTable) (declared met : List ClosedSymbol) →
     Realizes (meaning value (flat_rules (leveled_grammar (prepared_grammar fs g)))) name P (IsKnown declared met) →
     (x : ClosedSymbol) → IsResolvedIn (references (written_rules fs g)) x →
     IsKnown declared met (leveled_symbol (level_names (leveled_rules (prepared_grammar fs g))) x) →
-    OneToOneByRank (meaning value (written_rules fs g)) (meaning value (leveled_rules (prepared_grammar fs g))) (rank_by (written_rules fs g))
-    (level_named (level_names (leveled_rules (prepared_grammar fs g))) name) (recomposed (level_origin value (prepared_grammar fs g)) P) x
+    OneToOneByRank (meaning value (written_rules fs g)) (meaning value (leveled_rules (prepared_grammar fs g)))
+    (rank_by (written_rules fs g))
+    (level_named (level_names (leveled_rules (prepared_grammar fs g))) name)
+    (recomposed (level_origin value (prepared_grammar fs g)) P) x
 
 -- ---- the two readings of the expansion
 
@@ -236,13 +253,15 @@ RulesAreRead = (value : ConditionValue) (g : GrammarData) → IsSettled g →
 abbrev pub MetIsRead : Type 0
 MetIsRead = (value : ConditionValue) (g : GrammarData) → IsSettled g →
     ((p : Part) → map closed (met p) ≡ meets (closed p))
-    × (map closed (flat_map met_in_rule (rules_without_arguments g)) ≡ flat_map (rule_meets (flat_meaning value g)) (declared g))
+    × (map closed (flat_map met_in_rule (rules_without_arguments g))
+    ≡ flat_map (rule_meets (flat_meaning value g)) (declared g))
     × ((p : Part) → is_scoped (flat_rules g) [] p ≡ true → BecomesRule (closed p) →
     map closed (met_by_made value (macros_of g) p) ≡ rule_meets (flat_meaning value g) (closed p))
 
 -- Each symbol that is made into a rule is a call, group, repeat or lookaround, and its names have a meaning without arguments.
 abbrev pub MadeSymbolsAreScoped : Type 0
-MadeSymbolsAreScoped = (value : ConditionValue) (g : GrammarData) → IsSettled g → (n : ℕ) (p : Part) → In p (made_symbols value g n) →
+MadeSymbolsAreScoped =
+    (value : ConditionValue) (g : GrammarData) → IsSettled g → (n : ℕ) (p : Part) → In p (made_symbols value g n) →
     (is_scoped (flat_rules g) [] p ≡ true) × BecomesRule (closed p)
 
 -- Read, the symbols made in the first rounds are the expanded ones, each round is the round of the closed symbols, and a round
@@ -258,18 +277,20 @@ RoundsAreRead = (value : ConditionValue) (g : GrammarData) → IsSettled g → (
 abbrev pub TextsInGrammars : Type 0
 TextsInGrammars = (rs : List WrittenRule) (k : Kind) → text_in rs (read_kind flat_reader 0 0 k) ≡ kind_text k
 
--- The plain rules, with the origins of the clauses of their symbols, are the rules of these symbols, each under its text. There is
--- one origin for each alternative.
+-- The plain rules, with the origins of the clauses of their symbols, are the rules of these symbols, each under its text. There
+-- is one origin for each alternative.
 abbrev pub PlainRulesAreRead : Type 0
 PlainRulesAreRead = (value : ConditionValue) (g : GrammarData) → IsSettled g → (n : ℕ) →
     (length (plain_origins (flat_meaning value g) (declared g) n)
     ≡ length (flat_map (λ (r : RuleData). r.alternatives) (plain_rules value g n)))
     × (rules_from (plain_origins (flat_meaning value g) (declared g) n) (plain_rules value g n)
-    ≡ map (rule_of_symbol (flat_meaning value g) (text_in (flat_rules g))) (plain_symbols (flat_meaning value g) (declared g) n))
+    ≡ map (rule_of_symbol (flat_meaning value g) (text_in (flat_rules g)))
+    (plain_symbols (flat_meaning value g) (declared g) n))
 
 -- The rules of the grammar of plain rules are the plain rules.
 abbrev pub PlainGrammarsHoldPlainRules : Type 0
-PlainGrammarsHoldPlainRules = (value : ConditionValue) (g : GrammarData) (n : ℕ) → all_rules (plain_grammar value g n) ≡ plain_rules value g n
+PlainGrammarsHoldPlainRules =
+    (value : ConditionValue) (g : GrammarData) (n : ℕ) → all_rules (plain_grammar value g n) ≡ plain_rules value g n
 
 -- Where the names of the plain rules are distinct, each name means one rule.
 abbrev pub DistinctNamesMeanOneRule : Type 0
@@ -283,7 +304,8 @@ DistinctNamesMeanOneRule =
 abbrev pub PlainRulesAreFaithful : Type 0
 PlainRulesAreFaithful = (value : ConditionValue) (g : GrammarData) → IsSettled g → (n : ℕ) → IsEnded value g n →
     OneRuleAName (flat_meaning value g) (text_in (flat_rules g)) (plain_symbols (flat_meaning value g) (declared g) n) →
-    ((s : ClosedSymbol) → In s (declared g) → OneToOne (flat_meaning value g) (text_in (flat_rules g)) (plain_table value g n) s)
+    ((s : ClosedSymbol) → In s (declared g) → OneToOne (flat_meaning value g) (text_in (flat_rules g))
+    (plain_table value g n) s)
     × ((s : ClosedSymbol) → IsKnown (declared g) (expanded_symbols (flat_meaning value g) (declared g) n) s →
     OneToOne (flat_meaning value g) (text_in (flat_rules g)) (plain_table value g n) s)
 
@@ -306,15 +328,16 @@ EntriesAreOneList = (g : GrammarData) (es : List MatchEntry) → AreEntries g es
 abbrev pub EnteredAreExpanded : Type 0
 EnteredAreExpanded = (g h : GrammarData) → IsExpanded g → interns g ≡ [] → IsEntered g h → IsExpanded h
 
--- Where the pass on tokens finds nothing wrong, and all conversions are active, an expanded grammar is typed, once it has its entries,
--- by each table in which each of its rules has a type: its terminals are distinct, and each one used is one of them.
+-- Where the pass on tokens finds nothing wrong, and all conversions are active, an expanded grammar is typed, once it has its
+-- entries, by each table in which each of its rules has a type: its terminals are distinct, and each one used is one of them.
 abbrev pub EnteredAreTyped : Type 0
 EnteredAreTyped = (fs : Features) (g h : GrammarData) → IsExpanded g → interns g ≡ [] →
-    ((t : ExternTokenData) → In (extern_item t) g.items → enabled_extern fs t ≡ t) → token_faults g ≡ [] → IsEntered g h → (table : Table) →
+    ((t : ExternTokenData) → In (extern_item t) g.items → enabled_extern fs t ≡ t) → token_faults g ≡ [] →
+    IsEntered g h → (table : Table) →
     ((r : RuleData) → IsRule h r → IsSome (table r.name.0)) → IsTyped fs h table
 
--- What inference and lowering find wrong with a grammar that has its entries, and the types where its rounds end, are those of the
--- grammar with these entries, whatever the automaton.
+-- What inference and lowering find wrong with a grammar that has its entries, and the types where its rounds end, are those of
+-- the grammar with these entries, whatever the automaton.
 abbrev pub EntriesDecideTypes : Type 0
 EntriesDecideTypes = (g h : GrammarData) → IsEntered g h →
     (inference_faults h ≡ inference_faults (entered_grammar g)) × (inferred_table h ≡ inferred_table (entered_grammar g))

@@ -41,11 +41,13 @@ abbrev pub clause_origin : Name → ℕ → Option Clause → Origin
 clause_origin m p None = written m p
 clause_origin m p (Some c) = c.origin
 
--- the origin of alternative p of the rule m: that of clause p of the reference whose level has that name; any other rule keeps its
--- name and numbers
+-- the origin of alternative p of the rule m: that of clause p of the reference whose level has that name; any other rule keeps
+-- its name and numbers
 abbrev pub origin_among : Meaning → (Name → ℕ → Name) → List ClosedSymbol → Name → ℕ → Origin
 origin_among M l [] m p = written m p
-origin_among M l (g ∷ gs) m p = if is_level_named l m g then clause_origin m p (slice_get (clauses M g) p) else origin_among M l gs m p
+origin_among M l (g ∷ gs) m p =
+    if is_level_named l m g then clause_origin m p (slice_get (clauses M g) p) else origin_among M l gs m p
 
 abbrev pub level_origin : ConditionValue → GrammarData → Name → ℕ → Origin
-level_origin value g = origin_among (meaning value (leveled_rules g)) (level_names (leveled_rules g)) (references (leveled_rules g))
+level_origin value g =
+    origin_among (meaning value (leveled_rules g)) (level_names (leveled_rules g)) (references (leveled_rules g))

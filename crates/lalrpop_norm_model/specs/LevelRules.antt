@@ -41,7 +41,8 @@ abbrev mutual
   pub leveled_parts : (List ℕ → Bool) → (ℕ → ℕ → List ℕ) → ℕ → ℕ → Parts → Parts
   leveled_parts own level before after no_parts = no_parts
   leveled_parts own level before after (part_and p ps) =
-      part_and (leveled_part own level before (after + count_parts own ps) p) (leveled_parts own level (before + count_part own p) after ps)
+      part_and (leveled_part own level before (after + count_parts own ps) p)
+      (leveled_parts own level (before + count_part own p) after ps)
 
 -- the name of a level of a rule
 abbrev pub level_of_rule : RuleData → List (Option Leveled) → ℕ → List ℕ
@@ -55,7 +56,8 @@ is_own r n = is_nil r.args && bytes_eq n r.name.0
 abbrev pub level_alternative : RuleData → List (Option Leveled) → Leveled → AlternativeData
 level_alternative r ps a = record a.alternative {
   parts = leveled_parts (is_own r)
-      (λ before after. level_of_rule r ps (own_bound a.side a.level (previous_level ps a.level) before after)) 0 0 a.alternative.parts;
+      (λ before after. level_of_rule r ps (own_bound a.side a.level (previous_level ps a.level) before after))
+      0 0 a.alternative.parts;
   attributes = without_first (codes "assoc") (without_first (codes "precedence") a.alternative.attributes);
 }
 
@@ -89,7 +91,8 @@ level_rule r ps l = record r {
 -- the rules of the levels of a rule, rising; a rule without levels as it is
 abbrev pub level_rules : RuleData → List RuleData
 level_rules r =
-    if has_levels (all_places r) then map (level_rule r (with_levels (all_places r))) (levels_of (with_levels (all_places r))) else r ∷ []
+    if has_levels (all_places r) then map (level_rule r (with_levels (all_places r)))
+    (levels_of (with_levels (all_places r))) else r ∷ []
 
 abbrev pub level_items : ItemData → List ItemData
 level_items (rule_item r) = map rule_item (level_rules r)

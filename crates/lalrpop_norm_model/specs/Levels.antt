@@ -24,7 +24,8 @@ first_named name (attribute_and a rest) = if is_named name a then Some a else fi
 
 -- the value of the first argument, if that argument is `key = ".."` for this key
 abbrev pub value_under : List ℕ → AttributeData → Option (List ℕ)
-value_under key a = option_and_then (λ (kv : List ℕ × List ℕ). if bytes_eq kv.0 key then Some kv.1 else None) (key_and_value a)
+value_under key a =
+    option_and_then (λ (kv : List ℕ × List ℕ). if bytes_eq kv.0 key then Some kv.1 else None) (key_and_value a)
 
 abbrev pub all_digits : List ℕ → Bool
 all_digits [] = true
@@ -32,7 +33,8 @@ all_digits (c ∷ cs) = nat_lt (digit_value c) 10 && all_digits cs
 
 abbrev pub number_in : ℕ → List ℕ → Option ℕ
 number_in bound digits =
-    if nat_lt 0 (length digits) && (all_digits digits && nat_lt (digits_value 10 digits) bound) then Some (digits_value 10 digits) else None
+    if nat_lt 0 (length digits) && (all_digits digits && nat_lt (digits_value 10 digits) bound)
+    then Some (digits_value 10 digits) else None
 
 -- the number below the bound that a text is: decimal digits after one plus at most
 abbrev pub number_of : ℕ → List ℕ → Option ℕ
@@ -41,7 +43,8 @@ number_of bound text = number_in bound (without_leading_plus text)
 -- the level that an attribute list states: that of its first `precedence`
 abbrev pub stated_level : Attributes → Option ℕ
 stated_level attributes =
-    option_and_then (number_of (2 ^ 32)) (option_and_then (value_under (codes "level")) (first_named (codes "precedence") attributes))
+    option_and_then (number_of (2 ^ 32)) (option_and_then (value_under (codes "level"))
+    (first_named (codes "precedence") attributes))
 
 -- on which side of an operator its own level may stand: on the left, on the right, on neither, on every side
 pub data Side : Type 0 where
@@ -59,7 +62,8 @@ side_named text =
 
 -- the side that an attribute list states: that of its first `assoc`
 abbrev pub stated_side : Attributes → Option Side
-stated_side attributes = option_and_then side_named (option_and_then (value_under (codes "side")) (first_named (codes "assoc") attributes))
+stated_side attributes =
+    option_and_then side_named (option_and_then (value_under (codes "side")) (first_named (codes "assoc") attributes))
 
 abbrev pub level_stated : Option AlternativeData → Option ℕ
 level_stated None = None
@@ -99,7 +103,8 @@ side_at ps k = unwrap_or (last_stated (map side_stated (since_level (up_to k ps)
 
 -- an alternative with an attribute on levels; `assoc` alone is one
 abbrev pub has_level_attribute : AlternativeData → Bool
-has_level_attribute a = is_some (first_named (codes "precedence") a.attributes) || is_some (first_named (codes "assoc") a.attributes)
+has_level_attribute a =
+    is_some (first_named (codes "precedence") a.attributes) || is_some (first_named (codes "assoc") a.attributes)
 
 -- a rule has levels where one of its enabled alternatives has `precedence` or `assoc`
 abbrev pub has_levels : Places → Bool

@@ -1,5 +1,6 @@
 -- Where a lexer may refuse, and what the pass on tokens looks for, the lexer's refusals among the rest.
-use Rattle.std.specs.Prelude.{◌≡◌, ℕ, ◌||◌, List, ◌∷◌, ◌++◌, map, Option, Some, None, is_none, slice_get, take}
+use Rattle.std.specs.Prelude.{◌≡◌, ℕ, ◌||◌, List, ◌∷◌, ◌++◌, map}
+use Rattle.std.specs.Prelude.{Option, Some, None, is_none, slice_get, take}
 use Rattle.std.specs.Prelude.{if◌then◌else◌}
 use Rattle.std.specs.List.{list_any}
 use Rattle.lalrpop_norm_parts.specs.declared.names.Span.{Span}

@@ -68,6 +68,7 @@ all_alternatives g = flat_map (λ (r : RuleData). r.alternatives) (all_rules g)
 -- start symbols, then alternatives, each with the number of its action; its number is looked at last
 abbrev pub lowering_faults : GrammarData → Table → List Fault
 lowering_faults g types =
-    flat_map (λ (e : ℕ × RuleData). start_faults g.prefix types e.1 ++ action_number_faults e.0 e.1.span) (enumerate_from 0 (public_rules g))
+    flat_map (λ (e : ℕ × RuleData). start_faults g.prefix types e.1 ++ action_number_faults e.0 e.1.span)
+    (enumerate_from 0 (public_rules g))
     ++ flat_map (λ (e : ℕ × AlternativeData). code_faults e.1 ++ action_number_faults e.0 e.1.span)
     (enumerate_from (length (public_rules g)) (all_alternatives g))

@@ -220,7 +220,8 @@ abbrev pub instance_alternative : Span → (List ℕ → Option Kind) → Altern
 instance_alternative s argument a = record a { span = s; parts = all_put_in argument a.parts; condition = None }
 
 -- those whose condition is true or absent, in order
-abbrev pub instance_alternatives : ConditionValue → Span → RuleData → Parts → List AlternativeData → List AlternativeData
+abbrev pub instance_alternatives : ConditionValue → Span → RuleData → Parts →
+    List AlternativeData → List AlternativeData
 instance_alternatives value s d args [] = []
 instance_alternatives value s d args (a ∷ rest) =
     if is_true value d.args (read_all flat_reader args) a.condition

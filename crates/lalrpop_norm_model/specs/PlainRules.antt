@@ -75,12 +75,14 @@ macros_of g = filter (λ r. not (is_nil r.args)) (all_rules g)
 
 -- what is new in round k + 1, and what was before: round 1 reads the rules of the grammar, each later one those made before it
 abbrev pub expansion_round : ConditionValue → GrammarData → ℕ → Round Part
-expansion_round value g k = rounds same_apart_from_spans (met_by_made value (macros_of g)) (flat_map met_in_rule (rules_without_arguments g)) k
+expansion_round value g k =
+    rounds same_apart_from_spans (met_by_made value (macros_of g)) (flat_map met_in_rule (rules_without_arguments g)) k
 
 -- the symbols that are made into rules in the first `count` rounds, in the order in which their rules stand
 abbrev pub made_symbols : ConditionValue → GrammarData → ℕ → List Part
 made_symbols value g count =
-    all_rules_made same_apart_from_spans (met_by_made value (macros_of g)) (flat_map met_in_rule (rules_without_arguments g)) count
+    all_rules_made same_apart_from_spans (met_by_made value (macros_of g))
+    (flat_map met_in_rule (rules_without_arguments g)) count
 
 abbrev pub made_in : ConditionValue → GrammarData → ℕ → List RuleData
 made_in value g count = flat_map (made_rules value (macros_of g)) (made_symbols value g count)
@@ -101,7 +103,8 @@ plain_item (use_item u) = use_item u ∷ []
 
 -- the grammar of plain rules, where the first `count` rounds make all: what is left of its items, then the rules made
 abbrev pub plain_grammar : ConditionValue → GrammarData → ℕ → GrammarData
-plain_grammar value g count = record g { items = flat_map plain_item g.items ++ map (λ r. rule_item (replaced_rule r)) (made_in value g count) }
+plain_grammar value g count =
+    record g { items = flat_map plain_item g.items ++ map (λ r. rule_item (replaced_rule r)) (made_in value g count) }
 
 abbrev pub plain_rules : ConditionValue → GrammarData → ℕ → List RuleData
 plain_rules value g count = map replaced_rule (rules_without_arguments g) ++ map replaced_rule (made_in value g count)

@@ -60,18 +60,19 @@ names_symbols (at s (repeated Star p)) = true
 names_symbols (at s (repeated Plus p)) = true
 names_symbols _ = false
 
--- The rule r is that of the symbol p: it has its text as its name, and its alternatives hold the clauses of p in order, apart from
--- what is wrapped around their symbols. Where it names no symbols, they hold them as they are.
+-- The rule r is that of the symbol p: it has its text as its name, and its alternatives hold the clauses of p in order, apart
+-- from what is wrapped around their symbols. Where it names no symbols, they hold them as they are.
 pub record IsRuleOf (M : Meaning) (p : Part) (r : RuleData) : Type 0 where
   pub name : r.name.0 ≡ part_text p
   pub clauses_held : map (λ (a : AlternativeData). all_unwrapped (closed_parts a)) r.alternatives
       ≡ map (λ (c : Clause). all_unwrapped c.parts) (clauses M (closed p))
-  pub held_as_they_are : names_symbols p ≡ false → map closed_parts r.alternatives ≡ map (λ (c : Clause). c.parts) (clauses M (closed p))
+  pub held_as_they_are : names_symbols p ≡ false →
+      map closed_parts r.alternatives ≡ map (λ (c : Clause). c.parts) (clauses M (closed p))
 
 -- ---- productions
 
--- The symbol that a plain symbol is in a production: a terminal, `!` as the error terminal, a wrapped symbol as what is in it, any
--- other as the nonterminal of its text.
+-- The symbol that a plain symbol is in a production: a terminal, `!` as the error terminal, a wrapped symbol as what is in it,
+-- any other as the nonterminal of its text.
 abbrev mutual
   pub plain_symbol_kind : Kind → LoweredSymbol
   plain_symbol_kind (terminal t) = terminal_symbol (terminal_of t)
@@ -98,14 +99,17 @@ lowered_parts (part_and p ps) = lowered_part p ∷ lowered_parts ps
 abbrev pub productions_with_origins : List Origin → List AlternativeData → List Production
 productions_with_origins origins [] = []
 productions_with_origins [] (a ∷ xs) = []
-productions_with_origins (o ∷ origins) (a ∷ xs) = record { origin = o; symbols = lowered_parts a.parts } ∷ productions_with_origins origins xs
+productions_with_origins (o ∷ origins) (a ∷ xs) =
+    record { origin = o; symbols = lowered_parts a.parts } ∷ productions_with_origins origins xs
 
 -- rules as those of a lowered grammar, where the origins are one for each alternative, in order
 abbrev pub rules_from : List Origin → List RuleData → List Rule
 rules_from origins [] = []
 rules_from origins (r ∷ rs) =
-    record { name = r.name.0; productions = productions_with_origins origins r.alternatives } ∷ rules_from (drop (length r.alternatives) origins) rs
+    record { name = r.name.0; productions = productions_with_origins origins r.alternatives }
+    ∷ rules_from (drop (length r.alternatives) origins) rs
 
 -- the plain rules after the first `count` rounds, by name, each alternative with the origin of its clause
 abbrev pub plain_table : ConditionValue → GrammarData → ℕ → ProductionTable
-plain_table value g count = table (rules_from (plain_origins (flat_meaning value g) (declared g) count) (plain_rules value g count))
+plain_table value g count =
+    table (rules_from (plain_origins (flat_meaning value g) (declared g) count) (plain_rules value g count))

@@ -44,11 +44,14 @@ pub record AreRanked (before after : ℕ → Option ClosedSymbols) (rank : ℕ �
   -- an alternative has the same parts under its rank
   pub kept : (k : ℕ) (parts : ClosedSymbols) → before k ≡ Some parts → after (rank k) ≡ Some parts
   -- each number with parts is the rank of just one alternative, which has these parts
-  pub reached : (j : ℕ) (parts : ClosedSymbols) → after j ≡ Some parts → ExactlyOne (λ k. (rank k ≡ j) × (before k ≡ Some parts))
+  pub reached : (j : ℕ) (parts : ClosedSymbols) → after j ≡ Some parts →
+      ExactlyOne (λ k. (rank k ≡ j) × (before k ≡ Some parts))
   -- ranks follow one another as the alternatives do
-  pub in_order : (k l : ℕ) (first second : ClosedSymbols) → before k ≡ Some first → before l ≡ Some second → k < l → rank k < rank l
+  pub in_order : (k l : ℕ) (first second : ClosedSymbols) → before k ≡ Some first → before l ≡ Some second →
+      k < l → rank k < rank l
 
--- Two grammars are the same but for the numbers of alternatives: number k of a rule or macro in the first is its rank in the second.
+-- Two grammars are the same but for the numbers of alternatives: number k of a rule or macro in the first is its rank in the
+-- second.
 pub record IsRenumbered (M N : Meaning) (rank : Name → ℕ → ℕ) : Type 0 where
   pub rules : (n : Name) (b : Option ℕ) → AreRanked (M.reference_parts n b) (N.reference_parts n b) (rank n)
   pub levels : (n : Name) (b : Option ℕ) → AreRanked (M.own_parts n b) (N.own_parts n b) (rank n)
@@ -92,16 +95,19 @@ ranked rank a = (a.0, rank a.0 a.1)
 -- for their numbers
 pub record TreesAreRenumbered (M N : Meaning) (rank : Name → ℕ → ℕ) : Type 0 where
   pub down : (t : WrittenTree) (s : ClosedSymbol) → IsTreeOf M t s → IsTreeOf N (renumbered rank t) s
-  pub up : (u : WrittenTree) (s : ClosedSymbol) → IsTreeOf N u s → ExactlyOne (λ t. IsTreeOf M t s × (renumbered rank t ≡ u))
+  pub up : (u : WrittenTree) (s : ClosedSymbol) → IsTreeOf N u s →
+      ExactlyOne (λ t. IsTreeOf M t s × (renumbered rank t ≡ u))
   pub same_yields : (t : WrittenTree) → yield (renumbered rank t) ≡ yield t
   pub same_alternatives : (t : WrittenTree) → alternatives (renumbered rank t) ≡ map (ranked rank) (alternatives t)
 
--- the written trees of s in M and the derivation trees of its symbol stand one to one, each where the renumbered tree of N pairs, with
--- the same words, and with the alternatives by their ranks
+-- the written trees of s in M and the derivation trees of its symbol stand one to one, each where the renumbered tree of N
+-- pairs, with the same words, and with the alternatives by their ranks
 pub record OneToOneByRank (M N : Meaning) (rank : Name → ℕ → ℕ) (name : ClosedSymbol →
     Name) (P : ProductionTable) (s : ClosedSymbol) : Type 0 where
-  pub down : (t : WrittenTree) → IsTreeOf M t s → ExactlyOne (λ u. IsDerivation P u (symbol_of name s) × Pairs N name s (renumbered rank t) u)
-  pub up : (u : LoweredTree) → IsDerivation P u (symbol_of name s) → ExactlyOne (λ t. IsTreeOf M t s × Pairs N name s (renumbered rank t) u)
+  pub down : (t : WrittenTree) → IsTreeOf M t s →
+      ExactlyOne (λ u. IsDerivation P u (symbol_of name s) × Pairs N name s (renumbered rank t) u)
+  pub up : (u : LoweredTree) → IsDerivation P u (symbol_of name s) →
+      ExactlyOne (λ t. IsTreeOf M t s × Pairs N name s (renumbered rank t) u)
   pub same_yields : (t : WrittenTree) (u : LoweredTree) → Pairs N name s (renumbered rank t) u → yield t ≡ lowered_yield u
   pub same_alternatives : (t : WrittenTree) (u : LoweredTree) → Pairs N name s (renumbered rank t) u →
       map (ranked rank) (alternatives t) ≡ written_origins P u

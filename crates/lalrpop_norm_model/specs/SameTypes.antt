@@ -31,7 +31,8 @@ abbrev mutual
   same_type (of_lifetime a) (of_lifetime b) = bytes_eq a.0 b.0
   same_type (reference l m t) (reference k n u) = same_lifetime l k && (same_flag m n && same_type t u)
   same_type (trait_object p ts) (trait_object q us) = same_path p q && same_types ts us
-  same_type (function fs p ts r) (function gs q us s) = all_same same_parameter fs gs && (same_path p q && (same_types ts us && same_return r s))
+  same_type (function fs p ts r) (function gs q us s) =
+      all_same same_parameter fs gs && (same_path p q && (same_types ts us && same_return r s))
   same_type _ _ = false
 
   pub same_types : Reprs → Reprs → Bool

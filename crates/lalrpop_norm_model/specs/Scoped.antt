@@ -50,7 +50,8 @@ abbrev mutual
 
 -- the names in each alternative of each rule have a meaning
 abbrev pub NamesAreScoped : List WrittenRule → Type 0
-NamesAreScoped rs = (r : WrittenRule) (a : Leveled) → In r rs → In (Some a) r.places → are_scoped rs r.args a.alternative.parts ≡ true
+NamesAreScoped rs =
+    (r : WrittenRule) (a : Leveled) → In r rs → In (Some a) r.places → are_scoped rs r.args a.alternative.parts ≡ true
 
 -- rules whose names have a meaning, and whose levels are there
 pub record IsScoped (rs : List WrittenRule) : Type 0 where

@@ -34,7 +34,8 @@ side_stated_at ps k = option_and_then side_stated (slice_get ps k)
 -- the level is stated at a place at or before k, and none between that place and k, k too
 abbrev pub IsStatedLevel : Places → ℕ → ℕ → Type 0
 IsStatedLevel ps k l =
-    (j : ℕ) × (j ≤ k) × (level_stated_at ps j ≡ Some l) × ((i : ℕ) → j < i → i ≤ k → level_stated_at ps i ≡ None)
+    (j : ℕ) × (j ≤ k) × (level_stated_at ps j ≡ Some l)
+    × ((i : ℕ) → j < i → i ≤ k → level_stated_at ps i ≡ None)
 
 -- no place at or before k states a level
 abbrev pub NoLevelIsStated : Places → ℕ → Type 0
@@ -69,4 +70,5 @@ with_stated level side a = record { level = unwrap_or level 0; side = unwrap_or 
 abbrev pub handed_on : Option ℕ → Option Side → Places → List (Option Leveled)
 handed_on level side [] = []
 handed_on level side (p ∷ ps) =
-    option_map (with_stated (level_after level p) (side_after side p)) p ∷ handed_on (level_after level p) (side_after side p) ps
+    option_map (with_stated (level_after level p) (side_after side p)) p
+    ∷ handed_on (level_after level p) (side_after side p) ps

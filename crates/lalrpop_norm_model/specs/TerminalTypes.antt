@@ -115,7 +115,8 @@ abbrev pub named_with : Option InternTokenData → GrammarData → List Terminal
 named_with (Some t) g = user_names t.match_entries
 named_with None g = user_names (match_entries g) ++ flat_map (let_in (catch_all g)) (terminals_used g)
 
--- the terminals that the entries of the internal tokens name; where there are no internal tokens yet, those that the grammar's entries will name
+-- the terminals that the entries of the internal tokens name; where there are no internal tokens yet, those that the grammar's
+-- entries will name
 abbrev pub named_terminals : GrammarData → List TerminalString
 named_terminals g = named_with (first_of intern_token_of g.items) g
 

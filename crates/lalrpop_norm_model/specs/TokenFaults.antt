@@ -42,8 +42,10 @@ names_mapped_by i = user_names (item_entries 0 i)
 -- an item whose literal, or whose terminal, an item before it has
 abbrev pub match_item_faults : List MatchItem → MatchItem → List Fault
 match_item_faults before i =
-    fault_if (list_any (λ l. list_any (same_literal l) (flat_map literals_of before)) (literals_of i)) (LiteralTwice, match_item_span i)
-    ++ fault_if (list_any (λ t. list_any (same_terminal t) (flat_map names_mapped_by before)) (names_mapped_by i)) (TerminalTwice, match_item_span i)
+    fault_if (list_any (λ l. list_any (same_literal l) (flat_map literals_of before)) (literals_of i))
+    (LiteralTwice, match_item_span i)
+    ++ fault_if (list_any (λ t. list_any (same_terminal t) (flat_map names_mapped_by before)) (names_mapped_by i))
+    (TerminalTwice, match_item_span i)
 
 abbrev pub items_of : Option MatchTokenData → List MatchItem
 items_of None = []
@@ -57,7 +59,8 @@ match_items g = items_of (match_block g)
 
 -- a conversion whose terminal one before it has
 abbrev pub repeated_conversion_faults : List ConversionData → ConversionData → List Fault
-repeated_conversion_faults before c = fault_if (list_any (λ (b : ConversionData). same_terminal c.from b.from) before) (TerminalTwice, c.span)
+repeated_conversion_faults before c =
+    fault_if (list_any (λ (b : ConversionData). same_terminal c.from b.from) before) (TerminalTwice, c.span)
 
 -- ---- symbols
 
@@ -86,7 +89,8 @@ places_in_parts (part_and p ps) = places_in p ++ places_in_parts ps
 
 -- the terminals that alternatives use, each where it stands
 abbrev pub places_used : GrammarData → List (TerminalString × Span)
-places_used g = flat_map (λ (r : RuleData). flat_map (λ (a : AlternativeData). places_in_parts a.parts) r.alternatives) (all_rules g)
+places_used g =
+    flat_map (λ (r : RuleData). flat_map (λ (a : AlternativeData). places_in_parts a.parts) r.alternatives) (all_rules g)
 
 -- whether a terminal has an entry: as a user name, or, where it is a literal, by the catch-all
 abbrev pub has_entry : GrammarData → TerminalString → Bool

@@ -67,7 +67,8 @@ type_clauses r = type_clauses_of r.type_decl r.alternatives
 mutual
   -- a rule of that name has the type x
   pub data Has (g : GrammarData) : List ℕ → ReprData → Type 0 where
-    by_clause : (r : RuleData) (c : TypeClause) (x : ReprData) → IsRule g r → In c (type_clauses r) → Makes g c x → Has g r.name.0 x
+    by_clause : (r : RuleData) (c : TypeClause) (x : ReprData) → IsRule g r → In c (type_clauses r) →
+        Makes g c x → Has g r.name.0 x
 
   -- a clause makes the type x
   pub data Makes (g : GrammarData) : TypeClause → ReprData → Type 0 where
@@ -96,7 +97,8 @@ mutual
     means_slice : (t : TypeData) (x : ReprData) → Means g t x → Means g (slice t) (lowered.slice x)
     means_reference : (l : Option Lifetime) (m : Bool) (t : TypeData) (x : ReprData) → Means g t x →
         Means g (reference l m t) (lowered.reference l m x)
-    means_object : (p : PathData) (ts : TypesData) (xs : Reprs) → MeanAll g ts xs → Means g (trait_object p ts) (lowered.trait_object p xs)
+    means_object : (p : PathData) (ts : TypesData) (xs : Reprs) → MeanAll g ts xs →
+        Means g (trait_object p ts) (lowered.trait_object p xs)
     means_lifetime : (l : Lifetime) → Means g (of_lifetime l) (lowered.of_lifetime l)
     means_function : (fs : List TypeParameter) (p : PathData) (ts : TypesData) (r : MaybeType) (xs : Reprs) (y : MaybeRepr) →
         MeanAll g ts xs → MeansReturn g r y → Means g (function fs p ts r) (lowered.function fs p xs y)

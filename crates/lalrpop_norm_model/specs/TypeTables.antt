@@ -85,7 +85,9 @@ IsClosedTable g f =
 
 -- each rule of which a clause makes a type of the table has one in it
 abbrev pub IsStuck : GrammarData → Table → Type 0
-IsStuck g f = (r : RuleData) → IsRule g r → (c : TypeClause) → In c (type_clauses r) → IsSome (clause_value g f c) → IsSome (f r.name.0)
+IsStuck g f =
+    (r : RuleData) → IsRule g r → (c : TypeClause) → In c (type_clauses r) →
+    IsSome (clause_value g f c) → IsSome (f r.name.0)
 
 -- the table is the relation
 abbrev pub IsTable : GrammarData → Table → Type 0

@@ -26,7 +26,8 @@ written_rule_with_levels ds r ps =
 
 -- whatever its alternatives state
 abbrev pub flat_rule : List Global → RuleData → Places → WrittenRule
-flat_rule ds r ps = record { name = r.name.0; args = r.args; has_levels = false; places = without_levels (resolved_places ds r ps) }
+flat_rule ds r ps =
+    record { name = r.name.0; args = r.args; has_levels = false; places = without_levels (resolved_places ds r ps) }
 
 -- the rules of a grammar that are taken, each through f
 abbrev pub rules_through : (RuleData → List WrittenRule) → List ItemData → List WrittenRule
@@ -40,7 +41,8 @@ rules_through f (use_item u ∷ items) = rules_through f items
 -- the enabled rules of a written grammar, as `normalize` reads it
 abbrev pub written_rules : Features → GrammarData → List WrittenRule
 written_rules fs g =
-    rules_through (λ r. if is_active fs r.attributes then written_rule_with_levels (globals (enabled_grammar fs g)) r (enabled_places fs r) ∷ [] else []) g.items
+    rules_through (λ r. if is_active fs r.attributes
+    then written_rule_with_levels (globals (enabled_grammar fs g)) r (enabled_places fs r) ∷ [] else []) g.items
 
 -- all rules, with their levels, as the pass on levels reads its argument; what it makes of them is `leveled_grammar`
 abbrev pub leveled_rules : GrammarData → List WrittenRule

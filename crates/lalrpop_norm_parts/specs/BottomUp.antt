@@ -2,7 +2,8 @@
 use Rattle.std.specs.Prelude.{◌≡◌, Result, Ok, Err, ◌⊎◌}
 use Rattle.std.specs.Fn.{Mut, Called}
 use Rattle.lalrpop_norm_parts.specs.declared.lowered.TypeRepr.{TypeRepr}
-use Rattle.lalrpop_norm_parts.specs.Reprs.{ReprData, Reprs, MaybeRepr, tuple, slice, nominal, associated, of_lifetime, reference, trait_object, function, no_reprs, repr_and, no_repr, returns, repr_view}
+use Rattle.lalrpop_norm_parts.specs.Reprs.{ReprData, Reprs, MaybeRepr, tuple, slice, nominal, associated, of_lifetime}
+use Rattle.lalrpop_norm_parts.specs.Reprs.{reference, trait_object, function, no_reprs, repr_and, no_repr, returns, repr_view}
 
 -- what a walk may answer from a state on, and the state that it leaves
 abbrev pub Walk : Type 0 → Type 0 → Type 0 → Type 1

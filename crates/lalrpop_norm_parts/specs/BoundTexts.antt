@@ -17,7 +17,8 @@ bound_parameter_text (associated_type a t) = Some a ++? Some (codes " = ") ++? t
 abbrev pub bound_text : BoundData (Option (List ℕ)) → Option (List ℕ)
 bound_text (lifetime_bound l) = Some l.0
 bound_text (function_bound fs p ts r) =
-    Some (forall_text fs ++ path_text p) ++? (Some (codes "(") ++? joined_known (codes ", ") ts ++? Some (codes ")")) ++? returned_known r
+    Some (forall_text fs ++ path_text p) ++? (Some (codes "(") ++? joined_known (codes ", ") ts ++? Some
+    (codes ")")) ++? returned_known r
 bound_text (trait_bound fs p ps) = Some (forall_text fs ++ path_text p) ++? angled_known (map bound_parameter_text ps)
 
 -- `'a: 'b + 'c`, or `for<'a> T:  B + C`, with two blanks behind that colon

@@ -1,11 +1,13 @@
 -- The parameters that a lowered type means by its names and lifetimes.
-use Rattle.std.specs.Prelude.{Bool, false, not, List, [], ◌∷◌, ◌++◌, map, filter, option_to_list, if◌then◌else◌, bytes_eq}
+use Rattle.std.specs.Prelude.{Bool, false, not, List, [], ◌∷◌}
+use Rattle.std.specs.Prelude.{◌++◌, map, filter, option_to_list, if◌then◌else◌, bytes_eq}
 use Rattle.std.specs.List.{list_any}
 use Rattle.lalrpop_norm_parts.specs.declared.names.TypeParameter.{TypeParameter}
 use Rattle.lalrpop_norm_parts.specs.declared.names.TypeParameter.TheVariants as parameter
 use Rattle.lalrpop_norm_parts.specs.Accessors.{single_name}
 use Rattle.lalrpop_norm_parts.specs.Paths.{PathData}
-use Rattle.lalrpop_norm_parts.specs.Reprs.{ReprData, Reprs, MaybeRepr, tuple, slice, nominal, associated, of_lifetime, reference, trait_object, function, no_reprs, repr_and, no_repr, returns}
+use Rattle.lalrpop_norm_parts.specs.Reprs.{ReprData, Reprs, MaybeRepr, tuple, slice, nominal, associated, of_lifetime}
+use Rattle.lalrpop_norm_parts.specs.Reprs.{reference, trait_object, function, no_reprs, repr_and, no_repr, returns}
 
 abbrev pub same_parameter : TypeParameter → TypeParameter → Bool
 same_parameter (parameter.Lifetime l) (parameter.Lifetime m) = bytes_eq l.0 m.0
@@ -29,7 +31,8 @@ abbrev mutual
   met_in_type (of_lifetime l) = parameter.Lifetime l ∷ []
   met_in_type (reference l m t) = map parameter.Lifetime (option_to_list l) ++ met_in_type t
   met_in_type (trait_object p ts) = met_in_path p ++ met_in_all ts
-  met_in_type (function fs p ts r) = filter (λ q. not (is_parameter_among fs q)) (met_in_path p ++ (met_in_all ts ++ met_in_return r))
+  met_in_type (function fs p ts r) =
+      filter (λ q. not (is_parameter_among fs q)) (met_in_path p ++ (met_in_all ts ++ met_in_return r))
 
   pub met_in_all : Reprs → List TypeParameter
   met_in_all no_reprs = []

@@ -1,5 +1,6 @@
 -- Names for the anonymous lifetimes of a lowered type, and what its references imply.
-use Rattle.std.specs.Prelude.{◌≡◌, ℕ, Bool, false, ◌&&◌, List, [], ◌∷◌, ◌++◌, length, map, Option, Some, None, if◌then◌else◌, bytes_eq, codes, decimal}
+use Rattle.std.specs.Prelude.{◌≡◌, ℕ, Bool, false, ◌&&◌, List, [], ◌∷◌, ◌++◌, length, map, Option, Some}
+use Rattle.std.specs.Prelude.{None, if◌then◌else◌, bytes_eq, codes, decimal}
 use Rattle.lalrpop_norm_parts.specs.declared.names.Lifetime.{Lifetime}
 use Rattle.lalrpop_norm_parts.specs.declared.names.TypeParameter.{TypeParameter}
 use Rattle.lalrpop_norm_parts.specs.declared.names.TypeParameter.TheVariants as parameter
@@ -7,7 +8,9 @@ use Rattle.lalrpop_norm_parts.specs.declared.lowered.WhereClause.{WhereClause}
 use Rattle.lalrpop_norm_parts.specs.Accessors.{single_name}
 use Rattle.lalrpop_norm_parts.specs.Bounds.{lifetime_bound}
 use Rattle.lalrpop_norm_parts.specs.FreeVariables.{with_new, free_in}
-use Rattle.lalrpop_norm_parts.specs.Reprs.{ReprData, Reprs, MaybeRepr, tuple, slice, nominal, associated, of_lifetime, reference, trait_object, function, no_reprs, repr_and, no_repr, returns, parameter_repr, LoweredClause, has_bound, lowered_where_clause_view}
+use Rattle.lalrpop_norm_parts.specs.Reprs.{ReprData, Reprs, MaybeRepr, tuple, slice, nominal, associated, of_lifetime}
+use Rattle.lalrpop_norm_parts.specs.Reprs.{reference, trait_object, function, no_reprs, repr_and, no_repr, returns}
+use Rattle.lalrpop_norm_parts.specs.Reprs.{parameter_repr, LoweredClause, has_bound, lowered_where_clause_view}
 
 -- a list that begins with another
 abbrev pub BeginsWith : {A : Type 0} → List A → List A → Type 0
@@ -62,7 +65,8 @@ with_lifetime l s = record { parameters = s.parameters ++ parameter.Lifetime l �
 -- a lifetime as a type: `'_` gets a name
 abbrev pub lifetime_named : List ℕ → Lifetime → Scope → ReprData × Scope
 lifetime_named prefix l s =
-    if bytes_eq l.0 (codes "'_") then (of_lifetime (new_lifetime prefix s), with_lifetime (new_lifetime prefix s) s) else (of_lifetime l, s)
+    if bytes_eq l.0 (codes "'_")
+    then (of_lifetime (new_lifetime prefix s), with_lifetime (new_lifetime prefix s) s) else (of_lifetime l, s)
 
 -- the lifetime that a reference gets, and the parameters then
 abbrev pub IsLifetimeOf : List ℕ → Option Lifetime → List TypeParameter → Lifetime → List TypeParameter → Type 0
@@ -71,7 +75,8 @@ IsLifetimeOf prefix (Some k) ps l qs = (l ≡ k) × (qs ≡ ps)
 
 -- a reference with a lifetime: what is free in its referent outlives it
 abbrev pub outlived : Lifetime → Bool → ReprData → Scope → ReprData × Scope
-outlived l m t s = (reference (Some l) m t, record { parameters = s.parameters; clauses = with_outlives l s.clauses (free_in s.parameters t) })
+outlived l m t s =
+    (reference (Some l) m t, record { parameters = s.parameters; clauses = with_outlives l s.clauses (free_in s.parameters t) })
 
 -- a reference: it gets a lifetime where it has none
 abbrev pub reference_named : List ℕ → Option Lifetime → Bool → ReprData → Scope → ReprData × Scope
@@ -94,7 +99,9 @@ abbrev mutual
   named prefix (of_lifetime l) s = lifetime_named prefix l s
   named prefix (reference l m t) s = let u = named prefix t s in reference_named prefix l m u.0 u.1
   named prefix (trait_object p ts) s = let us = all_named prefix ts s in (trait_object p us.0, us.1)
-  named prefix (function fs p ts r) s = let us = all_named prefix ts s in let v = return_named prefix r us.1 in (function fs p us.0 v.0, v.1)
+  named prefix (function fs p ts r) s =
+      let us = all_named prefix ts s in
+      let v = return_named prefix r us.1 in (function fs p us.0 v.0, v.1)
 
   pub all_named : List ℕ → Reprs → Scope → Reprs × Scope
   all_named prefix no_reprs s = (no_reprs, s)

@@ -17,7 +17,8 @@ lowered_bound_parameter_text (associated_type a t) = a ++ codes " = " ++ repr_te
 abbrev pub lowered_bound_text : BoundData ReprData → List ℕ
 lowered_bound_text (lifetime_bound l) = l.0
 lowered_bound_text (function_bound fs p ts r) =
-    forall_text fs ++ path_text p ++ (codes "(" ++ joined (codes ", ") (map repr_text ts) ++ codes ")") ++ return_text (maybe_repr_of r)
+    forall_text fs ++ path_text p ++ (codes "(" ++ joined (codes ", ") (map repr_text ts) ++ codes ")")
+    ++ return_text (maybe_repr_of r)
 lowered_bound_text (trait_bound fs p ps) = forall_text fs ++ path_text p ++ angled (map lowered_bound_parameter_text ps)
 
 -- `for<'a, T> `, also where there is no parameter

@@ -1,6 +1,7 @@
 -- Bounds whose types are put through a function, and the types of bounds in reading order.
 use Rattle.std.specs.Prelude.{List, [], ◌∷◌, ◌++◌, map, flat_map, option_map, option_to_list}
-use Rattle.lalrpop_norm_parts.specs.Bounds.{BoundParameterData, lifetime_parameter, type_parameter, associated_type, BoundData, lifetime_bound, function_bound, trait_bound}
+use Rattle.lalrpop_norm_parts.specs.Bounds.{BoundParameterData, lifetime_parameter, type_parameter, associated_type, BoundData}
+use Rattle.lalrpop_norm_parts.specs.Bounds.{lifetime_bound, function_bound, trait_bound}
 
 abbrev pub mapped_bound_parameter : {T V : Type 0} → (T → V) → BoundParameterData T → BoundParameterData V
 mapped_bound_parameter f (lifetime_parameter l) = lifetime_parameter l

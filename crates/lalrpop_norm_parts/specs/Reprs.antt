@@ -53,7 +53,8 @@ repr_step (TypeRepr-F.Associated p a) = associated p a
 repr_step (TypeRepr-F.Lifetime l) = of_lifetime l
 repr_step (TypeRepr-F.Ref l m t) = reference l m t.value
 repr_step (TypeRepr-F.TraitObject n) = trait_object n.0 n.1
-repr_step (TypeRepr-F.Fn fs p ts r) = function fs.items (path_view p) (reprs_of ts.items) (maybe_repr_of (option_map (λ b. b.value) r))
+repr_step (TypeRepr-F.Fn fs p ts r) =
+    function fs.items (path_view p) (reprs_of ts.items) (maybe_repr_of (option_map (λ b. b.value) r))
 
 abbrev pub applied_step : NominalTypeRepr-F ReprData Applied → Applied
 applied_step n = (path_view n.path, reprs_of n.types.items)

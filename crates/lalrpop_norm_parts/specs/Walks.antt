@@ -9,7 +9,8 @@ module _ {S T U E : Type 0} (Step : S → T → Result U E → S → Type 0) whe
   Answered s (t ∷ ts) (u ∷ us) s' = (r : S) × Step s t (Ok u) r × Answered r ts us s'
   Answered s _ _ s' = ⊥
 
-  -- from s on, some of ts in turn are answered, and then e ends the walk: it is the answer to the next one, or says that memory is wanting
+  -- from s on, some of ts in turn are answered, and then e ends the walk: it is the answer to the next one, or says that memory
+  -- is wanting
   abbrev pub Ended : (E → Type 0) → S → List T → E → S → Type 0
   Ended OfMemory s [] e s' = OfMemory e × (s' ≡ s)
   Ended OfMemory s (t ∷ ts) e s' = (OfMemory e × (s' ≡ s)) ⊎ Step s t (Err e) s'

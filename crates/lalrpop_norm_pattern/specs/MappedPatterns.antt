@@ -1,7 +1,9 @@
 -- Patterns whose chosen parts are put through a function, and the chosen parts of patterns in reading order.
 use Rattle.std.specs.Prelude.{List, [], ◌∷◌, ◌++◌}
-use Rattle.lalrpop_norm_pattern.specs.Patterns.{PatternKindData, enumerated, structured, path, tuple, tuple_struct, number, underscore, dot_dot, chosen, character, text}
-use Rattle.lalrpop_norm_pattern.specs.Patterns.{PatternData, pattern_at, Patterns, no_patterns, pattern_and, Fields, no_fields, field_and, FieldData}
+use Rattle.lalrpop_norm_pattern.specs.Patterns.{PatternKindData, enumerated, structured, path, tuple, tuple_struct, number}
+use Rattle.lalrpop_norm_pattern.specs.Patterns.{underscore, dot_dot, chosen, character, text}
+use Rattle.lalrpop_norm_pattern.specs.Patterns.{PatternData, pattern_at, Patterns, no_patterns, pattern_and}
+use Rattle.lalrpop_norm_pattern.specs.Patterns.{Fields, no_fields, field_and, FieldData}
 
 -- the pattern with each chosen part put through f
 abbrev mutual

@@ -17,7 +17,8 @@ abbrev mutual
   pattern_kind_text (enumerated p ps) =
       Some (path_text p) ++? (Some (codes "(") ++? joined_known (codes ", ") (pattern_texts ps) ++? Some (codes ")"))
   pattern_kind_text (structured p fs rest) =
-      Some (path_text p) ++? Some (codes " { ") ++? joined_known (codes ", ") (field_texts fs ++ rest_texts rest) ++? Some (codes " }")
+      Some (path_text p) ++? Some (codes " { ") ++? joined_known (codes ", ") (field_texts fs
+      ++ rest_texts rest) ++? Some (codes " }")
   pattern_kind_text (path p) = Some (path_text p)
   pattern_kind_text (tuple ps) = Some (codes "(") ++? joined_known (codes ", ") (pattern_texts ps) ++? Some (codes ")")
   pattern_kind_text (tuple_struct p ps) =

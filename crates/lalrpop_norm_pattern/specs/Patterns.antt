@@ -61,10 +61,12 @@ pattern_kind_step f (PatternKind-F.Choose t) = chosen (f t)
 pattern_kind_step f (PatternKind-F.CharLiteral a) = character a
 pattern_kind_step f (PatternKind-F.String s) = text (string_bytes s)
 
-abbrev pub field_step : {T V : Type 0} → (T → V) → FieldPattern-F T (PatternKindData V) (FieldData V) (PatternData V) → FieldData V
+abbrev pub field_step : {T V : Type 0} → (T → V) →
+    FieldPattern-F T (PatternKindData V) (FieldData V) (PatternData V) → FieldData V
 field_step f p = record { span = p.field_span; name = p.field_name; pattern = p.pattern }
 
-abbrev pub pattern_step : {T V : Type 0} → (T → V) → Pattern-F T (PatternKindData V) (FieldData V) (PatternData V) → PatternData V
+abbrev pub pattern_step : {T V : Type 0} → (T → V) →
+    Pattern-F T (PatternKindData V) (FieldData V) (PatternData V) → PatternData V
 pattern_step f p = pattern_at p.span p.kind
 
 -- a pattern with each chosen part seen through f
@@ -73,10 +75,12 @@ pattern_kind_view {T} {V} f =
     fold-PatternKind T (PatternKindData V) (FieldData V) (PatternData V) (pattern_kind_step f) (field_step f) (pattern_step f)
 
 abbrev pub pattern_view : {T V : Type 0} → (T → V) → Pattern T → PatternData V
-pattern_view {T} {V} f = fold-Pattern T (PatternKindData V) (FieldData V) (PatternData V) (pattern_kind_step f) (field_step f) (pattern_step f)
+pattern_view {T} {V} f =
+    fold-Pattern T (PatternKindData V) (FieldData V) (PatternData V) (pattern_kind_step f) (field_step f) (pattern_step f)
 
 abbrev pub field_view : {T V : Type 0} → (T → V) → FieldPattern T → FieldData V
-field_view {T} {V} f = fold-FieldPattern T (PatternKindData V) (FieldData V) (PatternData V) (pattern_kind_step f) (field_step f) (pattern_step f)
+field_view {T} {V} f =
+    fold-FieldPattern T (PatternKindData V) (FieldData V) (PatternData V) (pattern_kind_step f) (field_step f) (pattern_step f)
 
 abbrev pub patterns_view : {T V : Type 0} → (T → V) → List (Pattern T) → Patterns V
 patterns_view f ps = patterns_of (map (pattern_view f) ps)

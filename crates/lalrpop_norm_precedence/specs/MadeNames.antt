@@ -1,6 +1,7 @@
 -- The names that are made for levels.
 use Rattle.std.specs.Prelude.{ℕ, List, [], ◌∷◌, map, flat_map}
-use Rattle.lalrpop_norm_tree.specs.Items.{RuleData, ItemData, GrammarData, match_item, extern_item, intern_item, rule_item, use_item}
+use Rattle.lalrpop_norm_tree.specs.Items.{RuleData, ItemData, GrammarData, match_item}
+use Rattle.lalrpop_norm_tree.specs.Items.{extern_item, intern_item, rule_item, use_item}
 use Rattle.lalrpop_norm_model.specs.LevelRules.{level_rules}
 
 abbrev pub rule_name : RuleData → List ℕ

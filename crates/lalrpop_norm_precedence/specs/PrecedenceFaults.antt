@@ -1,4 +1,5 @@
--- The faults that `expand_precedence` looks for: of names in the grammar, then of its levels, then of names in the grammar with levels.
+-- The faults that `expand_precedence` looks for: of names in the grammar, then of its levels, then of names in the grammar with
+-- levels.
 use Rattle.std.specs.Prelude.{ℕ, List, [], ◌∷◌, ◌++◌, map, flat_map, Option, Some, None, if◌then◌else◌}
 use Rattle.lalrpop_norm_tree.specs.Items.{RuleData, ItemData, GrammarData, match_item, extern_item, intern_item, rule_item}
 use Rattle.lalrpop_norm_tree.specs.Items.{use_item}
@@ -30,7 +31,8 @@ level_rule_faults ds r ps l =
 -- the faults of names in the rules of the levels of a rule
 abbrev pub level_rules_faults : List Global → RuleData → List Fault
 level_rules_faults ds r =
-    if has_levels (all_places r) then flat_map (level_rule_faults ds r (with_levels (all_places r))) (levels_of (with_levels (all_places r)))
+    if has_levels (all_places r) then flat_map (level_rule_faults ds r (with_levels (all_places r)))
+    (levels_of (with_levels (all_places r)))
     else rule_name_faults ds r
 
 abbrev pub level_items_faults : List Global → ItemData → List Fault

@@ -29,7 +29,8 @@ abbrev mutual
   pub substituted_parts : (List ℕ → Bool) → (ℕ → ℕ → Kind) → ℕ → ℕ → Parts → Parts
   substituted_parts own kind before after no_parts = no_parts
   substituted_parts own kind before after (part_and p ps) =
-      part_and (substituted_part own kind before (after + count_parts own ps) p) (substituted_parts own kind (before + count_part own p) after ps)
+      part_and (substituted_part own kind before (after + count_parts own ps) p)
+      (substituted_parts own kind (before + count_part own p) after ps)
 
 -- whether one was met, after so many more
 abbrev pub once_met : Bool → ℕ → Bool
@@ -44,4 +45,5 @@ count_each own (p ∷ ps) = count_part own p + count_each own ps
 abbrev pub substituted_each : (List ℕ → Bool) → (ℕ → ℕ → Kind) → ℕ → ℕ → List Part → List Part
 substituted_each own kind before after [] = []
 substituted_each own kind before after (p ∷ ps) =
-    substituted_part own kind before (after + count_each own ps) p ∷ substituted_each own kind (before + count_part own p) after ps
+    substituted_part own kind before (after + count_each own ps) p
+    ∷ substituted_each own kind (before + count_part own p) after ps

@@ -40,5 +40,7 @@ IsClosedEntry g r = All (IsClosedProduction g r.0) r.1.productions
 -- each production is closed, and each terminal has its place as its number, so that none is there twice
 pub record IsClosed (g : LoweredGrammar) : Type 0 where
   pub productions : All (IsClosedEntry g) g.nonterminals
-  pub numbers : (t : TerminalString) (i : ℕ) → slice_get g.terminals.all i ≡ Some t → found_terminal t g.terminals.bits ≡ Some i
-  pub distinct : (t : TerminalString) (i j : ℕ) → slice_get g.terminals.all i ≡ Some t → slice_get g.terminals.all j ≡ Some t → i ≡ j
+  pub numbers : (t : TerminalString) (i : ℕ) → slice_get g.terminals.all i ≡ Some t →
+      found_terminal t g.terminals.bits ≡ Some i
+  pub distinct : (t : TerminalString) (i j : ℕ) → slice_get g.terminals.all i ≡ Some t →
+      slice_get g.terminals.all j ≡ Some t → i ≡ j

@@ -50,7 +50,8 @@ lookaround_text Lookbehind = codes "Lookbehind"
 
 -- `fn _(..) { ActionFn(22)(Y, ActionFn(44)(B, C)) }`
 abbrev pub inline_text : ActionFn → List ArgumentData → List ℕ
-inline_text a arguments = codes "fn _(..) { " ++ action_text a ++ codes "(" ++ joined (codes ", ") (map argument_text arguments) ++ codes ") }"
+inline_text a arguments =
+    codes "fn _(..) { " ++ action_text a ++ codes "(" ++ joined (codes ", ") (map argument_text arguments) ++ codes ") }"
 
 -- what does that and answers the type
 abbrev pub action_kind_text : ActionKindData → ReprData → List ℕ

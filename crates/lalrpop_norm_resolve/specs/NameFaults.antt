@@ -96,7 +96,8 @@ alternative_name_faults sense a = condition_faults sense a.condition ++ parts_na
 
 -- in each rule a name means the rule's argument, else the global definition
 abbrev pub rule_name_faults : List Global → RuleData → List Fault
-rule_name_faults ds r = repeated_argument_faults r.span r.args ++ flat_map (alternative_name_faults (sense_of ds r.args)) r.alternatives
+rule_name_faults ds r =
+    repeated_argument_faults r.span r.args ++ flat_map (alternative_name_faults (sense_of ds r.args)) r.alternatives
 
 abbrev pub item_name_faults : List Global → ItemData → List Fault
 item_name_faults ds (rule_item r) = rule_name_faults ds r

@@ -76,7 +76,8 @@ names_faults is = repeated_faults [] (items_globals is) ++ flat_map (item_name_f
 -- ---- rules and items by a table
 
 abbrev pub rule_faults_in : BTreeMap Atom Def → RuleData → List Fault
-rule_faults_in m r = repeated_argument_faults r.span r.args ++ flat_map (alternative_name_faults (sense_in m r.args)) r.alternatives
+rule_faults_in m r =
+    repeated_argument_faults r.span r.args ++ flat_map (alternative_name_faults (sense_in m r.args)) r.alternatives
 
 abbrev pub resolved_rule_in : BTreeMap Atom Def → RuleData → RuleData
 resolved_rule_in m r = record r { alternatives = map (resolved_alternative (sense_in m r.args)) r.alternatives }

@@ -30,15 +30,18 @@ pub record OneToOne (M : Meaning) (name : ClosedSymbol → Name) (P : Production
 -- In a lowered grammar that realizes the known symbols, the trees of each known symbol are one to one.
 abbrev pub TreesAreOneToOne : Type 0
 TreesAreOneToOne = (M : Meaning) → HasCounts M → HasLevels M →
-    (name : ClosedSymbol → Name) (P : ProductionTable) (declared met : List ClosedSymbol) → Realizes M name P (IsKnown declared met) →
+    (name : ClosedSymbol → Name) (P : ProductionTable) (declared met : List ClosedSymbol) →
+    Realizes M name P (IsKnown declared met) →
     (g : ClosedSymbol) → IsKnown declared met g → OneToOne M name P g
 
 -- A word has a written tree exactly where it has a lowered one.
 abbrev pub WordsAreTheSame : Type 0
 WordsAreTheSame = (M : Meaning) → HasCounts M → HasLevels M →
-    (name : ClosedSymbol → Name) (P : ProductionTable) (declared met : List ClosedSymbol) → Realizes M name P (IsKnown declared met) →
+    (name : ClosedSymbol → Name) (P : ProductionTable) (declared met : List ClosedSymbol) →
+    Realizes M name P (IsKnown declared met) →
     (g : ClosedSymbol) → IsKnown declared met g → (w : List Terminal) →
-    ((t : WrittenTree) × IsTreeOf M t g × (yield t ≡ w)) ↔ ((u : LoweredTree) × IsDerivation P u (symbol_of name g) × (lowered_yield u ≡ w))
+    ((t : WrittenTree) × IsTreeOf M t g × (yield t ≡ w))
+    ↔ ((u : LoweredTree) × IsDerivation P u (symbol_of name g) × (lowered_yield u ≡ w))
 
 -- the translations answer trees that pair with their arguments, and each undoes the other
 pub record TranslationsFit (M : Meaning) (name : ClosedSymbol → Name) (P : ProductionTable) (g : ClosedSymbol) : Type 0 where
@@ -49,21 +52,25 @@ pub record TranslationsFit (M : Meaning) (name : ClosedSymbol → Name) (P : Pro
   pub back_forward : (t : WrittenTree) → IsTreeOf M t g → written_tree P (lowered_tree M name t g) ≡ t
   pub forward_back : (u : LoweredTree) → IsDerivation P u (symbol_of name g) → lowered_tree M name (written_tree P u) g ≡ u
   -- what pairs is what the translations make of one another
-  pub paired : (t : WrittenTree) (u : LoweredTree) → Pairs M name g t u → (lowered_tree M name t g ≡ u) × (written_tree P u ≡ t)
+  pub paired : (t : WrittenTree) (u : LoweredTree) → Pairs M name g t u →
+      (lowered_tree M name t g ≡ u) × (written_tree P u ≡ t)
 
 -- In a lowered grammar that realizes the known symbols, the translations of each known symbol fit.
 abbrev pub TranslationsAreInverse : Type 0
 TranslationsAreInverse = (M : Meaning) → HasCounts M → HasLevels M →
-    (name : ClosedSymbol → Name) (P : ProductionTable) (declared met : List ClosedSymbol) → Realizes M name P (IsKnown declared met) →
+    (name : ClosedSymbol → Name) (P : ProductionTable) (declared met : List ClosedSymbol) →
+    Realizes M name P (IsKnown declared met) →
     (g : ClosedSymbol) → IsKnown declared met g → TranslationsFit M name P g
 
 -- The list of rules of an expansion that stands is a lowered grammar that realizes its symbols, and the roots.
 abbrev pub RulesRealize : Type 0
-RulesRealize = (M : Meaning) (name : ClosedSymbol → Name) (roots declared met : List ClosedSymbol) → Stands M name roots declared met →
+RulesRealize =
+    (M : Meaning) (name : ClosedSymbol → Name) (roots declared met : List ClosedSymbol) → Stands M name roots declared met →
     Realizes M name (table (map (rule_of_symbol M name) (declared ++ met))) (IsKnown (roots ++ declared) met)
 
 -- the written trees of g and the trees of the grammar with levels stand one to one, with the same words and alternatives
-pub record StepsAreOneToOne (M L : Meaning) (l : Name → ℕ → Name) (origin : Name → ℕ → Origin) (g : ClosedSymbol) : Type 0 where
+pub record StepsAreOneToOne (M L : Meaning) (l : Name → ℕ → Name) (origin : Name → ℕ →
+    Origin) (g : ClosedSymbol) : Type 0 where
   pub down : (t : WrittenTree) → IsTreeOf M t g → ExactlyOne (λ m. IsTreeOf L m (leveled_symbol l g) × Steps M l g t m)
   pub up : (m : WrittenTree) → IsTreeOf L m (leveled_symbol l g) → ExactlyOne (λ t. IsTreeOf M t g × Steps M l g t m)
   pub same_yields : (t m : WrittenTree) → Steps M l g t m → yield t ≡ yield m
@@ -87,10 +94,14 @@ pub record PairsInTwoSteps (M L : Meaning) (l : Name → ℕ → Name) (origin :
 
 -- For resolved symbols that are known in the grammar with levels, the pairing is made of two steps.
 abbrev pub LevelsAreTwoSteps : Type 0
-LevelsAreTwoSteps = (M L : Meaning) (l : Name → ℕ → Name) (origin : Name → ℕ → Origin) (references : List ClosedSymbol) →
-    IsResolved M references → IsLeveled M L l origin references → HasCounts M → HasLevels M → HasCounts L → HasLevels L →
-    (name : ClosedSymbol → Name) (P : ProductionTable) (declared met : List ClosedSymbol) → Realizes L name P (IsKnown declared met) →
-    (g : ClosedSymbol) → IsResolvedIn references g → IsKnown declared met (leveled_symbol l g) → PairsInTwoSteps M L l origin name P g
+LevelsAreTwoSteps =
+    (M L : Meaning) (l : Name → ℕ → Name) (origin : Name → ℕ → Origin) (references : List ClosedSymbol) →
+    IsResolved M references → IsLeveled M L l origin references → HasCounts M → HasLevels M →
+    HasCounts L → HasLevels L →
+    (name : ClosedSymbol → Name) (P : ProductionTable) (declared met : List ClosedSymbol) →
+    Realizes L name P (IsKnown declared met) →
+    (g : ClosedSymbol) → IsResolvedIn references g → IsKnown declared met (leveled_symbol l g) →
+    PairsInTwoSteps M L l origin name P g
 
 -- What is new in round k + 1 is what has a chain of k + 1 rules and no shorter one.
 abbrev pub RoundsAreShortestChains : Type 0
@@ -102,7 +113,8 @@ RoundsAreShortestChains = (M : Meaning) (declared : List ClosedSymbol) (k : ℕ)
 abbrev pub RoundsAreInOrder : Type 0
 RoundsAreInOrder = (M : Meaning) (declared : List ClosedSymbol) →
     IsInOrderOf (expansion M declared 0).fresh (flat_map (rule_meets M) declared)
-    × ((k : ℕ) → IsInOrderOf (expansion M declared (suc k)).fresh (flat_map (rule_meets M) (reverse (expansion M declared k).fresh)))
+    × ((k : ℕ) → IsInOrderOf (expansion M declared (suc k)).fresh
+    (flat_map (rule_meets M) (reverse (expansion M declared k).fresh)))
 
 -- Exactly one rule is made of each symbol that is new in some round, and none of any other.
 abbrev pub RulesAreMadeOnce : Type 0
@@ -144,7 +156,8 @@ ExpansionsStand = (M : Meaning) → HasLevels M → (declared : List ClosedSymbo
 -- The whole way: where an expansion of a resolved grammar has nothing new and each name means one rule, the trees of each
 -- known symbol and of each root are one to one with those of the rules made.
 abbrev pub ExpansionsAreOneToOne : Type 0
-ExpansionsAreOneToOne = (M : Meaning) → HasCounts M → HasLevels M → (declared : List ClosedSymbol) → IsResolved M declared →
+ExpansionsAreOneToOne =
+    (M : Meaning) → HasCounts M → HasLevels M → (declared : List ClosedSymbol) → IsResolved M declared →
     ((g : ClosedSymbol) → In g declared → IsResolvedIn declared g) →
     (k : ℕ) → (expansion M declared k).fresh ≡ [] →
     (name : ClosedSymbol → Name) → OneRuleAName M name (declared ++ expanded_symbols M declared k) →

@@ -33,16 +33,19 @@ abbrev mutual
 
 -- L is the grammar with levels of M: place p of the rule of a declared level is its p-th clause, no rule has levels, macros
 -- keep their numbers, and each alternative has its origin in M.
-pub record IsLeveled (M L : Meaning) (l : Name → ℕ → Name) (origin : Name → ℕ → Origin) (declared : List ClosedSymbol) : Type 0 where
+pub record IsLeveled (M L : Meaning) (l : Name → ℕ → Name) (origin : Name → ℕ →
+    Origin) (declared : List ClosedSymbol) : Type 0 where
   pub rules : (n : Name) (b : Option ℕ) (p : ℕ) → In (reference n b) declared →
-      L.reference_parts (level_reference l n b) None p ≡ option_map (λ c. leveled_symbols l c.parts) (slice_get (clauses M (reference n b)) p)
+      L.reference_parts (level_reference l n b) None p
+      ≡ option_map (λ c. leveled_symbols l c.parts) (slice_get (clauses M (reference n b)) p)
   pub flat : (n : Name) → L.previous n None ≡ None
   pub macros : (n : Name) (args : ClosedSymbols) (k : ℕ) →
       L.call_parts n (leveled_symbols l args) k ≡ option_map (leveled_symbols l) (M.call_parts n args k)
   pub macro_counts : (n : Name) → L.call_count n ≡ M.call_count n
   pub rule_origins : (n : Name) (b : Option ℕ) (p : ℕ) (c : Clause) → In (reference n b) declared →
       slice_get (clauses M (reference n b)) p ≡ Some c → origin (level_reference l n b) p ≡ c.origin
-  pub macro_origins : (n : Name) (args : ClosedSymbols) (k : ℕ) (parts : ClosedSymbols) → M.call_parts n args k ≡ Some parts →
+  pub macro_origins : (n : Name) (args : ClosedSymbols) (k : ℕ) (parts : ClosedSymbols) →
+      M.call_parts n args k ≡ Some parts →
       origin n k ≡ written n k
 
 -- the origin in the written grammar of what has an origin in the grammar with levels

@@ -20,8 +20,10 @@ pub record Meaning : Type 0 where
 
 -- each alternative with parts is one of those counted
 pub record HasCounts (M : Meaning) : Type 0 where
-  pub of_rules : (n : Name) (b : Option ℕ) (k : ℕ) (parts : ClosedSymbols) → M.own_parts n b k ≡ Some parts → k < M.reference_count n
-  pub of_calls : (n : Name) (args : ClosedSymbols) (k : ℕ) (parts : ClosedSymbols) → M.call_parts n args k ≡ Some parts → k < M.call_count n
+  pub of_rules : (n : Name) (b : Option ℕ) (k : ℕ) (parts : ClosedSymbols) →
+      M.own_parts n b k ≡ Some parts → k < M.reference_count n
+  pub of_calls : (n : Name) (args : ClosedSymbols) (k : ℕ) (parts : ClosedSymbols) →
+      M.call_parts n args k ≡ Some parts → k < M.call_count n
 
 -- The alternatives within a bound are those of its own level, and those within the bound one level down, which are others.
 pub record HasLevels (M : Meaning) : Type 0 where
@@ -34,4 +36,5 @@ pub record HasLevels (M : Meaning) : Type 0 where
       M.reference_parts n c k ≡ Some parts → M.own_parts n b k ≡ None
   pub split : (n : Name) (b : Option ℕ) (k : ℕ) (parts : ClosedSymbols) → M.reference_parts n b k ≡ Some parts →
       (M.own_parts n b k ≡ Some parts) ⊎
-      ((c : Option ℕ) × (M.own_parts n b k ≡ None) × (M.previous n b ≡ Some c) × (M.reference_parts n c k ≡ Some parts))
+      ((c : Option ℕ) × (M.own_parts n b k ≡ None) × (M.previous n b ≡ Some c)
+      × (M.reference_parts n c k ≡ Some parts))

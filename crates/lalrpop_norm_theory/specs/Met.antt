@@ -94,6 +94,7 @@ abbrev mutual
 pub record IsResolved (M : Meaning) (declared : List ClosedSymbol) : Type 0 where
   pub rules : (n : Name) (b : Option ℕ) (k : ℕ) (parts : ClosedSymbols) → In (reference n b) declared →
       M.reference_parts n b k ≡ Some parts → AreResolvedIn declared parts
-  pub levels : (n : Name) (b c : Option ℕ) → In (reference n b) declared → M.previous n b ≡ Some c → In (reference n c) declared
+  pub levels : (n : Name) (b c : Option ℕ) → In (reference n b) declared → M.previous n b ≡ Some c →
+      In (reference n c) declared
   pub macros : (n : Name) (args : ClosedSymbols) (k : ℕ) (parts : ClosedSymbols) → AreResolvedIn declared args →
       M.call_parts n args k ≡ Some parts → AreResolvedIn declared parts

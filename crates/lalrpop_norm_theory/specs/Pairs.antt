@@ -50,11 +50,14 @@ mutual
         (lowered_node (name (plus x)) 1 (lowered_and v (lowered_and w no_lowered)))
     question_some_pair : (x : ClosedSymbol) (t : WrittenTree) (u : LoweredTree) → Pairs M name x t u →
         Pairs M name (question x) (list (tree_and t no_trees)) (lowered_node (name (question x)) 0 (lowered_and u no_lowered))
-    question_empty_pair : (x : ClosedSymbol) → Pairs M name (question x) (list no_trees) (lowered_node (name (question x)) 1 no_lowered)
+    question_empty_pair : (x : ClosedSymbol) → Pairs M name (question x) (list no_trees)
+        (lowered_node (name (question x)) 1 no_lowered)
 
   -- the trees pair one by one
-  pub data AllPairs (M : Meaning) (name : ClosedSymbol → Name) : ClosedSymbols → WrittenTrees → LoweredTrees → Type 0 where
+  pub data AllPairs (M : Meaning) (name : ClosedSymbol → Name) : ClosedSymbols → WrittenTrees →
+      LoweredTrees → Type 0 where
     no_pairs : AllPairs M name no_symbols no_trees no_lowered
-    pair_and : (g : ClosedSymbol) (gs : ClosedSymbols) (t : WrittenTree) (ts : WrittenTrees) (u : LoweredTree) (us : LoweredTrees) →
+    pair_and : (g : ClosedSymbol) (gs : ClosedSymbols) (t : WrittenTree) (ts : WrittenTrees)
+        (u : LoweredTree) (us : LoweredTrees) →
         Pairs M name g t u → AllPairs M name gs ts us →
         AllPairs M name (symbol_and g gs) (tree_and t ts) (lowered_and u us)

@@ -20,14 +20,18 @@ mutual
     wrapped_kept : (w : Wrapper) (g : ClosedSymbol) (t m : WrittenTree) → Steps M l g t m → Steps M l (wrapped w g) t m
     lookahead_kept : Steps M l lookahead nothing nothing
     lookbehind_kept : Steps M l lookbehind nothing nothing
-    group_kept : (gs : ClosedSymbols) (ts ms : WrittenTrees) → AllSteps M l gs ts ms → Steps M l (group gs) (list ts) (list ms)
+    group_kept : (gs : ClosedSymbols) (ts ms : WrittenTrees) → AllSteps M l gs ts ms →
+        Steps M l (group gs) (list ts) (list ms)
     star_kept : (x : ClosedSymbol) (ts ms : WrittenTrees) → EachSteps M l x ts ms → Steps M l (star x) (list ts) (list ms)
-    plus_kept : (x : ClosedSymbol) (ts ms : WrittenTrees) → IsNonempty ts → EachSteps M l x ts ms → Steps M l (plus x) (list ts) (list ms)
+    plus_kept : (x : ClosedSymbol) (ts ms : WrittenTrees) → IsNonempty ts → EachSteps M l x ts ms →
+        Steps M l (plus x) (list ts) (list ms)
     question_kept : (x : ClosedSymbol) (ts ms : WrittenTrees) → IsAtMostOne ts → EachSteps M l x ts ms →
         Steps M l (question x) (list ts) (list ms)
-    call_kept : (n : Name) (k : ℕ) (args parts : ClosedSymbols) (ts ms : WrittenTrees) → M.call_parts n args k ≡ Some parts →
+    call_kept : (n : Name) (k : ℕ) (args parts : ClosedSymbols) (ts ms : WrittenTrees) →
+        M.call_parts n args k ≡ Some parts →
         AllSteps M l parts ts ms → Steps M l (call n args) (node n k ts) (node n k ms)
-    at_level : (n : Name) (k p : ℕ) (b : Option ℕ) (parts : ClosedSymbols) (ts ms : WrittenTrees) → M.own_parts n b k ≡ Some parts →
+    at_level : (n : Name) (k p : ℕ) (b : Option ℕ) (parts : ClosedSymbols) (ts ms : WrittenTrees) →
+        M.own_parts n b k ≡ Some parts →
         slice_get (clauses M (reference n b)) p ≡ Some (clause (written n k) parts) →
         AllSteps M l parts ts ms → Steps M l (reference n b) (node n k ts) (node (level_reference l n b) p ms)
     below_level : (n : Name) (p : ℕ) (b c : Option ℕ) (t m : WrittenTree) → M.previous n b ≡ Some c →
@@ -37,7 +41,8 @@ mutual
   -- one by one, symbol by symbol
   pub data AllSteps (M : Meaning) (l : Name → ℕ → Name) : ClosedSymbols → WrittenTrees → WrittenTrees → Type 0 where
     all_done : AllSteps M l no_symbols no_trees no_trees
-    all_and : (g : ClosedSymbol) (gs : ClosedSymbols) (t : WrittenTree) (ts : WrittenTrees) (m : WrittenTree) (ms : WrittenTrees) →
+    all_and : (g : ClosedSymbol) (gs : ClosedSymbols) (t : WrittenTree) (ts : WrittenTrees)
+        (m : WrittenTree) (ms : WrittenTrees) →
         Steps M l g t m → AllSteps M l gs ts ms → AllSteps M l (symbol_and g gs) (tree_and t ts) (tree_and m ms)
 
   -- one by one, all of one symbol
@@ -74,7 +79,8 @@ abbrev mutual
 abbrev pub own_level : Meaning → (Name → ℕ → Name) → Name → ℕ → (ClosedSymbols → WrittenTrees) →
     Option ℕ → Option ClosedSymbols → WrittenTree → WrittenTree
 own_level M l n k children b None below = below
-own_level M l n k children b (Some parts) below = node (level_reference l n b) (lowered_place (M.own_parts n b) 0 k) (children parts)
+own_level M l n k children b (Some parts) below =
+    node (level_reference l n b) (lowered_place (M.own_parts n b) 0 k) (children parts)
 
 -- a step to the level below, if there is one
 abbrev pub step_level : Meaning → (Name → ℕ → Name) → Name → Option ℕ → Option (Option ℕ) →

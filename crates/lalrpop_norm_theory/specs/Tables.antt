@@ -14,10 +14,13 @@ AllKnown Known (symbol_and g gs) = Known g × AllKnown Known gs
 
 -- P has, under the name of each known symbol, the productions of its clauses; and what a known symbol's rule is made of is
 -- known.
-pub record Realizes (M : Meaning) (name : ClosedSymbol → Name) (P : ProductionTable) (Known : ClosedSymbol → Type 0) : Type 0 where
-  pub productions : (g : ClosedSymbol) → IsNonterminal g → Known g → P (name g) ≡ map (clause_production name) (clauses M g)
+pub record Realizes (M : Meaning) (name : ClosedSymbol →
+    Name) (P : ProductionTable) (Known : ClosedSymbol → Type 0) : Type 0 where
+  pub productions : (g : ClosedSymbol) → IsNonterminal g → Known g →
+      P (name g) ≡ map (clause_production name) (clauses M g)
   pub inner : (w : Wrapper) (g : ClosedSymbol) → Known (wrapped w g) → Known g
-  pub parts_known : (g : ClosedSymbol) (p : ℕ) (c : Clause) → Known g → slice_get (clauses M g) p ≡ Some c → AllKnown Known c.parts
+  pub parts_known : (g : ClosedSymbol) (p : ℕ) (c : Clause) → Known g →
+      slice_get (clauses M g) p ≡ Some c → AllKnown Known c.parts
 
 -- a rule of a lowered grammar
 pub record Rule : Type 0 where
@@ -46,7 +49,8 @@ pub record Stands (M : Meaning) (name : ClosedSymbol → Name) (roots declared m
   pub distinct : OneRuleAName M name (declared ++ met)
   pub shared : (g : ClosedSymbol) → In g roots → SharesRule M name declared g
   -- each reference in a rule is declared
-  pub resolved : (g : ClosedSymbol) → In g (declared ++ met) → (p : ℕ) (c : Clause) → slice_get (clauses M g) p ≡ Some c →
+  pub resolved : (g : ClosedSymbol) → In g (declared ++ met) → (p : ℕ) (c : Clause) →
+      slice_get (clauses M g) p ≡ Some c →
       AreDeclaredIn declared c.parts
   -- what a rule meets is met
   pub done : (g h : ClosedSymbol) → In g (declared ++ met) → In h (rule_meets M g) → In h met

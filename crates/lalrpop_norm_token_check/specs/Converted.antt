@@ -13,11 +13,13 @@ use Rattle.lalrpop_norm_token_check.specs.Keys.{terminal_in}
 -- F39 where the terminal of a conversion is among the keys when its turn comes
 abbrev pub twice_from : List TerminalString → List ConversionData → List Fault
 twice_from keys [] = []
-twice_from keys (c ∷ cs) = fault_if (terminal_in keys c.from) (TerminalTwice, c.span) ++ twice_from (insert_key terminal_cmp keys c.from) cs
+twice_from keys (c ∷ cs) =
+    fault_if (terminal_in keys c.from) (TerminalTwice, c.span) ++ twice_from (insert_key terminal_cmp keys c.from) cs
 
 -- the terminals that stand somewhere and have no conversion
 abbrev pub unconverted_faults : List ConversionData → List (TerminalString × Span) → List Fault
-unconverted_faults cs uses = flat_map (λ (p : TerminalString × Span). fault_if (not (has_conversion cs p.0)) (NoPattern, p.1)) uses
+unconverted_faults cs uses =
+    flat_map (λ (p : TerminalString × Span). fault_if (not (has_conversion cs p.0)) (NoPattern, p.1)) uses
 
 -- the faults of an extern enum and of the terminals used
 abbrev pub converted_faults : EnumTokenData → List (TerminalString × Span) → List Fault

@@ -1,5 +1,6 @@
 -- The entries of a grammar as they are found: those that the match block writes, item by item, then those of the literals used.
-use Rattle.std.specs.Prelude.{ℕ, Bool, false, not, ◌&&◌, List, [], ◌∷◌, ◌++◌, Option, Some, None, is_none, is_some}
+use Rattle.std.specs.Prelude.{ℕ, Bool, false, not, ◌&&◌, List, []}
+use Rattle.std.specs.Prelude.{◌∷◌, ◌++◌, Option, Some, None, is_none, is_some}
 use Rattle.std.specs.Prelude.{if◌then◌else◌}
 use Rattle.std.specs.BTreeMap.{insert_entry}
 use Rattle.std.specs.BTreeSet.{insert_key}
@@ -65,7 +66,8 @@ with_item precedence f (CatchAll s) = f
 
 abbrev pub found_items_faults : ℕ → FoundData → List MatchItem → List Fault
 found_items_faults precedence f [] = []
-found_items_faults precedence f (i ∷ items) = found_item_faults f i ++ found_items_faults precedence (with_item precedence f i) items
+found_items_faults precedence f (i ∷ items) =
+    found_item_faults f i ++ found_items_faults precedence (with_item precedence f i) items
 
 abbrev pub with_items : ℕ → FoundData → List MatchItem → FoundData
 with_items precedence f [] = f
@@ -74,7 +76,8 @@ with_items precedence f (i ∷ items) = with_items precedence (with_item precede
 abbrev pub groups_faults : FoundData → List (List MatchItem) → List Fault
 groups_faults f [] = []
 groups_faults f (items ∷ groups) =
-    found_items_faults (precedence_of (items ∷ groups)) f items ++ groups_faults (with_items (precedence_of (items ∷ groups)) f items) groups
+    found_items_faults (precedence_of (items ∷ groups)) f items
+    ++ groups_faults (with_items (precedence_of (items ∷ groups)) f items) groups
 
 abbrev pub with_groups : FoundData → List (List MatchItem) → FoundData
 with_groups f [] = f
@@ -117,7 +120,8 @@ with_terminal precedence f Error s = f
 abbrev pub uses_faults : Option ℕ → FoundData → List (TerminalString × Span) → List Fault
 uses_faults precedence f [] = []
 uses_faults precedence f (u ∷ uses) =
-    fault_if (lacks_entry precedence f.names u.0) (NoMapping, u.1) ++ uses_faults precedence (with_terminal precedence f u.0 u.1) uses
+    fault_if (lacks_entry precedence f.names u.0) (NoMapping, u.1)
+    ++ uses_faults precedence (with_terminal precedence f u.0 u.1) uses
 
 abbrev pub with_uses : Option ℕ → FoundData → List (TerminalString × Span) → FoundData
 with_uses precedence f [] = f

@@ -128,7 +128,8 @@ pub record ConversionData : Type 0 where
   pub to : PatternData TypeData
 
 abbrev pub conversion_view : Conversion → ConversionData
-conversion_view c = record { span = c.span; attributes = attributes_view c.attributes.items; from = c.from; to = pattern_view type_view c.to }
+conversion_view c =
+    record { span = c.span; attributes = attributes_view c.attributes.items; from = c.from; to = pattern_view type_view c.to }
 
 pub record EnumTokenData : Type 0 where
   pub type_name : TypeData
@@ -136,7 +137,8 @@ pub record EnumTokenData : Type 0 where
   pub conversions : List ConversionData
 
 abbrev pub enum_token_view : EnumToken → EnumTokenData
-enum_token_view e = record { type_name = type_view e.type_name; type_span = e.type_span; conversions = map conversion_view e.conversions.items }
+enum_token_view e =
+    record { type_name = type_view e.type_name; type_span = e.type_span; conversions = map conversion_view e.conversions.items }
 
 pub record ExternTokenData : Type 0 where
   pub span : Span

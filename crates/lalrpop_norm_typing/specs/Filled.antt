@@ -23,4 +23,5 @@ pub record HasAllRows (g : GrammarData) (types : TypeTable) : Type 0 where
 
 -- F49, then F50, then F51 to F53 by a table
 abbrev pub table_faults : List TypeParameter → TypeTable → List RuleData → List Fault
-table_faults ps tt rs = flat_map (untyped_in tt) rs ++ (flat_map (others_in ps tt) rs ++ flat_map (rule_misfits (type_by_name tt)) rs)
+table_faults ps tt rs =
+    flat_map (untyped_in tt) rs ++ (flat_map (others_in ps tt) rs ++ flat_map (rule_misfits (type_by_name tt)) rs)

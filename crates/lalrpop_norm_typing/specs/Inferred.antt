@@ -18,7 +18,8 @@ pub record IsInferred (plain : GrammarData) (types : TypeTable) : Type 0 where
   pub names_in_order : IsStrictlySortedBy name_cmp (keys_of types.nonterminals)
   pub terminals : (t : TerminalString) → listed_type t types ≡ row_of t (terminal_rows plain)
   pub terminals_in_order : IsStrictlySortedBy terminal_cmp (keys_of types.terminals)
-  pub rest : types ≡ record (new_table plain.prefix (declared_location plain) (declared_under (codes "Error") plain) (token_type plain)) {
-    terminals = types.terminals;
-    nonterminals = types.nonterminals;
-  }
+  pub rest : types ≡ record (new_table plain.prefix (declared_location plain)
+      (declared_under (codes "Error") plain) (token_type plain)) {
+        terminals = types.terminals;
+        nonterminals = types.nonterminals;
+      }

@@ -46,8 +46,8 @@ pub record IsReadBy (g : GrammarData) (ps : List TypeParameter) (tt : TypeTable)
   pub parameters : g.type_parameters ≡ ps
   pub tokens : HasTokens g tt
 
--- The visit of a rule of that name that may take that type, and whether it does: if not, the table stays as it is. A name that has a
--- type keeps it.
+-- The visit of a rule of that name that may take that type, and whether it does: if not, the table stays as it is. A name that
+-- has a type keeps it.
 pub record TakesType (before after : TypeTable) (n : List ℕ) (v : Option ReprData) (added : Bool) : Type 0 where
   pub table : (rows : List TypeRow) → HasRows before rows → HasRows after (taken rows n (table_of rows n) v)
   pub quiet : added ≡ false → type_by_name before n ≡ None → v ≡ None
@@ -59,7 +59,8 @@ pub record TakesType (before after : TypeTable) (n : List ℕ) (v : Option ReprD
 
 -- the visits of some rules
 pub record Passes (ps : List TypeParameter) (before after : TypeTable) (ss : List Seen) : Type 0 where
-  pub table : (g : GrammarData) → IsReadBy g ps before → (rows : List TypeRow) → HasRows before rows → HasRows after (visits_seen g rows ss)
+  pub table : (g : GrammarData) → IsReadBy g ps before → (rows : List TypeRow) → HasRows before rows →
+      HasRows after (visits_seen g rows ss)
   pub rest : after ≡ record before { nonterminals = after.nonterminals }
 
 -- so many rounds of visits

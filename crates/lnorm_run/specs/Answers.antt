@@ -56,8 +56,8 @@ pub record IsAnswer (s : Settings) (bytes text : List ℕ) : Type 0 where
   pub lowers : IsLowered s tree lowered
   pub printed : text ≡ lines lowered
 
--- The first fault of the tree that the input is, and where it stands; or one of its lexer that stands there, with no fault but of the
--- lexer before it.
+-- The first fault of the tree that the input is, and where it stands; or one of its lexer that stands there, with no fault but
+-- of the lexer before it.
 pub record IsFirstFault (s : Settings) (bytes : List ℕ) (fault : FaultKind) (span : Span) : Type 0 where
   pub tree : GrammarData
   pub form : IsFormOf tree bytes

@@ -17,7 +17,8 @@ WritesFront old new text = (n : ℕ) × (n ≤ length text) × Appends old new (
 -- the line of a fault, as `F36 12..20: ` and the message
 abbrev pub fault_line : FaultKind → Span → List ℕ → List ℕ
 fault_line fault span message =
-    code_of fault ++ (codes " " ++ (decimal span.0 ++ (codes ".." ++ (decimal span.1 ++ (codes ": " ++ (message ++ codes "\n"))))))
+    code_of fault ++ (codes " " ++ (decimal span.0
+    ++ (codes ".." ++ (decimal span.1 ++ (codes ": " ++ (message ++ codes "\n"))))))
 
 unfoldable pub usage_line : List ℕ
 usage_line = codes "lnorm: usage: lnorm [--limit N] [--feature F]...\n"

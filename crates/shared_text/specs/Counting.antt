@@ -1,8 +1,10 @@
 -- How the owners of one value are counted, in one thread, where the count saturates.
--- The value is lent to its owners for a lifetime, the first of a pair. While every owner is counted, each holds one part in 2 ^ 64 of that lifetime's token, so
--- the last one has the whole token and can end the loan. The second lifetime lasts while every owner is counted. It ends where an owner comes to a full count:
+-- The value is lent to its owners for a lifetime, the first of a pair. While every owner is counted, each holds one part in
+-- 2 ^ 64 of that lifetime's token, so the last one has the whole token and can end the loan. The second lifetime lasts while
+-- every owner is counted. It ends where an owner comes to a full count:
 -- from then on nobody can have the whole token, and an owner that comes gets a piece of what is left of it.
---     cell n      the count n        value      the value, with what frees its block        seen κ      what a `&κ` to the value holds
+-- cell n      the count n        value      the value, with what frees its block        seen κ      what a `&κ` to the value
+-- holds
 use Rattle.std.specs.Prelude.{◌≡◌, ℕ, ◌-◌, ◌^◌, Bool, true, false, [], ◌∷◌}
 use base.Fraction.{full_share}
 use base.Fml.{Lft, Key, Share, Fml, fsep, fex, fdead, flft, flent}

@@ -1,4 +1,5 @@
--- What a `Shared` owns and lends. Its pointer c is the place of a `Node`: a count, an allocator of the row A, and a value of the row T, in this order.
+-- What a `Shared` owns and lends. Its pointer c is the place of a `Node`: a count, an allocator of the row A, and a value of
+-- the row T, in this order.
 use Rattle.std.specs.Prelude.{ℕ, ◌+◌, []}
 use Rattle.std.specs.Borrow.{u64}
 use base.Fraction.{full_share}
@@ -37,7 +38,9 @@ module _ (A T : RattleType) where
   -- room for each of the three fields is room for a `Node`
   abbrev pub is_one_block : Ptr → Fml
   is_one_block c =
-      fwand (fsep (room_for (ty_int w64) (c +ₚ 0)) (fsep (room_for (raw (lone A.mir)) (c +ₚ allocator_begins)) (room_for (raw (lone T.mir)) (c +ₚ value_begins)))) (room_for node c)
+      fwand (fsep (room_for (ty_int w64) (c +ₚ 0))
+      (fsep (room_for (raw (lone A.mir)) (c +ₚ allocator_begins))
+      (room_for (raw (lone T.mir)) (c +ₚ value_begins)))) (room_for node c)
 
   module _ (may_free : A.Denot → Ty → Ptr → Fml) (c : Ptr) where
     -- the allocator h, and its right to free the block
