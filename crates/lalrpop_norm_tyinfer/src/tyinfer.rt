@@ -12,6 +12,7 @@ ghost use Rattle.lalrpop_norm_typing.specs.Inferred.{IsInferred};
 ghost use Rattle.lalrpop_norm_typing.specs.Visits.{rule_seen, with_clauses};
 
 mod agreement;
+mod clauses;
 mod rounds;
 mod tokens;
 
@@ -21,7 +22,7 @@ use lalrpop_norm_repr::grammar::repr::Types;
 use lalrpop_norm_tree::grammar::parse_tree::{Grammar, NoMemory, TypeParameter};
 use lalrpop_norm_typing::grounded::{check_clauses, check_typed};
 use lalrpop_norm_typing::patterns::check_patterns;
-use lalrpop_norm_typing::rounds::{PlainRule, plain_rules};
+use lalrpop_norm_typing::rules::{PlainRule, plain_rules};
 use rounds::run_rounds;
 use std::alloc::Global;
 use tokens::token_types;

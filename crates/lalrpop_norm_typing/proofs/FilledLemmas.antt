@@ -24,7 +24,7 @@ use Rattle.lalrpop_norm_model.specs.TypeRounds.{inferred, type_rounds}
 use Rattle.lalrpop_norm_model.specs.TypeTables.{clause_value}
 use Rattle.lalrpop_norm_model.proofs.InferenceLemmas.{inferred_types}
 use Rattle.lalrpop_norm_model.proofs.TypableLemmas.{typable_exactly}
-use Rattle.lalrpop_norm_typing.specs.declared.rounds.PlainRule.{PlainRule}
+use Rattle.lalrpop_norm_typing.specs.declared.rules.PlainRule.{PlainRule}
 use Rattle.lalrpop_norm_typing.specs.Filled.{HasAllRows, table_faults}
 use Rattle.lalrpop_norm_typing.specs.Inferred.{IsInferred}
 use Rattle.lalrpop_norm_typing.specs.TableFaults.{lacking_seen, untyped_in, disagrees_in, other_in, others_in}

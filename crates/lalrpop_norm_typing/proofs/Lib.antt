@@ -1,4 +1,4 @@
-mod ClauseLemmas
+pub mod ClauseLemmas
 mod DependentLemmas
 pub mod FilledLemmas
 mod LiteralLemmas
@@ -10,5 +10,5 @@ mod ReadLemmas
 pub mod RoundLemmas
 mod SameLemmas
 pub mod TokenLemmas
-mod ValueLemmas
+pub mod ValueLemmas
 pub mod VisitLemmas

@@ -10,7 +10,7 @@ use Rattle.lalrpop_norm_parts.specs.Reprs.{ReprData}
 use Rattle.lalrpop_norm_repr.specs.Tables.{TypeTable, type_of}
 use Rattle.lalrpop_norm_model.specs.PlainRules.{all_rules}
 use Rattle.lalrpop_norm_model.specs.TypeRounds.{TypeRow, table_of, first_value, taken, visit, visits, type_rounds}
-use Rattle.lalrpop_norm_typing.specs.declared.rounds.PlainRule.{PlainRule}
+use Rattle.lalrpop_norm_typing.specs.declared.rules.PlainRule.{PlainRule}
 use Rattle.lalrpop_norm_typing.specs.Clauses.{first_in}
 use Rattle.lalrpop_norm_typing.specs.TableValues.{named_by, type_by_name}
 use Rattle.lalrpop_norm_typing.specs.Visits.{Seen, rule_seen, with_clauses, visit_seen, visits_seen, rounds_seen, HasRows, IsReadBy, TakesType, Passes, EndsRounds}

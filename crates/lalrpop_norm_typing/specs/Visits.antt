@@ -6,7 +6,7 @@ use Rattle.lalrpop_norm_parts.specs.Reprs.{ReprData}
 use Rattle.lalrpop_norm_repr.specs.Tables.{TypeTable}
 use Rattle.lalrpop_norm_model.specs.TypeRelation.{TypeClause, type_clauses}
 use Rattle.lalrpop_norm_model.specs.TypeRounds.{TypeRow, table_of, first_value, taken}
-use Rattle.lalrpop_norm_typing.specs.declared.rounds.PlainRule.{PlainRule}
+use Rattle.lalrpop_norm_typing.specs.declared.rules.PlainRule.{PlainRule}
 use Rattle.lalrpop_norm_typing.specs.Clauses.{clause_view}
 use Rattle.lalrpop_norm_typing.specs.TableValues.{type_by_name}
 use Rattle.lalrpop_norm_typing.specs.TokenTypes.{HasTokens}

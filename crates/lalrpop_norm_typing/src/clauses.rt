@@ -1,19 +1,14 @@
 //! By which rules have types.
 ghost use Rattle.std.specs.Prelude.{◌≡◌, [], ◌∷◌, ◌++◌, IfOk, OnOk, map, option_map, option_to_list, filter_map};
 ghost use Rattle.lalrpop_norm_tree.specs.Items.{alternative_view, rule_view};
-ghost use Rattle.lalrpop_norm_parts.specs.Reprs.{repr_view, reprs_view};
 ghost use Rattle.lalrpop_norm_tree.specs.Symbols.{kind_view, symbol_view, parts_view, expr_view};
 ghost use Rattle.lalrpop_norm_tree.specs.Types.{type_view};
-ghost use Rattle.lalrpop_norm_repr.specs.Tables.{type_table};
 ghost use Rattle.lalrpop_norm_model.specs.MadeRules.{all_kinds};
 ghost use Rattle.lalrpop_norm_model.specs.TypeRelation.{alternative_clause, type_clauses, type_clauses_of, makes};
-ghost use Rattle.lalrpop_norm_typing.specs.Clauses.{chosen_kind_in, chosen_kinds_listed, source_kinds, default_clause, kinds_in, sources_in, clause_view, clause_in, first_in};
+ghost use Rattle.lalrpop_norm_typing.specs.Clauses.{chosen_kind_in, chosen_kinds_listed, source_kinds, default_clause, clause_view};
 
-use crate::values::{copy_of, kind_value, type_value};
-use lalrpop_norm_repr::grammar::repr::{TypeRepr, Types};
 use lalrpop_norm_tree::grammar::parse_tree::{
-    ActionKind, Alternative, ExprSymbol, NoMemory, NonterminalData, Symbol, SymbolKind,
-    TypeParameter, TypeRef,
+    ActionKind, Alternative, ExprSymbol, NoMemory, NonterminalData, Symbol, SymbolKind, TypeRef,
 };
 use lalrpop_norm_util::norm_util::has_name_value;
 use std::alloc::Global;
@@ -171,77 +166,4 @@ fn add_clause<'g>(clauses: &mut Vec<Clause<'g>>, clause: Option<Clause<'g>>) -> 
         clauses.push(clause)?;
     }
     Ok(())
-}
-
-/// A copy of the type that a clause makes of the table, if it makes one.
-pub fn clause_value(
-    alloc: Global,
-    parameters: &[TypeParameter],
-    types: &Types,
-    clause: &Clause,
-) -> Result<Option<TypeRepr>, NoMemory>
-    ensures { IfOk result (λ o. option_map repr_view o ≡ clause_in parameters.now (type_table types.now) (clause_view clause.now)) }
-{
-    match clause {
-        Clause::Declared(written) => type_value(alloc, parameters, types, written),
-        Clause::Sources(kinds) => sources_value(alloc, types, kinds),
-        Clause::Location => location_value(types),
-    }
-}
-
-fn location_value(types: &Types) -> Result<Option<TypeRepr>, NoMemory>
-    ensures { IfOk result (λ o. option_map repr_view o ≡ (type_table types.now).location) }
-{
-    copy_of(types.opt_terminal_loc_type())
-}
-
-/// The type of the values of these symbols: one bare, any other number of them as a tuple.
-fn sources_value(
-    alloc: Global,
-    types: &Types,
-    kinds: &[&SymbolKind],
-) -> Result<Option<TypeRepr>, NoMemory>
-    ensures { IfOk result (λ o. option_map repr_view o ≡ sources_in (type_table types.now) (map (λ k. kind_view k.now) kinds.now)) }
-{
-    match kinds {
-        [kind] => kind_value(types, kind),
-        _ => match all_kind_values(alloc, types, kinds)? {
-            Some(values) => Ok(Some(TypeRepr::Tuple(values))),
-            None => Ok(None),
-        },
-    }
-}
-
-fn all_kind_values(
-    alloc: Global,
-    types: &Types,
-    kinds: &[&SymbolKind],
-) -> Result<Option<Vec<TypeRepr>>, NoMemory>
-    ensures { IfOk result (λ o. option_map (λ ts. reprs_view ts.items) o ≡ kinds_in (type_table types.now) (map (λ k. kind_view k.now) kinds.now)) }
-{
-    let mut values = Vec::new(alloc);
-    for kind in kinds {
-        match kind_value(types, kind)? {
-            Some(ty) => values.push(ty)?,
-            None => return Ok(None),
-        }
-    }
-    Ok(Some(values))
-}
-
-/// A copy of the type that the first clause makes of the table that makes one.
-pub(crate) fn first_value(
-    alloc: Global,
-    parameters: &[TypeParameter],
-    types: &Types,
-    clauses: &[Clause],
-) -> Result<Option<TypeRepr>, NoMemory>
-    ensures { IfOk result (λ o. option_map repr_view o ≡ first_in parameters.now (type_table types.now) (map clause_view clauses.now)) }
-{
-    for clause in clauses {
-        if let Some(ty) = clause_value(alloc, parameters, types, clause)? {
-            return Ok(Some(ty));
-        }
-    }
-    Ok(None)
 }

@@ -8,7 +8,7 @@ ghost use Rattle.lalrpop_norm_typing.specs.Visits.{rule_seen};
 ghost use Rattle.lalrpop_norm_typing.specs.Waiting.{mentioned, mentioned_in, places_of, Notes, Covers};
 
 use crate::clauses::Clause;
-use crate::rounds::PlainRule;
+use crate::rules::PlainRule;
 use lalrpop_norm_tree::grammar::parse_tree::{
     Atom, NoMemory, NonterminalString, Symbol, SymbolKind, TypeRef,
 };
@@ -32,7 +32,7 @@ impl Dependents {
     }
 
     /// The places of the rules that mention the name.
-    pub(crate) fn places(&self, name: &NonterminalString) -> &[usize]
+    pub fn places(&self, name: &NonterminalString) -> &[usize]
         ensures { result.now ≡ places_of self.now name.now.0 }
     {
         match self.places.get(&name.0) {

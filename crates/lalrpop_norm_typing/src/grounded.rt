@@ -7,7 +7,7 @@ ghost use Rattle.lalrpop_norm_model.specs.InferenceFaults.{lack_of};
 ghost use Rattle.lalrpop_norm_typing.specs.TableFaults.{lacking_seen, untyped_in};
 ghost use Rattle.lalrpop_norm_typing.specs.Visits.{rule_seen};
 
-use crate::rounds::PlainRule;
+use crate::rules::PlainRule;
 use lalrpop_norm_faults::{FaultKind, NormFailure, NormResult, refusal};
 use lalrpop_norm_repr::grammar::repr::Types;
 use lalrpop_norm_tree::grammar::parse_tree::{Alternative, NonterminalData};

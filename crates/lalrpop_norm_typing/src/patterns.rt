@@ -10,7 +10,7 @@ ghost use Rattle.lalrpop_norm_model.specs.TuplePatterns.{as_many, misfits, misfi
 ghost use Rattle.lalrpop_norm_typing.specs.TableFaults.{faults_at, kind_misfits, parts_misfits, types_in_tuple};
 ghost use Rattle.lalrpop_norm_typing.specs.TableValues.{type_by_name};
 
-use crate::rounds::PlainRule;
+use crate::rules::PlainRule;
 use lalrpop_norm_faults::{FaultKind, NormResult, refusal};
 use lalrpop_norm_repr::grammar::repr::{TypeRepr, Types};
 use lalrpop_norm_tree::grammar::parse_tree::{

@@ -15,7 +15,7 @@ pub struct Places {
 
 impl Places {
     /// No place.
-    pub(crate) fn new(alloc: Global) -> Places
+    pub fn new(alloc: Global) -> Places
         ensures { (k : ℕ) → has result k ≡ false }
     {
         Places {
@@ -44,7 +44,7 @@ impl Places {
     }
 
     /// Adds a place.
-    pub(crate) fn add(&mut self, place: usize) -> Result<(), NoMemory>
+    pub fn add(&mut self, place: usize) -> Result<(), NoMemory>
         ensures { OnOk result ((k : ℕ) → has self.new k ≡ ((place == k) || has self.old k)) }
     {
         self.set.insert(place)?;
@@ -52,7 +52,7 @@ impl Places {
     }
 
     /// Takes the least place out, if there is one.
-    pub(crate) fn take_least(&mut self) -> Option<usize>
+    pub fn take_least(&mut self) -> Option<usize>
         ensures { MatchOption result ((k : ℕ) → has self.old k ≡ false) (TakesLeast self.old self.new) }
     {
         self.set.pop_first()

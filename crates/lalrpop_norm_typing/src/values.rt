@@ -21,7 +21,7 @@ use std::alloc::Global;
 
 /// A copy of the type that a symbol gives, if it gives one by the table.
 #[cycle(kind)]
-pub(crate) fn kind_value(types: &Types, kind: &SymbolKind) -> Result<Option<TypeRepr>, NoMemory>
+pub fn kind_value(types: &Types, kind: &SymbolKind) -> Result<Option<TypeRepr>, NoMemory>
     ensures { IfOk result (λ o. option_map repr_view o ≡ kind_in (type_table types.now) (kind_view kind.now)) }
 {
     match kind {
@@ -48,7 +48,7 @@ fn symbol_value(types: &Types, symbol: &Symbol) -> Result<Option<TypeRepr>, NoMe
 }
 
 /// A copy of the type that is there.
-pub(crate) fn copy_of(ty: Option<&TypeRepr>) -> Result<Option<TypeRepr>, NoMemory>
+pub fn copy_of(ty: Option<&TypeRepr>) -> Result<Option<TypeRepr>, NoMemory>
     ensures { IfOk result (λ o. option_map repr_view o ≡ option_map (λ t. repr_view t.now) ty.entry) }
 {
     match ty {
@@ -95,7 +95,7 @@ fn associated<'a>(parameters: &[TypeParameter], path: &'a Path) -> Option<(&'a A
 
 /// A copy of the type that a written one means, if each symbol in it gives a type by the table.
 #[cycle(value)]
-pub(crate) fn type_value(
+pub fn type_value(
     alloc: Global,
     parameters: &[TypeParameter],
     types: &Types,

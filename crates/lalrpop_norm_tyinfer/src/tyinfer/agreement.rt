@@ -8,13 +8,14 @@ ghost use Rattle.lalrpop_norm_repr.specs.Tables.{type_table};
 ghost use Rattle.lalrpop_norm_model.specs.InferenceFaults.{is_other};
 ghost use Rattle.lalrpop_norm_typing.specs.TableFaults.{other_in, others_in};
 
+use crate::tyinfer::clauses::clause_value;
 use lalrpop_norm_faults::{FaultKind, NormResult, refusal};
 use lalrpop_norm_repr::grammar::repr::{TypeRepr, Types};
 use lalrpop_norm_tree::grammar::parse_tree::{
     Alternative, NonterminalData, NonterminalString, Span, TypeParameter,
 };
-use lalrpop_norm_typing::clauses::{alternative_clause, clause_value};
-use lalrpop_norm_typing::rounds::PlainRule;
+use lalrpop_norm_typing::clauses::alternative_clause;
+use lalrpop_norm_typing::rules::PlainRule;
 use lalrpop_norm_typing::same::is_same_type;
 use std::alloc::Global;
 

@@ -1,14 +1,140 @@
 //! Rounds in which rules take their types.
-ghost use Rattle.std.specs.Prelude.{OnOk, length, map};
-ghost use Rattle.lalrpop_norm_repr.specs.Tables.{type_table};
-ghost use Rattle.lalrpop_norm_typing.specs.Visits.{rule_seen, EndsRounds};
+ghost use Rattle.std.specs.Prelude.{◌≡◌, [], ◌∷◌, None, Some, IfOk, OnOk, length, map};
+ghost use Rattle.lalrpop_norm_parts.specs.declared.names.NonterminalString.{NonterminalString};
+ghost use Rattle.lalrpop_norm_parts.specs.Reprs.{repr_view};
+ghost use Rattle.lalrpop_norm_repr.specs.Tables.{type_table, type_of};
+ghost use Rattle.lalrpop_norm_typing.specs.Clauses.{clause_view, first_in};
+ghost use Rattle.lalrpop_norm_typing.specs.Visits.{rule_seen, EndsRounds, Passes, TakesType};
+ghost use Rattle.lalrpop_norm_typing.specs.Waiting.{Covers, VisitsOne, Waits, Wakes};
 
-use lalrpop_norm_repr::grammar::repr::Types;
-use lalrpop_norm_tree::grammar::parse_tree::{NoMemory, TypeParameter};
+use crate::tyinfer::clauses::first_value;
+use lalrpop_norm_repr::grammar::repr::{TypeRepr, Types};
+use lalrpop_norm_tree::grammar::parse_tree::{NoMemory, NonterminalString, TypeParameter};
 use lalrpop_norm_typing::dependents::Dependents;
 use lalrpop_norm_typing::places::Places;
-use lalrpop_norm_typing::rounds::{PlainRule, round};
+use lalrpop_norm_typing::rules::PlainRule;
 use std::alloc::Global;
+
+/// Gives a nonterminal that has no type yet its type.
+fn put_type(types: &mut Types, name: &NonterminalString, ty: TypeRepr) -> Result<(), NoMemory>
+    requires { type_of name.now (type_table types.old) ≡ None }
+    ensures added { OnOk result (type_of name.now (type_table types.new) ≡ Some (repr_view ty)) }
+    ensures others { OnOk result ((other : NonterminalString) → (other ≡ name.now → ⊥) → type_of other (type_table types.new) ≡ type_of other (type_table types.old)) }
+    ensures rest { OnOk result (type_table types.new ≡ record (type_table types.old) { nonterminals = (type_table types.new).nonterminals }) }
+{
+    let name = name.clone()?;
+    types.add_type(name, ty)?;
+    Ok(())
+}
+
+/// Gives a rule without a type the type that its first clause makes that makes one; whether there is one.
+fn take_first(
+    alloc: Global,
+    parameters: &[TypeParameter],
+    types: &mut Types,
+    rule: &PlainRule,
+) -> Result<bool, NoMemory>
+    requires { type_of rule.now.data.now.name (type_table types.old) ≡ None }
+    ensures { IfOk result (λ added. TakesType (type_table types.old) (type_table types.new) rule.now.data.now.name.0
+        (first_in parameters.now (type_table types.old) (map clause_view rule.now.clauses.items)) added) }
+{
+    match first_value(alloc, parameters, types, &rule.clauses)? {
+        Some(ty) => {
+            put_type(types, &rule.data.name, ty)?;
+            Ok(true)
+        }
+        None => Ok(false),
+    }
+}
+
+/// The visit of a rule; whether it takes a type.
+fn visit(
+    alloc: Global,
+    parameters: &[TypeParameter],
+    types: &mut Types,
+    rule: &PlainRule,
+) -> Result<bool, NoMemory>
+    ensures { IfOk result (λ added. TakesType (type_table types.old) (type_table types.new) rule.now.data.now.name.0
+        (first_in parameters.now (type_table types.old) (map clause_view rule.now.clauses.items)) added) }
+{
+    let is_typed = types.lookup_nonterminal_type(&rule.data.name).is_some();
+    if is_typed {
+        return Ok(false);
+    }
+    take_first(alloc, parameters, types, rule)
+}
+
+/// Lets some places wait for a visit: those behind the place in this round, the others in the next one.
+fn wake(places: &[usize], place: usize, now: &mut Places, next: &mut Places) -> Result<(), NoMemory>
+    ensures { OnOk result (Wakes places.now place now.old now.new next.old next.new) }
+{
+    for other in places {
+        wake_one(*other, place, now, next)?;
+    }
+    Ok(())
+}
+
+fn wake_one(other: usize, place: usize, now: &mut Places, next: &mut Places) -> Result<(), NoMemory>
+    ensures { OnOk result (Wakes (other ∷ []) place now.old now.new next.old next.new) }
+{
+    if place < other {
+        return now.add(other);
+    }
+    next.add(other)
+}
+
+/// Visits the rule at a place, and lets those wait that a type of its name may change.
+fn step(
+    alloc: Global,
+    parameters: &[TypeParameter],
+    types: &mut Types,
+    dependents: &Dependents,
+    rule: &PlainRule,
+    place: usize,
+    now: &mut Places,
+    next: &mut Places,
+) -> Result<(), NoMemory>
+    ensures { OnOk result (VisitsOne dependents.now parameters.now (type_table types.old) (type_table types.new) (rule_seen rule.now) place now.old now.new next.old next.new) }
+{
+    let took = visit(alloc, parameters, types, rule)?;
+    if took {
+        return wake(dependents.places(&rule.data.name), place, now, next);
+    }
+    Ok(())
+}
+
+/// A round over the rules in order, of which only those at some places may take a type; the places of which that holds in the
+/// next round.
+fn round(
+    alloc: Global,
+    parameters: &[TypeParameter],
+    types: &mut Types,
+    rules: &[PlainRule],
+    dependents: &Dependents,
+    now: &mut Places,
+) -> Result<Places, NoMemory>
+    requires covers { Covers dependents.now (map rule_seen rules.now) }
+    requires waits { Waits parameters.now (type_table types.old) (map rule_seen rules.now) now.old }
+    ensures passes { IfOk result (λ next. Passes parameters.now (type_table types.old) (type_table types.new) (map rule_seen rules.now)) }
+    ensures waits { IfOk result (λ next. Waits parameters.now (type_table types.new) (map rule_seen rules.now) next) }
+{
+    let mut next = Places::new(alloc);
+    let mut from = 0;
+    while let Some(place) = now.take_least() {
+        step(
+            alloc,
+            parameters,
+            types,
+            dependents,
+            &rules[place],
+            place,
+            now,
+            &mut next,
+        )?;
+        from = place + 1;
+    }
+    Ok(next)
+}
 
 /// Rounds until no rule waits for a visit. As many as there are rules are enough.
 pub(crate) fn run_rounds(

@@ -2,7 +2,7 @@ use Rattle.std.proofs.Common.{◌≡◌, drop, map}
 use Rattle.std.specs.List.{flat_map}
 use Rattle.lalrpop_norm_tree.specs.Items.{rule_view}
 use Rattle.lalrpop_norm_repr.specs.Tables.{type_table}
-use Rattle.lalrpop_norm_typing.specs.declared.rounds.PlainRule.{PlainRule}
+use Rattle.lalrpop_norm_typing.specs.declared.rules.PlainRule.{PlainRule}
 use Rattle.lalrpop_norm_typing.specs.TableFaults.{untyped_in}
 use Rattle.lalrpop_norm_typing.proofs.grounded.check_typed.Given as goal
 

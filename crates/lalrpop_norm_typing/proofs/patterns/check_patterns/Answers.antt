@@ -2,7 +2,7 @@ use Rattle.std.proofs.Common.{arith}
 use Rattle.lalrpop_norm_tree.specs.Items.{rule_view}
 use Rattle.lalrpop_norm_repr.specs.Tables.{type_table}
 use Rattle.lalrpop_norm_model.specs.TuplePatterns.{rule_misfits}
-use Rattle.lalrpop_norm_typing.specs.declared.rounds.PlainRule.{PlainRule}
+use Rattle.lalrpop_norm_typing.specs.declared.rules.PlainRule.{PlainRule}
 use Rattle.lalrpop_norm_typing.specs.TableValues.{type_by_name}
 use Rattle.lalrpop_norm_typing.proofs.LoopLemmas.{exit_loop}
 use Rattle.lalrpop_norm_typing.proofs.patterns.check_patterns.Goals as goal

@@ -5,7 +5,7 @@ use Rattle.lalrpop_norm_repr.specs.Tables.{type_table}
 use Rattle.lalrpop_norm_typing.specs.Clauses.{kinds_in}
 use Rattle.lalrpop_norm_typing.specs.TableValues.{kind_in}
 use Rattle.lalrpop_norm_typing.proofs.ValueLemmas.{next_value, last_value}
-use Rattle.lalrpop_norm_typing.proofs.clauses.all_kind_values.Goals as goal
+use Rattle.lalrpop_norm_tyinfer.proofs.tyinfer.clauses.all_kind_values.Goals as goal
 
 pub loop-kind-preserved : goal.loop-kind-preserved
 loop-kind-preserved c =

@@ -1,6 +1,6 @@
 use Rattle.lalrpop_norm_typing.proofs.RoundLemmas.{wakes_more}
 use Rattle.std.proofs.lemmas.List.{take_more}
-use Rattle.lalrpop_norm_typing.proofs.rounds.wake.Goals as goal
+use Rattle.lalrpop_norm_tyinfer.proofs.tyinfer.rounds.wake.Goals as goal
 
 pub loop-other-preserved : goal.loop-other-preserved
 loop-other-preserved c =

@@ -3,7 +3,7 @@ use Rattle.lalrpop_norm_parts.specs.declared.lowered.TypeRepr.{TypeRepr}
 use Rattle.lalrpop_norm_parts.specs.Reprs.{repr_view}
 use Rattle.lalrpop_norm_repr.specs.Tables.{type_table}
 use Rattle.lalrpop_norm_typing.proofs.VisitLemmas.{taken_typed, untyped_none}
-use Rattle.lalrpop_norm_typing.proofs.rounds.visit.Goals as goal
+use Rattle.lalrpop_norm_tyinfer.proofs.tyinfer.rounds.visit.Goals as goal
 
 pub take_first-requires : goal.take_first-requires
 take_first-requires c =

@@ -5,7 +5,7 @@ use Rattle.lalrpop_norm_tree.specs.Symbols.{kind_view}
 use Rattle.lalrpop_norm_repr.specs.Tables.{type_table}
 use Rattle.lalrpop_norm_typing.specs.Clauses.{kinds_in}
 use Rattle.lalrpop_norm_typing.proofs.ValueLemmas.{before}
-use Rattle.lalrpop_norm_typing.proofs.clauses.all_kind_values.Given as goal
+use Rattle.lalrpop_norm_tyinfer.proofs.tyinfer.clauses.all_kind_values.Given as goal
 
 abbrev pub invariant-loop-kind : goal.invariant-loop-kind
 invariant-loop-kind l =

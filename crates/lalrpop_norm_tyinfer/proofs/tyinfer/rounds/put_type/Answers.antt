@@ -1,7 +1,7 @@
 use Rattle.std.proofs.Common.{sym, ◌∙◌}
 use Rattle.lalrpop_norm_typing.proofs.VisitLemmas.{same_name, type_of_same}
 use Rattle.lalrpop_norm_repr.specs.Tables.{type_table}
-use Rattle.lalrpop_norm_typing.proofs.rounds.put_type.Goals as goal
+use Rattle.lalrpop_norm_tyinfer.proofs.tyinfer.rounds.put_type.Goals as goal
 
 pub add_type-requires : goal.add_type-requires
 add_type-requires c = type_of_same c.args.name.now c.in_ok-name.name (type_table c.args.types.now) _ (sym c.in_ok-name.ensures.cases) c.requires

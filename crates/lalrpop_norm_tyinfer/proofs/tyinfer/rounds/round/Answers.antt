@@ -4,7 +4,7 @@ use Rattle.std.proofs.lemmas.List.{length-map}
 use Rattle.std.proofs.lemmas.Option.{slice_get-map, slice_get_read}
 use Rattle.lalrpop_norm_typing.specs.Visits.{rule_seen}
 use Rattle.lalrpop_norm_typing.proofs.RoundLemmas.{midway_next, midway_passes}
-use Rattle.lalrpop_norm_typing.proofs.rounds.round.Goals as goal
+use Rattle.lalrpop_norm_tyinfer.proofs.tyinfer.rounds.round.Goals as goal
 
 pub loop-place-preserved : goal.loop-place-preserved
 loop-place-preserved c =

@@ -2,7 +2,7 @@ use Rattle.std.proofs.Common.{◌-◌, length, map}
 use Rattle.lalrpop_norm_repr.specs.Tables.{type_table}
 use Rattle.lalrpop_norm_typing.specs.Visits.{rule_seen}
 use Rattle.lalrpop_norm_typing.proofs.RoundLemmas.{Midway}
-use Rattle.lalrpop_norm_typing.proofs.rounds.round.Given as goal
+use Rattle.lalrpop_norm_tyinfer.proofs.tyinfer.rounds.round.Given as goal
 
 abbrev pub invariant-loop-place : goal.invariant-loop-place
 invariant-loop-place l = Midway l.parameters (type_table l.initial.types) (type_table l.types) (map rule_seen l.rules) l.from l.now l.next
