@@ -1,6 +1,7 @@
 //! What lowering refuses, one by one.
-ghost use Rattle.std.specs.Prelude.{◌≡◌, IfOk, length, map};
-ghost use Rattle.lalrpop_norm_faults.specs.Faults.{Refuses};
+ghost use Rattle.std.specs.Prelude.{◌≡◌, [], ◌∷◌, IfOk, length, map};
+ghost use Rattle.lalrpop_norm_faults.specs.Faults.{IsFirst, Refuses};
+ghost use Rattle.lalrpop_norm_faults.specs.declared.kind.FaultKind.TheVariants.{TooManyActions};
 ghost use Rattle.lalrpop_norm_tree.specs.Items.{rule_view};
 ghost use Rattle.lalrpop_norm_tree.specs.Symbols.{symbol_view};
 ghost use Rattle.lalrpop_norm_model.specs.LoweringFaults.{action_number_faults, span_over, start_faults};
@@ -8,7 +9,7 @@ ghost use Rattle.lalrpop_norm_repr.specs.Tables.{type_table};
 ghost use Rattle.lalrpop_norm_lowering.specs.Counts.{count_faults, end_of};
 ghost use Rattle.lalrpop_norm_lowering.specs.StartSymbols.{start_name, types_by_name};
 
-use lalrpop_norm_faults::{FaultKind, NormResult, refusal};
+use lalrpop_norm_faults::{FaultKind, NormFailure, NormResult, refusal};
 use lalrpop_norm_repr::grammar::repr::{ActionFn, ActionFnDefn, Types};
 use lalrpop_norm_tree::grammar::parse_tree::{NonterminalData, NonterminalString, Span, Symbol};
 use std::alloc::Global;
@@ -91,9 +92,16 @@ pub fn next_action(alloc: Global, actions: &[ActionFnDefn], span: Span) -> NormR
     if number < ACTIONS {
         return Ok(ActionFn::new(number));
     }
-    Err(refusal(
+    Err(too_many_actions(alloc, span))
+}
+
+/// The refusal of an action that would have too great a number: F56 (`TooManyActions`) at its alternative or rule, or `Memory`.
+pub fn too_many_actions(alloc: Global, span: Span) -> NormFailure
+    ensures { IsFirst ((TooManyActions, span) ∷ []) result }
+{
+    refusal(
         FaultKind::TooManyActions,
         span,
         format!(in alloc; "the grammar has more than {ACTIONS} actions: make it smaller"),
-    ))
+    )
 }

@@ -1,15 +1,21 @@
 //! Refusals with their messages, and sides of alternatives.
 use crate::made::{cloned, show_made};
 use lalrpop_norm_faults::{FaultKind, NormFailure, refusal};
+use lalrpop_norm_lowering::refusals::too_many_actions;
 use lalrpop_norm_precedence::precedence::Assoc;
 use lalrpop_norm_tree::grammar::parse_tree::{NoMemory, Span};
 use std::alloc::{AllocError, Global};
 
-/// A refusal with its message, one without memory for it, and copies of both.
+/// A refusal with its message, one without memory for it, and copies of both; and the refusal that no tree can show.
 pub(crate) fn push_refusals(alloc: Global, text: &mut String) -> Result<(), NoMemory> {
     let told = refused(String::from_str(alloc, "no type follows"));
     show_made(text, Ok(told), push_with_copy)?;
     show_made(text, Ok(refused(Err(AllocError))), push_with_copy)?;
+    show_made(
+        text,
+        Ok(too_many_actions(alloc, Span(3, 8))),
+        |text, failure| { Ok(push_told(text, failure)?) },
+    )?;
     push_code(text, FaultKind::GrammarAttribute)?;
     push_code(text, FaultKind::SideOnLowest)?;
     push_code(text, FaultKind::TooManyActions)?;
