@@ -11,16 +11,16 @@ use Rattle.serde_json.specs.Data.{Data, Members, no_members, member, put}
 use Rattle.serde_json.specs.Read.{of_json, of_members}
 use Rattle.json_document.specs.Order.{is_above, above, first_member, is_no_later}
 
-abbrev order : List ℕ → List ℕ → Ordering
+abbrev pub order : List ℕ → List ℕ → Ordering
 order = slice_cmp nat_cmp
 
-equal_keys : (k l : List ℕ) → order k l ≡ Equal → k ≡ l
+pub equal_keys : (k l : List ℕ) → order k l ≡ Equal → k ≡ l
 equal_keys k l e = (bytes_eq-Decides k l).0 (sym (is_eq-slice_cmp k l) ∙ ap is_eq e)
 
 turned : (k l : List ℕ) → order k l ≡ Greater → order l k ≡ Less
 turned k l e = nat_list_cmp_total.antisymm l k ∙ ap ordering_reverse e
 
-below : (o : Ordering) → match_ordering o true false false ≡ true → o ≡ Less
+pub below : (o : Ordering) → match_ordering o true false false ≡ true → o ≡ Less
 below Less e = refl
 below Equal e = absurd (cc)
 below Greater e = absurd (cc)
@@ -63,7 +63,7 @@ above_put b k d (member l e ms) p x = above_put_at b _ k l d e ms p _ refl x ref
 
 -- ---- keys in order
 
-abbrev IsAllAbove : List ℕ → Members → Type 0
+abbrev pub IsAllAbove : List ℕ → Members → Type 0
 IsAllAbove k no_members = ⊤
 IsAllAbove k (member l e ms) = (order k l ≡ Less) × IsAllAbove k ms
 

@@ -207,7 +207,7 @@ object_seen_at (json.string s) dm e = absurd (cc)
 object_seen_at (json.array js) dm e = let m = mapped array (of_items js) _ e in absurd (cc (m.2))
 object_seen_at (json.object ms) dm e = let m = mapped object (of_members ms no_members) _ e in (ms, refl, m.1 ∙ ap (λ d. Some (members_in (Some d))) m.2)
 
-object_is : (o : Option Data) → is_object o ≡ true → o ≡ Some (object (members_in o))
+pub object_is : (o : Option Data) → is_object o ≡ true → o ≡ Some (object (members_in o))
 object_is None e = absurd (cc)
 object_is (Some null) e = absurd (cc)
 object_is (Some (boolean b)) e = absurd (cc)
@@ -232,7 +232,7 @@ object_sorted ts known = let o = object_reads ts known in sorted_object o.0 _ o.
 abbrev pub Walked : Members → Option (List ℕ) → List Token → Option (List ℕ × Data) → Type 0
 Walked dm b ts f = (ms : json.Members) × (acc : Members) × InMembers ts ms × (of_members ms acc ≡ Some dm) × (f ≡ first_member (above b acc))
 
-abbrev inner : json.Json → json.Members
+abbrev pub inner : json.Json → json.Members
 inner json.null = json.no_members
 inner (json.boolean b) = json.no_members
 inner (json.number s) = json.no_members
@@ -250,7 +250,7 @@ module _ (ts : List Token) (known : is_object (data_at ts) ≡ true) (b : Option
   pub no_walk : {P : Type 0} → ((j : json.Json) → BeginsWith ts j → found.as_object j ≡ None) → P
   no_walk h = let o = object_reads ts known in absurd (cc (h (json.object o.0) o.1))
 
-member_taken : (dm acc : Members) (k : List ℕ) (j : json.Json) (rest : json.Members) (here : List Token) → of_members (json.member k j rest) acc ≡ Some dm → BeginsWith here j
+pub member_taken : (dm acc : Members) (k : List ℕ) (j : json.Json) (rest : json.Members) (here : List Token) → of_members (json.member k j rest) acc ≡ Some dm → BeginsWith here j
     → (d : Data) × (data_at here ≡ Some d) × (of_members rest (put k d acc) ≡ Some dm)
 member_taken dm acc k j rest here e b =
     let t = then (λ d. of_members rest (put k d acc)) (of_json j) dm e in

@@ -2,3 +2,4 @@ pub mod Tokens
 pub mod Limits
 pub mod Order
 pub mod View
+pub mod Fields

@@ -7,6 +7,7 @@
 #![tactic(auto)]
 
 mod document;
+mod fields;
 mod number;
 mod types;
 mod value;

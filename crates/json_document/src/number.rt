@@ -1,20 +1,44 @@
 //! Numbers: which are taken, and which natural number one is.
-ghost use Rattle.std.specs.Prelude.{◌≡◌, ◌==◌, ◌<◌, length, slice_index, true, false, option_map, IsTrue};
+ghost use Rattle.std.specs.Prelude.{◌≡◌, ◌==◌, ◌<◌, length, slice_index, true, false, option_map, IsTrue, IfSome, Some};
+ghost use Rattle.serde_json.specs.Data.{unsigned};
 ghost use Rattle.serde_json.specs.Find.{as_u64};
 ghost use Rattle.serde_json.specs.Read.{number_of, number_from, float_of};
 
 use fast_float::Numeral;
+
+/// With one digit more it stays below 2 ^ 64.
+const MANY: u64 = 99_999_999_999_999_999;
 
 /// Nothing where the number is out of range; else the natural number below 2 ^ 64 that it is, if it is one.
 pub fn number(text: &str) -> Option<Option<u64>>
     ensures { result ≡ option_map as_u64 (number_of text.now) }
 {
     let bytes = text.as_bytes();
+    if let Some(n) = few_digits(bytes) {
+        return Some(Some(n));
+    }
     if has_minus(bytes) {
         negative(&Numeral::scan(&bytes[1..]))
     } else {
         unsigned(&Numeral::scan(bytes))
     }
+}
+
+/// The number that is written by digits alone, where these are few: most numbers are, and they need not be taken to parts.
+fn few_digits(bytes: &[u8]) -> Option<u64>
+    ensures { IfSome result (λ n. number_of bytes.now ≡ Some (unsigned n)) }
+{
+    if bytes.is_empty() {
+        return None;
+    }
+    let mut n = 0u64;
+    for byte in bytes {
+        if !byte.is_ascii_digit() || n > MANY {
+            return None;
+        }
+        n = n * 10 + (*byte - b'0') as u64;
+    }
+    Some(n)
 }
 
 /// The same of a number without a sign.

@@ -123,7 +123,7 @@ fn is_wanted(below: Option<&str>, found: &Option<(&str, Value<'_, '_>)>, key: &s
 }
 
 /// Whether the key is above the bound.
-fn is_past(below: Option<&str>, key: &str) -> bool
+pub(crate) fn is_past(below: Option<&str>, key: &str) -> bool
     ensures { result ≡ is_above (option_map (λ s. s.now) below.entry) key.now }
 {
     match below {

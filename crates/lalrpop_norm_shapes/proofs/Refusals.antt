@@ -1,11 +1,13 @@
 -- What has not the parts of a shape does not have the shape.
-use Rattle.std.proofs.Common.{◌≡◌, ℕ, suc, ◌<◌, ◌≤◌, map, List, [], ◌∷◌, ◌++◌, Some, None, option_and_then, Bool, true, false, ◌&&◌, refl, sym, ap, ◌∙◌, arith}
+use Rattle.std.proofs.Common.{◌≡◌, ℕ, suc, ◌<◌, ◌≤◌, map, List, [], ◌∷◌, ◌++◌, Option, Some, None, is_some, option_and_then, Bool, true, false, ◌&&◌, refl, sym, ap, ◌∙◌, arith}
+use Rattle.std.specs.List.{list_all}
 use Rattle.std.specs.Str.{bytes_eq}
 use Rattle.serde_json.specs.Data.{Data, null, boolean, number, unsigned, negative, float, string, array, object, Items, no_items, item, Members, no_members, member}
-use Rattle.serde_json.specs.Find.{as_object, as_array, as_number, as_u64}
+use Rattle.serde_json.specs.Find.{as_str, as_array, as_number, as_u64}
 use Rattle.serde_json.specs.View.{items_of}
 use Rattle.lalrpop_norm_shapes.specs.Weight.{weight, items_weight}
-use Rattle.lalrpop_norm_shapes.specs.Parts.{is_null, is_pair, is_triple, is_variant, is_no_members, starts_with, are_keys, has_fields}
+use Rattle.json_document.specs.Fields.{are_keys, has_fields, has_one_member}
+use Rattle.lalrpop_norm_shapes.specs.Parts.{is_null, is_pair, is_triple, is_variant}
 use Rattle.lalrpop_norm_shapes.specs.Shapes.{ShapeName, natural, Place, Held, Arrays, struct_of, each, row, place, fits, fits_items, fits_members, struct, variants, arrayed, optional, Shape, is}
 
 pub no_array_pair : (d : Data) → as_array d ≡ None → is_pair d ≡ false
@@ -57,23 +59,12 @@ false_and false b e = refl
 
 -- ---- a record of known fields
 
-pub no_record : (ns : List (List ℕ)) (d : Data) → as_object d ≡ None → has_fields ns d ≡ false
-no_record ns null e = refl
-no_record ns (boolean b) e = refl
-no_record ns (number n) e = refl
-no_record ns (string s) e = refl
-no_record ns (array ds) e = refl
-no_record ns (object ms) e = cc
+-- behind a place that holds a value
+pub one_more_found : {X : Type 0} (xs ys : List (Option X)) (x : X) → xs ≡ Some x ∷ ys → list_all is_some xs ≡ true → list_all is_some ys ≡ true
+one_more_found xs ys x e h = ap (list_all is_some) (sym e) ∙ h
 
-pub no_key : (n : List ℕ) (ns : List (List ℕ)) (ms : Members) → starts_with n ms ≡ false → are_keys (n ∷ ns) ms ≡ false
-no_key n ns no_members e = refl
-no_key n ns (member k d ms) e = false_and _ _ e
-
-pub no_further_key : (ms : Members) → is_no_members ms ≡ false → are_keys [] ms ≡ false
-no_further_key no_members e = e
-no_further_key (member k d ms) e = refl
-
-pub ruleset no_fields_read = (no_record, no_key, no_further_key, and_false)
+pub none_lacks : {P : Type 0} (b : Bool) → b ≡ true → b ≡ false → P
+none_lacks b e f = absurd (cc (e, f))
 
 unlike_or_unfit : (a b c f : Bool) → (a && c) ≡ false → (c ≡ false → f ≡ false) → (a && (b && f)) ≡ false
 unlike_or_unfit true b c f e h = and_false b f (h e)
@@ -95,6 +86,16 @@ no_fields rows (array ds) e = refl
 no_fields rows (object ms) e = no_keys rows ms e
 
 -- ---- a variant, a list
+
+pub no_case : (d : Data) → as_str d ≡ None → has_one_member d ≡ false → is_variant d ≡ false
+no_case null s e = refl
+no_case (boolean b) s e = refl
+no_case (number n) s e = refl
+no_case (string t) s e = cc
+no_case (array ds) s e = refl
+no_case (object no_members) s e = refl
+no_case (object (member k d no_members)) s e = cc
+no_case (object (member k d (member l f ms))) s e = refl
 
 pub no_variant : (ns : List (List ℕ)) (rows : List (List ℕ × Held)) (d : Data) → is_variant d ≡ false → fits (variants ns rows) d ≡ false
 no_variant ns rows null e = refl

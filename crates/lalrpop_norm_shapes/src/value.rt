@@ -1,12 +1,14 @@
 //! The parts of a JSON value, each refused as no tree where it is not there.
-ghost use Rattle.std.specs.Prelude.{◌≡◌, [], ◌∷◌, Some, None, IfOk, IfSome, IfNone, IsErrOf, false};
+ghost use Rattle.std.specs.Prelude.{◌≡◌, ◌<◌, suc, [], ◌∷◌, length, drop, Some, None, is_some, IfOk, IfSome, IfNone, IsErr, IsErrOf, false};
+ghost use Rattle.std.specs.List.{list_all};
 ghost use Rattle.serde_json.specs.Data.{null, boolean, number, unsigned, string, array, object, item, no_items, member, no_members};
-ghost use Rattle.serde_json.specs.Find.{as_object, as_array};
-ghost use Rattle.json_document.specs.View.{view, items_view, members_view};
+ghost use Rattle.serde_json.specs.Find.{as_array};
+ghost use Rattle.json_document.specs.View.{view, items_view};
 ghost use Rattle.lalrpop_norm_shapes.specs.Shapes.{is, text, truth, natural};
-ghost use Rattle.lalrpop_norm_shapes.specs.Parts.{starts_with, is_no_members, are_keys, has_fields, is_variant, is_pair, is_triple, is_null, case_form};
+ghost use Rattle.json_document.specs.Fields.{has_fields};
+ghost use Rattle.lalrpop_norm_shapes.specs.Parts.{is_variant, is_pair, is_triple, is_null, case_form};
 
-use json_document::{Items, Members, Value};
+use json_document::{Items, Value};
 use shared_text::NoMemory;
 use std::alloc::{AllocError, AllocFailed};
 
@@ -49,288 +51,101 @@ impl From<NoMemory> for TreeError {
     }
 }
 
-/// The members of an object.
-fn members_of<'v, 't, 'a>(value: &'v Value<'t, 'a>) -> Result<Members<'v, 't, 'a>, TreeError>
-    ensures ok { IfOk result (λ ms. view value.now ≡ object (members_view ms)) }
-    ensures err { IsErrOf result TreeError.NotATree → as_object (view value.now) ≡ None }
+/// The value that a place holds.
+fn taken<'t, 'a>(
+    found: &mut [Option<Value<'t, 'a>>],
+    place: usize,
+) -> Result<Value<'t, 'a>, TreeError>
+    requires { place < length found.old }
+    ensures ok { IfOk result (λ v. drop place found.old ≡ Some v ∷ drop (suc place) found.new) }
+    ensures err { IsErr result → list_all is_some (drop place found.old) ≡ false }
 {
-    match value.as_object() {
-        Some(members) => Ok(members),
+    match found[place].take() {
+        Some(value) => Ok(value),
         None => Err(TreeError::NotATree),
     }
-}
-
-/// The value of the next member, which has that key.
-fn field<'t, 'a>(members: &mut Members<'_, 't, 'a>, name: &str) -> Result<Value<'t, 'a>, TreeError>
-    ensures ok { IfOk result (λ v. members_view members.old ≡ member name.now (view v) (members_view members.new)) }
-    ensures err { IsErrOf result TreeError.NotATree → starts_with name.now (members_view members.old) ≡ false }
-{
-    match members.next() {
-        Some((key, value)) => {
-            if key == name {
-                Ok(value)
-            } else {
-                Err(TreeError::NotATree)
-            }
-        }
-        None => Err(TreeError::NotATree),
-    }
-}
-
-/// No member is left.
-fn end(mut members: Members<'_, '_, '_>) -> Result<(), TreeError>
-    ensures ok { IfOk result (λ _. members_view members.entry ≡ no_members) }
-    ensures err { IsErrOf result TreeError.NotATree → is_no_members (members_view members.entry) ≡ false }
-{
-    match members.next() {
-        Some(_) => Err(TreeError::NotATree),
-        None => Ok(()),
-    }
-}
-
-/// The value of the one member that is left, which has that key.
-#[tactic(auto, using(crate::proofs::Refusals::no_fields_read))]
-fn last<'t, 'a>(mut members: Members<'_, 't, 'a>, name: &str) -> Result<Value<'t, 'a>, TreeError>
-    ensures ok { IfOk result (λ v. members_view members.entry ≡ member name.now (view v) no_members) }
-    ensures err { IsErrOf result TreeError.NotATree → are_keys (name.now ∷ []) (members_view members.entry) ≡ false }
-{
-    let only = field(&mut members, name)?;
-    end(members)?;
-    Ok(only)
-}
-
-/// The values of the two members that are left, whose keys come in their order.
-#[tactic(auto, using(crate::proofs::Refusals::no_fields_read))]
-fn last_two<'t, 'a>(
-    mut members: Members<'_, 't, 'a>,
-    first: &str,
-    second: &str,
-) -> Result<(Value<'t, 'a>, Value<'t, 'a>), TreeError>
-    ensures ok { IfOk result (λ p. members_view members.entry ≡ member first.now (view p.0) (member second.now (view p.1) no_members)) }
-    ensures err { IsErrOf result TreeError.NotATree → are_keys (first.now ∷ second.now ∷ []) (members_view members.entry) ≡ false }
-{
-    let one = field(&mut members, first)?;
-    let two = last(members, second)?;
-    Ok((one, two))
-}
-
-/// The values of the three members that are left, whose keys come in their order.
-#[tactic(auto, using(crate::proofs::Refusals::no_fields_read))]
-fn last_three<'t, 'a>(
-    mut members: Members<'_, 't, 'a>,
-    first: &str,
-    second: &str,
-    third: &str,
-) -> Result<(Value<'t, 'a>, Value<'t, 'a>, Value<'t, 'a>), TreeError>
-    ensures ok { IfOk result (λ p. members_view members.entry ≡ member first.now (view p.0) (member second.now (view p.1) (member third.now (view p.2) no_members))) }
-    ensures err { IsErrOf result TreeError.NotATree → are_keys (first.now ∷ second.now ∷ third.now ∷ []) (members_view members.entry) ≡ false }
-{
-    let one = field(&mut members, first)?;
-    let (two, three) = last_two(members, second, third)?;
-    Ok((one, two, three))
-}
-
-/// The values of the four members that are left, whose keys come in their order.
-#[tactic(auto, using(crate::proofs::Refusals::no_fields_read))]
-fn last_four<'t, 'a>(
-    mut members: Members<'_, 't, 'a>,
-    first: &str,
-    second: &str,
-    third: &str,
-    fourth: &str,
-) -> Result<(Value<'t, 'a>, Value<'t, 'a>, Value<'t, 'a>, Value<'t, 'a>), TreeError>
-    ensures ok { IfOk result (λ p. members_view members.entry ≡ member first.now (view p.0) (member second.now (view p.1) (member third.now (view p.2) (member fourth.now (view p.3) no_members)))) }
-    ensures err { IsErrOf result TreeError.NotATree → are_keys (first.now ∷ second.now ∷ third.now ∷ fourth.now ∷ []) (members_view members.entry) ≡ false }
-{
-    let one = field(&mut members, first)?;
-    let (two, three, four) = last_three(members, second, third, fourth)?;
-    Ok((one, two, three, four))
-}
-
-/// The values of the five members that are left, whose keys come in their order.
-#[tactic(auto, using(crate::proofs::Refusals::no_fields_read))]
-fn last_five<'t, 'a>(
-    mut members: Members<'_, 't, 'a>,
-    first: &str,
-    second: &str,
-    third: &str,
-    fourth: &str,
-    fifth: &str,
-) -> Result<
-    (
-        Value<'t, 'a>,
-        Value<'t, 'a>,
-        Value<'t, 'a>,
-        Value<'t, 'a>,
-        Value<'t, 'a>,
-    ),
-    TreeError,
->
-    ensures ok { IfOk result (λ p. members_view members.entry ≡ member first.now (view p.0) (member second.now (view p.1) (member third.now (view p.2) (member fourth.now (view p.3) (member fifth.now (view p.4) no_members))))) }
-    ensures err { IsErrOf result TreeError.NotATree → are_keys (first.now ∷ second.now ∷ third.now ∷ fourth.now ∷ fifth.now ∷ []) (members_view members.entry) ≡ false }
-{
-    let one = field(&mut members, first)?;
-    let (two, three, four, five) = last_four(members, second, third, fourth, fifth)?;
-    Ok((one, two, three, four, five))
-}
-
-/// The values of the six members that are left, whose keys come in their order.
-#[tactic(auto, using(crate::proofs::Refusals::no_fields_read))]
-fn last_six<'t, 'a>(
-    mut members: Members<'_, 't, 'a>,
-    first: &str,
-    second: &str,
-    third: &str,
-    fourth: &str,
-    fifth: &str,
-    sixth: &str,
-) -> Result<
-    (
-        Value<'t, 'a>,
-        Value<'t, 'a>,
-        Value<'t, 'a>,
-        Value<'t, 'a>,
-        Value<'t, 'a>,
-        Value<'t, 'a>,
-    ),
-    TreeError,
->
-    ensures ok { IfOk result (λ p. members_view members.entry ≡ member first.now (view p.0) (member second.now (view p.1) (member third.now (view p.2) (member fourth.now (view p.3) (member fifth.now (view p.4) (member sixth.now (view p.5) no_members)))))) }
-    ensures err { IsErrOf result TreeError.NotATree → are_keys (first.now ∷ second.now ∷ third.now ∷ fourth.now ∷ fifth.now ∷ sixth.now ∷ []) (members_view members.entry) ≡ false }
-{
-    let one = field(&mut members, first)?;
-    let (two, three, four, five, six) = last_five(members, second, third, fourth, fifth, sixth)?;
-    Ok((one, two, three, four, five, six))
-}
-
-/// The values of the seven members that are left, whose keys come in their order.
-#[tactic(auto, using(crate::proofs::Refusals::no_fields_read))]
-fn last_seven<'t, 'a>(
-    mut members: Members<'_, 't, 'a>,
-    first: &str,
-    second: &str,
-    third: &str,
-    fourth: &str,
-    fifth: &str,
-    sixth: &str,
-    seventh: &str,
-) -> Result<
-    (
-        Value<'t, 'a>,
-        Value<'t, 'a>,
-        Value<'t, 'a>,
-        Value<'t, 'a>,
-        Value<'t, 'a>,
-        Value<'t, 'a>,
-        Value<'t, 'a>,
-    ),
-    TreeError,
->
-    ensures ok { IfOk result (λ p. members_view members.entry ≡ member first.now (view p.0) (member second.now (view p.1) (member third.now (view p.2) (member fourth.now (view p.3) (member fifth.now (view p.4) (member sixth.now (view p.5) (member seventh.now (view p.6) no_members))))))) }
-    ensures err { IsErrOf result TreeError.NotATree → are_keys (first.now ∷ second.now ∷ third.now ∷ fourth.now ∷ fifth.now ∷ sixth.now ∷ seventh.now ∷ []) (members_view members.entry) ≡ false }
-{
-    let one = field(&mut members, first)?;
-    let (two, three, four, five, six, seven) = last_six(
-        members, second, third, fourth, fifth, sixth, seventh,
-    )?;
-    Ok((one, two, three, four, five, six, seven))
-}
-
-/// The values of the eight members that are left, whose keys come in their order.
-#[tactic(auto, using(crate::proofs::Refusals::no_fields_read))]
-fn last_eight<'t, 'a>(
-    mut members: Members<'_, 't, 'a>,
-    first: &str,
-    second: &str,
-    third: &str,
-    fourth: &str,
-    fifth: &str,
-    sixth: &str,
-    seventh: &str,
-    eighth: &str,
-) -> Result<
-    (
-        Value<'t, 'a>,
-        Value<'t, 'a>,
-        Value<'t, 'a>,
-        Value<'t, 'a>,
-        Value<'t, 'a>,
-        Value<'t, 'a>,
-        Value<'t, 'a>,
-        Value<'t, 'a>,
-    ),
-    TreeError,
->
-    ensures ok { IfOk result (λ p. members_view members.entry ≡ member first.now (view p.0) (member second.now (view p.1) (member third.now (view p.2) (member fourth.now (view p.3) (member fifth.now (view p.4) (member sixth.now (view p.5) (member seventh.now (view p.6) (member eighth.now (view p.7) no_members)))))))) }
-    ensures err { IsErrOf result TreeError.NotATree → are_keys (first.now ∷ second.now ∷ third.now ∷ fourth.now ∷ fifth.now ∷ sixth.now ∷ seventh.now ∷ eighth.now ∷ []) (members_view members.entry) ≡ false }
-{
-    let one = field(&mut members, first)?;
-    let (two, three, four, five, six, seven, eight) = last_seven(
-        members, second, third, fourth, fifth, sixth, seventh, eighth,
-    )?;
-    Ok((one, two, three, four, five, six, seven, eight))
 }
 
 /// The value of the one field of a record.
-#[tactic(auto, using(crate::proofs::Refusals::no_fields_read))]
 pub fn only_field<'t, 'a>(value: Value<'t, 'a>, name: &str) -> Result<Value<'t, 'a>, TreeError>
     ensures ok { IfOk result (λ v. view value.entry ≡ object (member name.now (view v) no_members)) }
     ensures err { IsErrOf result TreeError.NotATree → has_fields (name.now ∷ []) (view value.entry) ≡ false }
 {
-    last(members_of(&value)?, name)
+    let found: &mut [Option<Value<'t, 'a>>] = &mut [None];
+    if !value.fields(&[name], found) {
+        return Err(TreeError::NotATree);
+    }
+    taken(found, 0)
 }
 
 /// The values of the two fields of a record, whose names come in their order.
-#[tactic(auto, using(crate::proofs::Refusals::no_fields_read))]
-pub fn two_fields<'t, 'a>(
+pub fn two_fields<'n, 't, 'a>(
     value: Value<'t, 'a>,
-    first: &str,
-    second: &str,
+    first: &'n str,
+    second: &'n str,
 ) -> Result<(Value<'t, 'a>, Value<'t, 'a>), TreeError>
     ensures ok { IfOk result (λ p. view value.entry ≡ object (member first.now (view p.0) (member second.now (view p.1) no_members))) }
     ensures err { IsErrOf result TreeError.NotATree → has_fields (first.now ∷ second.now ∷ []) (view value.entry) ≡ false }
 {
-    last_two(members_of(&value)?, first, second)
+    let found: &mut [Option<Value<'t, 'a>>] = &mut [None, None];
+    if !value.fields(&[first, second], found) {
+        return Err(TreeError::NotATree);
+    }
+    let one = taken(found, 0)?;
+    let two = taken(found, 1)?;
+    Ok((one, two))
 }
 
 /// The values of the three fields of a record, whose names come in their order.
-#[tactic(auto, using(crate::proofs::Refusals::no_fields_read))]
-pub fn three_fields<'t, 'a>(
+pub fn three_fields<'n, 't, 'a>(
     value: Value<'t, 'a>,
-    first: &str,
-    second: &str,
-    third: &str,
+    first: &'n str,
+    second: &'n str,
+    third: &'n str,
 ) -> Result<(Value<'t, 'a>, Value<'t, 'a>, Value<'t, 'a>), TreeError>
     ensures ok { IfOk result (λ p. view value.entry ≡ object (member first.now (view p.0) (member second.now (view p.1) (member third.now (view p.2) no_members)))) }
     ensures err { IsErrOf result TreeError.NotATree → has_fields (first.now ∷ second.now ∷ third.now ∷ []) (view value.entry) ≡ false }
 {
-    last_three(members_of(&value)?, first, second, third)
+    let found: &mut [Option<Value<'t, 'a>>] = &mut [None, None, None];
+    if !value.fields(&[first, second, third], found) {
+        return Err(TreeError::NotATree);
+    }
+    let one = taken(found, 0)?;
+    let two = taken(found, 1)?;
+    let three = taken(found, 2)?;
+    Ok((one, two, three))
 }
 
 /// The values of the four fields of a record, whose names come in their order.
-#[tactic(auto, using(crate::proofs::Refusals::no_fields_read))]
-pub fn four_fields<'t, 'a>(
+pub fn four_fields<'n, 't, 'a>(
     value: Value<'t, 'a>,
-    first: &str,
-    second: &str,
-    third: &str,
-    fourth: &str,
+    first: &'n str,
+    second: &'n str,
+    third: &'n str,
+    fourth: &'n str,
 ) -> Result<(Value<'t, 'a>, Value<'t, 'a>, Value<'t, 'a>, Value<'t, 'a>), TreeError>
     ensures ok { IfOk result (λ p. view value.entry ≡ object (member first.now (view p.0) (member second.now (view p.1) (member third.now (view p.2) (member fourth.now (view p.3) no_members))))) }
     ensures err { IsErrOf result TreeError.NotATree → has_fields (first.now ∷ second.now ∷ third.now ∷ fourth.now ∷ []) (view value.entry) ≡ false }
 {
-    last_four(members_of(&value)?, first, second, third, fourth)
+    let found: &mut [Option<Value<'t, 'a>>] = &mut [None, None, None, None];
+    if !value.fields(&[first, second, third, fourth], found) {
+        return Err(TreeError::NotATree);
+    }
+    let one = taken(found, 0)?;
+    let two = taken(found, 1)?;
+    let three = taken(found, 2)?;
+    let four = taken(found, 3)?;
+    Ok((one, two, three, four))
 }
 
 /// The values of the five fields of a record, whose names come in their order.
-#[tactic(auto, using(crate::proofs::Refusals::no_fields_read))]
-pub fn five_fields<'t, 'a>(
+pub fn five_fields<'n, 't, 'a>(
     value: Value<'t, 'a>,
-    first: &str,
-    second: &str,
-    third: &str,
-    fourth: &str,
-    fifth: &str,
+    first: &'n str,
+    second: &'n str,
+    third: &'n str,
+    fourth: &'n str,
+    fifth: &'n str,
 ) -> Result<
     (
         Value<'t, 'a>,
@@ -344,20 +159,28 @@ pub fn five_fields<'t, 'a>(
     ensures ok { IfOk result (λ p. view value.entry ≡ object (member first.now (view p.0) (member second.now (view p.1) (member third.now (view p.2) (member fourth.now (view p.3) (member fifth.now (view p.4) no_members)))))) }
     ensures err { IsErrOf result TreeError.NotATree → has_fields (first.now ∷ second.now ∷ third.now ∷ fourth.now ∷ fifth.now ∷ []) (view value.entry) ≡ false }
 {
-    last_five(members_of(&value)?, first, second, third, fourth, fifth)
+    let found: &mut [Option<Value<'t, 'a>>] = &mut [None, None, None, None, None];
+    if !value.fields(&[first, second, third, fourth, fifth], found) {
+        return Err(TreeError::NotATree);
+    }
+    let one = taken(found, 0)?;
+    let two = taken(found, 1)?;
+    let three = taken(found, 2)?;
+    let four = taken(found, 3)?;
+    let five = taken(found, 4)?;
+    Ok((one, two, three, four, five))
 }
 
 /// The values of the seven fields of a record, whose names come in their order.
-#[tactic(auto, using(crate::proofs::Refusals::no_fields_read))]
-pub fn seven_fields<'t, 'a>(
+pub fn seven_fields<'n, 't, 'a>(
     value: Value<'t, 'a>,
-    first: &str,
-    second: &str,
-    third: &str,
-    fourth: &str,
-    fifth: &str,
-    sixth: &str,
-    seventh: &str,
+    first: &'n str,
+    second: &'n str,
+    third: &'n str,
+    fourth: &'n str,
+    fifth: &'n str,
+    sixth: &'n str,
+    seventh: &'n str,
 ) -> Result<
     (
         Value<'t, 'a>,
@@ -373,30 +196,34 @@ pub fn seven_fields<'t, 'a>(
     ensures ok { IfOk result (λ p. view value.entry ≡ object (member first.now (view p.0) (member second.now (view p.1) (member third.now (view p.2) (member fourth.now (view p.3) (member fifth.now (view p.4) (member sixth.now (view p.5) (member seventh.now (view p.6) no_members)))))))) }
     ensures err { IsErrOf result TreeError.NotATree → has_fields (first.now ∷ second.now ∷ third.now ∷ fourth.now ∷ fifth.now ∷ sixth.now ∷ seventh.now ∷ []) (view value.entry) ≡ false }
 {
-    last_seven(
-        members_of(&value)?,
-        first,
-        second,
-        third,
-        fourth,
-        fifth,
-        sixth,
-        seventh,
-    )
+    let found: &mut [Option<Value<'t, 'a>>] = &mut [None, None, None, None, None, None, None];
+    if !value.fields(
+        &[first, second, third, fourth, fifth, sixth, seventh],
+        found,
+    ) {
+        return Err(TreeError::NotATree);
+    }
+    let one = taken(found, 0)?;
+    let two = taken(found, 1)?;
+    let three = taken(found, 2)?;
+    let four = taken(found, 3)?;
+    let five = taken(found, 4)?;
+    let six = taken(found, 5)?;
+    let seven = taken(found, 6)?;
+    Ok((one, two, three, four, five, six, seven))
 }
 
 /// The values of the eight fields of a record, whose names come in their order.
-#[tactic(auto, using(crate::proofs::Refusals::no_fields_read))]
-pub fn eight_fields<'t, 'a>(
+pub fn eight_fields<'n, 't, 'a>(
     value: Value<'t, 'a>,
-    first: &str,
-    second: &str,
-    third: &str,
-    fourth: &str,
-    fifth: &str,
-    sixth: &str,
-    seventh: &str,
-    eighth: &str,
+    first: &'n str,
+    second: &'n str,
+    third: &'n str,
+    fourth: &'n str,
+    fifth: &'n str,
+    sixth: &'n str,
+    seventh: &'n str,
+    eighth: &'n str,
 ) -> Result<
     (
         Value<'t, 'a>,
@@ -413,17 +240,22 @@ pub fn eight_fields<'t, 'a>(
     ensures ok { IfOk result (λ p. view value.entry ≡ object (member first.now (view p.0) (member second.now (view p.1) (member third.now (view p.2) (member fourth.now (view p.3) (member fifth.now (view p.4) (member sixth.now (view p.5) (member seventh.now (view p.6) (member eighth.now (view p.7) no_members))))))))) }
     ensures err { IsErrOf result TreeError.NotATree → has_fields (first.now ∷ second.now ∷ third.now ∷ fourth.now ∷ fifth.now ∷ sixth.now ∷ seventh.now ∷ eighth.now ∷ []) (view value.entry) ≡ false }
 {
-    last_eight(
-        members_of(&value)?,
-        first,
-        second,
-        third,
-        fourth,
-        fifth,
-        sixth,
-        seventh,
-        eighth,
-    )
+    let found: &mut [Option<Value<'t, 'a>>] = &mut [None, None, None, None, None, None, None, None];
+    if !value.fields(
+        &[first, second, third, fourth, fifth, sixth, seventh, eighth],
+        found,
+    ) {
+        return Err(TreeError::NotATree);
+    }
+    let one = taken(found, 0)?;
+    let two = taken(found, 1)?;
+    let three = taken(found, 2)?;
+    let four = taken(found, 3)?;
+    let five = taken(found, 4)?;
+    let six = taken(found, 5)?;
+    let seven = taken(found, 6)?;
+    let eight = taken(found, 7)?;
+    Ok((one, two, three, four, five, six, seven, eight))
 }
 
 /// A variant: its name alone, or its name and what it holds.
@@ -434,6 +266,7 @@ pub enum Case<'t, 'a> {
 }
 
 /// The variant that a value is.
+#[tactic(auto, using(crate::proofs::Refusals::no_case))]
 pub fn case_of<'t, 'a>(value: Value<'t, 'a>) -> Result<Case<'t, 'a>, TreeError>
     ensures ok { IfOk result (λ v. view value.entry ≡ case_form v) }
     ensures err { IsErrOf result TreeError.NotATree → is_variant (view value.entry) ≡ false }
@@ -441,22 +274,8 @@ pub fn case_of<'t, 'a>(value: Value<'t, 'a>) -> Result<Case<'t, 'a>, TreeError>
     if let Some(name) = value.as_str() {
         return Ok(Case::Bare(name));
     }
-    match value.as_object() {
-        Some(members) => only_member(members),
-        None => Err(TreeError::NotATree),
-    }
-}
-
-/// The variant that is the one member of an object.
-fn only_member<'t, 'a>(mut members: Members<'_, 't, 'a>) -> Result<Case<'t, 'a>, TreeError>
-    ensures ok { IfOk result (λ v. object (members_view members.entry) ≡ case_form v) }
-    ensures err { IsErrOf result TreeError.NotATree → is_variant (object (members_view members.entry)) ≡ false }
-{
-    match members.next() {
-        Some((name, held)) => match members.next() {
-            None => Ok(Case::Of(name, held)),
-            Some(_) => Err(TreeError::NotATree),
-        },
+    match value.only_member() {
+        Some((name, held)) => Ok(Case::Of(name, held)),
         None => Err(TreeError::NotATree),
     }
 }
