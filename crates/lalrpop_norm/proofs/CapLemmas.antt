@@ -1,6 +1,6 @@
 -- F36 in the list of faults.
-use Rattle.std.proofs.Common.{rules, Option, Some, None, ◌≡◌, inl, inr, ℕ, zero, suc, ◌+◌, arith, Bool, true, false, List, [], ◌∷◌, ◌++◌, map, refl, sym, ap, subst, ◌∙◌}
-use Rattle.std.specs.Prelude.{◌||◌, flat_map}
+use Rattle.std.proofs.Common.{Option, Some, None, ◌≡◌, ◌≤◌, ◌<◌, inl, inr, ℕ, zero, suc, ◌+◌, arith, Bool, true, false, List, [], ◌∷◌, ◌++◌, map, refl, sym, ap, subst, ◌∙◌}
+use Rattle.std.specs.Prelude.{◌||◌, ◌↔◌, ◌⊎◌, flat_map}
 use Rattle.std.specs.List.{range_with_len}
 use Rattle.std.proofs.lemmas.List.{append_assoc}
 use Rattle.lalrpop_norm_parts.specs.declared.names.Span.{Span}
@@ -9,7 +9,7 @@ use Rattle.lalrpop_norm_tree.specs.SymbolTexts.{part_text}
 use Rattle.lalrpop_norm_tree.specs.Items.{AlternativeData, RuleData, GrammarData}
 use Rattle.lalrpop_norm_tree.specs.declared.items.Condition.{Condition}
 use Rattle.lalrpop_norm_faults.specs.declared.kind.FaultKind.TheVariants.{RecursionCap, SharedName, ConditionArgument, ConditionPattern, NamedInGroup}
-use Rattle.lalrpop_norm_faults.specs.Faults.{Fault, fault_if}
+use Rattle.lalrpop_norm_faults.specs.Faults.{Fault, fault_if, first}
 use Rattle.lalrpop_norm_theory.specs.Laws.{RoundsAreShortestChains}
 use Rattle.lalrpop_norm_theory.specs.Met.{rule_meets, expansion}
 use Rattle.lalrpop_norm_theory.specs.Rounds.{In, NewIn, rules_made}
@@ -22,12 +22,16 @@ use Rattle.lalrpop_norm_model.specs.Grammars.{ConditionValue}
 use Rattle.lalrpop_norm_model.specs.Laws.{RoundsAreRead}
 use Rattle.lalrpop_norm_model.specs.MadeRules.{span_of, some_name_value, argument_kind, macro_named}
 use Rattle.lalrpop_norm_model.specs.PlainRules.{macros_of, expansion_round}
-use Rattle.lalrpop_norm_model.specs.PlainTables.{closed, flat_meaning, declared}
+use Rattle.lalrpop_norm_model.specs.PlainTables.{IsSettled, closed, flat_meaning, declared}
+use Rattle.lalrpop_norm_model.specs.Scopes.{resolved_grammar}
+use Rattle.lalrpop_norm_model.proofs.ResolvedLemmas.{resolved_once}
+use Rattle.lalrpop_norm_resolve.proofs.ResolvedFaults.{faults_gone}
+use Rattle.lalrpop_norm.proofs.ScopedLemmas.{settled}
 use Rattle.lalrpop_norm_conditions.specs.Conditions.{lacks_reading}
 use Rattle.lalrpop_norm_making.specs.Conditions.{quoted_text, comparison_faults, value_faults, called_faults}
-use Rattle.lalrpop_norm_expand.specs.Expansion.{met_before, meetings, has_other, shared_names, shared_in, unmade, unmade_in, past_cap, faults_from, expansion_faults}
+use Rattle.lalrpop_norm_expand.specs.Expansion.{met_before, meetings, has_other, shared_names, shared_in, unmade, unmade_in, past_cap, faults_from, expansion_faults, macro_faults}
 use Rattle.lalrpop_norm_making.specs.Names.{is_declared_name}
-use Rattle.lalrpop_norm.specs.Laws.{CapIsExact, FaultsAreByRound}
+use Rattle.lalrpop_norm.specs.Laws.{CapIsExact, EndsPastLimit, FaultsAreByRound, IsPastLimit}
 
 -- ---- no other fault has the number of the cap
 
@@ -174,8 +178,9 @@ cap_stands (x ∷ []) y i = (span_of x, inl refl)
 cap_stands (x ∷ y ∷ xs) z i = cap_stands (y ∷ xs) y (inl refl)
 
 -- F36 stands exactly where a chain past the limit is the shortest one to some symbol
-pub cap_exact : RoundsAreRead → RoundsAreShortestChains → CapIsExact
-cap_exact read chains value g settled limit = (there, back)
+stands_past : RoundsAreRead → RoundsAreShortestChains → (value : ConditionValue) (g : GrammarData) → IsSettled g → (limit : ℕ) →
+    ((s : Span) × In (cap_at s) (expansion_faults value g limit)) ↔ ((x : ClosedSymbol) × IsPastLimit value g limit x)
+stands_past read chains value g settled limit = (there, back)
   where
     M : Meaning
     M = flat_meaning value g
@@ -198,3 +203,114 @@ cap_exact read chains value g settled limit = (there, back)
         let new = of_map closed h.0 (expansion_round value g limit).fresh (subst (λ xs. In h.0 xs) (sym news) ((chains M (declared g) limit h.0).1 h.1)) in
         let cap = cap_stands (expansion_round value g limit).fresh new.0 new.1 in
         (cap.0, from_end value g 0 limit cap.0 (subst (λ n. In (cap_at cap.0) (past_cap (expansion_round value g n).fresh)) (sym ends) cap.1))
+
+-- ---- F36 as the first of all faults
+
+head_behind : (xs ys : List Fault) (t : Span) (rest : List Fault) → (In (cap_at t) xs → ⊥) → xs ++ ys ≡ cap_at t ∷ rest → (xs ≡ []) × (ys ≡ cap_at t ∷ rest)
+head_behind [] ys t rest none e = (refl, e)
+head_behind (x ∷ xs) ys t rest none e = absurd (none (inl (cc e)))
+
+both_empty : (xs ys : List Fault) → xs ≡ [] → ys ≡ [] → xs ++ ys ≡ []
+both_empty xs ys e f = ap (λ zs. zs ++ ys) e ∙ f
+
+left_empty : (xs ys : List Fault) → xs ++ ys ≡ [] → xs ≡ []
+left_empty [] ys e = refl
+left_empty (x ∷ xs) ys e = absurd (cc e)
+
+right_empty : (xs ys : List Fault) → xs ++ ys ≡ [] → ys ≡ []
+right_empty [] ys e = e
+right_empty (x ∷ xs) ys e = absurd (cc e)
+
+past_one : (xs : List Part) (t : Span) (rest : List Fault) → past_cap xs ≡ cap_at t ∷ rest → past_cap xs ≡ cap_at t ∷ []
+past_one [] t rest e = absurd (cc e)
+past_one (x ∷ []) t rest e = ap (λ f. f ∷ []) (cc e)
+past_one (x ∷ y ∷ xs) t rest e = past_one (y ∷ xs) t rest e
+
+rest_of : (fs : List Fault) (t : Span) → first fs ≡ Some (cap_at t) → (rest : List Fault) × (fs ≡ cap_at t ∷ rest)
+rest_of [] t e = absurd (cc e)
+rest_of (f ∷ fs) t e = (fs, ap (λ x. x ∷ fs) (cc e))
+
+module _ (value : ConditionValue) (g : GrammarData) where
+  abbrev past_at : ℕ → List Fault
+  past_at n = past_cap (expansion_round value g n).fresh
+
+  first_from : (k left : ℕ) (t : Span) (rest : List Fault) → faults_from value g k left ≡ cap_at t ∷ rest
+      → ((j : ℕ) → k ≤ j → j < k + left → shared_in value g j ++ unmade_in value g j ≡ []) × (shared_in value g (k + left) ≡ []) × (past_at (k + left) ≡ cap_at t ∷ rest)
+  first_from k zero t rest e =
+      let last : k ≡ k + 0 = omega arith in
+      let h = head_behind (shared_in value g k) (past_at k) t rest (not_shared (rule_names g) (met_before value g k) (meetings value g k) t) e in
+      ((λ j low high. absurd (omega (arith, low, high))), ap (shared_in value g) (sym last) ∙ h.0, ap past_at (sym last) ∙ h.1)
+  first_from k (suc left) t rest e =
+      let last : suc k + left ≡ k + suc left = omega arith in
+      let one = head_behind (shared_in value g k) (unmade_in value g k ++ faults_from value g (suc k) left) t rest (not_shared (rule_names g) (met_before value g k) (meetings value g k) t) e in
+      let two = head_behind (unmade_in value g k) (faults_from value g (suc k) left) t rest (none_made (macros_of g) (rules_made (expansion_round value g k)) t) one.1 in
+      let more = first_from (suc k) left t rest two.1 in (
+        (λ j low high. elim (at_or_later k j low) [
+          | inl here ↦ subst (λ n. shared_in value g n ++ unmade_in value g n ≡ []) here (both_empty (shared_in value g k) (unmade_in value g k) one.0 two.0)
+          | inr later ↦ more.0 j later (omega (arith, high))
+        ]),
+        ap (shared_in value g) (sym last) ∙ more.1,
+        ap past_at (sym last) ∙ more.2,
+      )
+    where
+      at_or_later : (k j : ℕ) → k ≤ j → (k ≡ j) ⊎ (suc k ≤ j)
+      at_or_later zero zero h = inl refl
+      at_or_later zero (suc j) h = inr (omega arith)
+      at_or_later (suc k) zero h = absurd (omega (arith, h))
+      at_or_later (suc k) (suc j) h = elim (at_or_later k j (omega (arith, h))) [
+        | inl same ↦ inl (ap suc same)
+        | inr later ↦ inr (omega (arith, later))
+      ]
+
+  none_before : (k left : ℕ) → ((j : ℕ) → k ≤ j → j < k + left → shared_in value g j ++ unmade_in value g j ≡ []) → shared_in value g (k + left) ≡ []
+      → faults_from value g k left ≡ past_at (k + left)
+  none_before k zero h own =
+      let last : k + 0 ≡ k = omega arith in
+      ap (λ fs. fs ++ past_at k) (ap (shared_in value g) (sym last) ∙ own) ∙ ap past_at (sym last)
+  none_before k (suc left) h own =
+      let last : suc k + left ≡ k + suc left = omega arith in
+      let here = h k (omega arith) (omega arith) in
+      let more = none_before (suc k) left (λ j low high. h j (omega (arith, low)) (omega (arith, high))) (ap (shared_in value g) last ∙ own) in
+      ap (λ fs. fs ++ (unmade_in value g k ++ faults_from value g (suc k) left)) (left_empty (shared_in value g k) (unmade_in value g k) here)
+      ∙ ap (λ fs. fs ++ faults_from value g (suc k) left) (right_empty (shared_in value g k) (unmade_in value g k) here)
+      ∙ more ∙ ap past_at last
+
+-- the cap
+pub cap_exact : RoundsAreRead → RoundsAreShortestChains → CapIsExact
+cap_exact read chains value g unfaulted limit = (stands, answered)
+  where
+    h : GrammarData
+    h = resolved_grammar g
+
+    same : macro_faults value g limit ≡ expansion_faults value h limit
+    same = ap (λ fs. fs ++ expansion_faults value h limit) unfaulted
+
+    past : ((s : Span) × In (cap_at s) (expansion_faults value h limit)) ↔ ((x : ClosedSymbol) × IsPastLimit value h limit x)
+    past = stands_past read chains value h (settled h (faults_gone g unfaulted) (resolved_once g)) limit
+
+    stands : ((s : Span) × In (cap_at s) (macro_faults value g limit)) ↔ ((x : ClosedSymbol) × IsPastLimit value h limit x)
+    stands = (
+      (λ i. past.0 (i.0, subst (λ fs. In (cap_at i.0) fs) same i.1)),
+      (λ x. let i = past.1 x in (i.0, subst (λ fs. In (cap_at i.0) fs) (sym same) i.1)),
+    )
+
+    start : 0 + limit ≡ limit
+    start = omega arith
+
+    answered : (s : Span) → (first (macro_faults value g limit) ≡ Some (cap_at s)) ↔ EndsPastLimit value h limit s
+    answered s = (there, back)
+      where
+        there : first (macro_faults value g limit) ≡ Some (cap_at s) → EndsPastLimit value h limit s
+        there e =
+            let r = rest_of (expansion_faults value h limit) s (ap first (sym same) ∙ e) in
+            let f = first_from value h 0 limit s r.0 r.1 in
+            record {
+              made = λ k below. f.0 k (omega arith) (omega (arith, below));
+              own = ap (shared_in value h) (sym start) ∙ f.1;
+              last = past_one (expansion_round value h limit).fresh s r.0 (ap (past_at value h) (sym start) ∙ f.2);
+              past = past.0 (s, subst (λ fs. In (cap_at s) fs) (sym r.1) (inl refl));
+            }
+
+        back : EndsPastLimit value h limit s → first (macro_faults value g limit) ≡ Some (cap_at s)
+        back b =
+            ap first (same ∙ none_before value h 0 limit (λ j low high. b.made j (omega (arith, high))) (ap (shared_in value h) start ∙ b.own) ∙ ap (past_at value h) start ∙ b.last)

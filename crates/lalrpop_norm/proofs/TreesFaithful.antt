@@ -5,7 +5,6 @@ use Rattle.std.proofs.lemmas.Grind.{flat_map-append}
 use Rattle.lalrpop_norm_tree.specs.Items.{RuleData, EnumTokenData, GrammarData, intern_item}
 use Rattle.lalrpop_norm_theory.specs.Symbols.{Name, ClosedSymbol}
 use Rattle.lalrpop_norm_theory.specs.Meaning.{Meaning}
-use Rattle.lalrpop_norm_theory.specs.LoweredTrees as theory
 use Rattle.lalrpop_norm_theory.specs.LoweredTrees.{nonterminal_symbol, from_start}
 use Rattle.lalrpop_norm_theory.specs.Clauses.{IsNonterminal, clause_production, clauses, symbol_of}
 use Rattle.lalrpop_norm_theory.specs.LoweredTrees.{ProductionTable}

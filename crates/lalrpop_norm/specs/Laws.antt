@@ -1,8 +1,9 @@
 -- What is proved of the whole way, each statement in one piece. The functions of the module `laws` carry them.
-use Rattle.std.specs.Prelude.{◌≡◌, ◌↔◌, ◌++◌, ℕ, List, [], Some, Bool, false, flat_map}
+use Rattle.std.specs.Prelude.{◌≡◌, ◌↔◌, ◌++◌, ◌<◌, ◌∷◌, ℕ, List, [], Some, Bool, false, flat_map}
 use Rattle.std.specs.List.{range_with_len}
 use Rattle.lalrpop_norm_parts.specs.declared.names.Span.{Span}
 use Rattle.lalrpop_norm_faults.specs.declared.kind.FaultKind.TheVariants.{RecursionCap}
+use Rattle.lalrpop_norm_faults.specs.Faults.{first}
 use Rattle.lalrpop_norm_tree.specs.Items.{RuleData, GrammarData}
 use Rattle.lalrpop_norm_parts.specs.Reprs.{ReprData}
 use Rattle.lalrpop_norm_theory.specs.Symbols.{ClosedSymbol, Name, Terminal}
@@ -17,7 +18,7 @@ use Rattle.lalrpop_norm_model.specs.Levels.{with_levels}
 use Rattle.lalrpop_norm_model.specs.Scopes.{resolved_grammar}
 use Rattle.lalrpop_norm_model.specs.Stated.{HasLevel}
 use Rattle.lalrpop_norm_model.specs.Grammars.{ConditionValue, is_nil, references, roots, value_of}
-use Rattle.lalrpop_norm_model.specs.PlainTables.{IsSettled, flat_meaning, declared}
+use Rattle.lalrpop_norm_model.specs.PlainTables.{flat_meaning, declared}
 use Rattle.lalrpop_norm_model.specs.LevelRules.{leveled_grammar}
 use Rattle.lalrpop_norm_model.specs.PlainRules.{all_rules, expansion_round, IsEnded}
 use Rattle.lalrpop_norm_model.specs.Renumbered.{prepared_grammar}
@@ -27,7 +28,7 @@ use Rattle.lalrpop_norm_model.specs.LoweringFaults.{lowering_faults}
 use Rattle.lalrpop_norm_model.specs.CheckedTokens.{IsEntered}
 use Rattle.lalrpop_norm_resolve.specs.NameFaults.{resolve_faults}
 use Rattle.lalrpop_norm_precedence.specs.PrecedenceFaults.{leveled_faults}
-use Rattle.lalrpop_norm_expand.specs.Expansion.{expansion_faults, past_cap, shared_in, unmade_in}
+use Rattle.lalrpop_norm_expand.specs.Expansion.{expansion_faults, macro_faults, past_cap, shared_in, unmade_in}
 use Rattle.lalrpop_norm_repr.specs.Lowered.{LoweredGrammar}
 use Rattle.lalrpop_norm_repr.specs.Tables.{TypeTable}
 use Rattle.lalrpop_norm_late.specs.Lowering.{public_rules_in, start_name}
@@ -72,13 +73,27 @@ LoweredTreesAreFaithful =
     (types : TypeTable) (l : LoweredGrammar) → IsLoweringOf plain (all_rules plain) types l →
     HasFaithfulTrees fs g (grammar_of_plain_rules fs g rounds) rounds l
 
--- F36 stands in an expansion exactly where some symbol is new in the round after the last that may make rules: its shortest chain
--- has one rule more than there are such rounds.
+-- the symbol is new in the round after the first `limit`: its shortest chain has one rule more than there are such rounds
+abbrev pub IsPastLimit : ConditionValue → GrammarData → ℕ → ClosedSymbol → Type 0
+IsPastLimit value g limit x =
+    NewIn (rule_meets (flat_meaning value g)) (flat_map (rule_meets (flat_meaning value g)) (declared g)) limit x
+
+-- What an expansion that is refused for F36 at s has done: in the rounds that may make rules nothing shared a name, and each new
+-- symbol got its rule; in the round after them nothing shared a name, something is new, and of that the symbol met last is at s.
+pub record EndsPastLimit (value : ConditionValue) (g : GrammarData) (limit : ℕ) (s : Span) : Type 0 where
+  pub made : (k : ℕ) → k < limit → shared_in value g k ++ unmade_in value g k ≡ []
+  pub own : shared_in value g limit ≡ []
+  pub last : past_cap (expansion_round value g limit).fresh ≡ (RecursionCap, s) ∷ []
+  pub past : (x : ClosedSymbol) × IsPastLimit value g limit x
+
+-- The cap: where no fault of names stands, F36 stands exactly where some symbol is past the limit, and it is what `expand_macros`
+-- is refused for, at s, exactly where the expansion ends past the limit at s.
 abbrev pub CapIsExact : Type 0
-CapIsExact = (value : ConditionValue) (g : GrammarData) → IsSettled g → (limit : ℕ) →
-    ((s : Span) × In (RecursionCap, s) (expansion_faults value g limit))
-    ↔ ((x : ClosedSymbol) × NewIn (rule_meets (flat_meaning value g))
-    (flat_map (rule_meets (flat_meaning value g)) (declared g)) limit x)
+CapIsExact = (value : ConditionValue) (g : GrammarData) → resolve_faults g ≡ [] → (limit : ℕ) →
+    (((s : Span) × In (RecursionCap, s) (macro_faults value g limit))
+    ↔ ((x : ClosedSymbol) × IsPastLimit value (resolved_grammar g) limit x))
+    × ((s : Span) → (first (macro_faults value g limit) ≡ Some (RecursionCap, s))
+    ↔ EndsPastLimit value (resolved_grammar g) limit s)
 
 -- The faults of an expansion, round by round: of each round that may make rules, what shares a name as it is met, then what no
 -- rule is made of; of the one after them, what shares a name, then that something is new there.

@@ -27,8 +27,10 @@ pub fn names_are_own()
     ensures { NamesAreOwn }
 {}
 
-/// F36 stands in an expansion exactly where some symbol is first met past the limit: its shortest chain of rules is longer than the
-/// number of rounds that may make rules, and it is new in the round after them.
+/// The cap. Where no fault of names stands, F36 stands exactly where some symbol is first met past the limit: its shortest chain of
+/// rules is longer than the number of rounds that may make rules, and it is new in the round after them. And `expand_macros` is
+/// refused for F36, at a span, exactly where in these rounds nothing shares a name and each new symbol gets its rule, nothing
+/// shares a name in the round after them, and of what is new there the symbol met last is at that span.
 pub fn cap_is_exact()
     ensures { CapIsExact }
 {
