@@ -25,6 +25,7 @@ use Rattle.lalrpop_norm_model.specs.PlainRules.{macros_of, expansion_round}
 use Rattle.lalrpop_norm_model.specs.PlainTables.{IsSettled, closed, flat_meaning, declared}
 use Rattle.lalrpop_norm_model.specs.Scopes.{resolved_grammar}
 use Rattle.lalrpop_norm_model.proofs.ResolvedLemmas.{resolved_once}
+use Rattle.lalrpop_norm_resolve.specs.NameFaults.{resolve_faults}
 use Rattle.lalrpop_norm_resolve.proofs.ResolvedFaults.{faults_gone}
 use Rattle.lalrpop_norm.proofs.ScopedLemmas.{settled}
 use Rattle.lalrpop_norm_conditions.specs.Conditions.{lacks_reading}
@@ -275,9 +276,10 @@ module _ (value : ConditionValue) (g : GrammarData) where
       ∙ ap (λ fs. fs ++ faults_from value g (suc k) left) (right_empty (shared_in value g k) (unmade_in value g k) here)
       ∙ more ∙ ap past_at last
 
--- the cap
-pub cap_exact : RoundsAreRead → RoundsAreShortestChains → CapIsExact
-cap_exact read chains value g unfaulted limit = (stands, answered)
+named_cap : RoundsAreRead → RoundsAreShortestChains → (value : ConditionValue) (g : GrammarData) → resolve_faults g ≡ [] → (limit : ℕ) →
+    (((s : Span) × In (cap_at s) (macro_faults value g limit)) ↔ ((x : ClosedSymbol) × IsPastLimit value (resolved_grammar g) limit x))
+    × ((s : Span) → (first (macro_faults value g limit) ≡ Some (cap_at s)) ↔ EndsPastLimit value (resolved_grammar g) limit s)
+named_cap read chains value g unfaulted limit = (stands, answered)
   where
     h : GrammarData
     h = resolved_grammar g
@@ -314,3 +316,7 @@ cap_exact read chains value g unfaulted limit = (stands, answered)
         back : EndsPastLimit value h limit s → first (macro_faults value g limit) ≡ Some (cap_at s)
         back b =
             ap first (same ∙ none_before value h 0 limit (λ j low high. b.made j (omega (arith, high))) (ap (shared_in value h) start ∙ b.own) ∙ ap (past_at value h) start ∙ b.last)
+
+-- the cap
+pub cap_exact : RoundsAreRead → RoundsAreShortestChains → CapIsExact
+cap_exact read chains value g limit = ((λ known. stands_past read chains value g known limit), (λ unfaulted. named_cap read chains value g unfaulted limit))

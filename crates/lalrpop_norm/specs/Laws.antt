@@ -18,7 +18,7 @@ use Rattle.lalrpop_norm_model.specs.Levels.{with_levels}
 use Rattle.lalrpop_norm_model.specs.Scopes.{resolved_grammar}
 use Rattle.lalrpop_norm_model.specs.Stated.{HasLevel}
 use Rattle.lalrpop_norm_model.specs.Grammars.{ConditionValue, is_nil, references, roots, value_of}
-use Rattle.lalrpop_norm_model.specs.PlainTables.{flat_meaning, declared}
+use Rattle.lalrpop_norm_model.specs.PlainTables.{IsSettled, flat_meaning, declared}
 use Rattle.lalrpop_norm_model.specs.LevelRules.{leveled_grammar}
 use Rattle.lalrpop_norm_model.specs.PlainRules.{all_rules, expansion_round, IsEnded}
 use Rattle.lalrpop_norm_model.specs.Renumbered.{prepared_grammar}
@@ -86,14 +86,17 @@ pub record EndsPastLimit (value : ConditionValue) (g : GrammarData) (limit : ℕ
   pub last : past_cap (expansion_round value g limit).fresh ≡ (RecursionCap, s) ∷ []
   pub past : (x : ClosedSymbol) × IsPastLimit value g limit x
 
--- The cap: where no fault of names stands, F36 stands exactly where some symbol is past the limit, and it is what `expand_macros`
--- is refused for, at s, exactly where the expansion ends past the limit at s.
+-- The cap. In the expansion of a settled grammar F36 stands exactly where some symbol is past the limit; so too among the
+-- faults of `expand_macros`, where no fault of names stands. There it is what the call is refused for, at s, exactly where the
+-- expansion of the resolved grammar ends past the limit at s.
 abbrev pub CapIsExact : Type 0
-CapIsExact = (value : ConditionValue) (g : GrammarData) → resolve_faults g ≡ [] → (limit : ℕ) →
-    (((s : Span) × In (RecursionCap, s) (macro_faults value g limit))
+CapIsExact = (value : ConditionValue) (g : GrammarData) (limit : ℕ) →
+    (IsSettled g → ((s : Span) × In (RecursionCap, s) (expansion_faults value g limit))
+    ↔ ((x : ClosedSymbol) × IsPastLimit value g limit x))
+    × (resolve_faults g ≡ [] → (((s : Span) × In (RecursionCap, s) (macro_faults value g limit))
     ↔ ((x : ClosedSymbol) × IsPastLimit value (resolved_grammar g) limit x))
     × ((s : Span) → (first (macro_faults value g limit) ≡ Some (RecursionCap, s))
-    ↔ EndsPastLimit value (resolved_grammar g) limit s)
+    ↔ EndsPastLimit value (resolved_grammar g) limit s))
 
 -- The faults of an expansion, round by round: of each round that may make rules, what shares a name as it is met, then what no
 -- rule is made of; of the one after them, what shares a name, then that something is new there.
