@@ -3,3 +3,4 @@ pub mod Limits
 pub mod Order
 pub mod View
 pub mod Fields
+pub mod Number

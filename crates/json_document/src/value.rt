@@ -1,7 +1,8 @@
 //! What a value is asked for: its text, its number, its items, its members.
-ghost use Rattle.std.specs.Prelude.{◌≡◌, ◌&&◌, true, false, is_some, Some, None, option_map, option_and_then, MatchOption};
+ghost use Rattle.std.specs.Prelude.{◌≡◌, ◌^◌, ◌-◌, min, ◌&&◌, true, false, is_some, Some, None, option_map, option_and_then, MatchOption};
 ghost use Rattle.serde_json.specs.Data.{no_items, item, no_members, member};
 ghost use Rattle.serde_json.specs.Find.{as_null, as_bool, as_number, as_str, as_array, as_object, as_u64};
+ghost use Rattle.json_document.specs.Number.{how_many};
 ghost use Rattle.json_document.specs.Order.{is_above, is_no_later, first_member};
 ghost use Rattle.json_document.specs.View.{view, items_view, members_view};
 
@@ -78,6 +79,18 @@ impl<'t, 'a> Items<'t, 'a> {
             Some(element) => Some(Value { element }),
             None => None,
         }
+    }
+
+    /// How many items are left, or 2 ^ 64 - 1, if they are more. It takes one step for each, whatever is in it.
+    pub fn count(self) -> usize
+        ensures { result ≡ min (how_many (items_view self.entry)) (2 ^ 64 - 1) }
+    {
+        let mut left = self;
+        let mut count: usize = 0;
+        while let Some(_) = left.next() {
+            count = count.saturating_add(1);
+        }
+        count
     }
 }
 

@@ -14,8 +14,9 @@ mod value;
 use json_document::{Document, OpenError, Scratch};
 use std::alloc::Global;
 pub use value::{
-    Case, TreeError, case_of, eight_fields, five_fields, four_fields, items, natural, only_field,
-    pair, present, seven_fields, text, three_fields, triple, truth, two_fields,
+    Case, TreeError, case_of, counted_items, eight_fields, five_fields, four_fields, items,
+    natural, only_field, pair, present, seven_fields, text, three_fields, triple, truth,
+    two_fields,
 };
 
 /// The document that a JSON text is. Of a key that an object repeats the last value counts.

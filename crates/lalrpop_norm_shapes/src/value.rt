@@ -1,11 +1,12 @@
 //! The parts of a JSON value, each refused as no tree where it is not there.
-ghost use Rattle.std.specs.Prelude.{◌≡◌, ◌<◌, suc, [], ◌∷◌, length, drop, Some, None, is_some, IfOk, IfSome, IfNone, IsErr, IsErrOf, false};
+ghost use Rattle.std.specs.Prelude.{◌≡◌, ◌<◌, ◌^◌, ◌-◌, min, suc, [], ◌∷◌, length, drop, Some, None, is_some, IfOk, IfSome, IfNone, IsErr, IsErrOf, false};
 ghost use Rattle.std.specs.List.{list_all};
 ghost use Rattle.serde_json.specs.Data.{null, boolean, number, unsigned, string, array, object, item, no_items, member, no_members};
 ghost use Rattle.serde_json.specs.Find.{as_array};
 ghost use Rattle.json_document.specs.View.{view, items_view};
 ghost use Rattle.lalrpop_norm_shapes.specs.Shapes.{is, text, truth, natural};
 ghost use Rattle.json_document.specs.Fields.{has_fields};
+ghost use Rattle.json_document.specs.Number.{how_many};
 ghost use Rattle.lalrpop_norm_shapes.specs.Parts.{is_variant, is_pair, is_triple, is_null, case_form};
 
 use json_document::{Items, Value};
@@ -289,6 +290,19 @@ pub fn items<'t, 'a>(value: Value<'t, 'a>) -> Result<Items<'t, 'a>, TreeError>
         Some(list) => Ok(list),
         None => Err(TreeError::NotATree),
     }
+}
+
+/// How many items an array has, or 2 ^ 64 - 1, if they are more, and the items.
+pub fn counted_items<'t, 'a>(value: Value<'t, 'a>) -> Result<(usize, Items<'t, 'a>), TreeError>
+    ensures ok { IfOk result (λ c. view value.entry ≡ array (items_view c.1)) }
+    ensures count { IfOk result (λ c. c.0 ≡ min (how_many (items_view c.1)) (2 ^ 64 - 1)) }
+    ensures err { IsErrOf result TreeError.NotATree → as_array (view value.entry) ≡ None }
+{
+    let count = match value.as_array() {
+        Some(list) => list.count(),
+        None => return Err(TreeError::NotATree),
+    };
+    Ok((count, items(value)?))
 }
 
 /// The two items of an array of two.

@@ -1,7 +1,8 @@
-//! Small questions, match blocks that calls make, arguments of bounds that are mapped, and texts that no grammar shows.
+//! Small questions, match blocks that calls make, arguments of bounds that are mapped, texts that no grammar shows, and owners of
+//! a shared text.
 use crate::actions::{nonterminal, terminal};
 use crate::made::{
-    atom, both, boxed, copy_of, list_of_one, list_of_two, made_of, push_debug, push_shown,
+    atom, both, boxed, cloned, copy_of, list_of_one, list_of_two, made_of, push_debug, push_shown,
     show_made,
 };
 use crate::names::{bound_clause, lifetime, named, named_path, of_parameter};
@@ -23,7 +24,8 @@ pub(crate) fn push_looks(alloc: Global, text: &mut String) -> Result<(), NoMemor
     push_kinds(alloc, text)?;
     push_blocks(alloc, text)?;
     push_mapped(alloc, text)?;
-    push_texts(alloc, text)
+    push_texts(alloc, text)?;
+    push_owners(alloc, text)
 }
 
 // ---- names and symbols
@@ -189,4 +191,38 @@ fn applied(alloc: Global) -> Result<NominalTypeRepr, NoMemory> {
 
 fn type_named(alloc: Global, name: &str) -> Result<TypeRepr, NoMemory> {
     of_parameter(alloc, named(alloc, name))
+}
+
+// ---- shared texts
+
+/// A text by one of three owners, when the other two have ended, and what two texts are to one another.
+fn push_owners(alloc: Global, text: &mut String) -> Result<(), NoMemory> {
+    push_shown(text, "owned ", last_owner(alloc), "\n")?;
+    show_made(text, pair(alloc, "Term"), push_compared)?;
+    show_made(text, pair(alloc, "Tern"), push_compared)
+}
+
+fn last_owner(alloc: Global) -> Result<Atom, NoMemory> {
+    made_of(atom(alloc, "Expr<\"é\">"), further_owner)
+}
+
+/// One more owner, and another between, which ends.
+fn further_owner(first: &Atom) -> Result<Atom, NoMemory> {
+    copy_of(cloned(first))
+}
+
+/// `Term` and that name, which are two texts even where they are equal.
+fn pair(alloc: Global, name: &str) -> Result<(Atom, Atom), NoMemory> {
+    both(atom(alloc, "Term"), atom(alloc, name))
+}
+
+fn push_compared(text: &mut String, pair: &(Atom, Atom)) -> Result<(), NoMemory> {
+    let (first, second) = pair;
+    let is_equal = first == second;
+    let order = first.cmp(second);
+    write!(
+        text,
+        "texts {first} and {second:?}, equal {is_equal}, order {order:?}\n"
+    )?;
+    Ok(())
 }

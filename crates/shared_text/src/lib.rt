@@ -3,7 +3,5 @@
 
 mod atom;
 mod counts;
-#[cfg(test)]
-mod tests;
 
 pub use atom::{Atom, NoMemory};

@@ -10,7 +10,7 @@ ghost use Rattle.lalrpop_norm_json.specs.Forms.{argument_form, attribute_form, a
 use super::names::{atom, span, string};
 use super::parts::pushed;
 use json_document::Value;
-use lalrpop_norm_shapes::{Case, TreeError, case_of, items, three_fields};
+use lalrpop_norm_shapes::{Case, TreeError, case_of, counted_items, three_fields};
 use lalrpop_norm_tree::grammar::parse_tree::{Attribute, AttributeArg};
 use std::alloc::Global;
 
@@ -53,8 +53,8 @@ pub(super) fn attributes(alloc: Global, value: Value<'_, '_>) -> Result<Vec<Attr
     ensures ok { IfOk result (λ xs. view value.entry ≡ array (attributes_form (attributes_view xs.items))) }
     ensures err { IsErrOf result TreeError.NotATree → fits (place (many shape.attribute)) (view value.entry) ≡ false }
 {
-    let mut values = items(value)?;
-    let mut attributes = Vec::new(alloc);
+    let (count, mut values) = counted_items(value)?;
+    let mut attributes = Vec::with_capacity(alloc, count)?;
     while let Some(element) = values.next() {
         attributes = pushed(attributes, attribute(alloc, element))?;
     }

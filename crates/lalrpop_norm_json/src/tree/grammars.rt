@@ -12,7 +12,7 @@ use super::parts::{list, pushed};
 use super::rules::rule;
 use super::tokens::{extern_token, match_token};
 use json_document::Value;
-use lalrpop_norm_shapes::{Case, TreeError, case_of, eight_fields, items};
+use lalrpop_norm_shapes::{Case, TreeError, case_of, counted_items, eight_fields};
 use lalrpop_norm_tree::grammar::parse_tree::{Grammar, GrammarItem};
 use std::alloc::Global;
 
@@ -38,8 +38,8 @@ fn grammar_items(alloc: Global, value: Value<'_, '_>) -> Result<Vec<GrammarItem>
     ensures ok { IfOk result (λ is. items_form (map item_view is.items) ≡ Some (view value.entry)) }
     ensures err { IsErrOf result TreeError.NotATree → fits (place (many shape.grammar_item)) (view value.entry) ≡ false }
 {
-    let mut values = items(value)?;
-    let mut read = Vec::new(alloc);
+    let (count, mut values) = counted_items(value)?;
+    let mut read = Vec::with_capacity(alloc, count)?;
     while let Some(element) = values.next() {
         read = pushed(read, grammar_item(alloc, element))?;
     }

@@ -6,7 +6,7 @@ ghost use Rattle.lalrpop_norm_shapes.specs.Shapes.{ShapeName, is, fits, place, m
 ghost use Rattle.lalrpop_norm_json.specs.Json.{list_form, maybe_form};
 
 use json_document::Value;
-use lalrpop_norm_shapes::{TreeError, items, present};
+use lalrpop_norm_shapes::{TreeError, counted_items, present};
 use std::alloc::Global;
 
 /// What is read from its JSON form.
@@ -57,8 +57,8 @@ pub(super) fn list<T: FromValue + Drop>(
     ensures ok { IfOk result (λ xs. view value.entry ≡ list_form T.FromValue.form xs.items) }
     ensures err { IsErrOf result TreeError.NotATree → fits (place (many T.FromValue.named)) (view value.entry) ≡ false }
 {
-    let mut values = items(value)?;
-    let mut read = Vec::new(alloc);
+    let (count, mut values) = counted_items(value)?;
+    let mut read = Vec::with_capacity(alloc, count)?;
     while let Some(element) = values.next() {
         read.push(T::from_value(alloc, element)?)?;
     }

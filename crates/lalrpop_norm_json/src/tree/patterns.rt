@@ -17,7 +17,7 @@ use super::parts::pushed;
 use super::types::type_ref;
 use json_document::Value;
 use lalrpop_norm_shapes::{
-    Case, TreeError, case_of, items, natural, pair, three_fields, triple, truth, two_fields,
+    Case, TreeError, case_of, counted_items, natural, pair, three_fields, triple, truth, two_fields,
 };
 use lalrpop_norm_tree::grammar::parse_tree::{Path, TypeRef};
 use lalrpop_norm_tree::grammar::pattern::{FieldPattern, Pattern, PatternKind};
@@ -114,8 +114,8 @@ fn field_patterns(
     ensures ok { IfOk result (λ fs. view value.entry ≡ array (field_patterns_form (fields_view type_view fs.items))) }
     ensures err { IsErrOf result TreeError.NotATree → fits (place (many shape.field_pattern)) (view value.entry) ≡ false }
 {
-    let mut values = items(value)?;
-    let mut fields = Vec::new(alloc);
+    let (count, mut values) = counted_items(value)?;
+    let mut fields = Vec::with_capacity(alloc, count)?;
     while let Some(element) = values.next() {
         fields = pushed(fields, field_pattern(alloc, element))?;
     }
@@ -140,8 +140,8 @@ fn patterns(alloc: Global, value: Value<'_, '_>) -> Result<Vec<Pattern<TypeRef>>
     ensures ok { IfOk result (λ ps. view value.entry ≡ array (patterns_form (patterns_view type_view ps.items))) }
     ensures err { IsErrOf result TreeError.NotATree → fits (place (many shape.pattern)) (view value.entry) ≡ false }
 {
-    let mut values = items(value)?;
-    let mut patterns = Vec::new(alloc);
+    let (count, mut values) = counted_items(value)?;
+    let mut patterns = Vec::with_capacity(alloc, count)?;
     while let Some(element) = values.next() {
         patterns = pushed(patterns, pattern(alloc, element))?;
     }

@@ -10,7 +10,9 @@ ghost use Rattle.lalrpop_norm_json.specs.SymbolForms.{op_form, name_form, argume
 
 use super::names::{atom, span, terminal};
 use json_document::Value;
-use lalrpop_norm_shapes::{Case, TreeError, case_of, items, only_field, pair, truth, two_fields};
+use lalrpop_norm_shapes::{
+    Case, TreeError, case_of, counted_items, only_field, pair, truth, two_fields,
+};
 use lalrpop_norm_tree::grammar::parse_tree::{
     ArgPattern, ExprSymbol, MacroSymbol, Name, NonterminalString, RepeatOp, RepeatSymbol, Symbol,
     SymbolKind, Tuple,
@@ -77,8 +79,8 @@ fn argument_patterns(alloc: Global, value: Value<'_, '_>) -> Result<Vec<ArgPatte
     ensures ok { IfOk result (λ ps. view value.entry ≡ array (argument_patterns_form (argument_patterns_view ps.items))) }
     ensures err { IsErrOf result TreeError.NotATree → fits (place (many shape.argument_pattern)) (view value.entry) ≡ false }
 {
-    let mut values = items(value)?;
-    let mut patterns = Vec::new(alloc);
+    let (count, mut values) = counted_items(value)?;
+    let mut patterns = Vec::with_capacity(alloc, count)?;
     while let Some(element) = values.next() {
         patterns.push(argument_pattern(alloc, element)?)?;
     }
@@ -204,8 +206,8 @@ fn symbols(alloc: Global, value: Value<'_, '_>) -> Result<Vec<Symbol>, TreeError
     ensures ok { IfOk result (λ ss. view value.entry ≡ array (parts_form (parts_view ss.items))) }
     ensures err { IsErrOf result TreeError.NotATree → fits (place (many shape.symbol)) (view value.entry) ≡ false }
 {
-    let mut values = items(value)?;
-    let mut symbols = Vec::new(alloc);
+    let (count, mut values) = counted_items(value)?;
+    let mut symbols = Vec::with_capacity(alloc, count)?;
     while let Some(element) = values.next() {
         symbols.push(symbol(alloc, element)?)?;
     }

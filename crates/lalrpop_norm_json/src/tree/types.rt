@@ -15,7 +15,7 @@ use super::parts::{FromValue, list, maybe};
 use super::symbols::kind;
 use json_document::Value;
 use lalrpop_norm_shapes::{
-    Case, TreeError, case_of, four_fields, items, present, three_fields, truth, two_fields,
+    Case, TreeError, case_of, counted_items, four_fields, present, three_fields, truth, two_fields,
 };
 use lalrpop_norm_tree::grammar::parse_tree::{Lifetime, Parameter, Path, TypeRef};
 use std::alloc::Global;
@@ -159,8 +159,8 @@ fn type_refs(alloc: Global, value: Value<'_, '_>) -> Result<Vec<TypeRef>, TreeEr
     ensures ok { IfOk result (λ ts. view value.entry ≡ array (types_form (types_view ts.items))) }
     ensures err { IsErrOf result TreeError.NotATree → fits (place (many shape.type)) (view value.entry) ≡ false }
 {
-    let mut values = items(value)?;
-    let mut types = Vec::new(alloc);
+    let (count, mut values) = counted_items(value)?;
+    let mut types = Vec::with_capacity(alloc, count)?;
     while let Some(element) = values.next() {
         types.push(type_ref(alloc, element)?)?;
     }
