@@ -56,7 +56,7 @@ fn step_alternative(
     ensures { IfOk result (λ a. alternative_view a ≡ step_alternative span name.0) }
 {
     let kind = SymbolKind::Nonterminal(name);
-    let mut symbols = Vec::new(alloc);
+    let mut symbols = Vec::with_capacity(alloc, 1)?;
     symbols.push(Symbol { span, kind })?;
     Ok(Alternative {
         span,

@@ -17,7 +17,7 @@ pub(crate) fn symbol_types(
 ) -> Result<Vec<TypeRepr>, NoMemory>
     ensures { IfOk result (λ ts. map repr_view ts.items ≡ map (type_or_unit (type_table types.now)) symbols.now) }
 {
-    let mut found = Vec::new(alloc);
+    let mut found = Vec::with_capacity(alloc, symbols.len())?;
     for symbol in symbols {
         found.push(type_or_unit(alloc, types, symbol)?)?;
     }

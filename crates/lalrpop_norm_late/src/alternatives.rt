@@ -135,7 +135,7 @@ pub(crate) fn lower_alternatives(
         ≡ map action_defn_view actions.old.items ++ map (made_action prefix.now (type_table types.now) (repr_view ty.now)) (map alternative_view alternatives.now)) }
     ensures count { OnOk result (vec_len actions.new ≡ vec_len actions.old + length alternatives.now) }
 {
-    let mut productions = Vec::new(alloc);
+    let mut productions = Vec::with_capacity(alloc, alternatives.len())?;
     for alternative in alternatives {
         let production = lower_alternative(alloc, prefix, types, name, ty, alternative, actions)?;
         productions.push(production)?;

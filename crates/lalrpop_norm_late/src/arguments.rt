@@ -33,8 +33,8 @@ pub(crate) fn arguments_of(
 {
     let some_named = has_name_value(symbols);
     let some_chosen = has_chosen(symbols);
-    let mut patterns = Vec::new(alloc);
-    let mut names = Vec::new(alloc);
+    let mut patterns = Vec::with_capacity(alloc, symbols.len())?;
+    let mut names = Vec::with_capacity(alloc, symbols.len())?;
     for symbol in symbols {
         if is_source(some_named, some_chosen, symbol) {
             let pattern = source_pattern(alloc, prefix, names.len(), symbol)?;

@@ -99,7 +99,7 @@ fn lowered_parameters(
 ) -> Result<Vec<Parameter>, NoMemory>
     ensures { IfOk result (λ ps. map lowered_parameter_view ps.items ≡ map lowered_parameter (map parameter_view parameters.now)) }
 {
-    let mut lowered = Vec::new(alloc);
+    let mut lowered = Vec::with_capacity(alloc, parameters.len())?;
     for parameter in parameters {
         lowered.push(lowered_parameter(alloc, parameter)?)?;
     }

@@ -35,7 +35,7 @@ pub(crate) fn starts_of<'g>(
     ensures types { IfOk result (λ ss. map start_typed ss.items
         ≡ start_types prefix.now (type_table types.now) (map (λ r. rule_view r.now) public.now)) }
 {
-    let mut starts = Vec::new(alloc);
+    let mut starts = Vec::with_capacity(alloc, public.len())?;
     for rule in public {
         starts.push(start_of(alloc, prefix, types, *rule)?)?;
     }

@@ -20,7 +20,7 @@ pub(crate) fn lowered_symbols(
 ) -> Result<Vec<Symbol>, NoMemory>
     ensures { IfOk result (λ ss. ss.items ≡ lowered_symbols (parts_view symbols.now)) }
 {
-    let mut lowered = Vec::new(alloc);
+    let mut lowered = Vec::with_capacity(alloc, symbols.len())?;
     for symbol in symbols {
         lowered.push(lowered_symbol(alloc, symbol)?)?;
     }

@@ -197,7 +197,7 @@ fn listed(alloc: Global, span: Span, index: usize) -> Result<Vec<Pattern<TypeRep
     ensures { IfOk result (λ ps. patterns_view repr_view ps.items
         ≡ pattern_and (pattern_at span (number index)) (pattern_and (pattern_at span (chosen input_type)) no_patterns)) }
 {
-    let mut inner = Vec::new(alloc);
+    let mut inner = Vec::with_capacity(alloc, 2)?;
     inner.push(at(span, PatternKind::Usize(index)))?;
     inner.push(at(span, PatternKind::Choose(input_type(alloc)?)))?;
     Ok(inner)
@@ -214,7 +214,7 @@ fn token_path(alloc: Global) -> Result<Path, NoMemory>
     ensures { IfOk result (λ p. path_view p ≡ named_path (codes "Token")) }
 {
     let name = Atom::new(alloc, "Token")?;
-    let mut ids = Vec::new(alloc);
+    let mut ids = Vec::with_capacity(alloc, 1)?;
     ids.push(name)?;
     Ok(Path {
         absolute: false,

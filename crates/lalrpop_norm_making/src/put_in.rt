@@ -138,7 +138,7 @@ pub(crate) fn all_put_in(
 ) -> Result<Vec<Symbol>, NoMemory>
     ensures { IfOk result (λ ss. parts_view ss.items ≡ all_put_in (argument_kind bindings.now.names.now (parts_view bindings.now.symbols.now)) (parts_view symbols.now)) }
 {
-    let mut all = Vec::new(alloc);
+    let mut all = Vec::with_capacity(alloc, symbols.len())?;
     for symbol in symbols {
         all.push(put_in(alloc, bindings, symbol)?)?;
     }
@@ -243,7 +243,7 @@ fn types_put_in(
 ) -> Result<Vec<TypeRef>, NoMemory>
     ensures { IfOk result (λ ts. types_view ts.items ≡ types_put_in (argument_kind bindings.now.names.now (parts_view bindings.now.symbols.now)) (types_view types.now)) }
 {
-    let mut all = Vec::new(alloc);
+    let mut all = Vec::with_capacity(alloc, types.len())?;
     for inner in types {
         all.push(type_put_in(alloc, bindings, inner)?)?;
     }

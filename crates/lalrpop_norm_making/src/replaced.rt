@@ -78,7 +78,7 @@ fn replaced(alloc: Global, symbol: &Symbol) -> Result<Symbol, NoMemory>
 pub(crate) fn all_replaced(alloc: Global, symbols: &[Symbol]) -> Result<Vec<Symbol>, NoMemory>
     ensures { IfOk result (λ ss. parts_view ss.items ≡ all_replaced (parts_view symbols.now)) }
 {
-    let mut all = Vec::new(alloc);
+    let mut all = Vec::with_capacity(alloc, symbols.len())?;
     for symbol in symbols {
         all.push(replaced(alloc, symbol)?)?;
     }

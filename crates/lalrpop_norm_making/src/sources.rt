@@ -50,7 +50,7 @@ fn chosen_types(alloc: Global, symbols: &[Symbol]) -> Result<Vec<TypeRef>, NoMem
 fn all_types(alloc: Global, symbols: &[Symbol]) -> Result<Vec<TypeRef>, NoMemory>
     ensures { IfOk result (λ ts. map type_view ts.items ≡ map type_of_kind (all_kinds (parts_view symbols.now))) }
 {
-    let mut types = Vec::new(alloc);
+    let mut types = Vec::with_capacity(alloc, symbols.len())?;
     for symbol in symbols {
         add_type(alloc, &mut types, &symbol.kind)?;
     }

@@ -71,7 +71,7 @@ fn add_some<'g>(
 fn all_symbols(alloc: Global, symbols: &[Symbol]) -> Result<Vec<&SymbolKind>, NoMemory>
     ensures { IfOk result (λ ks. map (λ k. kind_view k.now) ks.items ≡ all_kinds (parts_view symbols.now)) }
 {
-    let mut found = Vec::new(alloc);
+    let mut found = Vec::with_capacity(alloc, symbols.len())?;
     for symbol in symbols {
         found.push(&symbol.kind)?;
     }

@@ -202,7 +202,7 @@ fn all_symbols<'a>(
 ) -> Result<Vec<(usize, &'a Symbol)>, NoMemory>
     ensures { IfOk result (λ v. map (λ t. (t.0, symbol_view t.1.now)) v.items ≡ all_parts 0 (parts_view symbols.now)) }
 {
-    let mut found = Vec::new(alloc);
+    let mut found = Vec::with_capacity(alloc, symbols.len())?;
     for (place, symbol) in symbols.iter().enumerate() {
         found.push((place, symbol))?;
     }

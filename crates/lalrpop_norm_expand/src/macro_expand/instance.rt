@@ -48,7 +48,7 @@ fn instance_alternatives(
     ensures { RefusesOr result (flat_map (λ (a : AlternativeData). value_faults (argument_kind bindings.now.names.now (parts_view bindings.now.symbols.now)) a.condition) (map alternative_view alternatives.now))
         (λ kept. map alternative_view kept.items ≡ flat_map (kept_of span bindings.now.names.now (parts_view bindings.now.symbols.now)) (map alternative_view alternatives.now)) }
 {
-    let mut kept = Vec::new(alloc);
+    let mut kept = Vec::with_capacity(alloc, alternatives.len())?;
     for alternative in alternatives {
         add_alternative(alloc, bindings, span, alternative, &mut kept)?;
     }

@@ -60,7 +60,7 @@ fn expand_items(
         (λ made. map item_view made.items ≡ flat_map level_items (map item_view items.items)) }
     ensures names { OnOk result (names.new.items ≡ names.old.items ++ flat_map item_made_names (map item_view items.items)) }
 {
-    let mut made = Vec::new(alloc);
+    let mut made = Vec::with_capacity(alloc, items.len())?;
     for item in items {
         expand_item(alloc, item, &mut made, names)?;
     }

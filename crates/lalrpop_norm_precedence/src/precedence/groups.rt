@@ -37,7 +37,7 @@ pub(super) fn mark(
     ensures { IfOk result (λ marked. map marked_view marked.items
         ≡ marked_with (map alternative_level_view levels.now) (map alternative_view alternatives.items)) }
 {
-    let mut marked = Vec::new(alloc);
+    let mut marked = Vec::with_capacity(alloc, alternatives.len())?;
     let mut i = 0;
     for alternative in alternatives {
         let AlternativeLevel { level, side } = levels[i];
@@ -96,7 +96,7 @@ fn listed(alloc: Global, levels: &BTreeSet<u32>) -> Result<Vec<u32>, NoMemory>
 fn empty_groups(alloc: Global, levels: &[u32]) -> Result<Vec<Group>, NoMemory>
     ensures { IfOk result (λ groups. map group_view groups.items ≡ map (λ l. (l, [])) levels.now) }
 {
-    let mut groups = Vec::new(alloc);
+    let mut groups = Vec::with_capacity(alloc, levels.len())?;
     for level in levels {
         groups.push(Group {
             level: *level,

@@ -145,7 +145,7 @@ fn made_alternatives(
 {
     let current = level_kind(alloc, &head.name, highest, level)?;
     let below = level_kind(alloc, &head.name, highest, previous.unwrap_or(level))?;
-    let mut alternatives = Vec::new(alloc);
+    let mut alternatives = Vec::with_capacity(alloc, marked.len())?;
     for alternative in marked {
         alternatives.push(made_alternative(head, &current, &below, alternative)?)?;
     }
