@@ -19,10 +19,10 @@ attribute-returns-clause-ok t c =
     ∙ ap attribute_form (sym (attribute_seen c.in_ok-id_span.id_span c.in_ok-id.id c.in_ok-arg-2.arg))
 
 pub attributes-loop-element-preserved : goal.attributes-loop-element-preserved
-attributes-loop-element-preserved t c = pushed_more (λ a. attribute_form (attribute_view a)) _ _ _ _ _ _ _ c.loop-element.invariant c.in-Some.ensures c.attribute.ensures.ok c.in_ok-attributes.ensures.ok
+attributes-loop-element-preserved t c = pushed_more (λ a. attribute_form (attribute_view a)) _ _ _ _ _ _ _ c.loop-element.invariant c.in-Some.ensures c.attribute.ensures.ok c.in_ok-attributes-2.ensures.ok
 
-pub attributes-returns-in_err-attributes-clause-err : goal.attributes-returns-in_err-attributes-clause-err
-attributes-returns-in_err-attributes-clause-err t c refused = no_list _ _ _ _ _ _ c.loop-element.invariant c.in-Some.ensures (search rules)
+pub attributes-returns-in_err-attributes-2-clause-err : goal.attributes-returns-in_err-attributes-2-clause-err
+attributes-returns-in_err-attributes-2-clause-err t c refused = no_list _ _ _ _ _ _ c.loop-element.invariant c.in-Some.ensures (search rules)
 
 pub attributes-attribute-requires : goal.attributes-attribute-requires
 attributes-attribute-requires t c =

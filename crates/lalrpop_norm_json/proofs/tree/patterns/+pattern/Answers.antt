@@ -30,10 +30,10 @@ field_pattern-returns-clause-ok t c =
     ∙ ap field_form (sym (field_seen c.in_ok-field_span.field_span c.in_ok-field_name.field_name c.in_ok-pattern.pattern))
 
 pub patterns-loop-element-preserved : goal.patterns-loop-element-preserved
-patterns-loop-element-preserved t c = pushed_more (λ p. pattern_form (pattern_view type_view p)) _ _ _ _ _ _ _ c.loop-element.invariant c.in-Some.ensures c.pattern.ensures.ok c.in_ok-patterns.ensures.ok
+patterns-loop-element-preserved t c = pushed_more (λ p. pattern_form (pattern_view type_view p)) _ _ _ _ _ _ _ c.loop-element.invariant c.in-Some.ensures c.pattern.ensures.ok c.in_ok-patterns-2.ensures.ok
 
-pub patterns-returns-in_err-patterns-clause-err : goal.patterns-returns-in_err-patterns-clause-err
-patterns-returns-in_err-patterns-clause-err t c refused = no_list _ _ _ _ _ _ c.loop-element.invariant c.in-Some.ensures (search rules)
+pub patterns-returns-in_err-patterns-2-clause-err : goal.patterns-returns-in_err-patterns-2-clause-err
+patterns-returns-in_err-patterns-2-clause-err t c refused = no_list _ _ _ _ _ _ c.loop-element.invariant c.in-Some.ensures (search rules)
 
 pub patterns-pattern-requires : goal.patterns-pattern-requires
 patterns-pattern-requires t c =
@@ -41,10 +41,10 @@ patterns-pattern-requires t c =
     grind (arith, small)
 
 pub field_patterns-loop-element-preserved : goal.field_patterns-loop-element-preserved
-field_patterns-loop-element-preserved t c = pushed_more (λ f. field_form (field_view type_view f)) _ _ _ _ _ _ _ c.loop-element.invariant c.in-Some.ensures c.field_pattern.ensures.ok c.in_ok-fields.ensures.ok
+field_patterns-loop-element-preserved t c = pushed_more (λ f. field_form (field_view type_view f)) _ _ _ _ _ _ _ c.loop-element.invariant c.in-Some.ensures c.field_pattern.ensures.ok c.in_ok-fields-2.ensures.ok
 
-pub field_patterns-returns-in_err-fields-clause-err : goal.field_patterns-returns-in_err-fields-clause-err
-field_patterns-returns-in_err-fields-clause-err t c refused = no_list _ _ _ _ _ _ c.loop-element.invariant c.in-Some.ensures (search rules)
+pub field_patterns-returns-in_err-fields-2-clause-err : goal.field_patterns-returns-in_err-fields-2-clause-err
+field_patterns-returns-in_err-fields-2-clause-err t c refused = no_list _ _ _ _ _ _ c.loop-element.invariant c.in-Some.ensures (search rules)
 
 pub field_patterns-field_pattern-requires : goal.field_patterns-field_pattern-requires
 field_patterns-field_pattern-requires t c =
