@@ -17,10 +17,7 @@ use Rattle.json_document.specs.Order.{is_above}
 use Rattle.json_document.specs.Tokens.{data_at, is_data, is_object, or_null, members_in}
 use Rattle.json_document.proofs.Ordered.{order, below, equal_keys, IsAllAbove, IsSorted}
 use Rattle.json_document.proofs.Reading.{then, inner, object_is, object_reads, object_sorted, member_taken}
-
-both : (p q : Bool) → (p && q) ≡ true → (p ≡ true) × (q ≡ true)
-both true q e = (refl, e)
-both false q e = absurd (cc)
+use Rattle.json_document.proofs.Taken.{both_true}
 
 false_if : (b : Bool) → (b ≡ true → ⊥) → b ≡ false
 false_if true h = absurd (h refl)
@@ -64,7 +61,7 @@ above_later k l (m ∷ ls) e h = (nat_list_cmp_total.trans k l m e h.0, above_la
 sorted_above : (m : List ℕ) (ks : List (List ℕ)) → rise_above (Some m) ks ≡ true → AreAbove m ks × AreSorted ks
 sorted_above m [] e = (tt, tt)
 sorted_above m (k ∷ ks) e =
-    let p = both (is_above (Some m) k) (rise_above (Some k) ks) e in
+    let p = both_true (is_above (Some m) k) (rise_above (Some k) ks) e in
     let less : order m k ≡ Less = below (order m k) p.0 in
     let r = sorted_above k ks p.1 in
     ((less, above_later m k ks less r.0), (r.0, r.1))
@@ -78,7 +75,7 @@ rise_by : (m : List ℕ) (ks : List (List ℕ)) (ms : Members) → IsAllAbove m 
 rise_by m [] ms h s e = refl
 rise_by m (k ∷ ks) no_members h s e = absurd (cc)
 rise_by m (k ∷ ks) (member l d ms) h s e =
-    let p = both (bytes_eq l k) (are_keys ks ms) e in
+    let p = both_true (bytes_eq l k) (are_keys ks ms) e in
     let same : l ≡ k = equal_by l k p.0 in
     let less : order m k ≡ Less = ap (order m) (sym same) ∙ h.0 in
     let more : rise_above (Some k) ks ≡ true = ap (λ z. rise_above (Some z) ks) (sym same) ∙ rise_by l ks ms s.0 s.1 p.1 in
@@ -88,7 +85,7 @@ rise_all : (ks : List (List ℕ)) (ms : Members) → IsSorted ms → are_keys ks
 rise_all [] ms s e = refl
 rise_all (k ∷ ks) no_members s e = absurd (cc)
 rise_all (k ∷ ks) (member l d ms) s e =
-    let p = both (bytes_eq l k) (are_keys ks ms) e in
+    let p = both_true (bytes_eq l k) (are_keys ks ms) e in
     ap (λ z. rise_above (Some z) ks) (sym (equal_by l k p.0)) ∙ rise_by l ks ms s.0 s.1 p.1
 
 -- ---- a value that is put at the place of its key
@@ -178,7 +175,7 @@ lacks_all k [] no_members n e = refl
 lacks_all k [] (member l d ms) n e = absurd (cc)
 lacks_all k (m ∷ ks) no_members n e = absurd (cc)
 lacks_all k (m ∷ ks) (member l d ms) n e =
-    let p = both (bytes_eq l m) (are_keys ks ms) e in
+    let p = both_true (bytes_eq l m) (are_keys ks ms) e in
     let q = neither (bytes_eq k m) (list_any (bytes_eq k) ks) n in
     let other : bytes_eq k l ≡ false = ap (bytes_eq k) (equal_by l m p.0) ∙ q.0 in
     rw (other, lacks_all k ks ms q.1 p.1) refl
@@ -197,7 +194,7 @@ size_of_keys : (ks : List (List ℕ)) (ms : Members) → are_keys ks ms ≡ true
 size_of_keys [] no_members e = refl
 size_of_keys [] (member k d ms) e = absurd (cc)
 size_of_keys (k ∷ ks) no_members e = absurd (cc)
-size_of_keys (k ∷ ks) (member l d ms) e = ap suc (size_of_keys ks ms (both (bytes_eq l k) (are_keys ks ms) e).1)
+size_of_keys (k ∷ ks) (member l d ms) e = ap suc (size_of_keys ks ms (both_true (bytes_eq l k) (are_keys ks ms) e).1)
 
 size_at_most : (ks : List (List ℕ)) (os : List (Option Data)) → size (members_under ks os) ≤ length ks
 size_at_most [] os = omega arith

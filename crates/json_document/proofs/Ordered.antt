@@ -32,9 +32,6 @@ further (Some m) k l e h = ap (λ o. match_ordering o true false false) (nat_lis
 
 -- ---- a member that is put, above a bound
 
-put_at : Ordering → List ℕ → Data → List ℕ → Data → Members → Members
-put_at o k d l e ms = match_ordering o (member k d (member l e ms)) (member l d ms) (member l e (put k d ms))
-
 abbrev if_above : Bool → List ℕ → Data → Members → Members
 if_above true k d ms = put k d ms
 if_above false k d ms = ms
@@ -163,10 +160,6 @@ first_is_above b k d (member l e ms) f = at _ refl (first_is_above b k d ms) f
 pub take_first : (b : Option (List ℕ)) (k : List ℕ) (d : Data) (ms : Members) → IsSorted ms → first_member (above b ms) ≡ Some (k, d) → above b ms ≡ member k d (above (Some k) ms)
 take_first b k d no_members s f = absurd (cc)
 take_first b k d (member l e ms) s f = take_at b k d l e ms _ refl s.0 (first_is_above b k d (member l e ms) f) (take_first b k d ms s.1) f
-
-pub none_left : (ms : Members) → first_member ms ≡ None → ms ≡ no_members
-none_left no_members e = refl
-none_left (member k d ms) e = absurd (cc)
 
 pub above_none : (ms : Members) → above None ms ≡ ms
 above_none no_members = refl

@@ -33,6 +33,7 @@ use Rattle.lalrpop_norm_making.specs.Conditions.{quoted_text, comparison_faults,
 use Rattle.lalrpop_norm_expand.specs.Expansion.{met_before, meetings, has_other, shared_names, shared_in, unmade, unmade_in, past_cap, faults_from, expansion_faults, macro_faults}
 use Rattle.lalrpop_norm_making.specs.Names.{is_declared_name}
 use Rattle.lalrpop_norm.specs.Laws.{CapIsExact, EndsPastLimit, FaultsAreByRound, IsPastLimit}
+use Rattle.lalrpop_norm_faults.proofs.FaultLemmas.{left_none, right_none, both_none}
 
 -- ---- no other fault has the number of the cap
 
@@ -211,17 +212,6 @@ head_behind : (xs ys : List Fault) (t : Span) (rest : List Fault) → (In (cap_a
 head_behind [] ys t rest none e = (refl, e)
 head_behind (x ∷ xs) ys t rest none e = absurd (none (inl (cc e)))
 
-both_empty : (xs ys : List Fault) → xs ≡ [] → ys ≡ [] → xs ++ ys ≡ []
-both_empty xs ys e f = ap (λ zs. zs ++ ys) e ∙ f
-
-left_empty : (xs ys : List Fault) → xs ++ ys ≡ [] → xs ≡ []
-left_empty [] ys e = refl
-left_empty (x ∷ xs) ys e = absurd (cc e)
-
-right_empty : (xs ys : List Fault) → xs ++ ys ≡ [] → ys ≡ []
-right_empty [] ys e = e
-right_empty (x ∷ xs) ys e = absurd (cc e)
-
 past_one : (xs : List Part) (t : Span) (rest : List Fault) → past_cap xs ≡ cap_at t ∷ rest → past_cap xs ≡ cap_at t ∷ []
 past_one [] t rest e = absurd (cc e)
 past_one (x ∷ []) t rest e = ap (λ f. f ∷ []) (cc e)
@@ -247,7 +237,7 @@ module _ (value : ConditionValue) (g : GrammarData) where
       let two = head_behind (unmade_in value g k) (faults_from value g (suc k) left) t rest (none_made (macros_of g) (rules_made (expansion_round value g k)) t) one.1 in
       let more = first_from (suc k) left t rest two.1 in (
         (λ j low high. elim (at_or_later k j low) [
-          | inl here ↦ subst (λ n. shared_in value g n ++ unmade_in value g n ≡ []) here (both_empty (shared_in value g k) (unmade_in value g k) one.0 two.0)
+          | inl here ↦ subst (λ n. shared_in value g n ++ unmade_in value g n ≡ []) here (both_none (shared_in value g k) (unmade_in value g k) one.0 two.0)
           | inr later ↦ more.0 j later (omega (arith, high))
         ]),
         ap (shared_in value g) (sym last) ∙ more.1,
@@ -272,8 +262,8 @@ module _ (value : ConditionValue) (g : GrammarData) where
       let last : suc k + left ≡ k + suc left = omega arith in
       let here = h k (omega arith) (omega arith) in
       let more = none_before (suc k) left (λ j low high. h j (omega (arith, low)) (omega (arith, high))) (ap (shared_in value g) last ∙ own) in
-      ap (λ fs. fs ++ (unmade_in value g k ++ faults_from value g (suc k) left)) (left_empty (shared_in value g k) (unmade_in value g k) here)
-      ∙ ap (λ fs. fs ++ faults_from value g (suc k) left) (right_empty (shared_in value g k) (unmade_in value g k) here)
+      ap (λ fs. fs ++ (unmade_in value g k ++ faults_from value g (suc k) left)) (left_none (shared_in value g k) (unmade_in value g k) here)
+      ∙ ap (λ fs. fs ++ faults_from value g (suc k) left) (right_none (shared_in value g k) (unmade_in value g k) here)
       ∙ more ∙ ap past_at last
 
 named_cap : RoundsAreRead → RoundsAreShortestChains → (value : ConditionValue) (g : GrammarData) → resolve_faults g ≡ [] → (limit : ℕ) →

@@ -1,15 +1,16 @@
 -- What is met in a whole expansion has a rule of its text; and what holds of all that is met holds of all that is made.
-use Rattle.std.proofs.Common.{◌≡◌, ◌⊎◌, inl, inr, ℕ, zero, suc, Bool, true, false, List, [], ◌∷◌, ◌++◌, map, reverse, refl, ap, sym, subst, ◌∙◌}
+use Rattle.std.proofs.Common.{◌≡◌, ◌⊎◌, inl, inr, ℕ, zero, suc, Bool, List, [], ◌∷◌, ◌++◌, map, reverse, refl, ap, sym, subst, ◌∙◌}
 use Rattle.std.specs.Prelude.{flat_map, if◌then◌else◌}
 use Rattle.lalrpop_norm_tree.specs.Symbols.{Part, Parts, group, ambiguous_id, terminal, nonterminal, call, repeated, chosen, named, tupled, lookahead, lookbehind, error_terminal, at, no_parts, part_and}
 use Rattle.lalrpop_norm_tree.specs.SymbolTexts.{part_text}
 use Rattle.lalrpop_norm_tree.specs.Items.{AlternativeData, RuleData, GrammarData}
 use Rattle.lalrpop_norm_theory.specs.Symbols.{Name, ClosedSymbol}
-use Rattle.lalrpop_norm_theory.specs.Rounds.{In, is_in, fresh_of, Round, rounds, all_rules_made}
+use Rattle.lalrpop_norm_theory.specs.Rounds.{In, Round, rounds, all_rules_made}
 use Rattle.lalrpop_norm_theory.specs.Met.{rule_meets, expanded_symbols}
 use Rattle.lalrpop_norm_theory.specs.Laws.{IsWhole}
-use Rattle.lalrpop_norm_theory.proofs.RoundsLemmas.{in_left, in_right, in_cases, in_flat, of_flat, of_reverse}
+use Rattle.lalrpop_norm_theory.proofs.RoundsLemmas.{in_left, in_right, in_cases, in_flat, of_flat, of_reverse, fresh_listed}
 use Rattle.lalrpop_norm_theory.proofs.Expansion.{nothing_new_whole}
+use Rattle.lalrpop_norm_theory.proofs.ListLemmas.{in_one}
 use Rattle.lalrpop_norm_model.specs.ClosedTexts.{closed_text}
 use Rattle.lalrpop_norm_model.specs.Grammars.{ConditionValue}
 use Rattle.lalrpop_norm_model.specs.MadeRules.{made_rules}
@@ -25,16 +26,6 @@ use Rattle.lalrpop_norm_model.proofs.RoundReadLemmas.{rounds_are_read, made_symb
 use Rattle.lalrpop_norm_model.proofs.FaithfulLemmas.{plain_grammars_hold_plain_rules}
 
 -- ---- what holds of all that is made
-
-fresh_listed : {A : Type 0} (same : A → A → Bool) (seen xs : List A) (x : A) → In x (fresh_of same seen xs) → In x xs
-fresh_listed same seen [] x h = absurd h
-fresh_listed {A} same seen (y ∷ xs) x h = by (is_in same y seen) (fresh_listed same seen xs x) (fresh_listed same (y ∷ seen) xs x) h
-  where
-    by : (b : Bool) → (In x (fresh_of same seen xs) → In x xs) → (In x (fresh_of same (y ∷ seen) xs) → In x xs) →
-        In x (if b then fresh_of same seen xs else y ∷ fresh_of same (y ∷ seen) xs) → In x (y ∷ xs)
-    by true f g i = inr (f i)
-    by false f g (inl e) = inl e
-    by false f g (inr i) = inr (g i)
 
 module _ {A : Type 0} (same : A → A → Bool) (meets : A → List A) (start : List A) (P : A → Type 0)
     (begins : (a : A) → In a start → P a) (within : (a : A) → P a → (b : A) → In b (meets a) → P b) where
@@ -77,14 +68,10 @@ module _ {A : Type 0} (same : A → A → Bool) (meets : A → List A) (start : 
 
 -- ---- what is met within what is met
 
-only : {A : Type 0} (x y : A) → In x (y ∷ []) → x ≡ y
-only x y (inl e) = e
-only x y (inr i) = absurd i
-
 then_itself : (x p q : Part) (ms : List Part) → met x ≡ ms ++ x ∷ [] → (In p ms → In q ms) → In p (ms ++ x ∷ []) → In q (met p) → In q (ms ++ x ∷ [])
 then_itself x p q ms e f i j = elim (in_cases p ms (x ∷ []) i) [
   | inl k ↦ in_left q ms (x ∷ []) (f k)
-  | inr k ↦ subst (λ (ys : List Part). In q ys) e (subst (λ (y : Part). In q (met y)) (only p x k) j)
+  | inr k ↦ subst (λ (ys : List Part). In q ys) e (subst (λ (y : Part). In q (met y)) (in_one p x k) j)
 ]
 
 mutual

@@ -1,13 +1,13 @@
 -- In a grammar whose names are resolved, symbols without arguments are ready: their names are those of rules.
-use Rattle.std.proofs.Common.{◌≡◌, inl, inr, ℕ, Bool, true, false, not, List, [], ◌∷◌, map, Option, Some, None, refl, ap, sym, subst, ◌∙◌}
-use Rattle.std.specs.Prelude.{filter, if◌then◌else◌}
+use Rattle.std.proofs.Common.{◌≡◌, ℕ, Bool, true, false, not, List, [], ◌∷◌, Option, Some, None, refl, ap, sym, subst, ◌∙◌}
+use Rattle.std.specs.Prelude.{if◌then◌else◌}
 use Rattle.std.proofs.lemmas.Bool.{and_parts}
 use Rattle.lalrpop_norm_parts.specs.declared.names.NonterminalString.{NonterminalString}
 use Rattle.lalrpop_norm_parts.specs.declared.names.TerminalString.{TerminalString}
 use Rattle.lalrpop_norm_tree.specs.Symbols.{Kind, Part, Parts, group, ambiguous_id, terminal, nonterminal, call, repeated, chosen, named, tupled, lookahead, lookbehind, error_terminal, at, no_parts, part_and}
 use Rattle.lalrpop_norm_tree.specs.Items.{AlternativeData, RuleData, GrammarData}
 use Rattle.lalrpop_norm_theory.specs.Rounds.{In}
-use Rattle.lalrpop_norm_model.specs.Levels.{every, without_levels}
+use Rattle.lalrpop_norm_model.specs.Levels.{every}
 use Rattle.lalrpop_norm_model.specs.WrittenRules.{WrittenRule, flat_rules, rule_named}
 use Rattle.lalrpop_norm_model.specs.Grammars.{is_nil}
 use Rattle.lalrpop_norm_model.specs.Scoped.{is_rule, is_macro_for, is_scoped_kind, is_scoped, are_scoped}
@@ -15,9 +15,10 @@ use Rattle.lalrpop_norm_model.specs.PlainRules.{all_rules, rules_without_argumen
 use Rattle.lalrpop_norm_model.specs.PlainTables.{IsSettled}
 use Rattle.lalrpop_norm_model.proofs.GrammarLemmas.{flat_from}
 use Rattle.lalrpop_norm_model.proofs.LevelLemmas.{in_map}
-use Rattle.lalrpop_norm_model.proofs.InferenceLemmas.{in_filtered}
+use Rattle.lalrpop_norm_model.proofs.InferenceLemmas.{in_filtered, in_filter}
 use Rattle.lalrpop_norm_model.proofs.ScopeLemmas.{rule_found}
 use Rattle.lalrpop_norm_model.proofs.MadeReadLemmas.{flat_of, flat_rules_resolved}
+use Rattle.lalrpop_norm_model.proofs.MadeScopeLemmas.{placed, no_arguments}
 use Rattle.lalrpop_norm.proofs.ExpandedParts.{IsReadyKind, IsReady, AreReady}
 
 -- ---- terminals
@@ -48,26 +49,6 @@ module _ (P : TerminalString → Type 0) where
 
 -- ---- lists
 
--- what stands in a list and is kept stands in the kept ones
-kept : {A : Type 0} (p : A → Bool) (xs : List A) (x : A) → In x xs → p x ≡ true → In x (filter p xs)
-kept p [] x i h = absurd i
-kept p (y ∷ xs) x (inl e) h = rw (ap p (sym e) ∙ h) (inl e)
-kept p (y ∷ xs) x (inr i) h = by (p y) (kept p xs x i h)
-  where
-    by : (b : Bool) → In x (filter p xs) → In x (if b then y ∷ filter p xs else filter p xs)
-    by true j = inr j
-    by false j = j
-
-placed : (a : AlternativeData) (xs : List AlternativeData) → In a xs →
-    In (Some (record { level = 0; side = every; alternative = a })) (without_levels (map Some xs))
-placed a [] h = absurd h
-placed a (x ∷ xs) (inl e) = inl (ap (λ b. Some (record { level = 0; side = every; alternative = b })) e)
-placed a (x ∷ xs) (inr h) = inr (placed a xs h)
-
-no_arguments : (args : List NonterminalString) → is_nil args ≡ true → args ≡ []
-no_arguments [] h = refl
-no_arguments (a ∷ args) h = absurd (cc h)
-
 not_some : (b : Bool) → not (not b) ≡ true → b ≡ true
 not_some true h = refl
 not_some false h = absurd (cc h)
@@ -87,7 +68,7 @@ module _ (g : GrammarData) (S : IsSettled g) (P : TerminalString → Type 0) (N 
       let (d, i, is) = flat_from g s f.0 in
       let name : d.name.0 ≡ n = ap (λ (w : WrittenRule). w.name) (sym is) ∙ f.1 in
       let bare : is_nil d.args ≡ true = ap (λ (w : WrittenRule). is_nil w.args) (sym is) ∙ not_some (is_nil s.args) h in
-      subst N name (names d (kept (λ (r : RuleData). is_nil r.args) (all_rules g) d i bare))
+      subst N name (names d (in_filter (λ (r : RuleData). is_nil r.args) (all_rules g) d i bare))
 
   mutual
     kind_ready : (k : Kind) → is_scoped_kind (flat_rules g) [] k ≡ true → IsOverKind P k → IsReadyKind P N k

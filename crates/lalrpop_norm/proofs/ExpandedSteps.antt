@@ -1,7 +1,7 @@
 -- From the enabled grammar to the grammar with levels: rules keep their declared types and symbols their terminals, to which resolving
 -- adds bare ones.
 use Rattle.std.proofs.Common.{◌≡◌, inl, inr, ℕ, suc, Bool, true, false, List, [], ◌∷◌, ◌++◌, map, Option, Some, None, refl, ap, sym, subst}
-use Rattle.std.specs.Prelude.{flat_map, if◌then◌else◌, nat_eq}
+use Rattle.std.specs.Prelude.{flat_map, if◌then◌else◌}
 use Rattle.lalrpop_norm_parts.specs.declared.names.TerminalString.{TerminalString}
 use Rattle.lalrpop_norm_parts.specs.declared.names.TerminalString.TheVariants.{Bare}
 use Rattle.lalrpop_norm_tree.specs.Symbols.{Kind, Part, Parts, group, ambiguous_id, terminal, nonterminal, call, repeated, chosen, named, tupled, lookahead, lookbehind, error_terminal, at, no_parts, part_and}
@@ -17,6 +17,7 @@ use Rattle.lalrpop_norm_model.specs.PlainRules.{rule_of_item, all_rules}
 use Rattle.lalrpop_norm_model.specs.Expanded.{declared_symbols}
 use Rattle.lalrpop_norm_model.proofs.LevelLemmas.{of_map}
 use Rattle.lalrpop_norm_model.proofs.GrammarLemmas.{all_level_rules}
+use Rattle.lalrpop_norm_model.proofs.LevelGrammarLemmas.{of_level_in}
 use Rattle.lalrpop_norm.proofs.ExpandedScopes.{IsOverKind, IsOver, AreOver}
 
 -- a rule with no symbol in its type, whose terminals are among those of P
@@ -147,15 +148,6 @@ module _ (P : TerminalString → Type 0) (own : List ℕ → Bool) (level : ℕ 
     leveled_over : (before after : ℕ) (ps : Parts) → AreOver P ps → AreOver P (leveled_parts own level before after ps)
     leveled_over before after no_parts h = tt
     leveled_over before after (part_and p ps) h = (leveled_part_over before _ p h.0, leveled_over _ after ps h.1)
-
-of_level_in : (l : ℕ) (xs : List Leveled) (a : Leveled) → In a (of_level l xs) → In a xs
-of_level_in l [] a h = h
-of_level_in l (x ∷ xs) a h = by (nat_eq x.level l) (of_level_in l xs a) h
-  where
-    by : (b : Bool) → (In a (of_level l xs) → In a xs) → In a (if b then x ∷ of_level l xs else of_level l xs) → In a (x ∷ xs)
-    by true f (inl e) = inl e
-    by true f (inr i) = inr (f i)
-    by false f i = inr (f i)
 
 -- what is leveled at a place is an alternative that stands there
 numbered_from : (ps : Places) (k : ℕ) (xs : List AlternativeData) (a : Leveled) → In a (present (map_numbered (leveled_at ps) k (map Some xs))) → In a.alternative xs

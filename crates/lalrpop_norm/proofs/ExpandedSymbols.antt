@@ -12,6 +12,7 @@ use Rattle.lalrpop_norm_tree.specs.Types.{TypeData, TypesData, MaybeType, tuple,
 use Rattle.lalrpop_norm_tree.specs.Items.{RuleData, lookahead_code, lookbehind_code}
 use Rattle.lalrpop_norm_theory.specs.Rounds.{In}
 use Rattle.lalrpop_norm_theory.proofs.RoundsLemmas.{in_left, in_right, in_cases}
+use Rattle.lalrpop_norm_theory.proofs.ListLemmas.{in_one}
 use Rattle.lalrpop_norm_model.specs.Grammars.{ConditionValue}
 use Rattle.lalrpop_norm_model.specs.MadeRules.{kind_of, chosen_kinds, all_kinds, if_any, group_sources, type_of_kind, bare_or_tuple, group_rule, star_rule, plus_rule, question_rule, location_rule, argument_kind, type_of_name, type_put_in, types_put_in, returned_put_in, instance_rule, instance_of, macro_named, made_rules}
 use Rattle.lalrpop_norm_model.specs.Replaced.{replaced_kind, replaced, all_replaced}
@@ -19,11 +20,6 @@ use Rattle.lalrpop_norm_model.specs.PlainRules.{met, all_met}
 use Rattle.lalrpop_norm_model.specs.Expanded.{is_plain_terminal, is_plain_kind, names_in_kind, names_in, names_in_parts, symbols_in, symbols_in_all, symbols_in_return, declared_symbols}
 use Rattle.lalrpop_norm_model.proofs.InferenceLemmas.{both_empty}
 use Rattle.lalrpop_norm.proofs.ExpandedParts.{IsReadyKind, IsReady, AreReady, kind_plain}
-
--- the only element of a list
-only : {A : Type 0} (x y : A) → In x (y ∷ []) → x ≡ y
-only x y (inl e) = e
-only x y (inr i) = absurd i
 
 last : {A : Type 0} (xs : List A) (x : A) → In x (xs ++ x ∷ [])
 last xs x = in_right x xs (x ∷ []) (inl refl)
@@ -114,7 +110,7 @@ module _ (P : TerminalString → Type 0) (plain : (t : TerminalString) → P t �
   covered_right xs ys c q i = c q (in_right q xs ys i)
 
   same_name : (n m : List ℕ) → Named m → In n (m ∷ []) → Named n
-  same_name n m h i = subst Named (sym (only n m i)) h
+  same_name n m h i = subst Named (sym (in_one n m i)) h
 
   mutual
     kind_named : (s : Span) (k : Kind) → IsReadyKind P Named k → Covered (met (at s k)) → (n : List ℕ) → In n (names_in_kind (replaced_kind k)) → Named n
@@ -195,7 +191,7 @@ module _ (P : TerminalString → Type 0) (plain : (t : TerminalString) → P t �
 
   type_among : (ks : List Kind) (k : Kind) → In k (symbols_in (bare_or_tuple (map type_of_kind ks))) → Among k ks
   type_among [] k i = absurd i
-  type_among (j ∷ []) k i = (j, inl refl, only k (replaced_kind j) i)
+  type_among (j ∷ []) k i = (j, inl refl, in_one k (replaced_kind j) i)
   type_among (j ∷ l ∷ ks) k i = types_among (j ∷ l ∷ ks) k i
 
   -- where nothing follows
@@ -203,10 +199,10 @@ module _ (P : TerminalString → Type 0) (plain : (t : TerminalString) → P t �
   no_more x xs i = elim (in_cases x xs [] i) [ inl j ↦ j | inr j ↦ absurd j ]
 
   of_only : (d r : RuleData) → ((k : Kind) → In k (declared_symbols d) → IsSettledSymbol k) → In r (d ∷ []) → (k : Kind) → In k (declared_symbols r) → IsSettledSymbol k
-  of_only d r f i k j = f k (subst (λ (x : RuleData). In k (declared_symbols x)) (only r d i) j)
+  of_only d r f i k j = f k (subst (λ (x : RuleData). In k (declared_symbols x)) (in_one r d i) j)
 
   one_symbol : (p : Part) → IsReady P Named p → Covered (met p) → (k : Kind) → In k (replaced_kind (kind_of p) ∷ []) → IsSettledSymbol k
-  one_symbol p h c k i = subst IsSettledSymbol (sym (only k (replaced_kind (kind_of p)) i)) (part_settled p h c)
+  one_symbol p h c k i = subst IsSettledSymbol (sym (in_one k (replaced_kind (kind_of p)) i)) (part_settled p h c)
 
   -- an instance declares the type of its macro, into which its arguments come
   instance_settled : (value : ConditionValue) (s : Span) (d : RuleData) (ps : Parts) → declared_symbols d ≡ [] → AreReady P Named ps → Covered (all_met ps) →

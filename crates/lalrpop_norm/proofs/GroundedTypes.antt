@@ -1,6 +1,6 @@
 -- Where no fault stands in inference and lowering, each nonterminal of the lowered grammar has its only grounded type, and the start
 -- names are no rules' names.
-use Rattle.std.proofs.Common.{◌≡◌, ◌⊎◌, inl, inr, ℕ, ◌+◌, Bool, true, false, not, List, [], ◌∷◌, ◌++◌, map, Option, Some, None, IsSome, refl, ap, ap₂, sym, subst, ◌∙◌, arith}
+use Rattle.std.proofs.Common.{◌≡◌, ◌⊎◌, inl, inr, ℕ, ◌+◌, Bool, true, false, List, [], ◌∷◌, ◌++◌, map, Option, Some, None, IsSome, refl, ap, ap₂, sym, subst, ◌∙◌, arith}
 use Rattle.std.specs.Prelude.{flat_map, filter, bytes_eq, option_and_then, if◌then◌else◌}
 use Rattle.std.specs.List.{enumerate_from}
 use Rattle.std.proofs.lemmas.Bool.{cases_Bool}
@@ -10,7 +10,6 @@ use Rattle.lalrpop_norm_parts.specs.Reprs.{ReprData}
 use Rattle.lalrpop_norm_theory.specs.Symbols.{Name}
 use Rattle.lalrpop_norm_theory.specs.Rounds.{In, IsDistinct}
 use Rattle.lalrpop_norm_theory.proofs.SameLemmas.{text_sound, text_same}
-use Rattle.lalrpop_norm_faults.specs.Faults.{Fault, fault_if}
 use Rattle.lalrpop_norm_model.specs.PlainRules.{all_rules}
 use Rattle.lalrpop_norm_model.specs.TypeRelation.{IsRule, Has, HasOneType}
 use Rattle.lalrpop_norm_model.specs.TuplePatterns.{IsTypable}
@@ -26,6 +25,7 @@ use Rattle.lalrpop_norm_late.specs.Lowering.{public_rules_in, start_name}
 use Rattle.lalrpop_norm_late.specs.Made.{types_by_name}
 use Rattle.lalrpop_norm_late.specs.Shape.{HasStartTypes, rules_of_starts}
 use Rattle.lalrpop_norm.specs.Faithful.{HasOnlyType, IsInferred, HasGroundedTypes}
+use Rattle.lalrpop_norm_faults.proofs.FaultLemmas.{holds_unless}
 
 -- ---- public rules
 
@@ -61,17 +61,13 @@ each_start prefix types k (s ∷ rules) h r (inl e) =
 each_start prefix types k (s ∷ rules) h r (inr i) =
     each_start prefix types (k + 1) rules (both_empty (start_faults prefix types s ++ action_number_faults k s.span) _ h).1 r i
 
-no_fault : (b : Bool) (f : Fault) → fault_if (not b) f ≡ [] → b ≡ true
-no_fault true f h = refl
-no_fault false f h = absurd (cc h)
-
 -- where no fault of lowering stands, the start name of a public rule has no type in the table
 pub start_untyped : (g : GrammarData) (types : List ℕ → Option ReprData) → lowering_faults g types ≡ [] →
     (r : RuleData) → In r (public_rules_in (all_rules g)) → types (g.prefix ++ r.name.0) ≡ None
 start_untyped g types h r i =
     let starts = (both_empty (flat_map (λ (e : ℕ × RuleData). start_faults g.prefix types e.1 ++ action_number_faults e.0 e.1.span) (enumerate_from 0 (lowering.public_rules g))) _ h).0 in
     let j : In r (lowering.public_rules g) = subst (λ (rs : List RuleData). In r rs) (public_same (all_rules g)) i in
-    none_true (types (g.prefix ++ r.name.0)) (no_fault _ _ (each_start g.prefix types 0 (lowering.public_rules g) starts r j))
+    none_true (types (g.prefix ++ r.name.0)) (holds_unless _ _ (each_start g.prefix types 0 (lowering.public_rules g) starts r j))
 
 -- ---- the table of the lowered grammar
 

@@ -1,5 +1,5 @@
 -- The productions of a lowered grammar, each with its origin, are those of its rules as a table.
-use Rattle.std.proofs.Common.{◌≡◌, inl, inr, ℕ, zero, suc, ◌+◌, ◌≤◌, Bool, true, false, List, [], ◌∷◌, ◌++◌, map, length, refl, ap, ap₂, sym, subst, ◌∙◌, arith}
+use Rattle.std.proofs.Common.{◌≡◌, inl, inr, ℕ, zero, suc, ◌+◌, ◌≤◌, true, false, List, [], ◌∷◌, ◌++◌, map, length, refl, ap, ap₂, sym, subst, ◌∙◌, arith}
 use Rattle.std.specs.Prelude.{Some, slice_get, bytes_eq, flat_map, replicate, drop}
 use Rattle.std.proofs.lemmas.Bool.{cases_Bool}
 use Rattle.std.proofs.lemmas.List.{length-append, length-drop}
@@ -19,8 +19,10 @@ use Rattle.lalrpop_norm_late.specs.Lowering.{public_rules_in, lowered_symbol, lo
 use Rattle.lalrpop_norm_late.specs.Shape.{IsLoweringOf, alternatives_in_order, start_clause}
 use Rattle.lalrpop_norm_model.specs.PlainTables.{plain_symbol_kind, lowered_part, lowered_parts, productions_with_origins, rules_from}
 use Rattle.lalrpop_norm_model.proofs.NumberedNames.{Named, of_rule, numbers_named, HaveOtherNames, passed, passed_all, traced_entry, behind, NoneNamed, HaveDistinctNames}
+use Rattle.lalrpop_norm_model.proofs.GrammarLemmas.{unlike}
 use Rattle.lalrpop_norm.specs.Derivations.{tree_symbol, traced, derivations}
-use Rattle.lalrpop_norm.proofs.ShapeTrees.{tree_symbols, traced_each, starts_total, replicated, no_start_name, productions_at, AreFree, turned}
+use Rattle.lalrpop_norm.proofs.ShapeTrees.{tree_symbols, traced_each, starts_total, no_start_name, productions_at, AreFree, turned}
+use Rattle.lalrpop_norm_late.proofs.SourceLemmas.{replicated}
 
 -- ---- symbols
 
@@ -59,10 +61,6 @@ others_append n (c ∷ cs) ds h i = (h.0, others_append n cs ds h.1 i)
 pub none_among : (n : Name) (rules : List RuleData) → NoneNamed n rules → HaveOtherNames n (flat_map of_rule rules)
 none_among n [] h = tt
 none_among n (r ∷ rules) h = others_append n (of_rule r) (flat_map of_rule rules) (others_of n r.name r.alternatives h.0) (none_among n rules h.1)
-
-pub unlike : (m n : Name) (b : Bool) → bytes_eq m n ≡ b → (m ≡ n → ⊥) → b ≡ false
-unlike m n true e h = absurd (h (text_sound m n e))
-unlike m n false e h = refl
 
 pub none_listed : (n : Name) (rules : List RuleData) → (In n (map (λ (r : RuleData). r.name.0) rules) → ⊥) → NoneNamed n rules
 none_listed n [] h = tt

@@ -1,6 +1,6 @@
 -- The productions that a lowered grammar has under the name of each rule.
-use Rattle.std.proofs.Common.{◌≡◌, inl, inr, ℕ, zero, suc, Bool, true, false, List, [], ◌∷◌, ◌++◌, map, length, refl, ap, ap₂, ◌∙◌, arith}
-use Rattle.std.specs.Prelude.{Some, option_map, unwrap_or, bytes_eq, replicate, if◌then◌else◌}
+use Rattle.std.proofs.Common.{◌≡◌, inl, inr, ℕ, suc, Bool, true, false, List, [], ◌∷◌, ◌++◌, map, length, refl, ap, ap₂, ◌∙◌, arith}
+use Rattle.std.specs.Prelude.{Some, option_map, unwrap_or, bytes_eq, if◌then◌else◌}
 use Rattle.std.proofs.lemmas.Bool.{cases_Bool}
 use Rattle.lalrpop_norm_parts.specs.declared.names.NonterminalString.{NonterminalString}
 use Rattle.lalrpop_norm_tree.specs.Items.{AlternativeData, RuleData, GrammarData}
@@ -30,10 +30,6 @@ traced_each origins n (e ∷ es) = ap₂ (λ x xs. x ∷ xs) refl (traced_each o
 pub starts_total : (prefix : List ℕ) (rules : List RuleData) → length {A = Named} (map (start_clause prefix) rules) ≡ length rules
 starts_total prefix [] = refl
 starts_total prefix (r ∷ rules) = ap suc (starts_total prefix rules)
-
-pub replicated : {A : Type 0} (k : ℕ) (x : A) → length (replicate k x) ≡ k
-replicated zero x = refl
-replicated (suc k) x = ap suc (replicated k x)
 
 -- ---- rules found by their names
 

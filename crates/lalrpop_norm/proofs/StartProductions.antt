@@ -20,9 +20,11 @@ use Rattle.lalrpop_norm_repr.specs.Tables.{TypeTable, found}
 use Rattle.lalrpop_norm_late.specs.Lowering.{public_rules_in, start_name}
 use Rattle.lalrpop_norm_late.specs.Shape.{OwnedAlternative, IsLoweringOf, alternatives_in_order, start_clause, start_entry_of, rule_entry_of, productions_named}
 use Rattle.lalrpop_norm_model.proofs.NumberedNames.{of_rule, numbers_named, HaveOtherNames, passed_all, traced_entry, ahead, NoneNamed, HaveDistinctNames}
+use Rattle.lalrpop_norm_model.proofs.GrammarLemmas.{unlike}
 use Rattle.lalrpop_norm.specs.Derivations.{traced, derivations, IsWrittenWord, IsWordOf}
-use Rattle.lalrpop_norm.proofs.ShapeTrees.{tree_symbols, traced_each, replicated, AreFree, none_in, turned}
-use Rattle.lalrpop_norm.proofs.PlainShape.{unlike, others_append, none_among}
+use Rattle.lalrpop_norm.proofs.ShapeTrees.{tree_symbols, traced_each, AreFree, none_in, turned}
+use Rattle.lalrpop_norm.proofs.PlainShape.{others_append, none_among}
+use Rattle.lalrpop_norm_late.proofs.SourceLemmas.{replicated}
 
 -- ---- public rules
 

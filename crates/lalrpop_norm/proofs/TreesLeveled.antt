@@ -16,7 +16,7 @@ use Rattle.lalrpop_norm_theory.specs.Laws.{level_named}
 use Rattle.lalrpop_norm_theory.proofs.RoundsLemmas.{of_flat}
 use Rattle.lalrpop_norm_theory.proofs.SameLemmas.{symbol_test}
 use Rattle.lalrpop_norm_theory.proofs.ResolvedLemmas.{rule_met_resolved}
-use Rattle.lalrpop_norm_theory.proofs.LeveledLemmas.{symbol_named}
+use Rattle.lalrpop_norm_theory.proofs.LeveledLemmas.{symbol_named, shifted}
 use Rattle.lalrpop_norm_theory.proofs.ViewedLemmas.{same_view}
 use Rattle.lalrpop_norm_tree.specs.Items.{RuleData}
 use Rattle.lalrpop_norm_model.proofs.RoundReadLemmas.{rounds_viewed, made_viewed, made_within}
@@ -31,9 +31,6 @@ abbrev pub leveled_parts : (Name → ℕ → Name) → Clause → ClosedSymbols
 leveled_parts l c = leveled_symbols l c.parts
 
 -- ---- clauses
-
-shifted : (k j : ℕ) → k + suc j ≡ suc k + j
-shifted k j = omega arith
 
 -- the alternatives of a level's rule are the clauses in their places
 numbered_read : (n : Name) (l : Name → ℕ → Name) (f : ℕ → Option ClosedSymbols) (k left : ℕ) (cs : List Clause) →

@@ -47,8 +47,9 @@ use Rattle.lalrpop_norm_model.proofs.MadeReadLemmas.{plain_in, flat_rules_resolv
 use Rattle.lalrpop_norm_model.proofs.RoundReadLemmas.{rounds_are_read}
 use Rattle.lalrpop_norm_model.proofs.PlainReadLemmas.{AllFit, plain_fit}
 use Rattle.lalrpop_norm_model.proofs.FaithfulLemmas.{plain_grammars_hold_plain_rules}
-use Rattle.lalrpop_norm_model.proofs.RenumberedLemmas.{disabled_are_left_out, disabled_only_renumber, named_closed}
+use Rattle.lalrpop_norm_model.proofs.RenumberedLemmas.{disabled_are_left_out, disabled_only_renumber, named_closed, all_present}
 use Rattle.lalrpop_norm_model.proofs.RenumberedClauses.{clauses_only_renumber}
+use Rattle.lalrpop_norm_model.proofs.PatternLemmas.{no_map}
 use Rattle.lalrpop_norm.proofs.TreesLeveled.{parts_of, leveled_parts, leveled_read, fresh_leveled, made_leveled, made_resolved, fits_leveled}
 
 -- ---- declared references
@@ -180,13 +181,9 @@ module _ (r : GrammarData) (N : HasLevelNames r) where
 
 -- ---- rules without holes
 
-present_some : {A : Type 0} (xs : List A) → present (map Some xs) ≡ xs
-present_some [] = refl
-present_some (x ∷ xs) = ap (λ ys. x ∷ ys) (present_some xs)
-
 highest_closed : (w : WrittenRule) → highest_level (closed_up w).places ≡ highest_level w.places
 highest_closed w =
-    ap (λ (xs : List Leveled). unwrap_or (greatest (rising (map (λ (a : Leveled). a.level) xs))) 0) (present_some (present w.places))
+    ap (λ (xs : List Leveled). unwrap_or (greatest (rising (map (λ (a : Leveled). a.level) xs))) 0) (all_present (present w.places))
 
 closed_names : (ws : List WrittenRule) → map (λ (w : WrittenRule). w.name) (map closed_up ws) ≡ map (λ (w : WrittenRule). w.name) ws
 closed_names [] = refl
@@ -302,10 +299,6 @@ ranked_parts : (l : Name → ℕ → Name) (rank : Name → ℕ → ℕ) (cs : L
 ranked_parts l rank [] = refl
 ranked_parts l rank (c ∷ cs) = ap (λ gs. leveled_parts l c ∷ gs) (ranked_parts l rank cs)
 
-none_mapped : {A B : Type 0} (f : A → B) (xs : List A) → map f xs ≡ [] → xs ≡ []
-none_mapped f [] e = refl
-none_mapped f (x ∷ xs) e = absurd (cc e)
-
 pub fitting_names : (M : Meaning) (name : ClosedSymbol → Name) (rs : List RuleData) (gs : List ClosedSymbol) → AllFit M name rs gs → map name_of rs ≡ map name gs
 fitting_names M name [] [] f = refl
 fitting_names M name [] (g ∷ gs) f = absurd f
@@ -381,7 +374,7 @@ module _ (value : ConditionValue) (fs : Features) (g : GrammarData) (N : HasLeve
   -- where no later round has a new symbol, that is so of the written grammar too
   pub written_whole : (n : ℕ) → IsEnded value h n → (expansion M (references ws) n).fresh ≡ []
   written_whole n whole =
-      none_mapped (leveled_symbol ln) (expansion M (references ws) n).fresh
+      no_map (leveled_symbol ln) (expansion M (references ws) n).fresh
       (fresh_leveled M (flat_meaning value h) ln (references ws) (declared h) written_resolved (meaning_has_levels value ws) (declared_resolved ws)
       once_written lower_written read_written n
       ∙ (rounds_are_read value h S n).3.0 whole)

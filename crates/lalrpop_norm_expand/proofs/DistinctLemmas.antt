@@ -3,7 +3,6 @@ use Rattle.std.proofs.Common.{◌≡◌, ◌≢◌, ◌⊎◌, inl, inr, ℕ, ze
 use Rattle.std.specs.Prelude.{◌||◌, flat_map, filter, if◌then◌else◌}
 use Rattle.std.proofs.lemmas.List.{map-append}
 use Rattle.std.proofs.lemmas.Slice.Eq.{bytes_eq-Decides}
-use mathlib.Core.List.{reverse-cons}
 use Rattle.lalrpop_norm_parts.specs.declared.names.Span.{Span}
 use Rattle.lalrpop_norm_tree.specs.declared.symbol.RepeatOp.{RepeatOp}
 use Rattle.lalrpop_norm_tree.specs.declared.symbol.RepeatOp.TheVariants.{Star, Plus, Question}
@@ -27,21 +26,9 @@ use Rattle.lalrpop_norm_faults.proofs.FaultLemmas.{none_first}
 use Rattle.lalrpop_norm_expand.proofs.FreshLemmas.{Tells, after_fresh, first_same, tells_after}
 use Rattle.lalrpop_norm_meeting.proofs.SamenessLemmas.{none_if, or_false}
 use Rattle.lalrpop_norm_theory.proofs.MadeLemmas.{distinct_append, distinct_reverse}
+use Rattle.lalrpop_norm_theory.proofs.ListLemmas.{map_reverse, distinct_right, distinct_apart}
 
 -- ---- distinct lists
-
-distinct_right : {A : Type 0} (xs ys : List A) → IsDistinct (xs ++ ys) → IsDistinct ys
-distinct_right [] ys d = d
-distinct_right (x ∷ xs) ys d = distinct_right xs ys d.1
-
-distinct_apart : {A : Type 0} (xs ys : List A) → IsDistinct (xs ++ ys) → (z : A) → In z xs → In z ys → ⊥
-distinct_apart {A} (x ∷ xs) ys d z (inl e) j = d.0 (in_right x xs ys (subst (λ (w : A). In w ys) e j))
-distinct_apart (x ∷ xs) ys d z (inr i) j = distinct_apart xs ys d.1 z i j
-distinct_apart [] ys d z i j = absurd i
-
-map_reverse : {A B : Type 0} (f : A → B) (xs : List A) → map f (reverse xs) ≡ reverse (map f xs)
-map_reverse f [] = refl
-map_reverse f (x ∷ xs) = rw (reverse-cons x xs, reverse-cons (f x) (map f xs), map-append f (reverse xs) (x ∷ []), map_reverse f xs) refl
 
 -- ---- texts of the symbols kept
 

@@ -1,5 +1,5 @@
 -- What the code meets first by its text is what is new by sameness, and its faults begin as those of the definition.
-use Rattle.std.proofs.Common.{◌≡◌, inl, inr, ℕ, List, [], ◌∷◌, ◌++◌, Bool, true, false, cond, Option, Some, None, bytes_eq, refl, sym, ap, ap₂, ◌∙◌, subst, append-nil, append_assoc}
+use Rattle.std.proofs.Common.{◌≡◌, inl, inr, ℕ, List, [], ◌∷◌, ◌++◌, Bool, true, false, cond, Option, Some, None, bytes_eq, refl, sym, ap, ap₂, ◌∙◌, append-nil, append_assoc}
 use Rattle.std.specs.Prelude.{not, ◌||◌, ◌&&◌, is_some, if◌then◌else◌}
 use Rattle.lalrpop_norm_tree.specs.Symbols.{Part}
 use Rattle.lalrpop_norm_tree.specs.SymbolTexts.{part_text}
@@ -12,11 +12,12 @@ use Rattle.lalrpop_norm_model.specs.MadeRules.{span_of}
 use Rattle.lalrpop_norm_model.specs.PlainRules.{same_apart_from_spans}
 use Rattle.lalrpop_norm_making.specs.Names.{is_declared_name}
 use Rattle.lalrpop_norm_expand.specs.Expansion.{has_other, shared_names}
-use Rattle.lalrpop_norm_meeting.proofs.SamenessLemmas.{same_closed, closed_same, closed_text_same, text_is, is_text, false_where, or_false, none_if}
+use Rattle.lalrpop_norm_meeting.proofs.SamenessLemmas.{same_closed, closed_same, closed_text_same, is_text, false_where, or_false, none_if}
 use Rattle.lalrpop_norm_meeting.proofs.IndexLemmas.{first_more, first_at, text_cases}
 use Rattle.lalrpop_norm_meeting.specs.Meeting.{first_with_text, joined_by, after_one, after, differs, clashes, clash_faults}
 use Rattle.lalrpop_norm_model.specs.PlainTables.{closed}
-use Rattle.lalrpop_norm_theory.proofs.BoolLemmas.{or_nothing, not_false}
+use Rattle.lalrpop_norm_theory.proofs.BoolLemmas.{or_nothing, not_false, or_assoc}
+use Rattle.lalrpop_norm_theory.proofs.SameLemmas.{text_sound}
 use Rattle.lalrpop_norm_faults.proofs.FaultLemmas.{none_first}
 
 -- ---- what is new
@@ -64,13 +65,9 @@ module _ (names : List ℕ → Bool) where
 abbrev pub Tells : List Part → List Part → Type 0
 Tells seen met = (z : Part) → has_other met z ≡ differs (first_with_text (part_text z) seen) z
 
-or_assoc : (a b c : Bool) → (a || (b || c)) ≡ ((a || b) || c)
-or_assoc true b c = refl
-or_assoc false b c = refl
-
-or_twice : (a : Bool) → (a || a) ≡ a
-or_twice true = refl
-or_twice false = refl
+or_same : (a : Bool) → (a || a) ≡ a
+or_same true = refl
+or_same false = refl
 
 abbrev other : Part → Part → Bool
 other z y = bytes_eq (part_text y) (part_text z) && not (same_apart_from_spans y z)
@@ -86,7 +83,7 @@ module _ (seen met : List Part) (x z : Part) (h : has_other met z ≡ differs (f
     (d : differs (first_with_text (part_text x) seen) x ≡ false) where
   tells_apart : (part_text x ≡ part_text z → ⊥) → (has_other met z || other z x) ≡ differs (first_with_text (part_text z) (after_one seen x)) z
   tells_apart n =
-      let off : bytes_eq (part_text x) (part_text z) ≡ false = false_where _ (λ e. n (text_is _ _ e)) in
+      let off : bytes_eq (part_text x) (part_text z) ≡ false = false_where _ (λ e. n (text_sound _ _ e)) in
       ap (λ b. has_other met z || (b && not (same_apart_from_spans x z))) off
       ∙ or_nothing (has_other met z)
       ∙ h
@@ -109,7 +106,7 @@ module _ (seen met : List Part) (x z : Part) (h : has_other met z ≡ differs (f
           rw (q, first_at seen x q) refl
       cases (Some y) q =
           let same : same_apart_from_spans y x ≡ true = not_false _ (sym (ap (λ o. differs o x) q) ∙ d) in
-          rw (q, q, same_along y x z same) (or_twice (not (same_apart_from_spans y z)))
+          rw (q, q, same_along y x z same) (or_same (not (same_apart_from_spans y z)))
 
 tells_more : (seen met : List Part) (x : Part) → Tells seen met → differs (first_with_text (part_text x) seen) x ≡ false → Tells (after_one seen x) (met ++ x ∷ [])
 tells_more seen met x h d z = has_other_more met x z ∙ elim (text_cases (part_text x) (part_text z)) [

@@ -1,4 +1,3 @@
-pub mod ListTests
 pub mod PlainLemmas
 pub mod TokenLemmas
 pub mod TypeLemmas

@@ -1,5 +1,5 @@
 -- Plain rules and their names, seen by the lists of symbols, types and names.
-use Rattle.std.proofs.Common.{◌≡◌, ◌∙◌, ℕ, Bool, true, false, ◌&&◌, not, List, [], ◌∷◌, Option, Some, None, map, bytes_eq, inl, inr, refl, sym, ap, ap₂}
+use Rattle.std.proofs.Common.{◌≡◌, ◌∙◌, ℕ, true, ◌&&◌, not, List, [], ◌∷◌, Option, Some, None, map, bytes_eq, inl, inr, refl, sym, ap, ap₂}
 use Rattle.std.specs.Prelude.{option_to_list}
 use Rattle.std.specs.List.{flat_map, list_all}
 use Rattle.std.proofs.Math.Bool.{and-true}
@@ -11,11 +11,11 @@ use Rattle.lalrpop_norm_tree.specs.Symbols.{named, tupled, lookahead, lookbehind
 use Rattle.lalrpop_norm_tree.specs.Types.{TypeData, TypesData, MaybeType, tuple, slice, nominal, reference, trait_object}
 use Rattle.lalrpop_norm_tree.specs.Types.{of_lifetime, id, of_symbol, function, no_types, type_and, no_type, returns}
 use Rattle.lalrpop_norm_theory.specs.Rounds.{In, IsDistinct}
-use Rattle.lalrpop_norm_theory.proofs.BoolLemmas.{both_true}
+use Rattle.lalrpop_norm_theory.proofs.BoolLemmas.{both_true, not_true, true_not, both_hold, or_cases, or_left, or_right}
 use Rattle.lalrpop_norm_model.specs.PlainRules.{rule_of_item}
 use Rattle.lalrpop_norm_model.specs.Expanded.{is_plain_terminal, is_plain_kind, is_plain, are_plain, names_in_kind, names_in, names_in_parts, symbols_in, symbols_in_all, symbols_in_return}
 use Rattle.lalrpop_norm_expanded.specs.Plain.{is_rule_there, is_no_name_twice, is_usable_kind, is_usable, are_usable, is_usable_in, are_usable_in, is_usable_return, is_usable_declared, is_usable_rule, is_usable_item}
-use Rattle.lalrpop_norm_expanded.proofs.ListTests.{all_flat, all_same, both, crossed, either_true, left_true, right_true}
+use Rattle.lalrpop_norm_theory.proofs.ListTests.{all_flat, all_same, crossed}
 
 -- ---- names of rules
 
@@ -24,7 +24,7 @@ names_of items = map (λ (r : RuleData). r.name.0) (flat_map rule_of_item items)
 
 pub has_named : (items : List ItemData) (n : List ℕ) → is_rule_there items n ≡ true → In n (names_of items)
 has_named [] n e = absurd cc
-has_named (rule_item r ∷ items) n e = elim (either_true (bytes_eq r.name.0 n) (is_rule_there items n) e) [
+has_named (rule_item r ∷ items) n e = elim (or_cases (bytes_eq r.name.0 n) (is_rule_there items n) e) [
   | inl s ↦ inl (sym ((bytes_eq-Decides r.name.0 n).0 s))
   | inr s ↦ inr (has_named items n s)
 ]
@@ -35,20 +35,12 @@ has_named (use_item s ∷ items) n e = has_named items n e
 
 pub named_has : (items : List ItemData) (n : List ℕ) → In n (names_of items) → is_rule_there items n ≡ true
 named_has [] n i = absurd i
-named_has (rule_item r ∷ items) n (inl e) = left_true (bytes_eq r.name.0 n) (is_rule_there items n) ((bytes_eq-Decides r.name.0 n).1 (sym e))
-named_has (rule_item r ∷ items) n (inr i) = right_true (bytes_eq r.name.0 n) (is_rule_there items n) (named_has items n i)
+named_has (rule_item r ∷ items) n (inl e) = or_left (bytes_eq r.name.0 n) (is_rule_there items n) ((bytes_eq-Decides r.name.0 n).1 (sym e))
+named_has (rule_item r ∷ items) n (inr i) = or_right (bytes_eq r.name.0 n) (is_rule_there items n) (named_has items n i)
 named_has (match_item m ∷ items) n i = named_has items n i
 named_has (extern_item t ∷ items) n i = named_has items n i
 named_has (intern_item t ∷ items) n i = named_has items n i
 named_has (use_item s ∷ items) n i = named_has items n i
-
-not_true : (b : Bool) → not b ≡ true → b ≡ true → ⊥
-not_true true e f = cc
-not_true false e f = cc
-
-true_not : (b : Bool) → (b ≡ true → ⊥) → not b ≡ true
-true_not true h = absurd (h refl)
-true_not false h = refl
 
 pub once_distinct : (items : List ItemData) → is_no_name_twice items ≡ true → IsDistinct (names_of items)
 once_distinct [] e = tt
@@ -63,7 +55,7 @@ once_distinct (use_item s ∷ items) e = once_distinct items e
 pub distinct_once : (items : List ItemData) → IsDistinct (names_of items) → is_no_name_twice items ≡ true
 distinct_once [] d = refl
 distinct_once (rule_item r ∷ items) d =
-    both (not (is_rule_there items r.name.0)) (is_no_name_twice items) (true_not (is_rule_there items r.name.0) (λ e. d.0 (has_named items r.name.0 e))) (distinct_once items d.1)
+    both_hold (not (is_rule_there items r.name.0)) (is_no_name_twice items) (true_not (is_rule_there items r.name.0) (λ e. d.0 (has_named items r.name.0 e))) (distinct_once items d.1)
 distinct_once (match_item m ∷ items) d = distinct_once items d
 distinct_once (extern_item t ∷ items) d = distinct_once items d
 distinct_once (intern_item t ∷ items) d = distinct_once items d

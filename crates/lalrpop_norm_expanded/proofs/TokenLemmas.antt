@@ -18,7 +18,7 @@ use Rattle.lalrpop_norm_model.specs.Expanded.{is_plain_terminal, enum_in, match_
 use Rattle.lalrpop_norm_model.specs.TokenFaults.{names_mapped_by}
 use Rattle.lalrpop_norm_model.proofs.EnteredTokens.{groups_names}
 use Rattle.lalrpop_norm_expanded.specs.Tokens.{enum_spares_error, mapping_spares_error, match_item_spares_error, group_spares_error, entry_spares_error, item_spares_error}
-use Rattle.lalrpop_norm_expanded.proofs.ListTests.{all_at, all_if, all_both, all_flat, all_same}
+use Rattle.lalrpop_norm_theory.proofs.ListTests.{all_at, all_if, all_both, all_flat, all_same}
 
 -- ---- what each item names
 

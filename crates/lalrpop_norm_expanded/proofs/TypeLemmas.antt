@@ -17,7 +17,8 @@ use Rattle.lalrpop_norm_tree.specs.LoweredTypes.{holds_symbol}
 use Rattle.lalrpop_norm_tree.specs.Types.{TypeData, ParameterData}
 use Rattle.lalrpop_norm_model.specs.Expanded.{types_in_clause, types_in_enum, types_in_extern, types_beside_rules}
 use Rattle.lalrpop_norm_expanded.specs.Types.{lacks_symbol, return_lacks_symbol, bound_parameter_lacks_symbol, bound_lacks_symbol, clause_lacks_symbol, pattern_kind_lacks_symbol, pattern_lacks_symbol, patterns_lack_symbol, fields_lack_symbol, conversion_lacks_symbol, enum_lacks_symbol, item_lacks_symbol, is_free_of_symbols}
-use Rattle.lalrpop_norm_expanded.proofs.ListTests.{all_flat, all_same}
+use Rattle.lalrpop_norm_theory.proofs.ListTests.{all_flat, all_same}
+use Rattle.lalrpop_norm_theory.proofs.BoolLemmas.{false_of_not}
 
 -- ---- where clauses
 
@@ -109,16 +110,12 @@ free_listed g =
     (all_same item_lacks_symbol (λ i. list_all lacks_symbol (types_in_extern i)) item_listed g.items ∙ sym (all_flat lacks_symbol types_in_extern g.items))
     ∙ sym (list_all-append lacks_symbol (parameters ++ clauses) externs)
 
-turned : (b : Bool) → not b ≡ true → b ≡ false
-turned true e = absurd cc
-turned false e = refl
-
 turned_back : (b : Bool) → b ≡ false → not b ≡ true
 turned_back true e = absurd cc
 turned_back false e = refl
 
 pub lacks_is : (t : TypeData) → lacks_symbol t ≡ true → holds_symbol t ≡ false
-lacks_is t = turned (holds_symbol t)
+lacks_is t = false_of_not (holds_symbol t)
 
 pub is_lacks : (t : TypeData) → holds_symbol t ≡ false → lacks_symbol t ≡ true
 is_lacks t = turned_back (holds_symbol t)

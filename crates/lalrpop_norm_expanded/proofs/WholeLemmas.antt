@@ -6,7 +6,7 @@ use Rattle.lalrpop_norm_tree.specs.Items.{AlternativeData, RuleData, GrammarData
 use Rattle.lalrpop_norm_tree.specs.declared.items.Condition.{Condition}
 use Rattle.lalrpop_norm_tree.specs.Symbols.{Kind}
 use Rattle.lalrpop_norm_theory.specs.Rounds.{In}
-use Rattle.lalrpop_norm_theory.proofs.BoolLemmas.{both_true}
+use Rattle.lalrpop_norm_theory.proofs.BoolLemmas.{both_true, both_hold}
 use Rattle.lalrpop_norm_theory.proofs.RoundsLemmas.{in_left, in_right, in_cases, in_flat, of_flat}
 use Rattle.lalrpop_norm_model.specs.Grammars.{is_nil}
 use Rattle.lalrpop_norm_model.specs.PlainRules.{all_rules}
@@ -16,7 +16,7 @@ use Rattle.lalrpop_norm_expanded.specs.Plain.{is_rule_there, is_no_name_twice, i
 use Rattle.lalrpop_norm_expanded.specs.Tokens.{AreSourcesApart, item_spares_error}
 use Rattle.lalrpop_norm_expanded.specs.Types.{lacks_symbol, is_free_of_symbols}
 use Rattle.lalrpop_norm_expanded.specs.Whole.{are_parts_plain}
-use Rattle.lalrpop_norm_expanded.proofs.ListTests.{all_at, all_if, both}
+use Rattle.lalrpop_norm_theory.proofs.ListTests.{all_at, all_if}
 use Rattle.lalrpop_norm_expanded.proofs.PlainLemmas.{has_named, named_has, once_distinct, distinct_once, kind_usable, parts_usable, declared_usable, rules_usable}
 use Rattle.lalrpop_norm_expanded.proofs.TokenLemmas.{spared_listed, plain_lacks, lacks_plain}
 use Rattle.lalrpop_norm_expanded.proofs.TypeLemmas.{free_listed, lacks_is, is_lacks}
@@ -51,10 +51,10 @@ rule_is g r e =
 
 is_rule : (g : GrammarData) (r : RuleData) → PlainRule g r → is_usable_rule g.items r ≡ true
 is_rule g r p =
-    both (is_nil r.args) (is_usable_declared g.items r.type_decl && list_all (is_usable_alternative g.items) r.alternatives) p.no_args
-    (both (is_usable_declared g.items r.type_decl) (list_all (is_usable_alternative g.items) r.alternatives)
+    both_hold (is_nil r.args) (is_usable_declared g.items r.type_decl && list_all (is_usable_alternative g.items) r.alternatives) p.no_args
+    (both_hold (is_usable_declared g.items r.type_decl) (list_all (is_usable_alternative g.items) r.alternatives)
     (declared_usable g.items r.type_decl ∙ all_if (is_usable_kind g.items) (declared_symbols r) p.declared)
-    (all_if (is_usable_alternative g.items) r.alternatives (λ a i. both (is_none a.condition) (are_usable g.items a.parts) (p.unconditional a i) (p.usable a i))))
+    (all_if (is_usable_alternative g.items) r.alternatives (λ a i. both_hold (is_none a.condition) (are_usable g.items a.parts) (p.unconditional a i) (p.usable a i))))
 
 -- ---- symbols that pass
 
@@ -77,7 +77,7 @@ name_has_rule g rules n i =
           all_at (is_rule_there g.items) (names_in_kind s) (kind_is g s ((rules r j).declared s l)).1 n x)
     ])
 
--- ---- both ways
+-- ---- both_hold ways
 
 abbrev plain_rules : GrammarData → Bool
 plain_rules g = list_all (is_usable_item g.items) g.items
@@ -137,11 +137,11 @@ used_has g x n i = named_has g.items n (x.names_have_rules n i)
 rule_of : (g : GrammarData) → IsExpanded g → (r : RuleData) → IsRule g r → PlainRule g r
 rule_of g x r i = record {
   no_args = ap (λ xs. is_nil xs) (x.no_macros r i);
-  declared = λ k j. kind_usable g.items k ∙ both (is_plain_kind k) (list_all (is_rule_there g.items) (names_in_kind k)) (x.plain_in_types r k i j)
+  declared = λ k j. kind_usable g.items k ∙ both_hold (is_plain_kind k) (list_all (is_rule_there g.items) (names_in_kind k)) (x.plain_in_types r k i j)
       (all_if (is_rule_there g.items) (names_in_kind k) (λ n l. used_has g x n (in_flat names_used_by n r (all_rules g) i
       (in_right n (flat_map in_parts r.alternatives) (flat_map names_in_kind (declared_symbols r)) (in_flat names_in_kind n k (declared_symbols r) j l)))));
   unconditional = λ a j. ap (λ o. is_none o) (x.no_conditions a (r, i, j));
-  usable = λ a j. parts_usable g.items a.parts ∙ both (are_plain a.parts) (list_all (is_rule_there g.items) (names_in_parts a.parts)) (x.plain_symbols a (r, i, j))
+  usable = λ a j. parts_usable g.items a.parts ∙ both_hold (are_plain a.parts) (list_all (is_rule_there g.items) (names_in_parts a.parts)) (x.plain_symbols a (r, i, j))
       (all_if (is_rule_there g.items) (names_in_parts a.parts) (λ n l. used_has g x n (in_flat names_used_by n r (all_rules g) i
       (in_left n (flat_map in_parts r.alternatives) (flat_map names_in_kind (declared_symbols r)) (in_flat in_parts n a r.alternatives j l)))));
 }
@@ -151,10 +151,10 @@ plain_of g x =
     let rules : plain_rules g ≡ true = rules_usable g.items g.items ∙ all_if (is_usable_rule g.items) (all_rules g) (λ r i. is_rule g r (rule_of g x r i)) in
     let names : is_no_name_twice g.items ≡ true = distinct_once g.items x.distinct_names in
     let spares : spared g ≡ true =
-    spared_listed g ∙ both (plain_converted g) (plain_mapped g) (lacks_plain (converted g) x.no_error_converted) (lacks_plain (mapped_terminals g) x.no_error_mapped) in
+    spared_listed g ∙ both_hold (plain_converted g) (plain_mapped g) (lacks_plain (converted g) x.no_error_converted) (lacks_plain (mapped_terminals g) x.no_error_mapped) in
     let free : is_free_of_symbols g ≡ true =
     free_listed g ∙ all_if lacks_symbol (types_beside_rules g) (λ t i. is_lacks t (x.symbols_declared_only t i)) in
-    both (plain_rules g) (is_no_name_twice g.items && after_names g) rules
-    (both (is_no_name_twice g.items) (after_names g) names
-    (both (spared g) (is_free_of_symbols g && all_known g.attributes) spares
-    (both (is_free_of_symbols g) (all_known g.attributes) free x.known_attributes)))
+    both_hold (plain_rules g) (is_no_name_twice g.items && after_names g) rules
+    (both_hold (is_no_name_twice g.items) (after_names g) names
+    (both_hold (spared g) (is_free_of_symbols g && all_known g.attributes) spares
+    (both_hold (is_free_of_symbols g) (all_known g.attributes) free x.known_attributes)))

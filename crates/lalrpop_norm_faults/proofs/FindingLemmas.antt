@@ -1,10 +1,9 @@
 -- Findings: what may be told of lists one after the other, and what that says.
 use Rattle.std.proofs.Common.{◌≡◌, ◌⊎◌, List, [], ◌∷◌, ◌++◌, map, Some, Result, Ok, Err, inl, inr, refl, ap, arith}
 use Rattle.std.specs.Prelude.{Contains}
-use Rattle.std.specs.Result.{IsErrAnd}
 use Rattle.lalrpop_norm_faults.specs.declared.failure.NormFailure.{NormFailure}
 use Rattle.lalrpop_norm_faults.specs.declared.failure.NormFailure.TheVariants.{Refused, Memory}
-use Rattle.lalrpop_norm_faults.specs.Faults.{Fault, first, Refuses, Finding, sure, maybe, sure_ones, StandsAmong, MayBeTold, IsTold, RefusesAmong}
+use Rattle.lalrpop_norm_faults.specs.Faults.{Fault, first, Refuses, Finding, sure, maybe, sure_ones, StandsAmong, MayBeTold, RefusesAmong}
 
 -- ---- what it says
 
@@ -70,9 +69,3 @@ sure_append [] ys = refl
 sure_append (sure g ∷ xs) ys = ap (λ fs. g ∷ fs) (sure_append xs ys)
 sure_append (maybe p ∷ xs) ys = sure_append xs ys
 
--- the exit by `?`
-pub exit_among : {P T : Type 0} (At : P → Fault → Type 0) (r : Result T NormFailure) (e : NormFailure) (here all : List (Finding P)) →
-    IsErrAnd r (λ y. y ≡ e) → IsTold At here e → ((f : Fault) → MayBeTold At here f → MayBeTold At all f) → RefusesAmong At r all
-exit_among At (Ok x) e here all from h leads = absurd from
-exit_among At (Err x) (Refused e) here all from h leads = rw from (leads (e.fault, e.span) h)
-exit_among At (Err x) Memory here all from h leads = rw from tt

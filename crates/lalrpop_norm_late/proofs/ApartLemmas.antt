@@ -13,8 +13,9 @@ use Rattle.lalrpop_norm_repr.specs.Productions.{EntryData}
 use Rattle.lalrpop_norm_repr.specs.Tables.{found}
 use Rattle.lalrpop_norm_late.specs.Lowering.{public_rules_in, start_name, start_names, start_rows, rule_rows, sorted_onto}
 use Rattle.lalrpop_norm_late.specs.Shape.{OwnedAlternative, start_clause, rule_clauses, alternatives_in_order, start_entry_of, rule_entry_of, lowered_entries, starts_of, IsNameTable}
-use Rattle.lalrpop_norm_late.proofs.ClauseLemmas.{has_name, or_neither, append_same, AreApart, LackNames, LackStarts, AllApart, apart_all, rule_rows_named, start_rows_named}
+use Rattle.lalrpop_norm_late.proofs.ClauseLemmas.{has_name, append_same, AreApart, LackNames, LackStarts, AllApart, apart_all, rule_rows_named, start_rows_named}
 use Rattle.lalrpop_norm_late.proofs.KeyLaws.{same_name, names_decide, name_table, sorted_joined}
+use Rattle.lalrpop_norm_theory.proofs.BoolLemmas.{both_false}
 
 -- ---- lists
 
@@ -78,7 +79,7 @@ lack_no_starts prefix (r ∷ rs) = (refl, lack_no_starts prefix rs)
 lack_one : (n : NonterminalString) (c : OwnedAlternative) (rs : List RuleData) (cs : List OwnedAlternative) → c.0 ≡ n → AreApart n rs → LackNames rs cs → LackNames rs (c ∷ cs)
 lack_one n c [] cs e h i = tt
 lack_one n c (r ∷ rs) cs e h i = (
-  or_neither (bytes_eq r.name.0 c.0.0) (has_name r.name cs) (ap (λ (m : NonterminalString). bytes_eq r.name.0 m.0) e ∙ nat_list_eq_equiv.symm r.name.0 n.0 ∙ h.0) i.0,
+  both_false (bytes_eq r.name.0 c.0.0) (has_name r.name cs) (ap (λ (m : NonterminalString). bytes_eq r.name.0 m.0) e ∙ nat_list_eq_equiv.symm r.name.0 n.0 ∙ h.0) i.0,
   lack_one n c rs cs e h.1 i.1,
 )
 

@@ -1,5 +1,5 @@
 -- Numbered alternatives: counted along the rules, and by their places in the one list.
-use Rattle.std.proofs.Common.{◌≡◌, ◌∙◌, ℕ, ◌+◌, Bool, true, false, cond, ◌||◌, ◌&&◌, List, [], ◌∷◌, ◌++◌, length, map, refl, sym, ap, arith, bytes_eq}
+use Rattle.std.proofs.Common.{◌≡◌, ◌∙◌, ℕ, ◌+◌, Bool, false, cond, ◌||◌, ◌&&◌, List, [], ◌∷◌, ◌++◌, length, map, refl, sym, ap, arith, bytes_eq}
 use Rattle.std.specs.Prelude.{filter, flat_map}
 use Rattle.std.specs.List.{list_any, enumerate_from, AllByRecursion}
 use Rattle.std.specs.Cmp.{nat_eq_equiv}
@@ -12,7 +12,8 @@ use Rattle.lalrpop_norm_tree.specs.Items.{AlternativeData, RuleData}
 use Rattle.lalrpop_norm_repr.specs.Productions.{ProductionData, EntryData}
 use Rattle.lalrpop_norm_late.specs.Lowering.{start_name, start_alternative, production_of, productions_from, start_rows, rule_rows}
 use Rattle.lalrpop_norm_late.specs.Shape.{OwnedAlternative, start_clause, rule_clauses, productions_named, start_entry_of, rule_entry_of}
-use Rattle.lalrpop_norm_theory.proofs.BoolLemmas.{left_false, right_false}
+use Rattle.lalrpop_norm_theory.proofs.BoolLemmas.{left_false, right_false, both_false}
+use Rattle.lalrpop_norm_theory.proofs.SameLemmas.{text_same}
 
 pub enumerate_append : {A : Type 0} (k : ℕ) (xs ys : List A) → enumerate_from k (xs ++ ys) ≡ enumerate_from k xs ++ enumerate_from (k + length xs) ys
 enumerate_append k [] ys = ap (λ n. enumerate_from n ys) (omega arith)
@@ -36,10 +37,6 @@ named_append n k xs ys =
     ∙ ap (map made) (filter-append test (enumerate_from k xs) (enumerate_from (k + length xs) ys))
     ∙ map-append made (filter test (enumerate_from k xs)) (filter test (enumerate_from (k + length xs) ys))
 
-pub or_neither : (a b : Bool) → a ≡ false → b ≡ false → (a || b) ≡ false
-or_neither true b h i = cc
-or_neither false b h i = i
-
 named_none : (n : NonterminalString) (k : ℕ) (cs : List OwnedAlternative) → has_name n cs ≡ false → named_from n k cs ≡ []
 named_none n k [] h = refl
 named_none n k (c ∷ cs) h =
@@ -48,15 +45,12 @@ named_none n k (c ∷ cs) h =
     ap (λ b. made (cond b ((k, c) ∷ rest) rest)) (left_false (bytes_eq n.0 c.0.0) (has_name n cs) h)
     ∙ named_none n (k + 1) cs (right_false (bytes_eq n.0 c.0.0) (has_name n cs) h)
 
-same_bytes : (a : List ℕ) → bytes_eq a a ≡ true
-same_bytes a = nat_list_eq_equiv.refl a
-
 named_all : (n : NonterminalString) (k : ℕ) (alts : List AlternativeData) → named_from n k (map (λ a. (n, a)) alts) ≡ productions_from n k alts
 named_all n k [] = refl
 named_all n k (a ∷ alts) =
     let made : List (ℕ × OwnedAlternative) → List ProductionData = map (λ (e : ℕ × OwnedAlternative). production_of n e.0 e.1.1) in
     let rest : List (ℕ × OwnedAlternative) = filter (λ (e : ℕ × OwnedAlternative). bytes_eq n.0 e.1.0.0) (enumerate_from (k + 1) (map (λ (b : AlternativeData). (n, b)) alts)) in
-    ap (λ b. made (cond b ((k, (n, a)) ∷ rest) rest)) (same_bytes n.0)
+    ap (λ b. made (cond b ((k, (n, a)) ∷ rest) rest)) (text_same n.0)
     ∙ ap (λ ps. production_of n k a ∷ ps) (named_all n (k + 1) alts)
 
 -- the productions of a name that only one stretch of the list has
@@ -81,11 +75,11 @@ LackNames rs cs = AllByRecursion (λ r. has_name r.name cs ≡ false) rs
 
 apart_here : (n m : NonterminalString) (alts : List AlternativeData) → bytes_eq n.0 m.0 ≡ false → has_name n (map (λ a. (m, a)) alts) ≡ false
 apart_here n m [] h = refl
-apart_here n m (a ∷ alts) h = or_neither (bytes_eq n.0 m.0) (has_name n (map (λ b. (m, b)) alts)) h (apart_here n m alts h)
+apart_here n m (a ∷ alts) h = both_false (bytes_eq n.0 m.0) (has_name n (map (λ b. (m, b)) alts)) h (apart_here n m alts h)
 
 has_append : (n : NonterminalString) (xs ys : List OwnedAlternative) → has_name n xs ≡ false → has_name n ys ≡ false → has_name n (xs ++ ys) ≡ false
 has_append n [] ys h i = i
-has_append n (x ∷ xs) ys h i = or_neither (bytes_eq n.0 x.0.0) (has_name n (xs ++ ys)) (left_false (bytes_eq n.0 x.0.0) (has_name n xs) h) (has_append n xs ys (right_false (bytes_eq n.0 x.0.0) (has_name n xs) h) i)
+has_append n (x ∷ xs) ys h i = both_false (bytes_eq n.0 x.0.0) (has_name n (xs ++ ys)) (left_false (bytes_eq n.0 x.0.0) (has_name n xs) h) (has_append n xs ys (right_false (bytes_eq n.0 x.0.0) (has_name n xs) h) i)
 
 pub apart_all : (n : NonterminalString) (rs : List RuleData) → AreApart n rs → has_name n (flat_map rule_clauses rs) ≡ false
 apart_all n [] h = refl
@@ -132,14 +126,14 @@ module _ (prefix : List ℕ) where
   lack_start r [] cs h i = tt
   lack_start r (s ∷ rs) cs h i = (
     has_append (start_name prefix s.name) cs (start_clause prefix r ∷ []) i.0
-        (or_neither (bytes_eq (prefix ++ s.name.0) (prefix ++ r.name.0)) false (append_same prefix s.name.0 r.name.0 ∙ nat_list_eq_equiv.symm s.name.0 r.name.0 ∙ h.0) refl),
+        (both_false (bytes_eq (prefix ++ s.name.0) (prefix ++ r.name.0)) false (append_same prefix s.name.0 r.name.0 ∙ nat_list_eq_equiv.symm s.name.0 r.name.0 ∙ h.0) refl),
     lack_start r rs cs h.1 i.1,
   )
 
   starts_apart : (r : RuleData) (rs : List RuleData) → AreApart r.name rs → has_name (start_name prefix r.name) (map (start_clause prefix) rs) ≡ false
   starts_apart r [] h = refl
   starts_apart r (s ∷ rs) h =
-      or_neither (bytes_eq (prefix ++ r.name.0) (prefix ++ s.name.0)) (has_name (start_name prefix r.name) (map (start_clause prefix) rs)) (append_same prefix r.name.0 s.name.0 ∙ h.0) (starts_apart r rs h.1)
+      both_false (bytes_eq (prefix ++ r.name.0) (prefix ++ s.name.0)) (has_name (start_name prefix r.name) (map (start_clause prefix) rs)) (append_same prefix r.name.0 s.name.0 ∙ h.0) (starts_apart r rs h.1)
 
   pub start_rows_named : (before : List OwnedAlternative) (rs : List RuleData) (after clauses : List OwnedAlternative) → before ++ (map (start_clause prefix) rs ++ after) ≡ clauses → LackStarts rs before → LackStarts rs after → AllApart rs
       → start_rows prefix (length before) rs ≡ map (start_entry_of prefix clauses) rs

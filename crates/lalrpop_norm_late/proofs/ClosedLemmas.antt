@@ -28,7 +28,7 @@ use Rattle.lalrpop_norm_late.specs.Shape.{OwnedAlternative, alternatives_in_orde
 use Rattle.lalrpop_norm_late.proofs.ApartLemmas.{IsNamedIn}
 use Rattle.lalrpop_norm_late.proofs.ClauseLemmas.{named_from}
 use Rattle.lalrpop_norm_late.proofs.KeyLaws.{same_name, names_decide, names_total, found_is}
-use Rattle.lalrpop_norm_util.proofs.ListLemmas.{some_inner}
+use Rattle.lalrpop_norm_theory.proofs.ListLemmas.{some_inner}
 
 -- ---- lists
 

@@ -1,5 +1,5 @@
 -- The faults of lowering: counted along the rules, and by the one list of alternatives. And what no fault means.
-use Rattle.std.proofs.Common.{◌≡◌, ◌∙◌, ℕ, ◌+◌, cond, not, List, [], ◌∷◌, ◌++◌, length, Option, Some, None, refl, sym, ap, append_assoc}
+use Rattle.std.proofs.Common.{◌≡◌, ◌∙◌, ℕ, ◌+◌, cond, not, List, [], ◌∷◌, ◌++◌, length, Option, Some, None, refl, sym, ap}
 use Rattle.std.specs.Prelude.{flat_map, filter, is_none}
 use Rattle.std.specs.List.{enumerate_from, AllByRecursion}
 use Rattle.lalrpop_norm_faults.specs.Faults.{Fault, fault_if}
@@ -12,6 +12,7 @@ use Rattle.lalrpop_norm_repr.specs.Tables.{TypeTable, type_of}
 use Rattle.lalrpop_norm_late.specs.Lowering.{rules_among, public_rules_in, start_name}
 use Rattle.lalrpop_norm_late.specs.Made.{types_by_name, alternatives_faults, made_starts_faults, made_rules_faults, made_faults}
 use Rattle.lalrpop_norm_late.proofs.ClauseLemmas.{enumerate_append}
+use Rattle.lalrpop_norm_theory.proofs.ListLemmas.{flat_append}
 
 -- ---- rules
 
@@ -28,10 +29,6 @@ public_listed [] = refl
 public_listed (r ∷ rs) = ap (λ (ps : List RuleData). cond (is_public r.visibility) (r ∷ ps) ps) (public_listed rs)
 
 -- ---- faults
-
-flat_append : {A B : Type 0} (f : A → List B) (xs ys : List A) → flat_map f (xs ++ ys) ≡ flat_map f xs ++ flat_map f ys
-flat_append f [] ys = refl
-flat_append f (x ∷ xs) ys = ap (λ zs. f x ++ zs) (flat_append f xs ys) ∙ sym (append_assoc (f x) (flat_map f xs) (flat_map f ys))
 
 abbrev start_fault : List ℕ → TypeTable → ℕ × RuleData → List Fault
 start_fault prefix types e = start_faults prefix (types_by_name types) e.1 ++ action_number_faults e.0 e.1.span

@@ -1,11 +1,11 @@
 -- The orders of names and of terminals, and tables over them.
-use Rattle.std.proofs.Common.{◌≡◌, ◌∙◌, ℕ, Bool, true, false, cond, List, [], ◌∷◌, ◌++◌, Option, Some, None, refl, sym, ap, subst, bytes_eq, nat_cmp, Decides}
+use Rattle.std.proofs.Common.{◌≡◌, ◌∙◌, ℕ, Bool, true, cond, List, [], ◌∷◌, ◌++◌, Option, Some, None, refl, sym, ap, subst, bytes_eq, nat_cmp, Decides}
 use Rattle.std.specs.declared.cmp.Ordering.{Ordering}
 use Rattle.std.specs.declared.cmp.Ordering.TheVariants.{Equal}
 use Rattle.std.specs.Ordering.{ordering_reverse}
 use Rattle.std.specs.BTreeMap.{insert_entry}
 use Rattle.std.specs.Cmp.{IsTotalOrder, IsEquivalence}
-use Rattle.std.specs.Cmp.Lexicographic.{slice_cmp, nat_list_cmp_total, nat_list_eq_equiv}
+use Rattle.std.specs.Cmp.Lexicographic.{slice_cmp, nat_list_cmp_total}
 use Rattle.std.specs.List.{IsDistinct}
 use Rattle.std.specs.List.Sorted.{IsStrictlySortedBy}
 use Rattle.std.specs.Map.{keys_of, lookup}
@@ -14,21 +14,18 @@ use Rattle.std.proofs.lemmas.Cmp.{on_total}
 use Rattle.std.proofs.lemmas.Map.Lookups.{exact_bytes}
 use Rattle.std.proofs.lemmas.Slice.Eq.{bytes_eq-Decides}
 use Rattle.lalrpop_norm_parts.specs.declared.names.NonterminalString.{NonterminalString}
-use Rattle.lalrpop_norm_parts.specs.declared.names.TerminalLiteral.{TerminalLiteral}
 use Rattle.lalrpop_norm_parts.specs.declared.names.TerminalLiteral.TheVariants.{Quoted, Regex}
 use Rattle.lalrpop_norm_parts.specs.declared.names.TerminalString.{TerminalString}
 use Rattle.lalrpop_norm_parts.specs.declared.names.TerminalString.TheVariants.{Literal, Bare, Error}
-use Rattle.lalrpop_norm_repr.specs.Tables.{found, found_terminal, same_literal, same_terminal}
+use Rattle.lalrpop_norm_repr.specs.Tables.{found, found_terminal, same_terminal}
 use Rattle.lalrpop_norm_repr.proofs.TableLemmas.{terminals_same}
-use Rattle.lalrpop_norm_late.specs.Conversions.{literal_cmp, terminal_cmp, sorted_terminals}
+use Rattle.lalrpop_norm_late.specs.Conversions.{terminal_cmp, sorted_terminals}
 use Rattle.lalrpop_norm_late.specs.Lowering.{sorted_onto, with_entry}
 use Rattle.lalrpop_norm_late.specs.Shape.{name_cmp, IsNameTable, IsTerminalTable}
 use Rattle.lalrpop_norm_late.proofs.TableLemmas.{put_all, put_more, put_sorted, put_lookup}
-
-both_ways : (s t : Bool) → (s ≡ true → t ≡ true) → (t ≡ true → s ≡ true) → s ≡ t
-both_ways true t f g = sym (f refl)
-both_ways false true f g = g refl
-both_ways false false f g = refl
+use Rattle.lalrpop_norm_theory.proofs.BoolLemmas.{both_ways}
+use Rattle.lalrpop_norm_model.proofs.SameTerminalLemmas.{terminal_itself}
+use Rattle.lalrpop_norm_model.proofs.EntryOrder.{terminals_exact}
 
 -- a test that decides sameness is an equivalence
 laws_of : {K : Type 0} (same : K → K → Bool) → ((a b : K) → Decides (same a b) (a ≡ b)) → IsEquivalence same
@@ -119,32 +116,6 @@ terminals_total =
       trans = λ x y z p q. ranked x z ∙ o.trans x y z (sym (ranked x y) ∙ p) (sym (ranked y z) ∙ q);
       congr = λ x y z p. ranked x z ∙ o.congr x y z (sym (ranked x y) ∙ p) ∙ sym (ranked y z);
     }
-
-exact_literals : (a b : TerminalLiteral) → literal_cmp a b ≡ Equal → a ≡ b
-exact_literals (Quoted a) (Quoted b) e = ap Quoted (exact_bytes a b e)
-exact_literals (Quoted a) (Regex b) e = cc
-exact_literals (Regex a) (Quoted b) e = cc
-exact_literals (Regex a) (Regex b) e = ap Regex (exact_bytes a b e)
-
-pub terminals_exact : (a b : TerminalString) → terminal_cmp a b ≡ Equal → a ≡ b
-terminals_exact (Literal a) (Literal b) e = ap Literal (exact_literals a b e)
-terminals_exact (Literal a) (Bare b) e = cc
-terminals_exact (Literal a) Error e = cc
-terminals_exact (Bare a) (Literal b) e = cc
-terminals_exact (Bare a) (Bare b) e = ap Bare (exact_bytes a b e)
-terminals_exact (Bare a) Error e = cc
-terminals_exact Error (Literal b) e = cc
-terminals_exact Error (Bare b) e = cc
-terminals_exact Error Error e = refl
-
-literal_itself : (a : TerminalLiteral) → same_literal a a ≡ true
-literal_itself (Quoted a) = nat_list_eq_equiv.refl a
-literal_itself (Regex a) = nat_list_eq_equiv.refl a
-
-pub terminal_itself : (a : TerminalString) → same_terminal a a ≡ true
-terminal_itself (Literal a) = literal_itself a
-terminal_itself (Bare a) = nat_list_eq_equiv.refl a
-terminal_itself Error = refl
 
 pub terminals_decide : (a b : TerminalString) → Decides (same_terminal a b) (a ≡ b)
 terminals_decide a b = (terminals_same a b, λ e. subst (λ x. same_terminal a x ≡ true) e (terminal_itself a))

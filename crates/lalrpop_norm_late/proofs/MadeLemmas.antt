@@ -16,6 +16,8 @@ use Rattle.lalrpop_norm_faults.specs.Faults.{Fault, Refuses}
 use Rattle.lalrpop_norm_faults.specs.declared.failure.NormFailure.{NormFailure}
 use Rattle.lalrpop_norm_theory.specs.Rounds.{In, IsDistinct}
 use Rattle.lalrpop_norm_theory.proofs.RoundsLemmas.{in_left, in_right, in_flat}
+use Rattle.lalrpop_norm_theory.proofs.BoolLemmas.{or_left, or_right}
+use Rattle.lalrpop_norm_theory.proofs.ListLemmas.{some_inner}
 use Rattle.lalrpop_norm_model.specs.Expanded.{names_used_by, names_in_parts, declared_symbols, names_in_kind, terminals_of, IsExpanded, IsTyped}
 use Rattle.lalrpop_norm_model.specs.Features.{Features}
 use Rattle.lalrpop_norm_model.specs.PlainRules.{all_rules}
@@ -37,11 +39,10 @@ use Rattle.lalrpop_norm_late.proofs.ActionLemmas.{IsStartReady}
 use Rattle.lalrpop_norm_late.proofs.ApartLemmas.{all_with, all_by, IsNamedIn, each_named, kept_public, entries_distinct, entries_counted, starts_table, found_start}
 use Rattle.lalrpop_norm_late.proofs.BodyLemmas.{IsSound, IsSoundRule, all_made}
 use Rattle.lalrpop_norm_late.proofs.ClauseLemmas.{AreApart, AllApart}
-use Rattle.lalrpop_norm_util.proofs.ListLemmas.{some_inner}
 use Rattle.lalrpop_norm_late.proofs.ClosedLemmas.{join_all, map_all, flat_all, IsDefinedClause, closed_from, all_hold, found_holds, found_at_place, entry_some, behind_some, else_some}
 use Rattle.lalrpop_norm_late.proofs.FaultCounts.{rules_listed, IsFree, IsCounted, none_taken, none_miscounted}
 use Rattle.lalrpop_norm_late.proofs.KeyLaws.{names_decide, name_table, terminal_table}
-use Rattle.lalrpop_norm_late.proofs.SymbolCases.{or_first, or_second, parts_by, recovers}
+use Rattle.lalrpop_norm_late.proofs.SymbolCases.{parts_by, recovers}
 use Rattle.lalrpop_norm_late.proofs.TokenCounts.{tokens_read, terminals_same, error_is_none, all_distinct, tested, in_contains}
 use Rattle.lalrpop_norm_late.proofs.TokenLemmas.{numbers_of_places}
 use Rattle.lalrpop_norm_late.proofs.TypingLemmas.{AreTyped, some_back, start_types_added, kept_type}
@@ -91,8 +92,8 @@ named_rule n (r ∷ rs) (inr i) = let there = named_rule n rs i in (there.0, inr
 
 in_named : (r : RuleData) (rs : List RuleData) → In r rs → IsNamedIn rs r.name
 in_named r [] i = absurd i
-in_named r (s ∷ rs) (inl e) = or_first (bytes_eq r.name.0 s.name.0) _ ((bytes_eq-Decides r.name.0 s.name.0).1 (ap (λ (x : RuleData). x.name.0) e))
-in_named r (s ∷ rs) (inr i) = or_second (bytes_eq r.name.0 s.name.0) _ (in_named r rs i)
+in_named r (s ∷ rs) (inl e) = or_left (bytes_eq r.name.0 s.name.0) _ ((bytes_eq-Decides r.name.0 s.name.0).1 (ap (λ (x : RuleData). x.name.0) e))
+in_named r (s ∷ rs) (inr i) = or_right (bytes_eq r.name.0 s.name.0) _ (in_named r rs i)
 
 abbrev IsTypedRule : TypeTable → RuleData → Type 0
 IsTypedRule types r = type_of r.name types ≡ Some (rule_type types r)

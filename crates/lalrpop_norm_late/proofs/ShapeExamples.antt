@@ -28,7 +28,7 @@ use Rattle.lalrpop_norm_late.specs.Carried.{entry_rows, internal_pattern, lowere
 use Rattle.lalrpop_norm_late.specs.Lowering.{start_alternative}
 use Rattle.lalrpop_norm_late.specs.Shape.{alternatives_in_order, productions_named, lowered_entries}
 use Rattle.lalrpop_norm_late.specs.Sources.{plain_name}
-use Rattle.lalrpop_norm_util.proofs.ListLemmas.{some_inner}
+use Rattle.lalrpop_norm_theory.proofs.ListLemmas.{some_inner}
 
 -- ---- the rule and its clauses
 

@@ -19,6 +19,8 @@ use Rattle.lalrpop_norm_lowering.specs.Code.{sources_code, absent_code, written_
 use Rattle.lalrpop_norm_util.specs.Values.{has_chosen}
 use Rattle.lalrpop_norm_late.specs.Naming.{names_from, source_names}
 use Rattle.lalrpop_norm_faults.proofs.FaultLemmas.{not_fault}
+use Rattle.lalrpop_norm_theory.proofs.BoolLemmas.{or_true}
+use Rattle.lalrpop_norm_parts.proofs.KnownTextLemmas.{map_twice}
 
 -- ---- how many there are
 
@@ -103,12 +105,8 @@ seen ps = by (named_parts 0 ps) (named_seen 0 ps)
 
 -- ---- names enough
 
-replicated : {X : Type 0} (n : ℕ) (x : X) → length (replicate n x) ≡ n
+pub replicated : {X : Type 0} (n : ℕ) (x : X) → length (replicate n x) ≡ n
 replicated n x = length-replicate n x
-
-or_true : (b : Bool) → (b || true) ≡ true
-or_true true = refl
-or_true false = refl
 
 few_enough : (b : Bool) (ns : List (List ℕ)) (n : ℕ) → nat_le n 1 ≡ true → length (in_slots b ns n) ≡ n
 few_enough b ns n h =
@@ -171,10 +169,6 @@ pub named_clean : (a : AlternativeData) (v : List NamedPart) → with_names v �
 named_clean a v is =
     let named : some_name_value a.parts ≡ true = subst (IsSeen a.parts) (sym is) (seen a.parts) in
     ap (λ b. fault_if (not b && (nat_le 2 (slots (code_in a.action)) && not (nat_eq (slots (code_in a.action)) (length (sources a.parts))))) (Placeholders, span_over a.span (sources a.parts))) named
-
-map_twice : {A B C : Type 0} (f : B → C) (g : A → B) (xs : List A) → map (λ x. f (g x)) xs ≡ map f (map g xs)
-map_twice f g [] = refl
-map_twice f g (x ∷ xs) = ap (λ ys. f (g x) ∷ ys) (map_twice f g xs)
 
 pub unnamed_faults : {X : Type 0} (f : X → Placed) (a : AlternativeData) (xs : List X) (n : ℕ) → without_names (map f xs) ≡ analyzed_symbols a.parts → n ≡ slots (code_in a.action) → 2 ≤ n
     → count_faults a.span n (map (λ x. source_of (f x)) xs) ≡ code_faults a

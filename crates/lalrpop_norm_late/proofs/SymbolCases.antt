@@ -1,5 +1,5 @@
 -- What holds of the terminals and nonterminals of plain symbols holds of what they are lowered to.
-use Rattle.std.proofs.Common.{◌≡◌, ◌∙◌, ℕ, Bool, true, false, ◌||◌, List, [], ◌∷◌, refl, sym, ap, inl, inr}
+use Rattle.std.proofs.Common.{◌≡◌, ◌∙◌, ℕ, Bool, true, ◌||◌, List, [], ◌∷◌, refl, sym, ap, inl, inr}
 use Rattle.std.specs.List.{list_any, AllByRecursion}
 use Rattle.lalrpop_norm_parts.specs.declared.names.TerminalString.{TerminalString}
 use Rattle.lalrpop_norm_parts.specs.declared.names.TerminalString.TheVariants as terminal_string
@@ -13,15 +13,7 @@ use Rattle.lalrpop_norm_repr.specs.declared.symbol.Symbol.{Symbol}
 use Rattle.lalrpop_norm_repr.specs.declared.symbol.Symbol.TheVariants.{Nonterminal, Terminal}
 use Rattle.lalrpop_norm_late.specs.Carried.{is_error_kind, is_error, any_error, uses_recovery}
 use Rattle.lalrpop_norm_late.specs.Lowering.{lowered_kind, lowered_symbol, lowered_symbols}
-use Rattle.lalrpop_norm_theory.proofs.BoolLemmas.{both_true}
-
-pub or_first : (a b : Bool) → a ≡ true → (a || b) ≡ true
-or_first true b h = refl
-or_first false b h = cc
-
-pub or_second : (a b : Bool) → b ≡ true → (a || b) ≡ true
-or_second true b h = refl
-or_second false b h = h
+use Rattle.lalrpop_norm_theory.proofs.BoolLemmas.{both_true, or_left, or_right}
 
 abbrev pub AtNames : (Symbol → Type 0) → List (List ℕ) → Type 0
 AtNames P ns = (n : List ℕ) → In n ns → P (Nonterminal (record { 0 = n }))
@@ -54,16 +46,16 @@ pub parts_by : (P : Symbol → Type 0) (ps : Parts) → are_plain ps ≡ true �
 parts_by P no_parts h ns ts e = tt
 parts_by P (part_and p ps) h ns ts e =
     let hs = both_true (is_plain p) (are_plain ps) h in (
-      part_by P p hs.0 (λ n i. ns n (in_left n (names_in p) (names_in_parts ps) i)) (λ t i. ts t (in_left t (terminals_in p) (terminals_in_parts ps) i)) (λ i. e (or_first (is_error p) (any_error ps) i)),
-      parts_by P ps hs.1 (λ n i. ns n (in_right n (names_in p) (names_in_parts ps) i)) (λ t i. ts t (in_right t (terminals_in p) (terminals_in_parts ps) i)) (λ i. e (or_second (is_error p) (any_error ps) i)),
+      part_by P p hs.0 (λ n i. ns n (in_left n (names_in p) (names_in_parts ps) i)) (λ t i. ts t (in_left t (terminals_in p) (terminals_in_parts ps) i)) (λ i. e (or_left (is_error p) (any_error ps) i)),
+      parts_by P ps hs.1 (λ n i. ns n (in_right n (names_in p) (names_in_parts ps) i)) (λ t i. ts t (in_right t (terminals_in p) (terminals_in_parts ps) i)) (λ i. e (or_right (is_error p) (any_error ps) i)),
     )
 
 -- ---- `!` in a rule
 
 any_in : {A : Type 0} (test : A → Bool) (x : A) (xs : List A) → In x xs → test x ≡ true → list_any test xs ≡ true
 any_in test x [] i h = absurd i
-any_in test x (y ∷ ys) (inl e) h = or_first (test y) (list_any test ys) (ap test (sym e) ∙ h)
-any_in test x (y ∷ ys) (inr i) h = or_second (test y) (list_any test ys) (any_in test x ys i h)
+any_in test x (y ∷ ys) (inl e) h = or_left (test y) (list_any test ys) (ap test (sym e) ∙ h)
+any_in test x (y ∷ ys) (inr i) h = or_right (test y) (list_any test ys) (any_in test x ys i h)
 
 pub recovers : (rs : List RuleData) (r : RuleData) (a : AlternativeData) → In r rs → In a r.alternatives → any_error a.parts ≡ true → uses_recovery rs ≡ true
 recovers rs r a i j h = any_in (λ (s : RuleData). list_any (λ (b : AlternativeData). any_error b.parts) s.alternatives) r rs i (any_in (λ (b : AlternativeData). any_error b.parts) a r.alternatives j h)

@@ -7,8 +7,9 @@ use Rattle.lalrpop_norm_parts.specs.declared.names.TerminalString.{TerminalStrin
 use Rattle.lalrpop_norm_repr.specs.Tables.{found_terminal, same_terminal}
 use Rattle.lalrpop_norm_late.specs.Conversions.{numbered_terminals, sorted_terminals}
 use Rattle.lalrpop_norm_late.specs.Shape.{AreNumbers}
-use Rattle.lalrpop_norm_late.proofs.KeyLaws.{terminal_itself, terminals_decide, terminals_laws, terminal_table}
-use Rattle.lalrpop_norm_util.proofs.ListLemmas.{some_inner}
+use Rattle.lalrpop_norm_late.proofs.KeyLaws.{terminals_decide, terminals_laws, terminal_table}
+use Rattle.lalrpop_norm_theory.proofs.ListLemmas.{some_inner}
+use Rattle.lalrpop_norm_model.proofs.SameTerminalLemmas.{terminal_itself}
 
 numbered_keys : (k : ℕ) (ts : List TerminalString) → keys_of (numbered_terminals k ts) ≡ ts
 numbered_keys k [] = refl

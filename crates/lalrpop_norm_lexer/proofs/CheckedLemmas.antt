@@ -1,6 +1,5 @@
 -- By the relations of the lexer that only checks: no text is both bad and read, so nothing is refused where all entries are read.
-use Rattle.std.proofs.Common.{◌≡◌, ℕ, List, [], ◌∷◌, None, inl, inr, sym, ◌∙◌, ap, subst}
-use Rattle.std.specs.List.{AllZip}
+use Rattle.std.proofs.Common.{◌≡◌, ℕ, List, [], ◌∷◌, inl, inr, sym, ◌∙◌, ap, subst}
 use Rattle.regex.specs.declared.string.regex.Regex.{Regex}
 use Rattle.lalrpop_norm_parts.specs.declared.names.TerminalLiteral.{TerminalLiteral}
 use Rattle.lalrpop_norm_parts.specs.declared.names.TerminalLiteral.TheVariants as literals
@@ -10,8 +9,7 @@ use Rattle.lalrpop_norm_faults.specs.Faults.{Fault}
 use Rattle.lalrpop_norm_theory.specs.Rounds.{In}
 use Rattle.lalrpop_norm_conditions.proofs.ReadingLemmas.{has_reading_of_read}
 use Rattle.lalrpop_norm_model.proofs.LevelLemmas.{at_in}
-use Rattle.lalrpop_norm_model.specs.TerminalTypes.{extern_enum}
-use Rattle.lalrpop_norm_model.specs.CheckedTokens.{AreRegexes, HasEntries, HasAutomaton, IsCheckedWith, IsChecked}
+use Rattle.lalrpop_norm_model.specs.CheckedTokens.{AreRegexes, HasEntries, HasAutomaton, IsCheckedWith}
 use Rattle.lalrpop_norm_model.specs.LexerFaults.{LexerRefuses, by_text, by_feature, by_ambiguity}
 use Rattle.lalrpop_norm_lexer.specs.CheckOnly.{of_regex, IsRegexOfLiteral, RefusesNoneChecked}
 use Rattle.lalrpop_norm_lexer.specs.Entries.{TellsApart}

@@ -3,7 +3,7 @@ use Rattle.std.proofs.Common.{◌≡◌, ◌∙◌, ℕ, Bool, true, false, cond
 use Rattle.std.proofs.lemmas.Bool.Decides.{Decides-eqb}
 use Rattle.lalrpop_norm_util.specs.Braces.{is_slot, around_slot}
 use Rattle.lalrpop_norm_theory.proofs.BoolLemmas.{both_true}
-use Rattle.lalrpop_norm_util.proofs.ListLemmas.{some_inner}
+use Rattle.lalrpop_norm_theory.proofs.ListLemmas.{some_inner}
 
 -- a slot at the front
 pub slot_front : (s : List ℕ) → is_slot s ≡ true → s ≡ codes "<>" ++ drop 2 s

@@ -11,16 +11,13 @@ use Rattle.lalrpop_norm_model.specs.LoweringFaults.{slots}
 use Rattle.lalrpop_norm_lowering.specs.Filled.{in_slots, IsFilled}
 use Rattle.lalrpop_norm_lowering.specs.Slots.{Cut, cut_with, cut, pieces, in_order, filled_code}
 use Rattle.lalrpop_norm_lowering.proofs.CodeLemmas.{first_slot, slot_front, not_in_front}
+use Rattle.lalrpop_norm_theory.proofs.BoolLemmas.{and_false}
 
 -- ---- slots
 
 and_true : (a : Bool) → (a && true) ≡ a
 and_true true = refl
 and_true false = refl
-
-and_false : (a : Bool) → (a && false) ≡ false
-and_false true = refl
-and_false false = refl
 
 slot_is : (s : List ℕ) → is_slot s ≡ starts_with nat_eq s (codes "<>")
 slot_is [] = refl

@@ -5,6 +5,7 @@ use Rattle.std.proofs.lemmas.Slice.Eq.{bytes_eq-Decides}
 use Rattle.lalrpop_norm_tree.specs.Accessors.{or_else}
 use Rattle.lalrpop_norm_tree.specs.Items.{RuleData}
 use Rattle.lalrpop_norm_model.specs.MadeRules.{macro_named}
+use Rattle.lalrpop_norm_theory.proofs.ListLemmas.{get_some}
 
 or_named : (ds : List RuleData) (d : RuleData) (n : List ℕ) →
     macro_named (ds ++ d ∷ []) n ≡ or_else (macro_named ds n) (cond (bytes_eq d.name.0 n) (Some d) None)
@@ -24,11 +25,6 @@ get_left (y ∷ xs) x (suc i) h = get_left xs x i (omega arith)
 get_last : {A : Type 0} (xs : List A) (x : A) → slice_get (xs ++ x ∷ []) (length xs) ≡ Some x
 get_last [] x = refl
 get_last (y ∷ xs) x = get_last xs x
-
-get_some : {A : Type 0} (xs : List A) (i : ℕ) → i < length xs → (y : A) × (slice_get xs i ≡ Some y)
-get_some [] i h = absurd (omega arith)
-get_some (x ∷ xs) zero h = (x, refl)
-get_some (x ∷ xs) (suc i) h = get_some xs i (omega arith)
 
 -- where a place leads in the longer list
 led_to : (place : Option ℕ) (ds : List RuleData) (d : RuleData) (b : Bool) (found : Option RuleData) →

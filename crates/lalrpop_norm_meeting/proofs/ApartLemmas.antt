@@ -1,5 +1,5 @@
 -- Two symbols are the same apart from spans exactly where they are equal with their spans taken off.
-use Rattle.std.proofs.Common.{◌≡◌, ◌↔◌, ℕ, ◌+◌, Bool, true, false, refl, sym, ap, ap₂, ◌∙◌}
+use Rattle.std.proofs.Common.{◌≡◌, ◌↔◌, ℕ, ◌+◌, Bool, true, refl, sym, ap, ap₂, ◌∙◌}
 use Rattle.std.specs.Prelude.{IsTrue}
 use Rattle.lalrpop_norm_parts.specs.declared.names.TerminalString.{TerminalString}
 use Rattle.lalrpop_norm_parts.specs.declared.names.TerminalString.TheVariants.{Literal, Bare, Error}
@@ -11,6 +11,7 @@ use Rattle.lalrpop_norm_tree.specs.Symbols as written
 use Rattle.lalrpop_norm_tree.specs.Symbols.{Kind, Part, Parts, at, no_parts, part_and}
 use Rattle.lalrpop_norm_theory.specs.Symbols.{Terminal, quoted, regex, bare, error_terminal, ClosedPattern, ClosedPatterns, name_pattern, tuple_pattern, no_patterns, pattern_and, Wrapper, chosen, named, tuple, ClosedSymbol, ClosedSymbols, terminal, error, reference, call, group, star, plus, question, wrapped, lookahead, lookbehind, no_symbols, symbol_and}
 use Rattle.lalrpop_norm_theory.proofs.SameLemmas.{symbol_test}
+use Rattle.lalrpop_norm_theory.proofs.BoolLemmas.{both_ways}
 use Rattle.lalrpop_norm_model.specs.Occurrences.{count_part, count_parts}
 use Rattle.lalrpop_norm_model.specs.Reading.{terminal_of, literal_terminal, closed_pattern_of, closed_patterns_of, repeat_of, read_kind, read_part, read_parts}
 use Rattle.lalrpop_norm_model.specs.MadeRules.{flat_reader}
@@ -141,18 +142,12 @@ mutual
 
 -- ---- so the tests agree
 
-both_true : (r b : Bool) → (r ≡ true → b ≡ true) → (b ≡ true → r ≡ true) → r ≡ b
-both_true true true f g = refl
-both_true true false f g = sym (f refl)
-both_true false true f g = g refl
-both_true false false f g = refl
-
 pub unplaced_same : (p q : Part) → same_apart_from_spans p q ≡ true → unplaced p ≡ unplaced q
 unplaced_same p q e =
     sym (part_is 0 0 p) ∙ ap (λ g. at nowhere (kind_back g)) (symbol_test.sound (read_part flat_reader 0 0 p) (read_part flat_reader 0 0 q) e) ∙ part_is 0 0 q
 
 pub same_is : (p q : Part) (r : Bool) → (IsTrue r ↔ (unplaced p ≡ unplaced q)) → r ≡ same_apart_from_spans p q
-same_is p q r h = both_true r (same_apart_from_spans p q) (λ e. there (h.0 e)) (λ e. h.1 (unplaced_same p q e))
+same_is p q r h = both_ways r (same_apart_from_spans p q) (λ e. there (h.0 e)) (λ e. h.1 (unplaced_same p q e))
   where
     there : unplaced p ≡ unplaced q → same_apart_from_spans p q ≡ true
     there e =

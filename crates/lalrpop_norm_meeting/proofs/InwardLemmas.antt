@@ -20,20 +20,10 @@ use Rattle.lalrpop_norm_meeting.proofs.ApartLemmas.{part_closed, unplaced_same}
 use Rattle.lalrpop_norm_meeting.proofs.SamenessLemmas.{closed_same, closed_text_same, none_if, or_false}
 use Rattle.lalrpop_norm_meeting.proofs.IndexLemmas.{first_at}
 use Rattle.lalrpop_norm_meeting.proofs.SymbolLemmas.{part_is, met_is}
+use Rattle.lalrpop_norm_theory.proofs.BoolLemmas.{false_of_not, both_false, not_false}
+use Rattle.lalrpop_norm_theory.proofs.ListLemmas.{some_inner}
 
 -- ---- truth values
-
-false_of_not : (b : Bool) → not b ≡ true → b ≡ false
-false_of_not true e = sym e
-false_of_not false e = refl
-
-true_of_not : (b : Bool) → not b ≡ false → b ≡ true
-true_of_not true e = refl
-true_of_not false e = sym e
-
-both_false : (a b : Bool) → a ≡ false → b ≡ false → (a || b) ≡ false
-both_false true b e f = e
-both_false false b e f = f
 
 -- ---- lists
 
@@ -44,9 +34,6 @@ tails : {A : Type 0} (x y : A) (xs ys : List A) → x ∷ xs ≡ y ∷ ys → xs
 tails x y xs ys h = cc
 
 -- ---- the first symbol of a text
-
-some_of : {A : Type 0} (x y : A) → Some x ≡ Some y → x ≡ y
-some_of x y h = cc
 
 first_stays : (t : List ℕ) (seen more : List Part) (y : Part) → first_with_text t seen ≡ Some y → first_with_text t (seen ++ more) ≡ Some y
 first_stays t [] more y e = absurd (cc e)
@@ -235,14 +222,14 @@ module _ (names : List ℕ → Bool) where
     where
       by : (b : Bool) → (first_with_text t ys ≡ Some y → were_met names seen (inside y) ≡ true)
           → cond b (Some z) (first_with_text t ys) ≡ Some y → were_met names seen (inside y) ≡ true
-      by true deeper k = subst (λ (w : Part). were_met names seen (inside w) ≡ true) (some_of z y k) (and_parts _ _ h).0
+      by true deeper k = subst (λ (w : Part). were_met names seen (inside w) ≡ true) (some_inner z y k) (and_parts _ _ h).0
       by false deeper k = deeper k
 
   inside_met : (seen : List Part) (x : Part) → were_met_inside names seen seen ≡ true → was_met names seen x ≡ true → were_met names seen (inside x) ≡ true
   inside_met seen x h k =
       let f = found names seen x k in
       let same : same_apart_from_spans f.one x ≡ true =
-      true_of_not (same_apart_from_spans f.one x) (or_false (names (part_text x)) (not (same_apart_from_spans f.one x)) f.free).1 in
+      not_false (same_apart_from_spans f.one x) (or_false (names (part_text x)) (not (same_apart_from_spans f.one x)) f.free).1 in
       all_same_met names seen (inside f.one) (inside x) (inside_same f.one x same)
       (inward_first seen seen (part_text x) f.one h f.is_first)
 

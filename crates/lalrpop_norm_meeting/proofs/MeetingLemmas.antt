@@ -5,7 +5,7 @@ use Rattle.std.specs.Result.{IsErrAnd}
 use Rattle.lalrpop_norm_tree.specs.Symbols.{Part}
 use Rattle.lalrpop_norm_faults.specs.declared.failure.NormFailure.{NormFailure}
 use Rattle.lalrpop_norm_faults.specs.declared.kind.FaultKind.TheVariants.{SharedName}
-use Rattle.lalrpop_norm_faults.specs.Faults.{Fault, fault_if, IsFirst, Refuses, RefusesOr}
+use Rattle.lalrpop_norm_faults.specs.Faults.{Fault, fault_if, IsFirst, Refuses}
 use Rattle.lalrpop_norm_faults.proofs.FaultLemmas.{exit_at}
 use Rattle.lalrpop_norm_meeting.specs.declared.expander.Expander.{Expander}
 use Rattle.lalrpop_norm_model.specs.MadeRules.{span_of}
@@ -53,10 +53,6 @@ pub exit_first : {T : Type 0} (a : Expander) (xs ys : List Part) (r : Result T N
 exit_first a xs ys r e from first =
     exit_at r e (refused_by a xs) (clash_faults (is_taken_by a) (after (seen_of a) xs) ys) (refused_by a (xs ++ ys)) from first
     (clash_both (is_taken_by a) (seen_of a) xs ys)
-
-pub exit_or : {T : Type 0} (r : Result T NormFailure) (e : NormFailure) (fs : List Fault) (P : T → Type 0) → IsErrAnd r (λ x. x ≡ e) → IsFirst fs e → RefusesOr r fs P
-exit_or (Ok x) e fs P from h = absurd from
-exit_or (Err x) e fs P from h = rw from h
 
 pub err_refuses : {T : Type 0} (r : Result T NormFailure) (e : NormFailure) (fs : List Fault) → IsErrAnd r (λ x. x ≡ e) → IsFirst fs e → Refuses r fs
 err_refuses (Ok x) e fs from h = absurd from

@@ -23,9 +23,6 @@ pub closed_text_same : (p q : Part) → closed p ≡ closed q → part_text p �
 closed_text_same p q e =
     sym (part_displayed (λ n b. n) (λ n. refl) 0 0 p) ∙ ap (closed_text (λ n b. n)) e ∙ part_displayed (λ n b. n) (λ n. refl) 0 0 q
 
-pub text_is : (s t : List ℕ) → bytes_eq s t ≡ true → s ≡ t
-text_is s t e = (bytes_eq-Decides s t).0 e
-
 pub is_text : (s t : List ℕ) → s ≡ t → bytes_eq s t ≡ true
 is_text s t e = (bytes_eq-Decides s t).1 e
 

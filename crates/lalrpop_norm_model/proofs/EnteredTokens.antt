@@ -16,12 +16,12 @@ use Rattle.lalrpop_norm_tree.specs.declared.items.MatchMapping.TheVariants.{Term
 use Rattle.lalrpop_norm_tree.specs.Accessors.{or_else, first_of, enum_token_of, match_item_span}
 use Rattle.lalrpop_norm_tree.specs.Items.{AlternativeData, RuleData, ConversionData, EnumTokenData, ExternTokenData, MatchTokenData, InternTokenData, ItemData, GrammarData, match_item, extern_item, intern_item, rule_item, use_item}
 use Rattle.lalrpop_norm_tree.specs.Symbols.{Kind, Part, Parts, group, ambiguous_id, terminal, nonterminal, call, repeated, chosen, named, tupled, lookahead, lookbehind, error_terminal, at, no_parts, part_and}
-use Rattle.lalrpop_norm_faults.specs.Faults.{Fault, fault_if}
+use Rattle.lalrpop_norm_faults.specs.Faults.{fault_if}
 use Rattle.lalrpop_norm_faults.specs.declared.kind.FaultKind.TheVariants.{LiteralTwice, TerminalTwice, NoMapping, NoPattern}
-use Rattle.lalrpop_norm_faults.proofs.FaultLemmas.{not_fault}
+use Rattle.lalrpop_norm_faults.proofs.FaultLemmas.{not_fault, holds_unless}
 use Rattle.lalrpop_norm_theory.specs.Rounds.{In, IsDistinct}
-use Rattle.lalrpop_norm_theory.proofs.BoolLemmas.{not_false}
 use Rattle.lalrpop_norm_theory.proofs.RoundsLemmas.{in_left, in_right, in_cases, in_flat, of_flat}
+use Rattle.lalrpop_norm_theory.proofs.ListLemmas.{distinct_right, distinct_apart}
 use Rattle.lalrpop_norm_model.specs.Features.{Features, is_active}
 use Rattle.lalrpop_norm_model.specs.Enabled.{enabled_enum, enabled_extern}
 use Rattle.lalrpop_norm_model.specs.PlainRules.{all_rules}
@@ -120,18 +120,6 @@ no_error_used g x i =
 
 -- ---- distinct lists
 
-distinct_right : {A : Type 0} (xs ys : List A) → IsDistinct (xs ++ ys) → IsDistinct ys
-distinct_right [] ys h = h
-distinct_right (x ∷ xs) ys h = distinct_right xs ys h.1
-
-distinct_apart : {A : Type 0} (xs ys : List A) → IsDistinct (xs ++ ys) → (x : A) → In x xs → In x ys → ⊥
-distinct_apart [] ys h x i j = i
-distinct_apart (y ∷ xs) ys h x (inl e) j = h.0 (in_right y xs ys (subst (λ z. In z ys) e j))
-distinct_apart (y ∷ xs) ys h x (inr i) j = distinct_apart xs ys h.1 x i j
-
-not_faulty : (b : Bool) (f : Fault) → fault_if (not b) f ≡ [] → b ≡ true
-not_faulty b f h = not_false b (not_fault (not b) f h)
-
 -- ---- an extern enum
 
 conversion_apart : (before cs : List ConversionData) → each_after repeated_conversion_faults before cs ≡ [] → (b : ConversionData) → In b before →
@@ -194,7 +182,7 @@ module _ (fs : Features) (g : GrammarData) (active : (t : ExternTokenData) → I
         terminals_listed = λ t i. (
             let (x, j) = place_used g t i in
             let free = none_made (λ (p : TerminalString × Span). fault_if (not (has_conversion e.conversions p.0)) (NoPattern, p.1)) (places_used g) both.1 (t, x) j in
-            subst (In t) (sym same) (converted_listed t e.conversions (not_faulty (has_conversion e.conversions t) (NoPattern, x) free)));
+            subst (In t) (sym same) (converted_listed t e.conversions (holds_unless (has_conversion e.conversions t) (NoPattern, x) free)));
       }
 
 -- ---- names of entries
@@ -341,7 +329,7 @@ module _ (g : GrammarData) (free : entry_faults g ≡ []) where
       has_one : (t : TerminalString) → In t (terminals_used g) → has_entry g t ≡ true
       has_one t i =
           let (s, j) = place_used g t i in
-          not_faulty (has_entry g t) (NoMapping, s)
+          holds_unless (has_entry g t) (NoMapping, s)
           (none_made (λ (p : TerminalString × Span). fault_if (not (has_entry g p.0)) (NoMapping, p.1)) (places_used g)
           (both_empty (each_after match_item_faults [] (match_items g)) _ free).1 (t, s) j)
 

@@ -77,13 +77,13 @@ entries_total =
 
 -- ---- exact
 
-literals_exact : (a b : TerminalLiteral) → literal_cmp a b ≡ Equal → a ≡ b
+pub literals_exact : (a b : TerminalLiteral) → literal_cmp a b ≡ Equal → a ≡ b
 literals_exact (Quoted a) (Quoted b) e = ap Quoted (exact_bytes a b e)
 literals_exact (Quoted a) (Regex b) e = cc
 literals_exact (Regex a) (Quoted b) e = cc
 literals_exact (Regex a) (Regex b) e = ap Regex (exact_bytes a b e)
 
-terminals_exact : (a b : TerminalString) → terminal_cmp a b ≡ Equal → a ≡ b
+pub terminals_exact : (a b : TerminalString) → terminal_cmp a b ≡ Equal → a ≡ b
 terminals_exact (Literal a) (Literal b) e = ap Literal (literals_exact a b e)
 terminals_exact (Literal a) (Bare b) e = cc
 terminals_exact (Literal a) Error e = cc
@@ -100,7 +100,7 @@ mappings_exact (Terminal t) Skip e = cc
 mappings_exact Skip (Terminal u) e = cc
 mappings_exact Skip Skip e = refl
 
-both_equal : (o p : Ordering) → ordering_then o p ≡ Equal → (o ≡ Equal) × (p ≡ Equal)
+pub both_equal : (o p : Ordering) → ordering_then o p ≡ Equal → (o ≡ Equal) × (p ≡ Equal)
 both_equal Less p e = absurd (cc e)
 both_equal Equal p e = (refl, e)
 both_equal Greater p e = absurd (cc e)

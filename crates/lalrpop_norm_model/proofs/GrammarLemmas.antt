@@ -14,7 +14,9 @@ use Rattle.lalrpop_norm_model.specs.PlainRules.{rule_of_item, all_rules}
 use Rattle.lalrpop_norm_model.specs.Expanded.{rule_names}
 use Rattle.lalrpop_norm_model.proofs.LevelLemmas.{in_map, of_map}
 use Rattle.lalrpop_norm_theory.proofs.RoundsLemmas.{in_left, in_right, in_cases}
+use Rattle.lalrpop_norm_theory.proofs.ListLemmas.{distinct_right}
 use Rattle.lalrpop_norm_model.proofs.ScopeLemmas.{in_flat}
+use Rattle.lalrpop_norm_model.proofs.MadeReadLemmas.{item_of_rule}
 
 -- ---- rules of items
 
@@ -42,17 +44,8 @@ level_items_rules (use_item u ∷ items) = level_items_rules items
 pub all_level_rules : (g : GrammarData) → all_rules (leveled_grammar g) ≡ flat_map level_rules (all_rules g)
 all_level_rules g = level_items_rules g.items
 
-item_of : (d : RuleData) (items : List ItemData) → In d (flat_map rule_of_item items) → In (rule_item d) items
-item_of d [] h = absurd h
-item_of d (rule_item e ∷ items) (inl i) = inl (ap rule_item i)
-item_of d (rule_item e ∷ items) (inr h) = inr (item_of d items h)
-item_of d (match_item m ∷ items) h = inr (item_of d items h)
-item_of d (extern_item t ∷ items) h = inr (item_of d items h)
-item_of d (intern_item t ∷ items) h = inr (item_of d items h)
-item_of d (use_item u ∷ items) h = inr (item_of d items h)
-
 pub rule_item_of : (g : GrammarData) (d : RuleData) → In d (all_rules g) → In (rule_item d) g.items
-rule_item_of g d h = item_of d g.items h
+rule_item_of g d h = item_of_rule d g.items h
 
 -- ---- lists
 
@@ -75,10 +68,6 @@ pub distinct_left : {A : Type 0} (xs ys : List A) → IsDistinct (xs ++ ys) → 
 distinct_left [] ys d = tt
 distinct_left (x ∷ xs) ys d = ((λ i. d.0 (in_left x xs ys i)), distinct_left xs ys d.1)
 
-pub distinct_right : {A : Type 0} (xs ys : List A) → IsDistinct (xs ++ ys) → IsDistinct ys
-distinct_right [] ys d = d
-distinct_right (x ∷ xs) ys d = distinct_right xs ys d.1
-
 pub distinct_apart : {A : Type 0} (x : A) (xs ys : List A) → IsDistinct (xs ++ ys) → In x xs → In x ys → ⊥
 distinct_apart x [] ys d i j = i
 distinct_apart {A} x (z ∷ xs) ys d (inl e) j = d.0 (in_right z xs ys (subst (λ (w : A). In w ys) e j))
@@ -86,7 +75,7 @@ distinct_apart x (z ∷ xs) ys d (inr i) j = distinct_apart x xs ys d.1 i j
 
 -- ---- rules by name
 
-unlike : (m n : Name) (b : Bool) → bytes_eq m n ≡ b → (m ≡ n → ⊥) → b ≡ false
+pub unlike : (m n : Name) (b : Bool) → bytes_eq m n ≡ b → (m ≡ n → ⊥) → b ≡ false
 unlike m n true e h = absurd (h ((bytes_eq-Decides m n).0 e))
 unlike m n false e h = refl
 

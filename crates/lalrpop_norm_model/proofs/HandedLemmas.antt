@@ -8,10 +8,7 @@ use Rattle.lalrpop_norm_model.specs.Enabled.{Places, present}
 use Rattle.lalrpop_norm_model.specs.Levels.{Side, every, level_stated, side_stated, last_stated, some_states_level, since_level, level_at, side_at, leveled_at, map_numbered}
 use Rattle.lalrpop_norm_model.specs.Stated.{level_after, side_after, with_stated, handed_on}
 use Rattle.lalrpop_norm_model.specs.Laws.{LevelsAreHandedOn, DisabledAreNoMatter}
-
-or_else_assoc : {A : Type 0} (a b c : Option A) → or_else (or_else a b) c ≡ or_else a (or_else b c)
-or_else_assoc None b c = refl
-or_else_assoc (Some x) b c = refl
+use Rattle.lalrpop_norm_tree.proofs.FirstLemmas.{or_else_assoc}
 
 or_else_none : {A : Type 0} (a : Option A) → or_else a None ≡ a
 or_else_none None = refl

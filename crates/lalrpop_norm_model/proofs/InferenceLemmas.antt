@@ -38,7 +38,7 @@ more_kept : {A : Type 0} (b : Bool) (x y : A) (rest : List A) → In x rest → 
 more_kept true x y rest i = inr i
 more_kept false x y rest i = i
 
-in_filter : {A : Type 0} (p : A → Bool) (xs : List A) (x : A) → In x xs → p x ≡ true → In x (filter p xs)
+pub in_filter : {A : Type 0} (p : A → Bool) (xs : List A) (x : A) → In x xs → p x ≡ true → In x (filter p xs)
 in_filter p [] x i e = absurd i
 in_filter p (y ∷ xs) x (inl same) e = let passes : p y ≡ true = subst (λ z. p z ≡ true) same e in rw passes (inl same)
 in_filter p (y ∷ xs) x (inr i) e = more_kept (p y) x y (filter p xs) (in_filter p xs x i e)

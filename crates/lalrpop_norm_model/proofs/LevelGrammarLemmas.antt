@@ -28,11 +28,12 @@ use Rattle.lalrpop_norm_model.proofs.LevelLemmas.{in_map, of_map, of_present, le
 use Rattle.lalrpop_norm_model.proofs.ScopeLemmas.{in_flat, rule_found}
 use Rattle.lalrpop_norm_model.proofs.WrittenLemmas.{in_numbered, leveled_some}
 use Rattle.lalrpop_norm_theory.proofs.RoundsLemmas.{in_cases}
+use Rattle.lalrpop_norm_theory.proofs.ListLemmas.{distinct_right}
 use Rattle.lalrpop_norm_model.proofs.ReadingLemmas.{parts_leveled, parts_kept, parts_alike, parts_settled}
 use Rattle.lalrpop_norm_model.proofs.LevelRuleLemmas.{name_highest, map_parts, numbered_parts, others_named, whole, level_read, resolved_rule_places, leveled_whole}
-use Rattle.lalrpop_norm_model.proofs.GrammarLemmas.{all_level_rules, distinct_right, distinct_apart, rule_item_of, of_flat, as_leveled, as_flat, leveled_found, flat_found, leveled_from, flat_from, leveled_in}
+use Rattle.lalrpop_norm_model.proofs.GrammarLemmas.{all_level_rules, distinct_apart, rule_item_of, of_flat, as_leveled, as_flat, leveled_found, flat_found, leveled_from, flat_from, leveled_in}
 
-of_level_in : (l : ℕ) (xs : List Leveled) (a : Leveled) → In a (of_level l xs) → In a xs
+pub of_level_in : (l : ℕ) (xs : List Leveled) (a : Leveled) → In a (of_level l xs) → In a xs
 of_level_in l [] a h = h
 of_level_in l (x ∷ xs) a h = by (nat_eq x.level l) (of_level_in l xs a) h
   where

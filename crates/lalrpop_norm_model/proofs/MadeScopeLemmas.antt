@@ -168,13 +168,13 @@ module _ (rs : List WrittenRule) where
 -- ---- the rules of a grammar
 
 -- an alternative of a rule stands at one of its places
-placed : (a : AlternativeData) (xs : List AlternativeData) → In a xs →
+pub placed : (a : AlternativeData) (xs : List AlternativeData) → In a xs →
     In (Some (record { level = 0; side = every; alternative = a })) (without_levels (map Some xs))
 placed a [] h = absurd h
 placed a (x ∷ xs) (inl e) = inl (ap (λ b. Some (record { level = 0; side = every; alternative = b })) e)
 placed a (x ∷ xs) (inr h) = inr (placed a xs h)
 
-no_arguments : (args : List NonterminalString) → is_nil args ≡ true → args ≡ []
+pub no_arguments : (args : List NonterminalString) → is_nil args ≡ true → args ≡ []
 no_arguments [] h = refl
 no_arguments (a ∷ args) h = absurd (cc h)
 

@@ -22,9 +22,10 @@ use Rattle.lalrpop_norm_model.specs.LevelNames.{HasLevelNames, is_level_named, c
 use Rattle.lalrpop_norm_model.specs.Laws.{GrammarsAreLeveled}
 use Rattle.lalrpop_norm_model.proofs.ScopeLemmas.{rule_found}
 use Rattle.lalrpop_norm_model.proofs.MeaningLemmas.{instance_of}
-use Rattle.lalrpop_norm_model.proofs.GrammarLemmas.{all_level_rules, same_by, distinct_left, distinct_right, leveled_from, flat_from, one_owner}
+use Rattle.lalrpop_norm_model.proofs.GrammarLemmas.{all_level_rules, same_by, distinct_left, leveled_from, flat_from, one_owner}
 use Rattle.lalrpop_norm_model.proofs.LevelGrammarLemmas.{OwnBound, own_rule, has_level_rules, rules_leveled}
 use Rattle.lalrpop_norm_model.proofs.MacroLemmas.{macro_rule, macros_leveled, macro_counts_leveled}
+use Rattle.lalrpop_norm_theory.proofs.ListLemmas.{distinct_right}
 
 mapped_twice : {A B C : Type 0} (f : A → B) (h : B → C) (xs : List A) → map h (map f xs) ≡ map (λ x. h (f x)) xs
 mapped_twice f h [] = refl

@@ -10,16 +10,13 @@ use Rattle.lalrpop_norm_model.specs.PlainRules.{all_rules}
 use Rattle.lalrpop_norm_model.specs.TypeTables.{Table, IsTable}
 use Rattle.lalrpop_norm_model.specs.TuplePatterns.{pattern_fits, fit_all, as_many, misfits, misfits_of, Pattern, tuple_symbols, PatternFits, PatternsFit, over_found, over_kind, symbol_misfits, alternative_misfits, rule_misfits, pattern_misfits}
 use Rattle.lalrpop_norm_model.proofs.InferenceLemmas.{both_empty, none_made, all_empty}
-use Rattle.lalrpop_norm_theory.proofs.BoolLemmas.{both_true}
+use Rattle.lalrpop_norm_theory.proofs.BoolLemmas.{both_true, both_hold}
 
 -- ---- patterns and types
 
 empty_if : (b : Bool) (ms : List FaultKind) → (if b then ms else TupleLength ∷ []) ≡ [] → (b ≡ true) × (ms ≡ [])
 empty_if true ms e = (refl, e)
 empty_if false ms e = absurd cc
-
-both_hold : (a b : Bool) → a ≡ true → b ≡ true → (a && b) ≡ true
-both_hold a b e f = rw (e, f) refl
 
 mutual
   fit_from : (p : ArgumentPattern) (x : ReprData) → misfits p x ≡ [] → pattern_fits p x ≡ true

@@ -144,7 +144,7 @@ ranks_count_enabled fs ds r k =
 
 -- ---- levels
 
-all_present : {A : Type 0} (xs : List A) → present (map Some xs) ≡ xs
+pub all_present : {A : Type 0} (xs : List A) → present (map Some xs) ≡ xs
 all_present [] = refl
 all_present (x ∷ xs) = ap (λ ys. x ∷ ys) (all_present xs)
 

@@ -1,16 +1,16 @@
 -- The rounds of written symbols, compared apart from spans, are the rounds of closed symbols.
-use Rattle.std.proofs.Common.{◌≡◌, ◌↔◌, inl, inr, ℕ, zero, suc, List, [], ◌∷◌, ◌++◌, Bool, true, false, map, reverse, refl, sym, ap, ap₂, ◌∙◌, subst}
+use Rattle.std.proofs.Common.{◌≡◌, ◌↔◌, inl, inr, ℕ, zero, suc, List, [], ◌∷◌, ◌++◌, Bool, true, map, reverse, refl, sym, ap, ap₂, ◌∙◌, subst}
 use Rattle.std.specs.Prelude.{flat_map, if◌then◌else◌}
 use Rattle.std.proofs.lemmas.List.{map-append}
-use mathlib.Core.List.{reverse-cons}
 use Rattle.lalrpop_norm_tree.specs.Symbols.{Part}
 use Rattle.lalrpop_norm_tree.specs.Items.{AlternativeData, RuleData, GrammarData}
 use Rattle.lalrpop_norm_theory.specs.Symbols.{ClosedSymbol}
-use Rattle.lalrpop_norm_theory.specs.Rounds.{In, is_in, fresh_of, Round, rounds, all_rules_made}
+use Rattle.lalrpop_norm_theory.specs.Rounds.{In, fresh_of, Round, rounds, all_rules_made}
 use Rattle.lalrpop_norm_theory.specs.Same.{same_symbol}
 use Rattle.lalrpop_norm_theory.specs.Met.{rule_meets, expansion, expanded_symbols}
-use Rattle.lalrpop_norm_theory.proofs.RoundsLemmas.{in_cases, of_reverse, of_flat}
+use Rattle.lalrpop_norm_theory.proofs.RoundsLemmas.{in_cases, of_reverse, of_flat, fresh_listed}
 use Rattle.lalrpop_norm_theory.proofs.ViewedLemmas.{same_view, fresh_viewed}
+use Rattle.lalrpop_norm_theory.proofs.ListLemmas.{map_reverse}
 use Rattle.lalrpop_norm_model.specs.WrittenRules.{WrittenRule, flat_rules}
 use Rattle.lalrpop_norm_model.specs.Grammars.{ConditionValue, meaning, references}
 use Rattle.lalrpop_norm_model.specs.Scoped.{are_scoped, IsScoped}
@@ -21,21 +21,6 @@ use Rattle.lalrpop_norm_model.specs.Laws.{RoundsAreRead, MadeSymbolsAreScoped}
 use Rattle.lalrpop_norm_model.proofs.MadeReadLemmas.{flat_of, flat_rules_resolved}
 use Rattle.lalrpop_norm_model.proofs.MadeScopeLemmas.{IsMade, start_made, made_rule_scoped, next_made, scoped_in}
 use Rattle.lalrpop_norm_model.proofs.MetReadLemmas.{met_is_read}
-
--- what is new is one of what was met
-fresh_listed : {A : Type 0} (same : A → A → Bool) (seen xs : List A) (x : A) → In x (fresh_of same seen xs) → In x xs
-fresh_listed same seen [] x h = absurd h
-fresh_listed {A} same seen (y ∷ xs) x h = by (is_in same y seen) (fresh_listed same seen xs x) (fresh_listed same (y ∷ seen) xs x) h
-  where
-    by : (b : Bool) → (In x (fresh_of same seen xs) → In x xs) → (In x (fresh_of same (y ∷ seen) xs) → In x xs) →
-        In x (if b then fresh_of same seen xs else y ∷ fresh_of same (y ∷ seen) xs) → In x (y ∷ xs)
-    by true f g i = inr (f i)
-    by false f g (inl e) = inl e
-    by false f g (inr i) = inr (g i)
-
-map_reverse : {A B : Type 0} (view : A → B) (xs : List A) → map view (reverse xs) ≡ reverse (map view xs)
-map_reverse view [] = refl
-map_reverse view (x ∷ xs) = rw (reverse-cons x xs, reverse-cons (view x) (map view xs), map-append view (reverse xs) (x ∷ []), map_reverse view xs) refl
 
 -- Rounds of things that stay within P, where each thing within P meets, seen through the view, what its view meets.
 module _ {A B : Type 0} (view : A → B) (same : B → B → Bool) (meets : A → List A) (view_meets : B → List B) (P : A → Type 0)

@@ -1,6 +1,5 @@
 -- The test of two lowered types says whether they are equal.
 use Rattle.std.proofs.Common.{◌≡◌, ℕ, Bool, true, false, ◌&&◌, List, [], ◌∷◌, Option, Some, None, bytes_eq, refl, ap, ap₂}
-use Rattle.std.proofs.lemmas.Slice.Eq.{bytes_eq-Decides}
 use Rattle.lalrpop_norm_parts.specs.declared.names.Lifetime.{Lifetime}
 use Rattle.lalrpop_norm_parts.specs.declared.names.TypeParameter.{TypeParameter}
 use Rattle.lalrpop_norm_parts.specs.declared.names.TypeParameter.TheVariants as parameter
@@ -8,6 +7,8 @@ use Rattle.lalrpop_norm_parts.specs.Paths.{PathData}
 use Rattle.lalrpop_norm_parts.specs.Reprs.{ReprData, Reprs, MaybeRepr, tuple, slice, nominal, associated, of_lifetime, reference, trait_object, function, no_reprs, repr_and, no_repr, returns}
 use Rattle.lalrpop_norm_theory.specs.Same.{same_flag}
 use Rattle.lalrpop_norm_model.specs.SameTypes.{same_lifetime, same_parameter, all_same, same_path, same_type, same_types, same_return}
+use Rattle.lalrpop_norm_theory.proofs.SameLemmas.{text_sound, text_same, flag_sound, flag_same}
+use Rattle.lalrpop_norm_parts.proofs.FreeLemmas.{same_is}
 
 -- ---- small parts
 
@@ -19,27 +20,11 @@ second_of_two : (a b : Bool) → (a && b) ≡ true → b ≡ true
 second_of_two true b e = e
 second_of_two false b e = absurd cc
 
-text_sound : (a b : List ℕ) → bytes_eq a b ≡ true → a ≡ b
-text_sound a b e = (bytes_eq-Decides a b).0 e
-
-text_same : (a : List ℕ) → bytes_eq a a ≡ true
-text_same a = (bytes_eq-Decides a a).1 refl
-
 abbrev lifetime_of : List ℕ → Lifetime
 lifetime_of a = record { 0 = a }
 
 lifetime_sound : (a b : Lifetime) → bytes_eq a.0 b.0 ≡ true → a ≡ b
 lifetime_sound a b e = ap lifetime_of (text_sound a.0 b.0 e)
-
-flag_sound : (a b : Bool) → same_flag a b ≡ true → a ≡ b
-flag_sound true true e = refl
-flag_sound true false e = absurd cc
-flag_sound false true e = absurd cc
-flag_sound false false e = refl
-
-flag_same : (a : Bool) → same_flag a a ≡ true
-flag_same true = refl
-flag_same false = refl
 
 some_lifetime_sound : (a b : Option Lifetime) → same_lifetime a b ≡ true → a ≡ b
 some_lifetime_sound None None e = refl
@@ -50,12 +35,6 @@ some_lifetime_sound (Some a) (Some b) e = ap Some (lifetime_sound a b e)
 some_lifetime_same : (a : Option Lifetime) → same_lifetime a a ≡ true
 some_lifetime_same None = refl
 some_lifetime_same (Some a) = text_same a.0
-
-parameter_sound : (a b : TypeParameter) → same_parameter a b ≡ true → a ≡ b
-parameter_sound (parameter.Lifetime a) (parameter.Lifetime b) e = ap parameter.Lifetime (lifetime_sound a b e)
-parameter_sound (parameter.Lifetime a) (parameter.Id b) e = absurd cc
-parameter_sound (parameter.Id a) (parameter.Lifetime b) e = absurd cc
-parameter_sound (parameter.Id a) (parameter.Id b) e = ap parameter.Id (text_sound a b e)
 
 parameter_same : (a : TypeParameter) → same_parameter a a ≡ true
 parameter_same (parameter.Lifetime a) = text_same a.0
@@ -101,7 +80,7 @@ mutual
   type_sound (trait_object p ts) (trait_object q us) e =
       ap₂ trait_object (path_sound p q (first_of_two (same_path p q) (same_types ts us) e)) (types_sound ts us (second_of_two (same_path p q) (same_types ts us) e))
   type_sound (function fs p ts r) (function gs q us s) e =
-      let first = all_sound same_parameter parameter_sound fs gs (first_of_two (all_same same_parameter fs gs) (same_path p q && (same_types ts us && same_return r s)) e) in
+      let first = all_sound same_parameter same_is fs gs (first_of_two (all_same same_parameter fs gs) (same_path p q && (same_types ts us && same_return r s)) e) in
       let rest = second_of_two (all_same same_parameter fs gs) (same_path p q && (same_types ts us && same_return r s)) e in
       let second = path_sound p q (first_of_two (same_path p q) (same_types ts us && same_return r s) rest) in
       let more = second_of_two (same_path p q) (same_types ts us && same_return r s) rest in

@@ -96,7 +96,7 @@ some_typed f [] t r i = absurd i
 some_typed f (s ∷ rs) t r (inl e) = subst (λ q. IsSome (f q.name.0)) (sym e) t.0
 some_typed f (s ∷ rs) t r (inr i) = some_typed f rs t.1 r i
 
-had_of : (g : GrammarData) (n : List ℕ) (v : Option ReprData) → IsSome v → ((x : ReprData) → v ≡ Some x → Has g n x) → (x : ReprData) × Has g n x
+pub had_of : (g : GrammarData) (n : List ℕ) (v : Option ReprData) → IsSome v → ((x : ReprData) → v ≡ Some x → Has g n x) → (x : ReprData) × Has g n x
 had_of g n None s h = absurd cc
 had_of g n (Some x) s h = (x, h x refl)
 

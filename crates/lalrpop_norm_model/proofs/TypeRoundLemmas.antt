@@ -9,7 +9,7 @@ use Rattle.lalrpop_norm_model.specs.TypeRelation.{IsRule, TypeClause, type_claus
 use Rattle.lalrpop_norm_model.specs.TypeTables.{Table, clause_value, IsSound, IsClosedTable, IsStuck, IsTable}
 use Rattle.lalrpop_norm_model.specs.TypeRounds.{TypeRow, table_of, first_value, taken, visit, visits, type_rounds, IsEnd}
 use Rattle.lalrpop_norm_model.proofs.TypeLemmas.{clause_makes, has_some, table_is, closed_functional}
-use Rattle.lalrpop_norm_model.proofs.TableTests.{AllHad, rows_sound}
+use Rattle.lalrpop_norm_model.proofs.TableTests.{AllHad, rows_sound, had_of}
 
 -- ---- the first value of some clauses
 
@@ -120,10 +120,6 @@ end_stuck g rows end r rule c i s =
 abbrev pub IsFull : GrammarData → Table → Type 0
 IsFull g f = (r : RuleData) → IsRule g r → IsSome (f r.name.0)
 
-some_had : (g : GrammarData) (n : List ℕ) (v : Option ReprData) → IsSome v → ((x : ReprData) → v ≡ Some x → Has g n x) → (x : ReprData) × Has g n x
-some_had g n None s h = absurd cc
-some_had g n (Some x) s h = (x, h x refl)
-
 agreed : (v : Option ReprData) (x : ReprData) → IsSome v → ((y : ReprData) → v ≡ Some y → y ≡ x) → v ≡ Some x
 agreed None x s h = absurd cc
 agreed (Some y) x s h = ap Some (h y refl)
@@ -141,7 +137,7 @@ one_exactly g rows end = (there, back)
 
     back : IsFull g (table_of rows) × IsClosedTable g (table_of rows) → HasOneType g
     back h = record {
-      total = λ r rule. some_had g r.name.0 (table_of rows r.name.0) (h.0 r rule) (end_sound g rows end r.name.0);
+      total = λ r rule. had_of g r.name.0 (table_of rows r.name.0) (h.0 r rule) (end_sound g rows end r.name.0);
       functional = closed_functional g (table_of rows) h.1;
     }
 

@@ -73,7 +73,7 @@ has_none (Some b ∷ ps) a h (inl e) =
     let same : a ≡ b = cc e in subst (λ (c : AlternativeData). has_level_attribute c ≡ false) (sym same) (or_parts (has_level_attribute b) (has_levels ps) h).0
 has_none (Some b ∷ ps) a h (inr i) = has_none ps a (or_parts (has_level_attribute b) (has_levels ps) h).1 i
 
-not_there : (o : Option AttributeData) → is_some o ≡ false → o ≡ None
+pub not_there : (o : Option AttributeData) → is_some o ≡ false → o ≡ None
 not_there None e = refl
 not_there (Some x) e = absurd (cc e)
 

@@ -1,14 +1,12 @@
 -- One level of an attribute's view.
-use Rattle.std.proofs.Common.{◌≡◌, List, ℕ, String, Vec, Global, ap, sym, ◌∙◌}
-use Rattle.std.specs.Prelude.{string_bytes}
+use Rattle.std.proofs.Common.{◌≡◌, List, ℕ, ap, sym, ◌∙◌}
 use Rattle.lalrpop_norm_parts.specs.declared.names.Span.{Span}
 use Rattle.lalrpop_norm_parts.specs.declared.attribute.Attribute.{Attribute}
 use Rattle.lalrpop_norm_parts.specs.declared.attribute.AttributeArg.{AttributeArg}
-use Rattle.lalrpop_norm_parts.specs.declared.attribute.AttributeArg.TheFolds.{fold-roll-AttributeArg, fold-roll-Attribute}
-use Rattle.lalrpop_norm_parts.specs.declared.attribute.AttributeArg.TheOpen.{AttributeArg-F, Attribute-F}
-use Rattle.lalrpop_norm_parts.specs.declared.attribute.AttributeArg.TheVariants.{Empty, Paren, Equal}
-use Rattle.lalrpop_norm_parts.specs.declared.attribute.AttributeArg.TheViews.{rolls-Empty, rolls-Paren, rolls-Equal, rolls-struct-Attribute}
-use Rattle.lalrpop_norm_parts.specs.Attributes.{Argument, AttributeData, attribute, empty, paren, equal, argument_step, attribute_step, argument_view, attribute_view, attributes_view}
+use Rattle.lalrpop_norm_parts.specs.declared.attribute.AttributeArg.TheFolds.{fold-roll-Attribute}
+use Rattle.lalrpop_norm_parts.specs.declared.attribute.AttributeArg.TheOpen.{Attribute-F}
+use Rattle.lalrpop_norm_parts.specs.declared.attribute.AttributeArg.TheViews.{rolls-struct-Attribute}
+use Rattle.lalrpop_norm_parts.specs.Attributes.{Argument, AttributeData, attribute, argument_step, attribute_step, argument_view, attribute_view}
 
 pub attribute_seen : (s : Span) (a : List ℕ) (g : AttributeArg) → attribute_view (let x : Attribute = record { id_span = s; id = a; arg = g } in x) ≡ attribute s a (argument_view g)
 attribute_seen s a g =

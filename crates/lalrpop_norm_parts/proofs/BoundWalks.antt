@@ -1,10 +1,10 @@
 -- Walks over the types of a bound by a function.
-use Rattle.std.proofs.Common.{◌≡◌, Result, Ok, Err, List, [], ◌∷◌, ◌++◌, map, Option, Some, None, option_map, refl, ap}
+use Rattle.std.proofs.Common.{◌≡◌, Result, List, [], ◌∷◌, ◌++◌, map, Option, Some, None, option_map, refl}
 use Rattle.std.specs.Prelude.{option_to_list}
 use Rattle.std.proofs.lemmas.List.{map-id}
 use Rattle.std.proofs.lemmas.Iterator.Adapters.{option_map_id}
 use Rattle.lalrpop_norm_parts.specs.declared.names.TypeParameter.{TypeParameter}
-use Rattle.lalrpop_norm_parts.specs.Bounds.{BoundData, function_bound}
+use Rattle.lalrpop_norm_parts.specs.Bounds.{function_bound}
 use Rattle.lalrpop_norm_parts.specs.Paths.{PathData}
 use Rattle.lalrpop_norm_parts.specs.Walks.{Answered, Ended}
 use Rattle.lalrpop_norm_parts.proofs.WalkLemmas.{answered_then, answered_all, ended_in, ended_after}

@@ -31,7 +31,7 @@ filter_same p q e (x ∷ xs) =
     let rest = filter_same p q e xs in
     cc
 
-same_is : (p q : TypeParameter) → same_parameter p q ≡ true → p ≡ q
+pub same_is : (p q : TypeParameter) → same_parameter p q ≡ true → p ≡ q
 same_is (parameter.Lifetime l) (parameter.Lifetime m) e = ap (λ a. parameter.Lifetime record { 0 = a }) ((bytes_eq-Decides l.0 m.0).0 e)
 same_is (parameter.Id a) (parameter.Id b) e = ap parameter.Id ((bytes_eq-Decides a b).0 e)
 same_is (parameter.Lifetime l) (parameter.Id b) e = absurd cc

@@ -22,10 +22,10 @@ no_types (t ∷ ts) = (λ h. absurd (grind (arith, nat_tests)), λ e. cc)
 pub unit_or_not : (t : TypeRepr) (ts : Vec TypeRepr Global) → t ≡ variant.Tuple ts → IsTrue (length ts.items == 0) ↔ (repr_view t ≡ tuple no_reprs)
 unit_or_not t ts e = rw (e, view_tuple ts) (no_types ts.items)
 
-view_nominal : (n : NominalTypeRepr) → repr_view (variant.Nominal n) ≡ nominal (applied_view n).0 (applied_view n).1
+pub view_nominal : (n : NominalTypeRepr) → repr_view (variant.Nominal n) ≡ nominal (applied_view n).0 (applied_view n).1
 view_nominal n = ap repr_view (sym (rolls-Nominal n)) ∙ fold-roll-TypeRepr ReprData Applied repr_step applied_step (TypeRepr-F.Nominal n)
 
-view_applied : (p : Path) (ts : Vec TypeRepr Global) → applied_view (roll-NominalTypeRepr record { path = p; types = ts }) ≡ (path_view p, reprs_view ts.items)
+pub view_applied : (p : Path) (ts : Vec TypeRepr Global) → applied_view (roll-NominalTypeRepr record { path = p; types = ts }) ≡ (path_view p, reprs_view ts.items)
 view_applied p ts = fold-roll-NominalTypeRepr ReprData Applied repr_step applied_step record { path = p; types = ts }
 
 pub view_named : (p : Path) (ts : Vec TypeRepr Global) (name : List ℕ) → path_view p ≡ record { absolute = false; ids = name ∷ [] } → ts.items ≡ [] → repr_view (variant.Nominal (roll-NominalTypeRepr record { path = p; types = ts })) ≡ named_repr name

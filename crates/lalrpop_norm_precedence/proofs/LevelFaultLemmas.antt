@@ -8,8 +8,7 @@ use Rattle.lalrpop_norm_model.specs.Occurrences.{count_part, count_parts}
 use Rattle.lalrpop_norm_model.specs.Scopes.{a_rule, a_macro, a_terminal, Sense, an_argument, a_global, by_sense, resolved_kind, resolved_part, resolved_parts}
 use Rattle.lalrpop_norm_model.specs.LevelRules.{leveled_kind, leveled_part, leveled_parts}
 use Rattle.lalrpop_norm_resolve.specs.NameFaults.{condition_faults, tested_faults, id_faults, nonterminal_faults, macro_name_faults, parts_count, kind_name_faults, part_name_faults, parts_name_faults}
-use Rattle.lalrpop_norm_faults.proofs.FaultLemmas.{left_none, right_none}
-use Rattle.lalrpop_norm_resolve.proofs.ResolvedFaults.{both_none}
+use Rattle.lalrpop_norm_faults.proofs.FaultLemmas.{left_none, right_none, both_none}
 
 -- s and t are what names mean before and after; the names that `level` tells are rules
 module _ (s t : List ℕ → Option Sense) (kept : (n : List ℕ) (x : Sense) → s n ≡ Some x → t n ≡ Some x) where

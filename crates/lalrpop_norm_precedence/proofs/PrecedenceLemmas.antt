@@ -8,7 +8,7 @@ use Rattle.lalrpop_norm_tree.specs.Items.{AlternativeData, RuleData, ItemData, G
 use Rattle.lalrpop_norm_faults.specs.declared.kind.FaultKind.TheVariants.{NotNonterminal}
 use Rattle.lalrpop_norm_faults.specs.declared.failure.NormFailure.{NormFailure}
 use Rattle.lalrpop_norm_faults.specs.Faults.{Fault, first, IsFault, IsFirst, RefusesOr, fault_if}
-use Rattle.lalrpop_norm_faults.proofs.FaultLemmas.{first_of_more, left_none, right_none}
+use Rattle.lalrpop_norm_faults.proofs.FaultLemmas.{first_of_more, left_none, right_none, both_none}
 use Rattle.std.specs.Prelude.{Result, Ok, Err}
 use Rattle.std.specs.Result.{IfOk, IsErrAnd}
 use Rattle.lalrpop_norm_theory.specs.Rounds.{In}
@@ -24,14 +24,16 @@ use Rattle.std.proofs.lemmas.Bool.{and_parts}
 use Rattle.std.proofs.lemmas.Bool.Decides.{Decides-ltb}
 use Rattle.lalrpop_norm_model.proofs.ReadingLemmas.{parts_kept}
 use Rattle.lalrpop_norm_model.proofs.LevelLemmas.{of_map, of_present, place_has_level, previous_is, has_previous, rising_rises}
+use Rattle.lalrpop_norm_model.proofs.LevelGrammarLemmas.{of_level_in}
+use Rattle.lalrpop_norm_model.proofs.InferenceLemmas.{none_made}
 use Rattle.lalrpop_norm_resolve.specs.NameFaults.{repeated_faults, repeated_argument_faults, condition_faults, nonterminal_faults, parts_name_faults, alternative_name_faults, rule_name_faults, resolve_faults}
-use Rattle.lalrpop_norm_resolve.proofs.ResolvedFaults.{both_none, faults_gone}
+use Rattle.lalrpop_norm_resolve.proofs.ResolvedFaults.{faults_gone}
 use Rattle.lalrpop_norm_alternatives.specs.LevelFaults.{grammar_level_faults}
 use Rattle.lalrpop_norm_precedence.specs.MacroLevels.{macro_item_faults}
 use Rattle.lalrpop_norm_precedence.specs.PrecedenceFaults.{unstepped_rule, step_faults, level_rule_faults, level_items_faults, leveled_faults, precedence_faults}
 use Rattle.lalrpop_norm_precedence.proofs.LevelNameLemmas.{sense_kept, level_sense}
 use Rattle.lalrpop_norm_precedence.proofs.LevelFaultLemmas.{condition_none, parts_none}
-use Rattle.lalrpop_norm_precedence.proofs.SettledLemmas.{each_none, of_level_in, leveled_from, rule_none}
+use Rattle.lalrpop_norm_precedence.proofs.SettledLemmas.{leveled_from, rule_none}
 
 -- ---- lists
 
@@ -133,7 +135,7 @@ module _ (g : GrammarData) (once : repeated_faults [] (globals (leveled_grammar 
     arguments_none = left_none (repeated_argument_faults r.span r.args) (flat_map (alternative_name_faults s) r.alternatives) (rule_none g sound (rule_item r) there)
 
     written_none : (x : AlternativeData) → In x r.alternatives → alternative_name_faults s x ≡ []
-    written_none = each_none (alternative_name_faults s) r.alternatives (right_none (repeated_argument_faults r.span r.args) (flat_map (alternative_name_faults s) r.alternatives) (rule_none g sound (rule_item r) there))
+    written_none = none_made (alternative_name_faults s) r.alternatives (right_none (repeated_argument_faults r.span r.args) (flat_map (alternative_name_faults s) r.alternatives) (rule_none g sound (rule_item r) there))
 
     -- an own occurrence becomes the name of a rule
     own_leveled : (a : Leveled) → has_levels (all_places r) ≡ true → In a.level (levels_of ps) → (n : List ℕ) → is_own r n ≡ true → (b c : ℕ) →

@@ -1,6 +1,6 @@
 -- In the grammar with levels nothing is left to resolve.
 use Rattle.std.proofs.Common.{◌≡◌, inl, inr, ℕ, List, [], ◌∷◌, ◌++◌, Option, Some, None, Bool, true, false, map, refl, sym, ap, ap₂, ◌∙◌, subst}
-use Rattle.std.specs.Prelude.{flat_map, nat_eq, if◌then◌else◌}
+use Rattle.std.specs.Prelude.{flat_map, if◌then◌else◌}
 use Rattle.std.proofs.lemmas.List.{map-append}
 use Rattle.lalrpop_norm_tree.specs.Symbols.{Parts}
 use Rattle.lalrpop_norm_tree.specs.Items.{AlternativeData, RuleData, ItemData, GrammarData, match_item, extern_item, intern_item, rule_item, use_item}
@@ -14,6 +14,8 @@ use Rattle.lalrpop_norm_model.specs.LevelRules.{is_own, leveled_parts, level_of_
 use Rattle.lalrpop_norm_model.proofs.LevelLemmas.{of_map, of_present}
 use Rattle.lalrpop_norm_model.proofs.WrittenLemmas.{of_numbered}
 use Rattle.lalrpop_norm_model.proofs.ReadingLemmas.{parts_kept}
+use Rattle.lalrpop_norm_model.proofs.LevelGrammarLemmas.{of_level_in}
+use Rattle.lalrpop_norm_model.proofs.InferenceLemmas.{none_made}
 use Rattle.lalrpop_norm_resolve.specs.NameFaults.{condition_faults, parts_name_faults, alternative_name_faults, repeated_argument_faults, item_name_faults, repeated_faults, resolve_faults}
 use Rattle.lalrpop_norm_faults.proofs.FaultLemmas.{right_none}
 use Rattle.lalrpop_norm_precedence.proofs.LevelNameLemmas.{has_level_rules, no_level_rules}
@@ -24,28 +26,6 @@ use Rattle.lalrpop_norm_precedence.proofs.LevelFaultLemmas.{parts_settled}
 pub map_same : {A : Type 0} (f : A → A) (xs : List A) → ((x : A) → In x xs → f x ≡ x) → map f xs ≡ xs
 map_same f [] same = refl
 map_same f (x ∷ xs) same = ap₂ ◌∷◌ (same x (inl refl)) (map_same f xs (λ y i. same y (inr i)))
-
-pub each_none : {A B : Type 0} (f : A → List B) (xs : List A) → flat_map f xs ≡ [] → (x : A) → In x xs → f x ≡ []
-each_none f [] h x i = absurd i
-each_none {A} {B} f (y ∷ xs) h x (inl e) = subst (λ (z : A). f z ≡ []) (sym e) (none (f y) h)
-  where
-    none : (ys : List B) → ys ++ flat_map f xs ≡ [] → ys ≡ []
-    none [] k = refl
-    none (z ∷ ys) k = absurd (cc k)
-each_none {A} {B} f (y ∷ xs) h x (inr i) = each_none f xs (none (f y) h) x i
-  where
-    none : (ys : List B) → ys ++ flat_map f xs ≡ [] → flat_map f xs ≡ []
-    none [] k = k
-    none (z ∷ ys) k = absurd (cc k)
-
-pub of_level_in : (l : ℕ) (xs : List Leveled) (a : Leveled) → In a (of_level l xs) → In a xs
-of_level_in l [] a h = h
-of_level_in l (x ∷ xs) a h = by (nat_eq x.level l) (of_level_in l xs a) h
-  where
-    by : (b : Bool) → (In a (of_level l xs) → In a xs) → In a (if b then x ∷ of_level l xs else of_level l xs) → In a (x ∷ xs)
-    by true f (inl e) = inl e
-    by true f (inr i) = inr (f i)
-    by false f i = inr (f i)
 
 -- what has a level is an alternative of the rule
 pub leveled_from : (r : RuleData) (a : Leveled) → In (Some a) (with_levels (all_places r)) → In a.alternative r.alternatives
@@ -139,14 +119,14 @@ module _ (g : GrammarData) (none : resolve_faults g ≡ []) where
   names = globals g
 
   pub rule_none : (i : ItemData) → In i g.items → item_name_faults names i ≡ []
-  rule_none i j = each_none (item_name_faults names) g.items (right_none (repeated_faults [] names) (flat_map (item_name_faults names) g.items) none) i j
+  rule_none i j = none_made (item_name_faults names) g.items (right_none (repeated_faults [] names) (flat_map (item_name_faults names) g.items) none) i j
 
   alternative_none : (r : RuleData) → In (rule_item r) g.items → (x : AlternativeData) → In x r.alternatives → parts_name_faults (sense_of names r.args) x.parts ≡ []
   unfolding alternative_name_faults
   alternative_none r j x k =
       let s = sense_of names r.args in
       right_none (condition_faults s x.condition) (parts_name_faults s x.parts)
-      (each_none (alternative_name_faults s) r.alternatives (right_none (repeated_argument_faults r.span r.args) (flat_map (alternative_name_faults s) r.alternatives) (rule_none (rule_item r) j)) x k)
+      (none_made (alternative_name_faults s) r.alternatives (right_none (repeated_argument_faults r.span r.args) (flat_map (alternative_name_faults s) r.alternatives) (rule_none (rule_item r) j)) x k)
 
   settled_rule : (i : ItemData) → In i g.items → (r : RuleData) → rule_item r ≡ resolved_item names i → (x : AlternativeData) → In x r.alternatives → IsSettled x
   settled_rule (rule_item d) j r e x k =

@@ -11,13 +11,10 @@ use Rattle.lalrpop_norm_model.specs.Enabled.{all_places, present}
 use Rattle.lalrpop_norm_model.specs.Levels.{Leveled, first_named, has_level_attribute, has_levels, with_levels}
 use Rattle.lalrpop_norm_model.specs.Stated.{level_after}
 use Rattle.lalrpop_norm_model.proofs.HandedLemmas.{levels_are_handed_on}
+use Rattle.lalrpop_norm_model.proofs.WrittenLemmas.{not_there}
 use Rattle.lalrpop_norm_alternatives.specs.LevelFaults.{missing_level_faults, level_argument_faults, side_argument_faults, level_attribute_faults, lowest_level, lowest_faults, barred_faults, lowest_level_faults, level_faults}
 use Rattle.lalrpop_norm_precedence.specs.Handed.{handed_faults}
 use Rattle.lalrpop_norm_precedence.proofs.ReadLemmas.{faults_handed}
-
-not_there : (o : Option AttributeData) → is_some o ≡ false → o ≡ None
-not_there None h = refl
-not_there (Some a) h = absurd (cc h)
 
 -- an alternative without the two attributes
 module _ (a : AlternativeData) (bare : has_level_attribute a ≡ false) where

@@ -3,6 +3,7 @@ use Rattle.std.proofs.Common.{◌≡◌, ℕ, List, [], ◌∷◌, ◌++◌, ◌
 use Rattle.std.proofs.lemmas.List.{take_all}
 use Rattle.std.specs.List.{flat_map, zip}
 use Rattle.lalrpop_norm_parts.specs.Texts.{joined}
+use Rattle.lalrpop_norm_parts.proofs.KnownTextLemmas.{map_twice}
 
 texts_of_each : {A : Type 0} (text : A → List ℕ) (separator : List ℕ) (xs : List A) → flat_map (λ x. separator ++ text x) xs ≡ flat_map (λ u. separator ++ u) (map text xs)
 texts_of_each text separator [] = refl
@@ -14,15 +15,11 @@ joined_each : {A : Type 0} (text : A → List ℕ) (separator : List ℕ) (xs : 
 joined_each text separator xs x others i e h =
     rw (e, take_all i others h) (ap (λ t. text x ++ t) (texts_of_each text separator others))
 
-maps_joined : {A B C : Type 0} (g : B → C) (f : A → B) (xs : List A) → map (λ x. g (f x)) xs ≡ map g (map f xs)
-maps_joined g f [] = refl
-maps_joined g f (x ∷ xs) = ap (λ ys. g (f x) ∷ ys) (maps_joined g f xs)
-
 -- the same of things that are seen as others
 pub joined_each_seen : {A B : Type 0} (view : A → B) (text : B → List ℕ) (separator : List ℕ) (xs : List A) (x : A) (others : List A) (i : ℕ) → xs ≡ x ∷ others → length others ≤ i
     → text (view x) ++ flat_map (λ t. separator ++ text (view t)) (take i others) ≡ joined separator (map text (map view xs))
 joined_each_seen view text separator xs x others i e h =
-    joined_each (λ a. text (view a)) separator xs x others i e h ∙ ap (joined separator) (maps_joined text view xs)
+    joined_each (λ a. text (view a)) separator xs x others i e h ∙ ap (joined separator) (map_twice text view xs)
 
 -- the first pair's text, and then the others'
 pub joined_pairs : {A B C D : Type 0} (f : A → C) (g : B → D) (text : C × D → List ℕ) (separator : List ℕ) (xs : List A) (ys : List B) (x : A) (others : List A) (y : B) (rest : List B)

@@ -7,7 +7,6 @@ use Rattle.std.specs.declared.cmp.Ordering.{Ordering}
 use Rattle.std.specs.declared.cmp.Ordering.TheVariants.{Less, Equal, Greater}
 use Rattle.std.specs.Cmp.Lexicographic.{slice_cmp}
 use Rattle.std.specs.BTreeMap.{BTreeMap, insert_entry}
-use Rattle.std.proofs.lemmas.Bool.Decides.{same_from_decides}
 use Rattle.std.proofs.lemmas.Slice.Eq.{bytes_eq-Decides}
 use Rattle.std.proofs.lemmas.Map.Text.{is_eq-slice_cmp}
 use Rattle.shared_text.specs.declared.atom.Atom.{Atom}
@@ -19,11 +18,8 @@ use Rattle.lalrpop_norm_model.specs.Scopes.{Definition, a_rule, a_macro, a_termi
 use Rattle.lalrpop_norm_resolve.specs.declared.resolve.Def.{Def}
 use Rattle.lalrpop_norm_resolve.specs.NameFaults.{repeated_faults, repeated_argument_faults, alternative_name_faults, item_name_faults}
 use Rattle.lalrpop_norm_resolve.specs.NameTables.{sense_seen, def_of, NameRow, found_def, sense_in, with_def, all_rows, row_faults, rows_faults, items_globals, names_faults, item_faults_in, resolved_item_in}
-
-pub turned : (xs ys : List ℕ) → bytes_eq xs ys ≡ bytes_eq ys xs
-turned xs ys =
-    let other = bytes_eq-Decides ys xs in
-    same_from_decides _ _ (bytes_eq-Decides xs ys) ((λ e. sym (other.0 e)), λ e. other.1 (sym e))
+use Rattle.lalrpop_norm_theory.proofs.SameLemmas.{text_turned}
+use Rattle.lalrpop_norm_faults.proofs.FaultLemmas.{none_ahead}
 
 -- ---- what is found after a row is added
 
@@ -90,7 +86,7 @@ some_added false x y o None e = e
 names_more : (rows : List NameRow) (ds : List Global) (d : Global) → HasNames rows ds → HasNames (with_def rows d.name (def_of d.definition)) (ds ++ d ∷ [])
 names_more rows ds d h q =
     ap (λ o. is_some o) (found_more q d.name (def_of d.definition) rows)
-    ∙ ap (λ b. is_some (cond b (Some (def_of d.definition)) (found_def q rows))) (turned q d.name)
+    ∙ ap (λ b. is_some (cond b (Some (def_of d.definition)) (found_def q rows))) (text_turned q d.name)
     ∙ some_added (bytes_eq d.name q) (def_of d.definition) d.definition (found_def q rows) (definition_of ds q) (h q)
     ∙ ap (λ o. is_some o) (sym (defined_more ds d q))
 
@@ -120,14 +116,10 @@ said_more : (rows : List NameRow) (ds : List Global) (d : Global) → is_some (d
     Says (with_def rows d.name (def_of d.definition)) (ds ++ d ∷ [])
 said_more rows ds d new h q =
     found_more q d.name (def_of d.definition) rows
-    ∙ ap (λ b. cond b (Some (def_of d.definition)) (found_def q rows)) (turned q d.name)
+    ∙ ap (λ b. cond b (Some (def_of d.definition)) (found_def q rows)) (text_turned q d.name)
     ∙ said_new (bytes_eq d.name q) d.definition (found_def q rows) (definition_of ds q)
     (λ e. ap (λ n. is_some (definition_of ds n)) (sym ((bytes_eq-Decides d.name q).0 e)) ∙ new) (h q)
     ∙ ap (λ o. option_map def_of o) (sym (defined_more ds d q))
-
-pub is_new : (b : Bool) (f : Fault) (fs : List Fault) → fault_if b f ++ fs ≡ [] → b ≡ false
-is_new true f fs h = cc
-is_new false f fs h = refl
 
 pub later : (b : Bool) (f : Fault) (fs : List Fault) → fault_if b f ++ fs ≡ [] → fs ≡ []
 later true f fs h = cc
@@ -138,7 +130,7 @@ all_said rows before [] none h = rw (append-nil before) h
 all_said rows before (d ∷ ds) none h =
     let f : Fault = (NameDeclaredTwice, d.span) in
     let fs = repeated_faults (before ++ d ∷ []) ds in
-    let new = is_new (is_some (definition_of before d.name)) f fs none in
+    let new = none_ahead (is_some (definition_of before d.name)) f fs none in
     let rest = later (is_some (definition_of before d.name)) f fs none in
     rw (← append_assoc before (d ∷ []) ds) (all_said (with_def rows d.name (def_of d.definition)) (before ++ d ∷ []) ds rest (said_more rows before d new h))
 

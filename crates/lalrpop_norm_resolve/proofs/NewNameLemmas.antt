@@ -5,14 +5,15 @@ use Rattle.std.proofs.lemmas.Bool.{and_parts}
 use Rattle.std.proofs.lemmas.Slice.Eq.{bytes_eq-Decides}
 use Rattle.lalrpop_norm_faults.specs.declared.kind.FaultKind.TheVariants.{NameDeclaredTwice}
 use Rattle.lalrpop_norm_faults.specs.Faults.{Fault, fault_if}
-use Rattle.lalrpop_norm_faults.proofs.FaultLemmas.{at_drop_item}
+use Rattle.lalrpop_norm_faults.proofs.FaultLemmas.{at_drop_item, none_ahead}
 use Rattle.lalrpop_norm_model.specs.Scopes.{Definition, Global, definition_of}
 use Rattle.lalrpop_norm_resolve.specs.declared.resolve.Def.{Def}
 use Rattle.lalrpop_norm_resolve.specs.declared.resolve.Def.TheVariants.{Rule}
 use Rattle.lalrpop_norm_resolve.specs.NameFaults.{repeated_faults}
 use Rattle.lalrpop_norm_resolve.specs.NameTables.{def_of, NameRow, found_def, with_def, all_rows}
 use Rattle.lalrpop_norm_resolve.specs.NewNames.{are_new}
-use Rattle.lalrpop_norm_resolve.proofs.GlobalLemmas.{turned, found_more, is_new, later, all_said}
+use Rattle.lalrpop_norm_resolve.proofs.GlobalLemmas.{found_more, later, all_said}
+use Rattle.lalrpop_norm_theory.proofs.SameLemmas.{text_turned}
 
 -- ---- how often a name stands in a list
 
@@ -70,7 +71,7 @@ once_defined before [] h none = rw (append-nil before) h
 once_defined before (d ∷ ds) h none =
     let f : Fault = (NameDeclaredTwice, d.span) in
     let fs = repeated_faults (before ++ d ∷ []) ds in
-    let new = is_new (is_some (definition_of before d.name)) f fs none in
+    let new = none_ahead (is_some (definition_of before d.name)) f fs none in
     let rest = later (is_some (definition_of before d.name)) f fs none in
     rw (← append_assoc before (d ∷ []) ds) (once_defined (before ++ d ∷ []) ds (added_once before d new h) rest)
 
@@ -98,7 +99,7 @@ none_repeated before (d ∷ ds) h =
 module _ (rows : List NameRow) (count : List ℕ → ℕ) (n : List ℕ) (known : (q : List ℕ) → is_none (found_def q rows) ≡ true → count q ≡ 0) where
   known_more : (q : List ℕ) → is_none (found_def q (with_def rows n Rule)) ≡ true → count q + cond (bytes_eq n q) 1 0 ≡ 0
   known_more q h =
-      by (bytes_eq n q) (sym (ap (λ o. is_none o) (found_more q n Rule rows ∙ ap (λ b. cond b (Some Rule) (found_def q rows)) (turned q n))) ∙ h)
+      by (bytes_eq n q) (sym (ap (λ o. is_none o) (found_more q n Rule rows ∙ ap (λ b. cond b (Some Rule) (found_def q rows)) (text_turned q n))) ∙ h)
     where
       by : (b : Bool) → is_none (cond b (Some Rule) (found_def q rows)) ≡ true → count q + cond b 1 0 ≡ 0
       by true e = absurd (cc e)

@@ -4,14 +4,10 @@ use Rattle.std.specs.Prelude.{flat_map}
 use Rattle.lalrpop_norm_parts.specs.declared.names.Span.{Span}
 use Rattle.lalrpop_norm_tree.specs.Symbols.{Kind, Part, Parts, group, ambiguous_id, terminal, nonterminal, call, repeated, chosen, named, tupled, lookahead, lookbehind, error_terminal, at, no_parts, part_and}
 use Rattle.lalrpop_norm_tree.specs.Items.{AlternativeData, ItemData, GrammarData, match_item, extern_item, intern_item, rule_item, use_item}
-use Rattle.lalrpop_norm_faults.specs.Faults.{Fault}
 use Rattle.lalrpop_norm_model.specs.Scopes.{a_rule, a_macro, a_terminal, Global, globals, Sense, an_argument, a_global, by_sense, sense_of, resolved_kind, resolved_part, resolved_parts, resolved_alternative, resolved_item, resolved_grammar}
 use Rattle.lalrpop_norm_model.proofs.ResolvedLemmas.{same_globals}
 use Rattle.lalrpop_norm_resolve.specs.NameFaults.{repeated_faults, repeated_argument_faults, condition_faults, id_faults, nonterminal_faults, macro_name_faults, parts_count, kind_name_faults, part_name_faults, parts_name_faults, alternative_name_faults, item_name_faults, resolve_faults}
-use Rattle.lalrpop_norm_faults.proofs.FaultLemmas.{left_none, right_none}
-
-pub both_none : (xs ys : List Fault) → xs ≡ [] → ys ≡ [] → xs ++ ys ≡ []
-both_none xs ys h k = rw h k
+use Rattle.lalrpop_norm_faults.proofs.FaultLemmas.{left_none, right_none, both_none}
 
 module _ (sense : List ℕ → Option Sense) where
   id_gone : (s : Span) (a : List ℕ) (o : Option Sense) → sense a ≡ o → id_faults s o ≡ [] → kind_name_faults sense s (by_sense o a) ≡ []

@@ -1,8 +1,8 @@
 -- Definitions added to a table one after the other.
-use Rattle.std.proofs.Common.{◌≡◌, ◌+◌, ◌<◌, ℕ, List, [], ◌∷◌, ◌++◌, Result, Ok, Err, get_or, drop, length, refl, ap, sym, ◌∙◌, append_assoc}
+use Rattle.std.proofs.Common.{◌≡◌, ◌+◌, ◌<◌, ℕ, List, [], ◌∷◌, ◌++◌, Result, get_or, drop, length, refl, ap, sym, ◌∙◌, append_assoc}
 use Rattle.std.specs.Result.{IsErrAnd}
 use Rattle.lalrpop_norm_faults.specs.declared.failure.NormFailure.{NormFailure}
-use Rattle.lalrpop_norm_faults.specs.Faults.{Fault, IsFirst, Refuses, RefusesOr}
+use Rattle.lalrpop_norm_faults.specs.Faults.{Fault, IsFirst, Refuses}
 use Rattle.lalrpop_norm_faults.proofs.FaultLemmas.{exit_at, at_drop_item}
 use Rattle.lalrpop_norm_model.specs.Scopes.{Global}
 use Rattle.lalrpop_norm_resolve.specs.NameTables.{NameRow, def_of, with_def, row_faults, all_rows, rows_faults}
@@ -16,11 +16,6 @@ faults_more rows [] ys = refl
 faults_more rows (x ∷ xs) ys =
     let next = with_def rows x.name (def_of x.definition) in
     ap (λ fs. row_faults rows x.name x.span ++ fs) (faults_more next xs ys) ∙ sym (append_assoc (row_faults rows x.name x.span) (rows_faults next xs) _)
-
--- the exit by `?` where the faults are the callee's
-pub exit_or : {T : Type 0} (r : Result T NormFailure) (e : NormFailure) (fs : List Fault) (P : T → Type 0) → IsErrAnd r (λ x. x ≡ e) → IsFirst fs e → RefusesOr r fs P
-exit_or (Ok x) e fs P from h = absurd from
-exit_or (Err x) e fs P from h = rw from h
 
 -- A loop that adds the definitions of each element: one step, and the exit by `?`. All are those of the elements in a row.
 module _ {X : Type 0} (all : List X → List Global) (each : X → List Global) (split : (y : X) (ys : List X) → all (y ∷ ys) ≡ each y ++ all ys)

@@ -52,11 +52,6 @@ pub and_false : (a b : Bool) → b ≡ false → (a && b) ≡ false
 and_false true b e = e
 and_false false b e = refl
 
--- what follows a refused part does not matter
-pub false_and : (a b : Bool) → a ≡ false → (a && b) ≡ false
-false_and true b e = cc
-false_and false b e = refl
-
 -- ---- a record of known fields
 
 -- behind a place that holds a value

@@ -1,16 +1,12 @@
 -- The premises of the whole way can be met: `pub D = "a"* @L;`, with its symbols named by their texts.
 use Rattle.std.proofs.Common.{◌≡◌, ◌<◌, inl, inr, ℕ, zero, suc, [], ◌∷◌, ◌++◌, map, refl, sym, subst, arith}
-use Rattle.std.specs.Prelude.{bytes_eq, true, false, Some, None}
+use Rattle.std.specs.Prelude.{bytes_eq, true, false, Some}
 use Rattle.std.proofs.lemmas.Bool.{cases_Bool}
 use Rattle.lalrpop_norm_theory.specs.Symbols.{Name, ClosedSymbol, ClosedSymbols, reference, star, plus, lookahead, no_symbols, symbol_and, only}
 use Rattle.lalrpop_norm_theory.specs.Meaning.{HasCounts, HasLevels}
 use Rattle.lalrpop_norm_theory.specs.Rounds.{In, IsDistinct}
 use Rattle.lalrpop_norm_theory.specs.Met.{expanded_symbols, AreResolvedIn, IsResolved, IsResolvedIn}
-use Rattle.lalrpop_norm_theory.specs.Tables.{table, rule_of_symbol}
-use Rattle.lalrpop_norm_theory.specs.Laws.{OneToOne}
 use Rattle.lalrpop_norm_theory.proofs.SameLemmas.{text_same}
-use Rattle.lalrpop_norm_theory.proofs.TableLemmas.{one_rule_from_distinct}
-use Rattle.lalrpop_norm_theory.proofs.Expansion.{expansions_one_to_one}
 use Rattle.lalrpop_norm_theory.proofs.ExampleGrammar.{none_some}
 use Rattle.lalrpop_norm_theory.proofs.RoundExamples.{letter, literal, first_alternative, body, macro_parts, repeated, rule_d}
 

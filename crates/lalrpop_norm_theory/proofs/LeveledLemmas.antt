@@ -24,7 +24,7 @@ leveled_clause l c = clause c.origin (leveled_symbols l c.parts)
 abbrev leveled_parts : (Name → ℕ → Name) → Clause → ClosedSymbols
 leveled_parts l c = leveled_symbols l c.parts
 
-shifted : (k j : ℕ) → k + suc j ≡ suc k + j
+pub shifted : (k j : ℕ) → k + suc j ≡ suc k + j
 shifted k j = omega arith
 
 -- the alternatives of a level's rule are the clauses in their places

@@ -1,4 +1,6 @@
 pub mod BoolLemmas
+pub mod ListTests
+pub mod ListLemmas
 pub mod Numbered
 pub mod PairSides
 pub mod PairTranslations

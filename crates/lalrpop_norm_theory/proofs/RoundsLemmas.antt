@@ -5,7 +5,7 @@ use Rattle.std.proofs.lemmas.Bool.{cases_Bool}
 use Rattle.std.proofs.lemmas.List.{reverse-reverse}
 use mathlib.Core.List.{reverse-cons}
 use Rattle.lalrpop_norm_theory.specs.Rounds.{In, is_in, fresh_of, Round, rounds, Chain, NewIn, IsTest}
-use Rattle.lalrpop_norm_theory.proofs.BoolLemmas.{or_swap}
+use Rattle.lalrpop_norm_theory.proofs.BoolLemmas.{or_swap, or_cases, or_left, or_right}
 
 pub in_left : {A : Type 0} (x : A) (xs ys : List A) → In x xs → In x (xs ++ ys)
 in_left x [] ys h = absurd h
@@ -20,18 +20,6 @@ pub in_cases : {A : Type 0} (x : A) (xs ys : List A) → In x (xs ++ ys) → In 
 in_cases x [] ys h = inr h
 in_cases x (y ∷ xs) ys (inl e) = inl (inl e)
 in_cases x (y ∷ xs) ys (inr h) = elim (in_cases x xs ys h) [ inl i ↦ inl (inr i) | inr i ↦ inr i ]
-
-or_cases : (a b : Bool) → (a || b) ≡ true → (a ≡ true) ⊎ (b ≡ true)
-or_cases true b h = inl refl
-or_cases false b h = inr h
-
-or_left : (a b : Bool) → a ≡ true → (a || b) ≡ true
-or_left true b h = refl
-or_left false b h = absurd (cc h)
-
-or_right : (a b : Bool) → b ≡ true → (a || b) ≡ true
-or_right true b h = refl
-or_right false b h = h
 
 -- what is_in says
 pub is_in_sound : {A : Type 0} (same : A → A → Bool) → IsTest same → (x : A) (xs : List A) → is_in same x xs ≡ true → In x xs
@@ -242,3 +230,14 @@ fresh_append {A} same s (x ∷ xs) ys = elim (cases_Bool (is_in same x s)) [
 
     moved : (z : A) → is_in same z ((x ∷ s) ++ new) ≡ is_in same z (s ++ x ∷ new)
     moved z = rw (in_append same z s new, in_append same z s (x ∷ new)) (or_swap (same z x) (is_in same z s) (is_in same z new))
+
+-- what is new is one of what was met
+pub fresh_listed : {A : Type 0} (same : A → A → Bool) (seen xs : List A) (x : A) → In x (fresh_of same seen xs) → In x xs
+fresh_listed same seen [] x h = absurd h
+fresh_listed {A} same seen (y ∷ xs) x h = by (is_in same y seen) (fresh_listed same seen xs x) (fresh_listed same (y ∷ seen) xs x) h
+  where
+    by : (b : Bool) → (In x (fresh_of same seen xs) → In x xs) → (In x (fresh_of same (y ∷ seen) xs) → In x xs) →
+        In x (if b then fresh_of same seen xs else y ∷ fresh_of same (y ∷ seen) xs) → In x (y ∷ xs)
+    by true f g i = inr (f i)
+    by false f g (inl e) = inl e
+    by false f g (inr i) = inr (g i)

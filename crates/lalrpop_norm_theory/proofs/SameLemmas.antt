@@ -1,7 +1,8 @@
 -- The test of sameness is a test of equality.
-use Rattle.std.proofs.Common.{◌≡◌, ℕ, List, refl, ap, ap₂}
+use Rattle.std.proofs.Common.{◌≡◌, ℕ, List, refl, sym, ap, ap₂}
 use Rattle.std.specs.Prelude.{Bool, true, false, bytes_eq, Option, Some, None}
 use Rattle.std.proofs.lemmas.Bool.{eqb-true, eq-eqb, and_parts, and_from}
+use Rattle.std.proofs.lemmas.Bool.Decides.{same_from_decides}
 use Rattle.std.proofs.lemmas.Slice.Eq.{bytes_eq-Decides}
 use Rattle.lalrpop_norm_theory.specs.Symbols.{Terminal, quoted, regex, bare, error_terminal, ClosedPattern, ClosedPatterns, name_pattern, tuple_pattern, no_patterns, pattern_and, Wrapper, chosen, named, tuple, ClosedSymbol, ClosedSymbols, terminal, error, reference, call, group, star, plus, question, wrapped, lookahead, lookbehind, no_symbols, symbol_and}
 use Rattle.lalrpop_norm_theory.specs.Rounds.{IsTest}
@@ -26,13 +27,13 @@ terminal_same (regex a) = text_same a
 terminal_same (bare a) = text_same a
 terminal_same error_terminal = refl
 
-flag_sound : (a b : Bool) → same_flag a b ≡ true → a ≡ b
+pub flag_sound : (a b : Bool) → same_flag a b ≡ true → a ≡ b
 flag_sound true true e = refl
 flag_sound false false e = refl
 flag_sound true false e = absurd (cc e)
 flag_sound false true e = absurd (cc e)
 
-flag_same : (a : Bool) → same_flag a a ≡ true
+pub flag_same : (a : Bool) → same_flag a a ≡ true
 flag_same true = refl
 flag_same false = refl
 
@@ -122,3 +123,8 @@ mutual
 
 pub symbol_test : IsTest same_symbol
 symbol_test = record { sound = symbol_sound; complete = symbol_same }
+
+pub text_turned : (xs ys : List ℕ) → bytes_eq xs ys ≡ bytes_eq ys xs
+text_turned xs ys =
+    let other = bytes_eq-Decides ys xs in
+    same_from_decides _ _ (bytes_eq-Decides xs ys) ((λ e. sym (other.0 e)), λ e. other.1 (sym e))

@@ -18,7 +18,9 @@ use Rattle.lalrpop_norm_model.specs.LexerFaults.{place_if}
 use Rattle.lalrpop_norm_token_check.specs.Keys.{terminal_in, place_by}
 use Rattle.lalrpop_norm_token_check.specs.Found.{FoundData, lacks_entry, with_added, with_terminal, uses_faults, with_uses}
 use Rattle.lalrpop_norm_token_check.proofs.KeyLemmas.{named_more, place_more, in_inserted, kept_inserted, exact_entries}
-use Rattle.lalrpop_norm_token_check.proofs.FoundLemmas.{literals_equal, HasPlaces, placed_more}
+use Rattle.lalrpop_norm_token_check.proofs.FoundLemmas.{HasPlaces, placed_more}
+use Rattle.lalrpop_norm_theory.proofs.BoolLemmas.{or_true, and_false, right_false}
+use Rattle.lalrpop_norm_model.proofs.SameTerminalLemmas.{literals_same}
 
 -- a terminal where it stands
 abbrev pub Use : Type 0
@@ -36,10 +38,6 @@ symm_literals (Regex a) (Regex b) = nat_list_eq_equiv.symm a b
 
 -- ---- faults
 
-and_false : (b : Bool) → (b && false) ≡ false
-and_false true = refl
-and_false false = refl
-
 lacks_added : (p : ℕ) (f : FoundData) (l : TerminalLiteral) (s : Span) (t : TerminalString) →
     lacks_entry (Some p) (with_added p f l s).names t ≡ lacks_entry (Some p) f.names t
 lacks_added p f l s (Literal k) = and_false _ ∙ sym (and_false _)
@@ -55,9 +53,6 @@ lacks_same (Some p) f (Literal l) s t =
     (terminal_in f.names (Literal l)) f (with_added p f l s) (λ h. refl) (λ h. lacks_added p f l s t)
 lacks_same c f (Bare a) s t = refl
 lacks_same c f Error s t = refl
-
-lacking : Option ℕ → FoundData → Use → List Fault
-lacking c f u = fault_if (lacks_entry c f.names u.0) (NoMapping, u.1)
 
 lacking_same : (c : Option ℕ) (f : FoundData) (u : TerminalString) (s : Span) (us : List Use) →
     flat_map (λ (w : Use). fault_if (lacks_entry c (with_terminal c f u s).names w.0) (NoMapping, w.1)) us
@@ -99,7 +94,7 @@ place_added p f k l s uses new =
     let o = first_of (place_if l) uses in
     ap₂ (λ (n : Bool) (before : Option Span). or_else (cond (n || false) None o) before) (named_more f.names (Literal k) (Literal l)) (place_more l f.places k s)
     ∙ comes (same_literal l k) (terminal_in f.names (Literal l)) o s (place_by f.places l)
-    (λ same. ap (λ x. terminal_in f.names (Literal x)) (literals_equal l k same) ∙ new)
+    (λ same. ap (λ x. terminal_in f.names (Literal x)) (literals_same l k same) ∙ new)
     ∙ ap (λ b. or_else (cond (terminal_in f.names (Literal l) || false) None (or_else (cond b (Some s) None) o)) (place_by f.places l)) (symm_literals l k)
 
 place_known : (p : ℕ) (f : FoundData) (k l : TerminalLiteral) (s : Span) (uses : List Use) → terminal_in f.names (Literal k) ≡ true →
@@ -107,11 +102,7 @@ place_known : (p : ℕ) (f : FoundData) (k l : TerminalLiteral) (s : Span) (uses
     ≡ or_else (added_in (Some p) f.names l ((Literal k, s) ∷ uses)) (place_by f.places l)
 place_known p f k l s uses known =
     stays (same_literal k l) (terminal_in f.names (Literal l)) (first_of (place_if l) uses) s (place_by f.places l)
-    (λ same. ap (λ x. terminal_in f.names (Literal x)) (sym (literals_equal k l same)) ∙ known)
-
-or_true : (n : Bool) → (n || true) ≡ true
-or_true true = refl
-or_true false = refl
+    (λ same. ap (λ x. terminal_in f.names (Literal x)) (sym (literals_same k l same)) ∙ known)
 
 none_added : (names : List TerminalString) (l : TerminalLiteral) (us : List Use) → added_in None names l us ≡ None
 none_added names l us = ap (λ b. cond b None (first_of (place_if l) us)) (or_true (terminal_in names (Literal l)))
@@ -155,10 +146,6 @@ pub record IsAdded (c : Option ℕ) (names : List TerminalString) (uses : List U
   pub used : In (Literal literal) (map (λ (u : Use). u.0) uses)
   pub not_named : terminal_in names (Literal literal) ≡ false
 
-not_either : (a b : Bool) → (a || b) ≡ false → b ≡ false
-not_either true b h = cc
-not_either false b h = h
-
 later_use : (c : Option ℕ) (names : List TerminalString) (u : Use) (uses : List Use) (e : MatchEntry) → IsAdded c names uses e → IsAdded c names (u ∷ uses) e
 later_use c names u uses e h = record { literal = h.literal; precedence = h.precedence; is = h.is; let_in = h.let_in; used = inr h.used; not_named = h.not_named }
 
@@ -170,7 +157,7 @@ module _ (p : ℕ) (f : FoundData) (k : TerminalLiteral) (s : Span) (uses : List
     is = h.is;
     let_in = h.let_in;
     used = inr h.used;
-    not_named = not_either (same_literal h.literal k) _ (sym (named_more f.names (Literal k) (Literal h.literal)) ∙ h.not_named);
+    not_named = right_false (same_literal h.literal k) _ (sym (named_more f.names (Literal k) (Literal h.literal)) ∙ h.not_named);
   }
 
   here_added : (e ≡ entry_in p k (own_mapping k)) ⊎ In e f.entries → IsAdded (Some p) f.names ((Literal k, s) ∷ uses) e ⊎ In e f.entries
@@ -188,7 +175,7 @@ module _ (p : ℕ) (f : FoundData) (k : TerminalLiteral) (s : Span) (uses : List
   -- the literal added is that one, or another
   other_added : (h : IsAdded (Some p) f.names ((Literal k, s) ∷ uses) e) (b : Bool) → same_literal h.literal k ≡ b → In (Literal h.literal) (map (λ (u : Use). u.0) uses) →
       IsAdded (Some p) (with_added p f k s).names uses e ⊎ In e (with_added p f k s).entries
-  other_added h true same i = inr (is_put h (literals_equal h.literal k same))
+  other_added h true same i = inr (is_put h (literals_same h.literal k same))
     where
       is_put : (h : IsAdded (Some p) f.names ((Literal k, s) ∷ uses) e) → h.literal ≡ k → In e (with_added p f k s).entries
       is_put h same =

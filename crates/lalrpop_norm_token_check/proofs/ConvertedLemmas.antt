@@ -12,7 +12,7 @@ use Rattle.lalrpop_norm_model.specs.TokenFaults.{each_after, repeated_conversion
 use Rattle.lalrpop_norm_token_check.specs.Converted.{twice_from}
 use Rattle.lalrpop_norm_token_check.specs.Keys.{with_keys, terminal_in}
 use Rattle.lalrpop_norm_token_check.proofs.KeyLemmas.{named_more, named_all}
-use Rattle.lalrpop_norm_token_check.proofs.FoundLemmas.{or_nothing}
+use Rattle.lalrpop_norm_theory.proofs.BoolLemmas.{or_nothing}
 
 -- the keys are the terminals of the conversions before
 abbrev Keeps : List TerminalString → List ConversionData → Type 0

@@ -2,16 +2,7 @@
 use Rattle.std.proofs.Common.{◌≡◌, Result, Ok, Err, MatchResult, List, sym, subst}
 use Rattle.std.specs.Result.{IsErrAnd}
 use Rattle.lalrpop_norm_faults.specs.declared.failure.NormFailure.{NormFailure}
-use Rattle.lalrpop_norm_faults.specs.Faults.{Fault, IsFirst, RefusesOr, Finding, IsTold, RefusesAmong, RefusesAmongOr}
-
-pub exit_or : {T : Type 0} (r : Result T NormFailure) (e : NormFailure) (fs : List Fault) (P : T → Type 0) → IsErrAnd r (λ x. x ≡ e) → IsFirst fs e → RefusesOr r fs P
-exit_or (Ok x) e fs P from h = absurd from
-exit_or (Err x) e fs P from h = rw from h
-
-pub exit_among : {P T : Type 0} (At : P → Fault → Type 0) (r : Result T NormFailure) (e : NormFailure) (fs : List (Finding P)) →
-    IsErrAnd r (λ x. x ≡ e) → IsTold At fs e → RefusesAmong At r fs
-exit_among At (Ok x) e fs from h = absurd from
-exit_among At (Err x) e fs from h = rw from h
+use Rattle.lalrpop_norm_faults.specs.Faults.{Fault, Finding, IsTold, RefusesAmongOr}
 
 pub exit_among_or : {P T : Type 0} (At : P → Fault → Type 0) (r : Result T NormFailure) (e : NormFailure) (fs : List (Finding P)) (Q : T → Type 0) →
     IsErrAnd r (λ x. x ≡ e) → IsTold At fs e → RefusesAmongOr At r fs Q

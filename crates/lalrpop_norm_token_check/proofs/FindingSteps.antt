@@ -1,16 +1,15 @@
 -- What the steps of the pass tell, by what the whole pass looks for.
-use Rattle.std.proofs.Common.{◌≡◌, List, [], ◌∷◌, ◌++◌, map, Option, Some, None, inl, inr, refl, sym, ap, subst, ◌∙◌}
+use Rattle.std.proofs.Common.{◌≡◌, List, [], ◌∷◌, ◌++◌, map, Some, None, inl, inr, refl, sym, ap, subst, ◌∙◌}
 use Rattle.lalrpop_norm_faults.specs.declared.failure.NormFailure.{NormFailure}
 use Rattle.lalrpop_norm_faults.specs.declared.failure.NormFailure.TheVariants.{Refused, Memory}
 use Rattle.lalrpop_norm_faults.specs.Faults.{Fault, IsFirst, sure, maybe, sure_ones, IsTold}
 use Rattle.lalrpop_norm_faults.proofs.FindingLemmas.{sure_all, sure_append, first_told, told_left, told_right}
-use Rattle.lalrpop_norm_tree.specs.Items.{EnumTokenData, InternTokenData, GrammarData}
+use Rattle.lalrpop_norm_tree.specs.Items.{EnumTokenData, GrammarData}
 use Rattle.lalrpop_norm_model.specs.Lexers.{Lexer}
-use Rattle.lalrpop_norm_model.specs.CheckedTokens.{with_tokens, IsChecked, IsCheckedWith}
 use Rattle.lalrpop_norm_model.specs.TerminalTypes.{extern_enum}
 use Rattle.lalrpop_norm_model.specs.TokenFaults.{checked_enum_faults, entry_faults, input_faults, places_used}
 use Rattle.lalrpop_norm_model.specs.LexerFaults.{LexerPlace, at_lexer, StandsAtLexer, token_findings, token_findings_with}
-use Rattle.lalrpop_norm_token_check.specs.Checked.{IsLexerRefusal, AreTokensOf, GetsTokens}
+use Rattle.lalrpop_norm_token_check.specs.Checked.{IsLexerRefusal, GetsTokens}
 use Rattle.lalrpop_norm_token_check.specs.Converted.{converted_faults}
 use Rattle.lalrpop_norm_token_check.proofs.AddedLemmas.{Use}
 
@@ -67,22 +66,3 @@ module _ {R : Type 0} (l : Lexer R) (g : GrammarData) (e : EnumTokenData) (uses 
 
 -- ---- the grammar with its tokens
 
-checked_with : {R : Type 0} (l : Lexer R) (g : GrammarData) (e : Option EnumTokenData) (t : InternTokenData) →
-    GetsTokens e l g (Some t) → IsCheckedWith e l g (with_tokens t g)
-checked_with l g (Some e) t h = absurd (cc h)
-checked_with l g None t h =
-    let same : h.0 ≡ t = cc (h.1) in
-    let these : AreTokensOf l g t = subst (AreTokensOf l g) same h.2 in
-    (t, (record { entries = these.entries; grammar = refl }), these.automaton)
-
--- the grammar with the tokens that it gets
-pub checked : {R : Type 0} (l : Lexer R) (g h : GrammarData) (t : InternTokenData) → GetsTokens (extern_enum g) l g (Some t) → h ≡ with_tokens t g → IsChecked l g h
-checked l g h t gets is = subst (IsChecked l g) (sym is) (checked_with l g (extern_enum g) t gets)
-
-unchanged_with : {R : Type 0} (l : Lexer R) (g : GrammarData) (e : Option EnumTokenData) → GetsTokens e l g None → IsCheckedWith e l g g
-unchanged_with l g (Some e) h = refl
-unchanged_with l g None h = absurd (cc (h.1))
-
--- a grammar that gets none stays as it is
-pub unchanged : {R : Type 0} (l : Lexer R) (g : GrammarData) → GetsTokens (extern_enum g) l g None → IsChecked l g g
-unchanged l g h = unchanged_with l g (extern_enum g) h

@@ -2,10 +2,8 @@
 use Rattle.std.proofs.Common.{◌≡◌, ◌⊎◌, ℕ, Bool, true, false, ◌||◌, cond, List, [], ◌∷◌, ◌++◌, Option, Some, None, is_some, inl, inr, refl, sym, ap, ap₂, ◌∙◌, append_assoc}
 use Rattle.std.specs.List.{list_any, flat_map}
 use Rattle.std.specs.BTreeMap.{insert_entry}
-use Rattle.std.proofs.lemmas.Slice.Eq.{bytes_eq-Decides}
 use Rattle.lalrpop_norm_parts.specs.declared.names.Span.{Span}
 use Rattle.lalrpop_norm_parts.specs.declared.names.TerminalLiteral.{TerminalLiteral}
-use Rattle.lalrpop_norm_parts.specs.declared.names.TerminalLiteral.TheVariants.{Quoted, Regex}
 use Rattle.lalrpop_norm_parts.specs.declared.names.TerminalString.{TerminalString}
 use Rattle.lalrpop_norm_parts.specs.declared.names.TerminalString.TheVariants.{Literal}
 use Rattle.lalrpop_norm_tree.specs.declared.items.MatchEntry.{MatchEntry}
@@ -24,65 +22,18 @@ use Rattle.lalrpop_norm_model.specs.LexerFaults.{item_place_if}
 use Rattle.lalrpop_norm_token_check.specs.Keys.{terminal_in, place_by}
 use Rattle.lalrpop_norm_token_check.specs.Found.{FoundData, none_found, found_item_faults, with_item, found_items_faults, with_items, groups_faults, with_groups, block_faults, with_block}
 use Rattle.lalrpop_norm_token_check.proofs.KeyLemmas.{named_all, place_more, in_inserted, kept_inserted, exact_entries}
+use Rattle.lalrpop_norm_theory.proofs.BoolLemmas.{or_assoc, or_moved, or_nothing}
+use Rattle.lalrpop_norm_theory.proofs.ListLemmas.{flat_append}
+use Rattle.lalrpop_norm_theory.proofs.RoundsLemmas.{in_left, in_right, in_cases}
+use Rattle.lalrpop_norm_faults.proofs.FaultLemmas.{left_none, right_none, none_ahead}
+use Rattle.lalrpop_norm_tree.proofs.FirstLemmas.{or_else_assoc, first_of-append}
+use Rattle.lalrpop_norm_model.proofs.SameTerminalLemmas.{literals_same, literal_itself}
 
 -- ---- lists
 
-pub or_nothing : (b : Bool) → (b || false) ≡ b
-or_nothing true = refl
-or_nothing false = refl
-
-or_joined : (a b c : Bool) → (a || (b || c)) ≡ ((a || b) || c)
-or_joined true b c = refl
-or_joined false b c = refl
-
-or_turned : (a b c : Bool) → (b || (a || c)) ≡ ((a || b) || c)
-or_turned true true c = refl
-or_turned true false c = refl
-or_turned false b c = refl
-
 pub any_append : {A : Type 0} (p : A → Bool) (xs ys : List A) → list_any p (xs ++ ys) ≡ (list_any p xs || list_any p ys)
 any_append p [] ys = refl
-any_append p (x ∷ xs) ys = ap (λ b. p x || b) (any_append p xs ys) ∙ or_joined (p x) (list_any p xs) (list_any p ys)
-
-flat_append : {A B : Type 0} (f : A → List B) (xs ys : List A) → flat_map f (xs ++ ys) ≡ flat_map f xs ++ flat_map f ys
-flat_append f [] ys = refl
-flat_append f (x ∷ xs) ys = ap (λ zs. f x ++ zs) (flat_append f xs ys) ∙ sym (append_assoc (f x) (flat_map f xs) (flat_map f ys))
-
-pub in_append : {A : Type 0} (x : A) (xs ys : List A) → In x (xs ++ ys) → In x xs ⊎ In x ys
-in_append x [] ys i = inr i
-in_append x (y ∷ xs) ys (inl e) = inl (inl e)
-in_append x (y ∷ xs) ys (inr i) = further (in_append x xs ys i)
-  where
-    further : In x xs ⊎ In x ys → In x (y ∷ xs) ⊎ In x ys
-    further (inl j) = inl (inr j)
-    further (inr j) = inr j
-
-pub in_left : {A : Type 0} (x : A) (xs ys : List A) → In x xs → In x (xs ++ ys)
-in_left x [] ys i = absurd i
-in_left x (y ∷ xs) ys (inl e) = inl e
-in_left x (y ∷ xs) ys (inr i) = inr (in_left x xs ys i)
-
-pub in_right : {A : Type 0} (x : A) (xs ys : List A) → In x ys → In x (xs ++ ys)
-in_right x [] ys i = i
-in_right x (y ∷ xs) ys i = inr (in_right x xs ys i)
-
-pub or_else_joined : {A : Type 0} (a b c : Option A) → or_else (or_else a b) c ≡ or_else a (or_else b c)
-or_else_joined (Some x) b c = refl
-or_else_joined None b c = refl
-
-first_append : {A B : Type 0} (f : A → Option B) (xs ys : List A) → first_of f (xs ++ ys) ≡ or_else (first_of f xs) (first_of f ys)
-first_append f [] ys = refl
-first_append f (x ∷ xs) ys = ap (λ o. or_else (f x) o) (first_append f xs ys) ∙ sym (or_else_joined (f x) (first_of f xs) (first_of f ys))
-
-pub literals_equal : (a b : TerminalLiteral) → same_literal a b ≡ true → a ≡ b
-literals_equal (Quoted a) (Quoted b) h = ap Quoted ((bytes_eq-Decides a b).0 h)
-literals_equal (Regex a) (Regex b) h = ap Regex ((bytes_eq-Decides a b).0 h)
-literals_equal (Quoted a) (Regex b) h = cc
-literals_equal (Regex a) (Quoted b) h = cc
-
-pub literal_same : (a : TerminalLiteral) → same_literal a a ≡ true
-literal_same (Quoted a) = (bytes_eq-Decides a a).1 refl
-literal_same (Regex a) = (bytes_eq-Decides a a).1 refl
+any_append p (x ∷ xs) ys = ap (λ b. p x || b) (any_append p xs ys) ∙ or_assoc (p x) (list_any p xs) (list_any p ys)
 
 -- ---- what an item adds
 
@@ -187,7 +138,7 @@ names_items p f (i ∷ items) t =
     let rest = list_any (same_terminal t) (user_names (flat_map (item_entries p) items)) in
     names_items p (with_item p f i) items t
     ∙ ap (λ b. rest || b) (names_item p f i t ∙ ap (λ b. b || terminal_in f.names t) (sym (names_step p i t)))
-    ∙ or_turned (list_any (same_terminal t) (user_names (item_entries p i))) rest (terminal_in f.names t)
+    ∙ or_moved (list_any (same_terminal t) (user_names (item_entries p i))) rest (terminal_in f.names t)
     ∙ ap (λ b. b || terminal_in f.names t) (sym (any_names t (item_entries p i) (flat_map (item_entries p) items)))
 
 names_groups : (f : FoundData) (groups : List (List MatchItem)) (t : TerminalString) →
@@ -198,7 +149,7 @@ names_groups f (items ∷ groups) t =
     let rest = list_any (same_terminal t) (user_names (group_entries groups)) in
     names_groups (with_items p f items) groups t
     ∙ ap (λ b. rest || b) (names_items p f items t)
-    ∙ or_turned (list_any (same_terminal t) (user_names (flat_map (item_entries p) items))) rest (terminal_in f.names t)
+    ∙ or_moved (list_any (same_terminal t) (user_names (flat_map (item_entries p) items))) rest (terminal_in f.names t)
     ∙ ap (λ b. b || terminal_in f.names t) (sym (any_names t (flat_map (item_entries p) items) (group_entries groups)))
 
 -- what is named is what the entries of the match block name
@@ -248,7 +199,7 @@ within_more es xs ys zs fs f g e i = second (f e i)
 
 has_more : (es xs ys zs fs : List MatchEntry) → Has es ys zs → Has zs xs fs → Has es (xs ++ ys) fs
 has_more es xs ys zs fs f g e (inr i) = f e (inr (g e (inr i)))
-has_more es xs ys zs fs f g e (inl i) = second (in_append e xs ys i)
+has_more es xs ys zs fs f g e (inl i) = second (in_cases e xs ys i)
   where
     second : In e xs ⊎ In e ys → In e es
     second (inl j) = f e (inr (g e (inl j)))
@@ -293,10 +244,6 @@ block_has_entries (Some m) e i = groups_have none_found m.contents e (inl i)
 
 -- ---- places
 
-unrefused : (b : Bool) (x : Fault) (rest : List Fault) → fault_if b x ++ rest ≡ [] → b ≡ false
-unrefused true x rest h = cc
-unrefused false x rest h = refl
-
 put_first : (b : Bool) (s : Span) (o : Option Span) → (b ≡ true → is_some o ≡ false) → cond b (Some s) o ≡ or_else o (cond (b || false) (Some s) None)
 put_first true s None h = refl
 put_first true s (Some x) h = let no : true ≡ false = h refl in cc
@@ -307,7 +254,7 @@ place_mapped : (f : FoundData) (k l : TerminalLiteral) (s : Span) → is_some (p
     place_by (insert_entry literal_cmp f.places k s) l ≡ or_else (place_by f.places l) (cond (same_literal l k || false) (Some s) None)
 place_mapped f k l s new =
     place_more l f.places k s
-    ∙ put_first (same_literal l k) s (place_by f.places l) (λ same. ap (λ x. is_some (place_by f.places x)) (literals_equal l k same) ∙ new)
+    ∙ put_first (same_literal l k) s (place_by f.places l) (λ same. ap (λ x. is_some (place_by f.places x)) (literals_same l k same) ∙ new)
 
 or_none : {A : Type 0} (o : Option A) → o ≡ or_else o None
 or_none None = refl
@@ -315,25 +262,17 @@ or_none (Some x) = refl
 
 place_item : (p : ℕ) (f : FoundData) (i : MatchItem) (l : TerminalLiteral) → found_item_faults f i ≡ [] →
     place_by (with_item p f i).places l ≡ or_else (place_by f.places l) (item_place_if l i)
-place_item p f (Mapped k m s) l h = place_mapped f k l s (unrefused _ _ _ h)
-place_item p f (Unmapped k s) l h = place_mapped f k l s (unrefused _ _ _ h)
+place_item p f (Mapped k m s) l h = place_mapped f k l s (none_ahead _ _ _ h)
+place_item p f (Unmapped k s) l h = place_mapped f k l s (none_ahead _ _ _ h)
 place_item p f (CatchAll s) l h = or_none _
-
-left_nil : (xs ys : List Fault) → xs ++ ys ≡ [] → xs ≡ []
-left_nil [] ys h = refl
-left_nil (x ∷ xs) ys h = cc
-
-right_nil : (xs ys : List Fault) → xs ++ ys ≡ [] → ys ≡ []
-right_nil [] ys h = h
-right_nil (x ∷ xs) ys h = cc
 
 place_items : (p : ℕ) (f : FoundData) (items : List MatchItem) (l : TerminalLiteral) → found_items_faults p f items ≡ [] →
     place_by (with_items p f items).places l ≡ or_else (place_by f.places l) (first_of (item_place_if l) items)
 place_items p f [] l h = or_none _
 place_items p f (i ∷ items) l h =
-    place_items p (with_item p f i) items l (right_nil (found_item_faults f i) _ h)
-    ∙ ap (λ o. or_else o (first_of (item_place_if l) items)) (place_item p f i l (left_nil _ _ h))
-    ∙ or_else_joined (place_by f.places l) (item_place_if l i) (first_of (item_place_if l) items)
+    place_items p (with_item p f i) items l (right_none (found_item_faults f i) _ h)
+    ∙ ap (λ o. or_else o (first_of (item_place_if l) items)) (place_item p f i l (left_none _ _ h))
+    ∙ or_else_assoc (place_by f.places l) (item_place_if l i) (first_of (item_place_if l) items)
 
 place_groups : (f : FoundData) (groups : List (List MatchItem)) (l : TerminalLiteral) → groups_faults f groups ≡ [] →
     place_by (with_groups f groups).places l ≡ or_else (place_by f.places l) (first_of (item_place_if l) (flat_map (λ items. items) groups))
@@ -341,10 +280,10 @@ place_groups f [] l h = or_none _
 place_groups f (items ∷ groups) l h =
     let p = precedence_of (items ∷ groups) in
     let rest = first_of (item_place_if l) (flat_map (λ is. is) groups) in
-    place_groups (with_items p f items) groups l (right_nil (found_items_faults p f items) _ h)
-    ∙ ap (λ o. or_else o rest) (place_items p f items l (left_nil _ _ h))
-    ∙ or_else_joined (place_by f.places l) (first_of (item_place_if l) items) rest
-    ∙ ap (λ o. or_else (place_by f.places l) o) (sym (first_append (item_place_if l) items (flat_map (λ is. is) groups)))
+    place_groups (with_items p f items) groups l (right_none (found_items_faults p f items) _ h)
+    ∙ ap (λ o. or_else o rest) (place_items p f items l (left_none _ _ h))
+    ∙ or_else_assoc (place_by f.places l) (first_of (item_place_if l) items) rest
+    ∙ ap (λ o. or_else (place_by f.places l) o) (sym (first_of-append (item_place_if l) items (flat_map (λ is. is) groups)))
 
 -- where nothing is wrong with the match block, its literals stand at their items
 pub block_places : (b : Option MatchTokenData) (l : TerminalLiteral) → block_faults b ≡ [] →
@@ -368,7 +307,7 @@ pub placed_more : (f : FoundData) (d e : MatchEntry) (s : Span) → HasPlaces f 
 placed_more f d e s h i = ap is_some (place_more e.match_literal f.places d.match_literal s) ∙ still_some _ s _ (cases i)
   where
     cases : (e ≡ d) ⊎ In e f.entries → (same_literal e.match_literal d.match_literal ≡ true) ⊎ (is_some (place_by f.places e.match_literal) ≡ true)
-    cases (inl is) = inl (ap (λ (x : MatchEntry). same_literal x.match_literal d.match_literal) is ∙ literal_same d.match_literal)
+    cases (inl is) = inl (ap (λ (x : MatchEntry). same_literal x.match_literal d.match_literal) is ∙ literal_itself d.match_literal)
     cases (inr j) = inr (h e j)
 
 item_placed : (p : ℕ) (f : FoundData) (i : MatchItem) → HasPlaces f → HasPlaces (with_item p f i)

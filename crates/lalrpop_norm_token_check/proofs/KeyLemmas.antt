@@ -1,8 +1,8 @@
 -- What is among the keys of a set, and among the rows of a map, once one more is put in.
-use Rattle.std.proofs.Common.{◌≡◌, ◌⊎◌, ℕ, Bool, true, false, ◌||◌, cond, List, [], ◌∷◌, Some, inl, inr, refl, sym, ap, ◌∙◌}
+use Rattle.std.proofs.Common.{◌≡◌, ◌⊎◌, ℕ, Bool, true, ◌||◌, cond, List, [], ◌∷◌, Some, inl, inr, refl, sym, ap, ◌∙◌}
 use Rattle.std.specs.declared.cmp.Ordering.{Ordering}
 use Rattle.std.specs.declared.cmp.Ordering.TheVariants.{Less, Equal, Greater}
-use Rattle.std.specs.Ordering.{is_eq, match_ordering, ordering_then}
+use Rattle.std.specs.Ordering.{is_eq, match_ordering}
 use Rattle.std.specs.Cmp.Lexicographic.{nat_list_cmp_total}
 use Rattle.std.specs.List.{list_any}
 use Rattle.std.specs.BTreeMap.{is_at, insert_entry}
@@ -22,17 +22,10 @@ use Rattle.lalrpop_norm_theory.specs.Rounds.{In}
 use Rattle.lalrpop_norm_model.specs.Terminals.{same_literal, same_terminal, literal_cmp, terminal_cmp}
 use Rattle.lalrpop_norm_model.specs.Entries.{mapping_cmp, entry_cmp}
 use Rattle.lalrpop_norm_token_check.specs.Keys.{with_keys, terminal_in, place_by}
+use Rattle.lalrpop_norm_theory.proofs.BoolLemmas.{shadowed, swapped, or_moved, or_swap, or_twice}
+use Rattle.lalrpop_norm_model.proofs.EntryOrder.{both_equal}
 
 -- ---- keys of any order that ties only what is equal
-
-or_twice : (a b : Bool) → (a || b) ≡ (a || (a || b))
-or_twice true b = refl
-or_twice false b = refl
-
-or_swap : (a b c : Bool) → (a || (b || c)) ≡ (b || (a || c))
-or_swap true true c = refl
-or_swap true false c = refl
-or_swap false b c = refl
 
 module _ {K : Type 0} (cmp : K → K → Ordering) (exact : CmpEqualImpliesEq cmp) where
   any_at : (p : K → Bool) (x : K) (xs : List K) (k : K) (o : Ordering) → cmp k x ≡ o → list_any p (insert_key cmp xs k) ≡ (p k || list_any p xs) →
@@ -113,17 +106,12 @@ exact_terminals Error Error e = refl
 pub named_more : (keys : List TerminalString) (k t : TerminalString) → terminal_in (insert_key terminal_cmp keys k) t ≡ (same_terminal t k || terminal_in keys t)
 named_more keys k t = any_insert terminal_cmp exact_terminals (is_at (terminal_cmp t)) keys k ∙ ap (λ b. b || terminal_in keys t) (agree_terminals t k)
 
-or_assoc : (a b c : Bool) → (b || (a || c)) ≡ ((a || b) || c)
-or_assoc true true c = refl
-or_assoc true false c = refl
-or_assoc false b c = refl
-
 pub named_all : (keys ks : List TerminalString) (t : TerminalString) → terminal_in (with_keys terminal_cmp keys ks) t ≡ (list_any (same_terminal t) ks || terminal_in keys t)
 named_all keys [] t = refl
 named_all keys (k ∷ ks) t =
     named_all (insert_key terminal_cmp keys k) ks t
     ∙ ap (λ b. list_any (same_terminal t) ks || b) (named_more keys k t)
-    ∙ or_assoc (same_terminal t k) (list_any (same_terminal t) ks) (terminal_in keys t)
+    ∙ or_moved (same_terminal t k) (list_any (same_terminal t) ks) (terminal_in keys t)
 
 -- ---- entries
 
@@ -133,15 +121,10 @@ exact_mappings (Terminal t) Skip e = cc
 exact_mappings Skip (Terminal u) e = cc
 exact_mappings Skip Skip e = refl
 
-then_equal : (a b : Ordering) → ordering_then a b ≡ Equal → (a ≡ Equal) × (b ≡ Equal)
-then_equal Less b e = absurd (cc e)
-then_equal Equal b e = (refl, e)
-then_equal Greater b e = absurd (cc e)
-
 pub exact_entries : CmpEqualImpliesEq entry_cmp
 exact_entries d e h =
-    let first = then_equal _ _ h in
-    let second = then_equal _ _ first.1 in
+    let first = both_equal _ _ h in
+    let second = both_equal _ _ first.1 in
     let p : d.precedence ≡ e.precedence = exact_unsigned _ _ first.0 in
     let l : d.match_literal ≡ e.match_literal = exact_literals _ _ second.0 in
     let m : d.user_name ≡ e.user_name = exact_mappings _ _ second.1 in
@@ -159,15 +142,6 @@ exact_entries d e h =
 literal_itself : (l : TerminalLiteral) → literal_cmp l l ≡ Equal
 literal_itself (Quoted a) = tied_itself nat_list_cmp_total a
 literal_itself (Regex a) = tied_itself nat_list_cmp_total a
-
-shadowed : {A : Type 0} (b : Bool) (x y z : A) → cond b x z ≡ cond b x (cond b y z)
-shadowed true x y z = refl
-shadowed false x y z = refl
-
-swapped : {A : Type 0} (a b : Bool) (x y z : A) → (a ≡ true → b ≡ true → ⊥) → cond a x (cond b y z) ≡ cond b y (cond a x z)
-swapped true true x y z apart = absurd (apart refl refl)
-swapped true false x y z apart = refl
-swapped false b x y z apart = refl
 
 tied : (o : Ordering) → is_eq o ≡ true → o ≡ Equal
 tied Less e = cc

@@ -7,6 +7,5 @@ pub mod KeyLemmas
 pub mod LoopLemmas
 pub mod OrderLemmas
 pub mod RefusalLemmas
-pub mod TypeViews
 pub mod UseLemmas
 pub mod WholeLemmas

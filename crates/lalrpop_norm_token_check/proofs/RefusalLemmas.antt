@@ -1,5 +1,5 @@
 -- A reason not to build stands at the literal of its entry.
-use Rattle.std.proofs.Common.{◌≡◌, ℕ, zero, suc, ◌<◌, List, [], ◌∷◌, length, Some, refl, sym, ◌∙◌, subst, arith, slice_get}
+use Rattle.std.proofs.Common.{◌≡◌, ℕ, ◌<◌, List, [], ◌∷◌, length, Some, sym, ◌∙◌, subst, arith, slice_get}
 use Rattle.std.proofs.lemmas.Option.{slice_get_within}
 use Rattle.std.proofs.lemmas.Slice.Zip.{AllZip-long}
 use Rattle.lalrpop_norm_parts.specs.declared.names.Span.{Span}
@@ -16,16 +16,12 @@ use Rattle.lalrpop_norm_model.specs.CheckedTokens.{AreRegexes, precedences}
 use Rattle.lalrpop_norm_model.specs.LexerFaults.{literal_at, StandsAt, IsFirstBad, LexerRefuses, by_text, by_feature, by_ambiguity}
 use Rattle.lalrpop_norm_token_check.specs.Keys.{place_by}
 use Rattle.lalrpop_norm_token_check.specs.Checked.{ArePlacesOf, IsLexerRefusal}
+use Rattle.lalrpop_norm_theory.proofs.ListLemmas.{get_some}
 
 -- the refusal of a fault that the lexer may tell is such a refusal
 pub told : {R : Type 0} (l : Lexer R) (g : GrammarData) (f : Fault) (r : NormFailure) → IsFirst (f ∷ []) r → LexerRefuses l g f → IsLexerRefusal l g r
 told l g f (Refused e) h this = let same : f ≡ (e.fault, e.span) = cc in subst (LexerRefuses l g) same this
 told l g f Memory h this = tt
-
-entry_at : {A : Type 0} (xs : List A) (i : ℕ) → i < length xs → (x : A) × (slice_get xs i ≡ Some x)
-entry_at [] i h = absurd (omega (arith, h))
-entry_at (x ∷ xs) zero h = (x, refl)
-entry_at (x ∷ xs) (suc i) h = entry_at xs i (omega (arith, h))
 
 module _ {R : Type 0} (l : Lexer R) (entries : List MatchEntry) where
   regexes_long : (rs : List R) → AreRegexes l entries rs → length rs ≡ length entries
@@ -47,7 +43,7 @@ module _ (g : GrammarData) (entries : List MatchEntry) (places : List (TerminalL
   stands e h = sym (rows e.match_literal) ∙ there e h
 
   stands_at : i < length entries → StandsAt g entries i s
-  stands_at h = let e = entry_at entries i h in record { entry = e.0; at_index = e.1; place = stands e.0 e.1 }
+  stands_at h = let e = get_some entries i h in record { entry = e.0; at_index = e.1; place = stands e.0 e.1 }
 
   module _ {R : Type 0} (l : Lexer R) where
     pub bad_refused : IsFirstBad l entries i → LexerRefuses l g (BadRegex, s)

@@ -2,7 +2,6 @@
 use Rattle.std.proofs.Common.{◌≡◌, ◌⊎◌, Bool, true, false, ◌||◌, ◌&&◌, cond, not, List, [], ◌∷◌, ◌++◌, map, Option, None, is_none, inl, inr, refl, sym, ap, ap₂, subst, ◌∙◌}
 use Rattle.std.specs.List.{list_any, flat_map}
 use Rattle.std.proofs.lemmas.List.{map-append}
-use Rattle.std.proofs.lemmas.Slice.Eq.{bytes_eq-Decides}
 use Rattle.lalrpop_norm_parts.specs.declared.names.Span.{Span}
 use Rattle.lalrpop_norm_parts.specs.declared.names.TerminalLiteral.{TerminalLiteral}
 use Rattle.lalrpop_norm_parts.specs.declared.names.TerminalString.{TerminalString}
@@ -24,25 +23,19 @@ use Rattle.lalrpop_norm_model.specs.LexerFaults.{place_if}
 use Rattle.lalrpop_norm_token_check.specs.Uses.{places_in_alternatives, places_in_item}
 use Rattle.lalrpop_norm_token_check.specs.Found.{FoundData, IsOrdered, lacks_entry, with_block, found_faults, all_found}
 use Rattle.lalrpop_norm_token_check.specs.Checked.{ArePlaced, ArePlacesOf, HasFound}
-use Rattle.lalrpop_norm_token_check.proofs.FoundLemmas.{literals_equal, literal_same, block_same, block_names, block_entries_are, block_has_entries, block_places, block_placed}
+use Rattle.lalrpop_norm_token_check.proofs.FoundLemmas.{block_same, block_names, block_entries_are, block_has_entries, block_places, block_placed}
 use Rattle.lalrpop_norm_token_check.proofs.AddedLemmas.{Use, IsAdded, uses_same, uses_places, uses_entries_are, uses_have_entries, uses_placed}
+use Rattle.lalrpop_norm_theory.proofs.ListLemmas.{flat_append, flat_same}
+use Rattle.lalrpop_norm_model.proofs.SameTerminalLemmas.{literal_itself, terminals_same}
 
 -- ---- the terminals used
-
-flat_joined : {A B : Type 0} (f : A → List B) (xs ys : List A) → flat_map f (xs ++ ys) ≡ flat_map f xs ++ flat_map f ys
-flat_joined f [] ys = refl
-flat_joined f (x ∷ xs) ys = ap (λ zs. f x ++ zs) (flat_joined f xs ys) ∙ sym (joined (f x) (flat_map f xs) (flat_map f ys))
-  where
-    joined : {B : Type 0} (zs bs cs : List B) → (zs ++ bs) ++ cs ≡ zs ++ (bs ++ cs)
-    joined [] bs cs = refl
-    joined (z ∷ zs) bs cs = ap (λ ds. z ∷ ds) (joined zs bs cs)
 
 uses_in : (items : List ItemData) →
     flat_map places_in_item items ≡ flat_map (λ (r : RuleData). places_in_alternatives r.alternatives) (flat_map rule_of_item items)
 uses_in [] = refl
 uses_in (i ∷ items) =
     ap (λ us. places_in_item i ++ us) (uses_in items)
-    ∙ sym (flat_joined (λ (r : RuleData). places_in_alternatives r.alternatives) (rule_of_item i) (flat_map rule_of_item items))
+    ∙ sym (flat_append (λ (r : RuleData). places_in_alternatives r.alternatives) (rule_of_item i) (flat_map rule_of_item items))
 
 -- the terminals of the items are those that the grammar uses
 pub uses_are : (g : GrammarData) → flat_map places_in_item g.items ≡ places_used g
@@ -97,33 +90,18 @@ lacks_is g (Literal l) =
 lacks_is g (Bare a) = ap not (block_names (match_block g) (Bare a))
 lacks_is g Error = refl
 
-flat_alike : {A B : Type 0} (f h : A → List B) → ((x : A) → f x ≡ h x) → (xs : List A) → flat_map f xs ≡ flat_map h xs
-flat_alike f h e [] = refl
-flat_alike f h e (x ∷ xs) = ap₂ (λ ys zs. ys ++ zs) (e x) (flat_alike f h e xs)
-
 -- the faults of what is found are those of entries
 pub found_faults_are : (g : GrammarData) → found_faults (match_block g) (places_used g) ≡ entry_faults g
 found_faults_are g =
     ap₂ (λ (xs ys : List Fault). xs ++ ys) (block_same (match_block g))
     (uses_same (catch_all g) (with_block (match_block g)) (places_used g)
-    ∙ flat_alike _ _ (λ (u : Use). ap (λ b. fault_if b (NoMapping, u.1)) (lacks_is g u.0)) (places_used g))
+    ∙ flat_same _ _ (λ (u : Use). ap (λ b. fault_if b (NoMapping, u.1)) (lacks_is g u.0)) (places_used g))
 
 -- ---- entries
 
-terminals_equal : (t u : TerminalString) → same_terminal t u ≡ true → t ≡ u
-terminals_equal (Literal l) (Literal m) h = ap Literal (literals_equal l m h)
-terminals_equal (Literal l) (Bare b) h = cc
-terminals_equal (Literal l) Error h = cc
-terminals_equal (Bare a) (Literal m) h = cc
-terminals_equal (Bare a) (Bare b) h = ap Bare ((bytes_eq-Decides a b).0 h)
-terminals_equal (Bare a) Error h = cc
-terminals_equal Error (Literal m) h = cc
-terminals_equal Error (Bare b) h = cc
-terminals_equal Error Error h = refl
-
 any_in : (l : TerminalLiteral) (ts : List TerminalString) → In (Literal l) ts → list_any (same_terminal (Literal l)) ts ≡ true
 any_in l [] i = absurd i
-any_in l (t ∷ ts) (inl is) = ap (λ b. b || list_any (same_terminal (Literal l)) ts) (ap (same_terminal (Literal l)) (sym is) ∙ literal_same l)
+any_in l (t ∷ ts) (inl is) = ap (λ b. b || list_any (same_terminal (Literal l)) ts) (ap (same_terminal (Literal l)) (sym is) ∙ literal_itself l)
 any_in l (t ∷ ts) (inr i) = ap (λ b. same_terminal (Literal l) t || b) (any_in l ts i) ∙ or_true (same_terminal (Literal l) t)
   where
     or_true : (b : Bool) → (b || true) ≡ true
@@ -138,7 +116,7 @@ none_in l (t ∷ ts) none = neither _ _ (by_case (same_terminal (Literal l) t) r
     neither a b e f = rw (e, f) refl
 
     by_case : (b : Bool) → same_terminal (Literal l) t ≡ b → same_terminal (Literal l) t ≡ false
-    by_case true e = absurd (none (inl (terminals_equal (Literal l) t e)))
+    by_case true e = absurd (none (inl (terminals_same (Literal l) t e)))
     by_case false e = e
 
 module _ (g : GrammarData) where

@@ -1,4 +1,3 @@
-pub mod ListTests
 pub mod RuleLemmas
 pub mod TerminalLemmas
 pub mod UsedLemmas

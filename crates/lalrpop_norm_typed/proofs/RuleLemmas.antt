@@ -7,7 +7,7 @@ use Rattle.lalrpop_norm_tree.specs.Items.{RuleData, ItemData, match_item, extern
 use Rattle.lalrpop_norm_model.specs.PlainRules.{rule_of_item}
 use Rattle.lalrpop_norm_repr.specs.Tables.{TypeTable, type_of}
 use Rattle.lalrpop_norm_typed.specs.Rules.{is_item_typed}
-use Rattle.lalrpop_norm_typed.proofs.ListTests.{all_flat, all_same}
+use Rattle.lalrpop_norm_theory.proofs.ListTests.{all_same, all_flat}
 
 abbrev pub is_rule_typed : TypeTable → RuleData → Bool
 is_rule_typed types r = is_some (type_of r.name types)

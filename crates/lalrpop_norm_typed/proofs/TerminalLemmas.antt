@@ -7,7 +7,7 @@ use Rattle.lalrpop_norm_tree.specs.declared.items.MatchMapping.{MatchMapping}
 use Rattle.lalrpop_norm_tree.specs.declared.items.MatchMapping.TheVariants.{Terminal, Skip}
 use Rattle.lalrpop_norm_tree.specs.Items.{ConversionData, EnumTokenData, GrammarData}
 use Rattle.lalrpop_norm_theory.specs.Rounds.{In, IsDistinct}
-use Rattle.lalrpop_norm_theory.proofs.BoolLemmas.{both_true}
+use Rattle.lalrpop_norm_theory.proofs.BoolLemmas.{both_true, not_true, true_not, both_hold}
 use Rattle.lalrpop_norm_model.specs.Entries.{terminal_named, user_names}
 use Rattle.lalrpop_norm_model.specs.Expanded.{terminals_converted, terminals_with, terminals_of}
 use Rattle.lalrpop_norm_model.specs.Features.{Features, is_active}
@@ -15,7 +15,6 @@ use Rattle.lalrpop_norm_model.specs.Terminals.{same_terminal}
 use Rattle.lalrpop_norm_model.specs.TerminalTypes.{extern_enum, intern_entries}
 use Rattle.lalrpop_norm_model.proofs.SameTerminalLemmas.{listed_same, same_listed}
 use Rattle.lalrpop_norm_typed.specs.Terminals.{is_converted, are_conversions_distinct, is_mapping_to, is_entered, is_entered_again, are_entries_distinct, source_with, source_of, is_terminal, are_terminals_distinct}
-use Rattle.lalrpop_norm_typed.proofs.ListTests.{both}
 
 -- ---- a terminal of the list
 
@@ -59,14 +58,6 @@ abbrev is_each_once : List TerminalString → Bool
 is_each_once [] = true
 is_each_once (t ∷ ts) = not (is_among ts t) && is_each_once ts
 
-not_true : (b : Bool) → not b ≡ true → b ≡ true → ⊥
-not_true true e f = cc
-not_true false e f = cc
-
-true_not : (b : Bool) → (b ≡ true → ⊥) → not b ≡ true
-true_not true h = absurd (h refl)
-true_not false h = refl
-
 once_distinct : (ts : List TerminalString) → is_each_once ts ≡ true → IsDistinct ts
 once_distinct [] e = tt
 once_distinct (t ∷ ts) e =
@@ -75,7 +66,7 @@ once_distinct (t ∷ ts) e =
 
 distinct_once : (ts : List TerminalString) → IsDistinct ts → is_each_once ts ≡ true
 distinct_once [] d = refl
-distinct_once (t ∷ ts) d = both (not (is_among ts t)) (is_each_once ts) (true_not (is_among ts t) (λ e. d.0 (same_listed t ts e))) (distinct_once ts d.1)
+distinct_once (t ∷ ts) d = both_hold (not (is_among ts t)) (is_each_once ts) (true_not (is_among ts t) (λ e. d.0 (same_listed t ts e))) (distinct_once ts d.1)
 
 conversions_once : (fs : Features) (cs : List ConversionData) → are_conversions_distinct fs cs ≡ is_each_once (terminals_converted (active fs cs))
 conversions_once fs [] = refl

@@ -11,7 +11,7 @@ use Rattle.lalrpop_norm_model.specs.PlainRules.{rule_of_item}
 use Rattle.lalrpop_norm_model.specs.Terminals.{terminals_in, terminals_in_kind, terminals_in_parts, terminals_in_rule}
 use Rattle.lalrpop_norm_typed.specs.Terminals.{SourceData, is_terminal}
 use Rattle.lalrpop_norm_typed.specs.Used.{is_kind_listed, is_listed, are_listed, is_alternative_listed, is_rule_listed, is_item_listed}
-use Rattle.lalrpop_norm_typed.proofs.ListTests.{all_flat, all_same}
+use Rattle.lalrpop_norm_theory.proofs.ListTests.{all_same, all_flat}
 
 module _ (fs : Features) (s : SourceData) where
   mutual

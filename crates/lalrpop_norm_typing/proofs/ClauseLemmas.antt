@@ -17,6 +17,7 @@ use Rattle.lalrpop_norm_typing.specs.Clauses.{chosen_kind_in, chosen_kinds_liste
 use Rattle.lalrpop_norm_util.proofs.SymbolLemmas.{seen_at}
 use Rattle.lalrpop_norm_typing.specs.TableValues.{kind_in, type_in, types_in}
 use Rattle.lalrpop_norm_theory.proofs.BoolLemmas.{left_false, right_false}
+use Rattle.lalrpop_norm_parts.proofs.KnownTextLemmas.{map_twice}
 
 -- ---- sources
 
@@ -71,10 +72,6 @@ map_any : {A B : Type 0} (f : A → B) (xs ys : List A) → map f (if_any xs ys)
 map_any f [] ys = refl
 map_any f (x ∷ xs) ys = refl
 
-map_twice : {A B C : Type 0} (f : A → B) (g : B → C) (xs : List A) → map (λ x. g (f x)) xs ≡ map g (map f xs)
-map_twice f g [] = refl
-map_twice f g (x ∷ xs) = ap (λ ys. g (f x) ∷ ys) (map_twice f g xs)
-
 sources_are : (ps : Parts) → some_name_value ps ≡ false → map kind_in_source (sources ps) ≡ source_kinds ps
 sources_are ps e =
     ap (λ ss. map kind_in_source (if_any ss (if_any (chosen_sources 0 ps) (all_sources 0 ps)))) (unnamed 0 ps e)
@@ -84,7 +81,7 @@ sources_are ps e =
 type_is : (a : AlternativeData) → some_name_value a.parts ≡ false → type_of_sources (source_kinds a.parts) ≡ default_type a
 type_is a e =
     ap (λ ks. bare_or_tuple (map of_symbol ks)) (sym (sources_are a.parts e))
-    ∙ ap bare_or_tuple (sym (map_twice kind_in_source of_symbol (sources a.parts)))
+    ∙ ap bare_or_tuple (sym (map_twice of_symbol kind_in_source (sources a.parts)))
 
 -- ---- symbols one by one
 

@@ -34,7 +34,7 @@ use Rattle.lalrpop_norm_typing.specs.Visits.{Seen, with_clauses, rule_seen, roun
 use Rattle.lalrpop_norm_typing.proofs.ReadLemmas.{clause_is, names_are, kept_read}
 use Rattle.lalrpop_norm_typing.proofs.TokenLemmas.{added_names, added_tokens}
 use Rattle.lalrpop_norm_typing.proofs.VisitLemmas.{rounds_are}
-use Rattle.lalrpop_norm_util.proofs.ListLemmas.{flat_same}
+use Rattle.lalrpop_norm_theory.proofs.ListLemmas.{flat_same}
 
 -- ---- the table
 

@@ -17,7 +17,7 @@ use Rattle.lalrpop_norm_typing.specs.TableValues.{type_by_name}
 use Rattle.lalrpop_norm_typing.specs.Visits.{Seen, TakesType, Passes}
 use Rattle.lalrpop_norm_typing.specs.Waiting.{mentioned, has, TakesLeast, places_of, Covers, IsQuiet, Waits, Wakes, VisitsOne}
 use Rattle.lalrpop_norm_typing.proofs.MentionLemmas.{first_same}
-use Rattle.lalrpop_norm_typing.proofs.VisitLemmas.{taken_kept, taken_none, passes_none, passes_more}
+use Rattle.lalrpop_norm_typing.proofs.VisitLemmas.{taken_kept, taken_none, passes_more}
 
 -- ---- quiet rules
 
@@ -107,38 +107,6 @@ wakes_more xs ys place now now_mid now_after next next_mid next_after one two = 
   ];
 }
 
-added_kept : (before after : Places) (y : ℕ) → ((k : ℕ) → has after k ≡ ((y == k) || has before k)) → (k : ℕ) → has before k ≡ true → has after k ≡ true
-added_kept before after y is k h = elim (eqb_tells y k) [ inl w ↦ rw (is k, w.0) refl | inr w ↦ rw (is k, w.0) h ]
-
-added_here : (before after : Places) (y : ℕ) → ((k : ℕ) → has after k ≡ ((y == k) || has before k)) → (k : ℕ) → (k ≡ y) ⊎ ⊥ → has after k ≡ true
-added_here before after y is k (inr never) = absurd never
-added_here before after y is k (inl e) = elim (eqb_tells y k) [ inl w ↦ rw (is k, w.0) refl | inr w ↦ absurd (w.1 (sym e)) ]
-
-added_only : (before after : Places) (y : ℕ) → ((k : ℕ) → has after k ≡ ((y == k) || has before k)) → (k : ℕ) → has after k ≡ true → (has before k ≡ true) ⊎ (k ≡ y)
-added_only before after y is k h = elim (eqb_tells y k) [ inl w ↦ inr (sym w.1) | inr w ↦ inl (sym (rw w.0 at (is k)) ∙ h) ]
-
--- one behind the place
-pub wakes_now : (y place : ℕ) (now now_after next : Places) → place < y → ((k : ℕ) → has now_after k ≡ ((y == k) || has now k)) → Wakes (y ∷ []) place now now_after next next
-wakes_now y place now now_after next lt is = record {
-  kept_now = added_kept now now_after y is;
-  kept_next = λ k h. h;
-  behind = λ k here _. added_here now now_after y is k here;
-  before = λ k here le. elim here [ inl e ↦ absurd (omega (arith, e)) | inr never ↦ absurd never ];
-  only_now = λ k h. elim (added_only now now_after y is k h) [ inl g ↦ inl g | inr e ↦ inr (omega (arith, e), inl e) ];
-  only_next = λ k h. inl h;
-}
-
--- one that is not
-pub wakes_next : (y place : ℕ) (now next next_after : Places) → y ≤ place → ((k : ℕ) → has next_after k ≡ ((y == k) || has next k)) → Wakes (y ∷ []) place now now next next_after
-wakes_next y place now next next_after le is = record {
-  kept_now = λ k h. h;
-  kept_next = added_kept next next_after y is;
-  behind = λ k here lt. elim here [ inl e ↦ absurd (omega (arith, e)) | inr never ↦ absurd never ];
-  before = λ k here _. added_here next next_after y is k here;
-  only_now = λ k h. inl h;
-  only_next = λ k h. elim (added_only next next_after y is k h) [ inl g ↦ inl g | inr e ↦ inr (inl e) ];
-}
-
 -- ---- the places that are left
 
 rest_true : (now left : Places) (place : ℕ) → TakesLeast now left place → (k : ℕ) → has left k ≡ true → (has now k ≡ true) × (place < k)
@@ -167,17 +135,6 @@ pub record Midway (ps : List TypeParameter) (before tt : TypeTable) (ss : List S
   pub ahead : (k : ℕ) → has now k ≡ true → from ≤ k
   pub within_now : (k : ℕ) → has now k ≡ true → k < length ss
   pub within_next : (k : ℕ) → has next k ≡ true → k < length ss
-
-pub midway_first : (ps : List TypeParameter) (tt : TypeTable) (ss : List Seen) (now next : Places) → Waits ps tt ss now → ((k : ℕ) → has next k ≡ false) →
-    Midway ps tt tt ss 0 now next
-midway_first ps tt ss now next waits none = record {
-  passes = passes_none ps tt;
-  behind = λ k s here _ out. waits.quiet k s here out;
-  earlier = λ k s here lt. absurd (omega arith);
-  ahead = λ k h. omega arith;
-  within_now = waits.within;
-  within_next = λ k h. absurd (both_ways (has next k) (none k) h);
-}
 
 woken : (a : Bool) (xs : List ℕ) (k : ℕ) → a ≡ true → In k xs → In k (if a then xs else [])
 woken true xs k e h = h
@@ -252,13 +209,6 @@ midway_passes ps before tt ss from now next m none =
     let all : take (from + length ss) ss ≡ ss = take_all (from + length ss) ss (omega arith) in
     subst (λ rs. Passes ps before tt rs) all
     (skipped ps before tt ss from m.passes (length ss) (λ k s here low _. m.behind k s here low (none k)))
-
-pub midway_waits : (ps : List TypeParameter) (before tt : TypeTable) (ss : List Seen) (from : ℕ) (now next : Places) → Midway ps before tt ss from now next →
-    ((k : ℕ) → has now k ≡ false) → Waits ps tt ss next
-midway_waits ps before tt ss from now next m none = record {
-  quiet = λ k s here out. elim (leb_tells from k) [ inl w ↦ m.behind k s here w.1 (none k) | inr w ↦ m.earlier k s here w.1 out ];
-  within = m.within_next;
-}
 
 -- ---- the visit of a rule that waits
 

@@ -1,8 +1,6 @@
 -- The types that need no inference.
-use Rattle.std.proofs.Common.{◌≡◌, ℕ, Bool, true, false, List, [], ◌∷◌, Option, Some, None, cond, bytes_eq, refl, sym, ap, ap₂, subst, ◌∙◌}
+use Rattle.std.proofs.Common.{◌≡◌, ℕ, Bool, true, false, List, [], ◌∷◌, Option, Some, None, cond, refl, sym, ap, ap₂, subst, ◌∙◌}
 use Rattle.std.specs.Prelude.{Result, IfOk, option_map}
-use Rattle.std.proofs.lemmas.Bool.Decides.{same_from_decides}
-use Rattle.std.proofs.lemmas.Slice.Eq.{bytes_eq-Decides}
 use Rattle.lalrpop_norm_parts.specs.declared.lowered.TypeRepr.{TypeRepr}
 use Rattle.lalrpop_norm_parts.specs.declared.names.NonterminalString.{NonterminalString}
 use Rattle.lalrpop_norm_parts.specs.declared.names.TerminalLiteral.{TerminalLiteral}
@@ -18,17 +16,13 @@ use Rattle.lalrpop_norm_repr.specs.Tables.{TypeTable, found_terminal}
 use Rattle.lalrpop_norm_model.specs.Terminals.{same_literal, same_terminal}
 use Rattle.lalrpop_norm_model.specs.TerminalTypes.{TerminalRow, declared_under, recovery_type, terminal_rows, row_of, rows_with, extern_enum}
 use Rattle.lalrpop_norm_typing.specs.TokenTypes.{base_table, AddsTerminals, HasTokens}
+use Rattle.lalrpop_norm_theory.proofs.SameLemmas.{text_turned}
 
 -- ---- rows
 
-turned : (xs ys : List ℕ) → bytes_eq xs ys ≡ bytes_eq ys xs
-turned xs ys =
-    let other = bytes_eq-Decides ys xs in
-    same_from_decides _ _ (bytes_eq-Decides xs ys) ((λ e. sym (other.0 e)), λ e. other.1 (sym e))
-
 literal_turned : (a b : TerminalLiteral) → table.same_literal a b ≡ same_literal b a
-literal_turned (Quoted a) (Quoted b) = turned a b
-literal_turned (Regex a) (Regex b) = turned a b
+literal_turned (Quoted a) (Quoted b) = text_turned a b
+literal_turned (Regex a) (Regex b) = text_turned a b
 literal_turned (Quoted a) (Regex b) = refl
 literal_turned (Regex a) (Quoted b) = refl
 
@@ -37,7 +31,7 @@ terminal_turned (Literal a) (Literal b) = literal_turned a b
 terminal_turned (Literal a) (Bare b) = refl
 terminal_turned (Literal a) Error = refl
 terminal_turned (Bare a) (Literal b) = refl
-terminal_turned (Bare a) (Bare b) = turned a b
+terminal_turned (Bare a) (Bare b) = text_turned a b
 terminal_turned (Bare a) Error = refl
 terminal_turned Error (Literal b) = refl
 terminal_turned Error (Bare b) = refl

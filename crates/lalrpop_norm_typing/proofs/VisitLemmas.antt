@@ -91,9 +91,6 @@ taken_new before after n v x none e added others rest = record {
 
 -- ---- a round
 
-pub passes_none : (ps : List TypeParameter) (tt : TypeTable) → Passes ps tt tt []
-passes_none ps tt = record { table = λ g read rows h. h; rest = refl }
-
 visits_last : (g : GrammarData) (rows : List TypeRow) (ss : List Seen) (s : Seen) → visits_seen g rows (ss ++ s ∷ []) ≡ visit_seen g (visits_seen g rows ss) s
 visits_last g rows [] s = refl
 visits_last g rows (r ∷ ss) s = visits_last g (visit_seen g rows r) ss s

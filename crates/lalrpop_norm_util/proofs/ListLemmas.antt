@@ -1,11 +1,8 @@
 -- Options and lists.
-use Rattle.std.proofs.Common.{◌≡◌, ◌<◌, ◌+◌, ℕ, Option, Some, None, refl, List, [], ◌∷◌, ◌++◌, append_assoc, length, drop, get_or, ap, ap₂, sym, ◌∙◌}
-use Rattle.std.specs.List.{flat_map, filter_map, cons_option}
+use Rattle.std.proofs.Common.{◌≡◌, ◌<◌, ◌+◌, ℕ, Option, Some, None, refl, List, [], ◌∷◌, ◌++◌, append_assoc, length, drop, get_or, ap, sym, ◌∙◌}
+use Rattle.std.specs.List.{filter_map, cons_option}
 use Rattle.std.specs.Prelude.{option_to_list}
 use Rattle.lalrpop_norm_faults.proofs.FaultLemmas.{at_drop_item}
-
-pub some_inner : {A : Type 0} (x y : A) → Some x ≡ Some y → x ≡ y
-some_inner x y h = cc
 
 pub cons_some : {B : Type 0} (o : Option B) (ys : List B) → cons_option o ys ≡ option_to_list o ++ ys
 cons_some None ys = refl
@@ -21,6 +18,3 @@ next_collected F v more xs i x old new all lt is made before =
     ∙ (append_assoc old (v x) (F (drop (i + 1) xs))
     ∙ (ap (λ ys. old ++ ys) (sym (more x (drop (i + 1) xs))) ∙ (sym (at_drop_item (λ ys. old ++ F ys) xs i x lt is) ∙ before)))
 
-pub flat_same : {A B : Type 0} (f h : A → List B) → ((x : A) → f x ≡ h x) → (xs : List A) → flat_map f xs ≡ flat_map h xs
-flat_same f h e [] = refl
-flat_same f h e (x ∷ xs) = ap₂ (λ ys zs. ys ++ zs) (e x) (flat_same f h e xs)

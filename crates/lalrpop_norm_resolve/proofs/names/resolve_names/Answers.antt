@@ -3,8 +3,8 @@ use Rattle.std.proofs.lemmas.List.{with_items_is}
 use Rattle.lalrpop_norm_tree.specs.Items.{ItemData, item_view, grammar_view}
 use Rattle.lalrpop_norm_model.specs.Scopes.{resolved_item}
 use Rattle.lalrpop_norm_resolve.specs.NameTables.{all_rows, items_globals, names_faults}
-use Rattle.lalrpop_norm_resolve.proofs.TableLemmas.{exit_or}
 use Rattle.lalrpop_norm_resolve.proofs.names.resolve_names.Goals as goal
+use Rattle.lalrpop_norm_faults.proofs.FaultLemmas.{exit_or}
 
 pub returns-in_err-names-clause-resolves : goal.returns-in_err-names-clause-resolves
 returns-in_err-names-clause-resolves c =

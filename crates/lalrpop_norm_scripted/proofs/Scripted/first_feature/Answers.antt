@@ -1,6 +1,7 @@
 use Rattle.std.proofs.Common.{sym}
-use Rattle.lalrpop_norm_scripted.proofs.ScriptedLemmas.{literals_same, feature_found}
+use Rattle.lalrpop_norm_scripted.proofs.ScriptedLemmas.{feature_found}
 use Rattle.lalrpop_norm_scripted.proofs.Scripted.first_feature.Goals as goal
+use Rattle.lalrpop_norm_model.proofs.SameTerminalLemmas.{literals_same}
 
 pub returns-then-is_same : goal.returns-then-is_same
 returns-then-is_same c =

@@ -1,7 +1,6 @@
-use Rattle.std.proofs.Common.{rules, ◌≡◌, ℕ, ◌+◌, ◌≤◌, ◌<◌, min, subst, arith}
-use Rattle.serde_json.specs.Data.{Items, no_items, item}
+use Rattle.std.proofs.Common.{◌≡◌, ℕ, ◌+◌, ◌≤◌, ◌<◌, min, subst, arith}
+use Rattle.serde_json.specs.Data.{Items, no_items}
 use Rattle.json_document.specs.Number.{how_many}
-use Rattle.json_document.specs.View.{items_view}
 use Rattle.json_document.proofs.types.Items.count.Goals as goal
 
 -- what was counted is all, where nothing is left

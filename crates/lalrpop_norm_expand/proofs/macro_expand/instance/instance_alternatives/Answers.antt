@@ -4,10 +4,9 @@ use Rattle.lalrpop_norm_tree.specs.declared.items.Alternative.{Alternative}
 use Rattle.lalrpop_norm_tree.specs.Symbols.{parts_view}
 use Rattle.lalrpop_norm_tree.specs.Items.{AlternativeData, alternative_view}
 use Rattle.lalrpop_norm_faults.specs.Faults.{Fault, IsFirst}
-use Rattle.lalrpop_norm_faults.proofs.FaultLemmas.{at_drop_item, first_of_more}
+use Rattle.lalrpop_norm_faults.proofs.FaultLemmas.{at_drop_item, first_of_more, exit_or}
 use Rattle.lalrpop_norm_model.specs.MadeRules.{argument_kind}
 use Rattle.lalrpop_norm_making.specs.Conditions.{value_faults}
-use Rattle.lalrpop_norm_meeting.proofs.MeetingLemmas.{exit_or}
 use Rattle.lalrpop_norm_expand.proofs.macro_expand.instance.instance_alternatives.Goals as goal
 
 pub returns-in_err-add_alternative : goal.returns-in_err-add_alternative

@@ -7,8 +7,8 @@ use Rattle.lalrpop_norm_model.specs.Terminals.{terminal_cmp}
 use Rattle.lalrpop_norm_token_check.specs.Converted.{twice_from}
 use Rattle.lalrpop_norm_token_check.specs.Keys.{with_keys, terminal_in}
 use Rattle.lalrpop_norm_token_check.proofs.ConvertedLemmas.{twice_is, converted_is}
-use Rattle.lalrpop_norm_token_check.proofs.ExitLemmas.{exit_or}
 use Rattle.lalrpop_norm_token_check.proofs.token_check.conversions.terminals_of.Goals as goal
+use Rattle.lalrpop_norm_faults.proofs.FaultLemmas.{exit_or}
 
 pub returns-in_err-add_conversions : goal.returns-in_err-add_conversions
 returns-in_err-add_conversions c =
