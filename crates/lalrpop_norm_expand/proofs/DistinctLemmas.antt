@@ -28,8 +28,6 @@ use Rattle.lalrpop_norm_meeting.proofs.SamenessLemmas.{none_if, or_false}
 use Rattle.lalrpop_norm_theory.proofs.MadeLemmas.{distinct_append, distinct_reverse}
 use Rattle.lalrpop_norm_theory.proofs.ListLemmas.{map_reverse, distinct_right, distinct_apart}
 
--- ---- distinct lists
-
 -- ---- texts of the symbols kept
 
 abbrev texts : List Part → List (List ℕ)

@@ -68,4 +68,3 @@ pub sure_append : {P : Type 0} (xs ys : List (Finding P)) → sure_ones (xs ++ y
 sure_append [] ys = refl
 sure_append (sure g ∷ xs) ys = ap (λ fs. g ∷ fs) (sure_append xs ys)
 sure_append (maybe p ∷ xs) ys = sure_append xs ys
-

@@ -23,8 +23,6 @@ use Rattle.lalrpop_norm_meeting.proofs.SymbolLemmas.{part_is, met_is}
 use Rattle.lalrpop_norm_theory.proofs.BoolLemmas.{false_of_not, both_false, not_false}
 use Rattle.lalrpop_norm_theory.proofs.ListLemmas.{some_inner}
 
--- ---- truth values
-
 -- ---- lists
 
 heads : {A : Type 0} (x y : A) (xs ys : List A) → x ∷ xs ≡ y ∷ ys → x ≡ y

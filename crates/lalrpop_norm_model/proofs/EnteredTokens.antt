@@ -118,8 +118,6 @@ no_error_used g x i =
     let (a, l, m) = of_flat (λ (b : AlternativeData). terminals_in_parts b.parts) Error r.alternatives k in
     plain_parts_used a.parts (x.plain_symbols a (r, j, l)) m
 
--- ---- distinct lists
-
 -- ---- an extern enum
 
 conversion_apart : (before cs : List ConversionData) → each_after repeated_conversion_faults before cs ≡ [] → (b : ConversionData) → In b before →

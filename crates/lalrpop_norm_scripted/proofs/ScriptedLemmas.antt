@@ -14,4 +14,3 @@ pub feature_found : (s : Scripted) (rs : List TerminalLiteral) (i k : ℕ) (r : 
     f.literal ≡ r → HasFeatureAt (of_lists s) rs i (feature_of f.error)
 feature_found s rs i k r f within is inside at same =
     (r, slice_get_read rs (length rs) i r refl within is, (k, f, inside, sym at, (same, refl)))
-

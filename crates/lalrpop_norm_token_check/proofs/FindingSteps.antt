@@ -63,6 +63,3 @@ module _ {R : Type 0} (l : Lexer R) (g : GrammarData) (e : EnumTokenData) (uses 
   gets_none none =
       subst (λ o. (sure_ones (token_findings_with o g) ≡ []) × GetsTokens o l g None) of_enum
       (sure_all LexerPlace (checked_enum_faults e g) ∙ (sym faults_are ∙ none), refl)
-
--- ---- the grammar with its tokens
-

@@ -17,4 +17,3 @@ next_collected F v more xs i x old new all lt is made before =
     ap (λ ys. ys ++ F (drop (i + 1) xs)) made
     ∙ (append_assoc old (v x) (F (drop (i + 1) xs))
     ∙ (ap (λ ys. old ++ ys) (sym (more x (drop (i + 1) xs))) ∙ (sym (at_drop_item (λ ys. old ++ F ys) xs i x lt is) ∙ before)))
-
