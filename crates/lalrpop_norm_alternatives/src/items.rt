@@ -14,22 +14,10 @@ pub fn rule_or_push(
     ensures rule { IfOk result (λ r. option_map rule_view r ≡ rule_of (item_view item)) }
     ensures items { OnOk result (map item_view items.new.items ≡ map item_view items.old.items ++ other_items (item_view item)) }
 {
-    match item {
-        GrammarItem::Nonterminal(rule) => Ok(Some(rule)),
-        GrammarItem::MatchToken(token) => {
-            items.push(GrammarItem::MatchToken(token))?;
-            Ok(None)
-        }
-        GrammarItem::ExternToken(token) => {
-            items.push(GrammarItem::ExternToken(token))?;
-            Ok(None)
-        }
-        GrammarItem::InternToken(token) => {
-            items.push(GrammarItem::InternToken(token))?;
-            Ok(None)
-        }
-        GrammarItem::Use(text) => {
-            items.push(GrammarItem::Use(text))?;
+    match item.into_nonterminal() {
+        Ok(rule) => Ok(Some(rule)),
+        Err(other) => {
+            items.push(other)?;
             Ok(None)
         }
     }

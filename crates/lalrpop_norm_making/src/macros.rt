@@ -99,14 +99,13 @@ fn sort_out(
     ensures macros { OnOk result (macros_in macros.new ≡ macros_in macros.old ++ macro_in (item_view item)) }
     ensures named { OnOk result (AreByName macros.new) }
 {
-    match item {
-        GrammarItem::Nonterminal(rule) => return sort_rule(rule, others, macros),
-        GrammarItem::MatchToken(token) => others.push(GrammarItem::MatchToken(token))?,
-        GrammarItem::ExternToken(token) => others.push(GrammarItem::ExternToken(token))?,
-        GrammarItem::InternToken(token) => others.push(GrammarItem::InternToken(token))?,
-        GrammarItem::Use(text) => others.push(GrammarItem::Use(text))?,
+    match item.into_nonterminal() {
+        Ok(rule) => sort_rule(rule, others, macros),
+        Err(other) => {
+            others.push(other)?;
+            Ok(())
+        }
     }
-    Ok(())
 }
 
 /// The items that are no macros, and the macros, each in their order.

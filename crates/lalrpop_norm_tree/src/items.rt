@@ -20,7 +20,7 @@ use shared_text::Atom;
 use std::fmt;
 
 /// A written grammar.
-#[derive(Debug, PartialEq, Eq, Drop)]
+#[derive(Debug, PartialEq, Eq)]
 pub struct Grammar {
     /// Begins the names of start symbols, of the values in action code, and of the crate that the parser uses.
     pub prefix: String,
@@ -41,7 +41,7 @@ pub struct Grammar {
 }
 
 /// An item of a grammar.
-#[derive(Debug, PartialEq, Eq, Drop)]
+#[derive(Debug, PartialEq, Eq)]
 pub enum GrammarItem {
     /// `match { .. }`.
     MatchToken(MatchToken),
@@ -65,14 +65,14 @@ pub struct MatchToken {
 }
 
 /// A group of a match block.
-#[derive(Debug, PartialEq, Eq, Drop)]
+#[derive(Debug, PartialEq, Eq)]
 pub struct MatchContents {
     /// In the order of the text.
     pub items: Vec<MatchItem>,
 }
 
 /// An item of a match block, with its place.
-#[derive(Clone, Debug, PartialEq, Eq, Drop)]
+#[derive(Clone, Debug, PartialEq, Eq)]
 pub enum MatchItem {
     /// `_`: every literal that the grammar uses and the block does not name.
     CatchAll(Span),
@@ -86,7 +86,7 @@ pub enum MatchItem {
 pub type MatchSymbol = TerminalLiteral;
 
 /// What a match item makes of its literal.
-#[derive(Clone, PartialEq, Eq, PartialOrd, Ord, Drop)]
+#[derive(Clone, PartialEq, Eq, PartialOrd, Ord)]
 pub enum MatchMapping {
     /// The terminal that its tokens are.
     Terminal(TerminalString),
@@ -105,14 +105,14 @@ pub struct InternToken {
 }
 
 /// The automaton of a tokenizer, as its lexer made it. No pass looks into it.
-#[derive(Debug, PartialEq, Eq, Drop)]
+#[derive(Debug, PartialEq, Eq)]
 pub struct Dfa {
     /// As the lexer made it.
     pub code: Vec<u32>,
 }
 
 /// An entry of the tokenizer. Entries are ordered by precedence, then literal, then user name.
-#[derive(Clone, Debug, PartialEq, Eq, PartialOrd, Ord, Drop)]
+#[derive(Clone, Debug, PartialEq, Eq, PartialOrd, Ord)]
 pub struct MatchEntry {
     /// A greater one wins over a smaller one.
     pub precedence: usize,
@@ -134,7 +134,7 @@ pub struct ExternToken {
 }
 
 /// `type Location = ..` or `type Error = ..`.
-#[derive(Debug, PartialEq, Eq, Drop)]
+#[derive(Debug, PartialEq, Eq)]
 pub struct AssociatedType {
     /// Where its name stands.
     pub type_span: Span,
@@ -145,7 +145,7 @@ pub struct AssociatedType {
 }
 
 /// The enum of the tokens.
-#[derive(Debug, PartialEq, Eq, Drop)]
+#[derive(Debug, PartialEq, Eq)]
 pub struct EnumToken {
     /// The type of a token.
     pub type_name: TypeRef,
@@ -156,7 +156,7 @@ pub struct EnumToken {
 }
 
 /// A terminal and the pattern of its tokens.
-#[derive(Debug, PartialEq, Eq, Drop)]
+#[derive(Debug, PartialEq, Eq)]
 pub struct Conversion {
     /// Where it stands.
     pub span: Span,
@@ -169,7 +169,7 @@ pub struct Conversion {
 }
 
 /// Who may use a rule.
-#[derive(Debug, PartialEq, Eq, Drop)]
+#[derive(Debug, PartialEq, Eq)]
 pub enum Visibility {
     /// `pub`, or `pub(P)`.
     Pub(Option<Path>),
@@ -180,7 +180,7 @@ pub enum Visibility {
 }
 
 /// A rule, or a macro where `args` is not empty.
-#[derive(Debug, PartialEq, Eq, Drop)]
+#[derive(Debug, PartialEq, Eq)]
 pub struct NonterminalData {
     /// Who may use it; only what is public has a start symbol.
     pub visibility: Visibility,
@@ -199,7 +199,7 @@ pub struct NonterminalData {
 }
 
 /// An alternative of a rule.
-#[derive(Debug, PartialEq, Eq, Drop)]
+#[derive(Debug, PartialEq, Eq)]
 pub struct Alternative {
     /// Where it stands.
     pub span: Span,
@@ -214,7 +214,7 @@ pub struct Alternative {
 }
 
 /// The code of an alternative.
-#[derive(Debug, PartialEq, Eq, Drop)]
+#[derive(Debug, PartialEq, Eq)]
 pub enum ActionKind {
     /// Code without its arrow.
     User(String),
@@ -227,7 +227,7 @@ pub enum ActionKind {
 }
 
 /// `if X == "a"`: an alternative of a macro that only some instances have.
-#[derive(Clone, Debug, PartialEq, Eq, Drop)]
+#[derive(Clone, Debug, PartialEq, Eq)]
 pub struct Condition {
     /// Where it stands.
     pub span: Span,
@@ -271,14 +271,40 @@ impl fmt::Debug for MatchMapping {
     }
 }
 
-// The release of a derived type is proved anew in each crate in which a value of it ends. That of these types, which no
-// pass takes apart, is proved here.
+// ---- releases
+
+// The release of a derived type is proved anew in each crate in which a value of it ends; these are proved here.
 impl Drop for MatchToken {
     fn drop(self) {
         let MatchToken {
             contents: _contents,
             span: _span,
         } = self;
+    }
+}
+
+impl Drop for MatchContents {
+    fn drop(self) {
+        let MatchContents { items: _items } = self;
+    }
+}
+
+impl Drop for MatchItem {
+    fn drop(self) {
+        match self {
+            MatchItem::CatchAll(_span) => {}
+            MatchItem::Unmapped(_symbol, _span) => {}
+            MatchItem::Mapped(_symbol, _mapping, _span) => {}
+        }
+    }
+}
+
+impl Drop for MatchMapping {
+    fn drop(self) {
+        match self {
+            MatchMapping::Terminal(_terminal) => {}
+            MatchMapping::Skip => {}
+        }
     }
 }
 
@@ -291,12 +317,143 @@ impl Drop for InternToken {
     }
 }
 
+impl Drop for MatchEntry {
+    fn drop(self) {
+        let MatchEntry {
+            precedence: _precedence,
+            match_literal: _match_literal,
+            user_name: _user_name,
+        } = self;
+    }
+}
+
+impl Drop for Dfa {
+    fn drop(self) {
+        let Dfa { code: _code } = self;
+    }
+}
+
 impl Drop for ExternToken {
     fn drop(self) {
         let ExternToken {
             span: _span,
             associated_types: _types,
             enum_token: _tokens,
+        } = self;
+    }
+}
+
+impl Drop for AssociatedType {
+    fn drop(self) {
+        let AssociatedType {
+            type_span: _type_span,
+            type_name: _type_name,
+            type_ref: _type_ref,
+        } = self;
+    }
+}
+
+impl Drop for EnumToken {
+    fn drop(self) {
+        let EnumToken {
+            type_name: _type_name,
+            type_span: _type_span,
+            conversions: _conversions,
+        } = self;
+    }
+}
+
+impl Drop for Conversion {
+    fn drop(self) {
+        let Conversion {
+            span: _span,
+            attributes: _attributes,
+            from: _from,
+            to: _to,
+        } = self;
+    }
+}
+
+impl Drop for Visibility {
+    fn drop(self) {
+        match self {
+            Visibility::Pub(_path) => {}
+            Visibility::PubIn(_path) => {}
+            Visibility::Priv => {}
+        }
+    }
+}
+
+impl Drop for NonterminalData {
+    fn drop(self) {
+        let NonterminalData {
+            visibility: _visibility,
+            name: _name,
+            attributes: _attributes,
+            span: _span,
+            args: _args,
+            type_decl: _type_decl,
+            alternatives: _alternatives,
+        } = self;
+    }
+}
+
+impl Drop for Alternative {
+    fn drop(self) {
+        let Alternative {
+            span: _span,
+            expr: _expr,
+            condition: _condition,
+            action: _action,
+            attributes: _attributes,
+        } = self;
+    }
+}
+
+impl Drop for ActionKind {
+    fn drop(self) {
+        match self {
+            ActionKind::User(_code) => {}
+            ActionKind::Fallible(_code) => {}
+            ActionKind::Lookahead | ActionKind::Lookbehind => {}
+        }
+    }
+}
+
+impl Drop for Condition {
+    fn drop(self) {
+        let Condition {
+            span: _span,
+            lhs: _lhs,
+            rhs: _rhs,
+            op: _op,
+        } = self;
+    }
+}
+
+impl Drop for GrammarItem {
+    fn drop(self) {
+        match self {
+            GrammarItem::MatchToken(_token) => {}
+            GrammarItem::ExternToken(_token) => {}
+            GrammarItem::InternToken(_token) => {}
+            GrammarItem::Nonterminal(_rule) => {}
+            GrammarItem::Use(_text) => {}
+        }
+    }
+}
+
+impl Drop for Grammar {
+    fn drop(self) {
+        let Grammar {
+            prefix: _prefix,
+            span: _span,
+            type_parameters: _type_parameters,
+            parameters: _parameters,
+            where_clauses: _where_clauses,
+            items: _items,
+            attributes: _attributes,
+            module_attributes: _module_attributes,
         } = self;
     }
 }

@@ -47,7 +47,7 @@ pub enum TypeRef {
 }
 
 /// A parameter of a grammar, as `input: &'input str`.
-#[derive(Debug, PartialEq, Eq, Drop)]
+#[derive(Debug, PartialEq, Eq)]
 pub struct Parameter {
     /// Its name.
     pub name: Atom,
@@ -55,7 +55,9 @@ pub struct Parameter {
     pub ty: TypeRef,
 }
 
-// The release of a derived type is proved anew in each crate in which a value of it ends; this one is proved here.
+// ---- releases
+
+// The release of a derived type is proved anew in each crate in which a value of it ends; these are proved here.
 impl Drop for TypeRef {
     fn drop(self) {
         match self {
@@ -84,5 +86,14 @@ impl Drop for TypeRef {
                 ret: _ret,
             } => {}
         }
+    }
+}
+
+impl Drop for Parameter {
+    fn drop(self) {
+        let Parameter {
+            name: _name,
+            ty: _ty,
+        } = self;
     }
 }

@@ -1,7 +1,7 @@
 //! What items and grammars are made of and asked for.
-ghost use Rattle.std.specs.Prelude.{◌≡◌, [], ◌∷◌, ◌++◌, Bool, option_map, IfOk};
+ghost use Rattle.std.specs.Prelude.{◌≡◌, [], ◌∷◌, ◌++◌, Bool, None, option_map, IfOk, IfErr};
 ghost use Rattle.lalrpop_norm_tree.specs.Accessors.{first_of, match_item_span, is_public, is_macro, is_macro_item, rule_of, match_token_of, extern_token_of, intern_token_of, enum_token_of, type_named};
-ghost use Rattle.lalrpop_norm_tree.specs.Items.{associated_type_view, enum_token_view, extern_token_view, grammar_view, intern_token_view, item_view, match_contents_view, match_token_view, rule_view, visibility_view};
+ghost use Rattle.lalrpop_norm_tree.specs.Items.{associated_type_view, enum_token_view, extern_token_view, grammar_view, intern_token_view, item_view, match_contents_view, match_token_view, rule_item, rule_view, visibility_view};
 
 use super::{
     AssociatedType, EnumToken, ExternToken, Grammar, GrammarItem, InternToken, MatchContents,
@@ -97,6 +97,20 @@ impl GrammarItem {
             | GrammarItem::ExternToken(_)
             | GrammarItem::InternToken(_)
             | GrammarItem::Use(_) => None,
+        }
+    }
+
+    /// The rule or macro, if the item is one; else the item as it is.
+    pub fn into_nonterminal(self) -> Result<NonterminalData, GrammarItem>
+        ensures rule { IfOk result (λ r. item_view self ≡ rule_item (rule_view r)) }
+        ensures other { IfErr result (λ i. (item_view i ≡ item_view self) × (rule_of (item_view self) ≡ None)) }
+    {
+        match self {
+            GrammarItem::Nonterminal(rule) => Ok(rule),
+            GrammarItem::MatchToken(token) => Err(GrammarItem::MatchToken(token)),
+            GrammarItem::ExternToken(token) => Err(GrammarItem::ExternToken(token)),
+            GrammarItem::InternToken(token) => Err(GrammarItem::InternToken(token)),
+            GrammarItem::Use(text) => Err(GrammarItem::Use(text)),
         }
     }
 
