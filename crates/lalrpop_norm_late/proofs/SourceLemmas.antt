@@ -10,7 +10,7 @@ use Rattle.lalrpop_norm_parts.specs.Texts.{joined}
 use Rattle.lalrpop_norm_faults.specs.Faults.{fault_if}
 use Rattle.lalrpop_norm_faults.specs.declared.kind.FaultKind.TheVariants.{Placeholders}
 use Rattle.lalrpop_norm_lowering.specs.Counts.{count_faults}
-use Rattle.lalrpop_norm_util.specs.ExprSymbols.{Placed, NamedPart, named_parts, chosen_parts, all_parts, SymbolsSeen, with_names, without_names, without_any, with_any, analyzed_symbols}
+use Rattle.lalrpop_norm_util.specs.ExprSymbols.{Placed, NamedPart, named_parts, chosen_parts, all_parts, SymbolsSeen, with_names, without_names, with_any, analyzed_symbols}
 use Rattle.lalrpop_norm_model.specs.LoweringFaults.{slots, code_in, code_faults, span_over}
 use Rattle.lalrpop_norm_model.specs.MadeRules.{some_name_value, if_any}
 use Rattle.lalrpop_norm_model.specs.Sources.{Source, named_sources, chosen_sources, all_sources, sources}
@@ -92,14 +92,14 @@ abbrev pub IsSeen : Parts → SymbolsSeen → Type 0
 IsSeen ps (with_names xs) = some_name_value ps ≡ true
 IsSeen ps (without_names xs) = (some_name_value ps ≡ false) × (map source_of xs ≡ sources ps)
 
-without_seen : (ps : Parts) → some_name_value ps ≡ false → (cs : List Placed) → map source_of cs ≡ chosen_sources 0 ps → IsSeen ps (without_any cs (all_parts 0 ps))
+without_seen : (ps : Parts) → some_name_value ps ≡ false → (cs : List Placed) → map source_of cs ≡ chosen_sources 0 ps → IsSeen ps (without_names (if_any cs (all_parts 0 ps)))
 without_seen ps none [] h = (none, all_seen 0 ps ∙ ap (λ xs. if_any xs (all_sources 0 ps)) h ∙ sym (unnamed_sources ps none))
 without_seen ps none (c ∷ cs) h = (none, ap (λ xs. if_any xs (all_sources 0 ps)) h ∙ sym (unnamed_sources ps none))
 
 pub seen : (ps : Parts) → IsSeen ps (analyzed_symbols ps)
 seen ps = by (named_parts 0 ps) (named_seen 0 ps)
   where
-    by : (ns : List NamedPart) → NamedSeen 0 ps ns → IsSeen ps (with_any ns (without_any (chosen_parts 0 ps) (all_parts 0 ps)))
+    by : (ns : List NamedPart) → NamedSeen 0 ps ns → IsSeen ps (with_any ns (without_names (if_any (chosen_parts 0 ps) (all_parts 0 ps))))
     by [] h = without_seen ps h (chosen_parts 0 ps) (chosen_seen 0 ps)
     by (n ∷ ns) h = h
 

@@ -1,9 +1,10 @@
 -- The sources of a group, once its symbols are replaced: as many, and with the same types.
-use Rattle.std.proofs.Common.{◌≡◌, List, [], ◌∷◌, map, refl, ap, ap₂, ◌∙◌}
+use Rattle.std.proofs.Common.{◌≡◌, List, [], ◌∷◌, map, refl, sym, ap, ap₂, ◌∙◌}
 use Rattle.lalrpop_norm_tree.specs.Symbols.{Kind, Part, Parts, group, ambiguous_id, terminal, nonterminal, call, repeated, chosen, named, tupled, lookahead, lookbehind, error_terminal, at, no_parts, part_and}
 use Rattle.lalrpop_norm_tree.specs.Types.{TypeData, of_symbol}
 use Rattle.lalrpop_norm_model.specs.MadeRules.{kind_of, chosen_kinds, all_kinds, if_any, group_sources, type_of_kind, bare_or_tuple_code}
 use Rattle.lalrpop_norm_model.specs.Replaced.{replaced, replaced_kind, all_replaced}
+use Rattle.lalrpop_norm_util.proofs.ExprLemmas.{map_any}
 use Rattle.lalrpop_norm_making.proofs.TwiceLemmas.{kind_twice}
 
 kind_replaced : (p : Part) → kind_of (replaced p) ≡ replaced_kind (kind_of p)
@@ -28,13 +29,9 @@ chosen_replaced (part_and (at s (named n q)) ps) = chosen_replaced ps
 chosen_replaced (part_and (at s (tupled ns q)) ps) = chosen_replaced ps
 chosen_replaced (part_and (at s error_terminal) ps) = chosen_replaced ps
 
-any_replaced : (ks all : List Kind) → if_any (map replaced_kind ks) (map replaced_kind all) ≡ map replaced_kind (if_any ks all)
-any_replaced [] all = refl
-any_replaced (k ∷ ks) all = refl
-
 sources_replaced : (ps : Parts) → group_sources (all_replaced ps) ≡ map replaced_kind (group_sources ps)
 sources_replaced ps =
-    ap₂ if_any (chosen_replaced ps) (all_kinds_replaced ps) ∙ any_replaced (chosen_kinds ps) (all_kinds ps)
+    ap₂ if_any (chosen_replaced ps) (all_kinds_replaced ps) ∙ sym (map_any replaced_kind (chosen_kinds ps) (all_kinds ps))
 
 types_twice : (ks : List Kind) → map type_of_kind (map replaced_kind ks) ≡ map type_of_kind ks
 types_twice [] = refl

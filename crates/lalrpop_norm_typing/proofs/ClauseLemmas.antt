@@ -1,20 +1,19 @@
 -- The clause of an alternative.
-use Rattle.std.proofs.Common.{◌≡◌, ℕ, suc, Bool, true, false, List, [], ◌∷◌, ◌++◌, map, Some, None, refl, sym, ap, ◌∙◌}
-use Rattle.std.specs.Prelude.{option_map, option_to_list}
+use Rattle.std.proofs.Common.{◌≡◌, ℕ, suc, Bool, true, false, List, [], ◌∷◌, map, Some, None, refl, sym, ap, ◌∙◌}
+use Rattle.std.specs.Prelude.{option_map}
 use Rattle.lalrpop_norm_parts.specs.declared.names.Span.{Span}
 use Rattle.lalrpop_norm_parts.specs.declared.names.TypeParameter.{TypeParameter}
-use Rattle.lalrpop_norm_tree.specs.declared.symbol.Symbol.{Symbol}
 use Rattle.lalrpop_norm_tree.specs.Items.{AlternativeData}
 use Rattle.lalrpop_norm_parts.specs.Reprs.{repr_and, tuple}
-use Rattle.lalrpop_norm_tree.specs.Symbols.{Kind, Parts, kind_view, parts_view, group, ambiguous_id, terminal, nonterminal, call, repeated, chosen, named, tupled, lookahead, lookbehind, error_terminal, at, no_parts, part_and}
+use Rattle.lalrpop_norm_tree.specs.Symbols.{Kind, Parts, group, ambiguous_id, terminal, nonterminal, call, repeated, chosen, named, tupled, lookahead, lookbehind, error_terminal, at, no_parts, part_and}
 use Rattle.lalrpop_norm_tree.specs.Types.{of_symbol, types_of}
 use Rattle.lalrpop_norm_repr.specs.Tables.{TypeTable}
-use Rattle.lalrpop_norm_model.specs.MadeRules.{kind_of, all_kinds, if_any, bare_or_tuple, names_value, some_name_value}
+use Rattle.lalrpop_norm_model.specs.MadeRules.{kind_of, chosen_kinds, all_kinds, if_any, group_sources, bare_or_tuple, names_value, some_name_value}
 use Rattle.lalrpop_norm_model.specs.Sources.{Source, named_sources, chosen_sources, all_sources, sources, default_type}
 use Rattle.lalrpop_norm_model.specs.TypeRelation.{makes, alternative_clause}
 use Rattle.lalrpop_norm_model.specs.TypeTables.{both}
-use Rattle.lalrpop_norm_typing.specs.Clauses.{chosen_kind_in, chosen_kinds_listed, source_kinds, type_of_sources, default_clause, kinds_in, sources_in}
-use Rattle.lalrpop_norm_util.proofs.SymbolLemmas.{seen_at}
+use Rattle.lalrpop_norm_typing.specs.Clauses.{type_of_sources, default_clause, kinds_in, sources_in}
+use Rattle.lalrpop_norm_util.proofs.ExprLemmas.{map_any}
 use Rattle.lalrpop_norm_typing.specs.TableValues.{kind_in, type_in, types_in}
 use Rattle.lalrpop_norm_theory.proofs.BoolLemmas.{left_false, right_false}
 use Rattle.lalrpop_norm_parts.proofs.KnownTextLemmas.{map_twice}
@@ -45,51 +44,25 @@ unnamed k (part_and (at s x) ps) e =
     unnamed_one k s x ps (left_false (names_value (at s x)) (some_name_value ps) e)
     (unnamed (suc k) ps (right_false (names_value (at s x)) (some_name_value ps) e))
 
-chosen_one : (k : ℕ) (s : Span) (x : Kind) (ps : Parts) → map kind_in_source (chosen_sources (suc k) ps) ≡ chosen_kinds_listed ps →
-    map kind_in_source (chosen_sources k (part_and (at s x) ps)) ≡ option_to_list (chosen_kind_in x) ++ chosen_kinds_listed ps
-chosen_one k s (chosen p) ps d = ap (λ ks. kind_of p ∷ ks) d
-chosen_one k s (named n p) ps d = d
-chosen_one k s (tupled ns p) ps d = d
-chosen_one k s (group qs) ps d = d
-chosen_one k s (ambiguous_id a) ps d = d
-chosen_one k s (terminal t) ps d = d
-chosen_one k s (nonterminal n) ps d = d
-chosen_one k s (call n qs) ps d = d
-chosen_one k s (repeated op p) ps d = d
-chosen_one k s lookahead ps d = d
-chosen_one k s lookbehind ps d = d
-chosen_one k s error_terminal ps d = d
-
-chosen_are : (k : ℕ) (ps : Parts) → map kind_in_source (chosen_sources k ps) ≡ chosen_kinds_listed ps
+chosen_are : (k : ℕ) (ps : Parts) → map kind_in_source (chosen_sources k ps) ≡ chosen_kinds ps
 chosen_are k no_parts = refl
-chosen_are k (part_and (at s x) ps) = chosen_one k s x ps (chosen_are (suc k) ps)
+chosen_are k (part_and (at s (chosen p)) ps) = ap (λ ks. kind_of p ∷ ks) (chosen_are (suc k) ps)
+chosen_are k (part_and (at s x) ps) = chosen_are (suc k) ps
 
 all_are : (k : ℕ) (ps : Parts) → map kind_in_source (all_sources k ps) ≡ all_kinds ps
 all_are k no_parts = refl
 all_are k (part_and p ps) = ap (λ ks. kind_of p ∷ ks) (all_are (suc k) ps)
 
-map_any : {A B : Type 0} (f : A → B) (xs ys : List A) → map f (if_any xs ys) ≡ if_any (map f xs) (map f ys)
-map_any f [] ys = refl
-map_any f (x ∷ xs) ys = refl
-
-sources_are : (ps : Parts) → some_name_value ps ≡ false → map kind_in_source (sources ps) ≡ source_kinds ps
+sources_are : (ps : Parts) → some_name_value ps ≡ false → map kind_in_source (sources ps) ≡ group_sources ps
 sources_are ps e =
     ap (λ ss. map kind_in_source (if_any ss (if_any (chosen_sources 0 ps) (all_sources 0 ps)))) (unnamed 0 ps e)
     ∙ (map_any kind_in_source (chosen_sources 0 ps) (all_sources 0 ps)
-    ∙ (ap (λ ks. if_any ks (map kind_in_source (all_sources 0 ps))) (chosen_are 0 ps) ∙ ap (if_any (chosen_kinds_listed ps)) (all_are 0 ps)))
+    ∙ (ap (λ ks. if_any ks (map kind_in_source (all_sources 0 ps))) (chosen_are 0 ps) ∙ ap (if_any (chosen_kinds ps)) (all_are 0 ps)))
 
-type_is : (a : AlternativeData) → some_name_value a.parts ≡ false → type_of_sources (source_kinds a.parts) ≡ default_type a
+type_is : (a : AlternativeData) → some_name_value a.parts ≡ false → type_of_sources (group_sources a.parts) ≡ default_type a
 type_is a e =
     ap (λ ks. bare_or_tuple (map of_symbol ks)) (sym (sources_are a.parts e))
     ∙ ap bare_or_tuple (sym (map_twice of_symbol kind_in_source (sources a.parts)))
-
--- ---- symbols one by one
-
-pub first_kind : (x : Symbol) (xs : List Symbol) → all_kinds (parts_view (x ∷ xs)) ≡ (kind_view x.kind ∷ []) ++ all_kinds (parts_view xs)
-first_kind x xs = ap (λ p. all_kinds (part_and p (parts_view xs))) (seen_at x)
-
-pub first_chosen : (x : Symbol) (xs : List Symbol) → chosen_kinds_listed (parts_view (x ∷ xs)) ≡ option_to_list (chosen_kind_in (kind_view x.kind)) ++ chosen_kinds_listed (parts_view xs)
-first_chosen x xs = ap (λ p. chosen_kinds_listed (part_and p (parts_view xs))) (seen_at x)
 
 -- ---- alternatives without code
 

@@ -1,31 +1,18 @@
 -- The clauses of a rule, as the code has them.
-use Rattle.std.specs.Prelude.{List, [], ◌∷◌, ◌++◌, map, Option, Some, None, option_map, option_to_list}
+use Rattle.std.specs.Prelude.{List, [], ◌∷◌, map, Option, Some, None, option_map}
 use Rattle.std.specs.Prelude.{if◌then◌else◌}
 use Rattle.lalrpop_norm_parts.specs.declared.names.TypeParameter.{TypeParameter}
 use Rattle.lalrpop_norm_tree.specs.Accessors.{or_else}
 use Rattle.lalrpop_norm_parts.specs.Reprs.{ReprData, Reprs, no_reprs, repr_and, tuple}
-use Rattle.lalrpop_norm_tree.specs.Symbols.{Kind, chosen, Parts, at, no_parts, part_and, kind_view}
+use Rattle.lalrpop_norm_tree.specs.Symbols.{Kind, Parts, kind_view}
 use Rattle.lalrpop_norm_tree.specs.Types.{TypeData, of_symbol, type_view}
 use Rattle.lalrpop_norm_repr.specs.Tables.{TypeTable}
-use Rattle.lalrpop_norm_model.specs.MadeRules.{kind_of, all_kinds, if_any, bare_or_tuple, some_name_value}
+use Rattle.lalrpop_norm_model.specs.MadeRules.{group_sources, bare_or_tuple, some_name_value}
 use Rattle.lalrpop_norm_model.specs.TypeRelation as model
 use Rattle.lalrpop_norm_model.specs.TypeTables.{both}
 use Rattle.lalrpop_norm_typing.specs.declared.clauses.Clause.{Clause}
 use Rattle.lalrpop_norm_typing.specs.declared.clauses.Clause.TheVariants.{Declared, Sources, Location}
 use Rattle.lalrpop_norm_typing.specs.TableValues.{kind_in, type_in}
-
--- what is in a chosen symbol
-abbrev pub chosen_kind_in : Kind → Option Kind
-chosen_kind_in (chosen p) = Some (kind_of p)
-chosen_kind_in k = None
-
-abbrev pub chosen_kinds_listed : Parts → List Kind
-chosen_kinds_listed no_parts = []
-chosen_kinds_listed (part_and (at s k) ps) = option_to_list (chosen_kind_in k) ++ chosen_kinds_listed ps
-
--- the chosen symbols, if there are any, else all
-abbrev pub source_kinds : Parts → List Kind
-source_kinds ps = if_any (chosen_kinds_listed ps) (all_kinds ps)
 
 -- the type of the values of these symbols
 abbrev pub type_of_sources : List Kind → TypeData
@@ -33,12 +20,12 @@ type_of_sources ks = bare_or_tuple (map of_symbol ks)
 
 abbrev pub clause_view : Clause → model.TypeClause
 clause_view (Declared t) = model.makes (type_view t.now)
-clause_view (Sources ks) = model.makes (type_of_sources (map (λ k. kind_view k.now) ks.items))
+clause_view (Sources ss) = model.makes (type_of_sources (map (λ t. kind_view t.1.now.kind) ss.items))
 clause_view Location = model.locates
 
 -- what an alternative of these symbols without code has for a clause
 abbrev pub default_clause : Parts → Option model.TypeClause
-default_clause ps = if some_name_value ps then None else Some (model.makes (type_of_sources (source_kinds ps)))
+default_clause ps = if some_name_value ps then None else Some (model.makes (type_of_sources (group_sources ps)))
 
 -- the types that some symbols give in a row, if each gives one
 abbrev pub kinds_in : TypeTable → List Kind → Option Reprs

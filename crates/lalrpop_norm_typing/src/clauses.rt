@@ -1,16 +1,15 @@
 //! By which rules have types.
 ghost use Rattle.std.specs.Prelude.{◌≡◌, [], ◌∷◌, ◌++◌, IfOk, OnOk, map, option_map, option_to_list, filter_map};
 ghost use Rattle.lalrpop_norm_tree.specs.Items.{alternative_view, rule_view};
-ghost use Rattle.lalrpop_norm_tree.specs.Symbols.{kind_view, symbol_view, parts_view, expr_view};
+ghost use Rattle.lalrpop_norm_tree.specs.Symbols.{expr_view};
 ghost use Rattle.lalrpop_norm_tree.specs.Types.{type_view};
-ghost use Rattle.lalrpop_norm_model.specs.MadeRules.{all_kinds};
 ghost use Rattle.lalrpop_norm_model.specs.TypeRelation.{alternative_clause, type_clauses, type_clauses_of, makes};
-ghost use Rattle.lalrpop_norm_typing.specs.Clauses.{chosen_kind_in, chosen_kinds_listed, source_kinds, default_clause, clause_view};
+ghost use Rattle.lalrpop_norm_typing.specs.Clauses.{default_clause, clause_view};
 
 use lalrpop_norm_tree::grammar::parse_tree::{
-    ActionKind, Alternative, ExprSymbol, NoMemory, NonterminalData, Symbol, SymbolKind, TypeRef,
+    ActionKind, Alternative, ExprSymbol, NoMemory, NonterminalData, Symbol, TypeRef,
 };
-use lalrpop_norm_util::norm_util::has_name_value;
+use lalrpop_norm_util::norm_util::{has_name_value, sources};
 use std::alloc::Global;
 
 /// By which a rule has a type.
@@ -18,75 +17,10 @@ use std::alloc::Global;
 pub enum Clause<'g> {
     /// It declares one.
     Declared(&'g TypeRef),
-    /// An alternative gives the values of these symbols: one bare, any other number of them as a tuple.
-    Sources(Vec<&'g SymbolKind>),
+    /// An alternative gives the values of these symbols, each with its place: one bare, any other number of them as a tuple.
+    Sources(Vec<(usize, &'g Symbol)>),
     /// A lookaround gives a location.
     Location,
-}
-
-/// What is in a chosen symbol.
-fn chosen_in(kind: &SymbolKind) -> Option<&SymbolKind>
-    ensures { option_map (λ k. kind_view k.now) result ≡ chosen_kind_in (kind_view kind.now) }
-{
-    match kind {
-        SymbolKind::Choose(inner) => Some(&inner.kind),
-        SymbolKind::Expr(_)
-        | SymbolKind::AmbiguousId(_)
-        | SymbolKind::Terminal(_)
-        | SymbolKind::Nonterminal(_)
-        | SymbolKind::Macro(_)
-        | SymbolKind::Repeat(_)
-        | SymbolKind::Name(_, _)
-        | SymbolKind::Tuple(_, _)
-        | SymbolKind::Lookahead
-        | SymbolKind::Lookbehind
-        | SymbolKind::Error => None,
-    }
-}
-
-fn chosen_symbols(alloc: Global, symbols: &[Symbol]) -> Result<Vec<&SymbolKind>, NoMemory>
-    ensures { IfOk result (λ ks. map (λ k. kind_view k.now) ks.items ≡ chosen_kinds_listed (parts_view symbols.now)) }
-{
-    let mut found = Vec::new(alloc);
-    for symbol in symbols {
-        add_some(&mut found, chosen_in(&symbol.kind))?;
-    }
-    Ok(found)
-}
-
-/// Adds what is there.
-fn add_some<'g>(
-    found: &mut Vec<&'g SymbolKind>,
-    kind: Option<&'g SymbolKind>,
-) -> Result<(), NoMemory>
-    ensures { OnOk result (map (λ k. kind_view k.now) found.new.items
-        ≡ map (λ k. kind_view k.now) found.old.items ++ option_to_list (option_map (λ k. kind_view k.now) kind.entry)) }
-{
-    if let Some(kind) = kind {
-        found.push(kind)?;
-    }
-    Ok(())
-}
-
-fn all_symbols(alloc: Global, symbols: &[Symbol]) -> Result<Vec<&SymbolKind>, NoMemory>
-    ensures { IfOk result (λ ks. map (λ k. kind_view k.now) ks.items ≡ all_kinds (parts_view symbols.now)) }
-{
-    let mut found = Vec::with_capacity(alloc, symbols.len())?;
-    for symbol in symbols {
-        found.push(&symbol.kind)?;
-    }
-    Ok(found)
-}
-
-/// The chosen symbols, if there are any, else all.
-fn sources(alloc: Global, symbols: &[Symbol]) -> Result<Vec<&SymbolKind>, NoMemory>
-    ensures { IfOk result (λ ks. map (λ k. kind_view k.now) ks.items ≡ source_kinds (parts_view symbols.now)) }
-{
-    let chosen = chosen_symbols(alloc, symbols)?;
-    if !chosen.is_empty() {
-        return Ok(chosen);
-    }
-    all_symbols(alloc, symbols)
 }
 
 /// The clause of an alternative: one without code and names gives the values of its sources, and a lookaround a location.

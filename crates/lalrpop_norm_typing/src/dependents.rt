@@ -155,16 +155,16 @@ impl Dependents {
         }
     }
 
-    fn note_kinds(
+    fn note_sources(
         &mut self,
         alloc: Global,
-        kinds: &[&SymbolKind],
+        sources: &[(usize, &Symbol)],
         place: usize,
     ) -> Result<(), NoMemory>
-        ensures { OnOk result (Notes self.old self.new (flat_map names_in_kind (map (λ k. kind_view k.now) kinds.now)) place) }
+        ensures { OnOk result (Notes self.old self.new (flat_map names_in_kind (map (λ t. kind_view t.1.now.kind) sources.now)) place) }
     {
-        for kind in kinds {
-            self.note_kind(alloc, kind, place)?;
+        for source in sources {
+            self.note_kind(alloc, &source.1.kind, place)?;
         }
         Ok(())
     }
@@ -175,7 +175,7 @@ impl Dependents {
     {
         match clause {
             Clause::Declared(written) => self.note_type(alloc, written, place),
-            Clause::Sources(kinds) => self.note_kinds(alloc, kinds, place),
+            Clause::Sources(sources) => self.note_sources(alloc, sources, place),
             Clause::Location => Ok(()),
         }
     }

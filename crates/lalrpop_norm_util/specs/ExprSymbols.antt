@@ -3,6 +3,7 @@ use Rattle.std.specs.Prelude.{ℕ, ◌+◌, List, [], ◌∷◌, ◌++◌, map, 
 use Rattle.lalrpop_norm_tree.specs.Symbols.{ArgumentPattern, one_name, several, Part, Parts, Kind, chosen, named, tupled, at}
 use Rattle.lalrpop_norm_tree.specs.Symbols.{no_parts, part_and, argument_pattern_view, symbol_view}
 use Rattle.lalrpop_norm_tree.specs.Items.{Action, action_view, AlternativeData}
+use Rattle.lalrpop_norm_model.specs.MadeRules.{if_any}
 use Rattle.lalrpop_norm_util.specs.declared.norm_util.Symbols.{Symbols}
 use Rattle.lalrpop_norm_util.specs.declared.norm_util.Symbols.TheVariants.{Named, Anon}
 use Rattle.lalrpop_norm_util.specs.declared.norm_util.AlternativeAction.{AlternativeAction}
@@ -48,10 +49,9 @@ abbrev pub all_parts : ℕ → Parts → List Placed
 all_parts k no_parts = []
 all_parts k (part_and p ps) = (k, p) ∷ all_parts (k + 1) ps
 
--- the chosen ones, if there are any, else all
-abbrev pub without_any : List Placed → List Placed → SymbolsSeen
-without_any [] all = without_names all
-without_any (x ∷ xs) all = without_names (x ∷ xs)
+-- the sources of symbols without names: what is inside of the chosen ones, if there are any, else all
+abbrev pub placed_sources : Parts → List Placed
+placed_sources ps = if_any (chosen_parts 0 ps) (all_parts 0 ps)
 
 -- the named and tuple symbols, if there are any
 abbrev pub with_any : List NamedPart → SymbolsSeen → SymbolsSeen
@@ -59,7 +59,7 @@ with_any [] otherwise = otherwise
 with_any (x ∷ xs) otherwise = with_names (x ∷ xs)
 
 abbrev pub analyzed_symbols : Parts → SymbolsSeen
-analyzed_symbols ps = with_any (named_parts 0 ps) (without_any (chosen_parts 0 ps) (all_parts 0 ps))
+analyzed_symbols ps = with_any (named_parts 0 ps) (without_names (placed_sources ps))
 
 abbrev pub action_or : Option Action → SymbolsSeen → ActionSeen
 action_or (Some a) ss = by_code a

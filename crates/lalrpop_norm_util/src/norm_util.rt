@@ -2,9 +2,9 @@
 ghost use Rattle.std.specs.Prelude.{◌≡◌, IfOk, map, option_map};
 ghost use Rattle.lalrpop_norm_tree.specs.Items.{alternative_view};
 ghost use Rattle.lalrpop_norm_tree.specs.Symbols.{argument_pattern_view, expr_view, kind_view, parts_view, symbol_view};
-ghost use Rattle.lalrpop_norm_model.specs.MadeRules.{names_value, some_name_value};
+ghost use Rattle.lalrpop_norm_model.specs.MadeRules.{names_value, some_name_value, group_sources};
 ghost use Rattle.lalrpop_norm_util.specs.Braces.{presence, presence_between, has_odd_quotes, is_in_braces};
-ghost use Rattle.lalrpop_norm_util.specs.ExprSymbols.{named_in, named_parts, chosen_in, chosen_parts, all_parts, analyzed_symbols, analyzed_action, symbols_seen, action_seen};
+ghost use Rattle.lalrpop_norm_util.specs.ExprSymbols.{named_in, named_parts, chosen_in, chosen_parts, all_parts, placed_sources, analyzed_symbols, analyzed_action, symbols_seen, action_seen};
 ghost use Rattle.lalrpop_norm_util.specs.Values.{is_naming, is_chosen, is_chosen_kind, has_chosen};
 
 use lalrpop_norm_tree::grammar::parse_tree::{
@@ -109,12 +109,24 @@ pub fn analyze_expr<'a>(alloc: Global, expr: &'a ExprSymbol) -> Result<Symbols<'
     if !named.is_empty() {
         return Ok(Symbols::Named(named));
     }
-    let chosen = chosen_symbols(alloc, &expr.symbols)?;
+    let sources = sources(alloc, &expr.symbols)?;
+    Ok(Symbols::Anon(sources))
+}
+
+/// The symbols whose values a list of symbols without names gives: those inside of the chosen ones, if there are any, else all;
+/// each with its place in the list, from 0. The only error is want of memory.
+pub fn sources<'a>(
+    alloc: Global,
+    symbols: &'a [Symbol],
+) -> Result<Vec<(usize, &'a Symbol)>, NoMemory>
+    ensures placed { IfOk result (λ v. map (λ t. (t.0, symbol_view t.1.now)) v.items ≡ placed_sources (parts_view symbols.now)) }
+    ensures kinds { IfOk result (λ v. map (λ t. kind_view t.1.now.kind) v.items ≡ group_sources (parts_view symbols.now)) }
+{
+    let chosen = chosen_symbols(alloc, symbols)?;
     if !chosen.is_empty() {
-        return Ok(Symbols::Anon(chosen));
+        return Ok(chosen);
     }
-    let all = all_symbols(alloc, &expr.symbols)?;
-    Ok(Symbols::Anon(all))
+    all_symbols(alloc, symbols)
 }
 
 /// The names of a named or tuple symbol, and the symbol inside.

@@ -6,7 +6,7 @@ ghost use Rattle.lalrpop_norm_repr.specs.Tables.{type_table};
 ghost use Rattle.lalrpop_norm_typing.specs.Clauses.{kinds_in, sources_in, clause_view, clause_in, first_in};
 
 use lalrpop_norm_repr::grammar::repr::{TypeRepr, Types};
-use lalrpop_norm_tree::grammar::parse_tree::{NoMemory, SymbolKind, TypeParameter};
+use lalrpop_norm_tree::grammar::parse_tree::{NoMemory, Symbol, TypeParameter};
 use lalrpop_norm_typing::clauses::Clause;
 use lalrpop_norm_typing::values::{copy_of, kind_value, type_value};
 use std::alloc::Global;
@@ -22,7 +22,7 @@ pub(crate) fn clause_value(
 {
     match clause {
         Clause::Declared(written) => type_value(alloc, parameters, types, written),
-        Clause::Sources(kinds) => sources_value(alloc, types, kinds),
+        Clause::Sources(sources) => sources_value(alloc, types, sources),
         Clause::Location => location_value(types),
     }
 }
@@ -33,33 +33,33 @@ fn location_value(types: &Types) -> Result<Option<TypeRepr>, NoMemory>
     copy_of(types.opt_terminal_loc_type())
 }
 
-/// The type of the values of these symbols: one bare, any other number of them as a tuple.
+/// The type of the values of these symbols, each with its place: one bare, any other number of them as a tuple.
 fn sources_value(
     alloc: Global,
     types: &Types,
-    kinds: &[&SymbolKind],
+    sources: &[(usize, &Symbol)],
 ) -> Result<Option<TypeRepr>, NoMemory>
-    ensures { IfOk result (λ o. option_map repr_view o ≡ sources_in (type_table types.now) (map (λ k. kind_view k.now) kinds.now)) }
+    ensures { IfOk result (λ o. option_map repr_view o ≡ sources_in (type_table types.now) (map (λ t. kind_view t.1.now.kind) sources.now)) }
 {
-    match kinds {
-        [kind] => kind_value(types, kind),
-        _ => match all_kind_values(alloc, types, kinds)? {
+    match sources {
+        [source] => kind_value(types, &source.1.kind),
+        _ => match all_values(alloc, types, sources)? {
             Some(values) => Ok(Some(TypeRepr::Tuple(values))),
             None => Ok(None),
         },
     }
 }
 
-fn all_kind_values(
+fn all_values(
     alloc: Global,
     types: &Types,
-    kinds: &[&SymbolKind],
+    sources: &[(usize, &Symbol)],
 ) -> Result<Option<Vec<TypeRepr>>, NoMemory>
-    ensures { IfOk result (λ o. option_map (λ ts. reprs_view ts.items) o ≡ kinds_in (type_table types.now) (map (λ k. kind_view k.now) kinds.now)) }
+    ensures { IfOk result (λ o. option_map (λ ts. reprs_view ts.items) o ≡ kinds_in (type_table types.now) (map (λ t. kind_view t.1.now.kind) sources.now)) }
 {
     let mut values = Vec::new(alloc);
-    for kind in kinds {
-        match kind_value(types, kind)? {
+    for source in sources {
+        match kind_value(types, &source.1.kind)? {
             Some(ty) => values.push(ty)?,
             None => return Ok(None),
         }

@@ -1,6 +1,6 @@
-use Rattle.std.proofs.Common.{◌≡◌, Option, Bor, map, subst}
+use Rattle.std.proofs.Common.{◌≡◌, ℕ, Option, Bor, map, subst}
 use Rattle.std.specs.Prelude.{IfOk, option_map}
-use Rattle.lalrpop_norm_tree.specs.declared.symbol.SymbolKind.{SymbolKind}
+use Rattle.lalrpop_norm_tree.specs.declared.symbol.Symbol.{Symbol}
 use Rattle.lalrpop_norm_parts.specs.Reprs.{ReprData, repr_view}
 use Rattle.lalrpop_norm_tree.specs.Symbols.{kind_view}
 use Rattle.lalrpop_norm_repr.specs.Tables.{type_table}
@@ -9,6 +9,6 @@ use Rattle.lalrpop_norm_tyinfer.proofs.tyinfer.clauses.clause_value.Goals as goa
 
 pub returns-in-Sources : goal.returns-in-Sources
 returns-in-Sources c =
-    let ks = map (λ (k : Bor SymbolKind). kind_view k.now) c.in-Sources.kinds.items in
+    let ks = map (λ (t : ℕ × Bor Symbol). kind_view t.1.now.kind) c.in-Sources.sources.items in
     let P : Option ReprData → Type 0 = λ v. IfOk c.sources_value.result (λ o. option_map repr_view o ≡ v) in
     rw c.in-Sources.is (subst P (sources_mean c.args.parameters.now (type_table c.args.types.now) ks) (rw c.deref.ensures.value at c.sources_value.ensures))

@@ -1,7 +1,7 @@
-use Rattle.std.proofs.Common.{Bor, List, map, sym, subst}
+use Rattle.std.proofs.Common.{Bor, ℕ, List, map, sym, subst}
 use Rattle.std.specs.List.{flat_map}
 use Rattle.std.specs.Prelude.{OnOk}
-use Rattle.lalrpop_norm_tree.specs.declared.symbol.SymbolKind.{SymbolKind}
+use Rattle.lalrpop_norm_tree.specs.declared.symbol.Symbol.{Symbol}
 use Rattle.lalrpop_norm_tree.specs.Symbols.{Kind, kind_view}
 use Rattle.lalrpop_norm_model.specs.Expanded.{names_in_kind}
 use Rattle.lalrpop_norm_typing.specs.Waiting.{Notes}
@@ -10,6 +10,6 @@ use Rattle.lalrpop_norm_typing.proofs.dependents.Dependents.note_clause.Goals as
 
 pub returns-in-Sources : goal.returns-in-Sources
 returns-in-Sources c =
-    let kinds = map (λ (k : Bor SymbolKind). kind_view k.now) c.in-Sources.kinds.items in
-    let P : List Kind → Type 0 = λ ks. OnOk c.note_kinds.result (Notes c.args.self.now c.note_kinds.new.self (flat_map names_in_kind ks) c.args.place) in
-    rw c.in-Sources.is (subst P (sym (symbols_of_sources kinds)) (rw c.deref.ensures.value at c.note_kinds.ensures))
+    let kinds = map (λ (t : ℕ × Bor Symbol). kind_view t.1.now.kind) c.in-Sources.sources.items in
+    let P : List Kind → Type 0 = λ ks. OnOk c.note_sources.result (Notes c.args.self.now c.note_sources.new.self (flat_map names_in_kind ks) c.args.place) in
+    rw c.in-Sources.is (subst P (sym (symbols_of_sources kinds)) (rw c.deref.ensures.value at c.note_sources.ensures))

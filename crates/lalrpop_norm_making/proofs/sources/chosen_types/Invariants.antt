@@ -1,8 +1,0 @@
-use Rattle.std.proofs.Common.{◌≡◌, take, map}
-use Rattle.lalrpop_norm_tree.specs.Types.{type_view}
-use Rattle.lalrpop_norm_model.specs.MadeRules.{type_of_kind}
-use Rattle.lalrpop_norm_making.proofs.SourceLemmas.{each_chosen}
-use Rattle.lalrpop_norm_making.proofs.sources.chosen_types.Given as goal
-
-abbrev pub invariant-loop-symbol : goal.invariant-loop-symbol
-invariant-loop-symbol l = map type_view l.types.items ≡ map type_of_kind (each_chosen (take l.symbol-index l.symbols))

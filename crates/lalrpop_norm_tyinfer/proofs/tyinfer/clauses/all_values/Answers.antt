@@ -1,0 +1,22 @@
+use Rattle.std.proofs.Common.{List, Bor, ℕ, map, refl, arith}
+use Rattle.lalrpop_norm_tree.specs.declared.symbol.Symbol.{Symbol}
+use Rattle.lalrpop_norm_tree.specs.Symbols.{kind_view}
+use Rattle.lalrpop_norm_repr.specs.Tables.{type_table}
+use Rattle.lalrpop_norm_typing.specs.Clauses.{kinds_in}
+use Rattle.lalrpop_norm_typing.specs.TableValues.{kind_in}
+use Rattle.lalrpop_norm_typing.proofs.ValueLemmas.{next_value, last_value}
+use Rattle.lalrpop_norm_tyinfer.proofs.tyinfer.clauses.all_values.Goals as goal
+
+pub loop-source-preserved : goal.loop-source-preserved
+loop-source-preserved c =
+    let tt = type_table c.args.types.now in
+    rw c.in_ok-push-in-Some.ensures.items
+    (next_value (λ (ts : List (ℕ × Bor Symbol)). kinds_in tt (map (λ (t : ℕ × Bor Symbol). kind_view t.1.now.kind) ts)) (λ (t : ℕ × Bor Symbol). kind_in tt (kind_view t.1.now.kind)) (λ t ts. refl)
+    c.args.sources.now c.loop-source.source-index c.source-item.result c.loop-source.values.items c.in-Some.ty _
+    (omega arith) c.source-item.is (rw c.in-Some.is at c.in_ok-ty.ensures) c.loop-source.invariant)
+
+pub returns : goal.returns
+returns c =
+    let tt = type_table c.args.types.now in
+    last_value (λ (ts : List (ℕ × Bor Symbol)). kinds_in tt (map (λ (t : ℕ × Bor Symbol). kind_view t.1.now.kind) ts)) (λ (t : ℕ × Bor Symbol). kind_in tt (kind_view t.1.now.kind)) refl
+    c.args.sources.now c.loop-source.source-index c.loop-source.values.items _ c.loop-source-test.false c.loop-source.invariant
