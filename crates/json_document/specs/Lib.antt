@@ -4,3 +4,5 @@ pub mod Order
 pub mod View
 pub mod Fields
 pub mod Number
+pub mod Nodes
+pub mod Kept

@@ -9,7 +9,7 @@ use Rattle.json_document.specs.declared.types.Items.{Items as Cursor}
 use Rattle.json_document.specs.declared.types.Members.{Members as Fields}
 
 abbrev pub document_view : Document → Data
-document_view d = or_null (data_at d.tape)
+document_view d = or_null (data_at d.nodes)
 
 abbrev pub view : Value → Data
 view v = or_null (data_at v.element)

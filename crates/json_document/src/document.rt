@@ -6,22 +6,21 @@ ghost use Rattle.serde_json.specs.Read.{read};
 ghost use Rattle.json_document.specs.Limits.{are_taken, depth_after};
 ghost use Rattle.json_document.specs.View.{view, document_view};
 
+use crate::keep::whole;
 use crate::number::number;
 use crate::types::{Document, Value};
-use json::{Error, Node, Scratch, Tape};
+use json::{Node, Scratch};
 
 /// Why a text was not opened.
 #[derive(Clone, Copy, Debug, PartialEq, Eq)]
 pub enum OpenError {
     /// `serde_json` does not read it: it is no JSON, nests more than 127 levels, or has a number that is out of range.
     NotJson,
-    /// It is longer than 4 GiB less 256 bytes.
-    TooLong,
     /// There was no memory for what stands in it.
     Memory,
 }
 
-/// How deep arrays and objects nest.
+/// How deep arrays and objects nest where `serde_json` reads them.
 const MAX_DEPTH: usize = 127;
 
 impl<'a> Document<'a> {
@@ -29,7 +28,7 @@ impl<'a> Document<'a> {
     ///
     /// # Errors
     ///
-    /// `NotJson`: `serde_json` does not read the text. `TooLong`, `Memory`: nothing is said of it.
+    /// `NotJson`: `serde_json` does not read the text. `Memory`: nothing is said of it.
     pub fn open(
         text: &'a str,
         scratch: &'a mut Scratch,
@@ -38,15 +37,9 @@ impl<'a> Document<'a> {
         ensures ok { IfOk result (λ d. read text.now ≡ Some (document_view d)) }
         ensures err { IsErrOf result OpenError.NotJson → read text.now ≡ None }
     {
-        let tape = match Tape::parse(text, scratch, buffer) {
-            Ok(tape) => tape,
-            Err(Error::Invalid) => return Err(OpenError::NotJson),
-            Err(Error::TooLong) => return Err(OpenError::TooLong),
-            Err(Error::OutOfMemory) => return Err(OpenError::Memory),
-            Err(Error::DuplicateKey) => return Err(OpenError::Memory),
-        };
-        if is_taken(tape.nodes()) {
-            Ok(Document { tape })
+        let nodes = whole(text, scratch, buffer)?;
+        if is_taken(nodes.list()) {
+            Ok(Document { nodes })
         } else {
             Err(OpenError::NotJson)
         }
@@ -57,7 +50,7 @@ impl<'a> Document<'a> {
         ensures { view result ≡ document_view self.now }
     {
         Value {
-            element: self.tape.root(),
+            element: self.nodes.first(),
         }
     }
 }

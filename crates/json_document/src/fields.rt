@@ -28,7 +28,7 @@ impl<'t, 'a> Value<'t, 'a> {
         if !rise(names) {
             return false;
         }
-        while let Some((key, element)) = rest.next() {
+        while let Some((key, element)) = rest.take_member() {
             match place_of(names, key) {
                 Some(place) => found[place] = Some(Value { element }),
                 None => return false,
@@ -46,10 +46,10 @@ impl<'t, 'a> Value<'t, 'a> {
         let Some(mut rest) = self.element.members() else {
             return None;
         };
-        let Some((key, mut element)) = rest.next() else {
+        let Some((key, mut element)) = rest.take_member() else {
             return None;
         };
-        while let Some((other, next)) = rest.next() {
+        while let Some((other, next)) = rest.take_member() {
             if other == key {
                 element = next;
             } else {

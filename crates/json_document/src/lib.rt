@@ -8,6 +8,8 @@
 
 mod document;
 mod fields;
+mod keep;
+mod nodes;
 mod number;
 mod types;
 mod value;

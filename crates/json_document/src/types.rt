@@ -2,13 +2,13 @@
 ghost use Rattle.std.specs.Prelude.{◌≡◌, true};
 ghost use Rattle.json_document.specs.Tokens.{data_at, items_at, is_data, is_object, is_array};
 
-use json::{Element, Tape};
+use crate::nodes::{Element, Nodes};
 
 /// A text that `serde_json` reads.
 #[derive(Drop)]
 pub struct Document<'a> {
-    pub(crate) tape: Tape<'a>,
-    ghost known: { is_data (data_at tape) ≡ true },
+    pub(crate) nodes: Nodes<'a>,
+    ghost known: { is_data (data_at nodes) ≡ true },
 }
 
 /// A value of a document.
@@ -21,7 +21,7 @@ pub struct Value<'t, 'a> {
 /// The items of an array that are left.
 #[derive(Drop)]
 pub struct Items<'t, 'a> {
-    pub(crate) rest: json::Items<'t, 'a>,
+    pub(crate) rest: Element<'t, 'a>,
     ghost known: { is_array (items_at rest) ≡ true },
 }
 

@@ -75,7 +75,7 @@ impl<'t, 'a> Items<'t, 'a> {
         ensures { MatchOption result (items_view self.old ≡ no_items)
             (λ v. items_view self.old ≡ item (view v) (items_view self.new)) }
     {
-        match self.rest.next() {
+        match self.rest.take_item() {
             Some(element) => Some(Value { element }),
             None => None,
         }
@@ -118,7 +118,7 @@ impl<'v, 't, 'a> Members<'v, 't, 'a> {
             return None;
         };
         let mut found: Option<(&'a str, Value<'t, 'a>)> = None;
-        while let Some((key, element)) = rest.next() {
+        while let Some((key, element)) = rest.take_member() {
             if is_wanted(self.below, &found, key) {
                 found = Some((key, Value { element }));
             }

@@ -28,8 +28,7 @@ use std::alloc::Global;
 /// # Errors
 ///
 /// `NotATree`: the text is not JSON (127 levels of arrays and objects are read), or its value has not the shape of a
-/// grammar; so it is the form of no tree. `Memory`: there was no memory for the text's document or the grammar, or
-/// the text is longer than 4 GiB less 256 bytes.
+/// grammar; so it is the form of no tree. `Memory`: there was no memory for the text's document or the grammar.
 pub fn read_tree(alloc: Global, text: &str) -> Result<Grammar, TreeError>
     ensures ok { IfOk result (λ g. (d : Data) × (read text.now ≡ Some d) × (grammar_form (grammar_view g) ≡ Some d)) }
     ensures not { IsErrOf result TreeError.NotATree → (d : Data) → read text.now ≡ Some d → is shape.grammar d ≡ false }

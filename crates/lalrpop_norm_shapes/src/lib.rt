@@ -24,7 +24,7 @@ pub use value::{
 /// # Errors
 ///
 /// `NotATree`: the text is not JSON, of which 127 levels of arrays and objects are read. `Memory`: there was no memory
-/// for the document, or the text is longer than 4 GiB less 256 bytes.
+/// for the document.
 pub fn document_of<'a>(
     alloc: Global,
     text: &'a str,
@@ -36,7 +36,6 @@ pub fn document_of<'a>(
     match Document::open(text, scratch, Vec::new(alloc)) {
         Ok(document) => Ok(document),
         Err(OpenError::NotJson) => Err(TreeError::NotATree),
-        Err(OpenError::TooLong) => Err(TreeError::Memory),
         Err(OpenError::Memory) => Err(TreeError::Memory),
     }
 }

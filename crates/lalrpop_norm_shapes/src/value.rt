@@ -18,7 +18,7 @@ use std::alloc::{AllocError, AllocFailed};
 pub enum TreeError {
     /// The text is not JSON, or its value has not the shape of a tree.
     NotATree,
-    /// There was no memory for the text or the tree, or the text is longer than 4 GiB less 256 bytes.
+    /// There was no memory for the text or the tree.
     Memory,
 }
 

@@ -106,7 +106,6 @@ fn by_document_too(alloc: Global, value: &Value, text: &str) -> Agreement {
             Agreement::Differ
         },
         Err(OpenError::NotJson) => Agreement::Differ,
-        Err(OpenError::TooLong) => Agreement::Memory,
         Err(OpenError::Memory) => Agreement::Memory,
     }
 }
@@ -117,7 +116,6 @@ fn refused_too(alloc: Global, text: &str) -> Agreement {
     match Document::open(text, &mut scratch, Vec::new(alloc)) {
         Ok(_) => Agreement::Differ,
         Err(OpenError::NotJson) => Agreement::Refused,
-        Err(OpenError::TooLong) => Agreement::Memory,
         Err(OpenError::Memory) => Agreement::Memory,
     }
 }

@@ -1,4 +1,4 @@
-use Rattle.std.proofs.Common.{◌≡◌, ℕ, ◌+◌, ◌≤◌, ◌<◌, min, subst, arith}
+use Rattle.std.proofs.Common.{◌≡◌, ℕ, ◌+◌, ◌<◌, min, subst, arith}
 use Rattle.serde_json.specs.Data.{Items, no_items}
 use Rattle.json_document.specs.Number.{how_many}
 use Rattle.json_document.proofs.types.Items.count.Goals as goal

@@ -20,17 +20,17 @@ pub loop-key-init : goal.loop-key-init
 loop-key-init c = walk_start _ c.args.self.now.known _ c.in-Some.rest c.in-Some.ensures
 
 pub invariant_of-found : goal.invariant_of-found
-invariant_of-found c = record { known = (walk_on _ _ _ _ c.loop-key.invariant c.in-Some-next.key.now c.in-Some-next.element c.next.new.self c.in-Some-next.ensures.value).0 }
+invariant_of-found c = record { known = (walk_on _ _ _ _ c.loop-key.invariant c.in-Some-take_member.key.now c.in-Some-take_member.element c.take_member.new.self c.in-Some-take_member.ensures.value).0 }
 
 pub loop-key-preserved-then-is_wanted : goal.loop-key-preserved-then-is_wanted
 loop-key-preserved-then-is_wanted c =
-    walk_taken _ _ _ _ c.loop-key.invariant c.in-Some-next.key.now c.in-Some-next.element c.next.new.self c.in-Some-next.ensures.value
-    (test_is _ c.in-Some-next.key.now c.loop-key.found ∙ sym c.is_wanted.ensures ∙ c.if-is_wanted.true)
+    walk_taken _ _ _ _ c.loop-key.invariant c.in-Some-take_member.key.now c.in-Some-take_member.element c.take_member.new.self c.in-Some-take_member.ensures.value
+    (test_is _ c.in-Some-take_member.key.now c.loop-key.found ∙ sym c.is_wanted.ensures ∙ c.if-is_wanted.true)
 
 pub loop-key-preserved : goal.loop-key-preserved
 loop-key-preserved c =
-    walk_left _ _ _ _ c.loop-key.invariant c.in-Some-next.key.now c.in-Some-next.element c.next.new.self c.in-Some-next.ensures.value
-    (test_is _ c.in-Some-next.key.now c.loop-key.found ∙ sym c.is_wanted.ensures ∙ c.if-is_wanted.false)
+    walk_left _ _ _ _ c.loop-key.invariant c.in-Some-take_member.key.now c.in-Some-take_member.element c.take_member.new.self c.in-Some-take_member.ensures.value
+    (test_is _ c.in-Some-take_member.key.now c.loop-key.found ∙ sym c.is_wanted.ensures ∙ c.if-is_wanted.false)
 
 pub returns : goal.returns
-returns c = walk_end _ _ _ _ c.loop-key.invariant c.in_default-next.ensures.value
+returns c = walk_end _ _ _ _ c.loop-key.invariant c.in_default-take_member.ensures.value

@@ -30,7 +30,7 @@ invariant_of-found c =
     let known = (object_some _ c.args.self.now.known _ c.in-Some.ensures).0 in
     record {
       known = one_known _ known (texts c.args.names.now) (map (option_map view) c.loop-key.found) _ c.loop-key.invariant.so_far
-          c.in-Some-next.key.now c.in-Some-next.element c.next.new.self c.in-Some-next.ensures.value;
+          c.in-Some-take_member.key.now c.in-Some-take_member.element c.take_member.new.self c.in-Some-take_member.ensures.value;
     }
 
 pub loop-key-preserved : goal.loop-key-preserved
@@ -39,9 +39,9 @@ loop-key-preserved c =
     let rising = sym c.rise.ensures ∙ c.if-not-rise.false in
     let long = length-map c.loop-key.found (option_map view) ∙ c.loop-key.invariant.room ∙ sym (length-map c.args.names.now (λ s. s.now)) in
     let more = found_more _ known (texts c.args.names.now) (map (option_map view) c.loop-key.found) _ c.loop-key.invariant.so_far
-    c.in-Some-next.key.now c.in-Some-next.element c.next.new.self c.in-Some-next.ensures.value c.in-Some-place_of.place rising long c.in-Some-place_of.ensures.1 in
+    c.in-Some-take_member.key.now c.in-Some-take_member.element c.take_member.new.self c.in-Some-take_member.ensures.value c.in-Some-place_of.place rising long c.in-Some-place_of.ensures.1 in
     record {
-      so_far = subst (λ os. FoundSoFar (members_in (data_at c.args.self.now.element)) (texts c.args.names.now) os c.next.new.self) (sym (map_set (option_map view) c.loop-key.found c.in-Some-place_of.place _)) more;
+      so_far = subst (λ os. FoundSoFar (members_in (data_at c.args.self.now.element)) (texts c.args.names.now) os c.take_member.new.self) (sym (map_set (option_map view) c.loop-key.found c.in-Some-place_of.place _)) more;
       room = length-set c.loop-key.found c.in-Some-place_of.place _ ∙ c.loop-key.invariant.room;
     }
 
@@ -49,16 +49,16 @@ pub returns-in-None-clause-others : goal.returns-in-None-clause-others
 returns-in-None-clause-others c =
     let known = (object_some _ c.args.self.now.known _ c.in-Some.ensures).0 in
     λ _. not_named _ known (texts c.args.names.now) (map (option_map view) c.loop-key.found) _ c.loop-key.invariant.so_far
-    c.in-Some-next.key.now c.in-Some-next.element c.next.new.self c.in-Some-next.ensures.value c.in-None.ensures
+    c.in-Some-take_member.key.now c.in-Some-take_member.element c.take_member.new.self c.in-Some-take_member.ensures.value c.in-None.ensures
 
 pub returns-clause-fields : goal.returns-clause-fields
 returns-clause-fields c =
     let known = (object_some _ c.args.self.now.known _ c.in-Some.ensures).0 in
-    λ _. found_all _ known (texts c.args.names.now) (map (option_map view) c.loop-key.found) _ c.loop-key.invariant.so_far c.in_default-next.ensures.value
+    λ _. found_all _ known (texts c.args.names.now) (map (option_map view) c.loop-key.found) _ c.loop-key.invariant.so_far c.in_default-take_member.ensures.value
 
 pub returns-clause-others : goal.returns-clause-others
 returns-clause-others c =
     let known = (object_some _ c.args.self.now.known _ c.in-Some.ensures).0 in
     let long = length-map c.loop-key.found (option_map view) ∙ c.loop-key.invariant.room ∙ sym (length-map c.args.names.now (λ s. s.now)) in
-    λ f. not_found _ known (texts c.args.names.now) (map (option_map view) c.loop-key.found) _ c.loop-key.invariant.so_far c.in_default-next.ensures.value long
+    λ f. not_found _ known (texts c.args.names.now) (map (option_map view) c.loop-key.found) _ c.loop-key.invariant.so_far c.in_default-take_member.ensures.value long
     (all_some view c.loop-key.found ∙ sym c.are_some.ensures ∙ f)

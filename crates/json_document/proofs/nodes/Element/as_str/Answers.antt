@@ -1,0 +1,11 @@
+use Rattle.std.proofs.Common.{drop, ◌∙◌, subst}
+use Rattle.json.specs.Find.{BeginsWith}
+use Rattle.json.specs.Tape.{node_token}
+use Rattle.json_document.proofs.Places.{begun, text_told}
+use Rattle.json_document.proofs.nodes.Element.as_str.Goals as goal
+
+pub returns : goal.returns
+returns c j begins =
+    let rest = drop 1 c.args.self.now in
+    let first = subst (λ ts. BeginsWith ts j) (c.node.ensures j begins) begins in
+    c.text_held.ensures ∙ text_told c.node.result rest j first.1 (begun (node_token c.node.result) rest j first.0 first.1 first.2)
