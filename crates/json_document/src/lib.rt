@@ -1,6 +1,6 @@
 //! JSON texts read where they stand: a document is opened over a text, and its values are looked at in `serde_json`'s words.
 //!
-//! A `Document` is a flat list of what stands in the text (a tape of the crate `json`), a `Value` a place in it. No value is
+//! A `Document` is a flat list of what stands in the text, a node for each token, a `Value` a place in it. No value is
 //! built: a text of a document is borrowed from the text that was opened, or from the scratch where it has an escape. What
 //! is read, and what is refused, is what `serde_json` says: each contract here cites its definitions (`read`, `Data`, and
 //! what its own values are asked), and none of `json`'s.
