@@ -254,7 +254,7 @@ not_one (member k d (member l e ms)) h = refl
 put_again : (k : List ℕ) (d e : Data) → put k d (member k e no_members) ≡ member k d no_members
 put_again k d e = let tied : order k k ≡ Equal = tied_itself nat_list_cmp_total k in rw tied refl
 
--- ---- in the words of the tape's clauses
+-- ---- in the words of the clauses of elements
 
 -- the members so far are those under the keys that have a value, and ms are left
 abbrev pub FoundSoFar : Members → List (List ℕ) → List (Option Data) → List Token → Type 0

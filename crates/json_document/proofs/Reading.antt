@@ -60,7 +60,7 @@ reads_from ts d e = from_read ts _ d refl e
 pub data_at_reads : (ts : List Token) (d : Data) → Reads ts d → data_at ts ≡ Some d
 data_at_reads ts d r = data_at_is ts r.0 r.1 ∙ r.2
 
-known_is : (o : Option Data) → is_data o ≡ true → o ≡ Some (or_null o)
+pub known_is : (o : Option Data) → is_data o ≡ true → o ≡ Some (or_null o)
 known_is None e = absurd (cc)
 known_is (Some d) e = refl
 
@@ -282,7 +282,7 @@ module _ (dm : Members) (b : Option (List ℕ)) (old : List Token) (f : Option (
       let e = sym (ap (λ ms. of_members ms walked.1) (h walked.0 walked.2)) ∙ walked.3 in
       walked.4 ∙ ap (λ o. first_member (above b (members_in (option_map object o)))) e
 
--- ---- from a known value, in the words of the tape's clauses
+-- ---- from a known value, in the words of the clauses of elements
 
 module _ (ts : List Token) (known : is_data (data_at ts) ≡ true) where
   pub natural_seen : (t : List ℕ) → ((j : json.Json) → BeginsWith ts j → Some t ≡ found.as_number j) → number_of t ≡ seen.as_number (or_null (data_at ts))

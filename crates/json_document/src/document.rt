@@ -1,9 +1,9 @@
 //! Whole texts: which are read.
 ghost use Rattle.std.specs.Prelude.{◌≡◌, map, Some, None, IfOk, IsErrOf};
-ghost use Rattle.json.specs.Token.{begin_array, begin_object, end_array, end_object};
+ghost use Rattle.std.specs.List.{list_all};
 ghost use Rattle.json.specs.Tape.{node_token};
 ghost use Rattle.serde_json.specs.Read.{read};
-ghost use Rattle.json_document.specs.Limits.{are_taken, depth_after};
+ghost use Rattle.json_document.specs.Limits.{in_range};
 ghost use Rattle.json_document.specs.View.{view, document_view};
 
 use crate::keep::whole;
@@ -20,9 +20,6 @@ pub enum OpenError {
     Memory,
 }
 
-/// How deep arrays and objects nest where `serde_json` reads them.
-const MAX_DEPTH: usize = 127;
-
 impl<'a> Document<'a> {
     /// The document that the text is. What stands in the text goes into `buffer`, which is emptied first.
     ///
@@ -38,7 +35,7 @@ impl<'a> Document<'a> {
         ensures err { IsErrOf result OpenError.NotJson → read text.now ≡ None }
     {
         let nodes = whole(text, scratch, buffer)?;
-        if is_taken(nodes.list()) {
+        if are_in_range(nodes.list()) {
             Ok(Document { nodes })
         } else {
             Err(OpenError::NotJson)
@@ -55,56 +52,24 @@ impl<'a> Document<'a> {
     }
 }
 
-/// Whether the numbers are in range, and the levels no more than are read.
-fn is_taken(nodes: &[Node<'_>]) -> bool
-    ensures { result ≡ are_taken 0 (map node_token nodes.now) }
+/// Whether all numbers are in range.
+fn are_in_range(nodes: &[Node<'_>]) -> bool
+    ensures { result ≡ list_all in_range (map node_token nodes.now) }
 {
-    let mut depth = 0usize;
     for node in nodes {
-        match depth_after(node, depth) {
-            Some(next) => depth = next,
-            None => return false,
+        if !is_in_range(node) {
+            return false;
         }
     }
     true
 }
 
-/// How many brackets are open behind the node, where it is taken.
-fn depth_after(node: &Node<'_>, depth: usize) -> Option<usize>
-    ensures { result ≡ depth_after depth (node_token node.now) }
+/// Whether the node is no number out of range.
+fn is_in_range(node: &Node<'_>) -> bool
+    ensures { result ≡ in_range (node_token node.now) }
 {
     match node {
-        Node::Object(_) => opened(depth),
-        Node::Array(_) => opened(depth),
-        Node::EndObject => closed(depth),
-        Node::EndArray => closed(depth),
-        Node::Number(text) => match number(text) {
-            Some(_) => Some(depth),
-            None => None,
-        },
-        Node::Key(_) => Some(depth),
-        Node::String(_) => Some(depth),
-        Node::Bool(_) => Some(depth),
-        Node::Null => Some(depth),
+        Node::Number(text) => number(text).is_some(),
+        _ => true,
     }
-}
-
-/// How many brackets are open behind one that opens.
-fn opened(depth: usize) -> Option<usize>
-    ensures array { result ≡ depth_after depth begin_array }
-    ensures object { result ≡ depth_after depth begin_object }
-{
-    if depth < MAX_DEPTH {
-        Some(depth + 1)
-    } else {
-        None
-    }
-}
-
-/// How many brackets are open behind one that closes.
-fn closed(depth: usize) -> Option<usize>
-    ensures array { result ≡ depth_after depth end_array }
-    ensures object { result ≡ depth_after depth end_object }
-{
-    if depth == 0 { None } else { Some(depth - 1) }
 }

@@ -1,18 +1,19 @@
 //! The nodes of a text, kept as its tokens are read.
 ghost use Rattle.std.specs.Prelude.{◌≡◌, ◌<◌, [], ◌∷◌, ◌++◌, map, length, slice_set, Some, None, IfOk, IsSome, OnOk, IsErrOf};
 ghost use Rattle.json.specs.Token.{begin_array, begin_object};
-ghost use Rattle.json.specs.Json.{document, skip_value};
+ghost use Rattle.json.specs.Json.{skip_value};
 ghost use Rattle.json.specs.Lex.{tokens};
 ghost use Rattle.json.specs.Reads.{skip_items, skip_members};
 ghost use Rattle.json.specs.Tape.{node_token};
 ghost use Rattle.json_document.specs.Kept.{IsKept};
+ghost use Rattle.json_document.specs.Limits.{leveled};
 
 use crate::document::OpenError;
 use crate::nodes::Nodes;
 use json::{Node, Reader, Scratch, Token};
 
-/// How deep arrays and objects nest at most in what `json` reads.
-const MAX_DEPTH: usize = 128;
+/// How deep arrays and objects nest at most in what `serde_json` reads.
+const MAX_DEPTH: usize = 127;
 
 fn push<'a>(nodes: &mut Vec<Node<'a>>, node: Node<'a>) -> Result<(), OpenError>
     ensures ok { OnOk result (nodes.new.items ≡ nodes.old.items ++ node.entry ∷ []) }
@@ -122,14 +123,14 @@ fn keep_members<'a>(
     close(nodes, at, Node::EndObject, Node::Object(after))
 }
 
-/// The nodes of a text that is one value. They go into `buffer`, which is emptied first.
+/// The nodes of a text that is one value, of no more levels than `serde_json` reads. They go into `buffer`, which is emptied first.
 pub(crate) fn whole<'a>(
     text: &'a str,
     scratch: &'a mut Scratch,
     buffer: Vec<Node<'a>>,
 ) -> Result<Nodes<'a>, OpenError>
-    ensures ok { IfOk result (λ ns. (ns ≡ tokens text.now) × IsSome (document text.now)) }
-    ensures err { IsErrOf result OpenError.NotJson → document text.now ≡ None }
+    ensures ok { IfOk result (λ ns. (ns ≡ tokens text.now) × IsSome (leveled text.now)) }
+    ensures err { IsErrOf result OpenError.NotJson → leveled text.now ≡ None }
 {
     let mut nodes = buffer;
     nodes.clear();
