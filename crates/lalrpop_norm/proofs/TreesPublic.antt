@@ -1,7 +1,7 @@
 -- The plain rule of a public written rule, by itself or within one of its levels, is public.
 use Rattle.std.proofs.Common.{◌≡◌, inl, inr, ℕ, List, [], ◌∷◌, ◌++◌, map, Option, Some, None, Bool, true, false, not, refl, sym, ap, subst}
 use Rattle.std.specs.Prelude.{flat_map, filter, if◌then◌else◌}
-use Rattle.lalrpop_norm_parts.specs.declared.names.NonterminalString.{NonterminalString}
+use Rattle.lalrpop_norm_names.specs.declared.names.NonterminalString.{NonterminalString}
 use Rattle.lalrpop_norm_tree.specs.Accessors.{is_public}
 use Rattle.lalrpop_norm_tree.specs.Items.{RuleData, ItemData, GrammarData, match_item, extern_item, intern_item, rule_item, use_item}
 use Rattle.lalrpop_norm_theory.specs.Symbols.{Name, ClosedSymbol, reference}

@@ -1,7 +1,7 @@
 -- What is proved of the whole way, each statement in one piece. The functions of the module `laws` carry them.
 use Rattle.std.specs.Prelude.{◌≡◌, ◌↔◌, ◌++◌, ◌<◌, ◌∷◌, ℕ, List, [], Some, Bool, false, flat_map}
 use Rattle.std.specs.List.{range_with_len}
-use Rattle.lalrpop_norm_parts.specs.declared.names.Span.{Span}
+use Rattle.lalrpop_norm_names.specs.declared.names.Span.{Span}
 use Rattle.lalrpop_norm_faults.specs.declared.kind.FaultKind.TheVariants.{RecursionCap}
 use Rattle.lalrpop_norm_faults.specs.Faults.{first}
 use Rattle.lalrpop_norm_tree.specs.Items.{RuleData, GrammarData}

@@ -1,7 +1,7 @@
 -- What the code makes of the symbols that were met: its own words, of which no public clause speaks.
 use Rattle.std.specs.Prelude.{List, [], ◌∷◌, if◌then◌else◌}
-use Rattle.lalrpop_norm_parts.specs.declared.names.NonterminalString.{NonterminalString}
-use Rattle.lalrpop_norm_parts.specs.declared.names.Span.{Span}
+use Rattle.lalrpop_norm_names.specs.declared.names.NonterminalString.{NonterminalString}
+use Rattle.lalrpop_norm_names.specs.declared.names.Span.{Span}
 use Rattle.lalrpop_norm_tree.specs.Symbols.{Part, Parts, at, group, ambiguous_id, terminal, nonterminal, call, repeated, chosen}
 use Rattle.lalrpop_norm_tree.specs.Symbols.{named, tupled, lookahead, lookbehind, error_terminal}
 use Rattle.lalrpop_norm_tree.specs.Items.{AlternativeData, RuleData}

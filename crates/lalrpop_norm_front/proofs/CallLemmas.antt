@@ -1,6 +1,6 @@
 -- Lists that are not empty.
 use Rattle.std.proofs.Common.{◌≡◌, ◌<◌, List, [], ◌∷◌, length, arith, refl}
-use Rattle.lalrpop_norm_parts.specs.declared.names.Span.{Span}
+use Rattle.lalrpop_norm_names.specs.declared.names.Span.{Span}
 use Rattle.lalrpop_norm_tree.specs.declared.symbol.Symbol.{Symbol}
 use Rattle.lalrpop_norm_parts.specs.declared.attribute.Attribute.{Attribute}
 use Rattle.lalrpop_norm_parts.specs.Attributes.{attributes_view}

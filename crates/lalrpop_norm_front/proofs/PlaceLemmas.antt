@@ -2,7 +2,7 @@
 use Rattle.std.proofs.Common.{◌≡◌, ℕ, Bool, true, false, ◌||◌, ◌&&◌, List, [], ◌∷◌, ◌++◌, map, refl, ap, ap₂, ◌∙◌}
 use Rattle.std.specs.Prelude.{not, bytes_eq, codes, if◌then◌else◌}
 use Rattle.std.specs.List.{list_any}
-use Rattle.lalrpop_norm_parts.specs.declared.names.Span.{Span}
+use Rattle.lalrpop_norm_names.specs.declared.names.Span.{Span}
 use Rattle.lalrpop_norm_parts.specs.Attributes.{AttributeData, Attributes, attribute, no_attributes, attribute_and}
 use Rattle.lalrpop_norm_tree.specs.Items.{AssociatedTypeData, ItemData}
 use Rattle.lalrpop_norm_tree.specs.LoweredTypes.{holds_symbol}

@@ -1,6 +1,6 @@
 -- F11: the parts of a `cfg` that are of no known form.
 use Rattle.std.specs.Prelude.{ℕ, List, [], ◌∷◌, ◌++◌, bytes_eq, codes, ◌||◌, if◌then◌else◌}
-use Rattle.lalrpop_norm_parts.specs.declared.names.Span.{Span}
+use Rattle.lalrpop_norm_names.specs.declared.names.Span.{Span}
 use Rattle.lalrpop_norm_parts.specs.Attributes.{Argument, empty, paren, equal, AttributeData, attribute, Attributes}
 use Rattle.lalrpop_norm_parts.specs.Attributes.{no_attributes, attribute_and}
 use Rattle.lalrpop_norm_faults.specs.declared.kind.FaultKind.TheVariants.{MalformedCfg}

@@ -1,6 +1,6 @@
 -- The code's own words: faults along a list, where what stood before is handed on. By places they are those of GrammarFaults.
 use Rattle.std.specs.Prelude.{ℕ, Bool, ◌||◌, List, [], ◌∷◌, ◌++◌}
-use Rattle.lalrpop_norm_parts.specs.declared.names.Span.{Span}
+use Rattle.lalrpop_norm_names.specs.declared.names.Span.{Span}
 use Rattle.lalrpop_norm_parts.specs.Attributes.{Attributes, no_attributes, attribute_and}
 use Rattle.lalrpop_norm_tree.specs.Items.{AssociatedTypeData, ItemData}
 use Rattle.lalrpop_norm_faults.specs.Faults.{Fault}

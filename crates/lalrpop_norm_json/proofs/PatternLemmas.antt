@@ -1,6 +1,6 @@
 -- One level of the view of a pattern whose chosen parts are types.
 use Rattle.std.proofs.Common.{◌≡◌, ℕ, List, sym, ap, ◌∙◌}
-use Rattle.lalrpop_norm_parts.specs.declared.names.Span.{Span}
+use Rattle.lalrpop_norm_names.specs.declared.names.Span.{Span}
 use Rattle.lalrpop_norm_pattern.specs.declared.pattern.FieldPattern.{FieldPattern}
 use Rattle.lalrpop_norm_pattern.specs.declared.pattern.Pattern.{Pattern}
 use Rattle.lalrpop_norm_pattern.specs.declared.pattern.PatternKind.{PatternKind}

@@ -3,9 +3,9 @@ use Rattle.std.proofs.Common.{◌≡◌, ℕ, true, false, List, [], ◌∷◌, 
 use Rattle.std.specs.Fmt.{digits}
 use Rattle.std.proofs.lemmas.List.Elements.{All-nil, All-cons}
 use Rattle.lalrpop_norm_util.specs.Braces.{around_slot}
-use Rattle.lalrpop_norm_parts.specs.declared.names.Span.{Span}
-use Rattle.lalrpop_norm_parts.specs.declared.names.TerminalLiteral.TheVariants.{Quoted}
-use Rattle.lalrpop_norm_parts.specs.declared.names.TerminalString.TheVariants.{Literal}
+use Rattle.lalrpop_norm_names.specs.declared.names.Span.{Span}
+use Rattle.lalrpop_norm_names.specs.declared.names.TerminalLiteral.TheVariants.{Quoted}
+use Rattle.lalrpop_norm_names.specs.declared.names.TerminalString.TheVariants.{Literal}
 use Rattle.lalrpop_norm_parts.specs.Reprs.{tuple, no_reprs, named_repr}
 use Rattle.lalrpop_norm_tree.specs.Symbols.{one_name, several, no_arguments, argument_and, terminal, chosen, named, tupled, Part, at}
 use Rattle.lalrpop_norm_late.specs.Arguments.{patterns, names, IsFilled}

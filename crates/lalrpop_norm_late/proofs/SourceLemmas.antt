@@ -6,7 +6,7 @@ use Rattle.std.proofs.lemmas.List.{length-replicate}
 use Rattle.lalrpop_norm_tree.specs.Symbols.{chosen, named, tupled, at, Parts, no_parts, part_and}
 use Rattle.lalrpop_norm_tree.specs.Items.{Action, user_code, fallible_code, lookahead_code, lookbehind_code, AlternativeData}
 use Rattle.lalrpop_norm_parts.specs.Reprs.{ReprData, tuple, slice, nominal, associated, of_lifetime, reference, trait_object, function, no_reprs, repr_and}
-use Rattle.lalrpop_norm_parts.specs.Texts.{joined}
+use Rattle.lalrpop_norm_names.specs.Texts.{joined}
 use Rattle.lalrpop_norm_faults.specs.Faults.{fault_if}
 use Rattle.lalrpop_norm_faults.specs.declared.kind.FaultKind.TheVariants.{Placeholders}
 use Rattle.lalrpop_norm_lowering.specs.Counts.{count_faults}

@@ -3,7 +3,7 @@ use Rattle.std.proofs.Common.{◌≡◌, ◌∙◌, ℕ, suc, zero, ◌+◌, Boo
 use Rattle.std.specs.Prelude.{slice_get}
 use Rattle.std.specs.List.{AllByRecursion, IsDistinct}
 use Rattle.std.specs.Map.{keys_of}
-use Rattle.lalrpop_norm_parts.specs.declared.names.TerminalString.{TerminalString}
+use Rattle.lalrpop_norm_names.specs.declared.names.TerminalString.{TerminalString}
 use Rattle.lalrpop_norm_repr.specs.Tables.{found_terminal, same_terminal}
 use Rattle.lalrpop_norm_late.specs.Conversions.{numbered_terminals, sorted_terminals}
 use Rattle.lalrpop_norm_late.specs.Shape.{AreNumbers}

@@ -3,8 +3,8 @@ use Rattle.std.specs.Prelude.{ℕ, ◌||◌, Bool, true, false, List, [], map, f
 use Rattle.std.specs.Prelude.{Some, None, option_map, codes}
 use Rattle.std.specs.List.{list_any, enumerate_from}
 use Rattle.lalrpop_norm_tree.specs.declared.items.MatchEntry.{MatchEntry}
-use Rattle.lalrpop_norm_parts.specs.declared.names.Span.{Span}
-use Rattle.lalrpop_norm_parts.specs.declared.names.TerminalString.{TerminalString}
+use Rattle.lalrpop_norm_names.specs.declared.names.Span.{Span}
+use Rattle.lalrpop_norm_names.specs.declared.names.TerminalString.{TerminalString}
 use Rattle.lalrpop_norm_parts.specs.Bounds.{BoundData, lifetime_bound, WhereClauseData, lifetime_clause, type_clause}
 use Rattle.lalrpop_norm_parts.specs.MappedBounds.{mapped_bound}
 use Rattle.lalrpop_norm_tree.specs.Items.{ItemData, extern_item, intern_item, use_item, RuleData, GrammarData}

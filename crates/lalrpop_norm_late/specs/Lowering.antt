@@ -3,8 +3,8 @@ use Rattle.std.specs.Prelude.{ℕ, ◌+◌, List, [], ◌∷◌, length, unwrap_
 use Rattle.std.specs.BTreeMap.{insert_entry}
 use Rattle.std.specs.Ordering.{nat_cmp}
 use Rattle.std.specs.Cmp.Lexicographic.{slice_cmp}
-use Rattle.lalrpop_norm_parts.specs.declared.names.NonterminalString.{NonterminalString}
-use Rattle.lalrpop_norm_parts.specs.declared.names.TerminalString.TheVariants as terminal_string
+use Rattle.lalrpop_norm_names.specs.declared.names.NonterminalString.{NonterminalString}
+use Rattle.lalrpop_norm_names.specs.declared.names.TerminalString.TheVariants as terminal_string
 use Rattle.lalrpop_norm_tree.specs.Accessors.{rule_of, is_public}
 use Rattle.lalrpop_norm_parts.specs.Attributes.{no_attributes}
 use Rattle.lalrpop_norm_tree.specs.Items.{AlternativeData, RuleData, ItemData}

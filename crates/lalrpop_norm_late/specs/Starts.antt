@@ -1,5 +1,5 @@
 -- The rows of public rules, each with the name of its start symbol and its type.
-use Rattle.lalrpop_norm_parts.specs.declared.names.NonterminalString.{NonterminalString}
+use Rattle.lalrpop_norm_names.specs.declared.names.NonterminalString.{NonterminalString}
 use Rattle.lalrpop_norm_parts.specs.Reprs.{ReprData, repr_view}
 use Rattle.lalrpop_norm_tree.specs.Items.{RuleData, rule_view}
 use Rattle.lalrpop_norm_late.specs.declared.starts.Start.{Start}

@@ -1,6 +1,6 @@
 -- Where clauses under their `for<..>`.
 use Rattle.std.specs.Prelude.{List, [], ◌∷◌}
-use Rattle.lalrpop_norm_parts.specs.declared.names.TypeParameter.{TypeParameter}
+use Rattle.lalrpop_norm_names.specs.declared.names.TypeParameter.{TypeParameter}
 use Rattle.lalrpop_norm_parts.specs.Reprs.{LoweredClause, for_all}
 
 -- under its `for<..>`, if there is one

@@ -1,6 +1,6 @@
 -- The number of `<>` in a code against that of its sources.
 use Rattle.std.specs.Prelude.{ℕ, not, List, [], ◌∷◌, length, nat_eq}
-use Rattle.lalrpop_norm_parts.specs.declared.names.Span.{Span}
+use Rattle.lalrpop_norm_names.specs.declared.names.Span.{Span}
 use Rattle.lalrpop_norm_faults.specs.Faults.{Fault, fault_if}
 use Rattle.lalrpop_norm_faults.specs.declared.kind.FaultKind.TheVariants.{Placeholders}
 use Rattle.lalrpop_norm_model.specs.LoweringFaults.{span_over}

@@ -3,7 +3,7 @@ use Rattle.std.specs.Prelude.{◌≡◌, ℕ, Bool, ◌||◌, List, ◌∷◌, �
 use Rattle.std.specs.Prelude.{length, zip, flat_map, replicate, nat_le, All, None}
 use Rattle.std.specs.Prelude.{if◌then◌else◌, codes}
 use Rattle.lalrpop_norm_util.specs.Braces.{around_slot}
-use Rattle.lalrpop_norm_parts.specs.Texts.{joined}
+use Rattle.lalrpop_norm_names.specs.Texts.{joined}
 
 -- the code is these pieces with `<>` between each two, and no piece holds a `<>`
 pub record ArePieces (code first : List ℕ) (others : List (List ℕ)) : Type 0 where

@@ -3,7 +3,7 @@ use Rattle.std.specs.Prelude.{ℕ, Bool, true, false, ◌||◌, List, [], ◌∷
 use Rattle.std.specs.Prelude.{nat_le, if◌then◌else◌, codes}
 use Rattle.lalrpop_norm_util.specs.Braces.{is_slot}
 use Rattle.lalrpop_norm_model.specs.LoweringFaults.{slots}
-use Rattle.lalrpop_norm_parts.specs.Texts.{joined}
+use Rattle.lalrpop_norm_names.specs.Texts.{joined}
 
 -- what stands before the first `<>`, and what stands behind each
 abbrev pub Cut : Type 0

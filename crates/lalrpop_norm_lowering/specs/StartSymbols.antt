@@ -1,6 +1,6 @@
 -- The start symbols of public rules.
 use Rattle.std.specs.Prelude.{ℕ, List, ◌++◌, None}
-use Rattle.lalrpop_norm_parts.specs.declared.names.NonterminalString.{NonterminalString}
+use Rattle.lalrpop_norm_names.specs.declared.names.NonterminalString.{NonterminalString}
 use Rattle.lalrpop_norm_parts.specs.Attributes.{no_attributes}
 use Rattle.lalrpop_norm_tree.specs.Items.{AlternativeData, RuleData}
 use Rattle.lalrpop_norm_tree.specs.Symbols.{nonterminal, at, no_parts, part_and}

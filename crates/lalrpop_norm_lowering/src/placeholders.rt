@@ -1,6 +1,6 @@
 //! The `<>` of codes: how many there are, and what takes their places.
 ghost use Rattle.std.specs.Prelude.{◌≡◌, ◌+◌, ◌||◌, nat_le, ◌++◌, IfOk, OnOk, codes, length, map, option_map, string_bytes, flat_map, zip};
-ghost use Rattle.lalrpop_norm_parts.specs.Texts.{joined};
+ghost use Rattle.lalrpop_norm_names.specs.Texts.{joined};
 ghost use Rattle.lalrpop_norm_util.specs.Braces.{around_slot};
 ghost use Rattle.lalrpop_norm_model.specs.LoweringFaults.{slots};
 ghost use Rattle.lalrpop_norm_lowering.specs.Filled.{in_slots};

@@ -1,7 +1,7 @@
 -- The faults of the conditions of a macro's alternatives, where it is called.
 use Rattle.std.specs.Prelude.{ℕ, List, [], ◌∷◌, Option, Some, None, flat_map}
-use Rattle.lalrpop_norm_parts.specs.declared.names.TerminalLiteral.TheVariants.{Quoted}
-use Rattle.lalrpop_norm_parts.specs.declared.names.TerminalString.TheVariants.{Literal}
+use Rattle.lalrpop_norm_names.specs.declared.names.TerminalLiteral.TheVariants.{Quoted}
+use Rattle.lalrpop_norm_names.specs.declared.names.TerminalString.TheVariants.{Literal}
 use Rattle.lalrpop_norm_tree.specs.declared.items.Condition.{Condition}
 use Rattle.lalrpop_norm_tree.specs.Symbols.{Kind, Parts, terminal}
 use Rattle.lalrpop_norm_tree.specs.Items.{AlternativeData, RuleData}

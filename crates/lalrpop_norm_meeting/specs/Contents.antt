@@ -1,7 +1,7 @@
 -- What a symbol holds: what tells it from others of its kind, and the symbols inside it. The code's own words, of which no
 -- public clause speaks.
 use Rattle.std.specs.Prelude.{ℕ, Bool, false, List, [], Option, Some, None, option_map}
-use Rattle.lalrpop_norm_parts.specs.declared.names.TerminalString.{TerminalString}
+use Rattle.lalrpop_norm_names.specs.declared.names.TerminalString.{TerminalString}
 use Rattle.lalrpop_norm_tree.specs.declared.symbol.RepeatOp.{RepeatOp}
 use Rattle.lalrpop_norm_tree.specs.declared.symbol.RepeatOp.TheVariants as op
 use Rattle.lalrpop_norm_tree.specs.Symbols.{ArgumentPatterns, no_arguments, argument_patterns_view, Kind, Parts, group}

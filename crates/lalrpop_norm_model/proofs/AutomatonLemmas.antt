@@ -1,7 +1,7 @@
 -- What types and inference see of internal tokens: their entries, and not their automaton.
 use Rattle.std.proofs.Common.{◌≡◌, ℕ, zero, suc, List, [], ◌∷◌, ◌++◌, length, map, filter, flat_map, Option, Some, None, option_map, option_and_then, unwrap_or, codes, is_none, refl, ap, sym, ◌∙◌}
-use Rattle.lalrpop_norm_parts.specs.declared.names.TerminalString.{TerminalString}
-use Rattle.lalrpop_norm_parts.specs.declared.names.TerminalString.TheVariants.{Error}
+use Rattle.lalrpop_norm_names.specs.declared.names.TerminalString.{TerminalString}
+use Rattle.lalrpop_norm_names.specs.declared.names.TerminalString.TheVariants.{Error}
 use Rattle.lalrpop_norm_parts.specs.Accessors.{path_of}
 use Rattle.lalrpop_norm_tree.specs.Accessors.{or_else, first_of, enum_token_of, extern_token_of, intern_token_of, type_named}
 use Rattle.lalrpop_norm_tree.specs.Items.{AlternativeData, RuleData, AssociatedTypeData, EnumTokenData, ExternTokenData, InternTokenData, ItemData, GrammarData, intern_item}

@@ -3,8 +3,8 @@ use Rattle.std.proofs.Common.{◌≡◌, ℕ, List, [], ◌∷◌, refl}
 use Rattle.std.specs.Prelude.{◌+◌, false, Some, None, codes}
 use Rattle.std.specs.Str.{chars}
 use lib.Utf8.{encode}
-use Rattle.lalrpop_norm_parts.specs.declared.names.TerminalString.TheVariants.{Literal}
-use Rattle.lalrpop_norm_parts.specs.declared.names.TerminalLiteral.TheVariants.{Quoted}
+use Rattle.lalrpop_norm_names.specs.declared.names.TerminalString.TheVariants.{Literal}
+use Rattle.lalrpop_norm_names.specs.declared.names.TerminalLiteral.TheVariants.{Quoted}
 use Rattle.lalrpop_norm_parts.specs.Accessors.{path_of}
 use Rattle.lalrpop_norm_parts.specs.Attributes.{empty, attribute, attributes_of}
 use Rattle.lalrpop_norm_tree.specs.Symbols.{Kind, Part, group, call, chosen, named, tupled, no_arguments, lookahead, lookbehind, error_terminal, at, parts_of}

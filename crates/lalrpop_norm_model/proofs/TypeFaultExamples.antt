@@ -1,6 +1,6 @@
 -- Small grammars in which a rule has two types or none.
 use Rattle.std.proofs.Common.{◌≡◌, map, ℕ, List, [], ◌∷◌, Some, None, codes, true, false, inl, inr, refl, sym, subst}
-use Rattle.lalrpop_norm_parts.specs.declared.names.TypeParameter.TheVariants as parameter
+use Rattle.lalrpop_norm_names.specs.declared.names.TypeParameter.TheVariants as parameter
 use Rattle.lalrpop_norm_parts.specs.Accessors.{path_of}
 use Rattle.lalrpop_norm_tree.specs.Items.{RuleData, GrammarData, lookahead_code}
 use Rattle.lalrpop_norm_parts.specs.Reprs as lowered

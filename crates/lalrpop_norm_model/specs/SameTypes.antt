@@ -1,6 +1,6 @@
 -- Whether two lowered types are equal, as a test.
 use Rattle.std.specs.Prelude.{Bool, true, false, ◌&&◌, List, [], ◌∷◌, Option, Some, None, bytes_eq}
-use Rattle.lalrpop_norm_parts.specs.declared.names.Lifetime.{Lifetime}
+use Rattle.lalrpop_norm_names.specs.declared.names.Lifetime.{Lifetime}
 pub use Rattle.lalrpop_norm_parts.specs.FreeVariables.{same_parameter}
 use Rattle.lalrpop_norm_parts.specs.Paths.{PathData}
 use Rattle.lalrpop_norm_parts.specs.Reprs.{ReprData, Reprs, MaybeRepr, tuple, slice, nominal, associated, of_lifetime, reference}

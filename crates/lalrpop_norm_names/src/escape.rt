@@ -1,7 +1,7 @@
 //! The texts of literals and terminals.
 ghost use Rattle.std.specs.Prelude.{Some, ◌≡◌};
 ghost use Rattle.std.specs.Fmt.{WritesOnOk};
-ghost use Rattle.lalrpop_norm_parts.specs.Texts.{escape_char, escape, literal_text, terminal_text};
+ghost use Rattle.lalrpop_norm_names.specs.Texts.{escape_char, escape, literal_text, terminal_text};
 
 use crate::names::{TerminalLiteral, TerminalString};
 use std::fmt;

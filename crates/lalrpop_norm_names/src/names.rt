@@ -2,8 +2,6 @@
 ghost use Rattle.std.specs.Prelude.{Some};
 
 mod accessors;
-pub mod copy;
-pub mod show;
 
 use shared_text::Atom;
 use std::fmt;
@@ -82,7 +80,7 @@ impl fmt::Debug for Lifetime {
 }
 
 impl fmt::Display for TypeParameter {
-    ghost use Rattle.lalrpop_norm_parts.specs.Texts.{type_parameter_text};
+    ghost use Rattle.lalrpop_norm_names.specs.Texts.{type_parameter_text};
 
     ghost output = { λ p. Some (type_parameter_text p) };
 

@@ -1,6 +1,6 @@
 -- One level of an attribute's view.
 use Rattle.std.proofs.Common.{◌≡◌, List, ℕ, ap, sym, ◌∙◌}
-use Rattle.lalrpop_norm_parts.specs.declared.names.Span.{Span}
+use Rattle.lalrpop_norm_names.specs.declared.names.Span.{Span}
 use Rattle.lalrpop_norm_parts.specs.declared.attribute.Attribute.{Attribute}
 use Rattle.lalrpop_norm_parts.specs.declared.attribute.AttributeArg.{AttributeArg}
 use Rattle.lalrpop_norm_parts.specs.declared.attribute.AttributeArg.TheFolds.{fold-roll-Attribute}

@@ -13,11 +13,11 @@ use Rattle.lalrpop_norm_parts.specs.declared.bound.WhereClause.TheVariants.{OfTy
 use Rattle.lalrpop_norm_parts.specs.Bounds.{bound_parameter_view, bound_view, where_clause_view}
 use Rattle.lalrpop_norm_parts.specs.BoundTexts.{bound_parameter_text, bound_text, where_clause_text}
 use Rattle.std.proofs.Output.{has_written_append}
-use Rattle.lalrpop_norm_parts.specs.declared.names.TypeParameter.{TypeParameter}
+use Rattle.lalrpop_norm_names.specs.declared.names.TypeParameter.{TypeParameter}
 use Rattle.lalrpop_norm_parts.specs.declared.path.Path.{Path}
 use Rattle.lalrpop_norm_parts.specs.Paths.{path_view}
 use Rattle.lalrpop_norm_parts.specs.TypeTexts.{angled, forall_text, path_text}
-use Rattle.lalrpop_norm_parts.specs.Texts.{joined}
+use Rattle.lalrpop_norm_names.specs.Texts.{joined}
 use Rattle.lalrpop_norm_parts.specs.KnownTexts.{texts_after, joined_known, angled_known, bounds_known}
 
 -- ---- texts that may be open
@@ -50,10 +50,6 @@ module _ {X : Type 0} (text : X → Option (List ℕ)) (separator : List ℕ) wh
   pub each_after-more : (xs : List X) (i : ℕ) (x : X) → i < length xs → x ≡ get_or xs i x
       → texts_after separator (map text (take (i + 1) xs)) ≡ texts_after separator (map text (take i xs)) ++? (Some separator ++? text x)
   each_after-more xs i x h e = rw (take_more xs i x h, ← e, each_after-push (take i xs) x)
-
-pub map_same : {A : Type 0} (xs : List A) → map (λ x. x) xs ≡ xs
-map_same [] = refl
-map_same (x ∷ xs) = ap (λ ys. x ∷ ys) (map_same xs)
 
 pub map_twice : {X Y Z : Type 0} (g : Y → Z) (f : X → Y) (xs : List X) → map (λ x. g (f x)) xs ≡ map g (map f xs)
 map_twice g f [] = refl

@@ -1,9 +1,9 @@
 -- The worked examples of lifetime naming, by computing.
 use Rattle.std.proofs.Common.{◌≡◌, ℕ, List, [], ◌∷◌, Some, None, false, codes, refl, arith}
 use Rattle.std.proofs.lemmas.Fmt.{decimal_digit}
-use Rattle.lalrpop_norm_parts.specs.declared.names.Lifetime.{Lifetime}
-use Rattle.lalrpop_norm_parts.specs.declared.names.TypeParameter.{TypeParameter}
-use Rattle.lalrpop_norm_parts.specs.declared.names.TypeParameter.TheVariants as parameter
+use Rattle.lalrpop_norm_names.specs.declared.names.Lifetime.{Lifetime}
+use Rattle.lalrpop_norm_names.specs.declared.names.TypeParameter.{TypeParameter}
+use Rattle.lalrpop_norm_names.specs.declared.names.TypeParameter.TheVariants as parameter
 use Rattle.lalrpop_norm_parts.specs.Bounds.{lifetime_bound}
 use Rattle.lalrpop_norm_parts.specs.LifetimeNames.{Scope, named}
 use Rattle.lalrpop_norm_parts.specs.Reprs.{reference, named_repr, of_lifetime, has_bound, LoweredClause}

@@ -11,7 +11,7 @@ use Rattle.lalrpop_norm_parts.specs.BoundTexts.{bound_parameter_text, bound_text
 use Rattle.lalrpop_norm_parts.specs.LoweredTexts.{lowered_bound_parameter_text, lowered_bound_text}
 use Rattle.lalrpop_norm_parts.specs.Paths.{path_view}
 use Rattle.lalrpop_norm_parts.specs.Reprs.{repr_view}
-use Rattle.lalrpop_norm_parts.specs.Texts.{joined}
+use Rattle.lalrpop_norm_names.specs.Texts.{joined}
 use Rattle.lalrpop_norm_parts.specs.TypeTexts.{forall_text, path_text, repr_text}
 use Rattle.lalrpop_norm_parts.proofs.KnownTextLemmas.{joined_known-all, angled_known-all}
 

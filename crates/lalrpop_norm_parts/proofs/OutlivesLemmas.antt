@@ -5,10 +5,11 @@ use Rattle.std.proofs.Math.Seq.{drop-cons}
 use Rattle.std.specs.List.{list_any}
 use Rattle.lalrpop_norm_parts.specs.declared.lowered.TypeRepr.{TypeRepr}
 use Rattle.lalrpop_norm_parts.specs.declared.lowered.NominalTypeRepr.{NominalTypeRepr}
-use Rattle.lalrpop_norm_parts.specs.declared.names.TypeParameter.{TypeParameter}
-use Rattle.lalrpop_norm_parts.specs.declared.names.TypeParameter.TheVariants as parameter
+use Rattle.lalrpop_norm_names.specs.declared.names.TypeParameter.{TypeParameter}
+use Rattle.lalrpop_norm_names.specs.declared.names.TypeParameter.TheVariants as parameter
 use Rattle.lalrpop_norm_parts.specs.FreeVariables.{with_new}
-use Rattle.lalrpop_norm_parts.specs.LifetimeNames.{BeginsWith, is_parameter}
+use Rattle.lalrpop_norm_names.specs.NewLifetimes.{BeginsWith}
+use Rattle.lalrpop_norm_parts.specs.LifetimeNames.{is_parameter}
 use Rattle.lalrpop_norm_parts.specs.Paths.{PathData}
 use Rattle.lalrpop_norm_parts.specs.Reprs.{nominal, reprs_view, applied_view}
 use Rattle.lalrpop_norm_parts.proofs.ReprSeen.{applied_is}

@@ -1,6 +1,6 @@
 -- One level of a lowered type as data: what a type of each kind is seen as, over what its parts are seen as.
 use Rattle.std.proofs.Common.{◌≡◌, Option, Some, None, Box, Vec, Global, option_map, ap, sym, ◌∙◌}
-use Rattle.lalrpop_norm_parts.specs.declared.names.TypeParameter.{TypeParameter}
+use Rattle.lalrpop_norm_names.specs.declared.names.TypeParameter.{TypeParameter}
 use Rattle.lalrpop_norm_parts.specs.declared.path.Path.{Path}
 use Rattle.lalrpop_norm_parts.specs.declared.lowered.TypeRepr.{TypeRepr}
 use Rattle.lalrpop_norm_parts.specs.declared.lowered.NominalTypeRepr.{NominalTypeRepr}

@@ -1,12 +1,8 @@
--- What paths, terminals and attributes are asked for.
-use Rattle.std.specs.Prelude.{ℕ, Bool, false, ◌+◌, ◌||◌, List, [], ◌∷◌, length, Option, Some, None}
+-- What paths and attributes are asked for.
+use Rattle.std.specs.Prelude.{ℕ, Bool, false, ◌||◌, List, [], ◌∷◌, Option, Some, None}
 use Rattle.std.specs.Prelude.{if◌then◌else◌, bytes_eq, codes}
 use Rattle.lalrpop_norm_parts.specs.declared.lowered.LrCodeGeneration.{LrCodeGeneration}
 use Rattle.lalrpop_norm_parts.specs.declared.lowered.LrCodeGeneration.TheVariants.{TableDriven, RecursiveAscent, TestAll}
-use Rattle.lalrpop_norm_parts.specs.declared.names.TerminalLiteral.{TerminalLiteral}
-use Rattle.lalrpop_norm_parts.specs.declared.names.TerminalLiteral.TheVariants.{Quoted, Regex}
-use Rattle.lalrpop_norm_parts.specs.declared.names.TerminalString.{TerminalString}
-use Rattle.lalrpop_norm_parts.specs.declared.names.TerminalString.TheVariants.{Literal, Bare, Error}
 use Rattle.lalrpop_norm_parts.specs.Attributes.{AttributeData, attribute, paren, equal, attribute_and}
 use Rattle.lalrpop_norm_parts.specs.Paths.{PathData}
 
@@ -24,27 +20,6 @@ only_one (a ∷ b ∷ ids) = None
 -- the name that the path is, where it is not absolute and has one part
 abbrev pub single_name : PathData → Option (List ℕ)
 single_name p = if p.absolute then None else only_one p.ids
-
--- ---- terminals
-
-abbrev pub literal_of : TerminalString → Option TerminalLiteral
-literal_of (Literal l) = Some l
-literal_of (Bare a) = None
-literal_of Error = None
-
--- quoted literals stand above regular expressions
-abbrev pub base_precedence : TerminalLiteral → ℕ
-base_precedence (Quoted a) = 1
-base_precedence (Regex a) = 0
-
-abbrev pub literal_display_len : TerminalLiteral → ℕ
-literal_display_len (Quoted a) = length a
-literal_display_len (Regex a) = length a + 5
-
-abbrev pub terminal_display_len : TerminalString → ℕ
-terminal_display_len (Literal l) = literal_display_len l
-terminal_display_len (Bare a) = length a
-terminal_display_len Error = 5
 
 -- ---- attributes
 

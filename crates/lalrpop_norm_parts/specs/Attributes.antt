@@ -1,6 +1,6 @@
 -- Attributes as plain data: no pointer, no capacity.
 use Rattle.std.specs.Prelude.{ℕ, List, [], ◌∷◌, map, string_bytes}
-use Rattle.lalrpop_norm_parts.specs.declared.names.Span.{Span}
+use Rattle.lalrpop_norm_names.specs.declared.names.Span.{Span}
 use Rattle.lalrpop_norm_parts.specs.declared.attribute.Attribute.{Attribute}
 use Rattle.lalrpop_norm_parts.specs.declared.attribute.AttributeArg.{AttributeArg}
 use Rattle.lalrpop_norm_parts.specs.declared.attribute.AttributeArg.TheOpen.{AttributeArg-F, Attribute-F}

@@ -1,8 +1,8 @@
 -- Where clauses and bounds as plain data, over any type of their types.
 use Rattle.std.specs.Prelude.{◌≡◌, ℕ, List, map, Option, Some, None, option_map}
 use Rattle.std.specs.List.{AllZip}
-use Rattle.lalrpop_norm_parts.specs.declared.names.Lifetime.{Lifetime}
-use Rattle.lalrpop_norm_parts.specs.declared.names.TypeParameter.{TypeParameter}
+use Rattle.lalrpop_norm_names.specs.declared.names.Lifetime.{Lifetime}
+use Rattle.lalrpop_norm_names.specs.declared.names.TypeParameter.{TypeParameter}
 use Rattle.lalrpop_norm_parts.specs.declared.bound.TypeBoundParameter.{TypeBoundParameter}
 use Rattle.lalrpop_norm_parts.specs.declared.bound.TypeBoundParameter.TheVariants as parameter
 use Rattle.lalrpop_norm_parts.specs.declared.bound.TypeBound.{TypeBound}

@@ -2,8 +2,8 @@
 use Rattle.std.specs.Prelude.{Bool, false, not, List, [], ◌∷◌}
 use Rattle.std.specs.Prelude.{◌++◌, map, filter, option_to_list, if◌then◌else◌, bytes_eq}
 use Rattle.std.specs.List.{list_any}
-use Rattle.lalrpop_norm_parts.specs.declared.names.TypeParameter.{TypeParameter}
-use Rattle.lalrpop_norm_parts.specs.declared.names.TypeParameter.TheVariants as parameter
+use Rattle.lalrpop_norm_names.specs.declared.names.TypeParameter.{TypeParameter}
+use Rattle.lalrpop_norm_names.specs.declared.names.TypeParameter.TheVariants as parameter
 use Rattle.lalrpop_norm_parts.specs.Accessors.{single_name}
 use Rattle.lalrpop_norm_parts.specs.Paths.{PathData}
 use Rattle.lalrpop_norm_parts.specs.Reprs.{ReprData, Reprs, MaybeRepr, tuple, slice, nominal, associated, of_lifetime}

@@ -2,13 +2,11 @@ pub mod Paths
 pub mod Attributes
 pub mod Reprs
 pub mod Bounds
-pub mod Texts
 pub mod TypeTexts
 pub mod Accessors
 pub mod BoundTexts
 pub mod KnownTexts
 pub mod LoweredTexts
-pub mod Terminals
 pub mod MappedBounds
 pub mod Walks
 pub mod BottomUp

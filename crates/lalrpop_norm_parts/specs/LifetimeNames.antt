@@ -1,20 +1,17 @@
 -- Names for the anonymous lifetimes of a lowered type, and what its references imply.
-use Rattle.std.specs.Prelude.{◌≡◌, ℕ, Bool, false, ◌&&◌, List, [], ◌∷◌, ◌++◌, length, map, Option, Some}
-use Rattle.std.specs.Prelude.{None, if◌then◌else◌, bytes_eq, codes, decimal}
-use Rattle.lalrpop_norm_parts.specs.declared.names.Lifetime.{Lifetime}
-use Rattle.lalrpop_norm_parts.specs.declared.names.TypeParameter.{TypeParameter}
-use Rattle.lalrpop_norm_parts.specs.declared.names.TypeParameter.TheVariants as parameter
+use Rattle.std.specs.Prelude.{ℕ, Bool, false, ◌&&◌, List, [], ◌∷◌, ◌++◌, length, map, Option, Some}
+use Rattle.std.specs.Prelude.{None, if◌then◌else◌, bytes_eq, codes}
+use Rattle.lalrpop_norm_names.specs.declared.names.Lifetime.{Lifetime}
+use Rattle.lalrpop_norm_names.specs.declared.names.TypeParameter.{TypeParameter}
+use Rattle.lalrpop_norm_names.specs.declared.names.TypeParameter.TheVariants as parameter
 use Rattle.lalrpop_norm_parts.specs.declared.lowered.WhereClause.{WhereClause}
+use Rattle.lalrpop_norm_names.specs.NewLifetimes.{numbered_lifetime}
 use Rattle.lalrpop_norm_parts.specs.Accessors.{single_name}
 use Rattle.lalrpop_norm_parts.specs.Bounds.{lifetime_bound}
 use Rattle.lalrpop_norm_parts.specs.FreeVariables.{with_new, free_in}
 use Rattle.lalrpop_norm_parts.specs.Reprs.{ReprData, Reprs, MaybeRepr, tuple, slice, nominal, associated, of_lifetime}
 use Rattle.lalrpop_norm_parts.specs.Reprs.{reference, trait_object, function, no_reprs, repr_and, no_repr, returns}
 use Rattle.lalrpop_norm_parts.specs.Reprs.{parameter_repr, LoweredClause, has_bound, lowered_where_clause_view}
-
--- a list that begins with another
-abbrev pub BeginsWith : {A : Type 0} → List A → List A → Type 0
-BeginsWith {A} xs ys = (more : List A) × (xs ≡ ys ++ more)
 
 -- ---- clauses
 
@@ -51,10 +48,6 @@ pub record Scope : Type 0 where
 abbrev pub scope_of : List TypeParameter → List WhereClause → Scope
 scope_of ps cs = record { parameters = ps; clauses = map lowered_where_clause_view cs }
 
--- `'`, the prefix and a number
-abbrev pub numbered_lifetime : List ℕ → ℕ → Lifetime
-numbered_lifetime prefix n = record { 0 = codes "'" ++ prefix ++ decimal n }
-
 -- the number is how many parameters there are
 abbrev pub new_lifetime : List ℕ → Scope → Lifetime
 new_lifetime prefix s = numbered_lifetime prefix (length s.parameters)
@@ -67,11 +60,6 @@ abbrev pub lifetime_named : List ℕ → Lifetime → Scope → ReprData × Scop
 lifetime_named prefix l s =
     if bytes_eq l.0 (codes "'_")
     then (of_lifetime (new_lifetime prefix s), with_lifetime (new_lifetime prefix s) s) else (of_lifetime l, s)
-
--- the lifetime that a reference gets, and the parameters then
-abbrev pub IsLifetimeOf : List ℕ → Option Lifetime → List TypeParameter → Lifetime → List TypeParameter → Type 0
-IsLifetimeOf prefix None ps l qs = (l ≡ numbered_lifetime prefix (length ps)) × (qs ≡ ps ++ parameter.Lifetime l ∷ [])
-IsLifetimeOf prefix (Some k) ps l qs = (l ≡ k) × (qs ≡ ps)
 
 -- a reference with a lifetime: what is free in its referent outlives it
 abbrev pub outlived : Lifetime → Bool → ReprData → Scope → ReprData × Scope

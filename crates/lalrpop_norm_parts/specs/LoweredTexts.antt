@@ -1,10 +1,10 @@
 -- The texts of lowered where clauses and of their bounds, as bytes.
 use Rattle.std.specs.Prelude.{ℕ, List, ◌++◌, map, codes}
-use Rattle.lalrpop_norm_parts.specs.declared.names.TypeParameter.{TypeParameter}
+use Rattle.lalrpop_norm_names.specs.declared.names.TypeParameter.{TypeParameter}
 use Rattle.lalrpop_norm_parts.specs.Bounds.{BoundParameterData, lifetime_parameter, type_parameter, associated_type, BoundData}
 use Rattle.lalrpop_norm_parts.specs.Bounds.{lifetime_bound, function_bound, trait_bound}
 use Rattle.lalrpop_norm_parts.specs.Reprs.{ReprData, maybe_repr_of, LoweredClause, for_all, has_bound}
-use Rattle.lalrpop_norm_parts.specs.Texts.{joined, type_parameter_text}
+use Rattle.lalrpop_norm_names.specs.Texts.{joined, type_parameter_text}
 use Rattle.lalrpop_norm_parts.specs.TypeTexts.{path_text, forall_text, angled, repr_text, return_text}
 
 -- `'a`, `T` or `Item = T`

@@ -1,7 +1,7 @@
 -- Lowered types and where clauses as plain data.
 use Rattle.std.specs.Prelude.{ℕ, Bool, false, List, [], ◌∷◌, map, Option, Some, None, option_map, codes}
-use Rattle.lalrpop_norm_parts.specs.declared.names.Lifetime.{Lifetime}
-use Rattle.lalrpop_norm_parts.specs.declared.names.TypeParameter.{TypeParameter}
+use Rattle.lalrpop_norm_names.specs.declared.names.Lifetime.{Lifetime}
+use Rattle.lalrpop_norm_names.specs.declared.names.TypeParameter.{TypeParameter}
 use Rattle.lalrpop_norm_parts.specs.declared.lowered.NominalTypeRepr.{NominalTypeRepr}
 use Rattle.lalrpop_norm_parts.specs.declared.lowered.TypeRepr.{TypeRepr}
 use Rattle.lalrpop_norm_parts.specs.declared.lowered.TypeRepr.TheOpen.{TypeRepr-F, NominalTypeRepr-F}
@@ -9,7 +9,7 @@ use Rattle.lalrpop_norm_parts.specs.declared.lowered.TypeRepr.TheFolds.{fold-Typ
 use Rattle.lalrpop_norm_parts.specs.declared.lowered.WhereClause.{WhereClause}
 use Rattle.lalrpop_norm_parts.specs.declared.lowered.WhereClause.TheOpen.{WhereClause-F}
 use Rattle.lalrpop_norm_parts.specs.declared.lowered.WhereClause.TheFolds.{fold-WhereClause}
-use Rattle.lalrpop_norm_parts.specs.declared.names.TypeParameter.TheVariants as parameter
+use Rattle.lalrpop_norm_names.specs.declared.names.TypeParameter.TheVariants as parameter
 use Rattle.lalrpop_norm_parts.specs.Paths.{PathData, path_view}
 use Rattle.lalrpop_norm_parts.specs.Bounds.{BoundData, bound_view}
 

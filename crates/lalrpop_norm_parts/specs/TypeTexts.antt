@@ -1,11 +1,11 @@
 -- The texts of paths, references and lowered types, as bytes.
 use Rattle.std.specs.Prelude.{ℕ, Bool, List, [], ◌∷◌, ◌++◌, map, Option, Some, None, if◌then◌else◌, codes}
-use Rattle.lalrpop_norm_parts.specs.declared.names.Lifetime.{Lifetime}
-use Rattle.lalrpop_norm_parts.specs.declared.names.TypeParameter.{TypeParameter}
+use Rattle.lalrpop_norm_names.specs.declared.names.Lifetime.{Lifetime}
+use Rattle.lalrpop_norm_names.specs.declared.names.TypeParameter.{TypeParameter}
 use Rattle.lalrpop_norm_parts.specs.Paths.{PathData}
 use Rattle.lalrpop_norm_parts.specs.Reprs.{ReprData, tuple, slice, nominal, associated, of_lifetime, reference, trait_object}
 use Rattle.lalrpop_norm_parts.specs.Reprs.{function, Reprs, no_reprs, repr_and, MaybeRepr, no_repr, returns, Applied}
-use Rattle.lalrpop_norm_parts.specs.Texts.{joined, type_parameter_text}
+use Rattle.lalrpop_norm_names.specs.Texts.{joined, type_parameter_text}
 
 -- `::` before an absolute path and between its parts
 abbrev pub path_text : PathData → List ℕ

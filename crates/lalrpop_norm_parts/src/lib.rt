@@ -7,7 +7,6 @@
 
 pub mod attribute;
 pub mod bound;
-pub mod escape;
 pub mod lowered;
 pub mod names;
 pub mod path;

@@ -1,6 +1,6 @@
 -- Patterns that are the same apart from their chosen parts, seen through a view of those.
 use Rattle.std.proofs.Common.{◌≡◌, List, [], ◌∷◌, map, refl, sym, ap, subst, ◌∙◌}
-use Rattle.lalrpop_norm_parts.specs.declared.names.Span.{Span}
+use Rattle.lalrpop_norm_names.specs.declared.names.Span.{Span}
 use Rattle.lalrpop_norm_pattern.specs.declared.pattern.FieldPattern.{FieldPattern}
 use Rattle.lalrpop_norm_pattern.specs.declared.pattern.Pattern.{Pattern}
 use Rattle.lalrpop_norm_pattern.specs.declared.pattern.PatternKind.{PatternKind}

@@ -5,7 +5,7 @@ use Rattle.lalrpop_norm_pattern.specs.Patterns.{PatternKindData, enumerated, str
 use Rattle.lalrpop_norm_pattern.specs.Patterns.{underscore, dot_dot, chosen, character, text, PatternData, pattern_at, Patterns}
 use Rattle.lalrpop_norm_pattern.specs.Patterns.{no_patterns, pattern_and, Fields, no_fields, field_and, FieldData}
 use Rattle.lalrpop_norm_parts.specs.KnownTexts.{joined_known}
-use Rattle.lalrpop_norm_parts.specs.Texts.{escape}
+use Rattle.lalrpop_norm_names.specs.Texts.{escape}
 use Rattle.lalrpop_norm_parts.specs.TypeTexts.{path_text}
 
 -- `..`, where the rest stands behind the fields

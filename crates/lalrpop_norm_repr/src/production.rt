@@ -1,7 +1,7 @@
 //! Productions.
 ghost use Rattle.std.specs.Prelude.{◌≡◌, Some, map, codes, IfOk};
 ghost use Rattle.std.specs.Fmt.{WritesOnOk};
-ghost use Rattle.lalrpop_norm_parts.specs.Texts.{joined};
+ghost use Rattle.lalrpop_norm_names.specs.Texts.{joined};
 ghost use Rattle.lalrpop_norm_repr.specs.Productions.{production_view};
 ghost use Rattle.lalrpop_norm_repr.specs.ReprTexts.{symbol_text, production_text};
 

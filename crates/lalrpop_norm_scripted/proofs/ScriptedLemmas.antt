@@ -1,7 +1,7 @@
 -- What a lexer finds in its lists.
 use Rattle.std.proofs.Common.{◌≡◌, ◌≢◌, ℕ, ◌<◌, List, length, get_or, refl, sym}
 use Rattle.std.proofs.lemmas.Option.{slice_get_read}
-use Rattle.lalrpop_norm_parts.specs.declared.names.TerminalLiteral.{TerminalLiteral}
+use Rattle.lalrpop_norm_names.specs.declared.names.TerminalLiteral.{TerminalLiteral}
 use Rattle.lalrpop_norm_scripted.specs.declared.Scripted.{Scripted}
 use Rattle.lalrpop_norm_scripted.specs.declared.Feature.{Feature}
 use Rattle.lalrpop_norm_model.specs.Lexers.{HasFeatureAt}

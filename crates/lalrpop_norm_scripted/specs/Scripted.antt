@@ -1,7 +1,7 @@
 -- The relations of a lexer that are lists handed to it.
 use Rattle.std.specs.Prelude.{◌≡◌}
 use Rattle.std.specs.List.{Any, Contains}
-use Rattle.lalrpop_norm_parts.specs.declared.names.TerminalLiteral.{TerminalLiteral}
+use Rattle.lalrpop_norm_names.specs.declared.names.TerminalLiteral.{TerminalLiteral}
 use Rattle.lalrpop_norm_scripted.specs.declared.Scripted.{Scripted}
 use Rattle.lalrpop_norm_model.specs.Lexers.{Lexer}
 use Rattle.lalrpop_norm_lexer.specs.Answers.{feature_of}

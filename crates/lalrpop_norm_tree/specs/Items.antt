@@ -1,9 +1,9 @@
 -- Items and grammars as plain data: no pointer, no capacity.
 use Rattle.std.specs.Prelude.{ℕ, List, Option, map, option_map, string_bytes}
-use Rattle.lalrpop_norm_parts.specs.declared.names.Span.{Span}
-use Rattle.lalrpop_norm_parts.specs.declared.names.NonterminalString.{NonterminalString}
-use Rattle.lalrpop_norm_parts.specs.declared.names.TerminalString.{TerminalString}
-use Rattle.lalrpop_norm_parts.specs.declared.names.TypeParameter.{TypeParameter}
+use Rattle.lalrpop_norm_names.specs.declared.names.Span.{Span}
+use Rattle.lalrpop_norm_names.specs.declared.names.NonterminalString.{NonterminalString}
+use Rattle.lalrpop_norm_names.specs.declared.names.TerminalString.{TerminalString}
+use Rattle.lalrpop_norm_names.specs.declared.names.TypeParameter.{TypeParameter}
 use Rattle.lalrpop_norm_tree.specs.declared.items.ActionKind.{ActionKind}
 use Rattle.lalrpop_norm_tree.specs.declared.items.ActionKind.TheVariants as action
 use Rattle.lalrpop_norm_tree.specs.declared.items.Alternative.{Alternative}

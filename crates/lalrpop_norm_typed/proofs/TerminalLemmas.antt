@@ -1,7 +1,7 @@
 -- The terminals of a grammar, seen by their list.
 use Rattle.std.proofs.Common.{◌≡◌, ◌∙◌, Bool, true, false, ◌&&◌, ◌||◌, not, cond, List, [], ◌∷◌, ◌++◌, Option, Some, None, refl, sym, ap, ap₂}
 use Rattle.std.specs.List.{list_any, filter}
-use Rattle.lalrpop_norm_parts.specs.declared.names.TerminalString.{TerminalString}
+use Rattle.lalrpop_norm_names.specs.declared.names.TerminalString.{TerminalString}
 use Rattle.lalrpop_norm_tree.specs.declared.items.MatchEntry.{MatchEntry}
 use Rattle.lalrpop_norm_tree.specs.declared.items.MatchMapping.{MatchMapping}
 use Rattle.lalrpop_norm_tree.specs.declared.items.MatchMapping.TheVariants.{Terminal, Skip}

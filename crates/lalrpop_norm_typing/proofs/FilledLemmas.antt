@@ -5,7 +5,7 @@ use Rattle.std.specs.List.{flat_map}
 use Rattle.std.specs.List.Sorted.{IsStrictlySortedBy}
 use Rattle.std.specs.Map.{keys_of}
 use Rattle.std.proofs.lemmas.List.{map-append, length-map}
-use Rattle.lalrpop_norm_parts.specs.declared.names.TypeParameter.{TypeParameter}
+use Rattle.lalrpop_norm_names.specs.declared.names.TypeParameter.{TypeParameter}
 use Rattle.lalrpop_norm_tree.specs.Items.{AlternativeData, RuleData, GrammarData}
 use Rattle.lalrpop_norm_faults.proofs.FaultLemmas.{exit_at}
 use Rattle.lalrpop_norm_faults.specs.Faults.{Fault, fault_if, IsFirst, Refuses}

@@ -2,7 +2,7 @@
 use Rattle.std.proofs.Common.{◌≡◌, List, Option, Vec, Global, sym, ap, ◌∙◌}
 use Rattle.std.specs.Prelude.{Result, IfOk, option_map}
 use Rattle.lalrpop_norm_parts.specs.declared.lowered.TypeRepr.{TypeRepr}
-use Rattle.lalrpop_norm_parts.specs.declared.names.TypeParameter.{TypeParameter}
+use Rattle.lalrpop_norm_names.specs.declared.names.TypeParameter.{TypeParameter}
 use Rattle.lalrpop_norm_parts.specs.declared.path.Path.{Path}
 use Rattle.lalrpop_norm_parts.specs.Paths.{path_view}
 use Rattle.lalrpop_norm_parts.specs.Reprs.{repr_view}

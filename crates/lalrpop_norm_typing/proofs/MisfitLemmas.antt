@@ -3,7 +3,7 @@ use Rattle.std.proofs.Common.{◌≡◌, ◌<◌, ◌+◌, ℕ, suc, true, false
 use Rattle.std.specs.List.{flat_map}
 use Rattle.std.specs.Prelude.{if◌then◌else◌}
 use Rattle.std.proofs.lemmas.List.{map-append, at_drop_more}
-use Rattle.lalrpop_norm_parts.specs.declared.names.Span.{Span}
+use Rattle.lalrpop_norm_names.specs.declared.names.Span.{Span}
 use Rattle.lalrpop_norm_parts.specs.declared.lowered.TypeRepr.{TypeRepr}
 use Rattle.lalrpop_norm_tree.specs.declared.symbol.ArgPattern.{ArgPattern}
 use Rattle.lalrpop_norm_tree.specs.declared.symbol.ArgPattern.TheFolds.{fold_out-Tuple}

@@ -2,9 +2,9 @@
 use Rattle.std.proofs.Common.{◌≡◌, List, [], ◌∷◌, Some, refl, sym, ap, ap₂, ◌∙◌}
 use Rattle.std.specs.Prelude.{option_map, unwrap_or}
 use Rattle.std.proofs.Math.Path.{fun_ext}
-use Rattle.lalrpop_norm_parts.specs.declared.names.NonterminalString.{NonterminalString}
-use Rattle.lalrpop_norm_parts.specs.declared.names.TerminalString.{TerminalString}
-use Rattle.lalrpop_norm_parts.specs.declared.names.TypeParameter.{TypeParameter}
+use Rattle.lalrpop_norm_names.specs.declared.names.NonterminalString.{NonterminalString}
+use Rattle.lalrpop_norm_names.specs.declared.names.TerminalString.{TerminalString}
+use Rattle.lalrpop_norm_names.specs.declared.names.TypeParameter.{TypeParameter}
 use Rattle.lalrpop_norm_tree.specs.Accessors.{or_else}
 use Rattle.lalrpop_norm_tree.specs.Items.{GrammarData}
 use Rattle.lalrpop_norm_parts.specs.Paths.{PathData}

@@ -5,7 +5,7 @@ use Rattle.std.proofs.lemmas.Bool.{both_ways, false_from_ne_true}
 use Rattle.std.proofs.lemmas.Bool.Decides.{eqb_tells, leb_tells}
 use Rattle.std.proofs.lemmas.List.{take_more, take_all}
 use Rattle.std.proofs.lemmas.Option.{slice_get_cases, slice_get_within, get_or_from_slice_get}
-use Rattle.lalrpop_norm_parts.specs.declared.names.TypeParameter.{TypeParameter}
+use Rattle.lalrpop_norm_names.specs.declared.names.TypeParameter.{TypeParameter}
 use Rattle.lalrpop_norm_parts.specs.Reprs.{ReprData}
 use Rattle.lalrpop_norm_theory.specs.Rounds.{In}
 use Rattle.lalrpop_norm_theory.proofs.RoundsLemmas.{in_left, in_right, in_cases}

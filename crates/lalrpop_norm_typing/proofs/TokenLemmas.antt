@@ -2,11 +2,11 @@
 use Rattle.std.proofs.Common.{◌≡◌, ℕ, Bool, true, false, List, [], ◌∷◌, Option, Some, None, cond, refl, sym, ap, ap₂, subst, ◌∙◌}
 use Rattle.std.specs.Prelude.{Result, IfOk, option_map}
 use Rattle.lalrpop_norm_parts.specs.declared.lowered.TypeRepr.{TypeRepr}
-use Rattle.lalrpop_norm_parts.specs.declared.names.NonterminalString.{NonterminalString}
-use Rattle.lalrpop_norm_parts.specs.declared.names.TerminalLiteral.{TerminalLiteral}
-use Rattle.lalrpop_norm_parts.specs.declared.names.TerminalLiteral.TheVariants.{Quoted, Regex}
-use Rattle.lalrpop_norm_parts.specs.declared.names.TerminalString.{TerminalString}
-use Rattle.lalrpop_norm_parts.specs.declared.names.TerminalString.TheVariants.{Literal, Bare, Error}
+use Rattle.lalrpop_norm_names.specs.declared.names.NonterminalString.{NonterminalString}
+use Rattle.lalrpop_norm_names.specs.declared.names.TerminalLiteral.{TerminalLiteral}
+use Rattle.lalrpop_norm_names.specs.declared.names.TerminalLiteral.TheVariants.{Quoted, Regex}
+use Rattle.lalrpop_norm_names.specs.declared.names.TerminalString.{TerminalString}
+use Rattle.lalrpop_norm_names.specs.declared.names.TerminalString.TheVariants.{Literal, Bare, Error}
 use Rattle.lalrpop_norm_tree.specs.Accessors.{or_else, first_of, extern_token_of, type_named}
 use Rattle.lalrpop_norm_tree.specs.Items.{AssociatedTypeData, ExternTokenData, GrammarData}
 use Rattle.lalrpop_norm_tree.specs.LoweredTypes.{repr_of}

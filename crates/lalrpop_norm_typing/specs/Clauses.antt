@@ -1,7 +1,7 @@
 -- The clauses of a rule, as the code has them.
 use Rattle.std.specs.Prelude.{List, [], ◌∷◌, map, Option, Some, None, option_map}
 use Rattle.std.specs.Prelude.{if◌then◌else◌}
-use Rattle.lalrpop_norm_parts.specs.declared.names.TypeParameter.{TypeParameter}
+use Rattle.lalrpop_norm_names.specs.declared.names.TypeParameter.{TypeParameter}
 use Rattle.lalrpop_norm_tree.specs.Accessors.{or_else}
 use Rattle.lalrpop_norm_parts.specs.Reprs.{ReprData, Reprs, no_reprs, repr_and, tuple}
 use Rattle.lalrpop_norm_tree.specs.Symbols.{Kind, Parts, kind_view}

@@ -2,7 +2,7 @@
 use Rattle.std.specs.Prelude.{List, ◌++◌, flat_map}
 use Rattle.std.specs.List.Sorted.{IsStrictlySortedBy}
 use Rattle.std.specs.Map.{keys_of}
-use Rattle.lalrpop_norm_parts.specs.declared.names.TypeParameter.{TypeParameter}
+use Rattle.lalrpop_norm_names.specs.declared.names.TypeParameter.{TypeParameter}
 use Rattle.lalrpop_norm_tree.specs.Items.{RuleData, GrammarData}
 use Rattle.lalrpop_norm_faults.specs.Faults.{Fault}
 use Rattle.lalrpop_norm_repr.specs.Orders.{name_cmp, terminal_cmp}

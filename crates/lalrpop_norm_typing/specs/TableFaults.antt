@@ -1,8 +1,8 @@
 -- The faults of inference by a table of types, rule by rule.
 use Rattle.std.specs.Prelude.{ℕ, Bool, false, List, [], ◌++◌, map, flat_map, Option, Some, None, is_none}
 use Rattle.std.specs.Prelude.{if◌then◌else◌}
-use Rattle.lalrpop_norm_parts.specs.declared.names.Span.{Span}
-use Rattle.lalrpop_norm_parts.specs.declared.names.TypeParameter.{TypeParameter}
+use Rattle.lalrpop_norm_names.specs.declared.names.Span.{Span}
+use Rattle.lalrpop_norm_names.specs.declared.names.TypeParameter.{TypeParameter}
 use Rattle.lalrpop_norm_parts.specs.Reprs.{ReprData, Reprs, tuple}
 use Rattle.lalrpop_norm_tree.specs.Items.{AlternativeData, RuleData}
 use Rattle.lalrpop_norm_tree.specs.Symbols.{Kind, tupled, Parts, at, no_parts, part_and}

@@ -2,7 +2,7 @@
 use Rattle.std.specs.Prelude.{◌≡◌, ℕ, List, Some, true, IsUtf8}
 use Rattle.serde_json.specs.Data.{Data}
 use Rattle.serde_json.specs.Read.{read}
-use Rattle.lalrpop_norm_parts.specs.declared.names.Span.{Span}
+use Rattle.lalrpop_norm_names.specs.declared.names.Span.{Span}
 use Rattle.lalrpop_norm_tree.specs.Items.{GrammarData}
 use Rattle.lalrpop_norm_faults.specs.declared.kind.FaultKind.{FaultKind}
 use Rattle.lalrpop_norm_faults.specs.Faults.{Fault, Finding, StandsAmong, MayBeTold}

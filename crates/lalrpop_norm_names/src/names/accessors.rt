@@ -1,6 +1,6 @@
 //! What names and terminals are asked for.
 ghost use Rattle.std.specs.Prelude.{◌≡◌, ◌↔◌, [], length, option_map, IfOk, IsTrue, codes};
-ghost use Rattle.lalrpop_norm_parts.specs.Accessors.{literal_of, base_precedence, literal_display_len, terminal_display_len};
+ghost use Rattle.lalrpop_norm_names.specs.Accessors.{literal_of, base_precedence, literal_display_len, terminal_display_len};
 
 use super::{Lifetime, NonterminalString, TerminalLiteral, TerminalString};
 use shared_text::{Atom, NoMemory};

@@ -126,7 +126,7 @@ fn copy_result<T: Clone>(ret: &Option<T>) -> Result<Option<T>, AllocError>
     }
 }
 
-#[tactic(auto, using(crate::proofs::KnownTextLemmas::map_same))]
+#[tactic(auto, using(lalrpop_norm_names::proofs::ListLemmas::map_same))]
 fn copy_types<T: Clone>(types: &Vec<T>) -> Result<Vec<T>, AllocError>
     ensures { IfOk result (λ ts. AllZip T.is_clone (map (λ t. t) types.now.items) (map (λ t. t) ts.items)) }
 {

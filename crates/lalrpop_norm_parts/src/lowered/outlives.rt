@@ -3,7 +3,8 @@ ghost use Rattle.std.specs.Prelude.{◌≡◌, ◌↔◌, ◌∷◌, ◌++◌, [
 ghost use Rattle.std.specs.List.{list_any};
 ghost use Rattle.lalrpop_norm_parts.specs.Accessors.{single_name};
 ghost use Rattle.lalrpop_norm_parts.specs.FreeVariables.{free_in};
-ghost use Rattle.lalrpop_norm_parts.specs.LifetimeNames.{BeginsWith, is_name, is_outlives, is_parameter, outlives, with_outlives};
+ghost use Rattle.lalrpop_norm_names.specs.NewLifetimes.{BeginsWith};
+ghost use Rattle.lalrpop_norm_parts.specs.LifetimeNames.{is_name, is_outlives, is_parameter, outlives, with_outlives};
 ghost use Rattle.lalrpop_norm_parts.specs.Paths.{path_view};
 ghost use Rattle.lalrpop_norm_parts.specs.Reprs.{repr_view, applied_view, nominal, of_lifetime, lowered_where_clause_view};
 
@@ -64,7 +65,7 @@ fn add_clause(
 }
 
 /// One more at the end, or none where memory is wanting.
-pub(super) fn append<X: Drop>(all: &mut Vec<X>, one: X) -> Result<(), NoMemory>
+fn append<X: Drop>(all: &mut Vec<X>, one: X) -> Result<(), NoMemory>
     ensures added { OnOk result (all.new.items ≡ all.old.items ++ one ∷ []) }
     ensures kept { OnErr result (all.new.items ≡ all.old.items) }
 {

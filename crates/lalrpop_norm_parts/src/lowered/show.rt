@@ -4,7 +4,7 @@ ghost use Rattle.std.specs.Fmt.{WritesOnOk};
 ghost use Rattle.lalrpop_norm_parts.specs.Bounds.{bound_view};
 ghost use Rattle.lalrpop_norm_parts.specs.LoweredTexts.{binder_text, lowered_bound_text, lowered_clause_text};
 ghost use Rattle.lalrpop_norm_parts.specs.Reprs.{repr_view, applied_view, reprs_view, maybe_repr_of, lowered_where_clause_view};
-ghost use Rattle.lalrpop_norm_parts.specs.Texts.{joined};
+ghost use Rattle.lalrpop_norm_names.specs.Texts.{joined};
 ghost use Rattle.lalrpop_norm_parts.specs.TypeTexts.{repr_text, repr_texts, applied_text, angled, reference_text, return_text, signature_text};
 ghost use Rattle.lalrpop_norm_parts.specs.Paths.{path_view};
 

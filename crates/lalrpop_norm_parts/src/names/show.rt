@@ -1,7 +1,7 @@
 //! The texts that names give to types: what is quantified, and what a reference begins with.
 ghost use Rattle.std.specs.Prelude.{map, codes};
 ghost use Rattle.std.specs.Fmt.{WritesOnOk};
-ghost use Rattle.lalrpop_norm_parts.specs.Texts.{joined, type_parameter_text};
+ghost use Rattle.lalrpop_norm_names.specs.Texts.{joined, type_parameter_text};
 ghost use Rattle.lalrpop_norm_parts.specs.LoweredTexts.{binder_text};
 ghost use Rattle.lalrpop_norm_parts.specs.TypeTexts.{forall_text, reference_text};
 

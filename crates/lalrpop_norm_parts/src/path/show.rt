@@ -2,7 +2,7 @@
 ghost use Rattle.std.specs.Prelude.{Some, ◌++◌};
 ghost use Rattle.std.specs.Fmt.{WritesOnOk};
 ghost use Rattle.lalrpop_norm_parts.specs.Paths.{path_view};
-ghost use Rattle.lalrpop_norm_parts.specs.Texts.{joined};
+ghost use Rattle.lalrpop_norm_names.specs.Texts.{joined};
 ghost use Rattle.lalrpop_norm_parts.specs.TypeTexts.{forall_text, path_text};
 
 use super::Path;

@@ -5,11 +5,11 @@ ghost use Rattle.lalrpop_norm_parts.specs.Paths.{path_view};
 ghost use Rattle.lalrpop_norm_pattern.specs.Patterns.{pattern_kind_view, pattern_view, field_view, patterns_view, fields_view};
 ghost use Rattle.lalrpop_norm_parts.specs.KnownTexts.{joined_known};
 ghost use Rattle.lalrpop_norm_pattern.specs.PatternTexts.{pattern_kind_text, pattern_text, pattern_texts, field_text, field_texts, rest_texts};
-ghost use Rattle.lalrpop_norm_parts.specs.Texts.{escape};
+ghost use Rattle.lalrpop_norm_names.specs.Texts.{escape};
 ghost use Rattle.lalrpop_norm_parts.specs.TypeTexts.{path_text};
 
 use super::{FieldPattern, Pattern, PatternKind};
-use lalrpop_norm_parts::escape::write_escaped;
+use lalrpop_norm_names::escape::write_escaped;
 use lalrpop_norm_parts::path::Path;
 use lalrpop_norm_parts::show::{show_between, show_joined};
 use shared_text::Atom;

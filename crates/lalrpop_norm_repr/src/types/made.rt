@@ -3,7 +3,7 @@ ghost use Rattle.std.specs.Prelude.{◌≡◌, List, [], ◌∷◌, ◌++◌, ma
 ghost use Rattle.lalrpop_norm_parts.specs.Paths.{path_view};
 ghost use Rattle.lalrpop_norm_parts.specs.Reprs.{repr_view, reprs_view, repr_and, no_reprs, unit_type, static_str};
 ghost use Rattle.lalrpop_norm_repr.specs.Tables.{rows, type_table, new_table, location_type, user_error_type, spanned, util_type};
-ghost use Rattle.lalrpop_norm_parts.specs.declared.names.TerminalString.TheVariants.{Error};
+ghost use Rattle.lalrpop_norm_names.specs.declared.names.TerminalString.TheVariants.{Error};
 
 use super::Types;
 use lalrpop_norm_tree::grammar::parse_tree::{Atom, Lifetime, NoMemory, Path, TerminalString};

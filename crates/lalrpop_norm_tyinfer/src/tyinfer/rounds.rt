@@ -1,6 +1,6 @@
 //! Rounds in which rules take their types.
 ghost use Rattle.std.specs.Prelude.{◌≡◌, [], ◌∷◌, None, Some, IfOk, OnOk, length, map};
-ghost use Rattle.lalrpop_norm_parts.specs.declared.names.NonterminalString.{NonterminalString};
+ghost use Rattle.lalrpop_norm_names.specs.declared.names.NonterminalString.{NonterminalString};
 ghost use Rattle.lalrpop_norm_parts.specs.Reprs.{repr_view};
 ghost use Rattle.lalrpop_norm_repr.specs.Tables.{type_table, type_of};
 ghost use Rattle.lalrpop_norm_typing.specs.Clauses.{clause_view, first_in};

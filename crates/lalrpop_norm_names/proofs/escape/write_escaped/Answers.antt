@@ -3,9 +3,9 @@ use Rattle.std.specs.List.{flat_map}
 use Rattle.std.proofs.Output.{has_written_of_eq}
 use Rattle.std.proofs.lemmas.Iterator.{YieldsList-from_chars}
 use Rattle.std.proofs.lemmas.Iterator.Consumers.{YieldsList-end}
-use Rattle.lalrpop_norm_parts.specs.Texts.{escape_char}
-use Rattle.lalrpop_norm_parts.proofs.KnownTextLemmas.{map_same}
-use Rattle.lalrpop_norm_parts.proofs.escape.write_escaped.Goals as goal
+use Rattle.lalrpop_norm_names.specs.Texts.{escape_char}
+use Rattle.lalrpop_norm_names.proofs.ListLemmas.{map_same}
+use Rattle.lalrpop_norm_names.proofs.escape.write_escaped.Goals as goal
 
 pub returns : goal.returns
 returns g c =

@@ -1,7 +1,7 @@
 use Rattle.std.specs.Fmt.{HasWritten, IsPlainFormatter}
 use Rattle.std.specs.List.{flat_map}
-use Rattle.lalrpop_norm_parts.specs.Texts.{escape_char}
-use Rattle.lalrpop_norm_parts.proofs.escape.write_escaped.Given as goal
+use Rattle.lalrpop_norm_names.specs.Texts.{escape_char}
+use Rattle.lalrpop_norm_names.proofs.escape.write_escaped.Given as goal
 
 abbrev pub invariant-loop-c : goal.invariant-loop-c
 invariant-loop-c g l =

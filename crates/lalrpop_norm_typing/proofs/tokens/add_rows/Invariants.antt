@@ -1,5 +1,5 @@
 use Rattle.std.proofs.Common.{◌≡◌, drop}
-use Rattle.lalrpop_norm_parts.specs.declared.names.TerminalString.{TerminalString}
+use Rattle.lalrpop_norm_names.specs.declared.names.TerminalString.{TerminalString}
 use Rattle.lalrpop_norm_tree.specs.Accessors.{or_else}
 use Rattle.lalrpop_norm_repr.specs.Tables.{type_table, listed_type, found_terminal}
 use Rattle.lalrpop_norm_typing.specs.TokenTypes.{rows_seen}

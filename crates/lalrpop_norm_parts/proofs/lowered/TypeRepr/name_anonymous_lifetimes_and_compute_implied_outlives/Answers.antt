@@ -1,6 +1,7 @@
 use Rattle.std.proofs.Common.{◌≡◌, [], refl, sym, ◌∙◌, rules}
 use Rattle.std.proofs.lemmas.List.{append-nil}
-use Rattle.lalrpop_norm_parts.specs.LifetimeNames.{BeginsWith, scope_of}
+use Rattle.lalrpop_norm_names.specs.NewLifetimes.{BeginsWith}
+use Rattle.lalrpop_norm_parts.specs.LifetimeNames.{scope_of}
 use Rattle.lalrpop_norm_parts.proofs.BottomUpLaws.{calls_keep, calls_name}
 use Rattle.lalrpop_norm_parts.proofs.OutlivesLemmas.{begins_then}
 use Rattle.lalrpop_norm_parts.proofs.lowered.TypeRepr.name_anonymous_lifetimes_and_compute_implied_outlives.Goals as goal

@@ -1,5 +1,6 @@
 use Rattle.std.proofs.Common.{◌≡◌, map, drop}
-use Rattle.lalrpop_norm_parts.specs.LifetimeNames.{BeginsWith, with_outlives}
+use Rattle.lalrpop_norm_names.specs.NewLifetimes.{BeginsWith}
+use Rattle.lalrpop_norm_parts.specs.LifetimeNames.{with_outlives}
 use Rattle.lalrpop_norm_parts.specs.Reprs.{lowered_where_clause_view}
 use Rattle.lalrpop_norm_parts.proofs.lowered.outlives.add_each.Given as goal
 

@@ -1,5 +1,5 @@
 use Rattle.std.proofs.Common.{codes}
-use Rattle.lalrpop_norm_parts.specs.Texts.{type_parameter_text}
+use Rattle.lalrpop_norm_names.specs.Texts.{type_parameter_text}
 use Rattle.lalrpop_norm_parts.proofs.KnownTextLemmas.{joined_known-all}
 use Rattle.lalrpop_norm_parts.proofs.names.show.show_parameters.Goals as goal
 

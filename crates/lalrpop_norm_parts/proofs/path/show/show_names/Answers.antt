@@ -1,4 +1,4 @@
-use Rattle.lalrpop_norm_parts.proofs.KnownTextLemmas.{map_same}
+use Rattle.lalrpop_norm_names.proofs.ListLemmas.{map_same}
 use Rattle.lalrpop_norm_parts.proofs.KnownTextLemmas.{joined_known-all}
 use Rattle.lalrpop_norm_parts.proofs.path.show.show_names.Goals as goal
 

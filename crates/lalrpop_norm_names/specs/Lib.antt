@@ -1,0 +1,4 @@
+pub mod Texts
+pub mod Accessors
+pub mod Terminals
+pub mod NewLifetimes
