@@ -8,6 +8,7 @@ ghost use Rattle.std.specs.Cmp;
 ghost use Rattle.std.specs.Cmp.Lexicographic.{nat_list_eq_equiv, nat_list_cmp_total, texts_ties, texts_po};
 
 use crate::counts::Shared;
+use arrayvec::ArrayString;
 use std::alloc::{AllocError, AllocFailed, Global};
 use std::cmp::Ordering;
 use std::fmt;
@@ -30,35 +31,54 @@ impl<T: Drop> From<AllocFailed<T>> for NoMemory {
     }
 }
 
-/// A text on the heap with several owners, seen as its bytes. It stays as it is.
+/// How many bytes a text may have that lies in the `Atom` itself.
+const SHORT: usize = 16;
+
+/// Where the bytes of a text are.
+#[derive(Drop)]
+enum Text {
+    /// In the value itself.
+    Short(ArrayString<SHORT>),
+    /// On the heap, with several owners.
+    Long(Shared<String, Global>),
+}
+
+/// A text, seen as its bytes. It stays as it is.
 ///
-/// One more owner takes no memory and can always be had. Equality, order, hash and what is shown are those of
-/// the bytes.
+/// A text of up to 16 bytes lies in the value itself, a longer one on the heap, with several owners. So one more `Atom` of the
+/// same text takes no memory and can always be had. Equality, order, hash and what is shown are those of the bytes.
 #[derive(Drop)]
 pub struct Atom {
-    text: Shared<String, Global>,
+    text: Text,
 }
 
 impl Model for Atom {
     ghost use Rattle.std.specs.Prelude.{ℕ, List};
     ghost use Rattle.std.specs.Coded.{coded_ℕ, coded_list};
-    ghost use Rattle.std.specs.String.{string_bytes};
+    ghost use Rattle.shared_text.specs.Texts.{text_bytes};
 
     ghost Value = { List ℕ };
 
     ghost coded = { coded_list coded_ℕ };
 
-    ghost view = { λ a. string_bytes a.text.value };
+    ghost view = { λ a. text_bytes a.text };
 }
 
 impl Atom {
-    /// The text, copied once. The only error is want of memory.
+    /// The text, copied once. The only error is want of memory, where the text is longer than 16 bytes.
     pub fn new(alloc: Global, text: &str) -> Result<Atom, NoMemory>
         ensures { IfOk result (λ a. a ≡ text.now) }
     {
-        let text = String::from_str(alloc, text)?;
-        let text = Shared::new(alloc, text)?;
-        Ok(Atom { text })
+        if let Ok(short) = ArrayString::from(text) {
+            return Ok(Atom {
+                text: Text::Short(short),
+            });
+        }
+        let long = String::from_str(alloc, text)?;
+        let shared = Shared::new(alloc, long)?;
+        Ok(Atom {
+            text: Text::Long(shared),
+        })
     }
 
     /// The text.
@@ -66,16 +86,21 @@ impl Atom {
         ensures text { result.now ≡ self.now }
         ensures utf8 { IsUtf8 self.now }
     {
-        self.text.value().as_str()
+        match &self.text {
+            Text::Short(short) => short.as_str(),
+            Text::Long(shared) => shared.value().as_str(),
+        }
     }
 
-    /// One more owner of the text: `clone` with no `Result`, for a function that must not fail.
+    /// The same text once more: `clone` with no `Result`, for a function that must not fail.
     pub fn again(&self) -> Atom
         ensures { result ≡ self.now }
     {
-        Atom {
-            text: self.text.again(),
-        }
+        let text = match &self.text {
+            Text::Short(short) => Text::Short(*short),
+            Text::Long(shared) => Text::Long(shared.again()),
+        };
+        Atom { text }
     }
 }
 
