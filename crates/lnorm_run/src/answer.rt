@@ -17,8 +17,10 @@ use lalrpop_norm_json::{TreeError, read_tree};
 use lalrpop_norm_tree::grammar::parse_tree::Grammar;
 use lnorm_streams::halt::Halt;
 use std::alloc::Global;
+use std::mem;
 
-/// The text for the bytes that were read: the lines of the lowered grammar of the tree whose JSON form they are.
+/// The text for the bytes that were read: the lines of the lowered grammar of the tree whose JSON form they are. The program
+/// ends behind it, so the lowered grammar is not let go: that would take its parts one by one.
 ///
 /// Errors: `NotATree` where they are the form of no tree; `Failed` with the first fault of the tree, or with want of
 /// memory.
@@ -28,7 +30,11 @@ pub fn answer(alloc: Global, session: &Session<CheckOnly>, bytes: &[u8]) -> Resu
 {
     let tree = tree_of(alloc, bytes)?;
     match normalize(alloc, session, tree) {
-        Ok(lowered) => text_of(alloc, &lowered),
+        Ok(lowered) => {
+            let text = text_of(alloc, &lowered);
+            mem::forget(lowered);
+            text
+        }
         Err(failure) => Err(Halt::Failed(failure)),
     }
 }

@@ -16,7 +16,7 @@ returns-in-Err-clause-err c = refused_explained (settings_view c.args.session.no
     c.in_ok-tree.ensures.ok c.in-Err.ensures.refuses
 
 pub returns-in-Ok-clause-ok : goal.returns-in-Ok-clause-ok
-returns-in-Ok-clause-ok c = IfOk-weaker c.text_of.result _ _
+returns-in-Ok-clause-ok c = IfOk-weaker c.text_of-text.result _ _
     (λ text printed. record {
       tree = grammar_view c.in_ok-tree.tree;
       form = c.in_ok-tree.ensures.ok;
@@ -29,4 +29,4 @@ returns-in-Ok-clause-ok c = IfOk-weaker c.text_of.result _ _
       };
       printed = printed;
     })
-    c.text_of.ensures.ok
+    c.text_of-text.ensures.ok
