@@ -55,7 +55,7 @@ some_is None e = absurd (cc)
 some_is (Some a) e = (a, refl)
 
 mutual
-  taken : (j : json.Json) (rest : List Token) → list_all in_range (json_tokens j ++ rest) ≡ true → ((x : Data) × (of_json j ≡ Some x)) × (list_all in_range rest ≡ true)
+  pub taken : (j : json.Json) (rest : List Token) → list_all in_range (json_tokens j ++ rest) ≡ true → ((x : Data) × (of_json j ≡ Some x)) × (list_all in_range rest ≡ true)
   taken json.null rest e = ((null, refl), e)
   taken (json.boolean b) rest e = ((boolean b, refl), e)
   taken (json.number s) rest e = let p = both_true (is_some (number_of s)) (list_all in_range rest) e in let n = some_is (number_of s) p.0 in ((number n.0, ap (option_map number) n.1), p.1)

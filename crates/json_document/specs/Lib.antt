@@ -6,3 +6,4 @@ pub mod Fields
 pub mod Number
 pub mod Nodes
 pub mod Kept
+pub mod Parted

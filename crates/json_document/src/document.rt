@@ -53,7 +53,7 @@ impl<'a> Document<'a> {
 }
 
 /// Whether all numbers are in range.
-fn are_in_range(nodes: &[Node<'_>]) -> bool
+pub(crate) fn are_in_range(nodes: &[Node<'_>]) -> bool
     ensures { result ≡ list_all in_range (map node_token nodes.now) }
 {
     for node in nodes {

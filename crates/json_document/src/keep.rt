@@ -13,9 +13,9 @@ use crate::nodes::Nodes;
 use json::{Node, Reader, Scratch, Token};
 
 /// How deep arrays and objects nest at most in what `serde_json` reads.
-const MAX_DEPTH: usize = 127;
+pub(crate) const MAX_DEPTH: usize = 127;
 
-fn push<'a>(nodes: &mut Vec<Node<'a>>, node: Node<'a>) -> Result<(), OpenError>
+pub(crate) fn push<'a>(nodes: &mut Vec<Node<'a>>, node: Node<'a>) -> Result<(), OpenError>
     ensures ok { OnOk result (nodes.new.items ≡ nodes.old.items ++ node.entry ∷ []) }
     ensures err { IsErrOf result OpenError.NotJson → ⊥ }
 {
@@ -26,7 +26,7 @@ fn push<'a>(nodes: &mut Vec<Node<'a>>, node: Node<'a>) -> Result<(), OpenError>
 }
 
 /// Keeps the node that closes, and puts the place behind it into the one that opens.
-fn close<'a>(
+pub(crate) fn close<'a>(
     nodes: &mut Vec<Node<'a>>,
     at: usize,
     end: Node<'a>,

@@ -11,9 +11,11 @@ mod fields;
 mod keep;
 mod nodes;
 mod number;
+mod parted;
 mod types;
 mod value;
 
 pub use document::OpenError;
 pub use json::Scratch;
+pub use parted::{ReadItem, open_parted};
 pub use types::{Document, Items, Members, Value};

@@ -49,10 +49,7 @@ impl<'a> Nodes<'a> {
     pub(crate) fn first(&self) -> Element<'_, 'a>
         ensures { result ≡ self.now }
     {
-        Element {
-            nodes: &self.list,
-            at: 0,
-        }
+        Element::of(&self.list)
     }
 }
 
@@ -76,6 +73,16 @@ impl<'t, 'a> Model for Element<'t, 'a> {
     ghost view = { λ a. drop a.at (map node_token a.nodes.now) };
 
     ghost invariant = { λ a. Linked (map node_token a.nodes.now) 0 a.nodes.now };
+}
+
+impl<'t, 'a> Element<'t, 'a> {
+    /// The place of the first one of these.
+    pub(crate) fn of(nodes: &'t [Node<'a>]) -> Element<'t, 'a>
+        requires { Linked (map node_token nodes.now) 0 nodes.now }
+        ensures { result ≡ map node_token nodes.now }
+    {
+        Element { nodes, at: 0 }
+    }
 }
 
 /// Where the value ends that begins at that node: the place of the node after it.

@@ -2,6 +2,7 @@
 use Rattle.std.specs.Prelude.{IfOk}
 use Rattle.std.proofs.Common.{◌≡◌, List, [], ◌∷◌, ◌++◌, map, Option, Some, None, option_map, option_and_then, Result, Ok, refl, sym, ap, ◌∙◌, subst}
 use Rattle.serde_json.specs.Data.{Data, Items, no_items, item, array}
+use Rattle.json_document.specs.Parted.{all_data}
 use Rattle.lalrpop_norm_tree.specs.declared.items.GrammarItem.{GrammarItem}
 use Rattle.lalrpop_norm_tree.specs.Items.{ItemData, item_view}
 use Rattle.lalrpop_norm_json.specs.Json.{row}
@@ -48,3 +49,8 @@ items_pushed v is ys r left d es so_far next form more =
 -- items that were read to the end of their list
 pub whole_items : (v : Data) (is : List GrammarItem) (left : Items) → ItemsRead v is left → left ≡ no_items → items_form (map item_view is) ≡ Some v
 whole_items v is left r none = ap (option_map row) r.1 ∙ ap Some (sym (whole_list v r.0 left r.2 none))
+
+-- the data of items that are read one after another is their forms
+pub all_forms : (is : List GrammarItem) → all_data (λ i. item_form (item_view i)) is ≡ item_forms (map item_view is)
+all_forms [] = refl
+all_forms (i ∷ is) = ap (λ o. option_and_then (λ d. option_map (λ ds. d ∷ ds) o) (item_form (item_view i))) (all_forms is)

@@ -5,7 +5,7 @@
 //! it holds several values, over an object where its fields have names. `grammar_form` of specs/ says it in full.
 #![tactic(auto)]
 
-ghost use Rattle.std.specs.Prelude.{◌≡◌, Some, IfOk, IsErrOf, false};
+ghost use Rattle.std.specs.Prelude.{◌≡◌, Some, IfOk, IfSome, IsErrOf, false};
 ghost use Rattle.serde_json.specs.Data.{Data};
 ghost use Rattle.serde_json.specs.Read.{read};
 ghost use Rattle.lalrpop_norm_tree.specs.Items.{grammar_view};
@@ -15,10 +15,10 @@ ghost use Rattle.lalrpop_norm_shapes.specs.Shapes.{is};
 
 mod tree;
 
-use json_document::Scratch;
+use json_document::{Scratch, open_parted};
 pub use lalrpop_norm_shapes::TreeError;
 use lalrpop_norm_shapes::document_of;
-use lalrpop_norm_tree::grammar::parse_tree::Grammar;
+use lalrpop_norm_tree::grammar::parse_tree::{Grammar, GrammarItem};
 use std::alloc::Global;
 
 /// The grammar whose form in JSON the text is: members in any order, blanks as JSON has them.
@@ -34,9 +34,27 @@ pub fn read_tree(alloc: Global, text: &str) -> Result<Grammar, TreeError>
     ensures not { IsErrOf result TreeError.NotATree → (d : Data) → read text.now ≡ Some d → is shape.grammar d ≡ false }
     ensures form { IsErrOf result TreeError.NotATree → IsForm text.now → ⊥ }
 {
+    if let Some(grammar) = read_in_parts(alloc, text) {
+        return Ok(grammar);
+    }
     let mut scratch = Scratch::new(alloc);
     match document_of(alloc, text, &mut scratch) {
         Ok(document) => tree::grammar(alloc, document.root()),
         Err(error) => Err(error),
     }
+}
+
+/// The same grammar, each item read as soon as its text is: so no more of the text stands in memory at one time than one item.
+/// Where it answers nothing, the text is to be read as a whole: to tell what is wrong with it, or since it repeats a key.
+fn read_in_parts(alloc: Global, text: &str) -> Option<Grammar>
+    ensures { IfSome result (λ g. (d : Data) × (read text.now ≡ Some d) × (grammar_form (grammar_view g) ≡ Some d)) }
+{
+    let mut scratch = Scratch::new(alloc);
+    let (document, items) = open_parted::<GrammarItem, tree::Items>(
+        alloc,
+        text,
+        &mut scratch,
+        "items",
+    )?;
+    tree::grammar_of(alloc, document.root(), items)
 }

@@ -7,6 +7,7 @@ use crate::runs::push_run;
 use crate::scripted::scripted_session;
 use lalrpop_norm::normalize::Session;
 use lalrpop_norm_lexer::lexer::Lexer;
+use lnorm_readings::parts::push_parts;
 use lnorm_readings::twice::{push_beginnings, push_read_twice};
 use lnorm_run::words::{WordsError, session_of};
 use lnorm_values::values::push_values;
@@ -42,6 +43,7 @@ fn push_called(
         Call::CutFaults => push_cut_faults(alloc, text, words, bytes),
         Call::ReadTwice => push_read_twice(alloc, text, bytes),
         Call::Beginnings => push_beginnings(alloc, text, bytes),
+        Call::Parts => push_parts(alloc, text, bytes),
         Call::Values => match push_made(alloc, text) {
             Ok(()) => Ok(()),
             Err(_) => text.push_str("memory\n"),

@@ -16,6 +16,8 @@ pub(crate) enum Call {
     ReadTwice,
     /// What they make of its beginnings.
     Beginnings,
+    /// The items of the list in it, read one after another.
+    Parts,
     /// Values that no tree holds.
     Values,
     /// Passes one after another, and what is asked for the tree then.
@@ -93,6 +95,7 @@ pub(crate) fn call_of(alloc: Global, name: &str) -> Result<Option<Call>, AllocEr
         "values" => Ok(Some(Call::Values)),
         "read_twice" => Ok(Some(Call::ReadTwice)),
         "beginnings" => Ok(Some(Call::Beginnings)),
+        "parts" => Ok(Some(Call::Parts)),
         _ => passes_of(alloc, name),
     }
 }

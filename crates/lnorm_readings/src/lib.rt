@@ -3,5 +3,6 @@
 #![tactic(auto)]
 
 mod damage;
+pub mod parts;
 mod same;
 pub mod twice;

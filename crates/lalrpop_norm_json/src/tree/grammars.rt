@@ -1,17 +1,19 @@
 //! Items and grammars.
-ghost use Rattle.std.specs.Prelude.{◌≡◌, map, Some, IfOk, IsErrOf, false};
+ghost use Rattle.std.specs.Prelude.{◌≡◌, List, codes, map, Some, IfOk, IfSome, IsErrOf, false};
+ghost use Rattle.serde_json.specs.Data.{Data};
+ghost use Rattle.json_document.specs.Parted.{all_data, with_list};
 ghost use Rattle.json_document.specs.View.{view};
 ghost use Rattle.lalrpop_norm_tree.specs.Items.{item_view, grammar_view};
 ghost use Rattle.lalrpop_norm_shapes.specs.Shapes as shape;
 ghost use Rattle.lalrpop_norm_shapes.specs.Shapes.{is, fits, place, many};
-ghost use Rattle.lalrpop_norm_json.specs.ItemForms.{item_form, items_form, grammar_form};
+ghost use Rattle.lalrpop_norm_json.specs.ItemForms.{item_form, items_form, grammar_fields, grammar_form};
 
 use super::attributes::attributes;
 use super::names::{span, string};
 use super::parts::{list, pushed};
 use super::rules::rule;
 use super::tokens::{extern_token, match_token};
-use json_document::Value;
+use json_document::{ReadItem, Value};
 use lalrpop_norm_shapes::{Case, TreeError, case_of, counted_items, eight_fields};
 use lalrpop_norm_tree::grammar::parse_tree::{Grammar, GrammarItem};
 use std::alloc::Global;
@@ -46,10 +48,30 @@ fn grammar_items(alloc: Global, value: Value<'_, '_>) -> Result<Vec<GrammarItem>
     Ok(read)
 }
 
-/// The grammar whose form the value is.
+/// How items are read one after another.
+pub struct Items;
+
+impl ReadItem<GrammarItem> for Items {
+    ghost use Rattle.lalrpop_norm_tree.specs.Items.{item_view};
+    ghost use Rattle.lalrpop_norm_json.specs.ItemForms.{item_form};
+
+    ghost data_of = { λ i. item_form (item_view i) };
+
+    fn read_item(alloc: Global, value: Value<'_, '_>) -> Option<GrammarItem> {
+        match grammar_item(alloc, value) {
+            Ok(item) => Some(item),
+            Err(_) => None,
+        }
+    }
+}
+
+/// The grammar whose form the value is, but for its items, and the value that holds these.
 #[tactic(auto, using(lalrpop_norm_shapes::proofs::Refusals::refusals))]
-pub fn grammar(alloc: Global, value: Value<'_, '_>) -> Result<Grammar, TreeError>
-    ensures ok { IfOk result (λ g. grammar_form (grammar_view g) ≡ Some (view value.entry)) }
+fn without_items<'t, 'a>(
+    alloc: Global,
+    value: Value<'t, 'a>,
+) -> Result<(Grammar, Value<'t, 'a>), TreeError>
+    ensures ok { IfOk result (λ p. view value.entry ≡ grammar_fields (grammar_view p.0) (view p.1)) }
     ensures err { IsErrOf result TreeError.NotATree → is shape.grammar (view value.entry) ≡ false }
 {
     let (listed, held, module_attributes, parameters, prefix, at, type_parameters, where_clauses) =
@@ -71,15 +93,41 @@ pub fn grammar(alloc: Global, value: Value<'_, '_>) -> Result<Grammar, TreeError
     let parameters = list(alloc, parameters)?;
     let where_clauses = list(alloc, where_clauses)?;
     let attributes = attributes(alloc, listed)?;
-    let items = grammar_items(alloc, held)?;
-    Ok(Grammar {
+    let grammar = Grammar {
         prefix,
         span,
         type_parameters,
         parameters,
         where_clauses,
-        items,
+        items: Vec::new(alloc),
         attributes,
         module_attributes,
-    })
+    };
+    Ok((grammar, held))
+}
+
+/// The grammar whose form the value is.
+#[tactic(auto, using(lalrpop_norm_shapes::proofs::Refusals::refusals))]
+pub fn grammar(alloc: Global, value: Value<'_, '_>) -> Result<Grammar, TreeError>
+    ensures ok { IfOk result (λ g. grammar_form (grammar_view g) ≡ Some (view value.entry)) }
+    ensures err { IsErrOf result TreeError.NotATree → is shape.grammar (view value.entry) ≡ false }
+{
+    let (mut grammar, held) = without_items(alloc, value)?;
+    grammar.items = grammar_items(alloc, held)?;
+    Ok(grammar)
+}
+
+/// The grammar of these items whose form is the value with them.
+pub fn grammar_of(alloc: Global, value: Value<'_, '_>, items: Vec<GrammarItem>) -> Option<Grammar>
+    ensures { IfSome result (λ g. (ds : List Data) → all_data (λ i. item_form (item_view i)) items.items ≡ Some ds
+        → grammar_form (grammar_view g) ≡ Some (with_list (codes "items") ds (view value.entry))) }
+{
+    match without_items(alloc, value) {
+        Ok((grammar, _)) => {
+            let mut whole = grammar;
+            whole.items = items;
+            Some(whole)
+        }
+        Err(_) => None,
+    }
 }

@@ -21,28 +21,28 @@ keep_value-returns-in-String-clause-ok t c =
     let n = node.String c.in-String.text in
     let rest = c.next.new.self in
     let first : c.args.reader.now ≡ node_token n ∷ rest = grind arith in
-    on_ok c.push.result _ _ (leaf_kept c.args.nodes.now.items c.push.new.nodes.items n c.args.reader.now rest c.args.depth first (λ all i. tt) (ap left (value_is c.args.depth (node_token n ∷ rest)))) c.push.ensures.ok
+    on_ok c.push.result _ _ (leaf_kept c.args.nodes.now.items c.push.new.nodes.items n c.args.reader.now rest c.args.depth first (λ all i. tt) refl (ap left (value_is c.args.depth (node_token n ∷ rest)))) c.push.ensures.ok
 
 pub keep_value-returns-in-Number-clause-ok : goal.keep_value-returns-in-Number-clause-ok
 keep_value-returns-in-Number-clause-ok t c =
     let n = node.Number c.in-Number.text in
     let rest = c.next.new.self in
     let first : c.args.reader.now ≡ node_token n ∷ rest = grind arith in
-    on_ok c.push-in-Number.result _ _ (leaf_kept c.args.nodes.now.items c.push-in-Number.new.nodes.items n c.args.reader.now rest c.args.depth first (λ all i. tt) (ap left (value_is c.args.depth (node_token n ∷ rest)))) c.push-in-Number.ensures.ok
+    on_ok c.push-in-Number.result _ _ (leaf_kept c.args.nodes.now.items c.push-in-Number.new.nodes.items n c.args.reader.now rest c.args.depth first (λ all i. tt) refl (ap left (value_is c.args.depth (node_token n ∷ rest)))) c.push-in-Number.ensures.ok
 
 pub keep_value-returns-in-Bool-clause-ok : goal.keep_value-returns-in-Bool-clause-ok
 keep_value-returns-in-Bool-clause-ok t c =
     let n = node.Bool c.in-Bool.b in
     let rest = c.next.new.self in
     let first : c.args.reader.now ≡ node_token n ∷ rest = grind arith in
-    on_ok c.push-in-Bool.result _ _ (leaf_kept c.args.nodes.now.items c.push-in-Bool.new.nodes.items n c.args.reader.now rest c.args.depth first (λ all i. tt) (ap left (value_is c.args.depth (node_token n ∷ rest)))) c.push-in-Bool.ensures.ok
+    on_ok c.push-in-Bool.result _ _ (leaf_kept c.args.nodes.now.items c.push-in-Bool.new.nodes.items n c.args.reader.now rest c.args.depth first (λ all i. tt) refl (ap left (value_is c.args.depth (node_token n ∷ rest)))) c.push-in-Bool.ensures.ok
 
 pub keep_value-returns-in-Null-clause-ok : goal.keep_value-returns-in-Null-clause-ok
 keep_value-returns-in-Null-clause-ok t c =
     let n = node.Null in
     let rest = c.next.new.self in
     let first : c.args.reader.now ≡ node_token n ∷ rest = grind arith in
-    on_ok c.push-in-Null.result _ _ (leaf_kept c.args.nodes.now.items c.push-in-Null.new.nodes.items n c.args.reader.now rest c.args.depth first (λ all i. tt) (ap left (value_is c.args.depth (node_token n ∷ rest)))) c.push-in-Null.ensures.ok
+    on_ok c.push-in-Null.result _ _ (leaf_kept c.args.nodes.now.items c.push-in-Null.new.nodes.items n c.args.reader.now rest c.args.depth first (λ all i. tt) refl (ap left (value_is c.args.depth (node_token n ∷ rest)))) c.push-in-Null.ensures.ok
 
 pub keep_value-returns-then-depth-eq0-clause-err : goal.keep_value-returns-then-depth-eq0-clause-err
 keep_value-returns-then-depth-eq0-clause-err t c =
@@ -125,8 +125,8 @@ keep_items-returns-clause-ok t c =
     let kept = subst (λ ts. IsKept (map node_token c.args.nodes.now.items ++ Token.begin_array ∷ c.args.reader.now) c.push.new.nodes.items l.nodes.items ts) (closed_array l.reader rest ended) l.invariant.4 in
     on_ok c.close.result _ _
     (λ e. (
-      all_kept node.Array Token.begin_array (λ a. refl) (λ all i a p. p) _ c.args.nodes.now.items c.push.new.nodes.items l.nodes.items c.close.new.nodes.items node.EndArray c.args.reader.now rest c.len-at.result _ (c.args.depth + 1)
-          (λ i. tt) c.in_ok-push.ensures.ok refl kept (whole ∙ ap (λ d. skip_items d c.args.reader.now) (omega arith) ∙ skipped) (omega arith) (omega arith) e,
+      all_kept node.Array Token.begin_array (λ a. refl) (λ all i a p. p) (λ a. refl) _ c.args.nodes.now.items c.push.new.nodes.items l.nodes.items c.close.new.nodes.items node.EndArray c.args.reader.now rest c.len-at.result _ (c.args.depth + 1)
+          (λ i. tt) refl c.in_ok-push.ensures.ok refl kept (whole ∙ ap (λ d. skip_items d c.args.reader.now) (omega arith) ∙ skipped) (omega arith) (omega arith) e,
       skipped,
     ))
     c.close.ensures.ok
@@ -145,7 +145,7 @@ keep_members-loop-key-preserved t c =
     let one = c.in_ok-keep_value-in-Ok-Some.ensures.ok in
     let all = map node_token c.args.nodes.now.items ++ Token.begin_object ∷ c.args.reader.now in
     let first : l.reader ≡ Token.key k ∷ s = read_key_is l.reader (Some k) s key in
-    let named = one_kept all l.nodes.items c.push-in-Ok-Some.new.nodes.items (node.Key c.in-Ok-Some.key) s (sym l.invariant.4.tokens ∙ ap (λ ts. map node_token l.nodes.items ++ ts) first) c.in_ok-push-in-Ok-Some.ensures.ok (λ i. tt) in (
+    let named = one_kept all l.nodes.items c.push-in-Ok-Some.new.nodes.items (node.Key c.in-Ok-Some.key) s (sym l.invariant.4.tokens ∙ ap (λ ts. map node_token l.nodes.items ++ ts) first) c.in_ok-push-in-Ok-Some.ensures.ok (λ i. tt) refl in (
       n - 1,
       omega (arith, l.invariant.1),
       l.invariant.2 ∙ skip_member (value c.args.depth) n l.reader s _ k (omega (arith, l.invariant.1)) key one.1,
@@ -178,8 +178,8 @@ keep_members-returns-clause-ok t c =
     let kept = subst (λ ts. IsKept (map node_token c.args.nodes.now.items ++ Token.begin_object ∷ c.args.reader.now) c.push.new.nodes.items l.nodes.items ts) (read_key_is l.reader None rest ended) l.invariant.4 in
     on_ok c.close.result _ _
     (λ e. (
-      all_kept node.Object Token.begin_object (λ a. refl) (λ all i a p. p) _ c.args.nodes.now.items c.push.new.nodes.items l.nodes.items c.close.new.nodes.items node.EndObject c.args.reader.now rest c.len-at.result _ (c.args.depth + 1)
-          (λ i. tt) c.in_ok-push.ensures.ok refl kept (whole ∙ ap (λ d. skip_members d c.args.reader.now) (omega arith) ∙ skipped) (omega arith) (omega arith) e,
+      all_kept node.Object Token.begin_object (λ a. refl) (λ all i a p. p) (λ a. refl) _ c.args.nodes.now.items c.push.new.nodes.items l.nodes.items c.close.new.nodes.items node.EndObject c.args.reader.now rest c.len-at.result _ (c.args.depth + 1)
+          (λ i. tt) refl c.in_ok-push.ensures.ok refl kept (whole ∙ ap (λ d. skip_members d c.args.reader.now) (omega arith) ∙ skipped) (omega arith) (omega arith) e,
       skipped,
     ))
     c.close.ensures.ok
