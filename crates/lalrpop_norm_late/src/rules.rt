@@ -14,7 +14,7 @@ pub(crate) fn rules_of(
 ) -> Result<Vec<&NonterminalData>, NoMemory>
     ensures { IfOk result (λ rs. map (λ r. rule_view r.now) rs.items ≡ rules_among (map item_view items.now)) }
 {
-    let mut rules = Vec::new(alloc);
+    let mut rules = Vec::with_capacity(alloc, items.len())?;
     for item in items {
         add_rule(&mut rules, item)?;
     }
@@ -43,7 +43,7 @@ pub(crate) fn public_rules<'g>(
 ) -> Result<Vec<&'g NonterminalData>, NoMemory>
     ensures { IfOk result (λ rs. map (λ r. rule_view r.now) rs.items ≡ public_rules_in (map (λ r. rule_view r.now) rules.now)) }
 {
-    let mut chosen = Vec::new(alloc);
+    let mut chosen = Vec::with_capacity(alloc, rules.len())?;
     for rule in rules {
         add_public(&mut chosen, *rule)?;
     }

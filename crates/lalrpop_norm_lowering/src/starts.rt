@@ -31,7 +31,7 @@ fn named(alloc: Global, span: Span, name: &NonterminalString) -> Result<ExprSymb
     ensures { IfOk result (λ e. expr_view e ≡ part_and (at span (nonterminal name.now.0)) no_parts) }
 {
     let symbol = named_symbol(span, name)?;
-    let mut symbols = Vec::new(alloc);
+    let mut symbols = Vec::with_capacity(alloc, 1)?;
     symbols.push(symbol)?;
     Ok(ExprSymbol { symbols })
 }
@@ -54,7 +54,7 @@ pub fn start_data(
 {
     let span = rule.span;
     let attributes = Vec::new(alloc);
-    let mut productions = Vec::new(alloc);
+    let mut productions = Vec::with_capacity(alloc, 1)?;
     productions.push(production)?;
     Ok(repr::NonterminalData {
         visibility: rule.visibility.clone()?,

@@ -74,7 +74,7 @@ fn clauses_of<'g>(
 fn declared_clause(alloc: Global, ty: &TypeRef) -> Result<Vec<Clause<'_>>, NoMemory>
     ensures { IfOk result (λ cs. map clause_view cs.items ≡ makes (type_view ty.now) ∷ []) }
 {
-    let mut clauses = Vec::new(alloc);
+    let mut clauses = Vec::with_capacity(alloc, 1)?;
     clauses.push(Clause::Declared(ty))?;
     Ok(clauses)
 }
@@ -85,7 +85,7 @@ fn alternative_clauses(
 ) -> Result<Vec<Clause<'_>>, NoMemory>
     ensures { IfOk result (λ cs. map clause_view cs.items ≡ filter_map alternative_clause (map alternative_view alternatives.now)) }
 {
-    let mut clauses = Vec::new(alloc);
+    let mut clauses = Vec::with_capacity(alloc, alternatives.len())?;
     for alternative in alternatives {
         add_clause(&mut clauses, alternative_clause(alloc, alternative)?)?;
     }

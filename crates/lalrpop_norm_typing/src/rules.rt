@@ -31,7 +31,7 @@ fn plain_rule(alloc: Global, rule: &NonterminalData) -> Result<PlainRule<'_>, No
 pub fn plain_rules(alloc: Global, items: &[GrammarItem]) -> Result<Vec<PlainRule<'_>>, NoMemory>
     ensures { IfOk result (λ rs. map rule_seen rs.items ≡ map with_clauses (flat_map rule_of_item (map item_view items.now))) }
 {
-    let mut rules = Vec::new(alloc);
+    let mut rules = Vec::with_capacity(alloc, items.len())?;
     for item in items {
         match item {
             GrammarItem::Nonterminal(data) => {

@@ -101,7 +101,7 @@ fn input_arguments(alloc: Global) -> Result<Vec<TypeRepr>, NoMemory>
     ensures { IfOk result (λ ts. reprs_view ts.items ≡ repr_and (of_lifetime input_lifetime) no_reprs) }
 {
     let lifetime = input_lifetime(alloc)?;
-    let mut types = Vec::new(alloc);
+    let mut types = Vec::with_capacity(alloc, 1)?;
     types.push(TypeRepr::Lifetime(lifetime))?;
     Ok(types)
 }

@@ -323,7 +323,7 @@ fn all_values(
 ) -> Result<Option<Vec<TypeRepr>>, NoMemory>
     ensures { IfOk result (λ o. option_map (λ ts. reprs_view ts.items) o ≡ types_in parameters.now (type_table types.now) (types_view written.now)) }
 {
-    let mut values = Vec::new(alloc);
+    let mut values = Vec::with_capacity(alloc, written.len())?;
     for inner in written {
         match type_value(alloc, parameters, types, inner)? {
             Some(ty) => values.push(ty)?,

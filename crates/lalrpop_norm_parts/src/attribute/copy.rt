@@ -50,7 +50,7 @@ fn copy_argument(argument: &AttributeArg) -> Result<AttributeArg, AllocError>
 pub fn copy_attributes(attributes: &Vec<Attribute>) -> Result<Vec<Attribute>, AllocError>
     ensures { IfOk result (λ copies. map attribute_view copies.items ≡ map attribute_view attributes.now.items) }
 {
-    let mut copies = Vec::new(*attributes.allocator());
+    let mut copies = Vec::with_capacity(*attributes.allocator(), attributes.len())?;
     for attribute in attributes {
         copies.push(copy(attribute)?)?;
     }

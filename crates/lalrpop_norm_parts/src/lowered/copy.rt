@@ -93,7 +93,7 @@ fn copy_return(ret: &Option<Box<TypeRepr>>) -> Result<Option<Box<TypeRepr>>, All
 fn copy_reprs(types: &Vec<TypeRepr>) -> Result<Vec<TypeRepr>, AllocError>
     ensures { IfOk result (λ ts. reprs_view ts.items ≡ reprs_view types.now.items) }
 {
-    let mut copies = Vec::new(*types.allocator());
+    let mut copies = Vec::with_capacity(*types.allocator(), types.len())?;
     for inner in types {
         copies.push(copy_repr(inner)?)?;
     }

@@ -63,7 +63,7 @@ fn named(alloc: Global, name: Atom) -> Result<TypeRepr, NoMemory>
 fn path_of(alloc: Global, name: Atom) -> Result<Path, NoMemory>
     ensures { IfOk result (λ p. path_view p ≡ record { absolute = false; ids = name ∷ [] }) }
 {
-    let mut ids = Vec::new(alloc);
+    let mut ids = Vec::with_capacity(alloc, 1)?;
     ids.push(name)?;
     Ok(Path {
         absolute: false,

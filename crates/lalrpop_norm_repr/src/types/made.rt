@@ -171,7 +171,7 @@ fn util_path(alloc: Global, prefix: &str, name: &str) -> Result<Path, NoMemory>
     module.push_str("lalrpop_util")?;
     let first = Atom::new(alloc, module.as_str())?;
     let second = Atom::new(alloc, name)?;
-    let mut ids = Vec::new(alloc);
+    let mut ids = Vec::with_capacity(alloc, 2)?;
     ids.push(first)?;
     ids.push(second)?;
     Ok(Path {
@@ -188,7 +188,7 @@ fn three(
 ) -> Result<Vec<TypeRepr>, NoMemory>
     ensures { IfOk result (λ ts. reprs_view ts.items ≡ repr_and (repr_view first) (repr_and (repr_view second) (repr_and (repr_view third) no_reprs))) }
 {
-    let mut types = Vec::new(alloc);
+    let mut types = Vec::with_capacity(alloc, 3)?;
     types.push(first)?;
     types.push(second)?;
     types.push(third)?;

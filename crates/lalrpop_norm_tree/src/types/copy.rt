@@ -82,7 +82,7 @@ fn copy_return(ret: &Option<Box<TypeRef>>) -> Result<Option<Box<TypeRef>>, Alloc
 fn copy_all(alloc: Global, types: &[TypeRef]) -> Result<Vec<TypeRef>, AllocError>
     ensures { IfOk result (λ ts. map type_view ts.items ≡ map type_view types.now) }
 {
-    let mut copies = Vec::new(alloc);
+    let mut copies = Vec::with_capacity(alloc, types.len())?;
     for inner in types {
         copies.push(copy(inner)?)?;
     }

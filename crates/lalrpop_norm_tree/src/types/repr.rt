@@ -197,7 +197,7 @@ fn lower_result(
 fn lower_all(alloc: Global, types: &[TypeRef]) -> Result<Vec<TypeRepr>, AllocError>
     ensures { IfOk result (λ rs. reprs_view rs.items ≡ all_reprs_of (types_view types.now)) }
 {
-    let mut lowered = Vec::new(alloc);
+    let mut lowered = Vec::with_capacity(alloc, types.len())?;
     for inner in types {
         lowered.push(lower(alloc, inner)?)?;
     }

@@ -57,7 +57,7 @@ fn all_values(
 ) -> Result<Option<Vec<TypeRepr>>, NoMemory>
     ensures { IfOk result (λ o. option_map (λ ts. reprs_view ts.items) o ≡ kinds_in (type_table types.now) (map (λ t. kind_view t.1.now.kind) sources.now)) }
 {
-    let mut values = Vec::new(alloc);
+    let mut values = Vec::with_capacity(alloc, sources.len())?;
     for source in sources {
         match kind_value(types, &source.1.kind)? {
             Some(ty) => values.push(ty)?,
