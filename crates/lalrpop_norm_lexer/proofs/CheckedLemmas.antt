@@ -1,6 +1,6 @@
 -- By the relations of the lexer that only checks: no text is both bad and read, so nothing is refused where all entries are read.
 use Rattle.std.proofs.Common.{◌≡◌, ℕ, List, [], ◌∷◌, inl, inr, sym, ◌∙◌, ap, subst}
-use Rattle.regex.specs.declared.string.regex.Regex.{Regex}
+use Rattle.regex_hir.specs.declared.hir.Hir.{Hir}
 use Rattle.lalrpop_norm_names.specs.declared.names.TerminalLiteral.{TerminalLiteral}
 use Rattle.lalrpop_norm_names.specs.declared.names.TerminalLiteral.TheVariants as literals
 use Rattle.lalrpop_norm_tree.specs.declared.items.MatchEntry.{MatchEntry}
@@ -15,10 +15,10 @@ use Rattle.lalrpop_norm_lexer.specs.CheckOnly.{of_regex, IsRegexOfLiteral, Refus
 use Rattle.lalrpop_norm_lexer.specs.Entries.{TellsApart}
 
 pub apart : TellsApart of_regex
-apart text r bad h = let read = has_reading_of_read text _ _ (rw (h.source, h.config) at h.read) in cc
+apart text r bad h = let read = has_reading_of_read text r h.names h.read in cc
 
 -- an entry that is read has no bad text
-read_entry : (es : List MatchEntry) (rs : List Regex) → AreRegexes of_regex es rs → (e : MatchEntry) (text : List ℕ) → In e es →
+read_entry : (es : List MatchEntry) (rs : List Hir) → AreRegexes of_regex es rs → (e : MatchEntry) (text : List ℕ) → In e es →
     e.match_literal ≡ literals.Regex text → of_regex.IsBad text → ⊥
 read_entry [] rs z e text i literal bad = i
 read_entry (x ∷ es) [] z e text i literal bad = z

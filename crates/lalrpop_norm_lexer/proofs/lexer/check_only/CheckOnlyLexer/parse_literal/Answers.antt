@@ -5,4 +5,4 @@ pub returns-in-Ok : goal.returns-in-Ok
 returns-in-Ok c =
     let made = c.in-Ok.ensures in
     let escaped = rw (← c.as_str.ensures.value) at c.in_ok-pattern.ensures.reads in
-    escaped_is_literal _ c.args.text.now _ _ escaped (rw (made.source, made.config) at made.read)
+    escaped_is_literal _ c.args.text.now c.in-Ok.hir made.names escaped made.read
