@@ -1,5 +1,5 @@
 -- Members and items that are read one after another, without the bracket that closes.
-use Rattle.std.proofs.Common.{◌≡◌, ℕ, ◌≤◌, List, [], ◌∷◌, ◌++◌, append_assoc, append-nil, Option, Some, option_map, option_and_then, refl, sym, ap, ◌∙◌, arith}
+use Rattle.std.proofs.Common.{◌≡◌, ℕ, ◌≤◌, List, [], ◌∷◌, ◌++◌, append_assoc, append-nil, map, Option, Some, option_map, option_and_then, refl, sym, ap, ◌∙◌, arith}
 use Rattle.json.specs.Token.{Token}
 use Rattle.json.specs.Json as json
 use Rattle.json.specs.Tree.{json_tokens, items_tokens, members_tokens, depth, items_depth, members_depth}
@@ -84,3 +84,8 @@ all_data_and data_of (w ∷ xs) x (y ∷ ds) d e f =
     let first : u.0 ≡ y = cc (m.2) in
     let more = all_data_and data_of xs x ds d (m.1 ∙ ap Some same) f in
     ap (option_and_then (λ z. option_map (λ zs. z ∷ zs) (all_data data_of (xs ++ x ∷ [])))) u.1 ∙ ap (option_map (λ zs. u.0 ∷ zs)) more ∙ ap (λ z. Some (z ∷ (ds ++ d ∷ []))) first
+
+-- where all have data
+pub all_data_some : {T : Type 0} (f : T → Data) (xs : List T) → all_data (λ x. Some (f x)) xs ≡ Some (map f xs)
+all_data_some f [] = refl
+all_data_some f (x ∷ xs) = ap (option_map (λ ds. f x ∷ ds)) (all_data_some f xs)

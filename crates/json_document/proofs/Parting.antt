@@ -1,5 +1,5 @@
 -- Members that are read one after another, of which one list is handed out.
-use Rattle.std.proofs.Common.{◌≡◌, ℕ, ◌+◌, ◌<◌, ◌≤◌, ⊎_elim, List, [], ◌∷◌, ◌++◌, append_assoc, append-nil, map, length, take, drop, get_or, slice_set, false, Option, Some, None, Bor, option_map, option_and_then, refl, sym, ap, ◌∙◌, subst, arith}
+use Rattle.std.proofs.Common.{◌≡◌, ℕ, suc, ◌+◌, ◌<◌, ◌≤◌, ⊎_elim, List, [], ◌∷◌, ◌++◌, append_assoc, append-nil, map, length, take, drop, get_or, slice_set, false, Option, Some, None, Bor, option_map, option_and_then, refl, sym, ap, ◌∙◌, subst, arith}
 use Rattle.std.proofs.lemmas.Bool.{cases_lt}
 use Rattle.std.proofs.lemmas.List.{map-append, length-map, length-append, length-set, take_at, drop_all, get_or_push, get_or-set_same, get_or-set_other}
 use Rattle.std.proofs.Math.Seq.{drop-append_seam, drop-append-add}
@@ -8,17 +8,17 @@ use Rattle.json.specs.Token.{Token}
 use Rattle.json.specs.Json as json
 use Rattle.json.specs.Json.{value, skip_value, read_key}
 use Rattle.json.specs.Lex.{tokens}
-use Rattle.json.specs.Tree.{json_tokens, members_tokens}
+use Rattle.json.specs.Tree.{json_tokens, members_tokens, depth}
 use Rattle.json.specs.Tape.{node_token, Linked, LinkAt, Passes}
 use Rattle.json.specs.declared.tape.Node.{Node}
 use Rattle.json.specs.declared.tape.Node.TheVariants.{Object, EndObject, Array, EndArray, Key, Null}
 use Rattle.json.proofs.Grammar.{read_key_is}
 use Rattle.json.proofs.Printed.Trees.{value-json_tokens}
-use Rattle.serde_json.specs.Data.{Data, array, object, no_items, Members, no_members, put}
+use Rattle.serde_json.specs.Data.{Data, array, object, no_items, Members, no_members, member, put}
 use Rattle.serde_json.specs.Read.{of_json, max_depth, read}
 use Rattle.json_document.specs.Kept.{IsKeptAlone}
 use Rattle.serde_json.specs.View.{items_of}
-use Rattle.json_document.specs.Parted.{all_data, members_front, with_list, with_value, IsList, IsMeant, IsParted}
+use Rattle.json_document.specs.Parted.{members_front, with_value, IsItem, IsHeld, IsList, IsMeant, IsParted, IsObject}
 use Rattle.json_document.specs.Tokens.{data_at}
 use Rattle.json_document.proofs.Fronts.{members_and, members_closed, members_front_and, members_level, members_mean}
 use Rattle.json_document.proofs.Keeping.{early, same_tokens}
@@ -99,12 +99,12 @@ module _ (old new : List Node) (a : ℕ) (at : a ≡ length old + 2) (is : new �
 
 -- ---- one member more
 
-module _ {T : Type 0} (data_of : T → Option Data) (name : List ℕ) (start ts rest : List Token) (nodes new : List Node) (k : Bor (List ℕ)) where
+module _ {T : Type 0} (data_of : T → Option Data) (n : ℕ) (name : List ℕ) (start ts rest : List Token) (nodes new : List Node) (k : Bor (List ℕ)) where
   other_meant : (parts : Option (List T)) (d : Data) (whole known : Members) → bytes_eq k.now name ≡ false → IsMeant data_of name parts whole known → IsMeant data_of name parts (put k.now d whole) (put k.now d known)
   other_meant None d whole known other (same, absent) = (ap (put k.now d) same, λ x. put_other name k.now d x other known ∙ ap (put k.now d) (absent x))
   other_meant (Some xs) d whole known other (ds, formed, is) = (ds, formed, ap (put k.now d) is ∙ sym (put_other name k.now d (array (items_of ds)) other known))
 
-  pub other_on : (parts : Option (List T)) → IsParted data_of name start (Token.key k.now ∷ ts) nodes parts → bytes_eq k.now name ≡ false → IsKeptAlone 126 (nodes ++ Key k ∷ []) new ts rest → IsParted data_of name start rest new parts
+  pub other_on : (parts : Option (List T)) → IsParted data_of n name start (Token.key k.now ∷ ts) nodes parts → bytes_eq k.now name ≡ false → IsKeptAlone n (nodes ++ Key k ∷ []) new ts rest → IsParted data_of n name start rest new parts
   other_on parts p other v = record {
     written = members_and p.written k.now v.value;
     kept = members_and p.kept k.now v.value;
@@ -115,12 +115,12 @@ module _ {T : Type 0} (data_of : T → Option Data) (name : List ℕ) (start ts 
     read = read_on start ts rest k.now v.value p.written p.read v.read;
     tokens = tokens_on nodes new k v.value p.kept p.tokens v.kept;
     linked = stays_linked nodes new k (json_tokens v.value) v.kept v.stay p.linked v.linked;
-    level = members_level 126 p.written k.now v.value p.level v.level;
-    kept_level = members_level 126 p.kept k.now v.value p.kept_level v.level;
+    level = members_level n p.written k.now v.value p.level v.level;
+    kept_level = members_level n p.kept k.now v.value p.kept_level v.level;
     meant = other_meant parts v.means p.whole p.known other p.meant;
   }
 
-  pub named_on : (xs : List T) → IsParted data_of name start (Token.key k.now ∷ ts) nodes None → k.now ≡ name → IsList data_of ts rest xs → new ≡ (nodes ++ Key k ∷ []) ++ Array (length nodes + 3) ∷ EndArray ∷ [] → IsParted data_of name start rest new (Some xs)
+  pub named_on : (xs : List T) → IsParted data_of n name start (Token.key k.now ∷ ts) nodes None → k.now ≡ name → IsList data_of n ts rest xs → new ≡ (nodes ++ Key k ∷ []) ++ Array (length nodes + 3) ∷ EndArray ∷ [] → IsParted data_of n name start rest new (Some xs)
   named_on xs p named l is =
       let j = json.array l.items in
       let e = json.array json.no_items in
@@ -140,19 +140,19 @@ module _ {T : Type 0} (data_of : T → Option Data) (name : List ℕ) (start ts 
         linked = stays_linked nodes new k (Token.begin_array ∷ Token.end_array ∷ []) kept
             (ap (take (length old)) is ∙ take_at old (Array (length nodes + 3) ∷ EndArray ∷ []) (length old) refl) p.linked
             (empty_linked old new (length nodes + 3) (omega arith) is);
-        level = members_level 126 p.written k.now j p.level (omega (arith, l.level));
-        kept_level = members_level 126 p.kept k.now e p.kept_level (omega arith);
+        level = members_level n p.written k.now j p.level (omega (arith, l.level));
+        kept_level = members_level n p.kept k.now e p.kept_level (omega (arith, l.level));
         meant = (
           l.means,
           l.formed,
-          ap (put k.now d) p.meant.0 ∙ ap (λ n. put n d p.known) named ∙ ap (put name d) (sym (p.meant.1 d)) ∙ sym (put_here name (array no_items) d p.known)
-              ∙ ap (λ n. with_value name d (put n (array no_items) p.known)) (sym named),
+          ap (put k.now d) p.meant.0 ∙ ap (λ m. put m d p.known) named ∙ ap (put name d) (sym (p.meant.1 d)) ∙ sym (put_here name (array no_items) d p.known)
+              ∙ ap (λ m. with_value name d (put m (array no_items) p.known)) (sym named),
         );
       }
 
 -- of no member
-module _ {T : Type 0} (data_of : T → Option Data) (name : List ℕ) (nodes : List Node) where
-  pub nothing_yet : (s : List Token) → map node_token nodes ≡ Token.begin_object ∷ [] → IsParted data_of name s s nodes None
+module _ {T : Type 0} (data_of : T → Option Data) (n : ℕ) (name : List ℕ) (nodes : List Node) where
+  pub nothing_yet : (s : List Token) → map node_token nodes ≡ Token.begin_object ∷ [] → IsParted data_of n name s s nodes None
   nothing_yet s one = record {
     written = json.no_members;
     kept = json.no_members;
@@ -174,11 +174,11 @@ head_token : (ns : List Node) (n : Node) (t : Token) (ts : List Token) → map n
 head_token [] n t ts e = absurd (cc)
 head_token (m ∷ ns) n t ts e = cc
 
-module _ {T : Type 0} (data_of : T → Option Data) (name : List ℕ) (start mid rest : List Token) (nodes new : List Node) (xs : List T)
-    (p : IsParted data_of name start mid nodes (Some xs)) (last : rest ≡ []) (closing : read_key mid ≡ Some (None, rest))
+module _ {T : Type 0} (data_of : T → Option Data) (most : ℕ) (name : List ℕ) (start mid rest : List Token) (nodes new : List Node) (xs : List T)
+    (p : IsParted data_of most name start mid nodes (Some xs)) (closing : read_key mid ≡ Some (None, rest))
     (is : new ≡ slice_set (nodes ++ EndObject ∷ []) 0 (Object (length nodes + 1))) where
-  closed : mid ≡ Token.end_object ∷ []
-  closed = read_key_is mid None rest closing ∙ ap (λ ts. Token.end_object ∷ ts) last
+  closed : mid ≡ Token.end_object ∷ rest
+  closed = read_key_is mid None rest closing
 
   not_empty : 0 < length nodes
   not_empty = omega (arith, ap length p.tokens, length-map nodes node_token)
@@ -197,10 +197,10 @@ module _ {T : Type 0} (data_of : T → Option Data) (name : List ℕ) (start mid
   pub kept_tokens : map node_token new ≡ json_tokens (json.object p.kept)
   kept_tokens = all_kept_tokens ∙ ap (λ us. us ++ Token.end_object ∷ []) p.tokens ∙ ap (λ us. Token.begin_object ∷ us) (sym (members_closed p.kept))
 
-  kept_value : value 127 (map node_token new) ≡ Some (json.object p.kept, [])
+  kept_value : value (suc most) (map node_token new) ≡ Some (json.object p.kept, [])
   kept_value =
-      ap (value 127) (kept_tokens ∙ sym (append-nil (json_tokens (json.object p.kept))))
-      ∙ value-json_tokens (json.object p.kept) 127 [] (omega (arith, p.kept_level))
+      ap (value (suc most)) (kept_tokens ∙ sym (append-nil (json_tokens (json.object p.kept))))
+      ∙ value-json_tokens (json.object p.kept) (suc most) [] (omega (arith, p.kept_level))
 
   pub parted_linked : Linked (map node_token new) 0 new
   parted_linked = λ i from below.
@@ -221,18 +221,46 @@ module _ {T : Type 0} (data_of : T → Option Data) (name : List ℕ) (start mid
       let node : get_or new 0 Null ≡ n = ap (λ ns. get_or ns 0 Null) is ∙ get_or-set_same ms 0 n Null (omega arith) in
       let total : length all ≡ length nodes + 1 = length-map new node_token ∙ longer in
       let passes : Passes all 0 (length nodes + 1) =
-      (127, ap (option_map (λ q. q.1)) kept_value ∙ ap Some (sym (drop_all (length nodes + 1) all (omega (arith, total)))), omega arith, omega (arith, total)) in
+      (suc most, ap (option_map (λ q. q.1)) kept_value ∙ ap Some (sym (drop_all (length nodes + 1) all (omega (arith, total)))), omega arith, omega (arith, total)) in
       subst (λ k. LinkAt all k (get_or new k Null)) z (subst (λ m. LinkAt all 0 m) (sym node) passes)))
       (cases_lt 0 i)
 
   pub parted_data : data_at (map node_token new) ≡ Some (object p.known)
-  parted_data = data_at_reads (map node_token new) (object p.known) (json.object p.kept, (127, [], kept_value), ap (option_map object) p.is_known)
+  parted_data = data_at_reads (map node_token new) (object p.known) (json.object p.kept, (suc most, [], kept_value), ap (option_map object) p.is_known)
 
-  pub parted_read : (text : List ℕ) → tokens text ≡ Token.begin_object ∷ start → (ds : List Data) × (all_data data_of xs ≡ Some ds) × (read text ≡ Some (with_list name ds (object p.known)))
-  parted_read text first =
-      let whole : start ≡ members_tokens p.written = p.read ∙ ap (λ us. members_front p.written ++ us) closed ∙ sym (members_closed p.written) in
-      let j = json.object p.written in
-      let all : tokens text ≡ json_tokens j ++ [] = first ∙ ap (λ us. Token.begin_object ∷ us) whole ∙ sym (append-nil (json_tokens j)) in
-      let v : value max_depth (tokens text) ≡ Some (j, []) = ap (value max_depth) all ∙ value-json_tokens j max_depth [] (omega (arith, p.level)) in
-      let seen : read text ≡ Some (object p.whole) = ap (λ o. option_and_then of_json (option_and_then (λ q. json.if_last q.0 q.1) o)) v ∙ ap (option_map object) p.is_whole in
-      (p.meant.0, p.meant.1, seen ∙ ap (λ ms. Some (object ms)) p.meant.2)
+  -- the whole object, and what of it is in the nodes
+  pub parted_object : (more : ℕ) → most < more → (begun : List Token) → begun ≡ Token.begin_object ∷ start → IsObject data_of more name begun rest new xs
+  parted_object more less begun first =
+      let whole : start ≡ members_tokens p.written ++ rest =
+      p.read ∙ ap (λ us. members_front p.written ++ us) closed ∙ sym (append_assoc (members_front p.written) (Token.end_object ∷ []) rest)
+      ∙ ap (λ us. us ++ rest) (sym (members_closed p.written)) in
+      record {
+        json = json.object p.written;
+        known = object p.known;
+        means = p.meant.0;
+        is = ap (option_map object) p.is_whole ∙ ap (λ ms. Some (object ms)) p.meant.2;
+        level = omega (arith, p.level, less);
+        read = first ∙ ap (λ us. Token.begin_object ∷ us) whole;
+        formed = p.meant.1;
+        linked = parted_linked;
+        seen = parted_data;
+      }
+
+-- an object that is the whole text
+pub whole_read : (j : json.Json) (text : List ℕ) → tokens text ≡ json_tokens j ++ [] → depth j ≤ max_depth → read text ≡ of_json j
+whole_read j text all low = ap (λ o. option_and_then of_json (option_and_then (λ q. json.if_last q.0 q.1) o)) (ap (value max_depth) all ∙ value-json_tokens j max_depth [] low)
+
+-- ---- an object of one member
+
+module _ {T : Type 0} (data_of : T → Option Data) (n most : ℕ) (less : n < most) (start inner mid last rest : List Token) (k : List ℕ) (x : T) where
+  pub one_member : start ≡ Token.begin_object ∷ inner → read_key inner ≡ Some (Some k, mid) → IsHeld data_of k n mid last x → read_key last ≡ Some (None, rest) → IsItem data_of most start rest x
+  one_member first key h closing = record {
+    json = json.object (json.member k h.json json.no_members);
+    means = object (member k h.means no_members);
+    is = rw h.is refl;
+    level = omega (arith, h.level, less);
+    read = first ∙ ap (λ ts. Token.begin_object ∷ ts) (
+        read_key_is inner (Some k) mid key
+        ∙ ap (λ ts. Token.key k ∷ ts) (h.read ∙ ap (λ ts. json_tokens h.json ++ ts) (read_key_is last None rest closing) ∙ sym (append_assoc (json_tokens h.json) (Token.end_object ∷ []) rest)));
+    formed = h.formed;
+  }

@@ -1,5 +1,6 @@
 -- Documents of which one list is handed out item by item, as they are read.
-use Rattle.std.specs.Prelude.{◌≡◌, ℕ, ◌≤◌, List, [], ◌∷◌, ◌++◌, map, bytes_eq, if◌then◌else◌}
+use Rattle.std.specs.Prelude.{◌≡◌, ℕ, ◌<◌, ◌≤◌, List, [], ◌∷◌, ◌++◌, map, bytes_eq}
+use Rattle.std.specs.Prelude.{if◌then◌else◌}
 use Rattle.std.specs.Prelude.{Option, Some, None, option_map, option_and_then}
 use Rattle.json.specs.Token.{Token}
 use Rattle.json.specs.Json as json
@@ -9,6 +10,7 @@ use Rattle.json.specs.declared.tape.Node.{Node}
 use Rattle.serde_json.specs.Data.{Data, array, object, Members, no_members, member}
 use Rattle.serde_json.specs.Read.{of_json, of_items, of_members}
 use Rattle.serde_json.specs.View.{items_of}
+use Rattle.json_document.specs.Tokens.{data_at}
 
 -- ---- words of contracts
 
@@ -39,30 +41,38 @@ abbrev pub items_front : json.Items → List Token
 items_front json.no_items = []
 items_front (json.item j js) = json_tokens j ++ items_front js
 
--- x is read of the value that the tokens begin with
-pub record IsItem {T : Type 0} (data_of : T → Option Data) (start rest : List Token) (x : T) : Type 0 where
+-- x is read of the value that the tokens begin with, which has no more levels than n: it forms what the value means
+pub record IsRead {T : Type 0} (Forms : T → Data → Type 0) (n : ℕ) (start rest : List Token) (x : T) : Type 0 where
   pub json : json.Json
   pub means : Data
   pub is : of_json json ≡ Some means
-  pub level : depth json ≤ 125
+  pub level : depth json ≤ n
   pub read : start ≡ json_tokens json ++ rest
-  pub formed : data_of x ≡ Some means
+  pub formed : Forms x means
+
+-- the value is the data of x
+abbrev pub IsItem : {T : Type 0} → (T → Option Data) → ℕ → List Token → List Token → T → Type 0
+IsItem data_of = IsRead (λ x d. data_of x ≡ Some d)
+
+-- the data of x is an object whose one member is the value, under k
+abbrev pub IsHeld : {T : Type 0} → (T → Option Data) → List ℕ → ℕ → List Token → List Token → T → Type 0
+IsHeld data_of k = IsRead (λ x d. data_of x ≡ Some (object (member k d no_members)))
 
 -- these are read of the values that the tokens begin with
-pub record AreItems {T : Type 0} (data_of : T → Option Data) (start rest : List Token) (xs : List T) : Type 0 where
+pub record AreItems {T : Type 0} (data_of : T → Option Data) (n : ℕ) (start rest : List Token) (xs : List T) : Type 0 where
   pub items : json.Items
   pub means : List Data
   pub is : of_items items ≡ Some (items_of means)
-  pub level : items_depth items ≤ 125
+  pub level : items_depth items ≤ n
   pub read : start ≡ items_front items ++ rest
   pub formed : all_data data_of xs ≡ Some means
 
 -- these are read of the items of the array that the tokens begin with
-pub record IsList {T : Type 0} (data_of : T → Option Data) (start rest : List Token) (xs : List T) : Type 0 where
+pub record IsList {T : Type 0} (data_of : T → Option Data) (n : ℕ) (start rest : List Token) (xs : List T) : Type 0 where
   pub items : json.Items
   pub means : List Data
   pub is : of_items items ≡ Some (items_of means)
-  pub level : items_depth items ≤ 125
+  pub level : items_depth items < n
   pub read : start ≡ json_tokens (json.array items) ++ rest
   pub formed : all_data data_of xs ≡ Some means
 
@@ -72,10 +82,10 @@ IsMeant data_of k None whole known = (whole ≡ known) × ((d : Data) → with_v
 IsMeant data_of k (Some xs) whole known =
     (ds : List Data) × (all_data data_of xs ≡ Some ds) × (whole ≡ with_value k (array (items_of ds)) known)
 
--- of an object its members up to `rest` were read: they are in the nodes, but for the items of the list under k, which are
--- the parts
-pub record IsParted {T : Type 0} (data_of : T → Option Data) (k : List ℕ) (start rest : List Token) (nodes : List Node)
-    (parts : Option (List T)) : Type 0 where
+-- of an object its members up to `rest` were read, of no more levels than n: they are in the nodes, but for the items of the
+-- list under k, which are the parts
+pub record IsParted {T : Type 0} (data_of : T → Option Data) (n : ℕ) (k : List ℕ) (start rest : List Token)
+    (nodes : List Node) (parts : Option (List T)) : Type 0 where
   pub written : json.Members
   pub kept : json.Members
   pub whole : Members
@@ -85,6 +95,20 @@ pub record IsParted {T : Type 0} (data_of : T → Option Data) (k : List ℕ) (s
   pub read : start ≡ members_front written ++ rest
   pub tokens : map node_token nodes ≡ Token.begin_object ∷ members_front kept
   pub linked : (more : List Token) → Linked (map node_token nodes ++ more) 1 nodes
-  pub level : members_depth written ≤ 126
-  pub kept_level : members_depth kept ≤ 126
+  pub level : members_depth written ≤ n
+  pub kept_level : members_depth kept ≤ n
   pub meant : IsMeant data_of k parts whole known
+
+-- the tokens begin with an object of no more levels than n: it is in the nodes, but for the items of the list under k, which
+-- are these
+pub record IsObject {T : Type 0} (data_of : T → Option Data) (n : ℕ) (k : List ℕ) (start rest : List Token)
+    (nodes : List Node) (xs : List T) : Type 0 where
+  pub json : json.Json
+  pub known : Data
+  pub means : List Data
+  pub is : of_json json ≡ Some (with_list k means known)
+  pub level : depth json ≤ n
+  pub read : start ≡ json_tokens json ++ rest
+  pub formed : all_data data_of xs ≡ Some means
+  pub linked : Linked (map node_token nodes) 0 nodes
+  pub seen : data_at (map node_token nodes) ≡ Some known

@@ -17,5 +17,5 @@ mod value;
 
 pub use document::OpenError;
 pub use json::Scratch;
-pub use parted::{ReadItem, open_parted};
+pub use parted::{ReadItem, ReadMember, open_parted};
 pub use types::{Document, Items, Members, Value};

@@ -1,13 +1,16 @@
 -- The form of the items of a grammar, item by item.
-use Rattle.std.specs.Prelude.{IfOk}
-use Rattle.std.proofs.Common.{◌≡◌, List, [], ◌∷◌, ◌++◌, map, Option, Some, None, option_map, option_and_then, Result, Ok, refl, sym, ap, ◌∙◌, subst}
-use Rattle.serde_json.specs.Data.{Data, Items, no_items, item, array}
-use Rattle.json_document.specs.Parted.{all_data}
+use Rattle.std.specs.Prelude.{IfOk, codes}
+use Rattle.std.proofs.Common.{◌≡◌, ℕ, List, [], ◌∷◌, ◌++◌, map, Option, Some, None, option_map, option_and_then, Result, Ok, refl, sym, ap, ◌∙◌, subst}
+use Rattle.serde_json.specs.Data.{Data, Items, no_items, item, array, object, member, no_members}
+use Rattle.json_document.specs.Parted.{all_data, with_list}
+use Rattle.json_document.proofs.Fronts.{all_data_some}
+use Rattle.lalrpop_norm_tree.specs.declared.items.Alternative.{Alternative}
 use Rattle.lalrpop_norm_tree.specs.declared.items.GrammarItem.{GrammarItem}
-use Rattle.lalrpop_norm_tree.specs.Items.{ItemData, item_view}
-use Rattle.lalrpop_norm_json.specs.Json.{row}
-use Rattle.lalrpop_norm_json.specs.ItemForms.{item_form, item_forms, items_form}
+use Rattle.lalrpop_norm_tree.specs.Items.{ItemData, RuleData, rule_item, alternative_view, item_view}
+use Rattle.lalrpop_norm_json.specs.Json.{row, list_form}
+use Rattle.lalrpop_norm_json.specs.ItemForms.{alternative_form, rule_form, item_form, item_forms, items_form}
 use Rattle.lalrpop_norm_shapes.proofs.Refusals.{onto, one_more, whole_list}
+use Rattle.lalrpop_norm_json.proofs.FormLemmas.{list_seen}
 
 split : (i : ItemData) (is : List ItemData) (ds : List Data) → item_forms (i ∷ is) ≡ Some ds → (e : Data) × (es : List Data) × (item_form i ≡ Some e) × (item_forms is ≡ Some es) × (e ∷ es ≡ ds)
 split i is ds h = at (item_form i) (item_forms is) refl refl h
@@ -54,3 +57,16 @@ whole_items v is left r none = ap (option_map row) r.1 ∙ ap Some (sym (whole_l
 pub all_forms : (is : List GrammarItem) → all_data (λ i. item_form (item_view i)) is ≡ item_forms (map item_view is)
 all_forms [] = refl
 all_forms (i ∷ is) = ap (λ o. option_and_then (λ d. option_map (λ ds. d ∷ ds) o) (item_form (item_view i))) (all_forms is)
+
+same_list : (ds es : List Data) → Some ds ≡ Some es → ds ≡ es
+same_list ds es e = cc
+
+-- the data of alternatives that are read one after another is their list
+pub alternatives_row : (xs : List Alternative) (ds : List Data) → all_data (λ a. Some (alternative_form (alternative_view a))) xs ≡ Some ds → list_form alternative_form (map alternative_view xs) ≡ row ds
+alternatives_row xs ds e =
+    let f = λ (a : Alternative). alternative_form (alternative_view a) in
+    sym (list_seen alternative_form alternative_view xs) ∙ ap row (same_list (map f xs) ds (sym (all_data_some f xs) ∙ e))
+
+pub nonterminal_form : (key name : List ℕ) (ds : List Data) (r : RuleData) (v : Data) → key ≡ codes "Nonterminal" → name ≡ codes "alternatives" → rule_form r ≡ with_list (codes "alternatives") ds v
+    → item_form (rule_item r) ≡ Some (object (member key (with_list name ds v) no_members))
+nonterminal_form key name ds r v k n e = rw (k, n, e) refl

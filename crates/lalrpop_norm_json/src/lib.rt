@@ -18,7 +18,7 @@ mod tree;
 use json_document::{Scratch, open_parted};
 pub use lalrpop_norm_shapes::TreeError;
 use lalrpop_norm_shapes::document_of;
-use lalrpop_norm_tree::grammar::parse_tree::{Grammar, GrammarItem};
+use lalrpop_norm_tree::grammar::parse_tree::{Alternative, Grammar, GrammarItem};
 use std::alloc::Global;
 
 /// The grammar whose form in JSON the text is: members in any order, blanks as JSON has them.
@@ -44,13 +44,14 @@ pub fn read_tree(alloc: Global, text: &str) -> Result<Grammar, TreeError>
     }
 }
 
-/// The same grammar, each item read as soon as its text is: so no more of the text stands in memory at one time than one item.
+/// The same grammar, each item and each alternative of a rule read as soon as its text is: so no more of the text stands in memory at
+/// one time than the longest alternative, or the longest item without its alternatives.
 /// Where it answers nothing, the text is to be read as a whole: to tell what is wrong with it, or since it repeats a key.
 fn read_in_parts(alloc: Global, text: &str) -> Option<Grammar>
     ensures { IfSome result (λ g. (d : Data) × (read text.now ≡ Some d) × (grammar_form (grammar_view g) ≡ Some d)) }
 {
     let mut scratch = Scratch::new(alloc);
-    let (document, items) = open_parted::<GrammarItem, tree::Items>(
+    let (document, items) = open_parted::<GrammarItem, Alternative, tree::Items>(
         alloc,
         text,
         &mut scratch,

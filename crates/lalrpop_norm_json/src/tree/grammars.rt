@@ -4,6 +4,7 @@ ghost use Rattle.serde_json.specs.Data.{Data};
 ghost use Rattle.json_document.specs.Parted.{all_data, with_list};
 ghost use Rattle.json_document.specs.View.{view};
 ghost use Rattle.lalrpop_norm_tree.specs.Items.{item_view, grammar_view};
+ghost use Rattle.lalrpop_norm_shapes.specs.Parts.{case_form};
 ghost use Rattle.lalrpop_norm_shapes.specs.Shapes as shape;
 ghost use Rattle.lalrpop_norm_shapes.specs.Shapes.{is, fits, place, many};
 ghost use Rattle.lalrpop_norm_json.specs.ItemForms.{item_form, items_form, grammar_fields, grammar_form};
@@ -11,11 +12,11 @@ ghost use Rattle.lalrpop_norm_json.specs.ItemForms.{item_form, items_form, gramm
 use super::attributes::attributes;
 use super::names::{span, string};
 use super::parts::{list, pushed};
-use super::rules::rule;
+use super::rules::{alternative, rule, rule_of};
 use super::tokens::{extern_token, match_token};
-use json_document::{ReadItem, Value};
+use json_document::{ReadItem, ReadMember, Value};
 use lalrpop_norm_shapes::{Case, TreeError, case_of, counted_items, eight_fields};
-use lalrpop_norm_tree::grammar::parse_tree::{Grammar, GrammarItem};
+use lalrpop_norm_tree::grammar::parse_tree::{Alternative, Grammar, GrammarItem};
 use std::alloc::Global;
 
 #[tactic(auto, using(lalrpop_norm_shapes::proofs::Refusals::refusals))]
@@ -23,7 +24,15 @@ fn grammar_item(alloc: Global, value: Value<'_, '_>) -> Result<GrammarItem, Tree
     ensures ok { IfOk result (λ i. item_form (item_view i) ≡ Some (view value.entry)) }
     ensures err { IsErrOf result TreeError.NotATree → is shape.grammar_item (view value.entry) ≡ false }
 {
-    match case_of(value)? {
+    item_of(alloc, case_of(value)?)
+}
+
+#[tactic(auto, using(lalrpop_norm_shapes::proofs::Refusals::refusals))]
+fn item_of(alloc: Global, case: Case<'_, '_>) -> Result<GrammarItem, TreeError>
+    ensures ok { IfOk result (λ i. item_form (item_view i) ≡ Some (case_form case.entry)) }
+    ensures err { IsErrOf result TreeError.NotATree → is shape.grammar_item (case_form case.entry) ≡ false }
+{
+    match case {
         Case::Bare(_) => Err(TreeError::NotATree),
         Case::Of(variant, held) => match variant {
             "MatchToken" => Ok(GrammarItem::MatchToken(match_token(alloc, held)?)),
@@ -48,20 +57,63 @@ fn grammar_items(alloc: Global, value: Value<'_, '_>) -> Result<Vec<GrammarItem>
     Ok(read)
 }
 
-/// How items are read one after another.
+/// How items are read one after another, and the alternatives of a rule.
 pub struct Items;
 
-impl ReadItem<GrammarItem> for Items {
-    ghost use Rattle.lalrpop_norm_tree.specs.Items.{item_view};
-    ghost use Rattle.lalrpop_norm_json.specs.ItemForms.{item_form};
+impl ReadItem<Alternative> for Items {
+    ghost use Rattle.std.specs.Prelude.{Some};
+    ghost use Rattle.lalrpop_norm_tree.specs.Items.{alternative_view};
+    ghost use Rattle.lalrpop_norm_json.specs.ItemForms.{alternative_form};
 
-    ghost data_of = { λ i. item_form (item_view i) };
+    ghost data_of = { λ a. Some (alternative_form (alternative_view a)) };
 
-    fn read_item(alloc: Global, value: Value<'_, '_>) -> Option<GrammarItem> {
-        match grammar_item(alloc, value) {
+    fn read_item(alloc: Global, value: Value<'_, '_>) -> Option<Alternative> {
+        match alternative(alloc, value) {
+            Ok(alternative) => Some(alternative),
+            Err(_) => None,
+        }
+    }
+}
+
+impl ReadMember<GrammarItem, Alternative> for Items {
+    ghost use Rattle.std.specs.Prelude.{◌≡◌, List, IfSome, Some};
+    ghost use Rattle.serde_json.specs.Data.{Data, object, member, no_members};
+    ghost use Rattle.json_document.specs.Parted.{all_data, with_list};
+    ghost use Rattle.json_document.specs.View.{view};
+    ghost use Rattle.lalrpop_norm_tree.specs.Items.{alternative_view, item_view};
+    ghost use Rattle.lalrpop_norm_json.specs.ItemForms.{alternative_form, item_form};
+
+    ghost whole_of = { λ i. item_form (item_view i) };
+
+    fn parts_of(key: &str) -> Option<&'static str> {
+        match key {
+            "Nonterminal" => Some("alternatives"),
+            _ => None,
+        }
+    }
+
+    fn read_member(alloc: Global, key: &str, value: Value<'_, '_>) -> Option<GrammarItem> {
+        match item_of(alloc, Case::Of(key, value)) {
             Ok(item) => Some(item),
             Err(_) => None,
         }
+    }
+
+    fn read_parted(
+        alloc: Global,
+        key: &str,
+        value: Value<'_, '_>,
+        name: &str,
+        parts: Vec<Alternative>,
+    ) -> Option<GrammarItem>
+        ensures { IfSome result (λ x. (ds : List Data) → all_data (λ a. Some (alternative_form (alternative_view a))) parts.items ≡ Some ds
+            → item_form (item_view x) ≡ Some (object (member key.now (with_list name.now ds (view value.entry)) no_members))) }
+    {
+        let ("Nonterminal", "alternatives") = (key, name) else {
+            return None;
+        };
+        let rule = rule_of(alloc, value, parts)?;
+        Some(GrammarItem::Nonterminal(rule))
     }
 }
 

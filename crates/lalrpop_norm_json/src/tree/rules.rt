@@ -1,10 +1,12 @@
 //! Rules and their alternatives.
-ghost use Rattle.std.specs.Prelude.{◌≡◌, IfOk, IsErrOf, false};
+ghost use Rattle.std.specs.Prelude.{◌≡◌, List, codes, Some, IfOk, IfSome, IsErrOf, false};
+ghost use Rattle.serde_json.specs.Data.{Data};
+ghost use Rattle.json_document.specs.Parted.{all_data, with_list};
 ghost use Rattle.json_document.specs.View.{view};
 ghost use Rattle.lalrpop_norm_tree.specs.Items.{alternative_view, rule_view, visibility_view};
 ghost use Rattle.lalrpop_norm_shapes.specs.Shapes as shape;
 ghost use Rattle.lalrpop_norm_shapes.specs.Shapes.{is};
-ghost use Rattle.lalrpop_norm_json.specs.ItemForms.{alternative_form, condition_op_form, rule_form, visibility_form};
+ghost use Rattle.lalrpop_norm_json.specs.ItemForms.{alternative_form, condition_op_form, rule_fields, rule_form, visibility_form};
 
 use super::attributes::attributes;
 use super::names::{atom, path, span, string};
@@ -80,7 +82,7 @@ impl FromValue for Condition {
 }
 
 #[tactic(auto, using(lalrpop_norm_shapes::proofs::Refusals::refusals))]
-fn alternative(alloc: Global, value: Value<'_, '_>) -> Result<Alternative, TreeError>
+pub(super) fn alternative(alloc: Global, value: Value<'_, '_>) -> Result<Alternative, TreeError>
     ensures ok { IfOk result (λ a. view value.entry ≡ alternative_form (alternative_view a)) }
     ensures err { IsErrOf result TreeError.NotATree → is shape.alternative (view value.entry) ≡ false }
 {
@@ -138,12 +140,16 @@ fn visibility(alloc: Global, value: Value<'_, '_>) -> Result<Visibility, TreeErr
     }
 }
 
+/// The rule whose form the value is, but for its alternatives, and the value that holds these.
 #[tactic(auto, using(lalrpop_norm_shapes::proofs::Refusals::refusals))]
-pub(super) fn rule(alloc: Global, value: Value<'_, '_>) -> Result<NonterminalData, TreeError>
-    ensures ok { IfOk result (λ n. view value.entry ≡ rule_form (rule_view n)) }
+fn without_alternatives<'t, 'a>(
+    alloc: Global,
+    value: Value<'t, 'a>,
+) -> Result<(NonterminalData, Value<'t, 'a>), TreeError>
+    ensures ok { IfOk result (λ p. view value.entry ≡ rule_fields (rule_view p.0) (view p.1)) }
     ensures err { IsErrOf result TreeError.NotATree → is shape.rule (view value.entry) ≡ false }
 {
-    let (alternatives, args, listed, name, at, type_decl, seen) = seven_fields(
+    let (held, args, listed, name, at, type_decl, seen) = seven_fields(
         value,
         "alternatives",
         "args",
@@ -159,14 +165,43 @@ pub(super) fn rule(alloc: Global, value: Value<'_, '_>) -> Result<NonterminalDat
     let args = list(alloc, args)?;
     let visibility = visibility(alloc, seen)?;
     let attributes = attributes(alloc, listed)?;
-    let alternatives = list(alloc, alternatives)?;
-    Ok(NonterminalData {
+    let rule = NonterminalData {
         visibility,
         name: NonterminalString(name),
         attributes,
         span,
         args,
         type_decl,
-        alternatives,
-    })
+        alternatives: Vec::new(alloc),
+    };
+    Ok((rule, held))
+}
+
+#[tactic(auto, using(lalrpop_norm_shapes::proofs::Refusals::refusals))]
+pub(super) fn rule(alloc: Global, value: Value<'_, '_>) -> Result<NonterminalData, TreeError>
+    ensures ok { IfOk result (λ n. view value.entry ≡ rule_form (rule_view n)) }
+    ensures err { IsErrOf result TreeError.NotATree → is shape.rule (view value.entry) ≡ false }
+{
+    let (mut rule, held) = without_alternatives(alloc, value)?;
+    rule.alternatives = list(alloc, held)?;
+    Ok(rule)
+}
+
+/// The rule of these alternatives whose form the value is with them.
+pub(super) fn rule_of(
+    alloc: Global,
+    value: Value<'_, '_>,
+    alternatives: Vec<Alternative>,
+) -> Option<NonterminalData>
+    ensures { IfSome result (λ n. (ds : List Data) → all_data (λ a. Some (alternative_form (alternative_view a))) alternatives.items ≡ Some ds
+        → rule_form (rule_view n) ≡ with_list (codes "alternatives") ds (view value.entry)) }
+{
+    match without_alternatives(alloc, value) {
+        Ok((rule, _)) => {
+            let mut whole = rule;
+            whole.alternatives = alternatives;
+            Some(whole)
+        }
+        Err(_) => None,
+    }
 }

@@ -6,18 +6,18 @@ use Rattle.json_document.proofs.parted.item.Goals as goal
 pub of-requires : goal.of-requires
 of-requires g c =
     let ns = c.deref.result.now in
-    let k = alone 125 c.clear.new.self.items c.keep_known.new.nodes.items ns c.args.reader.now c.keep_known.new.reader c.clear.ensures.items c.deref.ensures.value (c.if-not-keep_known.ensures.known refl) in
-    alone_linked 125 ns c.args.reader.now c.keep_known.new.reader k
+    let k = alone c.args.depth c.clear.new.self.items c.keep_known.new.nodes.items ns c.args.reader.now c.keep_known.new.reader c.clear.ensures.items c.deref.ensures.value (c.if-not-keep_known.ensures.known refl) in
+    alone_linked c.args.depth ns c.args.reader.now c.keep_known.new.reader k
 
 pub invariant_of-read_item : goal.invariant_of-read_item
 invariant_of-read_item g c =
     let ns = c.deref.result.now in
-    let k = alone 125 c.clear.new.self.items c.keep_known.new.nodes.items ns c.args.reader.now c.keep_known.new.reader c.clear.ensures.items c.deref.ensures.value (c.if-not-keep_known.ensures.known refl) in
-    record { known = ap is_data (ap data_at c.of.ensures ∙ alone_data 125 ns c.args.reader.now c.keep_known.new.reader k) }
+    let k = alone c.args.depth c.clear.new.self.items c.keep_known.new.nodes.items ns c.args.reader.now c.keep_known.new.reader c.clear.ensures.items c.deref.ensures.value (c.if-not-keep_known.ensures.known refl) in
+    record { known = ap is_data (ap data_at c.of.ensures ∙ alone_data c.args.depth ns c.args.reader.now c.keep_known.new.reader k) }
 
 pub returns-clause-item : goal.returns-clause-item
 returns-clause-item g c =
     let ns = c.deref.result.now in
-    let k = alone 125 c.clear.new.self.items c.keep_known.new.nodes.items ns c.args.reader.now c.keep_known.new.reader c.clear.ensures.items c.deref.ensures.value (c.if-not-keep_known.ensures.known refl) in
-    let seen = ap data_at c.of.ensures ∙ alone_data 125 ns c.args.reader.now c.keep_known.new.reader k in
+    let k = alone c.args.depth c.clear.new.self.items c.keep_known.new.nodes.items ns c.args.reader.now c.keep_known.new.reader c.clear.ensures.items c.deref.ensures.value (c.if-not-keep_known.ensures.known refl) in
+    let seen = ap data_at c.of.ensures ∙ alone_data c.args.depth ns c.args.reader.now c.keep_known.new.reader k in
     some_also c.read_item.result _ _ (λ x e. record { json = k.value; means = k.means; is = k.is; level = k.level; read = k.read; formed = e ∙ ap (λ o. Some (or_null o)) seen }) c.read_item.ensures

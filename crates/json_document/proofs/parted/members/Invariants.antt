@@ -3,7 +3,7 @@ use Rattle.json_document.specs.Parted.{IsParted}
 use Rattle.json_document.proofs.parted.members.Given as goal
 
 abbrev pub invariant-loop-key : goal.invariant-loop-key
-invariant-loop-key g l = IsParted g.R.ReadItem.data_of l.name l.initial.reader l.reader l.nodes.items (option_map (λ xs. xs.items) l.parts)
+invariant-loop-key g l = IsParted g.K.TakeItem.data_of l.depth l.name l.initial.reader l.reader l.nodes.items (option_map (λ xs. xs.items) l.parts)
 
 abbrev pub decreases-loop-key : goal.decreases-loop-key
 decreases-loop-key g l = length l.reader
