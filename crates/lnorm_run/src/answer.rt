@@ -19,16 +19,17 @@ use lnorm_streams::halt::Halt;
 use std::alloc::Global;
 use std::mem;
 
-/// The text for the bytes that were read: the lines of the lowered grammar of the tree whose JSON form they are. The program
-/// ends behind it, so the lowered grammar is not let go: that would take its parts one by one.
+/// The text for the bytes that were read: the lines of the lowered grammar of the tree whose JSON form they are. The bytes are let go
+/// once the tree is read. The program ends behind the text, so the lowered grammar is not let go: that would take its parts one by one.
 ///
 /// Errors: `NotATree` where they are the form of no tree; `Failed` with the first fault of the tree, or with want of
 /// memory.
-pub fn answer(alloc: Global, session: &Session<CheckOnly>, bytes: &[u8]) -> Result<String, Halt>
-    ensures ok { IfOk result (λ text. IsAnswer (settings_view session.now) bytes.now (string_bytes text)) }
-    ensures err { IfErr result (Explains (settings_view session.now) bytes.now) }
+pub fn answer(alloc: Global, session: &Session<CheckOnly>, bytes: Vec<u8>) -> Result<String, Halt>
+    ensures ok { IfOk result (λ text. IsAnswer (settings_view session.now) bytes.items (string_bytes text)) }
+    ensures err { IfErr result (Explains (settings_view session.now) bytes.items) }
 {
-    let tree = tree_of(alloc, bytes)?;
+    let tree = tree_of(alloc, &bytes)?;
+    drop(bytes);
     match normalize(alloc, session, tree) {
         Ok(lowered) => {
             let text = text_of(alloc, &lowered);

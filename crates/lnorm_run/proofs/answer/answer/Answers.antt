@@ -9,17 +9,17 @@ use Rattle.lnorm_run.proofs.answer.answer.Goals as goal
 pub returns-in_err-tree-clause-err : goal.returns-in_err-tree-clause-err
 returns-in_err-tree-clause-err c =
     let p = err_from_is_err_and c.from_residual.result c.from_residual.ensures.1 in
-    rw (p.1, p.2) (c.in_err-tree.ensures.err (settings_view c.args.session.now))
+    rw (p.1, p.2) (rw c.deref.ensures.value at c.in_err-tree.ensures.err (settings_view c.args.session.now))
 
 pub returns-in-Err-clause-err : goal.returns-in-Err-clause-err
-returns-in-Err-clause-err c = refused_explained (settings_view c.args.session.now) c.args.bytes.now (grammar_view c.in_ok-tree.tree) c.in-Err.failure
-    c.in_ok-tree.ensures.ok c.in-Err.ensures.refuses
+returns-in-Err-clause-err c = refused_explained (settings_view c.args.session.now) c.args.bytes.items (grammar_view c.in_ok-tree.tree) c.in-Err.failure
+    (rw c.deref.ensures.value at c.in_ok-tree.ensures.ok) c.in-Err.ensures.refuses
 
 pub returns-in-Ok-clause-ok : goal.returns-in-Ok-clause-ok
 returns-in-Ok-clause-ok c = IfOk-weaker c.text_of-text.result _ _
     (λ text printed. record {
       tree = grammar_view c.in_ok-tree.tree;
-      form = c.in_ok-tree.ensures.ok;
+      form = rw c.deref.ensures.value at c.in_ok-tree.ensures.ok;
       lowered = lowered_view c.in-Ok.lowered;
       lowers = record {
         faultless = no_fault_stands (settings_view c.args.session.now) (grammar_view c.in_ok-tree.tree) (lowered_view c.in-Ok.lowered) c.in-Ok.ensures.refuses c.in-Ok.ensures.normalized;
