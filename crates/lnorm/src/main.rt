@@ -5,6 +5,7 @@ ghost use Rattle.std.specs.Prelude.{◌≤◌};
 
 use lnorm_run::run::run;
 use lnorm_streams::halt::{halt_of_words, report};
+use std::alloc::{AllocError, Global};
 use std::process::ExitCode;
 use std::{env, io};
 
@@ -16,6 +17,7 @@ fn status(rt: &HostRuntime) -> u8
     ensures { result ≤ 4 }
 {
     let alloc = rt.alloc();
+    keep_large_blocks(alloc);
     match words_of_call(rt) {
         Ok(words) => run(
             alloc,
@@ -26,6 +28,12 @@ fn status(rt: &HostRuntime) -> u8
         ),
         Err(error) => report(alloc, halt_of_words(&error), &mut rt.stderr()),
     }
+}
+
+/// Takes a block of 31 MiB and lets it go, untouched. The C library's `malloc` hands a large block that is let go back to the system,
+/// and takes new pages for the next one; by this it keeps those up to the size of this one, and uses them again.
+fn keep_large_blocks(alloc: Global) {
+    let _block: Result<Vec<u8>, AllocError> = Vec::with_capacity(alloc, 31 << 20);
 }
 
 /// The words of the call, without the program's name.
