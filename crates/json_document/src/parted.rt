@@ -55,11 +55,12 @@ pub trait ReadMember<T, P>: ReadItem<P> {
 trait TakeItem<T> {
     ghost data_of: { T → Option Data };
 
-    /// The item that comes next, of no more levels than `depth`. What stands in it goes into `nodes`, which is emptied first.
+    /// The item that comes next, of no more levels than `depth`. What stands in it goes into the first of the `rooms`, which is emptied
+    /// first, and what stands in a part of it into the next one: they are lent, so that no item takes memory of its own for that.
     fn take_item<'a>(
         alloc: Global,
         reader: &mut Reader<'a>,
-        nodes: &mut Vec<Node<'a>>,
+        rooms: &mut [Vec<Node<'a>>],
         depth: usize,
     ) -> Option<T>
         ensures item { IfSome result (λ x. IsItem data_of depth reader.old reader.new x) }
@@ -77,10 +78,10 @@ impl<T, R: ReadItem<T>> TakeItem<T> for Whole<R> {
     fn take_item<'a>(
         alloc: Global,
         reader: &mut Reader<'a>,
-        nodes: &mut Vec<Node<'a>>,
+        rooms: &mut [Vec<Node<'a>>],
         depth: usize,
     ) -> Option<T> {
-        item::<T, R>(alloc, reader, nodes, depth)
+        item::<T, R>(alloc, reader, rooms.first_mut()?, depth)
     }
 }
 
@@ -95,10 +96,11 @@ impl<T: Drop, P: Drop, R: ReadMember<T, P>> TakeItem<T> for InParts<P, R> {
     fn take_item<'a>(
         alloc: Global,
         reader: &mut Reader<'a>,
-        nodes: &mut Vec<Node<'a>>,
+        rooms: &mut [Vec<Node<'a>>],
         depth: usize,
     ) -> Option<T> {
-        one_member::<T, P, R>(alloc, reader, nodes, depth)
+        let (nodes, others) = rooms.split_first_mut()?;
+        one_member::<T, P, R>(alloc, reader, nodes, others, depth)
     }
 }
 
@@ -140,6 +142,7 @@ fn item<'a, T, R: ReadItem<T>>(
 fn list<'a, T: Drop, K: TakeItem<T>>(
     alloc: Global,
     reader: &mut Reader<'a>,
+    rooms: &mut [Vec<Node<'a>>],
     depth: usize,
 ) -> Option<Vec<T>>
     ensures list { IfSome result (λ xs. IsList K.data_of depth reader.old reader.new xs.items) }
@@ -149,15 +152,17 @@ fn list<'a, T: Drop, K: TakeItem<T>>(
     let Some(Token::BeginArray) = reader.next() else {
         return None;
     };
-    let mut nodes = Vec::new(alloc);
-    let mut items = Vec::new(alloc);
+    let Ok(mut items) = Vec::with_capacity(alloc, 1) else {
+        return None;
+    };
     while !reader.take_end_array() {
-        let read = K::take_item(alloc, reader, &mut nodes, inner)?;
+        let read = K::take_item(alloc, reader, rooms, inner)?;
         match items.push(read) {
             Ok(_) => {}
             Err(_) => return None,
         }
     }
+    items.shrink_to_fit();
     Some(items)
 }
 
@@ -166,6 +171,7 @@ fn named<'a, T: Drop, K: TakeItem<T>>(
     alloc: Global,
     reader: &mut Reader<'a>,
     nodes: &mut Vec<Node<'a>>,
+    rooms: &mut [Vec<Node<'a>>],
     key: &'a str,
     depth: usize,
 ) -> Option<Vec<T>>
@@ -173,7 +179,7 @@ fn named<'a, T: Drop, K: TakeItem<T>>(
     ensures kept { IfSome result (λ _. nodes.new.items ≡ (nodes.old.items ++ Node.Key key.entry ∷ []) ++ Node.Array (length nodes.old.items + 3) ∷ Node.EndArray ∷ []) }
     ensures shorter { IfSome result (λ _. length reader.new < length reader.old) }
 {
-    let items = list::<T, K>(alloc, reader, depth)?;
+    let items = list::<T, K>(alloc, reader, rooms, depth)?;
     let after = nodes.len() + 3;
     match add_three(nodes, Node::Key(key), Node::Array(after), Node::EndArray) {
         Ok(_) => Some(items),
@@ -210,6 +216,7 @@ fn member<'a, T: Drop, K: TakeItem<T>>(
     alloc: Global,
     reader: &mut Reader<'a>,
     nodes: &mut Vec<Node<'a>>,
+    rooms: &mut [Vec<Node<'a>>],
     parts: &mut Option<Vec<T>>,
     name: &str,
     key: &'a str,
@@ -226,7 +233,7 @@ fn member<'a, T: Drop, K: TakeItem<T>>(
     if parts.is_some() {
         return false;
     }
-    match named::<T, K>(alloc, reader, nodes, key, depth) {
+    match named::<T, K>(alloc, reader, nodes, rooms, key, depth) {
         Some(items) => {
             *parts = Some(items);
             true
@@ -241,6 +248,7 @@ fn members<'a, T: Drop, K: TakeItem<T>>(
     alloc: Global,
     reader: &mut Reader<'a>,
     nodes: &mut Vec<Node<'a>>,
+    rooms: &mut [Vec<Node<'a>>],
     name: &str,
     depth: usize,
 ) -> Option<Vec<T>>
@@ -253,7 +261,7 @@ fn members<'a, T: Drop, K: TakeItem<T>>(
     loop {
         match reader.next_key() {
             Ok(Some(key)) => {
-                if !member::<T, K>(alloc, reader, nodes, &mut parts, name, key, depth) {
+                if !member::<T, K>(alloc, reader, nodes, rooms, &mut parts, name, key, depth) {
                     return None;
                 }
             }
@@ -269,6 +277,7 @@ fn object<'a, T: Drop, K: TakeItem<T>>(
     alloc: Global,
     reader: &mut Reader<'a>,
     nodes: &mut Vec<Node<'a>>,
+    rooms: &mut [Vec<Node<'a>>],
     name: &str,
     depth: usize,
 ) -> Option<Vec<T>>
@@ -283,7 +292,7 @@ fn object<'a, T: Drop, K: TakeItem<T>>(
     let Ok(_) = push(nodes, Node::Object(0)) else {
         return None;
     };
-    let parts = members::<T, K>(alloc, reader, nodes, name, inner)?;
+    let parts = members::<T, K>(alloc, reader, nodes, rooms, name, inner)?;
     let after = nodes.len() + 1;
     match close(nodes, 0, Node::EndObject, Node::Object(after)) {
         Ok(_) => Some(parts),
@@ -296,6 +305,7 @@ fn one_member<'a, T: Drop, P: Drop, R: ReadMember<T, P>>(
     alloc: Global,
     reader: &mut Reader<'a>,
     nodes: &mut Vec<Node<'a>>,
+    rooms: &mut [Vec<Node<'a>>],
     depth: usize,
 ) -> Option<T>
     ensures item { IfSome result (λ x. IsItem R.whole_of depth reader.old reader.new x) }
@@ -308,7 +318,7 @@ fn one_member<'a, T: Drop, P: Drop, R: ReadMember<T, P>>(
     let Ok(Some(key)) = reader.next_key() else {
         return None;
     };
-    let read = held::<T, P, R>(alloc, reader, nodes, key, inner)?;
+    let read = held::<T, P, R>(alloc, reader, nodes, rooms, key, inner)?;
     match reader.next_key() {
         Ok(None) => Some(read),
         _ => None,
@@ -320,6 +330,7 @@ fn held<'a, T, P: Drop, R: ReadMember<T, P>>(
     alloc: Global,
     reader: &mut Reader<'a>,
     nodes: &mut Vec<Node<'a>>,
+    rooms: &mut [Vec<Node<'a>>],
     key: &str,
     depth: usize,
 ) -> Option<T>
@@ -327,7 +338,7 @@ fn held<'a, T, P: Drop, R: ReadMember<T, P>>(
     ensures shorter { IfSome result (λ _. length reader.new < length reader.old) }
 {
     match R::parts_of(key) {
-        Some(name) => in_parts::<T, P, R>(alloc, reader, nodes, key, name, depth),
+        Some(name) => in_parts::<T, P, R>(alloc, reader, nodes, rooms, key, name, depth),
         None => as_whole::<T, P, R>(alloc, reader, nodes, key, depth),
     }
 }
@@ -361,6 +372,7 @@ fn in_parts<'a, T, P: Drop, R: ReadMember<T, P>>(
     alloc: Global,
     reader: &mut Reader<'a>,
     nodes: &mut Vec<Node<'a>>,
+    rooms: &mut [Vec<Node<'a>>],
     key: &str,
     name: &str,
     depth: usize,
@@ -368,7 +380,7 @@ fn in_parts<'a, T, P: Drop, R: ReadMember<T, P>>(
     ensures held { IfSome result (λ x. IsHeld R.whole_of key.now depth reader.old reader.new x) }
     ensures shorter { IfSome result (λ _. length reader.new < length reader.old) }
 {
-    let parts = object::<P, Whole<R>>(alloc, reader, nodes, name, depth)?;
+    let parts = object::<P, Whole<R>>(alloc, reader, nodes, rooms, name, depth)?;
     R::read_parted(
         alloc,
         key,
@@ -400,7 +412,8 @@ pub fn open_parted<'a, T: Drop, P: Drop, R: ReadMember<T, P>>(
         return None;
     };
     let mut nodes = Vec::new(alloc);
-    let items = object::<T, InParts<P, R>>(alloc, &mut reader, &mut nodes, name, MAX_DEPTH)?;
+    let rooms: &mut [Vec<Node<'a>>] = &mut [Vec::new(alloc), Vec::new(alloc)];
+    let items = object::<T, InParts<P, R>>(alloc, &mut reader, &mut nodes, rooms, name, MAX_DEPTH)?;
     if reader.next().is_some() {
         return None;
     }
