@@ -1,9 +1,9 @@
-"""Compares docs/tree.schema.json with what else says what a tree is: `tools/schema --check`.
+"""Compares docs/use/tree.schema.json with what else says what a tree is: `tools/schema --check`.
 
-- The table of shapes, crates/lalrpop_norm_shapes/specs/Shapes.antt: each form, with its fields and variants and what they hold.
+- The table of shapes, crates/lalrpop_norm_json_shapes/specs/Shapes.antt: each form, with its fields and variants and what they hold.
   The reader is proved to take what has the shape of a grammar, and nothing else.
 - The code of the reader, crates/lalrpop_norm_json/src: the lists of keys that it asks for, and the names of variants.
-- The fields in docs/FORMATS.md.
+- The fields in docs/use/FORMATS.md.
 - The trees of crates/cases and examples, and trees with one key or item changed: by the table, which is run here.
 
 A form is read from each of them as a `Form`. What stands in one is a place: the name of a form, a form, or a `Maybe` of a place.
@@ -14,9 +14,9 @@ import re
 
 import schema_words
 
-SHAPES = "crates/lalrpop_norm_shapes/specs/Shapes.antt"
+SHAPES = "crates/lalrpop_norm_json_shapes/specs/Shapes.antt"
 READER = "crates/lalrpop_norm_json/src/tree"
-FORMATS = "docs/FORMATS.md"
+FORMATS = "docs/use/FORMATS.md"
 GREATEST = 2 ** 64 - 1
 
 
@@ -183,7 +183,7 @@ def of_schema(schema):
     return Table({name: read(node) for name, node in schema["$defs"].items()}, place({"$ref": schema["$ref"]}))
 
 
-# ---- docs/FORMATS.md
+# ---- docs/use/FORMATS.md
 
 WORD = re.compile(r"\s*([A-Za-z_]+|[][(){},|?:])")
 
@@ -211,13 +211,13 @@ def taken(words, word):
 
 def next_name(words):
     if not words or not words[0][0].isalpha():
-        raise Unread("docs/FORMATS.md: no name where one was to stand: %s" % " ".join(words[:3]))
+        raise Unread("docs/use/FORMATS.md: no name where one was to stand: %s" % " ".join(words[:3]))
     return words.pop(0)
 
 
 def closed(words, word):
     if not taken(words, word):
-        raise Unread("docs/FORMATS.md: %s where %s was to stand" % (" ".join(words[:3]), word))
+        raise Unread("docs/use/FORMATS.md: %s where %s was to stand" % (" ".join(words[:3]), word))
 
 
 def fields(words, end):
@@ -607,7 +607,7 @@ def compare(root, schema, value_of, faults):
     found, lists, variants = reader_differences(os.path.join(root, READER), mine)
     part("the reader's code (%d lists of keys, %d of variants) and the schema" % (lists, variants), found)
     formats = of_formats(os.path.join(root, FORMATS))
-    part("docs/FORMATS.md (%d forms) and the schema" % (len(formats.forms) - len(BASIC)), differences(formats, mine, True))
+    part("docs/use/FORMATS.md (%d forms) and the schema" % (len(formats.forms) - len(BASIC)), differences(formats, mine, True))
 
     wanted = wanted_readings(root)
     counts, found, trees = {"tree": 0, "schema": 0, "text": 0}, [], []

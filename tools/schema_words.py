@@ -1,4 +1,4 @@
-"""The words of JSON Schema, draft 2020-12, that docs/tree.schema.json uses: a schema with another word is refused."""
+"""The words of JSON Schema, draft 2020-12, that docs/use/tree.schema.json uses: a schema with another word is refused."""
 
 TYPES = {
     "null": lambda v: v is None,

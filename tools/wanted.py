@@ -9,7 +9,7 @@ prints `?`, and compares nothing. It knows the printed forms, which texts are tr
 take, and what they refuse one for, but for F56. It counts the lines of which it tells nothing: those are to be written by hand.
 
 The passes are written here a second time, briefly, after the published source of lalrpop 0.23.1; the order of faults, and what
-differs from that source, after docs/FAULTS.md and docs/DEFINITIONS.md. Patterns are read by `re`, so they are to mean the same
+differs from that source, after docs/use/FAULTS.md and docs/language/DEFINITIONS.md. Patterns are read by `re`, so they are to mean the same
 there as in the library; none is told where it looks around, repeats a hundred times or more, or nests past 250.
 """
 import copy

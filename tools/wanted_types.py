@@ -1,6 +1,6 @@
 """The types of terminals and rules, read off the JSON of an expanded tree: `wanted.py` uses it.
 
-It is written after docs/FAULTS.md and docs/DEFINITIONS.md, and where those say nothing after the published source of lalrpop
+It is written after docs/use/FAULTS.md and docs/language/DEFINITIONS.md, and where those say nothing after the published source of lalrpop
 0.23.1: rounds in item order, then the alternatives are compared, then tuples of names are held against the types.
 
 A type is a tuple of its form and its parts, so that two of one text are told apart: a path `T::Id` and an associated type.

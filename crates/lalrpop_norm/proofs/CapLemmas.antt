@@ -3,7 +3,7 @@ use Rattle.std.proofs.Common.{Option, Some, None, ◌≡◌, ◌≤◌, ◌<◌,
 use Rattle.std.specs.Prelude.{◌||◌, ◌↔◌, ◌⊎◌, flat_map}
 use Rattle.std.specs.List.{range_with_len}
 use Rattle.std.proofs.lemmas.List.{append_assoc}
-use Rattle.lalrpop_norm_names.specs.declared.names.Span.{Span}
+use Rattle.lalrpop_norm_tree_names.specs.declared.names.Span.{Span}
 use Rattle.lalrpop_norm_tree.specs.Symbols.{Kind, Part, Parts, group, ambiguous_id, terminal, nonterminal, call, repeated, chosen, named, tupled, lookahead, lookbehind, error_terminal, at}
 use Rattle.lalrpop_norm_tree.specs.SymbolTexts.{part_text}
 use Rattle.lalrpop_norm_tree.specs.Items.{AlternativeData, RuleData, GrammarData}
@@ -29,9 +29,9 @@ use Rattle.lalrpop_norm_resolve.specs.NameFaults.{resolve_faults}
 use Rattle.lalrpop_norm_resolve.proofs.ResolvedFaults.{faults_gone}
 use Rattle.lalrpop_norm.proofs.ScopedLemmas.{settled}
 use Rattle.lalrpop_norm_conditions.specs.Conditions.{lacks_reading}
-use Rattle.lalrpop_norm_making.specs.Conditions.{quoted_text, comparison_faults, value_faults, called_faults}
-use Rattle.lalrpop_norm_expand.specs.Expansion.{met_before, meetings, has_other, shared_names, shared_in, unmade, unmade_in, past_cap, faults_from, expansion_faults, macro_faults}
-use Rattle.lalrpop_norm_making.specs.Names.{is_declared_name}
+use Rattle.lalrpop_norm_macro_expand_rules.specs.Conditions.{quoted_text, comparison_faults, value_faults, called_faults}
+use Rattle.lalrpop_norm_macro_expand.specs.Expansion.{met_before, meetings, has_other, shared_names, shared_in, unmade, unmade_in, past_cap, faults_from, expansion_faults, macro_faults}
+use Rattle.lalrpop_norm_macro_expand_rules.specs.Names.{is_declared_name}
 use Rattle.lalrpop_norm.specs.Laws.{CapIsExact, EndsPastLimit, FaultsAreByRound, IsPastLimit}
 use Rattle.lalrpop_norm_faults.proofs.FaultLemmas.{left_none, right_none, both_none}
 

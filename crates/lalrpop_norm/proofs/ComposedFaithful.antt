@@ -1,10 +1,10 @@
 -- From what the early passes promise to what the late ones ask, and to the headline.
 use Rattle.std.proofs.Common.{◌≡◌, ℕ, List, [], ◌++◌, map, Option, Some, None, IsSome, refl, subst}
-use Rattle.lalrpop_norm_names.specs.declared.names.NonterminalString.{NonterminalString}
-use Rattle.lalrpop_norm_names.specs.declared.names.Span.{Span}
+use Rattle.lalrpop_norm_tree_names.specs.declared.names.NonterminalString.{NonterminalString}
+use Rattle.lalrpop_norm_tree_names.specs.declared.names.Span.{Span}
 use Rattle.lalrpop_norm_tree.specs.declared.items.Condition.{Condition}
 use Rattle.lalrpop_norm_tree.specs.Items.{AlternativeData, RuleData, GrammarData, rule_item}
-use Rattle.lalrpop_norm_parts.specs.Reprs.{ReprData}
+use Rattle.lalrpop_norm_tree_parts.specs.Reprs.{ReprData}
 use Rattle.lalrpop_norm_theory.specs.Rounds.{In, IsDistinct}
 use Rattle.lalrpop_norm_conditions.specs.Conditions.{comparison}
 use Rattle.lalrpop_norm_model.specs.Features.{Features}
@@ -25,14 +25,14 @@ use Rattle.lalrpop_norm_model.proofs.ResolvedLemmas.{resolved_once}
 use Rattle.lalrpop_norm_model.proofs.InferenceLemmas.{both_empty}
 use Rattle.lalrpop_norm_resolve.specs.NameFaults.{repeated_faults, repeated_argument_faults, tested_faults, condition_faults, parts_name_faults, alternative_name_faults, item_name_faults, resolve_faults}
 use Rattle.lalrpop_norm_precedence.specs.PrecedenceFaults.{leveled_faults}
-use Rattle.lalrpop_norm_front.specs.GrammarFaults.{validate_faults}
-use Rattle.lalrpop_norm_expand.proofs.DistinctLemmas.{names_stay_distinct}
+use Rattle.lalrpop_norm_prevalidate.specs.GrammarFaults.{validate_faults}
+use Rattle.lalrpop_norm_macro_expand.proofs.DistinctLemmas.{names_stay_distinct}
 use Rattle.lalrpop_norm_repr.specs.Closed.{IsClosed}
 use Rattle.lalrpop_norm_repr.specs.Lowered.{LoweredGrammar}
 use Rattle.lalrpop_norm_repr.specs.Tables.{TypeTable}
-use Rattle.lalrpop_norm_late.specs.Lowering.{public_rules_in}
-use Rattle.lalrpop_norm_late.specs.Made.{types_by_name}
-use Rattle.lalrpop_norm_late.specs.Shape.{HasStartTypes, IsLoweringOf}
+use Rattle.lalrpop_norm_lower.specs.Lowering.{public_rules_in}
+use Rattle.lalrpop_norm_lower.specs.Made.{types_by_name}
+use Rattle.lalrpop_norm_lower.specs.Shape.{HasStartTypes, IsLoweringOf}
 use Rattle.lalrpop_norm.specs.Faithful.{HasGroundedTypes, IsInferred, IsFaithful, grammar_with_levels, grammar_of_plain_rules}
 use Rattle.lalrpop_norm.specs.Laws.{HasFlatMacros, HasOwnNames}
 use Rattle.lalrpop_norm.specs.PlainLaws.{PassesExpansion, PassesTokens, PassesLowering}

@@ -1,7 +1,7 @@
 -- The grammar of plain rules is expanded.
 use Rattle.std.proofs.Common.{◌≡◌, ◌⊎◌, inl, inr, ℕ, ◌≤◌, true, not, List, [], length, map, None, sym, subst, arith}
 use Rattle.std.specs.Prelude.{flat_map}
-use Rattle.lalrpop_norm_names.specs.declared.names.TerminalString.{TerminalString}
+use Rattle.lalrpop_norm_tree_names.specs.declared.names.TerminalString.{TerminalString}
 use Rattle.lalrpop_norm_tree.specs.Symbols.{Kind, Part}
 use Rattle.lalrpop_norm_tree.specs.Items.{AlternativeData, RuleData, GrammarData}
 use Rattle.lalrpop_norm_theory.specs.Rounds.{In, IsDistinct}

@@ -5,7 +5,7 @@ use Rattle.lalrpop_norm_tree.specs.Items.{GrammarData}
 use Rattle.lalrpop_norm_model.specs.Grammars.{ConditionValue}
 use Rattle.lalrpop_norm_model.specs.PlainRules.{expansion_round, IsEnded}
 use Rattle.lalrpop_norm_model.proofs.InferenceLemmas.{both_empty}
-use Rattle.lalrpop_norm_expand.specs.Expansion.{shared_in, unmade_in, past_cap, faults_from, expansion_faults}
+use Rattle.lalrpop_norm_macro_expand.specs.Expansion.{shared_in, unmade_in, past_cap, faults_from, expansion_faults}
 
 none_past : (xs : List Part) → past_cap xs ≡ [] → xs ≡ []
 none_past [] h = refl

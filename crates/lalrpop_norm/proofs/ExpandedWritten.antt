@@ -5,19 +5,19 @@ use Rattle.std.specs.Prelude.{flat_map, filter, filter_map, option_map, option_t
 use Rattle.std.specs.List.{list_any}
 use Rattle.std.proofs.lemmas.Grind.{flat_map-append}
 use Rattle.std.proofs.lemmas.List.{length-map}
-use Rattle.lalrpop_norm_names.specs.declared.names.Span.{Span}
-use Rattle.lalrpop_norm_names.specs.declared.names.TerminalString.{TerminalString}
-use Rattle.lalrpop_norm_names.specs.declared.names.TerminalString.TheVariants.{Literal, Bare, Error}
-use Rattle.lalrpop_norm_parts.specs.Accessors.{is_known_name}
-use Rattle.lalrpop_norm_parts.specs.Attributes.{Attributes, attribute, no_attributes, attribute_and}
-use Rattle.lalrpop_norm_parts.specs.Bounds.{BoundParameterData, lifetime_parameter, type_parameter, associated_type, BoundData, lifetime_bound, function_bound, trait_bound, WhereClauseData, lifetime_clause, type_clause}
+use Rattle.lalrpop_norm_tree_names.specs.declared.names.Span.{Span}
+use Rattle.lalrpop_norm_tree_names.specs.declared.names.TerminalString.{TerminalString}
+use Rattle.lalrpop_norm_tree_names.specs.declared.names.TerminalString.TheVariants.{Literal, Bare, Error}
+use Rattle.lalrpop_norm_tree_parts.specs.Accessors.{is_known_name}
+use Rattle.lalrpop_norm_tree_parts.specs.Attributes.{Attributes, attribute, no_attributes, attribute_and}
+use Rattle.lalrpop_norm_tree_parts.specs.Bounds.{BoundParameterData, lifetime_parameter, type_parameter, associated_type, BoundData, lifetime_bound, function_bound, trait_bound, WhereClauseData, lifetime_clause, type_clause}
 use Rattle.lalrpop_norm_tree.specs.Accessors.{first_of, extern_token_of}
 use Rattle.lalrpop_norm_tree.specs.declared.items.MatchItem.{MatchItem}
 use Rattle.lalrpop_norm_tree.specs.declared.items.MatchItem.TheVariants.{CatchAll, Unmapped, Mapped}
 use Rattle.lalrpop_norm_tree.specs.declared.items.MatchMapping.TheVariants.{Terminal, Skip}
 use Rattle.lalrpop_norm_tree.specs.Items.{AlternativeData, RuleData, AssociatedTypeData, ConversionData, EnumTokenData, ExternTokenData, MatchTokenData, InternTokenData, ItemData, GrammarData, match_item, extern_item, intern_item, rule_item, use_item}
 use Rattle.lalrpop_norm_tree.specs.LoweredTypes.{holds_symbol, any_holds_symbol, result_holds_symbol}
-use Rattle.lalrpop_norm_pattern.specs.Patterns as pattern
+use Rattle.lalrpop_norm_tree_patterns.specs.Patterns as pattern
 use Rattle.lalrpop_norm_tree.specs.Symbols.{Kind, Part, Parts, group, ambiguous_id, terminal, nonterminal, call, repeated, chosen, named, tupled, lookahead, lookbehind, error_terminal, at, no_parts, part_and}
 use Rattle.lalrpop_norm_tree.specs.Types.{TypeData, TypesData, MaybeType, ParameterData, tuple, slice, nominal, reference, trait_object, of_lifetime, id, of_symbol, function, no_types, type_and, no_type, returns}
 use Rattle.lalrpop_norm_theory.specs.Rounds.{In}
@@ -37,12 +37,12 @@ use Rattle.lalrpop_norm_model.proofs.EnteredTokens.{groups_names}
 use Rattle.lalrpop_norm_model.proofs.LevelLemmas.{of_map}
 use Rattle.lalrpop_norm_model.proofs.GrammarLemmas.{rule_item_of}
 use Rattle.lalrpop_norm_model.proofs.InferenceLemmas.{both_empty, none_made, in_filtered}
-use Rattle.lalrpop_norm_front.specs.TypeFaults.{some_holds, parameter_holds, bound_holds, clause_holds, kind_holds, pattern_holds, patterns_hold, fields_hold}
-use Rattle.lalrpop_norm_front.specs.SymbolFaults.{terminal_faults, call_faults, kind_faults, part_faults, parts_faults, beside_faults, list_faults}
-use Rattle.lalrpop_norm_front.specs.AlternativeFaults.{alternative_faults}
-use Rattle.lalrpop_norm_front.specs.GrammarFaults.{rule_faults, mapping_faults, match_beside_extern_faults, match_faults, associated_faults, types_faults, conversion_faults, enum_faults, extern_faults, is_known_type, unknown_grammar_faults, parameter_faults, clause_faults, is_match, is_extern, item_faults, items_faults, enum_span, place_in, blocks_in, validate_faults}
-use Rattle.lalrpop_norm_front.specs.Walks.{types_along, items_along}
-use Rattle.lalrpop_norm_front.proofs.PlaceLemmas.{types_placed, items_placed}
+use Rattle.lalrpop_norm_prevalidate.specs.TypeFaults.{some_holds, parameter_holds, bound_holds, clause_holds, kind_holds, pattern_holds, patterns_hold, fields_hold}
+use Rattle.lalrpop_norm_prevalidate.specs.SymbolFaults.{terminal_faults, call_faults, kind_faults, part_faults, parts_faults, beside_faults, list_faults}
+use Rattle.lalrpop_norm_prevalidate.specs.AlternativeFaults.{alternative_faults}
+use Rattle.lalrpop_norm_prevalidate.specs.GrammarFaults.{rule_faults, mapping_faults, match_beside_extern_faults, match_faults, associated_faults, types_faults, conversion_faults, enum_faults, extern_faults, is_known_type, unknown_grammar_faults, parameter_faults, clause_faults, is_match, is_extern, item_faults, items_faults, enum_span, place_in, blocks_in, validate_faults}
+use Rattle.lalrpop_norm_prevalidate.specs.Walks.{types_along, items_along}
+use Rattle.lalrpop_norm_prevalidate.proofs.PlaceLemmas.{types_placed, items_placed}
 use Rattle.lalrpop_norm.proofs.ExpandedScopes.{IsOverKind, IsOver, AreOver}
 use Rattle.lalrpop_norm.proofs.ExpandedTokens.{HasTokens}
 use Rattle.lalrpop_norm.proofs.ExpandedSteps.{AreFitRules, enabled_rules_fit}

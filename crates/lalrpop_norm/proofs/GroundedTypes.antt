@@ -6,7 +6,7 @@ use Rattle.std.specs.List.{enumerate_from}
 use Rattle.std.proofs.lemmas.Bool.{cases_Bool}
 use Rattle.lalrpop_norm_tree.specs.Accessors.{is_public, or_else}
 use Rattle.lalrpop_norm_tree.specs.Items.{RuleData, GrammarData}
-use Rattle.lalrpop_norm_parts.specs.Reprs.{ReprData}
+use Rattle.lalrpop_norm_tree_parts.specs.Reprs.{ReprData}
 use Rattle.lalrpop_norm_theory.specs.Symbols.{Name}
 use Rattle.lalrpop_norm_theory.specs.Rounds.{In, IsDistinct}
 use Rattle.lalrpop_norm_theory.proofs.SameLemmas.{text_sound, text_same}
@@ -21,9 +21,9 @@ use Rattle.lalrpop_norm_model.proofs.LevelLemmas.{of_map}
 use Rattle.lalrpop_norm_model.proofs.InferenceLemmas.{both_empty, none_true}
 use Rattle.lalrpop_norm_model.proofs.TypableLemmas.{typable_exactly}
 use Rattle.lalrpop_norm_repr.specs.Tables.{TypeTable, found, type_of}
-use Rattle.lalrpop_norm_late.specs.Lowering.{public_rules_in, start_name}
-use Rattle.lalrpop_norm_late.specs.Made.{types_by_name}
-use Rattle.lalrpop_norm_late.specs.Shape.{HasStartTypes, rules_of_starts}
+use Rattle.lalrpop_norm_lower.specs.Lowering.{public_rules_in, start_name}
+use Rattle.lalrpop_norm_lower.specs.Made.{types_by_name}
+use Rattle.lalrpop_norm_lower.specs.Shape.{HasStartTypes, rules_of_starts}
 use Rattle.lalrpop_norm.specs.Faithful.{HasOnlyType, IsInferred, HasGroundedTypes}
 use Rattle.lalrpop_norm_faults.proofs.FaultLemmas.{holds_unless}
 

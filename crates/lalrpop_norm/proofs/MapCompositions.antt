@@ -1,14 +1,14 @@
 -- Mapping twice is mapping the composition.
 use Rattle.std.proofs.Common.{◌≡◌, Bor, Result, Ok, sym, ap, ◌∙◌}
 use Rattle.std.specs.Fn.{Mut}
-use Rattle.lalrpop_norm_pattern.specs.declared.pattern.Pattern.{Pattern}
-use Rattle.lalrpop_norm_parts.specs.declared.bound.TypeBound.{TypeBound}
-use Rattle.lalrpop_norm_pattern.specs.Patterns.{pattern_view}
-use Rattle.lalrpop_norm_pattern.specs.MappedPatterns.{mapped_pattern}
-use Rattle.lalrpop_norm_parts.specs.Bounds.{bound_view}
-use Rattle.lalrpop_norm_parts.specs.MappedBounds.{mapped_bound}
-use Rattle.lalrpop_norm_pattern.proofs.MapLaws.{pattern_map_gives, pattern_twice}
-use Rattle.lalrpop_norm_parts.proofs.BoundMapLaws.{bound_map_gives, bound_twice}
+use Rattle.lalrpop_norm_tree_patterns.specs.declared.pattern.Pattern.{Pattern}
+use Rattle.lalrpop_norm_tree_parts.specs.declared.bound.TypeBound.{TypeBound}
+use Rattle.lalrpop_norm_tree_patterns.specs.Patterns.{pattern_view}
+use Rattle.lalrpop_norm_tree_patterns.specs.MappedPatterns.{mapped_pattern}
+use Rattle.lalrpop_norm_tree_parts.specs.Bounds.{bound_view}
+use Rattle.lalrpop_norm_tree_parts.specs.MappedBounds.{mapped_bound}
+use Rattle.lalrpop_norm_tree_patterns.proofs.MapLaws.{pattern_map_gives, pattern_twice}
+use Rattle.lalrpop_norm_tree_parts.proofs.BoundMapLaws.{bound_map_gives, bound_twice}
 use Rattle.lalrpop_norm.specs.Maps.{Computes, IsMapped, IsMappedBound, PatternsCompose, BoundsCompose}
 
 mapped_by : {S T U E : Type 0} (calls : Mut S (Bor T × Unit {0}) (Result U E)) (f : T → U) → Computes calls f → (p : Pattern T) (q : Pattern U) →

@@ -35,14 +35,14 @@ use Rattle.lalrpop_norm_model.proofs.InferenceLemmas.{both_empty, inferred_types
 use Rattle.lalrpop_norm_model.proofs.TokenFindingLemmas.{sure_findings, checked_is_entered}
 use Rattle.lalrpop_norm_model.proofs.TypableLemmas.{typable_exactly}
 use Rattle.lalrpop_norm_resolve.specs.NameFaults.{resolve_faults}
-use Rattle.lalrpop_norm_alternatives.specs.LevelFaults.{grammar_level_faults}
-use Rattle.lalrpop_norm_front.specs.GrammarFaults.{validate_faults}
+use Rattle.lalrpop_norm_precedence_steps.specs.LevelFaults.{grammar_level_faults}
+use Rattle.lalrpop_norm_prevalidate.specs.GrammarFaults.{validate_faults}
 use Rattle.lalrpop_norm_precedence.specs.PrecedenceFaults.{precedence_faults}
-use Rattle.lalrpop_norm_expand.specs.Expansion.{expansion_faults}
+use Rattle.lalrpop_norm_macro_expand.specs.Expansion.{expansion_faults}
 use Rattle.lalrpop_norm_tyinfer.specs.Inferred.{IsInferred}
-use Rattle.lalrpop_norm_late.specs.Active.{active_item, active_grammar}
-use Rattle.lalrpop_norm_late.specs.Made.{types_by_name}
-use Rattle.lalrpop_norm_late.specs.Shape.{IsLoweringOf}
+use Rattle.lalrpop_norm_lower.specs.Active.{active_item, active_grammar}
+use Rattle.lalrpop_norm_lower.specs.Made.{types_by_name}
+use Rattle.lalrpop_norm_lower.specs.Shape.{IsLoweringOf}
 use Rattle.lalrpop_norm.specs.Faithful.{grammar_with_levels, grammar_of_plain_rules, IsFaithful}
 use Rattle.lalrpop_norm.specs.Normalize.{early_faults, late_faults, plain_findings, IsNormalized}
 use Rattle.lalrpop_norm.specs.Passed.{IsTypedByInference, IsTypedLowering, IsPlain, IsCheckedLowering}

@@ -3,7 +3,7 @@ use Rattle.std.proofs.Common.{◌≡◌, inl, inr, ℕ, zero, suc, ◌+◌, ◌�
 use Rattle.std.specs.Prelude.{Some, slice_get, bytes_eq, flat_map, replicate, drop}
 use Rattle.std.proofs.lemmas.Bool.{cases_Bool}
 use Rattle.std.proofs.lemmas.List.{length-append, length-drop}
-use Rattle.lalrpop_norm_names.specs.declared.names.NonterminalString.{NonterminalString}
+use Rattle.lalrpop_norm_tree_names.specs.declared.names.NonterminalString.{NonterminalString}
 use Rattle.lalrpop_norm_tree.specs.Items.{AlternativeData, RuleData, GrammarData}
 use Rattle.lalrpop_norm_tree.specs.Symbols as written
 use Rattle.lalrpop_norm_tree.specs.Symbols.{Kind, Part, Parts, at, no_parts, part_and}
@@ -14,15 +14,15 @@ use Rattle.lalrpop_norm_theory.specs.Tables.{table}
 use Rattle.lalrpop_norm_theory.proofs.SameLemmas.{text_sound, text_same}
 use Rattle.lalrpop_norm_repr.specs.Lowered.{LoweredGrammar}
 use Rattle.lalrpop_norm_repr.specs.Tables.{TypeTable}
-use Rattle.lalrpop_norm_late.specs.Lowering as late
-use Rattle.lalrpop_norm_late.specs.Lowering.{public_rules_in, lowered_symbol, lowered_symbols}
-use Rattle.lalrpop_norm_late.specs.Shape.{IsLoweringOf, alternatives_in_order, start_clause}
+use Rattle.lalrpop_norm_lower.specs.Lowering as late
+use Rattle.lalrpop_norm_lower.specs.Lowering.{public_rules_in, lowered_symbol, lowered_symbols}
+use Rattle.lalrpop_norm_lower.specs.Shape.{IsLoweringOf, alternatives_in_order, start_clause}
 use Rattle.lalrpop_norm_model.specs.PlainTables.{plain_symbol_kind, lowered_part, lowered_parts, productions_with_origins, rules_from}
 use Rattle.lalrpop_norm_model.proofs.NumberedNames.{Named, of_rule, numbers_named, HaveOtherNames, passed, passed_all, traced_entry, behind, NoneNamed, HaveDistinctNames}
 use Rattle.lalrpop_norm_model.proofs.GrammarLemmas.{unlike}
 use Rattle.lalrpop_norm.specs.Derivations.{tree_symbol, traced, derivations}
 use Rattle.lalrpop_norm.proofs.ShapeTrees.{tree_symbols, traced_each, starts_total, no_start_name, productions_at, AreFree, turned}
-use Rattle.lalrpop_norm_late.proofs.SourceLemmas.{replicated}
+use Rattle.lalrpop_norm_lower.proofs.SourceLemmas.{replicated}
 
 -- ---- symbols
 

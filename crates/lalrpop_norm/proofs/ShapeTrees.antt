@@ -2,7 +2,7 @@
 use Rattle.std.proofs.Common.{◌≡◌, inl, inr, ℕ, suc, Bool, true, false, List, [], ◌∷◌, ◌++◌, map, length, refl, ap, ap₂, ◌∙◌, arith}
 use Rattle.std.specs.Prelude.{Some, option_map, unwrap_or, bytes_eq, if◌then◌else◌}
 use Rattle.std.proofs.lemmas.Bool.{cases_Bool}
-use Rattle.lalrpop_norm_names.specs.declared.names.NonterminalString.{NonterminalString}
+use Rattle.lalrpop_norm_tree_names.specs.declared.names.NonterminalString.{NonterminalString}
 use Rattle.lalrpop_norm_tree.specs.Items.{AlternativeData, RuleData, GrammarData}
 use Rattle.lalrpop_norm_theory.specs.Symbols.{Name}
 use Rattle.lalrpop_norm_theory.specs.LoweredTrees.{LoweredSymbol, Origin}
@@ -12,8 +12,8 @@ use Rattle.lalrpop_norm_repr.specs.Lowered.{LoweredGrammar}
 use Rattle.lalrpop_norm_repr.specs.Productions.{EntryData}
 use Rattle.lalrpop_norm_repr.specs.Lookups.{productions_of}
 use Rattle.lalrpop_norm_repr.specs.Tables.{TypeTable, found}
-use Rattle.lalrpop_norm_late.specs.Lowering.{public_rules_in, lowered_symbols, production_of}
-use Rattle.lalrpop_norm_late.specs.Shape.{IsLoweringOf, alternatives_in_order, start_clause, productions_named, start_entry_of, rule_entry_of}
+use Rattle.lalrpop_norm_lower.specs.Lowering.{public_rules_in, lowered_symbols, production_of}
+use Rattle.lalrpop_norm_lower.specs.Shape.{IsLoweringOf, alternatives_in_order, start_clause, productions_named, start_entry_of, rule_entry_of}
 use Rattle.lalrpop_norm_model.proofs.NumberedNames.{Named, HaveOtherNames, traced_entry, NoneNamed, HaveDistinctNames, first_named}
 use Rattle.lalrpop_norm.specs.Derivations.{tree_symbol, traced}
 

@@ -9,7 +9,7 @@ use Rattle.lalrpop_norm_theory.specs.LoweredTrees.{LoweredSymbol, nonterminal_sy
 use Rattle.lalrpop_norm_theory.specs.Rounds.{In}
 use Rattle.lalrpop_norm_repr.specs.Lowered.{LoweredGrammar}
 use Rattle.lalrpop_norm_repr.specs.Tables.{found}
-use Rattle.lalrpop_norm_late.specs.Lowering.{public_rules_in, start_name}
+use Rattle.lalrpop_norm_lower.specs.Lowering.{public_rules_in, start_name}
 use Rattle.lalrpop_norm_model.specs.Features.{Features}
 use Rattle.lalrpop_norm_model.specs.WrittenRules.{written_rules}
 use Rattle.lalrpop_norm_model.specs.Grammars.{references, roots}

@@ -3,7 +3,7 @@ use Rattle.std.proofs.Common.{◌≡◌, ◌↔◌, inl, inr, ℕ, zero, suc, �
 use Rattle.std.specs.Prelude.{Some, option_map, unwrap_or, slice_get, bytes_eq, flat_map, replicate, if◌then◌else◌}
 use Rattle.std.proofs.lemmas.Bool.{cases_Bool}
 use Rattle.std.proofs.lemmas.List.{append-nil, append_cancel_left}
-use Rattle.lalrpop_norm_names.specs.declared.names.NonterminalString.{NonterminalString}
+use Rattle.lalrpop_norm_tree_names.specs.declared.names.NonterminalString.{NonterminalString}
 use Rattle.lalrpop_norm_tree.specs.Accessors.{is_public}
 use Rattle.lalrpop_norm_tree.specs.Items.{RuleData, GrammarData}
 use Rattle.lalrpop_norm_theory.specs.Symbols.{Name, Terminal, ClosedSymbol}
@@ -17,14 +17,14 @@ use Rattle.lalrpop_norm_theory.proofs.SameLemmas.{text_sound, text_same}
 use Rattle.lalrpop_norm_repr.specs.Lowered.{LoweredGrammar}
 use Rattle.lalrpop_norm_repr.specs.Productions.{EntryData}
 use Rattle.lalrpop_norm_repr.specs.Tables.{TypeTable, found}
-use Rattle.lalrpop_norm_late.specs.Lowering.{public_rules_in, start_name}
-use Rattle.lalrpop_norm_late.specs.Shape.{OwnedAlternative, IsLoweringOf, alternatives_in_order, start_clause, start_entry_of, rule_entry_of, productions_named}
+use Rattle.lalrpop_norm_lower.specs.Lowering.{public_rules_in, start_name}
+use Rattle.lalrpop_norm_lower.specs.Shape.{OwnedAlternative, IsLoweringOf, alternatives_in_order, start_clause, start_entry_of, rule_entry_of, productions_named}
 use Rattle.lalrpop_norm_model.proofs.NumberedNames.{of_rule, numbers_named, HaveOtherNames, passed_all, traced_entry, ahead, NoneNamed, HaveDistinctNames}
 use Rattle.lalrpop_norm_model.proofs.GrammarLemmas.{unlike}
 use Rattle.lalrpop_norm.specs.Derivations.{traced, derivations, IsWrittenWord, IsWordOf}
 use Rattle.lalrpop_norm.proofs.ShapeTrees.{tree_symbols, traced_each, AreFree, none_in, turned}
 use Rattle.lalrpop_norm.proofs.PlainShape.{others_append, none_among}
-use Rattle.lalrpop_norm_late.proofs.SourceLemmas.{replicated}
+use Rattle.lalrpop_norm_lower.proofs.SourceLemmas.{replicated}
 
 -- ---- public rules
 

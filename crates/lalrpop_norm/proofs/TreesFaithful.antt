@@ -18,8 +18,8 @@ use Rattle.lalrpop_norm_resolve.specs.NameFaults.{resolve_faults}
 use Rattle.lalrpop_norm_resolve.proofs.ResolvedFaults.{faults_gone}
 use Rattle.lalrpop_norm_repr.specs.Lowered.{LoweredGrammar}
 use Rattle.lalrpop_norm_repr.specs.Tables.{TypeTable, found}
-use Rattle.lalrpop_norm_late.specs.Lowering.{public_rules_in, start_name}
-use Rattle.lalrpop_norm_late.specs.Shape.{IsLoweringOf}
+use Rattle.lalrpop_norm_lower.specs.Lowering.{public_rules_in, start_name}
+use Rattle.lalrpop_norm_lower.specs.Shape.{IsLoweringOf}
 use Rattle.lalrpop_norm_model.specs.Features.{Features}
 use Rattle.lalrpop_norm_model.specs.Enabled.{enabled_grammar}
 use Rattle.lalrpop_norm_model.specs.WrittenRules.{WrittenRule, written_rules, leveled_rules, flat_rules}

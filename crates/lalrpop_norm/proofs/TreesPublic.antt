@@ -1,13 +1,13 @@
 -- The plain rule of a public written rule, by itself or within one of its levels, is public.
 use Rattle.std.proofs.Common.{◌≡◌, inl, inr, ℕ, List, [], ◌∷◌, ◌++◌, map, Option, Some, None, Bool, true, false, not, refl, sym, ap, subst}
 use Rattle.std.specs.Prelude.{flat_map, filter, if◌then◌else◌}
-use Rattle.lalrpop_norm_names.specs.declared.names.NonterminalString.{NonterminalString}
+use Rattle.lalrpop_norm_tree_names.specs.declared.names.NonterminalString.{NonterminalString}
 use Rattle.lalrpop_norm_tree.specs.Accessors.{is_public}
 use Rattle.lalrpop_norm_tree.specs.Items.{RuleData, ItemData, GrammarData, match_item, extern_item, intern_item, rule_item, use_item}
 use Rattle.lalrpop_norm_theory.specs.Symbols.{Name, ClosedSymbol, reference}
 use Rattle.lalrpop_norm_theory.specs.Rounds.{In}
 use Rattle.lalrpop_norm_theory.proofs.RoundsLemmas.{in_left, in_cases}
-use Rattle.lalrpop_norm_late.specs.Lowering.{public_rules_in}
+use Rattle.lalrpop_norm_lower.specs.Lowering.{public_rules_in}
 use Rattle.lalrpop_norm_model.specs.Features.{Features}
 use Rattle.lalrpop_norm_model.specs.Enabled.{all_places, enabled_grammar}
 use Rattle.lalrpop_norm_model.specs.Scopes.{Global, globals, resolved_rule, resolved_item}

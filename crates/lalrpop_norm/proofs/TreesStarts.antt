@@ -6,7 +6,7 @@ use Rattle.lalrpop_norm_tree.specs.Accessors.{is_public}
 use Rattle.lalrpop_norm_tree.specs.Items.{RuleData}
 use Rattle.lalrpop_norm_theory.specs.Rounds.{In}
 use Rattle.lalrpop_norm_faults.specs.declared.kind.FaultKind.TheVariants.{StartTaken}
-use Rattle.lalrpop_norm_late.specs.Lowering as late
+use Rattle.lalrpop_norm_lower.specs.Lowering as late
 use Rattle.lalrpop_norm_model.specs.PlainRules.{all_rules}
 use Rattle.lalrpop_norm_model.specs.LoweringFaults.{public_rules, start_faults, action_number_faults}
 use Rattle.lalrpop_norm_model.specs.Expanded.{rule_names}

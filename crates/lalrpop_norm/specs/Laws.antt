@@ -1,11 +1,11 @@
 -- What is proved of the whole way, each statement in one piece. The functions of the module `laws` carry them.
 use Rattle.std.specs.Prelude.{◌≡◌, ◌↔◌, ◌++◌, ◌<◌, ◌∷◌, ℕ, List, [], Some, Bool, false, flat_map}
 use Rattle.std.specs.List.{range_with_len}
-use Rattle.lalrpop_norm_names.specs.declared.names.Span.{Span}
+use Rattle.lalrpop_norm_tree_names.specs.declared.names.Span.{Span}
 use Rattle.lalrpop_norm_faults.specs.declared.kind.FaultKind.TheVariants.{RecursionCap}
 use Rattle.lalrpop_norm_faults.specs.Faults.{first}
 use Rattle.lalrpop_norm_tree.specs.Items.{RuleData, GrammarData}
-use Rattle.lalrpop_norm_parts.specs.Reprs.{ReprData}
+use Rattle.lalrpop_norm_tree_parts.specs.Reprs.{ReprData}
 use Rattle.lalrpop_norm_theory.specs.Symbols.{ClosedSymbol, Name, Terminal}
 use Rattle.lalrpop_norm_theory.specs.Met.{rule_meets}
 use Rattle.lalrpop_norm_theory.specs.Rounds.{In, IsDistinct, NewIn}
@@ -28,11 +28,11 @@ use Rattle.lalrpop_norm_model.specs.LoweringFaults.{lowering_faults}
 use Rattle.lalrpop_norm_model.specs.CheckedTokens.{IsEntered}
 use Rattle.lalrpop_norm_resolve.specs.NameFaults.{resolve_faults}
 use Rattle.lalrpop_norm_precedence.specs.PrecedenceFaults.{leveled_faults}
-use Rattle.lalrpop_norm_expand.specs.Expansion.{expansion_faults, macro_faults, past_cap, shared_in, unmade_in}
+use Rattle.lalrpop_norm_macro_expand.specs.Expansion.{expansion_faults, macro_faults, past_cap, shared_in, unmade_in}
 use Rattle.lalrpop_norm_repr.specs.Lowered.{LoweredGrammar}
 use Rattle.lalrpop_norm_repr.specs.Tables.{TypeTable}
-use Rattle.lalrpop_norm_late.specs.Lowering.{public_rules_in, start_name}
-use Rattle.lalrpop_norm_late.specs.Shape.{IsLoweringOf}
+use Rattle.lalrpop_norm_lower.specs.Lowering.{public_rules_in, start_name}
+use Rattle.lalrpop_norm_lower.specs.Shape.{IsLoweringOf}
 use Rattle.lalrpop_norm.specs.Derivations.{IsWrittenWord, IsWordOf}
 use Rattle.lalrpop_norm.specs.Faithful.{HasFaithfulTrees, IsSymbolOf, lowered_name, written_meaning, traced_derivations}
 use Rattle.lalrpop_norm.specs.Faithful.{grammar_with_levels, grammar_of_plain_rules}

@@ -2,13 +2,13 @@
 use Rattle.std.specs.Prelude.{◌≡◌, Result, Ok}
 use Rattle.std.specs.Borrow.{Bor}
 use Rattle.std.specs.Fn.{Mut, Called, CalledAt}
-use Rattle.lalrpop_norm_pattern.specs.declared.pattern.Pattern.{Pattern}
-use Rattle.lalrpop_norm_parts.specs.declared.bound.TypeBound.{TypeBound}
-use Rattle.lalrpop_norm_parts.specs.Walks.{Answered}
-use Rattle.lalrpop_norm_pattern.specs.Patterns.{pattern_view}
-use Rattle.lalrpop_norm_pattern.specs.MappedPatterns.{pattern_shape, chosen_in_pattern}
-use Rattle.lalrpop_norm_parts.specs.Bounds.{bound_view}
-use Rattle.lalrpop_norm_parts.specs.MappedBounds.{bound_shape, types_in_bound}
+use Rattle.lalrpop_norm_tree_patterns.specs.declared.pattern.Pattern.{Pattern}
+use Rattle.lalrpop_norm_tree_parts.specs.declared.bound.TypeBound.{TypeBound}
+use Rattle.lalrpop_norm_tree_parts.specs.Walks.{Answered}
+use Rattle.lalrpop_norm_tree_patterns.specs.Patterns.{pattern_view}
+use Rattle.lalrpop_norm_tree_patterns.specs.MappedPatterns.{pattern_shape, chosen_in_pattern}
+use Rattle.lalrpop_norm_tree_parts.specs.Bounds.{bound_view}
+use Rattle.lalrpop_norm_tree_parts.specs.MappedBounds.{bound_shape, types_in_bound}
 
 module _ {S T U E : Type 0} (calls : Mut S (Bor T × Unit {0}) (Result U E)) where
   -- each call that answers Ok answers f of what it is shown

@@ -12,13 +12,13 @@ use Rattle.lalrpop_norm_model.specs.CheckedTokens.{IsChecked}
 use Rattle.lalrpop_norm_model.specs.EnteredGrammars.{entered_grammar}
 use Rattle.lalrpop_norm_model.specs.InferenceFaults.{inference_faults, inferred_table}
 use Rattle.lalrpop_norm_model.specs.LoweringFaults.{lowering_faults}
-use Rattle.lalrpop_norm_front.specs.GrammarFaults.{validate_faults}
+use Rattle.lalrpop_norm_prevalidate.specs.GrammarFaults.{validate_faults}
 use Rattle.lalrpop_norm_precedence.specs.PrecedenceFaults.{precedence_faults}
-use Rattle.lalrpop_norm_expand.specs.Expansion.{expansion_faults}
+use Rattle.lalrpop_norm_macro_expand.specs.Expansion.{expansion_faults}
 use Rattle.lalrpop_norm_repr.specs.Lowered.{LoweredGrammar}
 use Rattle.lalrpop_norm_repr.specs.Tables.{TypeTable}
 use Rattle.lalrpop_norm_tyinfer.specs.Inferred.{IsInferred}
-use Rattle.lalrpop_norm_late.specs.Shape.{IsLoweringOf}
+use Rattle.lalrpop_norm_lower.specs.Shape.{IsLoweringOf}
 use Rattle.lalrpop_norm.specs.Faithful.{grammar_with_levels, grammar_of_plain_rules}
 
 -- Where the passes up to the expansion refuse a grammar, in their order: what no grammar may look like; of what is enabled,

@@ -15,9 +15,9 @@ use Rattle.lalrpop_norm_repr.specs.Closed.{IsClosed}
 use Rattle.lalrpop_norm_repr.specs.Lowered.{LoweredGrammar}
 use Rattle.lalrpop_norm_repr.specs.Tables.{TypeTable}
 use Rattle.lalrpop_norm_tyinfer.specs.Inferred.{IsInferred}
-use Rattle.lalrpop_norm_late.specs.Active.{active_grammar}
-use Rattle.lalrpop_norm_late.specs.Made.{types_by_name}
-use Rattle.lalrpop_norm_late.specs.Shape.{IsLoweringOf}
+use Rattle.lalrpop_norm_lower.specs.Active.{active_grammar}
+use Rattle.lalrpop_norm_lower.specs.Made.{types_by_name}
+use Rattle.lalrpop_norm_lower.specs.Shape.{IsLoweringOf}
 
 -- a grammar is typed by each table that inference may answer
 abbrev pub IsTypedByInference : Features → GrammarData → Type 0

@@ -2,7 +2,7 @@
 -- the headline.
 use Rattle.std.specs.Prelude.{◌≡◌, ℕ, ◌++◌, List, [], Option, IsSome}
 use Rattle.lalrpop_norm_tree.specs.Items.{RuleData, ExternTokenData, GrammarData, extern_item}
-use Rattle.lalrpop_norm_parts.specs.Reprs.{ReprData}
+use Rattle.lalrpop_norm_tree_parts.specs.Reprs.{ReprData}
 use Rattle.lalrpop_norm_theory.specs.Rounds.{In}
 use Rattle.lalrpop_norm_conditions.specs.Conditions.{comparison}
 use Rattle.lalrpop_norm_model.specs.CheckedTokens.{IsChecked, IsEntered}
@@ -18,14 +18,14 @@ use Rattle.lalrpop_norm_model.specs.TypeRelation.{IsRule}
 use Rattle.lalrpop_norm_model.specs.Renumbered.{prepared_grammar}
 use Rattle.lalrpop_norm_resolve.specs.NameFaults.{resolve_faults}
 use Rattle.lalrpop_norm_precedence.specs.PrecedenceFaults.{leveled_faults}
-use Rattle.lalrpop_norm_front.specs.GrammarFaults.{validate_faults}
-use Rattle.lalrpop_norm_expand.specs.Expansion.{expansion_faults}
+use Rattle.lalrpop_norm_prevalidate.specs.GrammarFaults.{validate_faults}
+use Rattle.lalrpop_norm_macro_expand.specs.Expansion.{expansion_faults}
 use Rattle.lalrpop_norm_repr.specs.Closed.{IsClosed}
 use Rattle.lalrpop_norm_repr.specs.Lowered.{LoweredGrammar}
 use Rattle.lalrpop_norm_repr.specs.Tables.{TypeTable}
-use Rattle.lalrpop_norm_late.specs.Lowering.{public_rules_in}
-use Rattle.lalrpop_norm_late.specs.Made.{types_by_name}
-use Rattle.lalrpop_norm_late.specs.Shape.{HasStartTypes, IsLoweringOf}
+use Rattle.lalrpop_norm_lower.specs.Lowering.{public_rules_in}
+use Rattle.lalrpop_norm_lower.specs.Made.{types_by_name}
+use Rattle.lalrpop_norm_lower.specs.Shape.{HasStartTypes, IsLoweringOf}
 use Rattle.lalrpop_norm.specs.Faithful.{HasGroundedTypes, IsInferred, IsFaithful, grammar_with_levels, grammar_of_plain_rules}
 
 -- ---- what passes find

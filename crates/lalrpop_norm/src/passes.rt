@@ -2,7 +2,7 @@
 ghost use Rattle.std.specs.Prelude.{◌≡◌, IfOk};
 ghost use Rattle.lalrpop_norm_faults.specs.Faults.{Refuses, RefusesAmong};
 ghost use Rattle.lalrpop_norm_tree.specs.Items as written;
-ghost use Rattle.lalrpop_norm_util.specs.Sessions.{features_view};
+ghost use Rattle.lalrpop_norm_session.specs.Sessions.{features_view};
 ghost use Rattle.lalrpop_norm_repr.specs.Lowered as lowered;
 ghost use Rattle.lalrpop_norm_repr.specs.Closed.{IsClosed};
 ghost use Rattle.lalrpop_norm_model.specs.Expanded.{IsExpanded};
@@ -12,25 +12,25 @@ ghost use Rattle.lalrpop_norm.specs.Normalize.{normalize_findings, plain_finding
 ghost use Rattle.lalrpop_norm.specs.Passed.{IsPlain, IsCheckedLowering, IsTypedLowering, IsTypedByInference};
 ghost use Rattle.lalrpop_norm.specs.PlainLaws.{PassesExpansion};
 
-use lalrpop_norm_expand::macro_expand::expand_resolved;
 use lalrpop_norm_faults::NormResult;
-use lalrpop_norm_front::cond_comp::remove_disabled_decls;
-use lalrpop_norm_front::prevalidate::validate;
-use lalrpop_norm_late::lower;
 use lalrpop_norm_lexer::lexer::Lexer;
+use lalrpop_norm_lower::lower;
+use lalrpop_norm_macro_expand::macro_expand::expand_resolved;
 use lalrpop_norm_precedence::precedence::expand_precedence;
+use lalrpop_norm_prevalidate::cond_comp::remove_disabled_decls;
+use lalrpop_norm_prevalidate::prevalidate::validate;
 use lalrpop_norm_repr::grammar::repr;
+use lalrpop_norm_session::Session;
 use lalrpop_norm_token_check::token_check;
 use lalrpop_norm_tree::grammar::parse_tree;
 use lalrpop_norm_tyinfer::tyinfer::infer_types;
-use lalrpop_norm_util::Session;
 use std::alloc::Global;
 
 /// Normalizes a written grammar: the lowered grammar with its numbered productions, action functions, terminals and
 /// types. The grammar is consumed, also where it is refused. The session tells which features are on, how many rounds of
 /// expansion may make rules, and which lexer makes the tokenizer of a grammar without an extern enum.
 ///
-/// Errors: the first fault in the order of the passes, at its place (docs/FAULTS.md lists them), where a refusal of the lexer (F42 to
+/// Errors: the first fault in the order of the passes, at its place (docs/use/FAULTS.md lists them), where a refusal of the lexer (F42 to
 /// F44) is told only where the lexer finds it; `Memory`.
 pub fn normalize<L: Lexer>(
     alloc: Global,

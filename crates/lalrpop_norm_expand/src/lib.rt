@@ -1,12 +1,8 @@
-//! Macros, groups and repeats of a grammar become rules.
+//! Expansion and terminals, under one name: macros, groups and repeats, lexers, the check of terminals, and the test of what is
+//! expanded. All of it is given again; each pass stands in the crate of its name.
 #![tactic(auto)]
 
-ghost use Rattle.lalrpop_norm_expand.specs.Laws.{NamesStayDistinct};
-
-pub mod macro_expand;
-
-/// Where no fault stands in the expansion of a grammar whose rules have distinct names, the plain rules have distinct names:
-/// those of its rules, and the text of each symbol that is made into a rule.
-pub fn names_stay_distinct()
-    ensures { NamesStayDistinct }
-{}
+pub use lalrpop_norm_is_expanded::is_expanded;
+pub use lalrpop_norm_lexer::lexer;
+pub use lalrpop_norm_macro_expand::macro_expand;
+pub use lalrpop_norm_token_check::token_check;

@@ -1,6 +1,6 @@
 -- What may be told of a short list, and what may not.
 use Rattle.std.proofs.Common.{◌≡◌, ℕ, List, [], ◌∷◌, inl, inr, refl, ap, arith}
-use Rattle.lalrpop_norm_names.specs.declared.names.Span.{Span}
+use Rattle.lalrpop_norm_tree_names.specs.declared.names.Span.{Span}
 use Rattle.lalrpop_norm_faults.specs.declared.kind.FaultKind.TheVariants.{ConditionArgument, ConditionPattern, NamedInGroup}
 use Rattle.lalrpop_norm_faults.specs.Faults.{Fault, Finding, sure, maybe, sure_ones, StandsAmong, MayBeTold}
 

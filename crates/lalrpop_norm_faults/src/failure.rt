@@ -3,7 +3,7 @@ ghost use Rattle.lalrpop_norm_faults.specs.Faults.{IsFirst, IsRefusal, error_vie
 ghost use Rattle.std.specs.Prelude.{◌≡◌, [], ◌∷◌};
 
 use crate::kind::FaultKind;
-use lalrpop_norm_parts::names::Span;
+use lalrpop_norm_tree_parts::names::Span;
 use shared_text::NoMemory;
 use std::alloc::{AllocError, AllocFailed};
 

@@ -1,10 +1,9 @@
-//! The first passes over a written grammar.
+//! The passes before expansion, under one name: what is checked of a tree as it is written, conditional parts, names and levels.
+//! All of it is given again; each pass stands in the crate of its name.
 #![tactic(auto)]
-
-pub mod cond_comp;
-pub mod prevalidate;
 
 pub use lalrpop_norm_faults::{FaultKind, NormError, NormFailure, NormResult, refusal};
 pub use lalrpop_norm_precedence::precedence;
+pub use lalrpop_norm_prevalidate::{cond_comp, prevalidate};
 pub use lalrpop_norm_resolve::resolve;
-pub use lalrpop_norm_util::{Session, norm_util};
+pub use lalrpop_norm_session::{Session, norm_util};

@@ -6,10 +6,10 @@ use Rattle.std.specs.Str.{bytes_eq}
 use Rattle.serde_json.specs.Data.{Data, null, boolean, number, string, array, object}
 use Rattle.json_document.specs.View.{view}
 use Rattle.json_document.specs.declared.types.Value.{Value}
-use Rattle.lalrpop_norm_shapes.specs.declared.value.Case.{Case}
-use Rattle.lalrpop_norm_shapes.specs.declared.value.Case.TheVariants.{Of}
-use Rattle.lalrpop_norm_shapes.specs.Parts.{case_form}
-use Rattle.lalrpop_norm_shapes.specs.Shapes.{Held, nothing, held, held_by, fits, variants}
+use Rattle.lalrpop_norm_json_shapes.specs.declared.value.Case.{Case}
+use Rattle.lalrpop_norm_json_shapes.specs.declared.value.Case.TheVariants.{Of}
+use Rattle.lalrpop_norm_json_shapes.specs.Parts.{case_form}
+use Rattle.lalrpop_norm_json_shapes.specs.Shapes.{Held, nothing, held, held_by, fits, variants}
 
 nothing_fits : (d : Data) → fits nothing d ≡ false
 nothing_fits null = refl

@@ -9,7 +9,7 @@ use Rattle.lalrpop_norm_tree.specs.declared.items.GrammarItem.{GrammarItem}
 use Rattle.lalrpop_norm_tree.specs.Items.{ItemData, RuleData, rule_item, alternative_view, item_view}
 use Rattle.lalrpop_norm_json.specs.Json.{row, list_form}
 use Rattle.lalrpop_norm_json.specs.ItemForms.{alternative_form, rule_form, item_form, item_forms, items_form}
-use Rattle.lalrpop_norm_shapes.proofs.Refusals.{onto, one_more, whole_list}
+use Rattle.lalrpop_norm_json_shapes.proofs.Refusals.{onto, one_more, whole_list}
 use Rattle.lalrpop_norm_json.proofs.FormLemmas.{list_seen}
 
 split : (i : ItemData) (is : List ItemData) (ds : List Data) → item_forms (i ∷ is) ≡ Some ds → (e : Data) × (es : List Data) × (item_form i ≡ Some e) × (item_forms is ≡ Some es) × (e ∷ es ≡ ds)

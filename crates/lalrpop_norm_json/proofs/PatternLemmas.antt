@@ -1,14 +1,14 @@
 -- One level of the view of a pattern whose chosen parts are types.
 use Rattle.std.proofs.Common.{◌≡◌, ℕ, List, sym, ap, ◌∙◌}
-use Rattle.lalrpop_norm_names.specs.declared.names.Span.{Span}
-use Rattle.lalrpop_norm_pattern.specs.declared.pattern.FieldPattern.{FieldPattern}
-use Rattle.lalrpop_norm_pattern.specs.declared.pattern.Pattern.{Pattern}
-use Rattle.lalrpop_norm_pattern.specs.declared.pattern.PatternKind.{PatternKind}
-use Rattle.lalrpop_norm_pattern.specs.declared.pattern.PatternKind.TheFolds.{fold-roll-FieldPattern}
-use Rattle.lalrpop_norm_pattern.specs.declared.pattern.PatternKind.TheOpen.{FieldPattern-F}
-use Rattle.lalrpop_norm_pattern.specs.declared.pattern.PatternKind.TheVariants as kind
-use Rattle.lalrpop_norm_pattern.specs.declared.pattern.PatternKind.TheViews.{rolls-struct-FieldPattern}
-use Rattle.lalrpop_norm_pattern.specs.Patterns.{PatternKindData, PatternData, FieldData, pattern_kind_step, field_step, pattern_step, pattern_view, field_view}
+use Rattle.lalrpop_norm_tree_names.specs.declared.names.Span.{Span}
+use Rattle.lalrpop_norm_tree_patterns.specs.declared.pattern.FieldPattern.{FieldPattern}
+use Rattle.lalrpop_norm_tree_patterns.specs.declared.pattern.Pattern.{Pattern}
+use Rattle.lalrpop_norm_tree_patterns.specs.declared.pattern.PatternKind.{PatternKind}
+use Rattle.lalrpop_norm_tree_patterns.specs.declared.pattern.PatternKind.TheFolds.{fold-roll-FieldPattern}
+use Rattle.lalrpop_norm_tree_patterns.specs.declared.pattern.PatternKind.TheOpen.{FieldPattern-F}
+use Rattle.lalrpop_norm_tree_patterns.specs.declared.pattern.PatternKind.TheVariants as kind
+use Rattle.lalrpop_norm_tree_patterns.specs.declared.pattern.PatternKind.TheViews.{rolls-struct-FieldPattern}
+use Rattle.lalrpop_norm_tree_patterns.specs.Patterns.{PatternKindData, PatternData, FieldData, pattern_kind_step, field_step, pattern_step, pattern_view, field_view}
 use Rattle.lalrpop_norm_tree.specs.declared.types.TypeRef.{TypeRef}
 use Rattle.lalrpop_norm_tree.specs.Types.{TypeData, type_view}
 

@@ -10,14 +10,14 @@ ghost use Rattle.serde_json.specs.Data.{Data};
 ghost use Rattle.serde_json.specs.Read.{read};
 ghost use Rattle.lalrpop_norm_tree.specs.Items.{grammar_view};
 ghost use Rattle.lalrpop_norm_json.specs.ItemForms.{grammar_form, IsForm};
-ghost use Rattle.lalrpop_norm_shapes.specs.Shapes as shape;
-ghost use Rattle.lalrpop_norm_shapes.specs.Shapes.{is};
+ghost use Rattle.lalrpop_norm_json_shapes.specs.Shapes as shape;
+ghost use Rattle.lalrpop_norm_json_shapes.specs.Shapes.{is};
 
 mod tree;
 
 use json_document::{Scratch, open_parted};
-pub use lalrpop_norm_shapes::TreeError;
-use lalrpop_norm_shapes::document_of;
+pub use lalrpop_norm_json_shapes::TreeError;
+use lalrpop_norm_json_shapes::document_of;
 use lalrpop_norm_tree::grammar::parse_tree::{Alternative, Grammar, GrammarItem};
 use std::alloc::Global;
 

@@ -1,21 +1,7 @@
-//! Lowering: from plain rules to numbered productions, action functions and types.
+//! Types and lowering, under one name: inference, lowering, and the test of what lowering asks of a table of types. All of it is
+//! given again; each pass stands in the crate of its name.
 #![tactic(auto)]
 
-mod actions;
-mod alternatives;
-mod arguments;
-mod bodies;
-mod clauses;
-mod head;
-mod nonterminals;
-mod patterns;
-mod placeholders;
-mod recovery;
-mod rules;
-mod starts;
-mod symbols;
-mod tokens;
-mod typing;
-mod whole;
-
-pub use whole::lower;
+pub use lalrpop_norm_is_typed::is_typed;
+pub use lalrpop_norm_lower::lower;
+pub use lalrpop_norm_tyinfer::tyinfer;

@@ -6,8 +6,8 @@ ghost use Rattle.lalrpop_norm_lexer.specs.Entries.{KeepsReading, refused_at};
 ghost use Rattle.lalrpop_norm_model.specs.LexerFaults.{IsFirstBad};
 
 use crate::lexer::{Lexer, RegexError};
-use lalrpop_norm_parts::names::TerminalLiteral;
 use lalrpop_norm_tree::grammar::parse_tree::MatchEntry;
+use lalrpop_norm_tree_parts::names::TerminalLiteral;
 use std::alloc::{AllocFailed, Global};
 
 /// Why the literals of entries were not all read.

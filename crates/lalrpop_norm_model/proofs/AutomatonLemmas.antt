@@ -1,14 +1,14 @@
 -- What types and inference see of internal tokens: their entries, and not their automaton.
 use Rattle.std.proofs.Common.{◌≡◌, ℕ, zero, suc, List, [], ◌∷◌, ◌++◌, length, map, filter, flat_map, Option, Some, None, option_map, option_and_then, unwrap_or, codes, is_none, refl, ap, sym, ◌∙◌}
-use Rattle.lalrpop_norm_names.specs.declared.names.TerminalString.{TerminalString}
-use Rattle.lalrpop_norm_names.specs.declared.names.TerminalString.TheVariants.{Error}
-use Rattle.lalrpop_norm_parts.specs.Accessors.{path_of}
+use Rattle.lalrpop_norm_tree_names.specs.declared.names.TerminalString.{TerminalString}
+use Rattle.lalrpop_norm_tree_names.specs.declared.names.TerminalString.TheVariants.{Error}
+use Rattle.lalrpop_norm_tree_parts.specs.Accessors.{path_of}
 use Rattle.lalrpop_norm_tree.specs.Accessors.{or_else, first_of, enum_token_of, extern_token_of, intern_token_of, type_named}
 use Rattle.lalrpop_norm_tree.specs.Items.{AlternativeData, RuleData, AssociatedTypeData, EnumTokenData, ExternTokenData, InternTokenData, ItemData, GrammarData, intern_item}
 use Rattle.lalrpop_norm_tree.specs.LoweredTypes.{repr_of}
-use Rattle.lalrpop_norm_parts.specs.Paths.{PathData}
-use Rattle.lalrpop_norm_parts.specs.Reprs as lowered
-use Rattle.lalrpop_norm_parts.specs.Reprs.{ReprData, unit_type, static_str}
+use Rattle.lalrpop_norm_tree_parts.specs.Paths.{PathData}
+use Rattle.lalrpop_norm_tree_parts.specs.Reprs as lowered
+use Rattle.lalrpop_norm_tree_parts.specs.Reprs.{ReprData, unit_type, static_str}
 use Rattle.lalrpop_norm_tree.specs.Symbols.{Kind, Part, group, ambiguous_id, terminal, nonterminal, call, repeated, chosen, named, tupled, lookahead, lookbehind, error_terminal, at}
 use Rattle.lalrpop_norm_tree.specs.Types.{TypeData, TypesData, MaybeType, tuple, slice, nominal, reference, trait_object, of_lifetime, id, of_symbol, function, no_types, type_and, no_type, returns}
 use Rattle.lalrpop_norm_model.specs.PlainRules.{all_rules, rule_of_item}

@@ -4,8 +4,8 @@ use Rattle.std.specs.Prelude.{true, false, Some, None, codes, bytes_eq, if◌the
 use Rattle.std.specs.Fmt.{digits}
 use Rattle.std.specs.Str.{chars}
 use lib.Utf8.{encode}
-use Rattle.lalrpop_norm_names.specs.declared.names.TerminalString.TheVariants.{Literal, Error}
-use Rattle.lalrpop_norm_names.specs.declared.names.TerminalLiteral.TheVariants.{Regex}
+use Rattle.lalrpop_norm_tree_names.specs.declared.names.TerminalString.TheVariants.{Literal, Error}
+use Rattle.lalrpop_norm_tree_names.specs.declared.names.TerminalLiteral.TheVariants.{Regex}
 use Rattle.lalrpop_norm_tree.specs.Symbols as written
 use Rattle.lalrpop_norm_tree.specs.Symbols.{Kind, argument_patterns_of, one_name, several}
 use Rattle.lalrpop_norm_theory.specs.Symbols.{Name, quoted, regex, bare, error_terminal, ClosedPatterns, name_pattern, tuple_pattern, no_patterns, pattern_and, chosen, named, tuple, ClosedSymbol, terminal, error, reference, call, group, star, plus, question, wrapped, lookahead, lookbehind, no_symbols, symbol_and, only}

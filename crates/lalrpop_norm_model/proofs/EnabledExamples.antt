@@ -1,8 +1,8 @@
 -- The enabled grammar of small grammars: numbers of alternatives stay, rules of one name take turns.
 use Rattle.std.proofs.Common.{◌≡◌, [], ◌∷◌, refl}
 use Rattle.std.specs.Prelude.{Some, None, codes}
-use Rattle.lalrpop_norm_names.specs.declared.names.TerminalString.TheVariants.{Bare}
-use Rattle.lalrpop_norm_parts.specs.Attributes.{attributes_of}
+use Rattle.lalrpop_norm_tree_names.specs.declared.names.TerminalString.TheVariants.{Bare}
+use Rattle.lalrpop_norm_tree_parts.specs.Attributes.{attributes_of}
 use Rattle.lalrpop_norm_tree.specs.Items.{AlternativeData, RuleData, ConversionData, GrammarData, rule_item, extern_item, use_item}
 use Rattle.lalrpop_norm_model.specs.Enabled.{enabled_places, all_places, enabled_rule, enabled_item, enabled_grammar}
 use Rattle.lalrpop_norm_model.proofs.ExampleWords.{span, if_f, unless_f, without_f, with_f, literal, symbols, alternative, rule, conversion, extern_of, grammar_of, rules_alone}

@@ -1,15 +1,15 @@
 -- Small grammars, put together for examples. All spans are empty.
 use Rattle.std.specs.Prelude.{ℕ, List, [], ◌∷◌, ◌++◌, map, Option, Some, None, codes}
-use Rattle.lalrpop_norm_names.specs.declared.names.Span.{Span}
-use Rattle.lalrpop_norm_names.specs.declared.names.TerminalString.{TerminalString}
-use Rattle.lalrpop_norm_names.specs.declared.names.TerminalString.TheVariants.{Literal}
-use Rattle.lalrpop_norm_names.specs.declared.names.TerminalLiteral.TheVariants.{Quoted, Regex}
+use Rattle.lalrpop_norm_tree_names.specs.declared.names.Span.{Span}
+use Rattle.lalrpop_norm_tree_names.specs.declared.names.TerminalString.{TerminalString}
+use Rattle.lalrpop_norm_tree_names.specs.declared.names.TerminalString.TheVariants.{Literal}
+use Rattle.lalrpop_norm_tree_names.specs.declared.names.TerminalLiteral.TheVariants.{Quoted, Regex}
 use Rattle.lalrpop_norm_tree.specs.declared.items.MatchItem.{MatchItem}
-use Rattle.lalrpop_norm_parts.specs.Accessors.{path_of}
-use Rattle.lalrpop_norm_parts.specs.Attributes.{no_attributes}
+use Rattle.lalrpop_norm_tree_parts.specs.Accessors.{path_of}
+use Rattle.lalrpop_norm_tree_parts.specs.Attributes.{no_attributes}
 use Rattle.lalrpop_norm_tree.specs.Items.{Action, user_code, AlternativeData, RuleData, private, AssociatedTypeData, ConversionData, ItemData, GrammarData, match_item, extern_item, rule_item}
-use Rattle.lalrpop_norm_pattern.specs.Patterns.{pattern_at, tuple_struct, chosen as chosen_type, patterns_of}
-use Rattle.lalrpop_norm_parts.specs.Reprs.{ReprData, named_repr}
+use Rattle.lalrpop_norm_tree_patterns.specs.Patterns.{pattern_at, tuple_struct, chosen as chosen_type, patterns_of}
+use Rattle.lalrpop_norm_tree_parts.specs.Reprs.{ReprData, named_repr}
 use Rattle.lalrpop_norm_tree.specs.Symbols.{Kind, Part, Parts, at, parts_of}
 use Rattle.lalrpop_norm_tree.specs.Types.{TypeData, id}
 

@@ -1,17 +1,17 @@
 -- Words to write small grammars with, for the examples.
 use Rattle.std.specs.Prelude.{ℕ, Bool, false, not, ◌&&◌, bytes_eq, List, [], ◌∷◌, map, Some, None, codes}
-use Rattle.lalrpop_norm_names.specs.declared.names.Span.{Span}
-use Rattle.lalrpop_norm_names.specs.declared.names.NonterminalString.{NonterminalString}
-use Rattle.lalrpop_norm_names.specs.declared.names.TerminalString.{TerminalString}
-use Rattle.lalrpop_norm_names.specs.declared.names.TerminalString.TheVariants.{Literal, Bare}
-use Rattle.lalrpop_norm_names.specs.declared.names.TerminalLiteral.TheVariants.{Quoted}
+use Rattle.lalrpop_norm_tree_names.specs.declared.names.Span.{Span}
+use Rattle.lalrpop_norm_tree_names.specs.declared.names.NonterminalString.{NonterminalString}
+use Rattle.lalrpop_norm_tree_names.specs.declared.names.TerminalString.{TerminalString}
+use Rattle.lalrpop_norm_tree_names.specs.declared.names.TerminalString.TheVariants.{Literal, Bare}
+use Rattle.lalrpop_norm_tree_names.specs.declared.names.TerminalLiteral.TheVariants.{Quoted}
 use Rattle.lalrpop_norm_tree.specs.declared.items.ConditionOp.{ConditionOp}
 use Rattle.lalrpop_norm_tree.specs.declared.items.ConditionOp.TheVariants.{Equals, NotEquals, Match, NotMatch}
 use Rattle.lalrpop_norm_tree.specs.declared.symbol.RepeatOp.TheVariants.{Star, Plus, Question}
-use Rattle.lalrpop_norm_parts.specs.Attributes.{AttributeData, empty, paren, equal, attribute, no_attributes, attributes_of}
+use Rattle.lalrpop_norm_tree_parts.specs.Attributes.{AttributeData, empty, paren, equal, attribute, no_attributes, attributes_of}
 use Rattle.lalrpop_norm_tree.specs.Symbols.{Kind, Part, Parts, terminal, nonterminal, ambiguous_id, repeated, named, at, parts_of}
 use Rattle.lalrpop_norm_tree.specs.Types.{id}
-use Rattle.lalrpop_norm_pattern.specs.Patterns.{pattern_at, underscore}
+use Rattle.lalrpop_norm_tree_patterns.specs.Patterns.{pattern_at, underscore}
 use Rattle.lalrpop_norm_tree.specs.Items.{AlternativeData, RuleData, ConversionData, ExternTokenData, ItemData, GrammarData, private, rule_item}
 use Rattle.lalrpop_norm_model.specs.Features.{Features}
 use Rattle.lalrpop_norm_model.specs.Grammars.{ConditionValue}

@@ -1,9 +1,9 @@
 -- Small grammars that are expanded or typed, and some that are not.
 use Rattle.std.proofs.Common.{◌≡◌, List, [], ◌∷◌, Some, None, IsSome, codes, true, false, inl, inr, refl, arith}
 use Rattle.std.specs.List.{AllByRecursion}
-use Rattle.lalrpop_norm_names.specs.declared.names.TerminalString.TheVariants.{Error}
+use Rattle.lalrpop_norm_tree_names.specs.declared.names.TerminalString.TheVariants.{Error}
 use Rattle.lalrpop_norm_tree.specs.declared.symbol.RepeatOp.TheVariants.{Plus}
-use Rattle.lalrpop_norm_parts.specs.Attributes.{Attributes, attribute, empty, equal, paren, no_attributes, attribute_and}
+use Rattle.lalrpop_norm_tree_parts.specs.Attributes.{Attributes, attribute, empty, equal, paren, no_attributes, attribute_and}
 use Rattle.lalrpop_norm_tree.specs.Items.{AlternativeData, RuleData, GrammarData}
 use Rattle.lalrpop_norm_tree.specs.Symbols.{terminal, nonterminal, chosen, named, repeated, error_terminal}
 use Rattle.lalrpop_norm_tree.specs.Types.{of_symbol, slice}

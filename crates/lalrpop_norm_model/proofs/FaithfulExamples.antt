@@ -3,7 +3,7 @@
 use Rattle.std.proofs.Common.{◌≡◌, inl, inr, List, [], ◌∷◌, map, Option, Some, None, Bool, true, false, not, ◌&&◌, refl, ap, ◌∙◌}
 use Rattle.std.specs.Prelude.{codes, bytes_eq}
 use Rattle.std.proofs.lemmas.Bool.{and_parts}
-use Rattle.lalrpop_norm_names.specs.declared.names.NonterminalString.{NonterminalString}
+use Rattle.lalrpop_norm_tree_names.specs.declared.names.NonterminalString.{NonterminalString}
 use Rattle.lalrpop_norm_tree.specs.Symbols.{Part, lookahead, call}
 use Rattle.lalrpop_norm_tree.specs.Items.{GrammarData}
 use Rattle.lalrpop_norm_theory.specs.Symbols.{Name, reference}

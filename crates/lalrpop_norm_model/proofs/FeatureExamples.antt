@@ -1,7 +1,7 @@
 -- What `cfg` says of features, on small attribute lists.
 use Rattle.std.proofs.Common.{◌≡◌, [], ◌∷◌, refl}
 use Rattle.std.specs.Prelude.{Bool, true, false, Some, None, codes}
-use Rattle.lalrpop_norm_parts.specs.Attributes.{AttributeData, attributes_of, no_attributes}
+use Rattle.lalrpop_norm_tree_parts.specs.Attributes.{AttributeData, attributes_of, no_attributes}
 use Rattle.lalrpop_norm_model.specs.Features.{Features, is_active}
 use Rattle.lalrpop_norm_model.proofs.ExampleWords.{bare_attribute, attribute_of, valued, cfg, feature}
 

@@ -1,6 +1,6 @@
 -- Where inference and lowering refuse small grammars, with the spans of their texts, found by hand.
 use Rattle.std.proofs.Common.{◌≡◌, ℕ, List, [], ◌∷◌, Option, Some, None, false, codes, refl, ap, arith}
-use Rattle.lalrpop_norm_names.specs.declared.names.Span.{Span}
+use Rattle.lalrpop_norm_tree_names.specs.declared.names.Span.{Span}
 use Rattle.lalrpop_norm_tree.specs.Items.{Action, user_code, fallible_code, lookahead_code, AlternativeData, RuleData, GrammarData, everywhere}
 use Rattle.lalrpop_norm_tree.specs.Symbols.{ArgumentPattern, ArgumentPatterns, one_name, several, no_arguments, argument_and, Part, terminal, nonterminal, chosen, tupled, at, parts_of}
 use Rattle.lalrpop_norm_tree.specs.Types.{TypeData, id, tuple, no_types}

@@ -1,7 +1,7 @@
 -- Numbers and sides that attributes state, the level and the side of each place, and the levels of a rule.
 use Rattle.std.proofs.Common.{◌≡◌, ℕ, List, [], ◌∷◌, refl}
 use Rattle.std.specs.Prelude.{◌^◌, true, false, Option, Some, None, option_map, codes, map}
-use Rattle.lalrpop_norm_parts.specs.Attributes.{AttributeData, attributes_of}
+use Rattle.lalrpop_norm_tree_parts.specs.Attributes.{AttributeData, attributes_of}
 use Rattle.lalrpop_norm_tree.specs.Items.{AlternativeData}
 use Rattle.lalrpop_norm_model.specs.Enabled.{Places}
 use Rattle.lalrpop_norm_model.specs.Levels.{number_of, stated_level, Side, left, right, neither, every, side_named, stated_side, has_levels, Leveled, with_levels, without_levels, levels_of, highest_level, previous_level}

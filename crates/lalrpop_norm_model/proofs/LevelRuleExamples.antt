@@ -3,7 +3,7 @@ use Rattle.std.proofs.Common.{◌≡◌, ℕ, List, [], ◌∷◌, refl}
 use Rattle.std.specs.Prelude.{Some, None, codes}
 use Rattle.std.specs.Fmt.{digits}
 use Rattle.lalrpop_norm_tree.specs.declared.items.ConditionOp.TheVariants.{Equals}
-use Rattle.lalrpop_norm_parts.specs.Attributes.{AttributeData, paren, attribute, no_attributes, attributes_of}
+use Rattle.lalrpop_norm_tree_parts.specs.Attributes.{AttributeData, paren, attribute, no_attributes, attributes_of}
 use Rattle.lalrpop_norm_tree.specs.Symbols.{Kind, call, at, parts_of}
 use Rattle.lalrpop_norm_tree.specs.Types.{tuple, no_types}
 use Rattle.lalrpop_norm_tree.specs.Items.{AlternativeData, RuleData, user_code, everywhere, use_item, rule_item}

@@ -1,7 +1,7 @@
 -- Own occurrences of small rules: how many there are, and the bound of each.
 use Rattle.std.proofs.Common.{◌≡◌, ℕ, List, [], ◌∷◌, refl}
 use Rattle.std.specs.Prelude.{Option, Some, None, codes, bytes_eq, false}
-use Rattle.lalrpop_norm_parts.specs.Attributes.{AttributeData}
+use Rattle.lalrpop_norm_tree_parts.specs.Attributes.{AttributeData}
 use Rattle.lalrpop_norm_tree.specs.Symbols.{Kind, group, call, chosen, tupled, no_arguments, lookahead, lookbehind, error_terminal}
 use Rattle.lalrpop_norm_tree.specs.Items.{GrammarData}
 use Rattle.lalrpop_norm_theory.specs.Symbols as closed

@@ -3,10 +3,10 @@ use Rattle.std.proofs.Common.{◌≡◌, ℕ, List, [], ◌∷◌, refl}
 use Rattle.std.specs.Prelude.{◌+◌, false, Some, None, codes}
 use Rattle.std.specs.Str.{chars}
 use lib.Utf8.{encode}
-use Rattle.lalrpop_norm_names.specs.declared.names.TerminalString.TheVariants.{Literal}
-use Rattle.lalrpop_norm_names.specs.declared.names.TerminalLiteral.TheVariants.{Quoted}
-use Rattle.lalrpop_norm_parts.specs.Accessors.{path_of}
-use Rattle.lalrpop_norm_parts.specs.Attributes.{empty, attribute, attributes_of}
+use Rattle.lalrpop_norm_tree_names.specs.declared.names.TerminalString.TheVariants.{Literal}
+use Rattle.lalrpop_norm_tree_names.specs.declared.names.TerminalLiteral.TheVariants.{Quoted}
+use Rattle.lalrpop_norm_tree_parts.specs.Accessors.{path_of}
+use Rattle.lalrpop_norm_tree_parts.specs.Attributes.{empty, attribute, attributes_of}
 use Rattle.lalrpop_norm_tree.specs.Symbols.{Kind, Part, group, call, chosen, named, tupled, no_arguments, lookahead, lookbehind, error_terminal, at, parts_of}
 use Rattle.lalrpop_norm_tree.specs.Types.{TypeData, tuple, nominal, id, of_symbol, types_of}
 use Rattle.lalrpop_norm_tree.specs.Items.{user_code, lookahead_code, AlternativeData, RuleData, ItemData, everywhere, extern_item, use_item, rule_item, GrammarData}

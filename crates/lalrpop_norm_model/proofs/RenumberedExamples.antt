@@ -1,8 +1,8 @@
 -- Ranks of the alternatives of small grammars, one of whose alternatives is disabled.
 use Rattle.std.proofs.Common.{◌≡◌, ℕ, [], ◌∷◌, refl}
 use Rattle.std.specs.Prelude.{Some, None, codes, map}
-use Rattle.lalrpop_norm_names.specs.declared.names.TerminalString.TheVariants.{Bare}
-use Rattle.lalrpop_norm_parts.specs.Attributes.{attributes_of}
+use Rattle.lalrpop_norm_tree_names.specs.declared.names.TerminalString.TheVariants.{Bare}
+use Rattle.lalrpop_norm_tree_parts.specs.Attributes.{attributes_of}
 use Rattle.lalrpop_norm_tree.specs.Items.{GrammarData, rule_item, extern_item}
 use Rattle.lalrpop_norm_theory.specs.Symbols.{quoted, bare, ClosedSymbol, ClosedSymbols, terminal, reference, symbol_and, only}
 use Rattle.lalrpop_norm_theory.specs.Meaning.{Meaning}

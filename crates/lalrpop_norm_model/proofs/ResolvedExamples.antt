@@ -1,8 +1,8 @@
 -- Small grammars with each name as what it means, and their rules as trees see them.
 use Rattle.std.proofs.Common.{◌≡◌, ℕ, List, [], ◌∷◌, refl}
 use Rattle.std.specs.Prelude.{Bool, true, false, Option, Some, None, codes, map}
-use Rattle.lalrpop_norm_names.specs.declared.names.TerminalString.TheVariants.{Bare}
-use Rattle.lalrpop_norm_parts.specs.Attributes.{attributes_of}
+use Rattle.lalrpop_norm_tree_names.specs.declared.names.TerminalString.TheVariants.{Bare}
+use Rattle.lalrpop_norm_tree_parts.specs.Attributes.{attributes_of}
 use Rattle.lalrpop_norm_tree.specs.Symbols.{Kind, Parts, group, call, chosen, tupled, no_arguments, lookahead, lookbehind, error_terminal, at, parts_of}
 use Rattle.lalrpop_norm_tree.specs.Items.{AlternativeData, ItemData, GrammarData, extern_item, rule_item}
 use Rattle.lalrpop_norm_model.specs.Scopes.{resolved_grammar}

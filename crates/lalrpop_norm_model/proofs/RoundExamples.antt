@@ -3,7 +3,7 @@ use Rattle.std.proofs.Common.{◌≡◌, ℕ, List, [], ◌∷◌, refl}
 use Rattle.std.specs.Prelude.{true, false, codes, length, map}
 use Rattle.std.specs.Str.{chars}
 use lib.Utf8.{encode}
-use Rattle.lalrpop_norm_names.specs.declared.names.TerminalString.TheVariants.{Error}
+use Rattle.lalrpop_norm_tree_names.specs.declared.names.TerminalString.TheVariants.{Error}
 use Rattle.lalrpop_norm_tree.specs.Symbols.{Kind, Part, group, terminal, call, chosen, lookahead, lookbehind, error_terminal, at, parts_of}
 use Rattle.lalrpop_norm_tree.specs.Items.{RuleData, GrammarData}
 use Rattle.lalrpop_norm_tree.specs.SymbolTexts.{kind_text}

@@ -1,14 +1,14 @@
 -- The test of two lowered types says whether they are equal.
 use Rattle.std.proofs.Common.{◌≡◌, ℕ, Bool, true, false, ◌&&◌, List, [], ◌∷◌, Option, Some, None, bytes_eq, refl, ap, ap₂}
-use Rattle.lalrpop_norm_names.specs.declared.names.Lifetime.{Lifetime}
-use Rattle.lalrpop_norm_names.specs.declared.names.TypeParameter.{TypeParameter}
-use Rattle.lalrpop_norm_names.specs.declared.names.TypeParameter.TheVariants as parameter
-use Rattle.lalrpop_norm_parts.specs.Paths.{PathData}
-use Rattle.lalrpop_norm_parts.specs.Reprs.{ReprData, Reprs, MaybeRepr, tuple, slice, nominal, associated, of_lifetime, reference, trait_object, function, no_reprs, repr_and, no_repr, returns}
+use Rattle.lalrpop_norm_tree_names.specs.declared.names.Lifetime.{Lifetime}
+use Rattle.lalrpop_norm_tree_names.specs.declared.names.TypeParameter.{TypeParameter}
+use Rattle.lalrpop_norm_tree_names.specs.declared.names.TypeParameter.TheVariants as parameter
+use Rattle.lalrpop_norm_tree_parts.specs.Paths.{PathData}
+use Rattle.lalrpop_norm_tree_parts.specs.Reprs.{ReprData, Reprs, MaybeRepr, tuple, slice, nominal, associated, of_lifetime, reference, trait_object, function, no_reprs, repr_and, no_repr, returns}
 use Rattle.lalrpop_norm_theory.specs.Same.{same_flag}
 use Rattle.lalrpop_norm_model.specs.SameTypes.{same_lifetime, same_parameter, all_same, same_path, same_type, same_types, same_return}
 use Rattle.lalrpop_norm_theory.proofs.SameLemmas.{text_sound, text_same, flag_sound, flag_same}
-use Rattle.lalrpop_norm_parts.proofs.FreeLemmas.{same_is}
+use Rattle.lalrpop_norm_tree_parts.proofs.FreeLemmas.{same_is}
 
 -- ---- small parts
 

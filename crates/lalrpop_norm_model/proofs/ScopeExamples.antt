@@ -1,9 +1,9 @@
 -- What names mean in small grammars.
 use Rattle.std.proofs.Common.{◌≡◌, ℕ, List, [], ◌∷◌, refl}
 use Rattle.std.specs.Prelude.{Option, Some, None, codes, map}
-use Rattle.lalrpop_norm_names.specs.declared.names.Span.{Span}
-use Rattle.lalrpop_norm_names.specs.declared.names.TerminalString.TheVariants.{Literal, Bare, Error}
-use Rattle.lalrpop_norm_names.specs.declared.names.TerminalLiteral.TheVariants.{Quoted}
+use Rattle.lalrpop_norm_tree_names.specs.declared.names.Span.{Span}
+use Rattle.lalrpop_norm_tree_names.specs.declared.names.TerminalString.TheVariants.{Literal, Bare, Error}
+use Rattle.lalrpop_norm_tree_names.specs.declared.names.TerminalLiteral.TheVariants.{Quoted}
 use Rattle.lalrpop_norm_tree.specs.declared.items.MatchItem.TheVariants.{CatchAll, Unmapped, Mapped}
 use Rattle.lalrpop_norm_tree.specs.declared.items.MatchMapping.TheVariants as mapping
 use Rattle.lalrpop_norm_tree.specs.Symbols.{ambiguous_id}

@@ -2,7 +2,7 @@
 use Rattle.std.proofs.Common.{◌≡◌, ℕ, Bool, true, false, List, [], ◌∷◌, Option, Some, None, IsSome, bytes_eq, inl, inr, refl, sym, subst, if◌then◌else◌}
 use Rattle.std.proofs.lemmas.Slice.Eq.{bytes_eq-Decides}
 use Rattle.lalrpop_norm_tree.specs.Items.{RuleData, GrammarData}
-use Rattle.lalrpop_norm_parts.specs.Reprs.{ReprData}
+use Rattle.lalrpop_norm_tree_parts.specs.Reprs.{ReprData}
 use Rattle.lalrpop_norm_theory.specs.Rounds.{In}
 use Rattle.lalrpop_norm_model.specs.PlainRules.{all_rules}
 use Rattle.lalrpop_norm_model.specs.TypeRelation.{IsRule, TypeClause, type_clauses, Has, by_clause, HasOneType}

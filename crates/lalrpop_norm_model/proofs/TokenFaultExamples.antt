@@ -1,12 +1,12 @@
 -- Where the pass on tokens refuses small grammars, found by hand.
 use Rattle.std.proofs.Common.{◌≡◌, ℕ, List, [], ◌∷◌, Some, None, codes, refl}
-use Rattle.lalrpop_norm_names.specs.declared.names.Span.{Span}
-use Rattle.lalrpop_norm_names.specs.declared.names.TerminalLiteral.TheVariants.{Quoted, Regex}
-use Rattle.lalrpop_norm_names.specs.declared.names.TerminalString.TheVariants.{Bare}
-use Rattle.lalrpop_norm_names.specs.declared.names.TypeParameter.TheVariants as parameter
+use Rattle.lalrpop_norm_tree_names.specs.declared.names.Span.{Span}
+use Rattle.lalrpop_norm_tree_names.specs.declared.names.TerminalLiteral.TheVariants.{Quoted, Regex}
+use Rattle.lalrpop_norm_tree_names.specs.declared.names.TerminalString.TheVariants.{Bare}
+use Rattle.lalrpop_norm_tree_names.specs.declared.names.TypeParameter.TheVariants as parameter
 use Rattle.lalrpop_norm_tree.specs.declared.items.MatchItem.TheVariants.{CatchAll, Unmapped, Mapped}
 use Rattle.lalrpop_norm_tree.specs.declared.items.MatchMapping.TheVariants.{Terminal, Skip}
-use Rattle.lalrpop_norm_parts.specs.Attributes.{attributes_of}
+use Rattle.lalrpop_norm_tree_parts.specs.Attributes.{attributes_of}
 use Rattle.lalrpop_norm_tree.specs.Items.{RuleData, ConversionData, GrammarData}
 use Rattle.lalrpop_norm_tree.specs.Symbols.{Kind, terminal, chosen, at}
 use Rattle.lalrpop_norm_tree.specs.Types.{id}

@@ -1,9 +1,9 @@
 -- The types of small grammars, each found by hand from its rules.
 use Rattle.std.proofs.Common.{ℕ, List, [], ◌∷◌, Some, None, codes, inl, inr, refl}
-use Rattle.lalrpop_norm_parts.specs.Accessors.{path_of}
+use Rattle.lalrpop_norm_tree_parts.specs.Accessors.{path_of}
 use Rattle.lalrpop_norm_tree.specs.Items.{GrammarData, RuleData, lookahead_code, lookbehind_code}
-use Rattle.lalrpop_norm_parts.specs.Reprs as lowered
-use Rattle.lalrpop_norm_parts.specs.Reprs.{ReprData, reprs_of, named_repr, unit_type, static_str}
+use Rattle.lalrpop_norm_tree_parts.specs.Reprs as lowered
+use Rattle.lalrpop_norm_tree_parts.specs.Reprs.{ReprData, reprs_of, named_repr, unit_type, static_str}
 use Rattle.lalrpop_norm_tree.specs.Symbols.{Kind, terminal, nonterminal, chosen, error_terminal}
 use Rattle.lalrpop_norm_tree.specs.Types.{nominal, id, of_symbol, types_of}
 use Rattle.lalrpop_norm_model.specs.TerminalTypes.{token_of_input}

@@ -1,10 +1,10 @@
 -- Small grammars in which a rule has two types or none.
 use Rattle.std.proofs.Common.{◌≡◌, map, ℕ, List, [], ◌∷◌, Some, None, codes, true, false, inl, inr, refl, sym, subst}
-use Rattle.lalrpop_norm_names.specs.declared.names.TypeParameter.TheVariants as parameter
-use Rattle.lalrpop_norm_parts.specs.Accessors.{path_of}
+use Rattle.lalrpop_norm_tree_names.specs.declared.names.TypeParameter.TheVariants as parameter
+use Rattle.lalrpop_norm_tree_parts.specs.Accessors.{path_of}
 use Rattle.lalrpop_norm_tree.specs.Items.{RuleData, GrammarData, lookahead_code}
-use Rattle.lalrpop_norm_parts.specs.Reprs as lowered
-use Rattle.lalrpop_norm_parts.specs.Reprs.{ReprData, named_repr, unit_type}
+use Rattle.lalrpop_norm_tree_parts.specs.Reprs as lowered
+use Rattle.lalrpop_norm_tree_parts.specs.Reprs.{ReprData, named_repr, unit_type}
 use Rattle.lalrpop_norm_tree.specs.Symbols.{ArgumentPattern, ArgumentPatterns, one_name, several, no_arguments, argument_and, nonterminal, tupled}
 use Rattle.lalrpop_norm_tree.specs.Types.{id, tuple, nominal, of_symbol, types_of, no_types}
 use Rattle.lalrpop_norm_faults.specs.declared.kind.FaultKind.TheVariants.{TupleLength, Disagreement}

@@ -2,7 +2,7 @@
 -- true.
 use Rattle.std.specs.Prelude.{◌≡◌, ℕ, zero, suc, true, List, [], ◌∷◌, ◌++◌, replicate, Option, Some, None}
 use Rattle.std.specs.Prelude.{bytes_eq, if◌then◌else◌}
-use Rattle.lalrpop_norm_names.specs.declared.names.NonterminalString.{NonterminalString}
+use Rattle.lalrpop_norm_tree_names.specs.declared.names.NonterminalString.{NonterminalString}
 use Rattle.lalrpop_norm_tree.specs.declared.items.Condition.{Condition}
 use Rattle.lalrpop_norm_theory.specs.Symbols.{Name, quoted, ClosedSymbol, ClosedSymbols, terminal, error, reference, call, group}
 use Rattle.lalrpop_norm_theory.specs.Symbols.{star, plus, question, wrapped, lookahead, lookbehind, no_symbols, symbol_and}

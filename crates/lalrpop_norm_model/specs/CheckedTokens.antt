@@ -1,7 +1,7 @@
 -- What the pass on tokens makes of a grammar of plain rules.
 use Rattle.std.specs.Prelude.{◌≡◌, ℕ, false, List, [], ◌∷◌, ◌++◌, map, Option, Some, None, codes}
 use Rattle.std.specs.List.{AllZip}
-use Rattle.lalrpop_norm_names.specs.declared.names.TypeParameter.TheVariants as parameter
+use Rattle.lalrpop_norm_tree_names.specs.declared.names.TypeParameter.TheVariants as parameter
 use Rattle.lalrpop_norm_tree.specs.declared.items.MatchEntry.{MatchEntry}
 use Rattle.lalrpop_norm_tree.specs.Items.{EnumTokenData, InternTokenData, GrammarData, intern_item}
 use Rattle.lalrpop_norm_tree.specs.Types.{ParameterData, reference, id}

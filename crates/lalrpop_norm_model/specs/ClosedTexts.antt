@@ -1,7 +1,7 @@
 -- The text of a closed symbol: as it is displayed, with arguments put in and each bounded reference as the name of its level.
 use Rattle.std.specs.Prelude.{ℕ, Bool, List, [], ◌∷◌, ◌++◌, Option, Some, None, codes, decimal, nat_eq}
 use Rattle.std.specs.Prelude.{if◌then◌else◌}
-use Rattle.lalrpop_norm_names.specs.Texts.{escape, joined}
+use Rattle.lalrpop_norm_tree_names.specs.Texts.{escape, joined}
 use Rattle.lalrpop_norm_theory.specs.Symbols.{Name, Terminal, quoted, regex, bare, error_terminal, ClosedPattern, ClosedPatterns}
 use Rattle.lalrpop_norm_theory.specs.Symbols.{name_pattern, tuple_pattern, no_patterns, pattern_and, Wrapper, chosen, named}
 use Rattle.lalrpop_norm_theory.specs.Symbols.{tuple, ClosedSymbol, ClosedSymbols, terminal, error, reference, call, group, star}

@@ -1,17 +1,17 @@
 -- What the late passes ask of a grammar: that it is expanded, and that it is typed.
 use Rattle.std.specs.Prelude.{◌≡◌, ℕ, ◌≤◌, ◌<◌, Bool, true, false, ◌&&◌, List, [], ◌∷◌, ◌++◌}
 use Rattle.std.specs.Prelude.{length, map, flat_map, filter, Option, Some, None, IsSome, option_to_list}
-use Rattle.lalrpop_norm_names.specs.declared.names.TerminalString.{TerminalString}
-use Rattle.lalrpop_norm_names.specs.declared.names.TerminalString.TheVariants.{Literal, Bare, Error}
-use Rattle.lalrpop_norm_parts.specs.Accessors.{is_known_name}
-use Rattle.lalrpop_norm_parts.specs.Attributes.{AttributeData, Attributes, attribute, no_attributes, attribute_and}
-use Rattle.lalrpop_norm_parts.specs.Bounds.{WhereClauseData, lifetime_clause, type_clause}
-pub use Rattle.lalrpop_norm_parts.specs.MappedBounds.{types_in_parameter, types_in_bound}
+use Rattle.lalrpop_norm_tree_names.specs.declared.names.TerminalString.{TerminalString}
+use Rattle.lalrpop_norm_tree_names.specs.declared.names.TerminalString.TheVariants.{Literal, Bare, Error}
+use Rattle.lalrpop_norm_tree_parts.specs.Accessors.{is_known_name}
+use Rattle.lalrpop_norm_tree_parts.specs.Attributes.{AttributeData, Attributes, attribute, no_attributes, attribute_and}
+use Rattle.lalrpop_norm_tree_parts.specs.Bounds.{WhereClauseData, lifetime_clause, type_clause}
+pub use Rattle.lalrpop_norm_tree_parts.specs.MappedBounds.{types_in_parameter, types_in_bound}
 use Rattle.lalrpop_norm_tree.specs.Items.{AlternativeData, RuleData, AssociatedTypeData, ConversionData, EnumTokenData}
 use Rattle.lalrpop_norm_tree.specs.Items.{InternTokenData, MatchTokenData, ItemData, GrammarData, match_item, extern_item}
 use Rattle.lalrpop_norm_tree.specs.Items.{intern_item}
 use Rattle.lalrpop_norm_tree.specs.LoweredTypes.{holds_symbol}
-use Rattle.lalrpop_norm_parts.specs.Reprs.{ReprData}
+use Rattle.lalrpop_norm_tree_parts.specs.Reprs.{ReprData}
 use Rattle.lalrpop_norm_tree.specs.Symbols.{Kind, Part, Parts, group, ambiguous_id, terminal, nonterminal, call, repeated, chosen}
 use Rattle.lalrpop_norm_tree.specs.Symbols.{named, tupled, lookahead, lookbehind, error_terminal, at, no_parts, part_and}
 use Rattle.lalrpop_norm_tree.specs.Types.{TypeData, TypesData, MaybeType, tuple, slice, nominal, reference, trait_object}

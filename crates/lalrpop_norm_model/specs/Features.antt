@@ -1,8 +1,8 @@
 -- When an attribute list is active: what `#[cfg(..)]` asks of the features of a session.
 use Rattle.std.specs.Prelude.{ℕ, Bool, true, false, not, ◌&&◌, ◌||◌, List, [], ◌∷◌, Option, Some, None, codes}
 use Rattle.std.specs.Prelude.{bytes_eq}
-use Rattle.lalrpop_norm_parts.specs.Attributes.{AttributeData, Attributes, empty, paren, equal, attribute, no_attributes}
-use Rattle.lalrpop_norm_parts.specs.Attributes.{attribute_and}
+use Rattle.lalrpop_norm_tree_parts.specs.Attributes.{AttributeData, Attributes, empty, paren, equal, attribute, no_attributes}
+use Rattle.lalrpop_norm_tree_parts.specs.Attributes.{attribute_and}
 
 -- the features that are on: a set of names, or no set at all
 abbrev pub Features : Type 0

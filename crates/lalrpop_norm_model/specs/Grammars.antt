@@ -1,7 +1,7 @@
 -- The meaning of a grammar: what its trees see of it, from its rules and from the values of conditions.
 use Rattle.std.specs.Prelude.{ℕ, Bool, true, false, not, ◌&&◌, ◌||◌, List, [], ◌∷◌, length, map, flat_map}
 use Rattle.std.specs.Prelude.{slice_get, Option, Some, None, option_map, nat_le, nat_eq, bytes_eq, if◌then◌else◌}
-use Rattle.lalrpop_norm_names.specs.declared.names.NonterminalString.{NonterminalString}
+use Rattle.lalrpop_norm_tree_names.specs.declared.names.NonterminalString.{NonterminalString}
 use Rattle.lalrpop_norm_tree.specs.declared.items.Condition.{Condition}
 use Rattle.lalrpop_norm_tree.specs.declared.items.ConditionOp.{ConditionOp}
 use Rattle.lalrpop_norm_theory.specs.Symbols.{Name, quoted, ClosedSymbol, ClosedSymbols, terminal, reference, no_symbols}

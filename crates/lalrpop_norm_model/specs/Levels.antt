@@ -6,8 +6,8 @@ use Rattle.std.specs.Char.{digit_value}
 use Rattle.std.specs.Str.Parse.{digits_value, without_leading_plus}
 use Rattle.std.specs.Ordering.{nat_cmp}
 use Rattle.std.specs.BTreeSet.{insert_key}
-use Rattle.lalrpop_norm_parts.specs.Attributes.{AttributeData, Attributes, attribute, no_attributes, attribute_and}
-use Rattle.lalrpop_norm_parts.specs.Accessors.{key_and_value}
+use Rattle.lalrpop_norm_tree_parts.specs.Attributes.{AttributeData, Attributes, attribute, no_attributes, attribute_and}
+use Rattle.lalrpop_norm_tree_parts.specs.Accessors.{key_and_value}
 use Rattle.lalrpop_norm_tree.specs.Accessors.{or_else}
 use Rattle.lalrpop_norm_tree.specs.Items.{AlternativeData}
 use Rattle.lalrpop_norm_model.specs.Enabled.{Places, present}

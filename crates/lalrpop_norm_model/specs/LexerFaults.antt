@@ -3,11 +3,11 @@ use Rattle.std.specs.Prelude.{◌≡◌, ℕ, ◌||◌, List, ◌∷◌, ◌++�
 use Rattle.std.specs.Prelude.{Option, Some, None, is_none, slice_get, take}
 use Rattle.std.specs.Prelude.{if◌then◌else◌}
 use Rattle.std.specs.List.{list_any}
-use Rattle.lalrpop_norm_names.specs.declared.names.Span.{Span}
-use Rattle.lalrpop_norm_names.specs.declared.names.TerminalLiteral.{TerminalLiteral}
-use Rattle.lalrpop_norm_names.specs.declared.names.TerminalLiteral.TheVariants.{Regex}
-use Rattle.lalrpop_norm_names.specs.declared.names.TerminalString.{TerminalString}
-use Rattle.lalrpop_norm_names.specs.declared.names.TerminalString.TheVariants.{Literal}
+use Rattle.lalrpop_norm_tree_names.specs.declared.names.Span.{Span}
+use Rattle.lalrpop_norm_tree_names.specs.declared.names.TerminalLiteral.{TerminalLiteral}
+use Rattle.lalrpop_norm_tree_names.specs.declared.names.TerminalLiteral.TheVariants.{Regex}
+use Rattle.lalrpop_norm_tree_names.specs.declared.names.TerminalString.{TerminalString}
+use Rattle.lalrpop_norm_tree_names.specs.declared.names.TerminalString.TheVariants.{Literal}
 use Rattle.lalrpop_norm_tree.specs.declared.items.MatchEntry.{MatchEntry}
 use Rattle.lalrpop_norm_tree.specs.declared.items.MatchItem.{MatchItem}
 use Rattle.lalrpop_norm_tree.specs.Accessors.{or_else, first_of, match_item_span}

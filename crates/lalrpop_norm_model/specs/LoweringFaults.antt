@@ -2,7 +2,7 @@
 use Rattle.std.specs.Prelude.{ℕ, suc, Bool, not, ◌&&◌, List, [], ◌∷◌, ◌++◌, length, filter, flat_map, Option}
 use Rattle.std.specs.Prelude.{Some, None, is_none, nat_eq, nat_le, codes, if◌then◌else◌}
 use Rattle.std.specs.List.{starts_with, enumerate_from}
-use Rattle.lalrpop_norm_names.specs.declared.names.Span.{Span}
+use Rattle.lalrpop_norm_tree_names.specs.declared.names.Span.{Span}
 use Rattle.lalrpop_norm_tree.specs.Accessors.{is_public}
 use Rattle.lalrpop_norm_tree.specs.Items.{Action, user_code, fallible_code, lookahead_code, lookbehind_code, AlternativeData}
 use Rattle.lalrpop_norm_tree.specs.Items.{RuleData, GrammarData}

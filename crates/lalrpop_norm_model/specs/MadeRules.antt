@@ -3,13 +3,13 @@
 -- into. A symbol whose type is put into a declared type stands there replaced.
 use Rattle.std.specs.Prelude.{ℕ, Bool, true, false, ◌||◌, List, [], ◌∷◌, map, Option, Some, None, option_map, codes}
 use Rattle.std.specs.Prelude.{bytes_eq, if◌then◌else◌}
-use Rattle.lalrpop_norm_names.specs.declared.names.Span.{Span}
-use Rattle.lalrpop_norm_names.specs.declared.names.NonterminalString.{NonterminalString}
+use Rattle.lalrpop_norm_tree_names.specs.declared.names.Span.{Span}
+use Rattle.lalrpop_norm_tree_names.specs.declared.names.NonterminalString.{NonterminalString}
 use Rattle.lalrpop_norm_tree.specs.declared.symbol.RepeatOp.{RepeatOp}
 use Rattle.lalrpop_norm_tree.specs.declared.symbol.RepeatOp.TheVariants.{Star, Plus, Question}
-use Rattle.lalrpop_norm_parts.specs.Attributes.{Attributes, attribute, empty, no_attributes, attribute_and}
-use Rattle.lalrpop_norm_parts.specs.Paths.{PathData}
-use Rattle.lalrpop_norm_parts.specs.Accessors.{path_of}
+use Rattle.lalrpop_norm_tree_parts.specs.Attributes.{Attributes, attribute, empty, no_attributes, attribute_and}
+use Rattle.lalrpop_norm_tree_parts.specs.Paths.{PathData}
+use Rattle.lalrpop_norm_tree_parts.specs.Accessors.{path_of}
 use Rattle.lalrpop_norm_tree.specs.Symbols.{Kind, Part, Parts, group, ambiguous_id, terminal, nonterminal, call, repeated, chosen}
 use Rattle.lalrpop_norm_tree.specs.Symbols.{named, tupled, lookahead, lookbehind, error_terminal, at, no_parts, part_and}
 use Rattle.lalrpop_norm_tree.specs.Types.{TypeData, TypesData, MaybeType, tuple, slice, nominal, reference, trait_object}

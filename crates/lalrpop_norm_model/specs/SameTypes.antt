@@ -1,10 +1,10 @@
 -- Whether two lowered types are equal, as a test.
 use Rattle.std.specs.Prelude.{Bool, true, false, ◌&&◌, List, [], ◌∷◌, Option, Some, None, bytes_eq}
-use Rattle.lalrpop_norm_names.specs.declared.names.Lifetime.{Lifetime}
-pub use Rattle.lalrpop_norm_parts.specs.FreeVariables.{same_parameter}
-use Rattle.lalrpop_norm_parts.specs.Paths.{PathData}
-use Rattle.lalrpop_norm_parts.specs.Reprs.{ReprData, Reprs, MaybeRepr, tuple, slice, nominal, associated, of_lifetime, reference}
-use Rattle.lalrpop_norm_parts.specs.Reprs.{trait_object, function, no_reprs, repr_and, no_repr, returns}
+use Rattle.lalrpop_norm_tree_names.specs.declared.names.Lifetime.{Lifetime}
+pub use Rattle.lalrpop_norm_tree_parts.specs.FreeVariables.{same_parameter}
+use Rattle.lalrpop_norm_tree_parts.specs.Paths.{PathData}
+use Rattle.lalrpop_norm_tree_parts.specs.Reprs.{ReprData, Reprs, MaybeRepr, tuple, slice, nominal, associated, of_lifetime, reference}
+use Rattle.lalrpop_norm_tree_parts.specs.Reprs.{trait_object, function, no_reprs, repr_and, no_repr, returns}
 use Rattle.lalrpop_norm_theory.specs.Same.{same_flag}
 
 abbrev pub same_lifetime : Option Lifetime → Option Lifetime → Bool

@@ -1,19 +1,19 @@
 -- The types that need no inference: of terminals, of locations, of errors and of `!`.
 use Rattle.std.specs.Prelude.{ℕ, false, List, [], ◌∷◌, ◌++◌, map, flat_map, Option, Some, None, option_map}
 use Rattle.std.specs.Prelude.{option_and_then, unwrap_or, codes, if◌then◌else◌}
-use Rattle.lalrpop_norm_names.specs.declared.names.Lifetime.{Lifetime}
-use Rattle.lalrpop_norm_names.specs.declared.names.TerminalString.{TerminalString}
-use Rattle.lalrpop_norm_names.specs.declared.names.TerminalString.TheVariants.{Literal, Bare, Error}
+use Rattle.lalrpop_norm_tree_names.specs.declared.names.Lifetime.{Lifetime}
+use Rattle.lalrpop_norm_tree_names.specs.declared.names.TerminalString.{TerminalString}
+use Rattle.lalrpop_norm_tree_names.specs.declared.names.TerminalString.TheVariants.{Literal, Bare, Error}
 use Rattle.lalrpop_norm_tree.specs.declared.items.MatchEntry.{MatchEntry}
-use Rattle.lalrpop_norm_parts.specs.Accessors.{path_of}
+use Rattle.lalrpop_norm_tree_parts.specs.Accessors.{path_of}
 use Rattle.lalrpop_norm_tree.specs.Accessors.{first_of, enum_token_of, extern_token_of, intern_token_of, type_named}
 use Rattle.lalrpop_norm_tree.specs.Items.{AssociatedTypeData, ConversionData, EnumTokenData, ExternTokenData, InternTokenData}
 use Rattle.lalrpop_norm_tree.specs.Items.{GrammarData}
 use Rattle.lalrpop_norm_tree.specs.LoweredTypes.{repr_of}
-pub use Rattle.lalrpop_norm_pattern.specs.MappedPatterns.{chosen_in_kind, chosen_in_pattern, chosen_in_all, chosen_in_fields}
-use Rattle.lalrpop_norm_parts.specs.Reprs as lowered
-use Rattle.lalrpop_norm_parts.specs.Reprs.{ReprData, nominal, reference, of_lifetime, no_reprs, repr_and, reprs_of, named_repr}
-use Rattle.lalrpop_norm_parts.specs.Reprs.{unit_type, static_str}
+pub use Rattle.lalrpop_norm_tree_patterns.specs.MappedPatterns.{chosen_in_kind, chosen_in_pattern, chosen_in_all, chosen_in_fields}
+use Rattle.lalrpop_norm_tree_parts.specs.Reprs as lowered
+use Rattle.lalrpop_norm_tree_parts.specs.Reprs.{ReprData, nominal, reference, of_lifetime, no_reprs, repr_and, reprs_of, named_repr}
+use Rattle.lalrpop_norm_tree_parts.specs.Reprs.{unit_type, static_str}
 use Rattle.lalrpop_norm_model.specs.Entries.{user_names, match_entries, catch_all}
 use Rattle.lalrpop_norm_model.specs.Terminals.{same_terminal, terminals_used}
 

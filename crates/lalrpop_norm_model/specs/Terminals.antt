@@ -1,7 +1,7 @@
 -- The terminals that plain rules use.
 use Rattle.std.specs.Prelude.{List, [], ◌∷◌, ◌++◌, flat_map}
-use Rattle.lalrpop_norm_names.specs.declared.names.TerminalString.{TerminalString}
-pub use Rattle.lalrpop_norm_names.specs.Terminals.{same_literal, same_terminal, literal_cmp, terminal_cmp}
+use Rattle.lalrpop_norm_tree_names.specs.declared.names.TerminalString.{TerminalString}
+pub use Rattle.lalrpop_norm_tree_names.specs.Terminals.{same_literal, same_terminal, literal_cmp, terminal_cmp}
 use Rattle.lalrpop_norm_tree.specs.Symbols.{Kind, Part, Parts, group, ambiguous_id, terminal, nonterminal, call, repeated, chosen}
 use Rattle.lalrpop_norm_tree.specs.Symbols.{named, tupled, lookahead, lookbehind, error_terminal, at, no_parts, part_and}
 use Rattle.lalrpop_norm_tree.specs.Items.{AlternativeData, RuleData, GrammarData}

@@ -2,7 +2,7 @@
 use Rattle.std.specs.Prelude.{◌≡◌, ℕ, Bool, true, false, ◌&&◌, List, [], ◌∷◌, ◌++◌, map, flat_map, Option}
 use Rattle.std.specs.Prelude.{Some, None, if◌then◌else◌}
 use Rattle.lalrpop_norm_tree.specs.Items.{AlternativeData, RuleData, GrammarData}
-use Rattle.lalrpop_norm_parts.specs.Reprs.{ReprData, Reprs, tuple, no_reprs, repr_and}
+use Rattle.lalrpop_norm_tree_parts.specs.Reprs.{ReprData, Reprs, tuple, no_reprs, repr_and}
 use Rattle.lalrpop_norm_tree.specs.Symbols.{ArgumentPattern, ArgumentPatterns, one_name, several, no_arguments, argument_and}
 use Rattle.lalrpop_norm_tree.specs.Symbols.{Kind, Part, Parts, nonterminal, tupled, at, no_parts, part_and}
 use Rattle.lalrpop_norm_faults.specs.Faults.{Fault}

@@ -1,7 +1,7 @@
 -- The rules of a grammar as their trees see them: names resolved, alternatives at their written places, with levels.
 use Rattle.std.specs.Prelude.{ℕ, Bool, false, ◌++◌, List, [], ◌∷◌, map, Option, Some, None, option_map, bytes_eq}
 use Rattle.std.specs.Prelude.{if◌then◌else◌}
-use Rattle.lalrpop_norm_names.specs.declared.names.NonterminalString.{NonterminalString}
+use Rattle.lalrpop_norm_tree_names.specs.declared.names.NonterminalString.{NonterminalString}
 use Rattle.lalrpop_norm_tree.specs.Items.{RuleData, ItemData, GrammarData, rule_item, match_item, extern_item, intern_item}
 use Rattle.lalrpop_norm_tree.specs.Items.{use_item}
 use Rattle.lalrpop_norm_model.specs.Features.{Features, is_active}

@@ -5,8 +5,8 @@ use Rattle.lalrpop_norm_tree.specs.Items.{RuleData, ItemData, match_item, extern
 use Rattle.lalrpop_norm_faults.specs.declared.kind.FaultKind.TheVariants.{NotNonterminal}
 use Rattle.lalrpop_norm_faults.specs.Faults.{fault_if}
 use Rattle.lalrpop_norm_model.specs.LevelRules.{level_rules, level_items}
-use Rattle.lalrpop_norm_alternatives.specs.LevelFaults.{level_faults, item_level_faults, has_several_levels}
-use Rattle.lalrpop_norm_alternatives.specs.OtherItems.{other_items}
+use Rattle.lalrpop_norm_precedence_steps.specs.LevelFaults.{level_faults, item_level_faults, has_several_levels}
+use Rattle.lalrpop_norm_precedence_steps.specs.OtherItems.{other_items}
 use Rattle.lalrpop_norm_precedence.specs.MacroLevels.{macro_level_faults}
 use Rattle.lalrpop_norm_precedence.specs.MadeNames.{rule_name, without_last, item_made_names}
 

@@ -1,16 +1,16 @@
 -- Kinds by sides, and attributes taken away.
 use Rattle.std.proofs.Common.{◌≡◌, ℕ, zero, suc, ◌+◌, List, [], ◌∷◌, cond, bytes_eq, ◌&&◌, Bool, true, false, Option, refl, sym, ap, ap₂, ◌∙◌, arith}
 use Rattle.std.specs.Prelude.{unwrap_or, if◌then◌else◌}
-use Rattle.lalrpop_norm_parts.specs.declared.attribute.Attribute.{Attribute}
-use Rattle.lalrpop_norm_parts.specs.Attributes.{attribute_view, attributes_view, attribute_and}
+use Rattle.lalrpop_norm_tree_parts.specs.declared.attribute.Attribute.{Attribute}
+use Rattle.lalrpop_norm_tree_parts.specs.Attributes.{attribute_view, attributes_view, attribute_and}
 use Rattle.lalrpop_norm_tree.specs.Symbols.{Kind, Part, Parts, group, ambiguous_id, terminal, nonterminal, call, repeated, chosen, named, tupled, lookahead, lookbehind, error_terminal, at, part_and, no_parts}
 use Rattle.lalrpop_norm_tree.specs.Items.{RuleData}
 use Rattle.lalrpop_norm_model.specs.Levels.{Side, left, right, neither, every, is_named}
 use Rattle.lalrpop_norm_model.specs.Occurrences.{count_part, count_parts, bound_at, own_bound}
 use Rattle.lalrpop_norm_model.specs.Grammars.{is_nil}
 use Rattle.lalrpop_norm_model.specs.LevelRules.{without_first, leveled_kind, leveled_part, leveled_parts, is_own}
-use Rattle.lalrpop_norm_alternatives.specs.declared.occurrences.Direction.TheVariants.{Forward}
-use Rattle.lalrpop_norm_alternatives.specs.Substitutions.{occurrence, met_kind, plan_by_side, direction_by_side}
+use Rattle.lalrpop_norm_precedence_steps.specs.declared.occurrences.Direction.TheVariants.{Forward}
+use Rattle.lalrpop_norm_precedence_steps.specs.Substitutions.{occurrence, met_kind, plan_by_side, direction_by_side}
 use Rattle.lalrpop_norm_precedence.specs.Substituted.{is_target, substituted_kind, substituted_part, substituted_parts}
 use Rattle.lalrpop_norm_precedence.specs.Made.{kind_by_side, less_first}
 use Rattle.lalrpop_norm_precedence.proofs.WalkLemmas.{parts_shift}

@@ -2,7 +2,7 @@
 use Rattle.std.proofs.Common.{◌≡◌, ℕ, List, [], ◌∷◌, refl}
 use Rattle.std.specs.Prelude.{Some, codes}
 use Rattle.std.specs.Fmt.{digits}
-use Rattle.lalrpop_norm_parts.specs.Attributes.{AttributeData}
+use Rattle.lalrpop_norm_tree_parts.specs.Attributes.{AttributeData}
 use Rattle.lalrpop_norm_tree.specs.Symbols.{Kind}
 use Rattle.lalrpop_norm_tree.specs.Items.{AlternativeData, RuleData}
 use Rattle.lalrpop_norm_faults.specs.declared.kind.FaultKind.TheVariants.{MissingLevel, SideOnLowest, NameDeclaredTwice, NoDefinition, NotNonterminal}
@@ -11,7 +11,7 @@ use Rattle.lalrpop_norm_model.specs.Scopes.{resolved_grammar}
 use Rattle.lalrpop_norm_model.specs.LevelRules.{leveled_grammar}
 use Rattle.lalrpop_norm_model.proofs.ExampleWords.{span, nowhere, precedence, assoc, literal, name, identifier, symbols, alternative, rule, macro_rule, rules_alone}
 use Rattle.lalrpop_norm_resolve.specs.NameFaults.{id_faults, nonterminal_faults, alternative_name_faults}
-use Rattle.lalrpop_norm_alternatives.specs.LevelFaults.{level_attribute_faults, lowest_faults}
+use Rattle.lalrpop_norm_precedence_steps.specs.LevelFaults.{level_attribute_faults, lowest_faults}
 use Rattle.lalrpop_norm_precedence.specs.PrecedenceFaults.{precedence_faults}
 
 abbrev one_of : List AttributeData → Kind → AlternativeData

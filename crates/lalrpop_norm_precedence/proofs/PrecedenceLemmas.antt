@@ -1,7 +1,7 @@
 -- Where no name is defined twice in the grammar with levels, its first fault is that of the first macro with several levels.
 use Rattle.std.proofs.Common.{◌≡◌, ◌⊎◌, inl, inr, ℕ, zero, suc, ◌<◌, length, List, [], ◌∷◌, ◌++◌, Option, Some, None, Bool, true, false, ◌&&◌, map, refl, sym, ap, ap₂, ◌∙◌, subst, arith}
 use Rattle.std.specs.Prelude.{flat_map, nat_lt, not, unwrap_or, if◌then◌else◌}
-use Rattle.lalrpop_norm_names.specs.declared.names.NonterminalString.{NonterminalString}
+use Rattle.lalrpop_norm_tree_names.specs.declared.names.NonterminalString.{NonterminalString}
 use Rattle.lalrpop_norm_tree.specs.Accessors.{is_macro}
 use Rattle.lalrpop_norm_tree.specs.Symbols.{Parts}
 use Rattle.lalrpop_norm_tree.specs.Items.{AlternativeData, RuleData, ItemData, GrammarData, match_item, extern_item, intern_item, rule_item, use_item}
@@ -28,7 +28,7 @@ use Rattle.lalrpop_norm_model.proofs.LevelGrammarLemmas.{of_level_in}
 use Rattle.lalrpop_norm_model.proofs.InferenceLemmas.{none_made}
 use Rattle.lalrpop_norm_resolve.specs.NameFaults.{repeated_faults, repeated_argument_faults, condition_faults, nonterminal_faults, parts_name_faults, alternative_name_faults, rule_name_faults, resolve_faults}
 use Rattle.lalrpop_norm_resolve.proofs.ResolvedFaults.{faults_gone}
-use Rattle.lalrpop_norm_alternatives.specs.LevelFaults.{grammar_level_faults}
+use Rattle.lalrpop_norm_precedence_steps.specs.LevelFaults.{grammar_level_faults}
 use Rattle.lalrpop_norm_precedence.specs.MacroLevels.{macro_item_faults}
 use Rattle.lalrpop_norm_precedence.specs.PrecedenceFaults.{unstepped_rule, step_faults, level_rule_faults, level_items_faults, leveled_faults, precedence_faults}
 use Rattle.lalrpop_norm_precedence.proofs.LevelNameLemmas.{sense_kept, level_sense}

@@ -11,9 +11,9 @@ use Rattle.lalrpop_norm_model.specs.Enabled.{all_places, present}
 use Rattle.lalrpop_norm_model.specs.Levels.{Side, every, Leveled, with_levels}
 use Rattle.lalrpop_norm_model.specs.Stated.{level_after, side_after, handed_on}
 use Rattle.lalrpop_norm_model.proofs.HandedLemmas.{levels_are_handed_on}
-use Rattle.lalrpop_norm_alternatives.specs.declared.levels.AlternativeLevel.{AlternativeLevel}
-use Rattle.lalrpop_norm_alternatives.specs.LevelFaults.{missing_level_faults, level_attribute_faults, level_faults, least, lowest_level, lowest_faults, lowest_level_faults, levels_and_sides}
-use Rattle.lalrpop_norm_alternatives.specs.StatedLevels.{alternative_level_view}
+use Rattle.lalrpop_norm_precedence_steps.specs.declared.levels.AlternativeLevel.{AlternativeLevel}
+use Rattle.lalrpop_norm_precedence_steps.specs.LevelFaults.{missing_level_faults, level_attribute_faults, level_faults, least, lowest_level, lowest_faults, lowest_level_faults, levels_and_sides}
+use Rattle.lalrpop_norm_precedence_steps.specs.StatedLevels.{alternative_level_view}
 use Rattle.lalrpop_norm_precedence.specs.Handed.{handed_levels, handed_faults}
 
 levels_handed : (level : Option ℕ) (side : Option Side) (rs : List AlternativeData) →

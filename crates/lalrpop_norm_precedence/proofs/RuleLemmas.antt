@@ -14,12 +14,12 @@ use Rattle.lalrpop_norm_model.specs.LevelRules.{leveled_parts, level_of_rule, is
 use Rattle.lalrpop_norm_model.proofs.LevelLemmas.{rising_rises}
 use Rattle.lalrpop_norm_model.proofs.HandedLemmas.{levels_are_handed_on}
 use Rattle.lalrpop_norm_tree.specs.declared.items.Alternative.{Alternative}
-use Rattle.lalrpop_norm_alternatives.specs.declared.levels.AlternativeLevel.{AlternativeLevel}
-use Rattle.lalrpop_norm_alternatives.specs.LevelFaults.{levels_and_sides}
-use Rattle.lalrpop_norm_alternatives.specs.StatedLevels.{alternative_level_view}
+use Rattle.lalrpop_norm_precedence_steps.specs.declared.levels.AlternativeLevel.{AlternativeLevel}
+use Rattle.lalrpop_norm_precedence_steps.specs.LevelFaults.{levels_and_sides}
+use Rattle.lalrpop_norm_precedence_steps.specs.StatedLevels.{alternative_level_view}
 use Rattle.lalrpop_norm_precedence.specs.Handed.{handed_levels}
 use Rattle.lalrpop_norm_precedence.specs.Grouped.{LevelGroup, marked_with, groups_at, grouped}
-use Rattle.lalrpop_norm_alternatives.specs.Steps.{made_steps}
+use Rattle.lalrpop_norm_precedence_steps.specs.Steps.{made_steps}
 use Rattle.lalrpop_norm_precedence.specs.Made.{without_level_attributes, rewritten, made_alternative, made_rule, top_of, made_level_rules}
 use Rattle.lalrpop_norm_precedence.proofs.ReadLemmas.{levels_read}
 use Rattle.lalrpop_norm_precedence.proofs.KindLemmas.{by_bounds}

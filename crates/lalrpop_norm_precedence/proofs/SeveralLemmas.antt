@@ -9,8 +9,8 @@ use Rattle.lalrpop_norm_model.specs.Enabled.{all_places, present}
 use Rattle.lalrpop_norm_model.specs.Levels.{Side, Leveled, rising, with_levels, levels_of}
 use Rattle.lalrpop_norm_model.specs.Stated.{IsRising}
 use Rattle.lalrpop_norm_model.proofs.LevelLemmas.{in_rising, of_rising, rising_rises}
-use Rattle.lalrpop_norm_alternatives.specs.declared.levels.AlternativeLevel.{AlternativeLevel}
-use Rattle.lalrpop_norm_alternatives.specs.StatedLevels.{alternative_level_view, differ}
+use Rattle.lalrpop_norm_precedence_steps.specs.declared.levels.AlternativeLevel.{AlternativeLevel}
+use Rattle.lalrpop_norm_precedence_steps.specs.StatedLevels.{alternative_level_view, differ}
 use Rattle.lalrpop_norm_precedence.specs.Handed.{handed_levels}
 use Rattle.lalrpop_norm_precedence.proofs.ReadLemmas.{levels_read, first_of_pairs, first_of_views}
 

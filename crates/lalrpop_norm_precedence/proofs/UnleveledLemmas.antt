@@ -2,7 +2,7 @@
 use Rattle.std.proofs.Common.{◌≡◌, ℕ, Bool, true, false, cond, List, [], ◌∷◌, ◌++◌, map, Option, Some, None, refl, ap, ap₂, ◌∙◌, codes}
 use Rattle.std.specs.Prelude.{◌&&◌, is_some, is_none, unwrap_or, nat_eq}
 use Rattle.std.specs.List.{flat_map}
-use Rattle.lalrpop_norm_parts.specs.Attributes.{AttributeData}
+use Rattle.lalrpop_norm_tree_parts.specs.Attributes.{AttributeData}
 use Rattle.lalrpop_norm_tree.specs.Items.{AlternativeData, RuleData}
 use Rattle.lalrpop_norm_faults.specs.Faults.{fault_if}
 use Rattle.lalrpop_norm_faults.specs.declared.kind.FaultKind.TheVariants.{MissingLevel}
@@ -12,7 +12,7 @@ use Rattle.lalrpop_norm_model.specs.Levels.{Leveled, first_named, has_level_attr
 use Rattle.lalrpop_norm_model.specs.Stated.{level_after}
 use Rattle.lalrpop_norm_model.proofs.HandedLemmas.{levels_are_handed_on}
 use Rattle.lalrpop_norm_model.proofs.WrittenLemmas.{not_there}
-use Rattle.lalrpop_norm_alternatives.specs.LevelFaults.{missing_level_faults, level_argument_faults, side_argument_faults, level_attribute_faults, lowest_level, lowest_faults, barred_faults, lowest_level_faults, level_faults}
+use Rattle.lalrpop_norm_precedence_steps.specs.LevelFaults.{missing_level_faults, level_argument_faults, side_argument_faults, level_attribute_faults, lowest_level, lowest_faults, barred_faults, lowest_level_faults, level_faults}
 use Rattle.lalrpop_norm_precedence.specs.Handed.{handed_faults}
 use Rattle.lalrpop_norm_precedence.proofs.ReadLemmas.{faults_handed}
 

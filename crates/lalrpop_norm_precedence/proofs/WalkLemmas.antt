@@ -4,8 +4,8 @@ use Rattle.std.proofs.lemmas.List.{take_more_set, take-set, take_more, take_all,
 use Rattle.lalrpop_norm_tree.specs.declared.symbol.Symbol.{Symbol}
 use Rattle.lalrpop_norm_tree.specs.Symbols.{Kind, Part, Parts, group, ambiguous_id, terminal, nonterminal, call, repeated, chosen, named, tupled, lookahead, lookbehind, error_terminal, at, part_and, no_parts, parts_of, symbol_view}
 use Rattle.lalrpop_norm_model.specs.Occurrences.{count_part, count_parts}
-use Rattle.lalrpop_norm_alternatives.specs.declared.occurrences.Direction.TheVariants.{Forward, Backward}
-use Rattle.lalrpop_norm_alternatives.specs.Substitutions.{Plan, occurrence, met_kind}
+use Rattle.lalrpop_norm_precedence_steps.specs.declared.occurrences.Direction.TheVariants.{Forward, Backward}
+use Rattle.lalrpop_norm_precedence_steps.specs.Substitutions.{Plan, occurrence, met_kind}
 use Rattle.lalrpop_norm_precedence.specs.Substituted.{substituted_kind, substituted_part, substituted_parts, substituted_each, count_each, once_met}
 
 pub count_one_by_one : (own : List ℕ → Bool) (ps : List Part) → count_parts own (parts_of ps) ≡ count_each own ps

@@ -5,7 +5,7 @@ use Rattle.lalrpop_norm_model.specs.Levels.{Side, Leveled, rising}
 use Rattle.lalrpop_norm_model.specs.LevelRules.{of_level}
 use Rattle.lalrpop_norm_precedence.specs.declared.precedence.groups.Marked.{Marked}
 use Rattle.lalrpop_norm_precedence.specs.declared.precedence.groups.Group.{Group}
-use Rattle.lalrpop_norm_alternatives.specs.Sides.{side_of}
+use Rattle.lalrpop_norm_precedence_steps.specs.Sides.{side_of}
 
 abbrev pub marked_view : Marked → Leveled
 marked_view m = record { level = m.level; side = side_of m.side; alternative = alternative_view m.alternative }

@@ -4,7 +4,7 @@ use Rattle.lalrpop_norm_tree.specs.Items.{AlternativeData}
 use Rattle.lalrpop_norm_faults.specs.Faults.{Fault}
 use Rattle.lalrpop_norm_model.specs.Levels.{Side, every}
 use Rattle.lalrpop_norm_model.specs.Stated.{level_after, side_after}
-use Rattle.lalrpop_norm_alternatives.specs.LevelFaults.{lowest_faults}
+use Rattle.lalrpop_norm_precedence_steps.specs.LevelFaults.{lowest_faults}
 
 abbrev pub handed_levels : Option ℕ → Option Side → List AlternativeData → List (ℕ × Side)
 handed_levels level side [] = []

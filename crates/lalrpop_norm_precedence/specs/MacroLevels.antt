@@ -4,7 +4,7 @@ use Rattle.lalrpop_norm_tree.specs.Items.{RuleData, ItemData, match_item, extern
 use Rattle.lalrpop_norm_faults.specs.declared.kind.FaultKind.TheVariants.{NotNonterminal}
 use Rattle.lalrpop_norm_faults.specs.Faults.{Fault, fault_if}
 use Rattle.lalrpop_norm_tree.specs.Accessors.{is_macro}
-use Rattle.lalrpop_norm_alternatives.specs.LevelFaults.{has_several_levels}
+use Rattle.lalrpop_norm_precedence_steps.specs.LevelFaults.{has_several_levels}
 
 -- F29 at a macro with two levels or more
 abbrev pub macro_level_faults : RuleData → List Fault

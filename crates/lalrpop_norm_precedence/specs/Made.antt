@@ -1,15 +1,15 @@
 -- The rules of levels as they are made, one after another.
 use Rattle.std.specs.Prelude.{ℕ, false, List, [], ◌∷◌, ◌++◌, map, Option, Some, unwrap_or, codes}
 use Rattle.std.specs.Prelude.{if◌then◌else◌}
-use Rattle.lalrpop_norm_parts.specs.declared.attribute.Attribute.{Attribute}
-use Rattle.lalrpop_norm_parts.specs.Attributes.{Attributes, attribute_view}
+use Rattle.lalrpop_norm_tree_parts.specs.declared.attribute.Attribute.{Attribute}
+use Rattle.lalrpop_norm_tree_parts.specs.Attributes.{Attributes, attribute_view}
 use Rattle.lalrpop_norm_tree.specs.Symbols.{Kind, nonterminal}
 use Rattle.lalrpop_norm_tree.specs.Items.{AlternativeData, RuleData}
 use Rattle.lalrpop_norm_model.specs.Levels.{Side, left, right, neither, every, Leveled, is_named, greatest}
 use Rattle.lalrpop_norm_model.specs.ClosedTexts.{level_name}
 use Rattle.lalrpop_norm_model.specs.LevelRules.{without_first, is_own}
-use Rattle.lalrpop_norm_alternatives.specs.Substitutions.{occurrence}
-use Rattle.lalrpop_norm_alternatives.specs.Steps.{made_steps}
+use Rattle.lalrpop_norm_precedence_steps.specs.Substitutions.{occurrence}
+use Rattle.lalrpop_norm_precedence_steps.specs.Steps.{made_steps}
 use Rattle.lalrpop_norm_precedence.specs.Substituted.{substituted_parts}
 use Rattle.lalrpop_norm_precedence.specs.Grouped.{LevelGroup}
 

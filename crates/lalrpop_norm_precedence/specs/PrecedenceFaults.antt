@@ -11,7 +11,7 @@ use Rattle.lalrpop_norm_model.specs.Levels.{Leveled, has_levels, with_levels, le
 use Rattle.lalrpop_norm_model.specs.Grammars.{is_nil}
 use Rattle.lalrpop_norm_model.specs.LevelRules.{level_alternative, of_level, level_rule, leveled_grammar}
 use Rattle.lalrpop_norm_resolve.specs.NameFaults.{repeated_faults, rule_name_faults, resolve_faults}
-use Rattle.lalrpop_norm_alternatives.specs.LevelFaults.{grammar_level_faults}
+use Rattle.lalrpop_norm_precedence_steps.specs.LevelFaults.{grammar_level_faults}
 
 -- the rule of a level without its step to the level below
 abbrev pub unstepped_rule : RuleData → List (Option Leveled) → ℕ → RuleData

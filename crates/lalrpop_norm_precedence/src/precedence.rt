@@ -8,10 +8,10 @@ mod rules;
 
 pub use expand::expand_precedence;
 pub use grammar::expand_levels;
-pub use lalrpop_norm_alternatives::assoc::{Assoc, ParseAssocError};
-pub use lalrpop_norm_alternatives::attributes::{ASSOC_ATTR, LVL_ARG, PREC_ATTR, SIDE_ARG};
-pub use lalrpop_norm_alternatives::levels::{AlternativeLevel, has_prec_attr};
-pub use lalrpop_norm_alternatives::occurrences::{Direction, Substitution};
+pub use lalrpop_norm_precedence_steps::assoc::{Assoc, ParseAssocError};
+pub use lalrpop_norm_precedence_steps::attributes::{ASSOC_ATTR, LVL_ARG, PREC_ATTR, SIDE_ARG};
+pub use lalrpop_norm_precedence_steps::levels::{AlternativeLevel, has_prec_attr};
+pub use lalrpop_norm_precedence_steps::occurrences::{Direction, Substitution};
 pub use read::{has_several_levels, read_levels};
 pub use replace::replace_nonterm;
 pub use rules::expand_nonterm;

@@ -1,11 +1,11 @@
 -- Lowered grammars with the same parts.
 use Rattle.std.proofs.Common.{◌≡◌, ℕ, Bool, List, Option}
-use Rattle.lalrpop_norm_parts.specs.declared.lowered.Algorithm.{Algorithm}
-use Rattle.lalrpop_norm_names.specs.declared.names.NonterminalString.{NonterminalString}
-use Rattle.lalrpop_norm_names.specs.declared.names.TerminalString.{TerminalString}
-use Rattle.lalrpop_norm_names.specs.declared.names.TypeParameter.{TypeParameter}
-use Rattle.lalrpop_norm_pattern.specs.Patterns.{PatternData}
-use Rattle.lalrpop_norm_parts.specs.Reprs.{ReprData, LoweredClause}
+use Rattle.lalrpop_norm_tree_parts.specs.declared.lowered.Algorithm.{Algorithm}
+use Rattle.lalrpop_norm_tree_names.specs.declared.names.NonterminalString.{NonterminalString}
+use Rattle.lalrpop_norm_tree_names.specs.declared.names.TerminalString.{TerminalString}
+use Rattle.lalrpop_norm_tree_names.specs.declared.names.TypeParameter.{TypeParameter}
+use Rattle.lalrpop_norm_tree_patterns.specs.Patterns.{PatternData}
+use Rattle.lalrpop_norm_tree_parts.specs.Reprs.{ReprData, LoweredClause}
 use Rattle.lalrpop_norm_tree.specs.Items.{InternTokenData}
 use Rattle.lalrpop_norm_repr.specs.Actions.{ActionData}
 use Rattle.lalrpop_norm_repr.specs.Lowered.{LoweredParameter, TerminalTable, LoweredGrammar}

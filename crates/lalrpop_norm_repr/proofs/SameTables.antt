@@ -1,8 +1,8 @@
 -- Tables with the same parts.
 use Rattle.std.proofs.Common.{◌≡◌, List, Option}
-use Rattle.lalrpop_norm_names.specs.declared.names.NonterminalString.{NonterminalString}
-use Rattle.lalrpop_norm_names.specs.declared.names.TerminalString.{TerminalString}
-use Rattle.lalrpop_norm_parts.specs.Reprs.{ReprData}
+use Rattle.lalrpop_norm_tree_names.specs.declared.names.NonterminalString.{NonterminalString}
+use Rattle.lalrpop_norm_tree_names.specs.declared.names.TerminalString.{TerminalString}
+use Rattle.lalrpop_norm_tree_parts.specs.Reprs.{ReprData}
 use Rattle.lalrpop_norm_repr.specs.Tables.{TypeTable}
 
 abbrev pub table_of : ReprData → Option ReprData → Option ReprData → List (TerminalString × ReprData) → List (NonterminalString × ReprData) → ReprData → ReprData → TypeTable

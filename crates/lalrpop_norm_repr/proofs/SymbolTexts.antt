@@ -2,8 +2,8 @@
 use Rattle.std.proofs.Common.{◌≡◌, ℕ, List, [], ◌∷◌, ◌++◌, ◌≤◌, length, take, map, refl, ap, ◌∙◌}
 use Rattle.std.proofs.lemmas.List.{take_all}
 use Rattle.std.specs.List.{flat_map, zip}
-use Rattle.lalrpop_norm_names.specs.Texts.{joined}
-use Rattle.lalrpop_norm_parts.proofs.KnownTextLemmas.{map_twice}
+use Rattle.lalrpop_norm_tree_names.specs.Texts.{joined}
+use Rattle.lalrpop_norm_tree_parts.proofs.KnownTextLemmas.{map_twice}
 
 texts_of_each : {A : Type 0} (text : A → List ℕ) (separator : List ℕ) (xs : List A) → flat_map (λ x. separator ++ text x) xs ≡ flat_map (λ u. separator ++ u) (map text xs)
 texts_of_each text separator [] = refl

@@ -3,10 +3,10 @@ use Rattle.std.proofs.Common.{◌≡◌, refl}
 use Rattle.std.proofs.Math.Path.{fun_ext}
 use Rattle.std.specs.Ordering.{is_eq}
 use Rattle.std.proofs.lemmas.Map.Text.{is_eq-slice_cmp}
-use Rattle.lalrpop_norm_names.specs.declared.names.TerminalLiteral.TheVariants.{Quoted, Regex}
-use Rattle.lalrpop_norm_names.specs.declared.names.TerminalString.{TerminalString}
-use Rattle.lalrpop_norm_names.specs.declared.names.TerminalString.TheVariants as terminal
-use Rattle.lalrpop_norm_names.specs.contracts.names.TerminalStringOrd.TheImpl.{cmp-value}
+use Rattle.lalrpop_norm_tree_names.specs.declared.names.TerminalLiteral.TheVariants.{Quoted, Regex}
+use Rattle.lalrpop_norm_tree_names.specs.declared.names.TerminalString.{TerminalString}
+use Rattle.lalrpop_norm_tree_names.specs.declared.names.TerminalString.TheVariants as terminal
+use Rattle.lalrpop_norm_tree_names.specs.contracts.names.TerminalStringOrd.TheImpl.{cmp-value}
 use Rattle.lalrpop_norm_repr.specs.Orders.{terminal_cmp}
 use Rattle.lalrpop_norm_repr.specs.Tables.{same_terminal}
 

@@ -1,6 +1,6 @@
 -- Actions as plain data.
 use Rattle.std.specs.Prelude.{ℕ, Bool, List, map, string_bytes}
-use Rattle.lalrpop_norm_parts.specs.Reprs.{ReprData, repr_view}
+use Rattle.lalrpop_norm_tree_parts.specs.Reprs.{ReprData, repr_view}
 use Rattle.lalrpop_norm_tree.specs.Symbols.{ArgumentPattern, argument_pattern_view}
 use Rattle.lalrpop_norm_repr.specs.declared.action.ActionFn.{ActionFn}
 use Rattle.lalrpop_norm_repr.specs.declared.action.ActionFnDefn.{ActionFnDefn}

@@ -1,8 +1,8 @@
 -- Lowered grammars in which nothing is left open.
 use Rattle.std.specs.Prelude.{◌≡◌, ℕ, List, length, All, Contains, Some, IsSome, slice_get}
 use Rattle.std.specs.List.{AllZip}
-use Rattle.lalrpop_norm_names.specs.declared.names.NonterminalString.{NonterminalString}
-use Rattle.lalrpop_norm_names.specs.declared.names.TerminalString.{TerminalString}
+use Rattle.lalrpop_norm_tree_names.specs.declared.names.NonterminalString.{NonterminalString}
+use Rattle.lalrpop_norm_tree_names.specs.declared.names.TerminalString.{TerminalString}
 use Rattle.lalrpop_norm_repr.specs.declared.symbol.Symbol.{Symbol}
 use Rattle.lalrpop_norm_repr.specs.declared.symbol.Symbol.TheVariants.{Nonterminal, Terminal}
 use Rattle.lalrpop_norm_repr.specs.Actions.{ActionData, ActionKindData, user, inline, lookaround}

@@ -1,12 +1,12 @@
 -- What is looked up in a lowered grammar.
 use Rattle.std.specs.Prelude.{ℕ, Bool, true, false, List, [], ◌++◌, Option, option_map, unwrap_or, codes}
 use Rattle.std.specs.List.{flat_map, slice_get}
-use Rattle.lalrpop_norm_names.specs.declared.names.NonterminalString.{NonterminalString}
-use Rattle.lalrpop_norm_names.specs.declared.names.TerminalString.{TerminalString}
-use Rattle.lalrpop_norm_names.specs.declared.names.TypeParameter.{TypeParameter}
-use Rattle.lalrpop_norm_names.specs.declared.names.TypeParameter.TheVariants.{Lifetime, Id}
-use Rattle.lalrpop_norm_pattern.specs.Patterns.{PatternData}
-use Rattle.lalrpop_norm_parts.specs.Reprs.{ReprData}
+use Rattle.lalrpop_norm_tree_names.specs.declared.names.NonterminalString.{NonterminalString}
+use Rattle.lalrpop_norm_tree_names.specs.declared.names.TerminalString.{TerminalString}
+use Rattle.lalrpop_norm_tree_names.specs.declared.names.TypeParameter.{TypeParameter}
+use Rattle.lalrpop_norm_tree_names.specs.declared.names.TypeParameter.TheVariants.{Lifetime, Id}
+use Rattle.lalrpop_norm_tree_patterns.specs.Patterns.{PatternData}
+use Rattle.lalrpop_norm_tree_parts.specs.Reprs.{ReprData}
 use Rattle.lalrpop_norm_repr.specs.declared.action.ActionFn.{ActionFn}
 use Rattle.lalrpop_norm_repr.specs.Actions.{ActionData, action_index}
 use Rattle.lalrpop_norm_repr.specs.Lowered.{LoweredGrammar, LoweredParameter}

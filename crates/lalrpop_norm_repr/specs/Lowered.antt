@@ -1,12 +1,12 @@
 -- Lowered grammars as plain data.
 use Rattle.std.specs.Prelude.{ℕ, Bool, List, map, Option, option_map, string_bytes}
-use Rattle.lalrpop_norm_parts.specs.declared.lowered.Algorithm.{Algorithm}
-use Rattle.lalrpop_norm_names.specs.declared.names.NonterminalString.{NonterminalString}
-use Rattle.lalrpop_norm_names.specs.declared.names.TerminalString.{TerminalString}
-use Rattle.lalrpop_norm_names.specs.declared.names.TypeParameter.{TypeParameter}
+use Rattle.lalrpop_norm_tree_parts.specs.declared.lowered.Algorithm.{Algorithm}
+use Rattle.lalrpop_norm_tree_names.specs.declared.names.NonterminalString.{NonterminalString}
+use Rattle.lalrpop_norm_tree_names.specs.declared.names.TerminalString.{TerminalString}
+use Rattle.lalrpop_norm_tree_names.specs.declared.names.TypeParameter.{TypeParameter}
 use Rattle.lalrpop_norm_tree.specs.Items.{InternTokenData, intern_token_view}
-use Rattle.lalrpop_norm_pattern.specs.Patterns.{PatternData, pattern_view}
-use Rattle.lalrpop_norm_parts.specs.Reprs.{ReprData, repr_view, LoweredClause, lowered_where_clause_view}
+use Rattle.lalrpop_norm_tree_patterns.specs.Patterns.{PatternData, pattern_view}
+use Rattle.lalrpop_norm_tree_parts.specs.Reprs.{ReprData, repr_view, LoweredClause, lowered_where_clause_view}
 use Rattle.lalrpop_norm_repr.specs.declared.whole.Grammar.{Grammar}
 use Rattle.lalrpop_norm_repr.specs.declared.whole.Parameter.{Parameter}
 use Rattle.lalrpop_norm_repr.specs.declared.whole.TerminalSet.{TerminalSet}

@@ -1,8 +1,8 @@
 -- Symbols, productions and nonterminals as plain data.
 use Rattle.std.specs.Prelude.{List, map}
-use Rattle.lalrpop_norm_names.specs.declared.names.NonterminalString.{NonterminalString}
-use Rattle.lalrpop_norm_names.specs.declared.names.Span.{Span}
-use Rattle.lalrpop_norm_parts.specs.Attributes.{Attributes, attributes_view}
+use Rattle.lalrpop_norm_tree_names.specs.declared.names.NonterminalString.{NonterminalString}
+use Rattle.lalrpop_norm_tree_names.specs.declared.names.Span.{Span}
+use Rattle.lalrpop_norm_tree_parts.specs.Attributes.{Attributes, attributes_view}
 use Rattle.lalrpop_norm_tree.specs.Items.{VisibilityData, visibility_view}
 use Rattle.lalrpop_norm_repr.specs.declared.action.ActionFn.{ActionFn}
 use Rattle.lalrpop_norm_repr.specs.declared.production.NonterminalData.{NonterminalData}

@@ -2,11 +2,11 @@
 use Rattle.std.specs.Prelude.{ℕ, List, ◌++◌, map, codes}
 use Rattle.std.specs.List.{zip}
 use Rattle.std.specs.Fmt.{decimal}
-use Rattle.lalrpop_norm_parts.specs.Reprs.{ReprData}
+use Rattle.lalrpop_norm_tree_parts.specs.Reprs.{ReprData}
 use Rattle.lalrpop_norm_tree.specs.Symbols.{ArgumentPattern}
-use Rattle.lalrpop_norm_names.specs.Texts.{joined, terminal_text}
+use Rattle.lalrpop_norm_tree_names.specs.Texts.{joined, terminal_text}
 use Rattle.lalrpop_norm_tree.specs.SymbolTexts.{argument_pattern_text}
-use Rattle.lalrpop_norm_parts.specs.TypeTexts.{repr_text}
+use Rattle.lalrpop_norm_tree_parts.specs.TypeTexts.{repr_text}
 use Rattle.lalrpop_norm_repr.specs.declared.action.ActionFn.{ActionFn}
 use Rattle.lalrpop_norm_repr.specs.declared.action.LookaroundActionFnDefn.{LookaroundActionFnDefn}
 use Rattle.lalrpop_norm_repr.specs.declared.action.LookaroundActionFnDefn.TheVariants.{Lookahead, Lookbehind}

@@ -1,6 +1,6 @@
 -- The types of symbols.
 use Rattle.std.specs.Prelude.{Option, Some, IsSome}
-use Rattle.lalrpop_norm_parts.specs.Reprs.{ReprData}
+use Rattle.lalrpop_norm_tree_parts.specs.Reprs.{ReprData}
 use Rattle.lalrpop_norm_repr.specs.declared.symbol.Symbol.{Symbol}
 use Rattle.lalrpop_norm_repr.specs.declared.symbol.Symbol.TheVariants.{Nonterminal, Terminal}
 use Rattle.lalrpop_norm_repr.specs.Tables.{TypeTable, type_of, type_of_terminal}

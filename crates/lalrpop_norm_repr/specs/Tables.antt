@@ -3,11 +3,11 @@ use Rattle.std.specs.Prelude.{ℕ, false, List, [], ◌∷◌, ◌++◌, map, Op
 use Rattle.std.specs.Prelude.{if◌then◌else◌}
 use Rattle.std.specs.BTreeMap.{BTreeMap}
 use Rattle.std.specs.Prelude.{option_map}
-use Rattle.lalrpop_norm_names.specs.declared.names.NonterminalString.{NonterminalString}
-use Rattle.lalrpop_norm_names.specs.declared.names.TerminalString.{TerminalString}
-use Rattle.lalrpop_norm_names.specs.declared.names.TerminalString.TheVariants as terminal
-pub use Rattle.lalrpop_norm_names.specs.Terminals.{same_literal, same_terminal}
-use Rattle.lalrpop_norm_parts.specs.Reprs.{ReprData, tuple, nominal, no_reprs, repr_and, repr_view, unit_type, static_str}
+use Rattle.lalrpop_norm_tree_names.specs.declared.names.NonterminalString.{NonterminalString}
+use Rattle.lalrpop_norm_tree_names.specs.declared.names.TerminalString.{TerminalString}
+use Rattle.lalrpop_norm_tree_names.specs.declared.names.TerminalString.TheVariants as terminal
+pub use Rattle.lalrpop_norm_tree_names.specs.Terminals.{same_literal, same_terminal}
+use Rattle.lalrpop_norm_tree_parts.specs.Reprs.{ReprData, tuple, nominal, no_reprs, repr_and, repr_view, unit_type, static_str}
 use Rattle.lalrpop_norm_repr.specs.declared.types.Types.{Types}
 
 -- the rows of a map, each value seen through f

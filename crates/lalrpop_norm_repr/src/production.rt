@@ -1,7 +1,7 @@
 //! Productions.
 ghost use Rattle.std.specs.Prelude.{◌≡◌, Some, map, codes, IfOk};
 ghost use Rattle.std.specs.Fmt.{WritesOnOk};
-ghost use Rattle.lalrpop_norm_names.specs.Texts.{joined};
+ghost use Rattle.lalrpop_norm_tree_names.specs.Texts.{joined};
 ghost use Rattle.lalrpop_norm_repr.specs.Productions.{production_view};
 ghost use Rattle.lalrpop_norm_repr.specs.ReprTexts.{symbol_text, production_text};
 
@@ -9,8 +9,8 @@ mod copy;
 
 use crate::action::ActionFn;
 use crate::symbol::Symbol;
-use lalrpop_norm_parts::show::show_joined;
 use lalrpop_norm_tree::grammar::parse_tree::{Attribute, NonterminalString, Span, Visibility};
+use lalrpop_norm_tree_parts::show::show_joined;
 use std::alloc::AllocError;
 use std::fmt;
 

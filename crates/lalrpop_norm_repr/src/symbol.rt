@@ -1,6 +1,6 @@
 //! Symbols of productions.
 ghost use Rattle.std.specs.Prelude.{◌≡◌, ◌↔◌, Some, IsTrue};
-ghost use Rattle.lalrpop_norm_parts.specs.Reprs.{repr_view};
+ghost use Rattle.lalrpop_norm_tree_parts.specs.Reprs.{repr_view};
 ghost use Rattle.lalrpop_norm_repr.specs.Tables.{type_table};
 ghost use Rattle.lalrpop_norm_repr.specs.SymbolTypes.{HasSymbolType, symbol_type};
 ghost use Rattle.lalrpop_norm_repr.specs.Productions.{IsTerminal};

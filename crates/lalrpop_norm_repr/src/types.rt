@@ -1,8 +1,8 @@
 //! The types of terminals and nonterminals.
 ghost use Rattle.std.specs.Prelude.{◌≡◌, ◌↔◌, None, Some, option_map, OnOk, OnErr, IsTrue, IsSome};
-ghost use Rattle.lalrpop_norm_parts.specs.Reprs.{repr_view};
-ghost use Rattle.lalrpop_norm_names.specs.declared.names.NonterminalString.{NonterminalString};
-ghost use Rattle.lalrpop_norm_names.specs.declared.names.TerminalString.{TerminalString};
+ghost use Rattle.lalrpop_norm_tree_parts.specs.Reprs.{repr_view};
+ghost use Rattle.lalrpop_norm_tree_names.specs.declared.names.NonterminalString.{NonterminalString};
+ghost use Rattle.lalrpop_norm_tree_names.specs.declared.names.TerminalString.{TerminalString};
 ghost use Rattle.lalrpop_norm_repr.specs.Tables.{type_table, type_of, listed_type, type_of_terminal};
 
 mod copy;

@@ -4,9 +4,9 @@ use Rattle.std.specs.Prelude.{bytes_eq, if◌then◌else◌}
 use Rattle.std.specs.Ordering.{nat_cmp}
 use Rattle.std.specs.Cmp.Lexicographic.{slice_cmp}
 use Rattle.std.specs.BTreeMap.{BTreeMap, insert_entry}
-use Rattle.lalrpop_norm_names.specs.declared.names.Span.{Span}
+use Rattle.lalrpop_norm_tree_names.specs.declared.names.Span.{Span}
 use Rattle.shared_text.specs.declared.atom.Atom.{Atom}
-use Rattle.lalrpop_norm_names.specs.declared.names.NonterminalString.{NonterminalString}
+use Rattle.lalrpop_norm_tree_names.specs.declared.names.NonterminalString.{NonterminalString}
 use Rattle.lalrpop_norm_tree.specs.Items.{RuleData, ConversionData, ItemData, match_item, extern_item, intern_item, rule_item}
 use Rattle.lalrpop_norm_tree.specs.Items.{use_item}
 use Rattle.lalrpop_norm_faults.specs.declared.kind.FaultKind.TheVariants.{NameDeclaredTwice}

@@ -2,10 +2,10 @@
 use Rattle.std.proofs.Common.{◌≡◌, ◌⊎◌, ℕ, Bool, true, false, ◌||◌, cond, List, [], ◌∷◌, ◌++◌, Option, Some, None, is_some, inl, inr, refl, sym, ap, ap₂, ◌∙◌, append_assoc}
 use Rattle.std.specs.List.{list_any, flat_map}
 use Rattle.std.specs.BTreeMap.{insert_entry}
-use Rattle.lalrpop_norm_names.specs.declared.names.Span.{Span}
-use Rattle.lalrpop_norm_names.specs.declared.names.TerminalLiteral.{TerminalLiteral}
-use Rattle.lalrpop_norm_names.specs.declared.names.TerminalString.{TerminalString}
-use Rattle.lalrpop_norm_names.specs.declared.names.TerminalString.TheVariants.{Literal}
+use Rattle.lalrpop_norm_tree_names.specs.declared.names.Span.{Span}
+use Rattle.lalrpop_norm_tree_names.specs.declared.names.TerminalLiteral.{TerminalLiteral}
+use Rattle.lalrpop_norm_tree_names.specs.declared.names.TerminalString.{TerminalString}
+use Rattle.lalrpop_norm_tree_names.specs.declared.names.TerminalString.TheVariants.{Literal}
 use Rattle.lalrpop_norm_tree.specs.declared.items.MatchEntry.{MatchEntry}
 use Rattle.lalrpop_norm_tree.specs.declared.items.MatchItem.{MatchItem}
 use Rattle.lalrpop_norm_tree.specs.declared.items.MatchItem.TheVariants.{CatchAll, Unmapped, Mapped}

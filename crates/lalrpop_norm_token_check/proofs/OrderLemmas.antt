@@ -5,18 +5,18 @@ use Rattle.std.specs.BTreeMap.{is_at}
 use Rattle.std.specs.List.{list_any}
 use Rattle.std.specs.declared.cmp.Ordering.{Ordering}
 use Rattle.std.specs.Ordering.{nat_cmp, ordering_then}
-use Rattle.lalrpop_norm_names.specs.contracts.names.TerminalLiteralOrd.TheImpl as literals
-use Rattle.lalrpop_norm_names.specs.contracts.names.TerminalStringOrd.TheImpl as terminals
+use Rattle.lalrpop_norm_tree_names.specs.contracts.names.TerminalLiteralOrd.TheImpl as literals
+use Rattle.lalrpop_norm_tree_names.specs.contracts.names.TerminalStringOrd.TheImpl as terminals
 use Rattle.lalrpop_norm_tree.specs.contracts.items.MatchEntryOrd.TheImpl as entries
 use Rattle.lalrpop_norm_tree.specs.contracts.items.MatchMappingOrd.TheImpl as mappings
 use Rattle.lalrpop_norm_tree.specs.declared.items.MatchEntry.{MatchEntry}
 use Rattle.lalrpop_norm_tree.specs.declared.items.MatchMapping.{MatchMapping}
 use Rattle.lalrpop_norm_tree.specs.declared.items.MatchMapping.TheVariants.{Terminal, Skip}
-use Rattle.lalrpop_norm_names.specs.declared.names.TerminalLiteral.{TerminalLiteral}
+use Rattle.lalrpop_norm_tree_names.specs.declared.names.TerminalLiteral.{TerminalLiteral}
 use Rattle.lalrpop_norm_model.specs.Entries.{mapping_cmp, entry_cmp}
-use Rattle.lalrpop_norm_names.specs.declared.names.TerminalLiteral.TheVariants.{Quoted, Regex}
-use Rattle.lalrpop_norm_names.specs.declared.names.TerminalString.{TerminalString}
-use Rattle.lalrpop_norm_names.specs.declared.names.TerminalString.TheVariants.{Literal, Bare, Error}
+use Rattle.lalrpop_norm_tree_names.specs.declared.names.TerminalLiteral.TheVariants.{Quoted, Regex}
+use Rattle.lalrpop_norm_tree_names.specs.declared.names.TerminalString.{TerminalString}
+use Rattle.lalrpop_norm_tree_names.specs.declared.names.TerminalString.TheVariants.{Literal, Bare, Error}
 use Rattle.lalrpop_norm_model.specs.Terminals.{literal_cmp, terminal_cmp}
 use Rattle.lalrpop_norm_token_check.specs.Keys.{terminal_in}
 

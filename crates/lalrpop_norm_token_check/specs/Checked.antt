@@ -1,7 +1,7 @@
 -- What is found of a grammar without an extern enum, and what it gets.
 use Rattle.std.specs.Prelude.{◌≡◌, List, Option, Some, None, IsSome}
-use Rattle.lalrpop_norm_names.specs.declared.names.Span.{Span}
-use Rattle.lalrpop_norm_names.specs.declared.names.TerminalLiteral.{TerminalLiteral}
+use Rattle.lalrpop_norm_tree_names.specs.declared.names.Span.{Span}
+use Rattle.lalrpop_norm_tree_names.specs.declared.names.TerminalLiteral.{TerminalLiteral}
 use Rattle.lalrpop_norm_tree.specs.declared.items.MatchEntry.{MatchEntry}
 use Rattle.lalrpop_norm_tree.specs.Items.{EnumTokenData, InternTokenData, GrammarData}
 use Rattle.lalrpop_norm_theory.specs.Rounds.{In}

@@ -1,8 +1,8 @@
 -- Conversions as the code looks at them: one after the other, beside the terminals of those before.
 use Rattle.std.specs.Prelude.{List, [], ◌∷◌, ◌++◌, flat_map, not}
 use Rattle.std.specs.BTreeSet.{insert_key}
-use Rattle.lalrpop_norm_names.specs.declared.names.Span.{Span}
-use Rattle.lalrpop_norm_names.specs.declared.names.TerminalString.{TerminalString}
+use Rattle.lalrpop_norm_tree_names.specs.declared.names.Span.{Span}
+use Rattle.lalrpop_norm_tree_names.specs.declared.names.TerminalString.{TerminalString}
 use Rattle.lalrpop_norm_tree.specs.Items.{ConversionData, EnumTokenData}
 use Rattle.lalrpop_norm_faults.specs.Faults.{Fault, fault_if}
 use Rattle.lalrpop_norm_faults.specs.declared.kind.FaultKind.TheVariants.{TerminalTwice, NoPattern}

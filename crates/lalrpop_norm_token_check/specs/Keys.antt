@@ -5,9 +5,9 @@ use Rattle.std.specs.BTreeMap.{is_at}
 use Rattle.std.specs.BTreeSet.{insert_key}
 use Rattle.std.specs.List.{list_any}
 use Rattle.std.specs.Map.{lookup}
-use Rattle.lalrpop_norm_names.specs.declared.names.Span.{Span}
-use Rattle.lalrpop_norm_names.specs.declared.names.TerminalLiteral.{TerminalLiteral}
-use Rattle.lalrpop_norm_names.specs.declared.names.TerminalString.{TerminalString}
+use Rattle.lalrpop_norm_tree_names.specs.declared.names.Span.{Span}
+use Rattle.lalrpop_norm_tree_names.specs.declared.names.TerminalLiteral.{TerminalLiteral}
+use Rattle.lalrpop_norm_tree_names.specs.declared.names.TerminalString.{TerminalString}
 use Rattle.lalrpop_norm_model.specs.Terminals.{literal_cmp, terminal_cmp}
 
 -- whether a key is equal to one of the list

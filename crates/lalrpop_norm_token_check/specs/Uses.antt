@@ -1,7 +1,7 @@
 -- The terminals used, each where it stands, item by item.
 use Rattle.std.specs.Prelude.{List, flat_map}
-use Rattle.lalrpop_norm_names.specs.declared.names.Span.{Span}
-use Rattle.lalrpop_norm_names.specs.declared.names.TerminalString.{TerminalString}
+use Rattle.lalrpop_norm_tree_names.specs.declared.names.Span.{Span}
+use Rattle.lalrpop_norm_tree_names.specs.declared.names.TerminalString.{TerminalString}
 use Rattle.lalrpop_norm_tree.specs.Items.{AlternativeData, RuleData, ItemData}
 use Rattle.lalrpop_norm_model.specs.PlainRules.{rule_of_item}
 use Rattle.lalrpop_norm_model.specs.TokenFaults.{places_in_parts}

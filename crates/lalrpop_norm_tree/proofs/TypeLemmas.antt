@@ -3,7 +3,7 @@ use Rattle.std.proofs.Common.{◌≡◌, ◌||◌, List, [], ◌∷◌, map, ref
 use Rattle.std.specs.List.{list_any}
 use Rattle.lalrpop_norm_tree.specs.declared.types.TypeRef.{TypeRef}
 use Rattle.lalrpop_norm_tree.specs.LoweredTypes.{holds_symbol, any_holds_symbol, repr_of, all_reprs_of}
-use Rattle.lalrpop_norm_parts.specs.Reprs.{reprs_of, repr_and}
+use Rattle.lalrpop_norm_tree_parts.specs.Reprs.{reprs_of, repr_and}
 use Rattle.lalrpop_norm_tree.specs.Types.{type_view, types_view}
 
 -- a symbol stands in one of the types

@@ -6,10 +6,10 @@ use Rattle.lalrpop_norm_tree.specs.declared.types.TypeRef.TheOpen.{TypeRef-F}
 use Rattle.lalrpop_norm_tree.specs.declared.types.TypeRef.TheFolds.{fold-roll-TypeRef}
 use Rattle.lalrpop_norm_tree.specs.declared.types.TypeRef.TheViews.{rolls-Slice, rolls-Ref, rolls-TraitObject, rolls-Fn}
 use Rattle.lalrpop_norm_tree.specs.Types.{TypeData, slice, reference, trait_object, function, maybe_of, type_step, type_view, types_view}
-use Rattle.lalrpop_norm_names.specs.declared.names.Lifetime.{Lifetime}
-use Rattle.lalrpop_norm_names.specs.declared.names.TypeParameter.{TypeParameter}
-use Rattle.lalrpop_norm_parts.specs.declared.path.Path.{Path}
-use Rattle.lalrpop_norm_parts.specs.Paths.{path_view}
+use Rattle.lalrpop_norm_tree_names.specs.declared.names.Lifetime.{Lifetime}
+use Rattle.lalrpop_norm_tree_names.specs.declared.names.TypeParameter.{TypeParameter}
+use Rattle.lalrpop_norm_tree_parts.specs.declared.path.Path.{Path}
+use Rattle.lalrpop_norm_tree_parts.specs.Paths.{path_view}
 use Rattle.lalrpop_norm_tree.specs.WrittenTypeTexts.{type_text, type_texts}
 
 pub texts_of_types : (ts : List TypeRef) → map (λ t. type_text (type_view t)) ts ≡ type_texts (types_view ts)

@@ -3,7 +3,7 @@ use Rattle.std.specs.Prelude.{ℕ, Bool, true, false, nat_lt, List, [], ◌∷�
 use Rattle.std.specs.Prelude.{if◌then◌else◌, bytes_eq}
 use Rattle.lalrpop_norm_tree.specs.declared.items.MatchItem.{MatchItem}
 use Rattle.lalrpop_norm_tree.specs.declared.items.MatchItem.TheVariants.{CatchAll, Unmapped, Mapped}
-use Rattle.lalrpop_norm_names.specs.declared.names.Span.{Span}
+use Rattle.lalrpop_norm_tree_names.specs.declared.names.Span.{Span}
 use Rattle.lalrpop_norm_tree.specs.Items.{ItemData, match_item, extern_item, intern_item, rule_item, RuleData, MatchTokenData}
 use Rattle.lalrpop_norm_tree.specs.Items.{ExternTokenData, InternTokenData, EnumTokenData, AssociatedTypeData, VisibilityData}
 use Rattle.lalrpop_norm_tree.specs.Items.{everywhere, within, private}

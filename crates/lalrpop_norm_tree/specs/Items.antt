@@ -1,9 +1,9 @@
 -- Items and grammars as plain data: no pointer, no capacity.
 use Rattle.std.specs.Prelude.{ℕ, List, Option, map, option_map, string_bytes}
-use Rattle.lalrpop_norm_names.specs.declared.names.Span.{Span}
-use Rattle.lalrpop_norm_names.specs.declared.names.NonterminalString.{NonterminalString}
-use Rattle.lalrpop_norm_names.specs.declared.names.TerminalString.{TerminalString}
-use Rattle.lalrpop_norm_names.specs.declared.names.TypeParameter.{TypeParameter}
+use Rattle.lalrpop_norm_tree_names.specs.declared.names.Span.{Span}
+use Rattle.lalrpop_norm_tree_names.specs.declared.names.NonterminalString.{NonterminalString}
+use Rattle.lalrpop_norm_tree_names.specs.declared.names.TerminalString.{TerminalString}
+use Rattle.lalrpop_norm_tree_names.specs.declared.names.TypeParameter.{TypeParameter}
 use Rattle.lalrpop_norm_tree.specs.declared.items.ActionKind.{ActionKind}
 use Rattle.lalrpop_norm_tree.specs.declared.items.ActionKind.TheVariants as action
 use Rattle.lalrpop_norm_tree.specs.declared.items.Alternative.{Alternative}
@@ -23,10 +23,10 @@ use Rattle.lalrpop_norm_tree.specs.declared.items.MatchToken.{MatchToken}
 use Rattle.lalrpop_norm_tree.specs.declared.items.NonterminalData.{NonterminalData}
 use Rattle.lalrpop_norm_tree.specs.declared.items.Visibility.{Visibility}
 use Rattle.lalrpop_norm_tree.specs.declared.items.Visibility.TheVariants as visibility
-use Rattle.lalrpop_norm_parts.specs.Attributes.{Attributes, attributes_view}
-use Rattle.lalrpop_norm_parts.specs.Bounds.{WhereClauseData, where_clause_view}
-use Rattle.lalrpop_norm_parts.specs.Paths.{PathData, path_view}
-use Rattle.lalrpop_norm_pattern.specs.Patterns.{PatternData, pattern_view}
+use Rattle.lalrpop_norm_tree_parts.specs.Attributes.{Attributes, attributes_view}
+use Rattle.lalrpop_norm_tree_parts.specs.Bounds.{WhereClauseData, where_clause_view}
+use Rattle.lalrpop_norm_tree_parts.specs.Paths.{PathData, path_view}
+use Rattle.lalrpop_norm_tree_patterns.specs.Patterns.{PatternData, pattern_view}
 use Rattle.lalrpop_norm_tree.specs.Symbols.{Parts, expr_view}
 use Rattle.lalrpop_norm_tree.specs.Types.{TypeData, type_view, ParameterData, parameter_view}
 

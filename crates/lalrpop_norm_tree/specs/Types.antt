@@ -1,12 +1,12 @@
 -- Written types as plain data.
 use Rattle.std.specs.Prelude.{ℕ, Bool, List, [], ◌∷◌, map, Option, Some, None, option_map}
-use Rattle.lalrpop_norm_names.specs.declared.names.Lifetime.{Lifetime}
-use Rattle.lalrpop_norm_names.specs.declared.names.TypeParameter.{TypeParameter}
+use Rattle.lalrpop_norm_tree_names.specs.declared.names.Lifetime.{Lifetime}
+use Rattle.lalrpop_norm_tree_names.specs.declared.names.TypeParameter.{TypeParameter}
 use Rattle.lalrpop_norm_tree.specs.declared.types.Parameter.{Parameter}
 use Rattle.lalrpop_norm_tree.specs.declared.types.TypeRef.{TypeRef}
 use Rattle.lalrpop_norm_tree.specs.declared.types.TypeRef.TheOpen.{TypeRef-F}
 use Rattle.lalrpop_norm_tree.specs.declared.types.TypeRef.TheFolds.{fold-TypeRef}
-use Rattle.lalrpop_norm_parts.specs.Paths.{PathData, path_view}
+use Rattle.lalrpop_norm_tree_parts.specs.Paths.{PathData, path_view}
 use Rattle.lalrpop_norm_tree.specs.Symbols.{Kind, kind_view}
 
 mutual

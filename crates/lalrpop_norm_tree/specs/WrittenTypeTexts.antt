@@ -2,9 +2,9 @@
 use Rattle.std.specs.Prelude.{ℕ, List, [], ◌∷◌, ◌++◌, codes}
 use Rattle.lalrpop_norm_tree.specs.Types.{TypeData, tuple, slice, nominal, reference, trait_object, of_lifetime, id, of_symbol}
 use Rattle.lalrpop_norm_tree.specs.Types.{function, TypesData, no_types, type_and, MaybeType, no_type, returns}
-use Rattle.lalrpop_norm_names.specs.Texts.{joined}
+use Rattle.lalrpop_norm_tree_names.specs.Texts.{joined}
 use Rattle.lalrpop_norm_tree.specs.SymbolTexts.{kind_text}
-use Rattle.lalrpop_norm_parts.specs.TypeTexts.{path_text, reference_text, angled, signature_text}
+use Rattle.lalrpop_norm_tree_parts.specs.TypeTexts.{path_text, reference_text, angled, signature_text}
 
 abbrev mutual
   pub type_text : TypeData → List ℕ

@@ -13,24 +13,24 @@ pub mod parse_tree {
     };
     pub use crate::types::repr::TypeReprError;
     pub use crate::types::{Parameter, TypeRef};
-    pub use lalrpop_norm_parts::attribute::algorithm::{is_known_attribute, read_algorithm};
-    pub use lalrpop_norm_parts::attribute::{Attribute, AttributeArg};
-    pub use lalrpop_norm_parts::bound::{TypeBound, TypeBoundParameter, WhereClause};
-    pub use lalrpop_norm_parts::names::{
+    pub use lalrpop_norm_tree_parts::attribute::algorithm::{is_known_attribute, read_algorithm};
+    pub use lalrpop_norm_tree_parts::attribute::{Attribute, AttributeArg};
+    pub use lalrpop_norm_tree_parts::bound::{TypeBound, TypeBoundParameter, WhereClause};
+    pub use lalrpop_norm_tree_parts::names::{
         Lifetime, NonterminalString, Span, TerminalLiteral, TerminalString, TypeParameter,
     };
-    pub use lalrpop_norm_parts::path::Path;
+    pub use lalrpop_norm_tree_parts::path::Path;
     pub use shared_text::{Atom, NoMemory};
 }
 
 /// Patterns of conversions.
 pub mod pattern {
-    pub use lalrpop_norm_pattern::pattern::{FieldPattern, Pattern, PatternKind};
+    pub use lalrpop_norm_tree_patterns::pattern::{FieldPattern, Pattern, PatternKind};
 }
 
 /// The types of lowered grammars that stand on no table.
 pub mod repr {
-    pub use lalrpop_norm_parts::lowered::{
+    pub use lalrpop_norm_tree_parts::lowered::{
         Algorithm, LrCodeGeneration, NominalTypeRepr, TypeRepr, WhereClause,
     };
 }

@@ -9,13 +9,13 @@ mod show;
 
 use crate::symbol::ExprSymbol;
 use crate::types::{Parameter, TypeRef};
-use lalrpop_norm_parts::attribute::Attribute;
-use lalrpop_norm_parts::bound::WhereClause;
-use lalrpop_norm_parts::names::{
+use lalrpop_norm_tree_parts::attribute::Attribute;
+use lalrpop_norm_tree_parts::bound::WhereClause;
+use lalrpop_norm_tree_parts::names::{
     NonterminalString, Span, TerminalLiteral, TerminalString, TypeParameter,
 };
-use lalrpop_norm_parts::path::Path;
-use lalrpop_norm_pattern::pattern::Pattern;
+use lalrpop_norm_tree_parts::path::Path;
+use lalrpop_norm_tree_patterns::pattern::Pattern;
 use shared_text::Atom;
 use std::fmt;
 

@@ -4,8 +4,8 @@ pub(crate) mod repr;
 mod show;
 
 use crate::symbol::SymbolKind;
-use lalrpop_norm_parts::names::{Lifetime, TypeParameter};
-use lalrpop_norm_parts::path::Path;
+use lalrpop_norm_tree_parts::names::{Lifetime, TypeParameter};
+use lalrpop_norm_tree_parts::path::Path;
 use shared_text::Atom;
 
 /// A Rust type as a grammar writes it.

@@ -1,14 +1,14 @@
 -- The types that patterns choose.
 use Rattle.std.proofs.Common.{◌≡◌, List, [], ◌∷◌, ◌++◌, map, Bor, Result, Ok, Err, IfOk, Vec, Global, refl, sym, ap, ap₂, ◌∙◌}
 use Rattle.shared_text.specs.declared.atom.NoMemory.{NoMemory}
-use Rattle.lalrpop_norm_parts.specs.declared.lowered.TypeRepr.{TypeRepr}
-use Rattle.lalrpop_norm_parts.specs.Reprs.{repr_view}
+use Rattle.lalrpop_norm_tree_parts.specs.declared.lowered.TypeRepr.{TypeRepr}
+use Rattle.lalrpop_norm_tree_parts.specs.Reprs.{repr_view}
 use Rattle.std.proofs.lemmas.List.{map-append}
-use Rattle.lalrpop_norm_parts.proofs.KnownTextLemmas.{map_twice}
-use Rattle.lalrpop_norm_pattern.specs.declared.pattern.Pattern.{Pattern}
-use Rattle.lalrpop_norm_pattern.specs.MappedPatterns.{mapped_kind, mapped_pattern, mapped_patterns, mapped_fields, chosen_in_kind, chosen_in_pattern, chosen_in_all, chosen_in_fields}
-use Rattle.lalrpop_norm_pattern.specs.Patterns.{PatternKindData, enumerated, structured, path, tuple, tuple_struct, number, underscore, dot_dot, chosen, character, text, PatternData, pattern_at, Patterns, no_patterns, pattern_and, Fields, no_fields, field_and, pattern_view}
-use Rattle.lalrpop_norm_pattern.proofs.PatternViews.{view_mapped}
+use Rattle.lalrpop_norm_tree_parts.proofs.KnownTextLemmas.{map_twice}
+use Rattle.lalrpop_norm_tree_patterns.specs.declared.pattern.Pattern.{Pattern}
+use Rattle.lalrpop_norm_tree_patterns.specs.MappedPatterns.{mapped_kind, mapped_pattern, mapped_patterns, mapped_fields, chosen_in_kind, chosen_in_pattern, chosen_in_all, chosen_in_fields}
+use Rattle.lalrpop_norm_tree_patterns.specs.Patterns.{PatternKindData, enumerated, structured, path, tuple, tuple_struct, number, underscore, dot_dot, chosen, character, text, PatternData, pattern_at, Patterns, no_patterns, pattern_and, Fields, no_fields, field_and, pattern_view}
+use Rattle.lalrpop_norm_tree_patterns.proofs.PatternViews.{view_mapped}
 use Rattle.lalrpop_norm_tree.specs.declared.types.TypeRef.{TypeRef}
 use Rattle.lalrpop_norm_tree.specs.LoweredTypes.{repr_of}
 use Rattle.lalrpop_norm_tree.specs.Types.{type_view}

@@ -3,14 +3,14 @@ use crate::asks::push_no_feature;
 use crate::call::{Call, Last, Pass, call_of};
 use crate::cuts::{push_cut_faults, push_cut_reads, push_cut_writes};
 use crate::outcome::{Form, push_outcome};
+use crate::readings::parts::push_parts;
+use crate::readings::twice::{push_beginnings, push_read_twice};
 use crate::runs::push_run;
 use crate::scripted::scripted_session;
 use lalrpop_norm::normalize::Session;
 use lalrpop_norm_lexer::lexer::Lexer;
-use lnorm_readings::parts::push_parts;
-use lnorm_readings::twice::{push_beginnings, push_read_twice};
 use lnorm_run::words::{WordsError, session_of};
-use lnorm_values::values::push_values;
+use lnorm_texts::values::push_values;
 use shared_text::NoMemory;
 use std::alloc::{AllocError, Global};
 

@@ -6,12 +6,12 @@ use lalrpop_norm::normalize::norm_util::{
     AlternativeAction, Presence, Symbols, analyze_action, check_between_braces,
 };
 use lalrpop_norm_precedence::precedence::{AlternativeLevel, Assoc, has_prec_attr, read_levels};
-use lalrpop_norm_print::symbols::{push_span, push_span_line, push_terminal};
 use lalrpop_norm_tree::grammar::parse_tree::{
     ActionKind, Alternative, ArgPattern, AssociatedType, Attribute, AttributeArg, Conversion,
     EnumToken, ExternToken, Grammar, GrammarItem, NoMemory, NonterminalData, Span, Symbol, TypeRef,
 };
-use lnorm_values::made::{atom, both, list_of_one, made_of, push_shown, string};
+use lnorm_texts::made::{atom, both, list_of_one, made_of, push_shown, string};
+use lnorm_texts::print::symbols::{push_span, push_span_line, push_terminal};
 use std::alloc::{AllocError, Global};
 use std::collections::BTreeSet;
 use std::slice;

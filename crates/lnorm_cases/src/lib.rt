@@ -1,5 +1,5 @@
 //! What the lines of a script ask for: `NAME CALL WORD..` is a call on the tree of that name, and `push_answer` answers it.
-//! docs/CASES.md has the calls, and what each one prints.
+//! docs/work/CASES.md has the calls, and what each one prints.
 #![tactic(auto)]
 
 pub mod answer;
@@ -8,7 +8,9 @@ mod call;
 mod cuts;
 mod outcome;
 mod passes;
+pub mod readings;
 mod runs;
 pub mod script;
 mod scripted;
+pub mod scripted_lexer;
 mod shown;

@@ -8,14 +8,14 @@ use lalrpop_norm::normalize::lower::is_typed;
 use lalrpop_norm::normalize::{NormFailure, Session};
 use lalrpop_norm_json::{TreeError, read_tree};
 use lalrpop_norm_lexer::lexer::Lexer;
-use lalrpop_norm_print::lowered::{push_lowered, push_whole_lowered};
-use lalrpop_norm_print::tables::{push_types, push_whole_types};
-use lalrpop_norm_print::trees::{push_tree, push_whole_tree};
 use lalrpop_norm_repr::grammar::repr::Types;
 use lalrpop_norm_tree::grammar::parse_tree::Grammar;
-use lnorm_values::faults::push_told;
-use lnorm_values::lowered::push_lowered_copy;
-use lnorm_values::texts::push_texts;
+use lnorm_texts::faults::push_told;
+use lnorm_texts::lowered::push_lowered_copy;
+use lnorm_texts::print::lowered::{push_lowered, push_whole_lowered};
+use lnorm_texts::print::tables::{push_types, push_whole_types};
+use lnorm_texts::print::trees::{push_tree, push_whole_tree};
+use lnorm_texts::texts::push_texts;
 use std::alloc::{AllocError, Global};
 
 /// How an outcome is printed.

@@ -15,8 +15,8 @@ use lalrpop_norm::normalize::resolve::{check_globals, resolve};
 use lalrpop_norm::normalize::{
     NormFailure, NormResult, Session, is_expanded, normalize, token_check,
 };
-use lalrpop_norm_expand::macro_expand::expand_macros;
 use lalrpop_norm_lexer::lexer::Lexer;
+use lalrpop_norm_macro_expand::macro_expand::expand_macros;
 use lalrpop_norm_precedence::precedence::expand_levels;
 use lalrpop_norm_repr::grammar::repr::Types;
 use lalrpop_norm_tree::grammar::parse_tree::Grammar;

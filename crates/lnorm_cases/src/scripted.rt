@@ -1,11 +1,11 @@
 //! The lexer that words describe.
+use crate::scripted_lexer::{Feature, Pair, Scripted};
 use crate::shown::kept;
 use lalrpop_norm::normalize::Session;
 use lalrpop_norm_lexer::lexer::NfaConstructionError;
-use lalrpop_norm_scripted::{Feature, Pair, Scripted};
 use lalrpop_norm_tree::grammar::parse_tree::{Atom, NoMemory, TerminalLiteral};
 use lnorm_run::words::WordsError;
-use lnorm_values::made::{atom, made_of};
+use lnorm_texts::made::{atom, made_of};
 use std::alloc::Global;
 
 /// A session without features and with the limit 200, whose lexer refuses what the words name: `--bad TEXT` is no pattern, the

@@ -2,15 +2,15 @@
 use Rattle.std.specs.Prelude.{◌≡◌, ℕ, List, Some, true, IsUtf8}
 use Rattle.serde_json.specs.Data.{Data}
 use Rattle.serde_json.specs.Read.{read}
-use Rattle.lalrpop_norm_names.specs.declared.names.Span.{Span}
+use Rattle.lalrpop_norm_tree_names.specs.declared.names.Span.{Span}
 use Rattle.lalrpop_norm_tree.specs.Items.{GrammarData}
 use Rattle.lalrpop_norm_faults.specs.declared.kind.FaultKind.{FaultKind}
 use Rattle.lalrpop_norm_faults.specs.Faults.{Fault, Finding, StandsAmong, MayBeTold}
 use Rattle.lalrpop_norm_model.specs.LexerFaults.{LexerPlace}
 use Rattle.lalrpop_norm_lexer.specs.CheckOnly.{of_regex}
 use Rattle.lalrpop_norm_json.specs.ItemForms.{grammar_form}
-use Rattle.lalrpop_norm_shapes.specs.Shapes as shape
-use Rattle.lalrpop_norm_shapes.specs.Shapes.{is}
+use Rattle.lalrpop_norm_json_shapes.specs.Shapes as shape
+use Rattle.lalrpop_norm_json_shapes.specs.Shapes.{is}
 use Rattle.lnorm_run.specs.Settings.{Settings}
 use Rattle.lalrpop_norm.specs.Faithful.{IsFaithful}
 use Rattle.lalrpop_norm.specs.Normalize.{normalize_findings, StandsThere, IsNormalized}

@@ -1,7 +1,7 @@
 -- What is read and written as a whole, and the lines that tell of a failed run.
 use Rattle.std.specs.Prelude.{◌≤◌, ℕ, List, ◌++◌, Option, length, take, codes, decimal}
 use Rattle.std.specs.Io.KnownBytes.{Appends, Consumes, IsAtEnd}
-use Rattle.lalrpop_norm_names.specs.declared.names.Span.{Span}
+use Rattle.lalrpop_norm_tree_names.specs.declared.names.Span.{Span}
 use Rattle.lalrpop_norm_faults.specs.declared.kind.FaultKind.{FaultKind}
 use Rattle.lalrpop_norm_faults.specs.Faults.{code_of}
 

@@ -2,21 +2,21 @@
 ghost use Rattle.std.specs.Prelude.{◌≡◌, IfOk, IsErrOf, false};
 ghost use Rattle.serde_json.specs.Data.{array};
 ghost use Rattle.json_document.specs.View.{view};
-ghost use Rattle.lalrpop_norm_parts.specs.Attributes.{argument_view, attribute_view, attributes_view};
-ghost use Rattle.lalrpop_norm_shapes.specs.Shapes as shape;
-ghost use Rattle.lalrpop_norm_shapes.specs.Shapes.{is, fits, place, many};
+ghost use Rattle.lalrpop_norm_tree_parts.specs.Attributes.{argument_view, attribute_view, attributes_view};
+ghost use Rattle.lalrpop_norm_json_shapes.specs.Shapes as shape;
+ghost use Rattle.lalrpop_norm_json_shapes.specs.Shapes.{is, fits, place, many};
 ghost use Rattle.lalrpop_norm_json.specs.Forms.{argument_form, attribute_form, attributes_form};
 
 use super::names::{atom, span, string};
 use super::parts::pushed;
 use json_document::Value;
-use lalrpop_norm_shapes::{Case, TreeError, case_of, counted_items, three_fields};
+use lalrpop_norm_json_shapes::{Case, TreeError, case_of, counted_items, three_fields};
 use lalrpop_norm_tree::grammar::parse_tree::{Attribute, AttributeArg};
 use std::alloc::Global;
 
 /// What stands behind an attribute's name.
 #[cycle(attributes)]
-#[tactic(auto, using(lalrpop_norm_shapes::proofs::Refusals::refusals))]
+#[tactic(auto, using(lalrpop_norm_json_shapes::proofs::Refusals::refusals))]
 fn argument(alloc: Global, value: Value<'_, '_>) -> Result<AttributeArg, TreeError>
     ensures ok { IfOk result (λ g. view value.entry ≡ argument_form (argument_view g)) }
     ensures err { IsErrOf result TreeError.NotATree → is shape.attribute_argument (view value.entry) ≡ false }
@@ -35,7 +35,7 @@ fn argument(alloc: Global, value: Value<'_, '_>) -> Result<AttributeArg, TreeErr
 }
 
 #[cycle(attributes)]
-#[tactic(auto, using(lalrpop_norm_shapes::proofs::Refusals::refusals))]
+#[tactic(auto, using(lalrpop_norm_json_shapes::proofs::Refusals::refusals))]
 fn attribute(alloc: Global, value: Value<'_, '_>) -> Result<Attribute, TreeError>
     ensures ok { IfOk result (λ a. view value.entry ≡ attribute_form (attribute_view a)) }
     ensures err { IsErrOf result TreeError.NotATree → is shape.attribute (view value.entry) ≡ false }
@@ -48,7 +48,7 @@ fn attribute(alloc: Global, value: Value<'_, '_>) -> Result<Attribute, TreeError
 }
 
 #[cycle(attributes)]
-#[tactic(auto, using(lalrpop_norm_shapes::proofs::Refusals::refusals))]
+#[tactic(auto, using(lalrpop_norm_json_shapes::proofs::Refusals::refusals))]
 pub(super) fn attributes(alloc: Global, value: Value<'_, '_>) -> Result<Vec<Attribute>, TreeError>
     ensures ok { IfOk result (λ xs. view value.entry ≡ array (attributes_form (attributes_view xs.items))) }
     ensures err { IsErrOf result TreeError.NotATree → fits (place (many shape.attribute)) (view value.entry) ≡ false }

@@ -4,9 +4,9 @@ ghost use Rattle.serde_json.specs.Data.{Data};
 ghost use Rattle.json_document.specs.Parted.{all_data, with_list};
 ghost use Rattle.json_document.specs.View.{view};
 ghost use Rattle.lalrpop_norm_tree.specs.Items.{item_view, grammar_view};
-ghost use Rattle.lalrpop_norm_shapes.specs.Parts.{case_form};
-ghost use Rattle.lalrpop_norm_shapes.specs.Shapes as shape;
-ghost use Rattle.lalrpop_norm_shapes.specs.Shapes.{is, fits, place, many};
+ghost use Rattle.lalrpop_norm_json_shapes.specs.Parts.{case_form};
+ghost use Rattle.lalrpop_norm_json_shapes.specs.Shapes as shape;
+ghost use Rattle.lalrpop_norm_json_shapes.specs.Shapes.{is, fits, place, many};
 ghost use Rattle.lalrpop_norm_json.specs.ItemForms.{item_form, items_form, grammar_fields, grammar_form};
 
 use super::attributes::attributes;
@@ -15,11 +15,11 @@ use super::parts::{list, pushed};
 use super::rules::{alternative, rule, rule_of};
 use super::tokens::{extern_token, match_token};
 use json_document::{ReadItem, ReadMember, Value};
-use lalrpop_norm_shapes::{Case, TreeError, case_of, counted_items, eight_fields};
+use lalrpop_norm_json_shapes::{Case, TreeError, case_of, counted_items, eight_fields};
 use lalrpop_norm_tree::grammar::parse_tree::{Alternative, Grammar, GrammarItem};
 use std::alloc::Global;
 
-#[tactic(auto, using(lalrpop_norm_shapes::proofs::Refusals::refusals))]
+#[tactic(auto, using(lalrpop_norm_json_shapes::proofs::Refusals::refusals))]
 fn grammar_item(alloc: Global, value: Value<'_, '_>) -> Result<GrammarItem, TreeError>
     ensures ok { IfOk result (λ i. item_form (item_view i) ≡ Some (view value.entry)) }
     ensures err { IsErrOf result TreeError.NotATree → is shape.grammar_item (view value.entry) ≡ false }
@@ -27,7 +27,7 @@ fn grammar_item(alloc: Global, value: Value<'_, '_>) -> Result<GrammarItem, Tree
     item_of(alloc, case_of(value)?)
 }
 
-#[tactic(auto, using(lalrpop_norm_shapes::proofs::Refusals::refusals))]
+#[tactic(auto, using(lalrpop_norm_json_shapes::proofs::Refusals::refusals))]
 fn item_of(alloc: Global, case: Case<'_, '_>) -> Result<GrammarItem, TreeError>
     ensures ok { IfOk result (λ i. item_form (item_view i) ≡ Some (case_form case.entry)) }
     ensures err { IsErrOf result TreeError.NotATree → is shape.grammar_item (case_form case.entry) ≡ false }
@@ -44,7 +44,7 @@ fn item_of(alloc: Global, case: Case<'_, '_>) -> Result<GrammarItem, TreeError>
     }
 }
 
-#[tactic(auto, using(lalrpop_norm_shapes::proofs::Refusals::refusals))]
+#[tactic(auto, using(lalrpop_norm_json_shapes::proofs::Refusals::refusals))]
 fn grammar_items(alloc: Global, value: Value<'_, '_>) -> Result<Vec<GrammarItem>, TreeError>
     ensures ok { IfOk result (λ is. items_form (map item_view is.items) ≡ Some (view value.entry)) }
     ensures err { IsErrOf result TreeError.NotATree → fits (place (many shape.grammar_item)) (view value.entry) ≡ false }
@@ -118,7 +118,7 @@ impl ReadMember<GrammarItem, Alternative> for Items {
 }
 
 /// The grammar whose form the value is, but for its items, and the value that holds these.
-#[tactic(auto, using(lalrpop_norm_shapes::proofs::Refusals::refusals))]
+#[tactic(auto, using(lalrpop_norm_json_shapes::proofs::Refusals::refusals))]
 fn without_items<'t, 'a>(
     alloc: Global,
     value: Value<'t, 'a>,
@@ -159,7 +159,7 @@ fn without_items<'t, 'a>(
 }
 
 /// The grammar whose form the value is.
-#[tactic(auto, using(lalrpop_norm_shapes::proofs::Refusals::refusals))]
+#[tactic(auto, using(lalrpop_norm_json_shapes::proofs::Refusals::refusals))]
 pub fn grammar(alloc: Global, value: Value<'_, '_>) -> Result<Grammar, TreeError>
     ensures ok { IfOk result (λ g. grammar_form (grammar_view g) ≡ Some (view value.entry)) }
     ensures err { IsErrOf result TreeError.NotATree → is shape.grammar (view value.entry) ≡ false }

@@ -2,20 +2,20 @@
 ghost use Rattle.std.specs.Prelude.{◌≡◌, IfOk, IsErrOf, string_bytes, false};
 ghost use Rattle.serde_json.specs.Data.{string};
 ghost use Rattle.json_document.specs.View.{view};
-ghost use Rattle.lalrpop_norm_parts.specs.Paths.{path_view};
-ghost use Rattle.lalrpop_norm_shapes.specs.Shapes as shape;
-ghost use Rattle.lalrpop_norm_shapes.specs.Shapes.{is};
+ghost use Rattle.lalrpop_norm_tree_parts.specs.Paths.{path_view};
+ghost use Rattle.lalrpop_norm_json_shapes.specs.Shapes as shape;
+ghost use Rattle.lalrpop_norm_json_shapes.specs.Shapes.{is};
 ghost use Rattle.lalrpop_norm_json.specs.Forms.{span_form, literal_form, terminal_form, path_form};
 
 use super::parts::{FromValue, list};
 use json_document::Value;
-use lalrpop_norm_shapes::{Case, TreeError, case_of, natural, pair, text, truth, two_fields};
+use lalrpop_norm_json_shapes::{Case, TreeError, case_of, natural, pair, text, truth, two_fields};
 use lalrpop_norm_tree::grammar::parse_tree::{
     Atom, Lifetime, NonterminalString, Path, Span, TerminalLiteral, TerminalString, TypeParameter,
 };
 use std::alloc::Global;
 
-#[tactic(auto, using(lalrpop_norm_shapes::proofs::Refusals::no_pair, lalrpop_norm_shapes::proofs::Refusals::and_false))]
+#[tactic(auto, using(lalrpop_norm_json_shapes::proofs::Refusals::no_pair, lalrpop_norm_json_shapes::proofs::Refusals::and_false))]
 pub(super) fn span(value: Value<'_, '_>) -> Result<Span, TreeError>
     ensures ok { IfOk result (λ s. view value.entry ≡ span_form s) }
     ensures err { IsErrOf result TreeError.NotATree → is shape.span (view value.entry) ≡ false }
@@ -42,7 +42,7 @@ pub(super) fn string(alloc: Global, value: Value<'_, '_>) -> Result<String, Tree
     Ok(string)
 }
 
-#[tactic(auto, using(lalrpop_norm_shapes::proofs::Refusals::no_variant))]
+#[tactic(auto, using(lalrpop_norm_json_shapes::proofs::Refusals::no_variant))]
 pub(super) fn literal(alloc: Global, value: Value<'_, '_>) -> Result<TerminalLiteral, TreeError>
     ensures ok { IfOk result (λ l. view value.entry ≡ literal_form l) }
     ensures err { IsErrOf result TreeError.NotATree → is shape.literal (view value.entry) ≡ false }
@@ -57,7 +57,7 @@ pub(super) fn literal(alloc: Global, value: Value<'_, '_>) -> Result<TerminalLit
     }
 }
 
-#[tactic(auto, using(lalrpop_norm_shapes::proofs::Refusals::no_variant))]
+#[tactic(auto, using(lalrpop_norm_json_shapes::proofs::Refusals::no_variant))]
 pub(super) fn terminal(alloc: Global, value: Value<'_, '_>) -> Result<TerminalString, TreeError>
     ensures ok { IfOk result (λ l. view value.entry ≡ terminal_form l) }
     ensures err { IsErrOf result TreeError.NotATree → is shape.terminal (view value.entry) ≡ false }
@@ -75,7 +75,7 @@ pub(super) fn terminal(alloc: Global, value: Value<'_, '_>) -> Result<TerminalSt
     }
 }
 
-#[tactic(auto, using(lalrpop_norm_shapes::proofs::Refusals::refusals))]
+#[tactic(auto, using(lalrpop_norm_json_shapes::proofs::Refusals::refusals))]
 pub(super) fn path(alloc: Global, value: Value<'_, '_>) -> Result<Path, TreeError>
     ensures ok { IfOk result (λ p. view value.entry ≡ path_form (path_view p)) }
     ensures err { IsErrOf result TreeError.NotATree → is shape.path (view value.entry) ≡ false }
@@ -88,7 +88,7 @@ pub(super) fn path(alloc: Global, value: Value<'_, '_>) -> Result<Path, TreeErro
 
 impl FromValue for Atom {
     ghost use Rattle.serde_json.specs.Data.{string};
-    ghost use Rattle.lalrpop_norm_shapes.specs.Shapes.{text};
+    ghost use Rattle.lalrpop_norm_json_shapes.specs.Shapes.{text};
 
     ghost form = { string };
 
@@ -102,7 +102,7 @@ impl FromValue for Atom {
 impl FromValue for String {
     ghost use Rattle.std.specs.Prelude.{string_bytes};
     ghost use Rattle.serde_json.specs.Data.{string};
-    ghost use Rattle.lalrpop_norm_shapes.specs.Shapes.{text};
+    ghost use Rattle.lalrpop_norm_json_shapes.specs.Shapes.{text};
 
     ghost form = { λ s. string (string_bytes s) };
 
@@ -115,7 +115,7 @@ impl FromValue for String {
 
 impl FromValue for NonterminalString {
     ghost use Rattle.lalrpop_norm_json.specs.Forms.{nonterminal_form};
-    ghost use Rattle.lalrpop_norm_shapes.specs.Shapes.{text};
+    ghost use Rattle.lalrpop_norm_json_shapes.specs.Shapes.{text};
 
     ghost form = { nonterminal_form };
 
@@ -128,7 +128,7 @@ impl FromValue for NonterminalString {
 
 impl FromValue for Lifetime {
     ghost use Rattle.lalrpop_norm_json.specs.Forms.{lifetime_form};
-    ghost use Rattle.lalrpop_norm_shapes.specs.Shapes.{text};
+    ghost use Rattle.lalrpop_norm_json_shapes.specs.Shapes.{text};
 
     ghost form = { lifetime_form };
 
@@ -141,13 +141,13 @@ impl FromValue for Lifetime {
 
 impl FromValue for TypeParameter {
     ghost use Rattle.lalrpop_norm_json.specs.Forms.{type_parameter_form};
-    ghost use Rattle.lalrpop_norm_shapes.specs.Shapes.{type_parameter};
+    ghost use Rattle.lalrpop_norm_json_shapes.specs.Shapes.{type_parameter};
 
     ghost form = { type_parameter_form };
 
     ghost named = { type_parameter };
 
-    #[tactic(auto, using(lalrpop_norm_shapes::proofs::Refusals::refusals))]
+    #[tactic(auto, using(lalrpop_norm_json_shapes::proofs::Refusals::refusals))]
     fn from_value(alloc: Global, value: Value<'_, '_>) -> Result<TypeParameter, TreeError> {
         match case_of(value)? {
             Case::Bare(_) => Err(TreeError::NotATree),
@@ -161,9 +161,9 @@ impl FromValue for TypeParameter {
 }
 
 impl FromValue for Path {
-    ghost use Rattle.lalrpop_norm_parts.specs.Paths.{path_view};
+    ghost use Rattle.lalrpop_norm_tree_parts.specs.Paths.{path_view};
     ghost use Rattle.lalrpop_norm_json.specs.Forms.{path_form};
-    ghost use Rattle.lalrpop_norm_shapes.specs.Shapes as shape;
+    ghost use Rattle.lalrpop_norm_json_shapes.specs.Shapes as shape;
 
     ghost form = { λ p. path_form (path_view p) };
 

@@ -2,11 +2,11 @@
 ghost use Rattle.std.specs.Prelude.{◌≡◌, [], ◌∷◌, ◌++◌, Ok, IfOk, IsErrOf, false};
 ghost use Rattle.serde_json.specs.Data.{Data};
 ghost use Rattle.json_document.specs.View.{view};
-ghost use Rattle.lalrpop_norm_shapes.specs.Shapes.{ShapeName, is, fits, place, many, maybe};
+ghost use Rattle.lalrpop_norm_json_shapes.specs.Shapes.{ShapeName, is, fits, place, many, maybe};
 ghost use Rattle.lalrpop_norm_json.specs.Json.{list_form, maybe_form};
 
 use json_document::Value;
-use lalrpop_norm_shapes::{TreeError, counted_items, present};
+use lalrpop_norm_json_shapes::{TreeError, counted_items, present};
 use std::alloc::Global;
 
 /// What is read from its JSON form.
@@ -22,7 +22,7 @@ pub(super) trait FromValue: Sized {
 }
 
 /// Null, or what is there.
-#[tactic(auto, using(lalrpop_norm_shapes::proofs::Refusals::refusals))]
+#[tactic(auto, using(lalrpop_norm_json_shapes::proofs::Refusals::refusals))]
 pub(super) fn maybe<T: FromValue>(
     alloc: Global,
     value: Value<'_, '_>,
@@ -49,7 +49,7 @@ pub(super) fn pushed<T: Drop>(
 }
 
 /// An array of values of one type.
-#[tactic(auto, using(lalrpop_norm_shapes::proofs::Refusals::refusals))]
+#[tactic(auto, using(lalrpop_norm_json_shapes::proofs::Refusals::refusals))]
 pub(super) fn list<T: FromValue + Drop>(
     alloc: Global,
     value: Value<'_, '_>,

@@ -3,10 +3,10 @@ ghost use Rattle.std.specs.Prelude.{◌≡◌, [], ◌∷◌, codes, IfOk, IsErr
 ghost use Rattle.serde_json.specs.Data.{array};
 ghost use Rattle.json_document.specs.View.{view};
 ghost use Rattle.lalrpop_norm_tree.specs.Types.{type_view};
-ghost use Rattle.lalrpop_norm_parts.specs.Paths.{path_view};
-ghost use Rattle.lalrpop_norm_pattern.specs.Patterns.{pattern_kind_view, pattern_view, patterns_view, field_view, fields_view};
-ghost use Rattle.lalrpop_norm_shapes.specs.Shapes as shape;
-ghost use Rattle.lalrpop_norm_shapes.specs.Shapes.{is, fits, place, one, many, arrayed, row};
+ghost use Rattle.lalrpop_norm_tree_parts.specs.Paths.{path_view};
+ghost use Rattle.lalrpop_norm_tree_patterns.specs.Patterns.{pattern_kind_view, pattern_view, patterns_view, field_view, fields_view};
+ghost use Rattle.lalrpop_norm_json_shapes.specs.Shapes as shape;
+ghost use Rattle.lalrpop_norm_json_shapes.specs.Shapes.{is, fits, place, one, many, arrayed, row};
 ghost use Rattle.lalrpop_norm_json.specs.Json as json;
 ghost use Rattle.lalrpop_norm_json.specs.Json.{variant};
 ghost use Rattle.lalrpop_norm_json.specs.Forms.{path_form};
@@ -16,7 +16,7 @@ use super::names::{atom, path, span, string};
 use super::parts::pushed;
 use super::types::type_ref;
 use json_document::Value;
-use lalrpop_norm_shapes::{
+use lalrpop_norm_json_shapes::{
     Case, TreeError, case_of, counted_items, natural, pair, three_fields, triple, truth, two_fields,
 };
 use lalrpop_norm_tree::grammar::parse_tree::{Path, TypeRef};
@@ -24,7 +24,7 @@ use lalrpop_norm_tree::grammar::pattern::{FieldPattern, Pattern, PatternKind};
 use std::alloc::Global;
 
 #[cycle(pattern)]
-#[tactic(auto, using(lalrpop_norm_shapes::proofs::Refusals::refusals))]
+#[tactic(auto, using(lalrpop_norm_json_shapes::proofs::Refusals::refusals))]
 fn pattern_kind(alloc: Global, value: Value<'_, '_>) -> Result<PatternKind<TypeRef>, TreeError>
     ensures ok { IfOk result (λ k. view value.entry ≡ pattern_kind_form (pattern_kind_view type_view k)) }
     ensures err { IsErrOf result TreeError.NotATree → is shape.pattern_kind (view value.entry) ≡ false }
@@ -58,7 +58,7 @@ fn pattern_kind(alloc: Global, value: Value<'_, '_>) -> Result<PatternKind<TypeR
 
 /// What the patterns of an enum and of a tuple struct hold.
 #[cycle(pattern)]
-#[tactic(auto, using(lalrpop_norm_shapes::proofs::Refusals::refusals))]
+#[tactic(auto, using(lalrpop_norm_json_shapes::proofs::Refusals::refusals))]
 fn path_and_patterns(
     alloc: Global,
     value: Value<'_, '_>,
@@ -76,7 +76,7 @@ fn path_and_patterns(
 
 /// The pattern of a struct with this path, these fields and that rest.
 #[cycle(pattern)]
-#[tactic(auto, using(lalrpop_norm_shapes::proofs::Refusals::refusals))]
+#[tactic(auto, using(lalrpop_norm_json_shapes::proofs::Refusals::refusals))]
 fn structured(alloc: Global, value: Value<'_, '_>) -> Result<PatternKind<TypeRef>, TreeError>
     ensures ok { IfOk result (λ k. variant (codes "Struct") (view value.entry) ≡ pattern_kind_form (pattern_kind_view type_view k)) }
     ensures err { IsErrOf result TreeError.NotATree → is shape.pattern_kind (variant (codes "Struct") (view value.entry)) ≡ false }
@@ -89,7 +89,7 @@ fn structured(alloc: Global, value: Value<'_, '_>) -> Result<PatternKind<TypeRef
 }
 
 #[cycle(pattern)]
-#[tactic(auto, using(lalrpop_norm_shapes::proofs::Refusals::refusals))]
+#[tactic(auto, using(lalrpop_norm_json_shapes::proofs::Refusals::refusals))]
 fn field_pattern(alloc: Global, value: Value<'_, '_>) -> Result<FieldPattern<TypeRef>, TreeError>
     ensures ok { IfOk result (λ f. view value.entry ≡ field_form (field_view type_view f)) }
     ensures err { IsErrOf result TreeError.NotATree → is shape.field_pattern (view value.entry) ≡ false }
@@ -106,7 +106,7 @@ fn field_pattern(alloc: Global, value: Value<'_, '_>) -> Result<FieldPattern<Typ
 }
 
 #[cycle(pattern)]
-#[tactic(auto, using(lalrpop_norm_shapes::proofs::Refusals::refusals))]
+#[tactic(auto, using(lalrpop_norm_json_shapes::proofs::Refusals::refusals))]
 fn field_patterns(
     alloc: Global,
     value: Value<'_, '_>,
@@ -123,7 +123,7 @@ fn field_patterns(
 }
 
 #[cycle(pattern)]
-#[tactic(auto, using(lalrpop_norm_shapes::proofs::Refusals::refusals))]
+#[tactic(auto, using(lalrpop_norm_json_shapes::proofs::Refusals::refusals))]
 pub(super) fn pattern(alloc: Global, value: Value<'_, '_>) -> Result<Pattern<TypeRef>, TreeError>
     ensures ok { IfOk result (λ p. view value.entry ≡ pattern_form (pattern_view type_view p)) }
     ensures err { IsErrOf result TreeError.NotATree → is shape.pattern (view value.entry) ≡ false }
@@ -135,7 +135,7 @@ pub(super) fn pattern(alloc: Global, value: Value<'_, '_>) -> Result<Pattern<Typ
 }
 
 #[cycle(pattern)]
-#[tactic(auto, using(lalrpop_norm_shapes::proofs::Refusals::refusals))]
+#[tactic(auto, using(lalrpop_norm_json_shapes::proofs::Refusals::refusals))]
 fn patterns(alloc: Global, value: Value<'_, '_>) -> Result<Vec<Pattern<TypeRef>>, TreeError>
     ensures ok { IfOk result (λ ps. view value.entry ≡ array (patterns_form (patterns_view type_view ps.items))) }
     ensures err { IsErrOf result TreeError.NotATree → fits (place (many shape.pattern)) (view value.entry) ≡ false }

@@ -4,8 +4,8 @@ ghost use Rattle.serde_json.specs.Data.{Data};
 ghost use Rattle.json_document.specs.Parted.{all_data, with_list};
 ghost use Rattle.json_document.specs.View.{view};
 ghost use Rattle.lalrpop_norm_tree.specs.Items.{alternative_view, rule_view, visibility_view};
-ghost use Rattle.lalrpop_norm_shapes.specs.Shapes as shape;
-ghost use Rattle.lalrpop_norm_shapes.specs.Shapes.{is};
+ghost use Rattle.lalrpop_norm_json_shapes.specs.Shapes as shape;
+ghost use Rattle.lalrpop_norm_json_shapes.specs.Shapes.{is};
 ghost use Rattle.lalrpop_norm_json.specs.ItemForms.{alternative_form, condition_op_form, rule_fields, rule_form, visibility_form};
 
 use super::attributes::attributes;
@@ -13,7 +13,7 @@ use super::names::{atom, path, span, string};
 use super::parts::{FromValue, list, maybe};
 use super::symbols::group;
 use json_document::Value;
-use lalrpop_norm_shapes::{Case, TreeError, case_of, five_fields, four_fields, seven_fields};
+use lalrpop_norm_json_shapes::{Case, TreeError, case_of, five_fields, four_fields, seven_fields};
 use lalrpop_norm_tree::grammar::parse_tree::{
     ActionKind, Alternative, Condition, ConditionOp, NonterminalData, NonterminalString, Visibility,
 };
@@ -22,13 +22,13 @@ use std::alloc::Global;
 impl FromValue for ActionKind {
     ghost use Rattle.lalrpop_norm_tree.specs.Items.{action_view};
     ghost use Rattle.lalrpop_norm_json.specs.ItemForms.{action_form};
-    ghost use Rattle.lalrpop_norm_shapes.specs.Shapes as shape;
+    ghost use Rattle.lalrpop_norm_json_shapes.specs.Shapes as shape;
 
     ghost form = { λ a. action_form (action_view a) };
 
     ghost named = { shape.action };
 
-    #[tactic(auto, using(lalrpop_norm_shapes::proofs::Refusals::refusals))]
+    #[tactic(auto, using(lalrpop_norm_json_shapes::proofs::Refusals::refusals))]
     fn from_value(alloc: Global, value: Value<'_, '_>) -> Result<ActionKind, TreeError> {
         match case_of(value)? {
             Case::Bare(variant) => match variant {
@@ -45,7 +45,7 @@ impl FromValue for ActionKind {
     }
 }
 
-#[tactic(auto, using(lalrpop_norm_shapes::proofs::Refusals::refusals))]
+#[tactic(auto, using(lalrpop_norm_json_shapes::proofs::Refusals::refusals))]
 fn condition_op(value: Value<'_, '_>) -> Result<ConditionOp, TreeError>
     ensures ok { IfOk result (λ o. view value.entry ≡ condition_op_form o) }
     ensures err { IsErrOf result TreeError.NotATree → is shape.condition_operator (view value.entry) ≡ false }
@@ -64,13 +64,13 @@ fn condition_op(value: Value<'_, '_>) -> Result<ConditionOp, TreeError>
 
 impl FromValue for Condition {
     ghost use Rattle.lalrpop_norm_json.specs.ItemForms.{condition_form};
-    ghost use Rattle.lalrpop_norm_shapes.specs.Shapes as shape;
+    ghost use Rattle.lalrpop_norm_json_shapes.specs.Shapes as shape;
 
     ghost form = { condition_form };
 
     ghost named = { shape.condition };
 
-    #[tactic(auto, using(lalrpop_norm_shapes::proofs::Refusals::refusals))]
+    #[tactic(auto, using(lalrpop_norm_json_shapes::proofs::Refusals::refusals))]
     fn from_value(alloc: Global, value: Value<'_, '_>) -> Result<Condition, TreeError> {
         let (lhs, op, rhs, at) = four_fields(value, "lhs", "op", "rhs", "span")?;
         let span = span(at)?;
@@ -81,7 +81,7 @@ impl FromValue for Condition {
     }
 }
 
-#[tactic(auto, using(lalrpop_norm_shapes::proofs::Refusals::refusals))]
+#[tactic(auto, using(lalrpop_norm_json_shapes::proofs::Refusals::refusals))]
 pub(super) fn alternative(alloc: Global, value: Value<'_, '_>) -> Result<Alternative, TreeError>
     ensures ok { IfOk result (λ a. view value.entry ≡ alternative_form (alternative_view a)) }
     ensures err { IsErrOf result TreeError.NotATree → is shape.alternative (view value.entry) ≡ false }
@@ -111,7 +111,7 @@ pub(super) fn alternative(alloc: Global, value: Value<'_, '_>) -> Result<Alterna
 impl FromValue for Alternative {
     ghost use Rattle.lalrpop_norm_tree.specs.Items.{alternative_view};
     ghost use Rattle.lalrpop_norm_json.specs.ItemForms.{alternative_form};
-    ghost use Rattle.lalrpop_norm_shapes.specs.Shapes as shape;
+    ghost use Rattle.lalrpop_norm_json_shapes.specs.Shapes as shape;
 
     ghost form = { λ a. alternative_form (alternative_view a) };
 
@@ -122,7 +122,7 @@ impl FromValue for Alternative {
     }
 }
 
-#[tactic(auto, using(lalrpop_norm_shapes::proofs::Refusals::refusals, crate::proofs::FormLemmas::maybe_seen))]
+#[tactic(auto, using(lalrpop_norm_json_shapes::proofs::Refusals::refusals, crate::proofs::FormLemmas::maybe_seen))]
 fn visibility(alloc: Global, value: Value<'_, '_>) -> Result<Visibility, TreeError>
     ensures ok { IfOk result (λ v. view value.entry ≡ visibility_form (visibility_view v)) }
     ensures err { IsErrOf result TreeError.NotATree → is shape.visibility (view value.entry) ≡ false }
@@ -141,7 +141,7 @@ fn visibility(alloc: Global, value: Value<'_, '_>) -> Result<Visibility, TreeErr
 }
 
 /// The rule whose form the value is, but for its alternatives, and the value that holds these.
-#[tactic(auto, using(lalrpop_norm_shapes::proofs::Refusals::refusals))]
+#[tactic(auto, using(lalrpop_norm_json_shapes::proofs::Refusals::refusals))]
 fn without_alternatives<'t, 'a>(
     alloc: Global,
     value: Value<'t, 'a>,
@@ -177,7 +177,7 @@ fn without_alternatives<'t, 'a>(
     Ok((rule, held))
 }
 
-#[tactic(auto, using(lalrpop_norm_shapes::proofs::Refusals::refusals))]
+#[tactic(auto, using(lalrpop_norm_json_shapes::proofs::Refusals::refusals))]
 pub(super) fn rule(alloc: Global, value: Value<'_, '_>) -> Result<NonterminalData, TreeError>
     ensures ok { IfOk result (λ n. view value.entry ≡ rule_form (rule_view n)) }
     ensures err { IsErrOf result TreeError.NotATree → is shape.rule (view value.entry) ≡ false }

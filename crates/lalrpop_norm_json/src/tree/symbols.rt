@@ -3,14 +3,14 @@ ghost use Rattle.std.specs.Prelude.{◌≡◌, codes, IfOk, IsErrOf, false};
 ghost use Rattle.serde_json.specs.Data.{array};
 ghost use Rattle.json_document.specs.View.{view};
 ghost use Rattle.lalrpop_norm_tree.specs.Symbols.{kind_view, symbol_view, expr_view, parts_view, argument_pattern_view, argument_patterns_view, tuple_view};
-ghost use Rattle.lalrpop_norm_shapes.specs.Shapes as shape;
-ghost use Rattle.lalrpop_norm_shapes.specs.Shapes.{is, fits, place, many};
+ghost use Rattle.lalrpop_norm_json_shapes.specs.Shapes as shape;
+ghost use Rattle.lalrpop_norm_json_shapes.specs.Shapes.{is, fits, place, many};
 ghost use Rattle.lalrpop_norm_json.specs.Json.{variant};
 ghost use Rattle.lalrpop_norm_json.specs.SymbolForms.{op_form, name_form, argument_pattern_form, argument_patterns_form, tuple_form, kind_form, part_form, parts_form, group_form};
 
 use super::names::{atom, span, terminal};
 use json_document::Value;
-use lalrpop_norm_shapes::{
+use lalrpop_norm_json_shapes::{
     Case, TreeError, case_of, counted_items, only_field, pair, truth, two_fields,
 };
 use lalrpop_norm_tree::grammar::parse_tree::{
@@ -19,7 +19,7 @@ use lalrpop_norm_tree::grammar::parse_tree::{
 };
 use std::alloc::Global;
 
-#[tactic(auto, using(lalrpop_norm_shapes::proofs::Refusals::refusals))]
+#[tactic(auto, using(lalrpop_norm_json_shapes::proofs::Refusals::refusals))]
 fn repeat_op(value: Value<'_, '_>) -> Result<RepeatOp, TreeError>
     ensures ok { IfOk result (λ o. view value.entry ≡ op_form o) }
     ensures err { IsErrOf result TreeError.NotATree → is shape.repeat_operator (view value.entry) ≡ false }
@@ -35,7 +35,7 @@ fn repeat_op(value: Value<'_, '_>) -> Result<RepeatOp, TreeError>
     }
 }
 
-#[tactic(auto, using(lalrpop_norm_shapes::proofs::Refusals::refusals))]
+#[tactic(auto, using(lalrpop_norm_json_shapes::proofs::Refusals::refusals))]
 fn name(alloc: Global, value: Value<'_, '_>) -> Result<Name, TreeError>
     ensures ok { IfOk result (λ n. view value.entry ≡ name_form n) }
     ensures err { IsErrOf result TreeError.NotATree → is shape.symbol_name (view value.entry) ≡ false }
@@ -47,7 +47,7 @@ fn name(alloc: Global, value: Value<'_, '_>) -> Result<Name, TreeError>
 }
 
 #[cycle(tuple)]
-#[tactic(auto, using(lalrpop_norm_shapes::proofs::Refusals::refusals))]
+#[tactic(auto, using(lalrpop_norm_json_shapes::proofs::Refusals::refusals))]
 fn argument_pattern(alloc: Global, value: Value<'_, '_>) -> Result<ArgPattern, TreeError>
     ensures ok { IfOk result (λ p. view value.entry ≡ argument_pattern_form (argument_pattern_view p)) }
     ensures err { IsErrOf result TreeError.NotATree → is shape.argument_pattern (view value.entry) ≡ false }
@@ -64,7 +64,7 @@ fn argument_pattern(alloc: Global, value: Value<'_, '_>) -> Result<ArgPattern, T
 
 /// Names for the parts of a tuple.
 #[cycle(tuple)]
-#[tactic(auto, using(lalrpop_norm_shapes::proofs::Refusals::refusals))]
+#[tactic(auto, using(lalrpop_norm_json_shapes::proofs::Refusals::refusals))]
 fn tuple(alloc: Global, value: Value<'_, '_>) -> Result<Tuple, TreeError>
     ensures ok { IfOk result (λ t. view value.entry ≡ tuple_form (tuple_view t)) }
     ensures err { IsErrOf result TreeError.NotATree → is shape.name_tuple (view value.entry) ≡ false }
@@ -74,7 +74,7 @@ fn tuple(alloc: Global, value: Value<'_, '_>) -> Result<Tuple, TreeError>
 }
 
 #[cycle(tuple)]
-#[tactic(auto, using(lalrpop_norm_shapes::proofs::Refusals::refusals))]
+#[tactic(auto, using(lalrpop_norm_json_shapes::proofs::Refusals::refusals))]
 fn argument_patterns(alloc: Global, value: Value<'_, '_>) -> Result<Vec<ArgPattern>, TreeError>
     ensures ok { IfOk result (λ ps. view value.entry ≡ array (argument_patterns_form (argument_patterns_view ps.items))) }
     ensures err { IsErrOf result TreeError.NotATree → fits (place (many shape.argument_pattern)) (view value.entry) ≡ false }
@@ -88,7 +88,7 @@ fn argument_patterns(alloc: Global, value: Value<'_, '_>) -> Result<Vec<ArgPatte
 }
 
 #[cycle(symbol)]
-#[tactic(auto, using(lalrpop_norm_shapes::proofs::Refusals::refusals))]
+#[tactic(auto, using(lalrpop_norm_json_shapes::proofs::Refusals::refusals))]
 pub(super) fn kind(alloc: Global, value: Value<'_, '_>) -> Result<SymbolKind, TreeError>
     ensures ok { IfOk result (λ k. view value.entry ≡ kind_form (kind_view k)) }
     ensures err { IsErrOf result TreeError.NotATree → is shape.kind (view value.entry) ≡ false }
@@ -116,7 +116,7 @@ pub(super) fn kind(alloc: Global, value: Value<'_, '_>) -> Result<SymbolKind, Tr
 }
 
 #[cycle(symbol)]
-#[tactic(auto, using(lalrpop_norm_shapes::proofs::Refusals::refusals))]
+#[tactic(auto, using(lalrpop_norm_json_shapes::proofs::Refusals::refusals))]
 fn symbol(alloc: Global, value: Value<'_, '_>) -> Result<Symbol, TreeError>
     ensures ok { IfOk result (λ s. view value.entry ≡ part_form (symbol_view s)) }
     ensures err { IsErrOf result TreeError.NotATree → is shape.symbol (view value.entry) ≡ false }
@@ -129,7 +129,7 @@ fn symbol(alloc: Global, value: Value<'_, '_>) -> Result<Symbol, TreeError>
 
 /// The call whose macro and arguments these are.
 #[cycle(symbol)]
-#[tactic(auto, using(lalrpop_norm_shapes::proofs::Refusals::refusals))]
+#[tactic(auto, using(lalrpop_norm_json_shapes::proofs::Refusals::refusals))]
 fn called(alloc: Global, value: Value<'_, '_>) -> Result<SymbolKind, TreeError>
     ensures ok { IfOk result (λ k. variant (codes "Macro") (view value.entry) ≡ kind_form (kind_view k)) }
     ensures err { IsErrOf result TreeError.NotATree → is shape.kind (variant (codes "Macro") (view value.entry)) ≡ false }
@@ -142,7 +142,7 @@ fn called(alloc: Global, value: Value<'_, '_>) -> Result<SymbolKind, TreeError>
 
 /// The repeat whose operator and symbol these are.
 #[cycle(symbol)]
-#[tactic(auto, using(lalrpop_norm_shapes::proofs::Refusals::refusals))]
+#[tactic(auto, using(lalrpop_norm_json_shapes::proofs::Refusals::refusals))]
 fn repeated(alloc: Global, value: Value<'_, '_>) -> Result<SymbolKind, TreeError>
     ensures ok { IfOk result (λ k. variant (codes "Repeat") (view value.entry) ≡ kind_form (kind_view k)) }
     ensures err { IsErrOf result TreeError.NotATree → is shape.kind (variant (codes "Repeat") (view value.entry)) ≡ false }
@@ -155,7 +155,7 @@ fn repeated(alloc: Global, value: Value<'_, '_>) -> Result<SymbolKind, TreeError
 
 /// The chosen symbol.
 #[cycle(symbol)]
-#[tactic(auto, using(lalrpop_norm_shapes::proofs::Refusals::refusals))]
+#[tactic(auto, using(lalrpop_norm_json_shapes::proofs::Refusals::refusals))]
 fn chosen(alloc: Global, value: Value<'_, '_>) -> Result<SymbolKind, TreeError>
     ensures ok { IfOk result (λ k. variant (codes "Choose") (view value.entry) ≡ kind_form (kind_view k)) }
     ensures err { IsErrOf result TreeError.NotATree → is shape.kind (variant (codes "Choose") (view value.entry)) ≡ false }
@@ -166,7 +166,7 @@ fn chosen(alloc: Global, value: Value<'_, '_>) -> Result<SymbolKind, TreeError>
 
 /// The symbol with a name.
 #[cycle(symbol)]
-#[tactic(auto, using(lalrpop_norm_shapes::proofs::Refusals::refusals))]
+#[tactic(auto, using(lalrpop_norm_json_shapes::proofs::Refusals::refusals))]
 fn named(alloc: Global, value: Value<'_, '_>) -> Result<SymbolKind, TreeError>
     ensures ok { IfOk result (λ k. variant (codes "Name") (view value.entry) ≡ kind_form (kind_view k)) }
     ensures err { IsErrOf result TreeError.NotATree → is shape.kind (variant (codes "Name") (view value.entry)) ≡ false }
@@ -179,7 +179,7 @@ fn named(alloc: Global, value: Value<'_, '_>) -> Result<SymbolKind, TreeError>
 
 /// The symbol whose value is a tuple with names for its parts.
 #[cycle(symbol)]
-#[tactic(auto, using(lalrpop_norm_shapes::proofs::Refusals::refusals))]
+#[tactic(auto, using(lalrpop_norm_json_shapes::proofs::Refusals::refusals))]
 fn tupled(alloc: Global, value: Value<'_, '_>) -> Result<SymbolKind, TreeError>
     ensures ok { IfOk result (λ k. variant (codes "Tuple") (view value.entry) ≡ kind_form (kind_view k)) }
     ensures err { IsErrOf result TreeError.NotATree → is shape.kind (variant (codes "Tuple") (view value.entry)) ≡ false }
@@ -191,7 +191,7 @@ fn tupled(alloc: Global, value: Value<'_, '_>) -> Result<SymbolKind, TreeError>
 }
 
 #[cycle(symbol)]
-#[tactic(auto, using(lalrpop_norm_shapes::proofs::Refusals::refusals))]
+#[tactic(auto, using(lalrpop_norm_json_shapes::proofs::Refusals::refusals))]
 pub(super) fn group(alloc: Global, value: Value<'_, '_>) -> Result<ExprSymbol, TreeError>
     ensures ok { IfOk result (λ e. view value.entry ≡ group_form (expr_view e)) }
     ensures err { IsErrOf result TreeError.NotATree → is shape.group (view value.entry) ≡ false }
@@ -201,7 +201,7 @@ pub(super) fn group(alloc: Global, value: Value<'_, '_>) -> Result<ExprSymbol, T
 }
 
 #[cycle(symbol)]
-#[tactic(auto, using(lalrpop_norm_shapes::proofs::Refusals::refusals))]
+#[tactic(auto, using(lalrpop_norm_json_shapes::proofs::Refusals::refusals))]
 fn symbols(alloc: Global, value: Value<'_, '_>) -> Result<Vec<Symbol>, TreeError>
     ensures ok { IfOk result (λ ss. view value.entry ≡ array (parts_form (parts_view ss.items))) }
     ensures err { IsErrOf result TreeError.NotATree → fits (place (many shape.symbol)) (view value.entry) ≡ false }

@@ -2,8 +2,8 @@
 ghost use Rattle.std.specs.Prelude.{◌≡◌, codes, IfOk, IsErrOf, false};
 ghost use Rattle.json_document.specs.View.{view};
 ghost use Rattle.lalrpop_norm_tree.specs.Items.{enum_token_view, extern_token_view, match_token_view};
-ghost use Rattle.lalrpop_norm_shapes.specs.Shapes as shape;
-ghost use Rattle.lalrpop_norm_shapes.specs.Shapes.{is};
+ghost use Rattle.lalrpop_norm_json_shapes.specs.Shapes as shape;
+ghost use Rattle.lalrpop_norm_json_shapes.specs.Shapes.{is};
 ghost use Rattle.lalrpop_norm_json.specs.Json.{variant};
 ghost use Rattle.lalrpop_norm_json.specs.ItemForms.{enum_token_form, extern_token_form, mapping_form, match_item_form, match_token_form};
 
@@ -13,7 +13,7 @@ use super::parts::{FromValue, list, maybe};
 use super::patterns::pattern;
 use super::types::type_ref;
 use json_document::Value;
-use lalrpop_norm_shapes::{
+use lalrpop_norm_json_shapes::{
     Case, TreeError, case_of, four_fields, only_field, pair, three_fields, triple, two_fields,
 };
 use lalrpop_norm_tree::grammar::parse_tree::{
@@ -22,7 +22,7 @@ use lalrpop_norm_tree::grammar::parse_tree::{
 };
 use std::alloc::Global;
 
-#[tactic(auto, using(lalrpop_norm_shapes::proofs::Refusals::refusals))]
+#[tactic(auto, using(lalrpop_norm_json_shapes::proofs::Refusals::refusals))]
 fn mapping(alloc: Global, value: Value<'_, '_>) -> Result<MatchMapping, TreeError>
     ensures ok { IfOk result (λ m. view value.entry ≡ mapping_form m) }
     ensures err { IsErrOf result TreeError.NotATree → is shape.match_mapping (view value.entry) ≡ false }
@@ -40,7 +40,7 @@ fn mapping(alloc: Global, value: Value<'_, '_>) -> Result<MatchMapping, TreeErro
 }
 
 /// The item that stands for itself.
-#[tactic(auto, using(lalrpop_norm_shapes::proofs::Refusals::refusals))]
+#[tactic(auto, using(lalrpop_norm_json_shapes::proofs::Refusals::refusals))]
 fn unmapped(alloc: Global, value: Value<'_, '_>) -> Result<MatchItem, TreeError>
     ensures ok { IfOk result (λ i. variant (codes "Unmapped") (view value.entry) ≡ match_item_form i) }
     ensures err { IsErrOf result TreeError.NotATree → is shape.match_item (variant (codes "Unmapped") (view value.entry)) ≡ false }
@@ -51,7 +51,7 @@ fn unmapped(alloc: Global, value: Value<'_, '_>) -> Result<MatchItem, TreeError>
 }
 
 /// The item that makes what is named beside it.
-#[tactic(auto, using(lalrpop_norm_shapes::proofs::Refusals::refusals))]
+#[tactic(auto, using(lalrpop_norm_json_shapes::proofs::Refusals::refusals))]
 fn mapped(alloc: Global, value: Value<'_, '_>) -> Result<MatchItem, TreeError>
     ensures ok { IfOk result (λ i. variant (codes "Mapped") (view value.entry) ≡ match_item_form i) }
     ensures err { IsErrOf result TreeError.NotATree → is shape.match_item (variant (codes "Mapped") (view value.entry)) ≡ false }
@@ -65,13 +65,13 @@ fn mapped(alloc: Global, value: Value<'_, '_>) -> Result<MatchItem, TreeError>
 
 impl FromValue for MatchItem {
     ghost use Rattle.lalrpop_norm_json.specs.ItemForms.{match_item_form};
-    ghost use Rattle.lalrpop_norm_shapes.specs.Shapes as shape;
+    ghost use Rattle.lalrpop_norm_json_shapes.specs.Shapes as shape;
 
     ghost form = { match_item_form };
 
     ghost named = { shape.match_item };
 
-    #[tactic(auto, using(lalrpop_norm_shapes::proofs::Refusals::refusals))]
+    #[tactic(auto, using(lalrpop_norm_json_shapes::proofs::Refusals::refusals))]
     fn from_value(alloc: Global, value: Value<'_, '_>) -> Result<MatchItem, TreeError> {
         match case_of(value)? {
             Case::Bare(_) => Err(TreeError::NotATree),
@@ -88,20 +88,20 @@ impl FromValue for MatchItem {
 impl FromValue for MatchContents {
     ghost use Rattle.lalrpop_norm_tree.specs.Items.{match_contents_view};
     ghost use Rattle.lalrpop_norm_json.specs.ItemForms.{match_contents_form};
-    ghost use Rattle.lalrpop_norm_shapes.specs.Shapes as shape;
+    ghost use Rattle.lalrpop_norm_json_shapes.specs.Shapes as shape;
 
     ghost form = { λ c. match_contents_form (match_contents_view c) };
 
     ghost named = { shape.match_contents };
 
-    #[tactic(auto, using(lalrpop_norm_shapes::proofs::Refusals::refusals))]
+    #[tactic(auto, using(lalrpop_norm_json_shapes::proofs::Refusals::refusals))]
     fn from_value(alloc: Global, value: Value<'_, '_>) -> Result<MatchContents, TreeError> {
         let items = list(alloc, only_field(value, "items")?)?;
         Ok(MatchContents { items })
     }
 }
 
-#[tactic(auto, using(lalrpop_norm_shapes::proofs::Refusals::refusals))]
+#[tactic(auto, using(lalrpop_norm_json_shapes::proofs::Refusals::refusals))]
 pub(super) fn match_token(alloc: Global, value: Value<'_, '_>) -> Result<MatchToken, TreeError>
     ensures ok { IfOk result (λ m. view value.entry ≡ match_token_form (match_token_view m)) }
     ensures err { IsErrOf result TreeError.NotATree → is shape.match_token (view value.entry) ≡ false }
@@ -115,13 +115,13 @@ pub(super) fn match_token(alloc: Global, value: Value<'_, '_>) -> Result<MatchTo
 impl FromValue for Conversion {
     ghost use Rattle.lalrpop_norm_tree.specs.Items.{conversion_view};
     ghost use Rattle.lalrpop_norm_json.specs.ItemForms.{conversion_form};
-    ghost use Rattle.lalrpop_norm_shapes.specs.Shapes as shape;
+    ghost use Rattle.lalrpop_norm_json_shapes.specs.Shapes as shape;
 
     ghost form = { λ c. conversion_form (conversion_view c) };
 
     ghost named = { shape.conversion };
 
-    #[tactic(auto, using(lalrpop_norm_shapes::proofs::Refusals::refusals))]
+    #[tactic(auto, using(lalrpop_norm_json_shapes::proofs::Refusals::refusals))]
     fn from_value(alloc: Global, value: Value<'_, '_>) -> Result<Conversion, TreeError> {
         let (listed, from, at, to) = four_fields(value, "attributes", "from", "span", "to")?;
         let span = span(at)?;
@@ -137,7 +137,7 @@ impl FromValue for Conversion {
     }
 }
 
-#[tactic(auto, using(lalrpop_norm_shapes::proofs::Refusals::refusals))]
+#[tactic(auto, using(lalrpop_norm_json_shapes::proofs::Refusals::refusals))]
 fn enum_token(alloc: Global, value: Value<'_, '_>) -> Result<EnumToken, TreeError>
     ensures ok { IfOk result (λ e. view value.entry ≡ enum_token_form (enum_token_view e)) }
     ensures err { IsErrOf result TreeError.NotATree → is shape.enum_token (view value.entry) ≡ false }
@@ -161,7 +161,7 @@ fn enum_token(alloc: Global, value: Value<'_, '_>) -> Result<EnumToken, TreeErro
 impl FromValue for EnumToken {
     ghost use Rattle.lalrpop_norm_tree.specs.Items.{enum_token_view};
     ghost use Rattle.lalrpop_norm_json.specs.ItemForms.{enum_token_form};
-    ghost use Rattle.lalrpop_norm_shapes.specs.Shapes as shape;
+    ghost use Rattle.lalrpop_norm_json_shapes.specs.Shapes as shape;
 
     ghost form = { λ e. enum_token_form (enum_token_view e) };
 
@@ -175,13 +175,13 @@ impl FromValue for EnumToken {
 impl FromValue for AssociatedType {
     ghost use Rattle.lalrpop_norm_tree.specs.Items.{associated_type_view};
     ghost use Rattle.lalrpop_norm_json.specs.ItemForms.{associated_type_form};
-    ghost use Rattle.lalrpop_norm_shapes.specs.Shapes as shape;
+    ghost use Rattle.lalrpop_norm_json_shapes.specs.Shapes as shape;
 
     ghost form = { λ a. associated_type_form (associated_type_view a) };
 
     ghost named = { shape.associated_type };
 
-    #[tactic(auto, using(lalrpop_norm_shapes::proofs::Refusals::refusals))]
+    #[tactic(auto, using(lalrpop_norm_json_shapes::proofs::Refusals::refusals))]
     fn from_value(alloc: Global, value: Value<'_, '_>) -> Result<AssociatedType, TreeError> {
         let (name, of, at) = three_fields(value, "type_name", "type_ref", "type_span")?;
         let type_span = span(at)?;
@@ -195,7 +195,7 @@ impl FromValue for AssociatedType {
     }
 }
 
-#[tactic(auto, using(lalrpop_norm_shapes::proofs::Refusals::refusals))]
+#[tactic(auto, using(lalrpop_norm_json_shapes::proofs::Refusals::refusals))]
 pub(super) fn extern_token(alloc: Global, value: Value<'_, '_>) -> Result<ExternToken, TreeError>
     ensures ok { IfOk result (λ t. view value.entry ≡ extern_token_form (extern_token_view t)) }
     ensures err { IsErrOf result TreeError.NotATree → is shape.extern_token (view value.entry) ≡ false }

@@ -2,10 +2,10 @@
 ghost use Rattle.std.specs.Prelude.{◌≡◌, [], ◌∷◌, codes, option_map, IfOk, IsErrOf, false};
 ghost use Rattle.serde_json.specs.Data.{array};
 ghost use Rattle.json_document.specs.View.{view};
-ghost use Rattle.lalrpop_norm_parts.specs.Paths.{path_view};
+ghost use Rattle.lalrpop_norm_tree_parts.specs.Paths.{path_view};
 ghost use Rattle.lalrpop_norm_tree.specs.Types.{type_view, types_view, maybe_of};
-ghost use Rattle.lalrpop_norm_shapes.specs.Shapes as shape;
-ghost use Rattle.lalrpop_norm_shapes.specs.Shapes.{is, fits, place, one, many, maybe, struct};
+ghost use Rattle.lalrpop_norm_json_shapes.specs.Shapes as shape;
+ghost use Rattle.lalrpop_norm_json_shapes.specs.Shapes.{is, fits, place, one, many, maybe, struct};
 ghost use Rattle.lalrpop_norm_json.specs.Json.{fields, variant};
 ghost use Rattle.lalrpop_norm_json.specs.Forms.{path_form};
 ghost use Rattle.lalrpop_norm_json.specs.TypeForms.{type_form, types_form, maybe_type_form};
@@ -14,7 +14,7 @@ use super::names::{atom, path};
 use super::parts::{FromValue, list, maybe};
 use super::symbols::kind;
 use json_document::Value;
-use lalrpop_norm_shapes::{
+use lalrpop_norm_json_shapes::{
     Case, TreeError, case_of, counted_items, four_fields, present, three_fields, truth, two_fields,
 };
 use lalrpop_norm_tree::grammar::parse_tree::{Lifetime, Parameter, Path, TypeRef};
@@ -23,7 +23,7 @@ use std::alloc::Global;
 impl FromValue for TypeRef {
     ghost use Rattle.lalrpop_norm_tree.specs.Types.{type_view};
     ghost use Rattle.lalrpop_norm_json.specs.TypeForms.{type_form};
-    ghost use Rattle.lalrpop_norm_shapes.specs.Shapes as shape;
+    ghost use Rattle.lalrpop_norm_json_shapes.specs.Shapes as shape;
 
     ghost form = { λ t. type_form (type_view t) };
 
@@ -37,13 +37,13 @@ impl FromValue for TypeRef {
 impl FromValue for Parameter {
     ghost use Rattle.lalrpop_norm_tree.specs.Types.{parameter_view};
     ghost use Rattle.lalrpop_norm_json.specs.TypeForms.{parameter_form};
-    ghost use Rattle.lalrpop_norm_shapes.specs.Shapes as shape;
+    ghost use Rattle.lalrpop_norm_json_shapes.specs.Shapes as shape;
 
     ghost form = { λ p. parameter_form (parameter_view p) };
 
     ghost named = { shape.parameter };
 
-    #[tactic(auto, using(lalrpop_norm_shapes::proofs::Refusals::refusals))]
+    #[tactic(auto, using(lalrpop_norm_json_shapes::proofs::Refusals::refusals))]
     fn from_value(alloc: Global, value: Value<'_, '_>) -> Result<Parameter, TreeError> {
         let (name, of) = two_fields(value, "name", "ty")?;
         let name = atom(alloc, name)?;
@@ -53,7 +53,7 @@ impl FromValue for Parameter {
 }
 
 #[cycle(type_ref)]
-#[tactic(auto, using(lalrpop_norm_shapes::proofs::Refusals::refusals))]
+#[tactic(auto, using(lalrpop_norm_json_shapes::proofs::Refusals::refusals))]
 pub(super) fn type_ref(alloc: Global, value: Value<'_, '_>) -> Result<TypeRef, TreeError>
     ensures ok { IfOk result (λ t. view value.entry ≡ type_form (type_view t)) }
     ensures err { IsErrOf result TreeError.NotATree → is shape.type (view value.entry) ≡ false }
@@ -83,7 +83,7 @@ pub(super) fn type_ref(alloc: Global, value: Value<'_, '_>) -> Result<TypeRef, T
 
 /// What a named type and a trait object hold.
 #[cycle(type_ref)]
-#[tactic(auto, using(lalrpop_norm_shapes::proofs::Refusals::refusals))]
+#[tactic(auto, using(lalrpop_norm_json_shapes::proofs::Refusals::refusals))]
 fn path_and_types(alloc: Global, value: Value<'_, '_>) -> Result<(Path, Vec<TypeRef>), TreeError>
     ensures ok { IfOk result (λ p. view value.entry ≡
         fields ((codes "path", path_form (path_view p.0)) ∷ (codes "types", array (types_form (types_view p.1.items))) ∷ [])) }
@@ -98,7 +98,7 @@ fn path_and_types(alloc: Global, value: Value<'_, '_>) -> Result<(Path, Vec<Type
 
 /// The reference whose fields these are.
 #[cycle(type_ref)]
-#[tactic(auto, using(lalrpop_norm_shapes::proofs::Refusals::refusals))]
+#[tactic(auto, using(lalrpop_norm_json_shapes::proofs::Refusals::refusals))]
 fn reference_type(alloc: Global, value: Value<'_, '_>) -> Result<TypeRef, TreeError>
     ensures ok { IfOk result (λ t. variant (codes "Ref") (view value.entry) ≡ type_form (type_view t)) }
     ensures err { IsErrOf result TreeError.NotATree → is shape.type (variant (codes "Ref") (view value.entry)) ≡ false }
@@ -116,7 +116,7 @@ fn reference_type(alloc: Global, value: Value<'_, '_>) -> Result<TypeRef, TreeEr
 
 /// The function type whose fields these are.
 #[cycle(type_ref)]
-#[tactic(auto, using(lalrpop_norm_shapes::proofs::Refusals::refusals))]
+#[tactic(auto, using(lalrpop_norm_json_shapes::proofs::Refusals::refusals))]
 fn function_type(alloc: Global, value: Value<'_, '_>) -> Result<TypeRef, TreeError>
     ensures ok { IfOk result (λ t. variant (codes "Fn") (view value.entry) ≡ type_form (type_view t)) }
     ensures err { IsErrOf result TreeError.NotATree → is shape.type (variant (codes "Fn") (view value.entry)) ≡ false }
@@ -142,7 +142,7 @@ fn function_type(alloc: Global, value: Value<'_, '_>) -> Result<TypeRef, TreeErr
 
 /// Null, or a type.
 #[cycle(type_ref)]
-#[tactic(auto, using(lalrpop_norm_shapes::proofs::Refusals::refusals))]
+#[tactic(auto, using(lalrpop_norm_json_shapes::proofs::Refusals::refusals))]
 fn maybe_type_ref(alloc: Global, value: Value<'_, '_>) -> Result<Option<Box<TypeRef>>, TreeError>
     ensures ok { IfOk result (λ o. view value.entry ≡ maybe_type_form (maybe_of (option_map (λ b. type_view b.value) o))) }
     ensures err { IsErrOf result TreeError.NotATree → fits (place (maybe shape.type)) (view value.entry) ≡ false }
@@ -154,7 +154,7 @@ fn maybe_type_ref(alloc: Global, value: Value<'_, '_>) -> Result<Option<Box<Type
 }
 
 #[cycle(type_ref)]
-#[tactic(auto, using(lalrpop_norm_shapes::proofs::Refusals::refusals))]
+#[tactic(auto, using(lalrpop_norm_json_shapes::proofs::Refusals::refusals))]
 fn type_refs(alloc: Global, value: Value<'_, '_>) -> Result<Vec<TypeRef>, TreeError>
     ensures ok { IfOk result (λ ts. view value.entry ≡ array (types_form (types_view ts.items))) }
     ensures err { IsErrOf result TreeError.NotATree → fits (place (many shape.type)) (view value.entry) ≡ false }

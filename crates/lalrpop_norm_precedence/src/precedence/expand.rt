@@ -11,8 +11,8 @@ ghost use Rattle.lalrpop_norm_precedence.specs.PrecedenceFaults.{precedence_faul
 
 use super::grammar::make_levels;
 use super::has_several_levels;
-use lalrpop_norm_alternatives::levels::check_several;
 use lalrpop_norm_faults::NormResult;
+use lalrpop_norm_precedence_steps::levels::check_several;
 use lalrpop_norm_resolve::names::{GlobalNames, are_new, resolve_names};
 use lalrpop_norm_resolve::resolve::check_globals;
 use lalrpop_norm_tree::grammar::parse_tree::{Atom, Grammar, GrammarItem, NonterminalData};

@@ -3,12 +3,12 @@ ghost use Rattle.std.specs.Prelude.{◌≡◌, ◌++◌, IfOk, OnOk, map, flat_m
 ghost use Rattle.lalrpop_norm_tree.specs.Items.{rule_item, rule_view, item_view, grammar_view};
 ghost use Rattle.lalrpop_norm_faults.specs.Faults.{RefusesOr};
 ghost use Rattle.lalrpop_norm_model.specs.LevelRules.{level_items, leveled_grammar};
-ghost use Rattle.lalrpop_norm_alternatives.specs.LevelFaults.{item_level_faults, grammar_level_faults};
+ghost use Rattle.lalrpop_norm_precedence_steps.specs.LevelFaults.{item_level_faults, grammar_level_faults};
 ghost use Rattle.lalrpop_norm_precedence.specs.MadeNames.{rule_name, without_last, item_made_names, grammar_made_names};
 
 use super::expand_nonterm;
-use lalrpop_norm_alternatives::items::rule_or_push;
 use lalrpop_norm_faults::NormResult;
+use lalrpop_norm_precedence_steps::items::rule_or_push;
 use lalrpop_norm_tree::grammar::parse_tree::{
     Atom, Grammar, GrammarItem, NoMemory, NonterminalData,
 };

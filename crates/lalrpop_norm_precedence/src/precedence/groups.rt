@@ -4,7 +4,7 @@ ghost use Rattle.lalrpop_norm_theory.specs.Rounds.{In};
 ghost use Rattle.lalrpop_norm_tree.specs.Items.{alternative_view};
 ghost use Rattle.lalrpop_norm_model.specs.Levels.{Leveled, rising};
 ghost use Rattle.lalrpop_norm_model.specs.Stated.{IsRising};
-ghost use Rattle.lalrpop_norm_alternatives.specs.StatedLevels.{alternative_level_view};
+ghost use Rattle.lalrpop_norm_precedence_steps.specs.StatedLevels.{alternative_level_view};
 ghost use Rattle.lalrpop_norm_precedence.specs.Grouped.{marked_view, group_view, marked_with, pushed, grouped};
 
 use super::{AlternativeLevel, Assoc};

@@ -1,19 +1,19 @@
 //! Levels and sides as a rule's alternatives state them.
 ghost use Rattle.std.specs.Prelude.{◌≡◌, ◌^◌, None, IfOk, is_some, option_map, map, flat_map, codes, if◌then◌else◌};
 ghost use Rattle.lalrpop_norm_tree.specs.Accessors.{or_else};
-ghost use Rattle.lalrpop_norm_parts.specs.Attributes.{attribute_view, attributes_view};
+ghost use Rattle.lalrpop_norm_tree_parts.specs.Attributes.{attribute_view, attributes_view};
 ghost use Rattle.lalrpop_norm_tree.specs.Items.{alternative_view, rule_view};
 ghost use Rattle.lalrpop_norm_faults.specs.Faults.{Refuses, RefusesOr};
 ghost use Rattle.lalrpop_norm_model.specs.Levels.{first_named, value_under, number_of, side_named, stated_level, stated_side};
-ghost use Rattle.lalrpop_norm_alternatives.specs.Sides.{side_of};
-ghost use Rattle.lalrpop_norm_alternatives.specs.LevelFaults.{level_argument_faults, side_argument_faults, level_attribute_faults, lesser_level, least, is_narrow, is_barred, barred_faults, lowest_faults, level_faults, levels_and_sides, has_several_levels};
-ghost use Rattle.lalrpop_norm_alternatives.specs.StatedLevels.{alternative_level_view};
+ghost use Rattle.lalrpop_norm_precedence_steps.specs.Sides.{side_of};
+ghost use Rattle.lalrpop_norm_precedence_steps.specs.LevelFaults.{level_argument_faults, side_argument_faults, level_attribute_faults, lesser_level, least, is_narrow, is_barred, barred_faults, lowest_faults, level_faults, levels_and_sides, has_several_levels};
+ghost use Rattle.lalrpop_norm_precedence_steps.specs.StatedLevels.{alternative_level_view};
 ghost use Rattle.lalrpop_norm_precedence.specs.Handed.{handed_levels, handed_faults};
 
 use super::{ASSOC_ATTR, AlternativeLevel, Assoc, LVL_ARG, PREC_ATTR, SIDE_ARG};
-use lalrpop_norm_alternatives::attributes::first_named;
-use lalrpop_norm_alternatives::levels::{check_first, differ, has_levels};
 use lalrpop_norm_faults::{FaultKind, NormResult, refusal};
+use lalrpop_norm_precedence_steps::attributes::first_named;
+use lalrpop_norm_precedence_steps::levels::{check_first, differ, has_levels};
 use lalrpop_norm_tree::grammar::parse_tree::{Alternative, Attribute, NonterminalData};
 use std::alloc::{AllocError, Global};
 
@@ -140,7 +140,7 @@ fn check_side(alloc: Global, attributes: &[Attribute]) -> NormResult<()>
     Ok(())
 }
 
-#[tactic(auto, unfolding(lalrpop_norm_alternatives::specs::LevelFaults::level_attribute_faults), using(lalrpop_norm_faults::proofs::FaultLemmas::first_of_more))]
+#[tactic(auto, unfolding(lalrpop_norm_precedence_steps::specs::LevelFaults::level_attribute_faults), using(lalrpop_norm_faults::proofs::FaultLemmas::first_of_more))]
 fn check_alternative(alloc: Global, alternative: &Alternative) -> NormResult<()>
     ensures { Refuses result (level_attribute_faults (alternative_view alternative.now)) }
 {
@@ -231,7 +231,7 @@ fn is_barred(alternative: &Alternative) -> bool
         || is_narrow(stated_side(&alternative.attributes))
 }
 
-#[tactic(auto, unfolding(lalrpop_norm_alternatives::specs::LevelFaults::lowest_faults))]
+#[tactic(auto, unfolding(lalrpop_norm_precedence_steps::specs::LevelFaults::lowest_faults))]
 fn check_place(alloc: Global, lowest: u32, level: u32, alternative: &Alternative) -> NormResult<()>
     ensures { Refuses result (lowest_faults lowest level (alternative_view alternative.now)) }
 {

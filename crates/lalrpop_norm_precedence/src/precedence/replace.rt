@@ -2,11 +2,11 @@
 ghost use Rattle.std.specs.Prelude.{◌≡◌, false, IfOk, OnOk, map};
 ghost use Rattle.lalrpop_norm_tree.specs.Symbols.{kind_view, symbol_view, repeat_view, parts_view};
 ghost use Rattle.lalrpop_norm_model.specs.Occurrences.{count_kind, count_part, count_parts};
-ghost use Rattle.lalrpop_norm_alternatives.specs.Substitutions.{substitution_view, met_kind};
+ghost use Rattle.lalrpop_norm_precedence_steps.specs.Substitutions.{substitution_view, met_kind};
 ghost use Rattle.lalrpop_norm_precedence.specs.Substituted.{is_target, once_met, substituted_kind, substituted_part, substituted_parts};
 
 use super::{Direction, Substitution};
-use lalrpop_norm_alternatives::occurrences::occurrence;
+use lalrpop_norm_precedence_steps::occurrences::occurrence;
 use lalrpop_norm_tree::grammar::parse_tree::{
     NoMemory, NonterminalString, RepeatSymbol, Symbol, SymbolKind,
 };

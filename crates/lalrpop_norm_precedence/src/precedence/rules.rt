@@ -1,6 +1,6 @@
 //! The rules of the levels of a rule.
 ghost use Rattle.std.specs.Prelude.{◌≡◌, None, IfOk, OnOk, map};
-ghost use Rattle.lalrpop_norm_parts.specs.Attributes.{attributes_view};
+ghost use Rattle.lalrpop_norm_tree_parts.specs.Attributes.{attributes_view};
 ghost use Rattle.lalrpop_norm_tree.specs.Items.{alternative_view, rule_view};
 ghost use Rattle.lalrpop_norm_tree.specs.Symbols.{nonterminal, kind_view, parts_view};
 ghost use Rattle.lalrpop_norm_faults.specs.Faults.{RefusesOr};
@@ -8,19 +8,19 @@ ghost use Rattle.lalrpop_norm_model.specs.Levels.{greater, greatest};
 ghost use Rattle.lalrpop_norm_model.specs.Grammars.{is_nil};
 ghost use Rattle.lalrpop_norm_model.specs.ClosedTexts.{level_name};
 ghost use Rattle.lalrpop_norm_model.specs.LevelRules.{is_own, level_rules};
-ghost use Rattle.lalrpop_norm_alternatives.specs.LevelFaults.{level_faults};
+ghost use Rattle.lalrpop_norm_precedence_steps.specs.LevelFaults.{level_faults};
 ghost use Rattle.lalrpop_norm_precedence.specs.Substituted.{is_target, substituted_parts};
 ghost use Rattle.lalrpop_norm_precedence.specs.Grouped.{LevelGroup, marked_view, group_view};
-ghost use Rattle.lalrpop_norm_alternatives.specs.Sides.{side_of};
+ghost use Rattle.lalrpop_norm_precedence_steps.specs.Sides.{side_of};
 ghost use Rattle.lalrpop_norm_precedence.specs.Made.{kind_by_side, less_first, without_level_attributes, top_of, rewritten, made_alternative, made_rule, made_level_rules};
 
 use super::groups::{Group, Marked, group_by_level, mark};
 use super::read::read_levels;
 use super::{ASSOC_ATTR, Assoc, PREC_ATTR, replace_nonterm};
-use lalrpop_norm_alternatives::levels::has_levels;
-use lalrpop_norm_alternatives::occurrences::{direction_by_side, substitution_by_side};
-use lalrpop_norm_alternatives::steps::{level_name, push_step};
 use lalrpop_norm_faults::NormResult;
+use lalrpop_norm_precedence_steps::levels::has_levels;
+use lalrpop_norm_precedence_steps::occurrences::{direction_by_side, substitution_by_side};
+use lalrpop_norm_precedence_steps::steps::{level_name, push_step};
 use lalrpop_norm_tree::grammar::parse_tree::{
     Alternative, Attribute, NoMemory, NonterminalData, NonterminalString, Symbol, SymbolKind,
 };

@@ -1,6 +1,6 @@
 //! Copies of actions.
 ghost use Rattle.std.specs.Prelude.{◌≡◌, IfOk, map};
-ghost use Rattle.lalrpop_norm_parts.specs.Reprs.{repr_view};
+ghost use Rattle.lalrpop_norm_tree_parts.specs.Reprs.{repr_view};
 ghost use Rattle.lalrpop_norm_tree.specs.Symbols.{argument_pattern_view};
 ghost use Rattle.lalrpop_norm_repr.specs.Actions.{action_defn_view, action_kind_view, inline_action_view, inlined_symbol_view, user_action_view};
 
@@ -41,7 +41,7 @@ impl Clone for ActionFnDefnKind {
 impl Clone for UserActionFnDefn {
     ghost is_clone = { λ a b. user_action_view b ≡ user_action_view a };
 
-    #[tactic(auto, using(lalrpop_norm_parts::proofs::CopyLemmas::same_views))]
+    #[tactic(auto, using(lalrpop_norm_tree_parts::proofs::CopyLemmas::same_views))]
     fn clone(&self) -> Result<UserActionFnDefn, AllocError> {
         Ok(UserActionFnDefn {
             arg_patterns: self.arg_patterns.clone()?,
@@ -76,14 +76,14 @@ impl Clone for InlinedSymbol {
     }
 }
 
-#[tactic(auto, using(lalrpop_norm_parts::proofs::CopyLemmas::same_views))]
+#[tactic(auto, using(lalrpop_norm_tree_parts::proofs::CopyLemmas::same_views))]
 fn copy_arguments(symbols: &Vec<InlinedSymbol>) -> Result<Vec<InlinedSymbol>, AllocError>
     ensures { IfOk result (λ copies. map inlined_symbol_view copies.items ≡ map inlined_symbol_view symbols.now.items) }
 {
     Ok(symbols.clone()?)
 }
 
-#[tactic(auto, using(lalrpop_norm_parts::proofs::CopyLemmas::same_views))]
+#[tactic(auto, using(lalrpop_norm_tree_parts::proofs::CopyLemmas::same_views))]
 pub(crate) fn copy_actions(actions: &Vec<ActionFnDefn>) -> Result<Vec<ActionFnDefn>, AllocError>
     ensures { IfOk result (λ copies. map action_defn_view copies.items ≡ map action_defn_view actions.now.items) }
 {

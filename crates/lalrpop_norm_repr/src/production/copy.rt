@@ -3,7 +3,7 @@ ghost use Rattle.std.specs.Prelude.{◌≡◌, IfOk, map};
 ghost use Rattle.lalrpop_norm_repr.specs.Productions.{nonterminal_data_view, production_view};
 
 use super::{NonterminalData, Production};
-use lalrpop_norm_parts::attribute::copy::copy_attributes;
+use lalrpop_norm_tree_parts::attribute::copy::copy_attributes;
 use std::alloc::AllocError;
 
 impl Clone for NonterminalData {
@@ -22,7 +22,7 @@ impl Clone for NonterminalData {
     }
 }
 
-#[tactic(auto, using(lalrpop_norm_parts::proofs::CopyLemmas::same_views))]
+#[tactic(auto, using(lalrpop_norm_tree_parts::proofs::CopyLemmas::same_views))]
 fn copy_productions(productions: &Vec<Production>) -> Result<Vec<Production>, AllocError>
     ensures { IfOk result (λ copies. map production_view copies.items ≡ map production_view productions.now.items) }
 {

@@ -1,9 +1,9 @@
 //! Types that a table makes.
 ghost use Rattle.std.specs.Prelude.{◌≡◌, List, [], ◌∷◌, ◌++◌, map, Some, None, codes, unwrap_or, option_map, IfOk, string_bytes, false};
-ghost use Rattle.lalrpop_norm_parts.specs.Paths.{path_view};
-ghost use Rattle.lalrpop_norm_parts.specs.Reprs.{repr_view, reprs_view, repr_and, no_reprs, unit_type, static_str};
+ghost use Rattle.lalrpop_norm_tree_parts.specs.Paths.{path_view};
+ghost use Rattle.lalrpop_norm_tree_parts.specs.Reprs.{repr_view, reprs_view, repr_and, no_reprs, unit_type, static_str};
 ghost use Rattle.lalrpop_norm_repr.specs.Tables.{rows, type_table, new_table, location_type, user_error_type, spanned, util_type};
-ghost use Rattle.lalrpop_norm_names.specs.declared.names.TerminalString.TheVariants.{Error};
+ghost use Rattle.lalrpop_norm_tree_names.specs.declared.names.TerminalString.TheVariants.{Error};
 
 use super::Types;
 use lalrpop_norm_tree::grammar::parse_tree::{Atom, Lifetime, NoMemory, Path, TerminalString};

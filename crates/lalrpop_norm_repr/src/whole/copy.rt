@@ -2,8 +2,8 @@
 ghost use Rattle.std.specs.Prelude.{◌≡◌, IfOk, OnOk, map, option_map, string_bytes};
 ghost use Rattle.std.specs.BTreeMap.{insert_entry};
 ghost use Rattle.lalrpop_norm_tree.specs.Items.{intern_token_view};
-ghost use Rattle.lalrpop_norm_pattern.specs.Patterns.{pattern_view};
-ghost use Rattle.lalrpop_norm_parts.specs.Reprs.{repr_view, lowered_where_clause_view};
+ghost use Rattle.lalrpop_norm_tree_patterns.specs.Patterns.{pattern_view};
+ghost use Rattle.lalrpop_norm_tree_parts.specs.Reprs.{repr_view, lowered_where_clause_view};
 ghost use Rattle.lalrpop_norm_repr.specs.Actions.{action_defn_view};
 ghost use Rattle.lalrpop_norm_repr.specs.Lowered.{lowered_grammar_view, lowered_parameter_view, terminal_set_view};
 ghost use Rattle.lalrpop_norm_repr.specs.Productions.{nonterminal_data_view};
@@ -13,12 +13,12 @@ use super::{Grammar, Parameter, TerminalSet};
 use crate::action::ActionFnDefn;
 use crate::action::copy::copy_actions;
 use crate::production::NonterminalData;
-use lalrpop_norm_parts::names::copy::{copy_texts, copy_type_parameters};
 use lalrpop_norm_tree::grammar::parse_tree::{
     InternToken, NoMemory, NonterminalString, TerminalString, TypeParameter,
 };
 use lalrpop_norm_tree::grammar::pattern::Pattern;
 use lalrpop_norm_tree::grammar::repr::{Algorithm, TypeRepr, WhereClause};
+use lalrpop_norm_tree_parts::names::copy::{copy_texts, copy_type_parameters};
 use std::alloc::{AllocError, Global};
 use std::collections::BTreeMap;
 
@@ -146,7 +146,7 @@ fn copy_starts(
     Ok(copy)
 }
 
-#[tactic(auto, using(lalrpop_norm_parts::proofs::CopyLemmas::same_views))]
+#[tactic(auto, using(lalrpop_norm_tree_parts::proofs::CopyLemmas::same_views))]
 fn copy_parameters(parameters: &Vec<Parameter>) -> Result<Vec<Parameter>, NoMemory>
     ensures { IfOk result (λ copies. map lowered_parameter_view copies.items ≡ map lowered_parameter_view parameters.now.items) }
 {

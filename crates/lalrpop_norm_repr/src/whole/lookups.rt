@@ -1,7 +1,7 @@
 //! What is looked up in a lowered grammar.
 ghost use Rattle.std.specs.Prelude.{◌≡◌, ◌<◌, Some, IfOk, IsSome, length, map, filter, option_map, string_bytes};
-ghost use Rattle.lalrpop_norm_pattern.specs.Patterns.{pattern_view};
-ghost use Rattle.lalrpop_norm_parts.specs.Reprs.{repr_view};
+ghost use Rattle.lalrpop_norm_tree_patterns.specs.Patterns.{pattern_view};
+ghost use Rattle.lalrpop_norm_tree_parts.specs.Reprs.{repr_view};
 ghost use Rattle.lalrpop_norm_repr.specs.Actions.{action_index};
 ghost use Rattle.lalrpop_norm_repr.specs.Lookups.{action_of, is_type_name, parameter_refs, pattern_of, productions_of};
 ghost use Rattle.lalrpop_norm_repr.specs.Lowered.{lowered_grammar_view, lowered_parameter_view};

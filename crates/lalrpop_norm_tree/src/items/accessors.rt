@@ -7,7 +7,7 @@ use super::{
     AssociatedType, EnumToken, ExternToken, Grammar, GrammarItem, InternToken, MatchContents,
     MatchItem, MatchToken, NonterminalData, Visibility,
 };
-use lalrpop_norm_parts::names::Span;
+use lalrpop_norm_tree_parts::names::Span;
 use shared_text::NoMemory;
 use std::alloc::Global;
 

@@ -8,8 +8,8 @@ use super::{
     MatchToken, NonterminalData, Visibility,
 };
 use crate::types::TypeRef;
-use lalrpop_norm_parts::attribute::copy::copy_attributes;
-use lalrpop_norm_parts::names::NonterminalString;
+use lalrpop_norm_tree_parts::attribute::copy::copy_attributes;
+use lalrpop_norm_tree_parts::names::NonterminalString;
 use std::alloc::{AllocError, Global};
 
 impl Clone for ActionKind {
@@ -65,7 +65,7 @@ fn copy_action(action: &Option<ActionKind>) -> Result<Option<ActionKind>, AllocE
     }
 }
 
-#[tactic(auto, using(lalrpop_norm_parts::proofs::CopyLemmas::same_views))]
+#[tactic(auto, using(lalrpop_norm_tree_parts::proofs::CopyLemmas::same_views))]
 fn copy_alternatives(alternatives: &Vec<Alternative>) -> Result<Vec<Alternative>, AllocError>
     ensures { IfOk result (λ copies. map alternative_view copies.items ≡ map alternative_view alternatives.now.items) }
 {
@@ -120,7 +120,7 @@ impl Clone for MatchContents {
     }
 }
 
-#[tactic(auto, using(lalrpop_norm_parts::proofs::CopyLemmas::same_views))]
+#[tactic(auto, using(lalrpop_norm_tree_parts::proofs::CopyLemmas::same_views))]
 fn copy_contents(contents: &Vec<MatchContents>) -> Result<Vec<MatchContents>, AllocError>
     ensures { IfOk result (λ copies. map match_contents_view copies.items ≡ map match_contents_view contents.now.items) }
 {
@@ -179,7 +179,7 @@ impl Clone for AssociatedType {
     }
 }
 
-#[tactic(auto, using(lalrpop_norm_parts::proofs::CopyLemmas::same_views))]
+#[tactic(auto, using(lalrpop_norm_tree_parts::proofs::CopyLemmas::same_views))]
 pub(super) fn copy_associated_types(
     types: &Vec<AssociatedType>,
 ) -> Result<Vec<AssociatedType>, AllocError>

@@ -1,17 +1,17 @@
 //! Copies of conversions, extern blocks, items and grammars.
 ghost use Rattle.std.specs.Prelude.{◌≡◌, IfOk, map, option_map, string_bytes};
-ghost use Rattle.lalrpop_norm_parts.specs.Bounds.{where_clause_view};
+ghost use Rattle.lalrpop_norm_tree_parts.specs.Bounds.{where_clause_view};
 ghost use Rattle.lalrpop_norm_tree.specs.Items.{conversion_view, enum_token_view, extern_token_view, grammar_view, item_view};
-ghost use Rattle.lalrpop_norm_pattern.specs.Patterns.{pattern_view};
+ghost use Rattle.lalrpop_norm_tree_patterns.specs.Patterns.{pattern_view};
 ghost use Rattle.lalrpop_norm_tree.specs.Types.{parameter_view, type_view};
 
 use super::copy::copy_associated_types;
 use super::{Conversion, EnumToken, ExternToken, Grammar, GrammarItem};
 use crate::types::{Parameter, TypeRef};
-use lalrpop_norm_parts::attribute::copy::copy_attributes;
-use lalrpop_norm_parts::bound::WhereClause;
-use lalrpop_norm_parts::names::copy::{copy_texts, copy_type_parameters};
-use lalrpop_norm_pattern::pattern::Pattern;
+use lalrpop_norm_tree_parts::attribute::copy::copy_attributes;
+use lalrpop_norm_tree_parts::bound::WhereClause;
+use lalrpop_norm_tree_parts::names::copy::{copy_texts, copy_type_parameters};
+use lalrpop_norm_tree_patterns::pattern::Pattern;
 use shared_text::NoMemory;
 use std::alloc::Global;
 
@@ -133,7 +133,7 @@ fn copy_conversions(alloc: Global, conversions: &[Conversion]) -> Result<Vec<Con
     Ok(copies)
 }
 
-#[tactic(auto, using(lalrpop_norm_parts::proofs::CopyLemmas::same_views))]
+#[tactic(auto, using(lalrpop_norm_tree_parts::proofs::CopyLemmas::same_views))]
 fn copy_parameters(parameters: &Vec<Parameter>) -> Result<Vec<Parameter>, NoMemory>
     ensures { IfOk result (λ copies. map parameter_view copies.items ≡ map parameter_view parameters.now.items) }
 {

@@ -3,7 +3,7 @@ ghost use Rattle.std.specs.Prelude.{◌≡◌, IfOk, map, option_map};
 ghost use Rattle.lalrpop_norm_tree.specs.Types.{type_view, parameter_view};
 
 use super::{Parameter, TypeRef};
-use lalrpop_norm_parts::names::copy::copy_type_parameters;
+use lalrpop_norm_tree_parts::names::copy::copy_type_parameters;
 use std::alloc::{AllocError, Global};
 
 impl Clone for TypeRef {

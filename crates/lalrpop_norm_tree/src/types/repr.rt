@@ -1,14 +1,14 @@
 //! What written types become.
 ghost use Rattle.std.specs.Prelude.{◌≡◌, ◌↔◌, Bool, true, false, option_map, IfOk, IsTrue, IsErrOf};
 ghost use Rattle.lalrpop_norm_tree.specs.LoweredTypes.{holds_symbol, any_holds_symbol, result_holds_symbol, named_path, repr_of, all_reprs_of, result_repr_of};
-ghost use Rattle.lalrpop_norm_parts.specs.Paths.{path_view};
-ghost use Rattle.lalrpop_norm_parts.specs.Reprs.{repr_view, reprs_view, applied_view, maybe_repr_of, no_reprs};
+ghost use Rattle.lalrpop_norm_tree_parts.specs.Paths.{path_view};
+ghost use Rattle.lalrpop_norm_tree_parts.specs.Reprs.{repr_view, reprs_view, applied_view, maybe_repr_of, no_reprs};
 ghost use Rattle.lalrpop_norm_tree.specs.Types.{type_view, types_view, maybe_of};
 
 use super::TypeRef;
-use lalrpop_norm_parts::lowered::{NominalTypeRepr, TypeRepr};
-use lalrpop_norm_parts::names::copy::copy_type_parameters;
-use lalrpop_norm_parts::path::Path;
+use lalrpop_norm_tree_parts::lowered::{NominalTypeRepr, TypeRepr};
+use lalrpop_norm_tree_parts::names::copy::copy_type_parameters;
+use lalrpop_norm_tree_parts::path::Path;
 use shared_text::{Atom, NoMemory};
 use std::alloc::{AllocError, Global};
 

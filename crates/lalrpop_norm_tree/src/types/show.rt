@@ -1,21 +1,21 @@
 //! The texts of written types.
 ghost use Rattle.std.specs.Prelude.{Some, codes, option_map, ◌++◌};
 ghost use Rattle.std.specs.Fmt.{WritesOnOk};
-ghost use Rattle.lalrpop_norm_parts.specs.Paths.{path_view};
+ghost use Rattle.lalrpop_norm_tree_parts.specs.Paths.{path_view};
 ghost use Rattle.lalrpop_norm_tree.specs.Types.{type_view, types_view, maybe_of};
 ghost use Rattle.lalrpop_norm_tree.specs.Symbols.{kind_view};
-ghost use Rattle.lalrpop_norm_names.specs.Texts.{joined};
+ghost use Rattle.lalrpop_norm_tree_names.specs.Texts.{joined};
 ghost use Rattle.lalrpop_norm_tree.specs.SymbolTexts.{kind_text};
-ghost use Rattle.lalrpop_norm_parts.specs.TypeTexts.{angled, path_text, signature_text};
+ghost use Rattle.lalrpop_norm_tree_parts.specs.TypeTexts.{angled, path_text, signature_text};
 ghost use Rattle.lalrpop_norm_tree.specs.WrittenTypeTexts.{type_text, type_texts, returned_text};
 
 use super::TypeRef;
 use crate::symbol::SymbolKind;
-use lalrpop_norm_parts::names::TypeParameter;
-use lalrpop_norm_parts::names::show::show_reference;
-use lalrpop_norm_parts::path::Path;
-use lalrpop_norm_parts::path::show::show_forall_path;
-use lalrpop_norm_parts::show::{show_angled, show_between};
+use lalrpop_norm_tree_parts::names::TypeParameter;
+use lalrpop_norm_tree_parts::names::show::show_reference;
+use lalrpop_norm_tree_parts::path::Path;
+use lalrpop_norm_tree_parts::path::show::show_forall_path;
+use lalrpop_norm_tree_parts::show::{show_angled, show_between};
 use std::fmt;
 
 impl fmt::Display for TypeRef {

@@ -1,12 +1,12 @@
 //! Alternatives that give another type than their rule has.
 ghost use Rattle.std.specs.Prelude.{flat_map, map, option_map};
 ghost use Rattle.lalrpop_norm_tree.specs.Items.{alternative_view, rule_view};
-ghost use Rattle.lalrpop_norm_parts.specs.Reprs.{repr_view};
+ghost use Rattle.lalrpop_norm_tree_parts.specs.Reprs.{repr_view};
 ghost use Rattle.lalrpop_norm_faults.specs.Faults.{Refuses, fault_if};
 ghost use Rattle.lalrpop_norm_faults.specs.declared.kind.FaultKind.TheVariants.{Disagreement};
 ghost use Rattle.lalrpop_norm_repr.specs.Tables.{type_table};
 ghost use Rattle.lalrpop_norm_model.specs.InferenceFaults.{is_other};
-ghost use Rattle.lalrpop_norm_typing.specs.TableFaults.{other_in, others_in};
+ghost use Rattle.lalrpop_norm_tyinfer_table.specs.TableFaults.{other_in, others_in};
 
 use crate::tyinfer::clauses::clause_value;
 use lalrpop_norm_faults::{FaultKind, NormResult, refusal};
@@ -14,9 +14,9 @@ use lalrpop_norm_repr::grammar::repr::{TypeRepr, Types};
 use lalrpop_norm_tree::grammar::parse_tree::{
     Alternative, NonterminalData, NonterminalString, Span, TypeParameter,
 };
-use lalrpop_norm_typing::clauses::alternative_clause;
-use lalrpop_norm_typing::rules::PlainRule;
-use lalrpop_norm_typing::same::is_same_type;
+use lalrpop_norm_tyinfer_table::clauses::alternative_clause;
+use lalrpop_norm_tyinfer_table::rules::PlainRule;
+use lalrpop_norm_tyinfer_table::same::is_same_type;
 use std::alloc::Global;
 
 /// Refuses an alternative of a rule without a declared type that gives another type than the rule has.

@@ -1,14 +1,14 @@
 //! What the clauses of a rule make of a table of types.
 ghost use Rattle.std.specs.Prelude.{◌≡◌, IfOk, map, option_map};
-ghost use Rattle.lalrpop_norm_parts.specs.Reprs.{repr_view, reprs_view};
+ghost use Rattle.lalrpop_norm_tree_parts.specs.Reprs.{repr_view, reprs_view};
 ghost use Rattle.lalrpop_norm_tree.specs.Symbols.{kind_view};
 ghost use Rattle.lalrpop_norm_repr.specs.Tables.{type_table};
-ghost use Rattle.lalrpop_norm_typing.specs.Clauses.{kinds_in, sources_in, clause_view, clause_in, first_in};
+ghost use Rattle.lalrpop_norm_tyinfer_table.specs.Clauses.{kinds_in, sources_in, clause_view, clause_in, first_in};
 
 use lalrpop_norm_repr::grammar::repr::{TypeRepr, Types};
 use lalrpop_norm_tree::grammar::parse_tree::{NoMemory, Symbol, TypeParameter};
-use lalrpop_norm_typing::clauses::Clause;
-use lalrpop_norm_typing::values::{copy_of, kind_value, type_value};
+use lalrpop_norm_tyinfer_table::clauses::Clause;
+use lalrpop_norm_tyinfer_table::values::{copy_of, kind_value, type_value};
 use std::alloc::Global;
 
 /// A copy of the type that a clause makes of the table, if it makes one.

@@ -1,18 +1,18 @@
 //! Rounds in which rules take their types.
 ghost use Rattle.std.specs.Prelude.{◌≡◌, [], ◌∷◌, None, Some, IfOk, OnOk, length, map};
-ghost use Rattle.lalrpop_norm_names.specs.declared.names.NonterminalString.{NonterminalString};
-ghost use Rattle.lalrpop_norm_parts.specs.Reprs.{repr_view};
+ghost use Rattle.lalrpop_norm_tree_names.specs.declared.names.NonterminalString.{NonterminalString};
+ghost use Rattle.lalrpop_norm_tree_parts.specs.Reprs.{repr_view};
 ghost use Rattle.lalrpop_norm_repr.specs.Tables.{type_table, type_of};
-ghost use Rattle.lalrpop_norm_typing.specs.Clauses.{clause_view, first_in};
-ghost use Rattle.lalrpop_norm_typing.specs.Visits.{rule_seen, EndsRounds, Passes, TakesType};
-ghost use Rattle.lalrpop_norm_typing.specs.Waiting.{Covers, VisitsOne, Waits, Wakes};
+ghost use Rattle.lalrpop_norm_tyinfer_table.specs.Clauses.{clause_view, first_in};
+ghost use Rattle.lalrpop_norm_tyinfer_table.specs.Visits.{rule_seen, EndsRounds, Passes, TakesType};
+ghost use Rattle.lalrpop_norm_tyinfer_table.specs.Waiting.{Covers, VisitsOne, Waits, Wakes};
 
 use crate::tyinfer::clauses::first_value;
 use lalrpop_norm_repr::grammar::repr::{TypeRepr, Types};
 use lalrpop_norm_tree::grammar::parse_tree::{NoMemory, NonterminalString, TypeParameter};
-use lalrpop_norm_typing::dependents::Dependents;
-use lalrpop_norm_typing::places::Places;
-use lalrpop_norm_typing::rules::PlainRule;
+use lalrpop_norm_tyinfer_table::dependents::Dependents;
+use lalrpop_norm_tyinfer_table::places::Places;
+use lalrpop_norm_tyinfer_table::rules::PlainRule;
 use std::alloc::Global;
 
 /// Gives a nonterminal that has no type yet its type.

@@ -1,5 +1,5 @@
 use Rattle.std.proofs.Common.{codes}
-use Rattle.lalrpop_norm_parts.proofs.KnownTextLemmas.{joined_known-all}
+use Rattle.lalrpop_norm_tree_parts.proofs.KnownTextLemmas.{joined_known-all}
 use Rattle.lalrpop_norm_repr.specs.ReprTexts.{symbol_text}
 use Rattle.lalrpop_norm_repr.proofs.production.show_symbols.Goals as goal
 

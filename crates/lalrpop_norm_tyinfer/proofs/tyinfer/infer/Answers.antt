@@ -1,6 +1,6 @@
 use Rattle.lalrpop_norm_tree.specs.Items.{grammar_view}
 use Rattle.lalrpop_norm_repr.specs.Tables.{type_table}
-use Rattle.lalrpop_norm_typing.proofs.FilledLemmas.{clauses_refused, table_refused, none_refused, none_inferred}
+use Rattle.lalrpop_norm_tyinfer_table.proofs.FilledLemmas.{clauses_refused, table_refused, none_refused, none_inferred}
 use Rattle.lalrpop_norm_tyinfer.proofs.tyinfer.infer.Goals as goal
 
 pub returns-in_err-check_clauses-clause-refuses : goal.returns-in_err-check_clauses-clause-refuses

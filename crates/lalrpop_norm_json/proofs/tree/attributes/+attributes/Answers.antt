@@ -1,13 +1,13 @@
 use Rattle.std.proofs.Common.{rules, arith, ◌<◌, refl, ap, sym, ◌∙◌}
 use Rattle.json_document.specs.View.{view}
 use Rattle.serde_json.specs.Data.{array, object}
-use Rattle.lalrpop_norm_parts.proofs.AttributeViews.{attribute_seen}
+use Rattle.lalrpop_norm_tree_parts.proofs.AttributeViews.{attribute_seen}
 use Rattle.lalrpop_norm_json.specs.Forms.{attribute_form}
-use Rattle.lalrpop_norm_shapes.specs.Weight.{weight}
-use Rattle.lalrpop_norm_shapes.proofs.Refusals.{whole_list, no_list, lighter}
+use Rattle.lalrpop_norm_json_shapes.specs.Weight.{weight}
+use Rattle.lalrpop_norm_json_shapes.proofs.Refusals.{whole_list, no_list, lighter}
 use Rattle.lalrpop_norm_json.proofs.FormLemmas.{pushed_more, attributes_items}
 use Rattle.lalrpop_norm_json.proofs.MemberLemma.{member_is}
-use Rattle.lalrpop_norm_parts.specs.Attributes.{attribute_view}
+use Rattle.lalrpop_norm_tree_parts.specs.Attributes.{attribute_view}
 use Rattle.lalrpop_norm_json.proofs.tree.attributes.+attributes.Goals as goal
 
 pub attributes-returns-clause-ok : goal.attributes-returns-clause-ok

@@ -1,10 +1,10 @@
 use Rattle.std.proofs.Common.{◌≡◌, map}
 use Rattle.serde_json.specs.Data.{array}
 use Rattle.json_document.specs.View.{view, items_view}
-use Rattle.lalrpop_norm_parts.specs.Attributes.{attribute_view}
+use Rattle.lalrpop_norm_tree_parts.specs.Attributes.{attribute_view}
 use Rattle.lalrpop_norm_json.specs.Forms.{attribute_form}
-use Rattle.lalrpop_norm_shapes.specs.Weight.{weight}
-use Rattle.lalrpop_norm_shapes.proofs.Refusals.{onto, count}
+use Rattle.lalrpop_norm_json_shapes.specs.Weight.{weight}
+use Rattle.lalrpop_norm_json_shapes.proofs.Refusals.{onto, count}
 use Rattle.lalrpop_norm_json.proofs.tree.attributes.+attributes.Given as goal
 
 abbrev pub decreases-argument : goal.decreases-argument

@@ -1,6 +1,6 @@
 use Rattle.std.proofs.Common.{codes, refl, ap, ◌∙◌}
 use Rattle.serde_json.specs.Data.{object}
-use Rattle.lalrpop_norm_parts.specs.Bounds.{bound_view}
+use Rattle.lalrpop_norm_tree_parts.specs.Bounds.{bound_view}
 use Rattle.lalrpop_norm_tree.specs.Types.{type_view}
 use Rattle.lalrpop_norm_json.specs.Json.{variant}
 use Rattle.lalrpop_norm_json.specs.TypeForms.{bound_form}

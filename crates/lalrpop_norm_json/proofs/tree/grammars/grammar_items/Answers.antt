@@ -1,5 +1,5 @@
 use Rattle.std.proofs.Common.{rules}
-use Rattle.lalrpop_norm_shapes.proofs.Refusals.{no_list}
+use Rattle.lalrpop_norm_json_shapes.proofs.Refusals.{no_list}
 use Rattle.lalrpop_norm_json.proofs.ItemLemmas.{whole_items, items_pushed}
 use Rattle.lalrpop_norm_json.proofs.tree.grammars.grammar_items.Goals as goal
 

@@ -1,5 +1,5 @@
 use Rattle.json_document.specs.View.{view, items_view}
-use Rattle.lalrpop_norm_shapes.proofs.Refusals.{count}
+use Rattle.lalrpop_norm_json_shapes.proofs.Refusals.{count}
 use Rattle.lalrpop_norm_json.proofs.ItemLemmas.{ItemsRead}
 use Rattle.lalrpop_norm_json.proofs.tree.grammars.grammar_items.Given as goal
 

@@ -1,5 +1,5 @@
 use Rattle.std.proofs.Common.{rules}
-use Rattle.lalrpop_norm_shapes.proofs.Refusals.{whole_list, read_more, no_list}
+use Rattle.lalrpop_norm_json_shapes.proofs.Refusals.{whole_list, read_more, no_list}
 use Rattle.lalrpop_norm_json.proofs.tree.parts.list.Goals as goal
 
 pub loop-element-preserved : goal.loop-element-preserved

@@ -1,7 +1,7 @@
 use Rattle.std.proofs.Common.{◌≡◌, map}
 use Rattle.serde_json.specs.Data.{array}
 use Rattle.json_document.specs.View.{view, items_view}
-use Rattle.lalrpop_norm_shapes.proofs.Refusals.{onto, count}
+use Rattle.lalrpop_norm_json_shapes.proofs.Refusals.{onto, count}
 use Rattle.lalrpop_norm_json.proofs.tree.parts.list.Given as goal
 
 abbrev pub invariant-loop-element : goal.invariant-loop-element

@@ -1,16 +1,16 @@
 use Rattle.std.proofs.Common.{rules, arith, ◌<◌, refl, ap, sym, ◌∙◌}
 use Rattle.json_document.specs.View.{view}
 use Rattle.serde_json.specs.Data.{array, object}
-use Rattle.lalrpop_norm_pattern.proofs.PatternViews.{pattern_seen}
+use Rattle.lalrpop_norm_tree_patterns.proofs.PatternViews.{pattern_seen}
 use Rattle.lalrpop_norm_tree.specs.Types.{type_view}
 use Rattle.lalrpop_norm_json.specs.PatternForms.{pattern_form, field_form}
-use Rattle.lalrpop_norm_shapes.specs.Weight.{weight}
-use Rattle.lalrpop_norm_shapes.proofs.Refusals.{whole_list, no_list, lighter}
+use Rattle.lalrpop_norm_json_shapes.specs.Weight.{weight}
+use Rattle.lalrpop_norm_json_shapes.proofs.Refusals.{whole_list, no_list, lighter}
 use Rattle.lalrpop_norm_json.proofs.CaseLemmas.{no_case}
 use Rattle.lalrpop_norm_json.proofs.FormLemmas.{pushed_more, patterns_items, fields_items}
 use Rattle.lalrpop_norm_json.proofs.MemberLemma.{member_is}
 use Rattle.lalrpop_norm_json.proofs.PatternLemmas.{field_seen}
-use Rattle.lalrpop_norm_pattern.specs.Patterns.{pattern_view, field_view}
+use Rattle.lalrpop_norm_tree_patterns.specs.Patterns.{pattern_view, field_view}
 use Rattle.lalrpop_norm_json.proofs.tree.patterns.+pattern.Goals as goal
 
 pub patterns-returns-clause-ok : goal.patterns-returns-clause-ok

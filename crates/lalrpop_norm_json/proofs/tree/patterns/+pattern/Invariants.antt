@@ -2,10 +2,10 @@ use Rattle.std.proofs.Common.{◌≡◌, map}
 use Rattle.serde_json.specs.Data.{array}
 use Rattle.json_document.specs.View.{view, items_view}
 use Rattle.lalrpop_norm_tree.specs.Types.{type_view}
-use Rattle.lalrpop_norm_pattern.specs.Patterns.{pattern_view, field_view}
+use Rattle.lalrpop_norm_tree_patterns.specs.Patterns.{pattern_view, field_view}
 use Rattle.lalrpop_norm_json.specs.PatternForms.{pattern_form, field_form}
-use Rattle.lalrpop_norm_shapes.specs.Weight.{weight}
-use Rattle.lalrpop_norm_shapes.proofs.Refusals.{onto, count}
+use Rattle.lalrpop_norm_json_shapes.specs.Weight.{weight}
+use Rattle.lalrpop_norm_json_shapes.proofs.Refusals.{onto, count}
 use Rattle.lalrpop_norm_json.proofs.tree.patterns.+pattern.Given as goal
 
 abbrev pub decreases-pattern : goal.decreases-pattern

@@ -3,8 +3,8 @@ use Rattle.json_document.specs.View.{view}
 use Rattle.serde_json.specs.Data.{array, object}
 use Rattle.lalrpop_norm_tree.proofs.SymbolViews.{symbol_seen, group_seen}
 use Rattle.lalrpop_norm_json.specs.SymbolForms.{part_form, group_form}
-use Rattle.lalrpop_norm_shapes.specs.Weight.{weight}
-use Rattle.lalrpop_norm_shapes.proofs.Refusals.{whole_list, read_more, no_list, lighter}
+use Rattle.lalrpop_norm_json_shapes.specs.Weight.{weight}
+use Rattle.lalrpop_norm_json_shapes.proofs.Refusals.{whole_list, read_more, no_list, lighter}
 use Rattle.lalrpop_norm_json.proofs.CaseLemmas.{no_case}
 use Rattle.lalrpop_norm_json.proofs.FormLemmas.{parts_items}
 use Rattle.lalrpop_norm_json.proofs.MemberLemma.{member_is}

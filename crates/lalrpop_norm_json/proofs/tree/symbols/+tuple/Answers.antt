@@ -2,8 +2,8 @@ use Rattle.std.proofs.Common.{rules, arith, ◌<◌, refl, ap, sym, ◌∙◌}
 use Rattle.json_document.specs.View.{view}
 use Rattle.serde_json.specs.Data.{array, object}
 use Rattle.lalrpop_norm_json.specs.SymbolForms.{tuple_form}
-use Rattle.lalrpop_norm_shapes.specs.Weight.{weight}
-use Rattle.lalrpop_norm_shapes.proofs.Refusals.{whole_list, read_more, no_list, lighter}
+use Rattle.lalrpop_norm_json_shapes.specs.Weight.{weight}
+use Rattle.lalrpop_norm_json_shapes.proofs.Refusals.{whole_list, read_more, no_list, lighter}
 use Rattle.lalrpop_norm_json.proofs.FormLemmas.{arguments_items}
 use Rattle.lalrpop_norm_json.proofs.MemberLemma.{member_is}
 use Rattle.lalrpop_norm_json.proofs.TupleLemmas.{tuple_seen}

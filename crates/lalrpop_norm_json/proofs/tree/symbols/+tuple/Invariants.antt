@@ -3,8 +3,8 @@ use Rattle.serde_json.specs.Data.{array}
 use Rattle.json_document.specs.View.{view, items_view}
 use Rattle.lalrpop_norm_tree.specs.Symbols.{argument_pattern_view}
 use Rattle.lalrpop_norm_json.specs.SymbolForms.{argument_pattern_form}
-use Rattle.lalrpop_norm_shapes.specs.Weight.{weight}
-use Rattle.lalrpop_norm_shapes.proofs.Refusals.{onto, count}
+use Rattle.lalrpop_norm_json_shapes.specs.Weight.{weight}
+use Rattle.lalrpop_norm_json_shapes.proofs.Refusals.{onto, count}
 use Rattle.lalrpop_norm_json.proofs.tree.symbols.+tuple.Given as goal
 
 abbrev pub decreases-argument_pattern : goal.decreases-argument_pattern

@@ -1,8 +1,8 @@
 use Rattle.std.proofs.Common.{rules, arith, ◌<◌, ap, ◌∙◌}
 use Rattle.json_document.specs.View.{view}
 use Rattle.serde_json.specs.Data.{array}
-use Rattle.lalrpop_norm_shapes.specs.Weight.{weight}
-use Rattle.lalrpop_norm_shapes.proofs.Refusals.{whole_list, read_more, no_list, lighter}
+use Rattle.lalrpop_norm_json_shapes.specs.Weight.{weight}
+use Rattle.lalrpop_norm_json_shapes.proofs.Refusals.{whole_list, read_more, no_list, lighter}
 use Rattle.lalrpop_norm_json.proofs.CaseLemmas.{no_case}
 use Rattle.lalrpop_norm_json.proofs.FormLemmas.{types_items}
 use Rattle.lalrpop_norm_tree.specs.Types.{type_view}

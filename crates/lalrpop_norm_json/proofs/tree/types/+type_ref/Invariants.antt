@@ -3,8 +3,8 @@ use Rattle.serde_json.specs.Data.{array}
 use Rattle.json_document.specs.View.{view, items_view}
 use Rattle.lalrpop_norm_tree.specs.Types.{type_view}
 use Rattle.lalrpop_norm_json.specs.TypeForms.{type_form}
-use Rattle.lalrpop_norm_shapes.specs.Weight.{weight}
-use Rattle.lalrpop_norm_shapes.proofs.Refusals.{onto, count}
+use Rattle.lalrpop_norm_json_shapes.specs.Weight.{weight}
+use Rattle.lalrpop_norm_json_shapes.proofs.Refusals.{onto, count}
 use Rattle.lalrpop_norm_json.proofs.tree.types.+type_ref.Given as goal
 
 abbrev pub decreases-type_ref : goal.decreases-type_ref

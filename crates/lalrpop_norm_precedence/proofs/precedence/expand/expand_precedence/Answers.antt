@@ -5,7 +5,7 @@ use Rattle.lalrpop_norm_faults.specs.Faults.{Fault, first}
 use Rattle.lalrpop_norm_model.specs.Scopes.{globals, resolved_grammar}
 use Rattle.lalrpop_norm_model.specs.LevelRules.{leveled_grammar}
 use Rattle.lalrpop_norm_resolve.specs.NameFaults.{repeated_faults, item_name_faults, resolve_faults}
-use Rattle.lalrpop_norm_alternatives.specs.LevelFaults.{grammar_level_faults}
+use Rattle.lalrpop_norm_precedence_steps.specs.LevelFaults.{grammar_level_faults}
 use Rattle.lalrpop_norm_precedence.specs.MacroLevels.{macro_item_faults}
 use Rattle.lalrpop_norm_precedence.specs.PrecedenceFaults.{level_items_faults, leveled_faults, precedence_faults}
 use Rattle.lalrpop_norm_model.proofs.ResolvedLemmas.{same_globals}

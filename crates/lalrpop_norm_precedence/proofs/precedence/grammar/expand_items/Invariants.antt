@@ -2,7 +2,7 @@ use Rattle.std.proofs.Common.{◌≡◌, ◌++◌, map}
 use Rattle.std.specs.List.{flat_map}
 use Rattle.lalrpop_norm_tree.specs.Items.{item_view}
 use Rattle.lalrpop_norm_model.specs.LevelRules.{level_items}
-use Rattle.lalrpop_norm_alternatives.specs.LevelFaults.{item_level_faults}
+use Rattle.lalrpop_norm_precedence_steps.specs.LevelFaults.{item_level_faults}
 use Rattle.lalrpop_norm_precedence.specs.MadeNames.{item_made_names}
 use Rattle.lalrpop_norm_precedence.proofs.precedence.grammar.expand_items.Given as goal
 

@@ -1,6 +1,6 @@
 use Rattle.std.proofs.Common.{◌≡◌, ◌+◌, ◌++◌, length, map, drop}
 use Rattle.lalrpop_norm_tree.specs.Items.{alternative_view}
-use Rattle.lalrpop_norm_alternatives.specs.StatedLevels.{alternative_level_view}
+use Rattle.lalrpop_norm_precedence_steps.specs.StatedLevels.{alternative_level_view}
 use Rattle.lalrpop_norm_precedence.specs.Grouped.{marked_view, marked_with}
 use Rattle.lalrpop_norm_precedence.proofs.precedence.groups.mark.Given as goal
 

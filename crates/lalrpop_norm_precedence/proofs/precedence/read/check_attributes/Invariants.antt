@@ -1,7 +1,7 @@
 use Rattle.std.proofs.Common.{◌≡◌, map, drop}
 use Rattle.std.specs.List.{flat_map}
 use Rattle.lalrpop_norm_tree.specs.Items.{alternative_view}
-use Rattle.lalrpop_norm_alternatives.specs.LevelFaults.{level_attribute_faults}
+use Rattle.lalrpop_norm_precedence_steps.specs.LevelFaults.{level_attribute_faults}
 use Rattle.lalrpop_norm_precedence.proofs.precedence.read.check_attributes.Given as goal
 
 abbrev pub invariant-loop-alternative : goal.invariant-loop-alternative

@@ -1,7 +1,7 @@
 use Rattle.std.proofs.Common.{◌≡◌, ◌++◌, None, map, drop, option_map}
 use Rattle.lalrpop_norm_tree.specs.Items.{alternative_view}
-use Rattle.lalrpop_norm_alternatives.specs.Sides.{side_of}
-use Rattle.lalrpop_norm_alternatives.specs.StatedLevels.{alternative_level_view}
+use Rattle.lalrpop_norm_precedence_steps.specs.Sides.{side_of}
+use Rattle.lalrpop_norm_precedence_steps.specs.StatedLevels.{alternative_level_view}
 use Rattle.lalrpop_norm_precedence.specs.Handed.{handed_levels}
 use Rattle.lalrpop_norm_precedence.proofs.precedence.read.hand_on.Given as goal
 

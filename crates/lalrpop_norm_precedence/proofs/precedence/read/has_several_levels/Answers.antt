@@ -3,8 +3,8 @@ use Rattle.std.specs.Prelude.{nat_lt}
 use Rattle.lalrpop_norm_tree.specs.Items.{alternative_view, rule_view}
 use Rattle.lalrpop_norm_model.specs.Enabled.{all_places}
 use Rattle.lalrpop_norm_model.specs.Levels.{has_levels, with_levels, levels_of}
-use Rattle.lalrpop_norm_alternatives.specs.declared.levels.AlternativeLevel.{AlternativeLevel}
-use Rattle.lalrpop_norm_alternatives.specs.StatedLevels.{alternative_level_view, differ}
+use Rattle.lalrpop_norm_precedence_steps.specs.declared.levels.AlternativeLevel.{AlternativeLevel}
+use Rattle.lalrpop_norm_precedence_steps.specs.StatedLevels.{alternative_level_view, differ}
 use Rattle.lalrpop_norm_precedence.specs.Handed.{handed_levels}
 use Rattle.lalrpop_norm_precedence.proofs.SeveralLemmas.{several_read}
 use Rattle.lalrpop_norm_precedence.proofs.precedence.read.has_several_levels.Goals as goal

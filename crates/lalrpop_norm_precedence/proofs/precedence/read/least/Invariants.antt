@@ -1,7 +1,7 @@
 use Rattle.std.proofs.Common.{◌≡◌, map, drop}
-use Rattle.lalrpop_norm_alternatives.specs.LevelFaults.{least}
-use Rattle.lalrpop_norm_alternatives.specs.StatedLevels.{alternative_level_view}
-use Rattle.lalrpop_norm_alternatives.specs.declared.levels.AlternativeLevel.{AlternativeLevel}
+use Rattle.lalrpop_norm_precedence_steps.specs.LevelFaults.{least}
+use Rattle.lalrpop_norm_precedence_steps.specs.StatedLevels.{alternative_level_view}
+use Rattle.lalrpop_norm_precedence_steps.specs.declared.levels.AlternativeLevel.{AlternativeLevel}
 use Rattle.lalrpop_norm_precedence.proofs.precedence.read.least.Given as goal
 
 abbrev pub invariant-loop-i : goal.invariant-loop-i

@@ -2,9 +2,9 @@ use Rattle.std.proofs.Common.{◌≡◌, [], None, map, sym, ◌∙◌}
 use Rattle.std.specs.Prelude.{unwrap_or}
 use Rattle.std.specs.List.{flat_map}
 use Rattle.lalrpop_norm_tree.specs.Items.{rule_view}
-use Rattle.lalrpop_norm_alternatives.specs.declared.levels.AlternativeLevel.{AlternativeLevel}
-use Rattle.lalrpop_norm_alternatives.specs.LevelFaults.{missing_level_faults, level_attribute_faults, least, level_faults}
-use Rattle.lalrpop_norm_alternatives.specs.StatedLevels.{alternative_level_view}
+use Rattle.lalrpop_norm_precedence_steps.specs.declared.levels.AlternativeLevel.{AlternativeLevel}
+use Rattle.lalrpop_norm_precedence_steps.specs.LevelFaults.{missing_level_faults, level_attribute_faults, least, level_faults}
+use Rattle.lalrpop_norm_precedence_steps.specs.StatedLevels.{alternative_level_view}
 use Rattle.lalrpop_norm_precedence.specs.Handed.{handed_levels, handed_faults}
 use Rattle.lalrpop_norm_precedence.proofs.ReadLemmas.{levels_read, level_faults_read, exit_last}
 use Rattle.lalrpop_norm_precedence.proofs.precedence.read.read_levels.Goals as goal

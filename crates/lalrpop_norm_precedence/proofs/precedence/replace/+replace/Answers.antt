@@ -1,8 +1,8 @@
 use Rattle.std.proofs.Common.{◌≡◌, ◌<◌, ◌+◌, ◌-◌, length, get_or, arith, rules, map, sym, ap, ◌∙◌}
 use Rattle.std.proofs.lemmas.List.{get_or_default}
 use Rattle.lalrpop_norm_tree.specs.Symbols.{kind_view, symbol_view}
-use Rattle.lalrpop_norm_alternatives.specs.declared.occurrences.Direction.TheVariants.{Forward, Backward}
-use Rattle.lalrpop_norm_alternatives.specs.Substitutions.{Plan, met_kind}
+use Rattle.lalrpop_norm_precedence_steps.specs.declared.occurrences.Direction.TheVariants.{Forward, Backward}
+use Rattle.lalrpop_norm_precedence_steps.specs.Substitutions.{Plan, met_kind}
 use Rattle.lalrpop_norm_precedence.specs.Substituted.{is_target, once_met}
 use Rattle.lalrpop_norm_precedence.proofs.WalkLemmas.{forward_value, forward_plan, backward_value, backward_plan, forward_end, backward_end, planned_parts, count_one_by_one, forward_none, backward_none}
 use Rattle.lalrpop_norm_precedence.proofs.precedence.replace.+replace.Goals as goal

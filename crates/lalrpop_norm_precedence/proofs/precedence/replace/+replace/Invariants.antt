@@ -1,8 +1,8 @@
 use Rattle.std.proofs.Common.{◌≡◌, ◌≤◌, ◌<◌, ℕ, map, take, drop, ◌++◌, slice_index_or}
 use Rattle.lalrpop_norm_tree.specs.declared.symbol.Symbol.{Symbol}
 use Rattle.lalrpop_norm_tree.specs.Symbols.{kind_view, symbol_view}
-use Rattle.lalrpop_norm_alternatives.specs.declared.occurrences.Direction.TheVariants.{Forward, Backward}
-use Rattle.lalrpop_norm_alternatives.specs.Substitutions.{met_kind}
+use Rattle.lalrpop_norm_precedence_steps.specs.declared.occurrences.Direction.TheVariants.{Forward, Backward}
+use Rattle.lalrpop_norm_precedence_steps.specs.Substitutions.{met_kind}
 use Rattle.lalrpop_norm_precedence.specs.Substituted.{is_target, count_each, substituted_each, once_met}
 use Rattle.lalrpop_norm_precedence.proofs.precedence.replace.+replace.Given as goal
 

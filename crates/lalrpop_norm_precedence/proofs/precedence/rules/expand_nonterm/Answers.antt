@@ -2,8 +2,8 @@ use Rattle.std.proofs.Common.{◌≡◌, ◌∙◌, length, [], ◌∷◌, map, 
 use Rattle.lalrpop_norm_tree.specs.Items.{alternative_view, rule_view}
 use Rattle.lalrpop_norm_model.specs.Enabled.{all_places}
 use Rattle.lalrpop_norm_model.specs.Levels.{has_levels}
-use Rattle.lalrpop_norm_alternatives.specs.LevelFaults.{levels_and_sides}
-use Rattle.lalrpop_norm_alternatives.specs.StatedLevels.{alternative_level_view}
+use Rattle.lalrpop_norm_precedence_steps.specs.LevelFaults.{levels_and_sides}
+use Rattle.lalrpop_norm_precedence_steps.specs.StatedLevels.{alternative_level_view}
 use Rattle.lalrpop_norm_precedence.specs.Grouped.{group_view, marked_with, grouped}
 use Rattle.lalrpop_norm_precedence.proofs.LevelNameLemmas.{no_level_rules}
 use Rattle.lalrpop_norm_precedence.proofs.UnleveledLemmas.{no_level_faults}

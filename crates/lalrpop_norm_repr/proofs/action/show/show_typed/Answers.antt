@@ -1,6 +1,6 @@
 use Rattle.std.proofs.Common.{refl, codes}
 use Rattle.std.proofs.Output.{has_written_append, has_written_of_eq}
-use Rattle.lalrpop_norm_parts.specs.Reprs.{repr_view}
+use Rattle.lalrpop_norm_tree_parts.specs.Reprs.{repr_view}
 use Rattle.lalrpop_norm_tree.specs.Symbols.{argument_pattern_view}
 use Rattle.lalrpop_norm_repr.specs.ReprTexts.{typed_text}
 use Rattle.lalrpop_norm_repr.proofs.SymbolTexts.{joined_pairs}

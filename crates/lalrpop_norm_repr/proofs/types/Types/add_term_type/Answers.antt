@@ -1,6 +1,6 @@
 use Rattle.std.proofs.Common.{ap, sym, ◌∙◌}
 use Rattle.std.specs.Prelude.{option_map}
-use Rattle.lalrpop_norm_parts.specs.Reprs.{repr_view}
+use Rattle.lalrpop_norm_tree_parts.specs.Reprs.{repr_view}
 use Rattle.lalrpop_norm_repr.proofs.TableLemmas.{found_terminal_rows, other_terminal}
 use Rattle.lalrpop_norm_repr.proofs.TerminalOrder.{terminal_ties}
 use Rattle.lalrpop_norm_repr.proofs.types.Types.add_term_type.Goals as goal

@@ -1,7 +1,7 @@
 use Rattle.std.proofs.Common.{ap, sym, ◌∙◌}
 use Rattle.std.specs.Prelude.{option_map}
 use Rattle.std.proofs.lemmas.Map.Text.{is_eq-slice_cmp}
-use Rattle.lalrpop_norm_parts.specs.Reprs.{repr_view}
+use Rattle.lalrpop_norm_tree_parts.specs.Reprs.{repr_view}
 use Rattle.lalrpop_norm_repr.proofs.TableLemmas.{found_rows, other_name}
 use Rattle.lalrpop_norm_repr.proofs.types.Types.add_type.Goals as goal
 

@@ -1,5 +1,5 @@
 use Rattle.std.proofs.Common.{sym, ◌∙◌, IsSome, Option, subst}
-use Rattle.lalrpop_norm_parts.specs.Reprs.{repr_view, ReprData}
+use Rattle.lalrpop_norm_tree_parts.specs.Reprs.{repr_view, ReprData}
 use Rattle.lalrpop_norm_repr.proofs.TableLemmas.{found_terminal_rows, some_of_map, some_map}
 use Rattle.lalrpop_norm_repr.proofs.TerminalOrder.{terminal_ties}
 use Rattle.lalrpop_norm_repr.proofs.types.Types.has_term_type.Goals as goal

@@ -1,9 +1,9 @@
 use Rattle.std.proofs.Common.{◌≡◌, ◌∙◌, ◌∷◌, [], map, ap, refl, codes, Option, unwrap_or}
 use Rattle.std.specs.Prelude.{option_map}
-use Rattle.lalrpop_norm_names.specs.declared.names.NonterminalString.{NonterminalString}
-use Rattle.lalrpop_norm_names.specs.declared.names.TerminalString.{TerminalString}
-use Rattle.lalrpop_norm_names.specs.declared.names.TerminalString.TheVariants.{Error}
-use Rattle.lalrpop_norm_parts.specs.Reprs.{ReprData, repr_view, unit_type, static_str}
+use Rattle.lalrpop_norm_tree_names.specs.declared.names.NonterminalString.{NonterminalString}
+use Rattle.lalrpop_norm_tree_names.specs.declared.names.TerminalString.{TerminalString}
+use Rattle.lalrpop_norm_tree_names.specs.declared.names.TerminalString.TheVariants.{Error}
+use Rattle.lalrpop_norm_tree_parts.specs.Reprs.{ReprData, repr_view, unit_type, static_str}
 use Rattle.lalrpop_norm_repr.specs.Tables.{rows, util_type}
 use Rattle.lalrpop_norm_repr.proofs.SameTables.{same_tables}
 use Rattle.lalrpop_norm_repr.proofs.types.Types.new.Goals as goal

@@ -1,6 +1,6 @@
 use Rattle.std.proofs.Common.{ap, sym, ◌∙◌, Option, IsSome, subst}
 use Rattle.std.specs.Prelude.{option_map}
-use Rattle.lalrpop_norm_parts.specs.Reprs.{repr_view, ReprData}
+use Rattle.lalrpop_norm_tree_parts.specs.Reprs.{repr_view, ReprData}
 use Rattle.lalrpop_norm_repr.proofs.TableLemmas.{found_rows, some_of_map}
 use Rattle.lalrpop_norm_repr.proofs.types.Types.nonterminal_type.Goals as goal
 

@@ -1,4 +1,4 @@
-use Rattle.lalrpop_norm_parts.specs.Reprs.{repr_view}
+use Rattle.lalrpop_norm_tree_parts.specs.Reprs.{repr_view}
 use Rattle.lalrpop_norm_repr.proofs.TableLemmas.{all_listed}
 use Rattle.lalrpop_norm_repr.proofs.types.Types.nonterminal_types.Goals as goal
 

@@ -2,7 +2,7 @@ use Rattle.std.proofs.Common.{sym, subst}
 use Rattle.std.specs.List.Sorted.{IsStrictlySortedBy}
 use Rattle.std.specs.Map.{keys_of}
 use Rattle.std.proofs.lemmas.Map.Made.{keys_of-map_values}
-use Rattle.lalrpop_norm_parts.specs.Reprs.{repr_view}
+use Rattle.lalrpop_norm_tree_parts.specs.Reprs.{repr_view}
 use Rattle.lalrpop_norm_repr.specs.Orders.{name_cmp, terminal_cmp}
 use Rattle.lalrpop_norm_repr.proofs.TerminalOrder.{terminal_order}
 use Rattle.lalrpop_norm_repr.proofs.types.Types.rows_ascend.Goals as goal

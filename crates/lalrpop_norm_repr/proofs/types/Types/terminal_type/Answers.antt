@@ -2,8 +2,8 @@ use Rattle.std.proofs.Common.{ap, sym, ◌∙◌, Option, unwrap_or}
 use Rattle.std.specs.Prelude.{option_map}
 use Rattle.std.specs.Option.{option_copied}
 use denote.Ref.{Bor}
-use Rattle.lalrpop_norm_parts.specs.declared.lowered.TypeRepr.{TypeRepr}
-use Rattle.lalrpop_norm_parts.specs.Reprs.{repr_view, ReprData}
+use Rattle.lalrpop_norm_tree_parts.specs.declared.lowered.TypeRepr.{TypeRepr}
+use Rattle.lalrpop_norm_tree_parts.specs.Reprs.{repr_view, ReprData}
 use Rattle.lalrpop_norm_repr.proofs.TableLemmas.{found_terminal_rows}
 use Rattle.lalrpop_norm_repr.proofs.TerminalOrder.{terminal_ties}
 use Rattle.lalrpop_norm_repr.proofs.types.Types.terminal_type.Goals as goal

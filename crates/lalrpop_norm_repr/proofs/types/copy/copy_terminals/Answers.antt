@@ -1,5 +1,5 @@
 use Rattle.std.proofs.Common.{rules}
-use Rattle.lalrpop_norm_parts.specs.Reprs.{repr_view}
+use Rattle.lalrpop_norm_tree_parts.specs.Reprs.{repr_view}
 use Rattle.lalrpop_norm_repr.proofs.TableLemmas.{rows_of_clones}
 use Rattle.lalrpop_norm_repr.proofs.types.copy.copy_terminals.Goals as goal
 

@@ -1,5 +1,5 @@
 use Rattle.std.proofs.Common.{◌≡◌, ◌∙◌}
-use Rattle.lalrpop_norm_parts.specs.Reprs.{repr_view}
+use Rattle.lalrpop_norm_tree_parts.specs.Reprs.{repr_view}
 use Rattle.lalrpop_norm_repr.proofs.NominalViews.{view_nominal_of}
 use Rattle.lalrpop_norm_repr.proofs.types.made.util.Goals as goal
 

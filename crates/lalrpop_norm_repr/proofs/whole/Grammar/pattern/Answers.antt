@@ -1,7 +1,7 @@
 use Rattle.std.proofs.Common.{ap, sym, ◌∙◌, Option, IsSome, subst}
 use Rattle.std.specs.Prelude.{option_map}
-use Rattle.lalrpop_norm_pattern.specs.Patterns.{PatternData, pattern_view}
-use Rattle.lalrpop_norm_parts.specs.Reprs.{repr_view, ReprData}
+use Rattle.lalrpop_norm_tree_patterns.specs.Patterns.{PatternData, pattern_view}
+use Rattle.lalrpop_norm_tree_parts.specs.Reprs.{repr_view, ReprData}
 use Rattle.lalrpop_norm_repr.proofs.TableLemmas.{found_terminal_rows, some_of_map}
 use Rattle.lalrpop_norm_repr.proofs.TerminalOrder.{terminal_ties}
 use Rattle.lalrpop_norm_repr.proofs.whole.Grammar.pattern.Goals as goal

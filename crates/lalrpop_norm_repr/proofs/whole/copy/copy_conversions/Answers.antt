@@ -4,13 +4,13 @@ use Rattle.std.specs.Map.{keys_of}
 use Rattle.std.specs.Map.Iter.{deref_pair}
 use Rattle.std.proofs.lemmas.Map.Iter.{rest_more}
 use Rattle.std.proofs.lemmas.Map.Made.{keys_of-map_values}
-use Rattle.lalrpop_norm_names.specs.declared.names.TerminalString.{TerminalString}
-use Rattle.lalrpop_norm_pattern.specs.declared.pattern.Pattern.{Pattern}
-use Rattle.lalrpop_norm_parts.specs.declared.lowered.TypeRepr.{TypeRepr}
-use Rattle.lalrpop_norm_names.specs.contracts.names.TerminalStringOrd.TheImpl.{cmp-value}
-use Rattle.lalrpop_norm_names.specs.contracts.names.TerminalStringOrd.TheImpl.Laws.{total-law}
-use Rattle.lalrpop_norm_pattern.specs.Patterns.{PatternData, pattern_view}
-use Rattle.lalrpop_norm_parts.specs.Reprs.{ReprData, repr_view}
+use Rattle.lalrpop_norm_tree_names.specs.declared.names.TerminalString.{TerminalString}
+use Rattle.lalrpop_norm_tree_patterns.specs.declared.pattern.Pattern.{Pattern}
+use Rattle.lalrpop_norm_tree_parts.specs.declared.lowered.TypeRepr.{TypeRepr}
+use Rattle.lalrpop_norm_tree_names.specs.contracts.names.TerminalStringOrd.TheImpl.{cmp-value}
+use Rattle.lalrpop_norm_tree_names.specs.contracts.names.TerminalStringOrd.TheImpl.Laws.{total-law}
+use Rattle.lalrpop_norm_tree_patterns.specs.Patterns.{PatternData, pattern_view}
+use Rattle.lalrpop_norm_tree_parts.specs.Reprs.{ReprData, repr_view}
 use Rattle.lalrpop_norm_repr.proofs.RowOrder.{one_more_copied}
 use Rattle.lalrpop_norm_repr.proofs.whole.copy.copy_conversions.Goals as goal
 

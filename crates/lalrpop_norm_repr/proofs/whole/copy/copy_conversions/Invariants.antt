@@ -1,6 +1,6 @@
 use Rattle.std.proofs.Common.{◌≡◌, ◌++◌, map}
-use Rattle.lalrpop_norm_pattern.specs.Patterns.{pattern_view}
-use Rattle.lalrpop_norm_parts.specs.Reprs.{repr_view}
+use Rattle.lalrpop_norm_tree_patterns.specs.Patterns.{pattern_view}
+use Rattle.lalrpop_norm_tree_parts.specs.Reprs.{repr_view}
 use Rattle.lalrpop_norm_repr.specs.Tables.{rows}
 use Rattle.lalrpop_norm_repr.proofs.whole.copy.copy_conversions.Given as goal
 

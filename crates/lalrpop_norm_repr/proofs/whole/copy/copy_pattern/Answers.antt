@@ -1,6 +1,6 @@
 use Rattle.std.proofs.Common.{◌≡◌}
-use Rattle.lalrpop_norm_parts.specs.Reprs.{repr_view}
-use Rattle.lalrpop_norm_pattern.proofs.PatternViews.{same_views}
+use Rattle.lalrpop_norm_tree_parts.specs.Reprs.{repr_view}
+use Rattle.lalrpop_norm_tree_patterns.proofs.PatternViews.{same_views}
 use Rattle.lalrpop_norm_repr.proofs.whole.copy.copy_pattern.Goals as goal
 
 pub returns : goal.returns

@@ -1,6 +1,6 @@
 use Rattle.std.proofs.Common.{Bool, List, ◌++◌, not, map, sym, subst}
 use Rattle.std.specs.List.{flat_map}
-use Rattle.lalrpop_norm_names.specs.declared.names.TerminalString.{TerminalString}
+use Rattle.lalrpop_norm_tree_names.specs.declared.names.TerminalString.{TerminalString}
 use Rattle.lalrpop_norm_tree.specs.Items.{conversion_view}
 use Rattle.lalrpop_norm_faults.specs.Faults.{Fault, Refuses, fault_if}
 use Rattle.lalrpop_norm_faults.specs.declared.kind.FaultKind.TheVariants.{NoPattern}

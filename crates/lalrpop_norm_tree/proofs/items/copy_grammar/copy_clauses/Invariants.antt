@@ -1,5 +1,5 @@
 use Rattle.std.proofs.Common.{◌≡◌, map, take}
-use Rattle.lalrpop_norm_parts.specs.Bounds.{where_clause_view}
+use Rattle.lalrpop_norm_tree_parts.specs.Bounds.{where_clause_view}
 use Rattle.lalrpop_norm_tree.specs.Types.{type_view}
 use Rattle.lalrpop_norm_tree.proofs.items.copy_grammar.copy_clauses.Given as goal
 

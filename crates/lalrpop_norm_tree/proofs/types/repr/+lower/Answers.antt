@@ -1,6 +1,6 @@
 use Rattle.std.proofs.Common.{arith, ◌∙◌, ap}
 use Rattle.std.proofs.lemmas.List.{take_all}
-use Rattle.lalrpop_norm_parts.specs.Reprs.{reprs_of}
+use Rattle.lalrpop_norm_tree_parts.specs.Reprs.{reprs_of}
 use Rattle.lalrpop_norm_tree.proofs.TypeLemmas.{lowered_one_by_one}
 use Rattle.lalrpop_norm_tree.proofs.types.repr.+lower.Goals as goal
 

@@ -1,7 +1,7 @@
 use Rattle.std.proofs.Common.{refl, ap, codes}
 use Rattle.std.proofs.Output.{has_written_append, has_written_of_eq}
-use Rattle.lalrpop_norm_parts.proofs.KnownTextLemmas.{joined_known-all, angled_known-all}
-use Rattle.lalrpop_norm_parts.proofs.WrittenLemmas.{then_last}
+use Rattle.lalrpop_norm_tree_parts.proofs.KnownTextLemmas.{joined_known-all, angled_known-all}
+use Rattle.lalrpop_norm_tree_parts.proofs.WrittenLemmas.{then_last}
 use Rattle.lalrpop_norm_tree.specs.Types.{type_view}
 use Rattle.lalrpop_norm_tree.proofs.WrittenTextLemmas.{texts_of_types, view_slice, view_reference, view_object, view_function}
 use Rattle.lalrpop_norm_tree.specs.WrittenTypeTexts.{type_text}

@@ -1,4 +1,4 @@
-use Rattle.lalrpop_norm_parts.proofs.WrittenLemmas.{then_then_last}
+use Rattle.lalrpop_norm_tree_parts.proofs.WrittenLemmas.{then_then_last}
 use Rattle.lalrpop_norm_tree.proofs.types.show.show_quoted.Goals as goal
 
 pub returns : goal.returns

@@ -1,9 +1,9 @@
 use Rattle.std.proofs.Common.{arith}
 use Rattle.lalrpop_norm_tree.specs.Items.{rule_view}
 use Rattle.lalrpop_norm_repr.specs.Tables.{type_table}
-use Rattle.lalrpop_norm_typing.specs.declared.rules.PlainRule.{PlainRule}
-use Rattle.lalrpop_norm_typing.specs.TableFaults.{others_in}
-use Rattle.lalrpop_norm_typing.proofs.LoopLemmas.{exit_loop}
+use Rattle.lalrpop_norm_tyinfer_table.specs.declared.rules.PlainRule.{PlainRule}
+use Rattle.lalrpop_norm_tyinfer_table.specs.TableFaults.{others_in}
+use Rattle.lalrpop_norm_tyinfer_table.proofs.LoopLemmas.{exit_loop}
 use Rattle.lalrpop_norm_tyinfer.proofs.tyinfer.agreement.check_agreement.Goals as goal
 
 pub returns-in_err-check_rule : goal.returns-in_err-check_rule

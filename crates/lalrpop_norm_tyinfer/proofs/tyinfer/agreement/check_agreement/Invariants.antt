@@ -2,8 +2,8 @@ use Rattle.std.proofs.Common.{◌≡◌, drop, map}
 use Rattle.std.specs.List.{flat_map}
 use Rattle.lalrpop_norm_tree.specs.Items.{rule_view}
 use Rattle.lalrpop_norm_repr.specs.Tables.{type_table}
-use Rattle.lalrpop_norm_typing.specs.declared.rules.PlainRule.{PlainRule}
-use Rattle.lalrpop_norm_typing.specs.TableFaults.{others_in}
+use Rattle.lalrpop_norm_tyinfer_table.specs.declared.rules.PlainRule.{PlainRule}
+use Rattle.lalrpop_norm_tyinfer_table.specs.TableFaults.{others_in}
 use Rattle.lalrpop_norm_tyinfer.proofs.tyinfer.agreement.check_agreement.Given as goal
 
 abbrev pub invariant-loop-rule : goal.invariant-loop-rule

@@ -1,8 +1,8 @@
 use Rattle.std.proofs.Common.{arith}
 use Rattle.lalrpop_norm_tree.specs.Items.{alternative_view}
 use Rattle.lalrpop_norm_repr.specs.Tables.{type_table}
-use Rattle.lalrpop_norm_typing.specs.TableFaults.{other_in}
-use Rattle.lalrpop_norm_typing.proofs.LoopLemmas.{exit_loop}
+use Rattle.lalrpop_norm_tyinfer_table.specs.TableFaults.{other_in}
+use Rattle.lalrpop_norm_tyinfer_table.proofs.LoopLemmas.{exit_loop}
 use Rattle.lalrpop_norm_tyinfer.proofs.tyinfer.agreement.check_alternatives.Goals as goal
 
 pub returns-in_err-check_alternative : goal.returns-in_err-check_alternative

@@ -2,7 +2,7 @@ use Rattle.std.proofs.Common.{◌≡◌, drop, map}
 use Rattle.std.specs.List.{flat_map}
 use Rattle.lalrpop_norm_tree.specs.Items.{alternative_view}
 use Rattle.lalrpop_norm_repr.specs.Tables.{type_table}
-use Rattle.lalrpop_norm_typing.specs.TableFaults.{other_in}
+use Rattle.lalrpop_norm_tyinfer_table.specs.TableFaults.{other_in}
 use Rattle.lalrpop_norm_tyinfer.proofs.tyinfer.agreement.check_alternatives.Given as goal
 
 abbrev pub invariant-loop-alternative : goal.invariant-loop-alternative

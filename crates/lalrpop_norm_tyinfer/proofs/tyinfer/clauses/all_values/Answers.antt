@@ -2,9 +2,9 @@ use Rattle.std.proofs.Common.{List, Bor, ℕ, map, refl, arith}
 use Rattle.lalrpop_norm_tree.specs.declared.symbol.Symbol.{Symbol}
 use Rattle.lalrpop_norm_tree.specs.Symbols.{kind_view}
 use Rattle.lalrpop_norm_repr.specs.Tables.{type_table}
-use Rattle.lalrpop_norm_typing.specs.Clauses.{kinds_in}
-use Rattle.lalrpop_norm_typing.specs.TableValues.{kind_in}
-use Rattle.lalrpop_norm_typing.proofs.ValueLemmas.{next_value, last_value}
+use Rattle.lalrpop_norm_tyinfer_table.specs.Clauses.{kinds_in}
+use Rattle.lalrpop_norm_tyinfer_table.specs.TableValues.{kind_in}
+use Rattle.lalrpop_norm_tyinfer_table.proofs.ValueLemmas.{next_value, last_value}
 use Rattle.lalrpop_norm_tyinfer.proofs.tyinfer.clauses.all_values.Goals as goal
 
 pub loop-source-preserved : goal.loop-source-preserved

@@ -1,10 +1,10 @@
 use Rattle.std.proofs.Common.{◌≡◌, drop, map}
 use Rattle.std.specs.Prelude.{option_map}
-use Rattle.lalrpop_norm_parts.specs.Reprs.{repr_view}
+use Rattle.lalrpop_norm_tree_parts.specs.Reprs.{repr_view}
 use Rattle.lalrpop_norm_tree.specs.Symbols.{kind_view}
 use Rattle.lalrpop_norm_repr.specs.Tables.{type_table}
-use Rattle.lalrpop_norm_typing.specs.Clauses.{kinds_in}
-use Rattle.lalrpop_norm_typing.proofs.ValueLemmas.{before}
+use Rattle.lalrpop_norm_tyinfer_table.specs.Clauses.{kinds_in}
+use Rattle.lalrpop_norm_tyinfer_table.proofs.ValueLemmas.{before}
 use Rattle.lalrpop_norm_tyinfer.proofs.tyinfer.clauses.all_values.Given as goal
 
 abbrev pub invariant-loop-source : goal.invariant-loop-source

@@ -1,10 +1,10 @@
 use Rattle.std.proofs.Common.{◌≡◌, ℕ, Option, Bor, map, subst}
 use Rattle.std.specs.Prelude.{IfOk, option_map}
 use Rattle.lalrpop_norm_tree.specs.declared.symbol.Symbol.{Symbol}
-use Rattle.lalrpop_norm_parts.specs.Reprs.{ReprData, repr_view}
+use Rattle.lalrpop_norm_tree_parts.specs.Reprs.{ReprData, repr_view}
 use Rattle.lalrpop_norm_tree.specs.Symbols.{kind_view}
 use Rattle.lalrpop_norm_repr.specs.Tables.{type_table}
-use Rattle.lalrpop_norm_typing.proofs.ClauseLemmas.{sources_mean}
+use Rattle.lalrpop_norm_tyinfer_table.proofs.ClauseLemmas.{sources_mean}
 use Rattle.lalrpop_norm_tyinfer.proofs.tyinfer.clauses.clause_value.Goals as goal
 
 pub returns-in-Sources : goal.returns-in-Sources

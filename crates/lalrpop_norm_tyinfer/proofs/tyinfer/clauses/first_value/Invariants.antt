@@ -1,6 +1,6 @@
 use Rattle.std.proofs.Common.{◌≡◌, drop, map}
 use Rattle.lalrpop_norm_repr.specs.Tables.{type_table}
-use Rattle.lalrpop_norm_typing.specs.Clauses.{clause_view, first_in}
+use Rattle.lalrpop_norm_tyinfer_table.specs.Clauses.{clause_view, first_in}
 use Rattle.lalrpop_norm_tyinfer.proofs.tyinfer.clauses.first_value.Given as goal
 
 abbrev pub invariant-loop-clause : goal.invariant-loop-clause

@@ -1,5 +1,5 @@
 use Rattle.std.proofs.Common.{sym, ◌∙◌}
-use Rattle.lalrpop_norm_typing.proofs.VisitLemmas.{same_name, type_of_same}
+use Rattle.lalrpop_norm_tyinfer_table.proofs.VisitLemmas.{same_name, type_of_same}
 use Rattle.lalrpop_norm_repr.specs.Tables.{type_table}
 use Rattle.lalrpop_norm_tyinfer.proofs.tyinfer.rounds.put_type.Goals as goal
 

@@ -2,8 +2,8 @@ use Rattle.std.proofs.Common.{◌≡◌, ◌<◌, Some, length, map, slice_get, 
 use Rattle.std.specs.Prelude.{option_map}
 use Rattle.std.proofs.lemmas.List.{length-map}
 use Rattle.std.proofs.lemmas.Option.{slice_get-map, slice_get_read}
-use Rattle.lalrpop_norm_typing.specs.Visits.{rule_seen}
-use Rattle.lalrpop_norm_typing.proofs.RoundLemmas.{midway_next, midway_passes}
+use Rattle.lalrpop_norm_tyinfer_table.specs.Visits.{rule_seen}
+use Rattle.lalrpop_norm_tyinfer_table.proofs.RoundLemmas.{midway_next, midway_passes}
 use Rattle.lalrpop_norm_tyinfer.proofs.tyinfer.rounds.round.Goals as goal
 
 pub loop-place-preserved : goal.loop-place-preserved

@@ -1,7 +1,7 @@
 use Rattle.std.proofs.Common.{◌-◌, length, map}
 use Rattle.lalrpop_norm_repr.specs.Tables.{type_table}
-use Rattle.lalrpop_norm_typing.specs.Visits.{rule_seen}
-use Rattle.lalrpop_norm_typing.proofs.RoundLemmas.{Midway}
+use Rattle.lalrpop_norm_tyinfer_table.specs.Visits.{rule_seen}
+use Rattle.lalrpop_norm_tyinfer_table.proofs.RoundLemmas.{Midway}
 use Rattle.lalrpop_norm_tyinfer.proofs.tyinfer.rounds.round.Given as goal
 
 abbrev pub invariant-loop-place : goal.invariant-loop-place

@@ -1,8 +1,8 @@
 use Rattle.std.proofs.Common.{◌≡◌, length, suc, sym, add-one, arith}
 use Rattle.std.proofs.lemmas.List.{length-map}
-use Rattle.lalrpop_norm_typing.specs.Visits.{rule_seen}
-use Rattle.lalrpop_norm_typing.proofs.RoundLemmas.{all_wait}
-use Rattle.lalrpop_norm_typing.proofs.VisitLemmas.{ends_none, ends_more, ends_quiet}
+use Rattle.lalrpop_norm_tyinfer_table.specs.Visits.{rule_seen}
+use Rattle.lalrpop_norm_tyinfer_table.proofs.RoundLemmas.{all_wait}
+use Rattle.lalrpop_norm_tyinfer_table.proofs.VisitLemmas.{ends_none, ends_more, ends_quiet}
 use Rattle.lalrpop_norm_tyinfer.proofs.tyinfer.rounds.run_rounds.Goals as goal
 
 pub loop-count-init : goal.loop-count-init

@@ -1,7 +1,7 @@
 use Rattle.std.proofs.Common.{map}
 use Rattle.lalrpop_norm_repr.specs.Tables.{type_table}
-use Rattle.lalrpop_norm_typing.specs.Visits.{rule_seen, EndsRounds}
-use Rattle.lalrpop_norm_typing.specs.Waiting.{Waits}
+use Rattle.lalrpop_norm_tyinfer_table.specs.Visits.{rule_seen, EndsRounds}
+use Rattle.lalrpop_norm_tyinfer_table.specs.Waiting.{Waits}
 use Rattle.lalrpop_norm_tyinfer.proofs.tyinfer.rounds.run_rounds.Given as goal
 
 abbrev pub invariant-loop-count : goal.invariant-loop-count

@@ -1,6 +1,6 @@
 use Rattle.lalrpop_norm_repr.specs.Tables.{type_table}
-use Rattle.lalrpop_norm_typing.specs.Visits.{rule_seen}
-use Rattle.lalrpop_norm_typing.proofs.RoundLemmas.{steps_still, steps_taken}
+use Rattle.lalrpop_norm_tyinfer_table.specs.Visits.{rule_seen}
+use Rattle.lalrpop_norm_tyinfer_table.proofs.RoundLemmas.{steps_still, steps_taken}
 use Rattle.lalrpop_norm_tyinfer.proofs.tyinfer.rounds.step.Goals as goal
 
 pub returns-then-took : goal.returns-then-took

@@ -1,6 +1,6 @@
-use Rattle.lalrpop_norm_parts.specs.Reprs.{repr_view}
+use Rattle.lalrpop_norm_tree_parts.specs.Reprs.{repr_view}
 use Rattle.lalrpop_norm_repr.specs.Tables.{type_table}
-use Rattle.lalrpop_norm_typing.proofs.VisitLemmas.{taken_new, taken_none}
+use Rattle.lalrpop_norm_tyinfer_table.proofs.VisitLemmas.{taken_new, taken_none}
 use Rattle.lalrpop_norm_tyinfer.proofs.tyinfer.rounds.take_first.Goals as goal
 
 pub returns-in_ok-put_type-in-Some : goal.returns-in_ok-put_type-in-Some

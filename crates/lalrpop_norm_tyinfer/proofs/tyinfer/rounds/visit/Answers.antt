@@ -1,8 +1,8 @@
 use Rattle.std.proofs.Common.{Bor, sym, ◌∙◌}
-use Rattle.lalrpop_norm_parts.specs.declared.lowered.TypeRepr.{TypeRepr}
-use Rattle.lalrpop_norm_parts.specs.Reprs.{repr_view}
+use Rattle.lalrpop_norm_tree_parts.specs.declared.lowered.TypeRepr.{TypeRepr}
+use Rattle.lalrpop_norm_tree_parts.specs.Reprs.{repr_view}
 use Rattle.lalrpop_norm_repr.specs.Tables.{type_table}
-use Rattle.lalrpop_norm_typing.proofs.VisitLemmas.{taken_typed, untyped_none}
+use Rattle.lalrpop_norm_tyinfer_table.proofs.VisitLemmas.{taken_typed, untyped_none}
 use Rattle.lalrpop_norm_tyinfer.proofs.tyinfer.rounds.visit.Goals as goal
 
 pub take_first-requires : goal.take_first-requires

@@ -3,8 +3,8 @@ use Rattle.std.specs.List.{flat_map}
 use Rattle.lalrpop_norm_tree.specs.declared.items.Conversion.{Conversion}
 use Rattle.lalrpop_norm_tree.specs.Items.{conversion_view}
 use Rattle.lalrpop_norm_model.specs.TerminalTypes.{conversion_row}
-use Rattle.lalrpop_norm_typing.specs.TokenTypes.{rows_seen}
-use Rattle.lalrpop_norm_util.proofs.ListLemmas.{next_collected}
+use Rattle.lalrpop_norm_tyinfer_table.specs.TokenTypes.{rows_seen}
+use Rattle.lalrpop_norm_session.proofs.ListLemmas.{next_collected}
 use Rattle.lalrpop_norm_tyinfer.proofs.tyinfer.tokens.conversion_rows.Goals as goal
 
 pub loop-conversion-preserved : goal.loop-conversion-preserved

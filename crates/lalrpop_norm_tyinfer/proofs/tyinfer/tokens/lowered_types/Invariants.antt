@@ -1,5 +1,5 @@
 use Rattle.std.proofs.Common.{◌≡◌, take, map}
-use Rattle.lalrpop_norm_parts.specs.Reprs.{repr_view}
+use Rattle.lalrpop_norm_tree_parts.specs.Reprs.{repr_view}
 use Rattle.lalrpop_norm_tree.specs.LoweredTypes.{repr_of}
 use Rattle.lalrpop_norm_tree.specs.Types.{type_view}
 use Rattle.lalrpop_norm_tyinfer.proofs.tyinfer.tokens.lowered_types.Given as goal

@@ -1,4 +1,4 @@
-use Rattle.lalrpop_norm_typing.proofs.TokenLemmas.{from_base}
+use Rattle.lalrpop_norm_tyinfer_table.proofs.TokenLemmas.{from_base}
 use Rattle.lalrpop_norm_tyinfer.proofs.tyinfer.tokens.token_types.Goals as goal
 
 pub returns : goal.returns

@@ -1,8 +1,0 @@
-use Rattle.std.proofs.Common.{◌≡◌, drop}
-use Rattle.lalrpop_norm_parts.specs.Attributes.{attributes_view}
-use Rattle.lalrpop_norm_model.specs.Levels.{first_named}
-use Rattle.lalrpop_norm_alternatives.proofs.attributes.first_named.Given as goal
-
-abbrev pub invariant-loop-attribute : goal.invariant-loop-attribute
-invariant-loop-attribute l =
-    first_named l.name (attributes_view (drop l.attribute-index l.attributes)) ≡ first_named l.name (attributes_view l.attributes)

@@ -1,5 +1,0 @@
-use Rattle.lalrpop_norm_expand.proofs.DistinctLemmas.{names_stay_distinct}
-use Rattle.lalrpop_norm_expand.proofs.names_stay_distinct.Goals as goal
-
-pub returns : goal.returns
-returns c = names_stay_distinct

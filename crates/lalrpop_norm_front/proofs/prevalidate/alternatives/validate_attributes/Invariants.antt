@@ -1,7 +1,0 @@
-use Rattle.std.proofs.Common.{◌≡◌, drop}
-use Rattle.lalrpop_norm_parts.specs.Attributes.{attributes_view}
-use Rattle.lalrpop_norm_front.specs.AlternativeFaults.{unknown_alternative_faults}
-use Rattle.lalrpop_norm_front.proofs.prevalidate.alternatives.validate_attributes.Given as goal
-
-abbrev pub invariant-loop-attribute : goal.invariant-loop-attribute
-invariant-loop-attribute l = unknown_alternative_faults (attributes_view (drop l.attribute-index l.attributes)) ≡ unknown_alternative_faults (attributes_view l.attributes)

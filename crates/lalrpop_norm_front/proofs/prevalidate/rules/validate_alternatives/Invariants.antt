@@ -1,8 +1,0 @@
-use Rattle.std.proofs.Common.{◌≡◌, map, drop}
-use Rattle.std.specs.List.{flat_map}
-use Rattle.lalrpop_norm_tree.specs.Items.{alternative_view}
-use Rattle.lalrpop_norm_front.specs.AlternativeFaults.{alternative_faults}
-use Rattle.lalrpop_norm_front.proofs.prevalidate.rules.validate_alternatives.Given as goal
-
-abbrev pub invariant-loop-alternative : goal.invariant-loop-alternative
-invariant-loop-alternative l = flat_map (alternative_faults l.place) (map alternative_view (drop l.alternative-index l.alternatives)) ≡ flat_map (alternative_faults l.place) (map alternative_view l.alternatives)

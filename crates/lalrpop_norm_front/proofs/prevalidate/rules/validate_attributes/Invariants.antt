@@ -1,8 +1,0 @@
-use Rattle.std.proofs.Common.{◌≡◌, map, take, drop}
-use Rattle.lalrpop_norm_parts.specs.Attributes.{attributes_view}
-use Rattle.lalrpop_norm_front.specs.GrammarFaults.{attributes_faults}
-use Rattle.lalrpop_norm_front.specs.Walks.{attributes_along}
-use Rattle.lalrpop_norm_front.proofs.prevalidate.rules.validate_attributes.Given as goal
-
-abbrev pub invariant-loop-i : goal.invariant-loop-i
-invariant-loop-i l = attributes_along l.public (map (λ a. a.id) (take l.i l.attributes)) (attributes_view (drop l.i l.attributes)) ≡ attributes_faults l.public (attributes_view l.attributes)

@@ -1,7 +1,0 @@
-use Rattle.std.proofs.Common.{◌≡◌, drop}
-use Rattle.lalrpop_norm_tree.specs.Symbols.{parts_view}
-use Rattle.lalrpop_norm_front.specs.SymbolFaults.{parts_faults}
-use Rattle.lalrpop_norm_front.proofs.prevalidate.symbols.+symbols.Given as goal
-
-abbrev pub invariant-validate_each-loop-symbol : goal.invariant-validate_each-loop-symbol
-invariant-validate_each-loop-symbol l = parts_faults l.place (parts_view (drop l.symbol-index l.symbols)) ≡ parts_faults l.place (parts_view l.symbols)

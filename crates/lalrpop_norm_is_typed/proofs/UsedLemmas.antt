@@ -1,0 +1,57 @@
+-- The terminals that alternatives use, seen by their list.
+use Rattle.std.proofs.Common.{◌≡◌, ◌∙◌, ◌&&◌, List, refl, sym, ap₂}
+use Rattle.std.specs.List.{flat_map, list_all}
+use Rattle.std.proofs.Math.Bool.{and-true}
+use Rattle.std.proofs.lemmas.List.Folds.{list_all-append}
+use Rattle.lalrpop_norm_tree.specs.Items.{AlternativeData, RuleData, ItemData, match_item, extern_item, intern_item, rule_item, use_item}
+use Rattle.lalrpop_norm_tree.specs.Symbols.{Kind, Part, Parts, group, ambiguous_id, terminal, nonterminal, call, repeated, chosen}
+use Rattle.lalrpop_norm_tree.specs.Symbols.{named, tupled, lookahead, lookbehind, error_terminal, at, no_parts, part_and}
+use Rattle.lalrpop_norm_model.specs.Features.{Features}
+use Rattle.lalrpop_norm_model.specs.PlainRules.{rule_of_item}
+use Rattle.lalrpop_norm_model.specs.Terminals.{terminals_in, terminals_in_kind, terminals_in_parts, terminals_in_rule}
+use Rattle.lalrpop_norm_is_typed.specs.Terminals.{SourceData, is_terminal}
+use Rattle.lalrpop_norm_is_typed.specs.Used.{is_kind_listed, is_listed, are_listed, is_alternative_listed, is_rule_listed, is_item_listed}
+use Rattle.lalrpop_norm_theory.proofs.ListTests.{all_same, all_flat}
+
+module _ (fs : Features) (s : SourceData) where
+  mutual
+    kind_listed : (k : Kind) → is_kind_listed fs s k ≡ list_all (is_terminal fs s) (terminals_in_kind k)
+    kind_listed (terminal t) = sym (and-true (is_terminal fs s t))
+    kind_listed (chosen p) = part_listed p
+    kind_listed (named n p) = part_listed p
+    kind_listed (tupled ns p) = part_listed p
+    kind_listed (nonterminal n) = refl
+    kind_listed error_terminal = refl
+    kind_listed (group ps) = refl
+    kind_listed (ambiguous_id a) = refl
+    kind_listed (call n ps) = refl
+    kind_listed (repeated op p) = refl
+    kind_listed lookahead = refl
+    kind_listed lookbehind = refl
+
+    part_listed : (p : Part) → is_listed fs s p ≡ list_all (is_terminal fs s) (terminals_in p)
+    part_listed (at span k) = kind_listed k
+
+  parts_listed : (ps : Parts) → are_listed fs s ps ≡ list_all (is_terminal fs s) (terminals_in_parts ps)
+  parts_listed no_parts = refl
+  parts_listed (part_and p ps) =
+      ap₂ (λ a b. a && b) (part_listed p) (parts_listed ps) ∙ sym (list_all-append (is_terminal fs s) (terminals_in p) (terminals_in_parts ps))
+
+  rule_listed : (r : RuleData) → is_rule_listed fs s r ≡ list_all (is_terminal fs s) (terminals_in_rule r)
+  rule_listed r =
+      all_same (is_alternative_listed fs s) (λ (a : AlternativeData). list_all (is_terminal fs s) (terminals_in_parts a.parts)) (λ (a : AlternativeData). parts_listed a.parts) r.alternatives
+      ∙ sym (all_flat (is_terminal fs s) (λ (a : AlternativeData). terminals_in_parts a.parts) r.alternatives)
+
+  item_listed : (i : ItemData) → is_item_listed fs s i ≡ list_all (is_rule_listed fs s) (rule_of_item i)
+  item_listed (rule_item r) = sym (and-true (is_rule_listed fs s r))
+  item_listed (match_item m) = refl
+  item_listed (extern_item t) = refl
+  item_listed (intern_item t) = refl
+  item_listed (use_item s) = refl
+
+  pub items_listed : (items : List ItemData) → list_all (is_item_listed fs s) items ≡ list_all (is_terminal fs s) (flat_map terminals_in_rule (flat_map rule_of_item items))
+  items_listed items =
+      all_same (is_item_listed fs s) (λ i. list_all (is_rule_listed fs s) (rule_of_item i)) item_listed items
+      ∙ (sym (all_flat (is_rule_listed fs s) rule_of_item items)
+      ∙ (all_same (is_rule_listed fs s) (λ r. list_all (is_terminal fs s) (terminals_in_rule r)) rule_listed (flat_map rule_of_item items)
+      ∙ sym (all_flat (is_terminal fs s) terminals_in_rule (flat_map rule_of_item items))))

@@ -1,8 +1,0 @@
-use Rattle.std.proofs.Common.{◌≡◌, take, map}
-use Rattle.lalrpop_norm_parts.specs.Reprs.{repr_view}
-use Rattle.lalrpop_norm_repr.specs.Tables.{type_table}
-use Rattle.lalrpop_norm_late.specs.Lowering.{type_or_unit}
-use Rattle.lalrpop_norm_late.proofs.actions.symbol_types.Given as goal
-
-abbrev pub invariant-loop-symbol : goal.invariant-loop-symbol
-invariant-loop-symbol l = map repr_view l.found.items ≡ map (type_or_unit (type_table l.types)) (take l.symbol-index l.symbols)

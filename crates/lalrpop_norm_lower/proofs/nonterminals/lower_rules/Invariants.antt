@@ -1,0 +1,14 @@
+use Rattle.std.proofs.Common.{◌≡◌, ◌++◌, drop, map, vec_len}
+use Rattle.lalrpop_norm_tree.specs.Items.{rule_view}
+use Rattle.lalrpop_norm_repr.specs.Actions.{action_defn_view}
+use Rattle.lalrpop_norm_repr.specs.Productions.{nonterminal_data_view}
+use Rattle.lalrpop_norm_repr.specs.Tables.{type_table, rows}
+use Rattle.lalrpop_norm_lower.specs.Lowering.{rule_rows, sorted_onto}
+use Rattle.lalrpop_norm_lower.specs.Made.{made_rules_faults, made_actions}
+use Rattle.lalrpop_norm_lower.proofs.nonterminals.lower_rules.Given as goal
+
+abbrev pub invariant-loop-rule : goal.invariant-loop-rule
+invariant-loop-rule l =
+    (made_rules_faults (vec_len l.actions) (map (λ r. rule_view r.now) (drop l.rule-index l.rules)) ≡ made_rules_faults (vec_len l.initial.actions) (map (λ r. rule_view r.now) l.rules))
+    × (sorted_onto (rows nonterminal_data_view l.nonterminals) (rule_rows (vec_len l.actions) (map (λ r. rule_view r.now) (drop l.rule-index l.rules))) ≡ sorted_onto (rows nonterminal_data_view l.initial.nonterminals) (rule_rows (vec_len l.initial.actions) (map (λ r. rule_view r.now) l.rules)))
+    × (map action_defn_view l.actions.items ++ made_actions l.prefix (type_table l.types) (map (λ r. rule_view r.now) (drop l.rule-index l.rules)) ≡ map action_defn_view l.initial.actions.items ++ made_actions l.prefix (type_table l.types) (map (λ r. rule_view r.now) l.rules))

@@ -1,0 +1,38 @@
+//! The types of what the code of an action gets.
+ghost use Rattle.std.specs.Prelude.{◌≡◌, IfOk, map};
+ghost use Rattle.lalrpop_norm_tree_parts.specs.Reprs.{repr_view};
+ghost use Rattle.lalrpop_norm_repr.specs.Tables.{type_table};
+ghost use Rattle.lalrpop_norm_lower.specs.Lowering.{type_or_unit};
+
+use crate::typing::unit_type;
+use lalrpop_norm_repr::grammar::repr::{Symbol, TypeRepr, Types};
+use lalrpop_norm_tree::grammar::parse_tree::NoMemory;
+use std::alloc::Global;
+
+/// The type of each symbol.
+pub(crate) fn symbol_types(
+    alloc: Global,
+    types: &Types,
+    symbols: &[Symbol],
+) -> Result<Vec<TypeRepr>, NoMemory>
+    ensures { IfOk result (λ ts. map repr_view ts.items ≡ map (type_or_unit (type_table types.now)) symbols.now) }
+{
+    let mut found = Vec::with_capacity(alloc, symbols.len())?;
+    for symbol in symbols {
+        found.push(type_or_unit(alloc, types, symbol)?)?;
+    }
+    Ok(found)
+}
+
+/// The symbol's type. Each symbol of a plain grammar has one.
+fn type_or_unit(alloc: Global, types: &Types, symbol: &Symbol) -> Result<TypeRepr, NoMemory>
+    ensures { IfOk result (λ t. repr_view t ≡ type_or_unit (type_table types.now) symbol.now) }
+{
+    match symbol {
+        Symbol::Terminal(terminal) => Ok(types.terminal_type(terminal).clone()?),
+        Symbol::Nonterminal(name) => match types.lookup_nonterminal_type(name) {
+            Some(ty) => Ok(ty.clone()?),
+            None => Ok(unit_type(alloc)),
+        },
+    }
+}

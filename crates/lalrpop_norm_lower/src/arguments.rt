@@ -1,0 +1,111 @@
+//! The arguments of an action: which symbols its code gets, and their names.
+ghost use Rattle.std.specs.Prelude.{◌≡◌, ◌++◌, IfOk, map, string_bytes};
+ghost use Rattle.lalrpop_norm_tree.specs.Symbols.{symbol_view, parts_view, argument_pattern_view};
+ghost use Rattle.lalrpop_norm_lower.specs.Arguments.{name_given};
+ghost use Rattle.lalrpop_norm_lower.specs.Sources.{source_name, plain_name};
+ghost use Rattle.lalrpop_norm_lower.specs.Naming.{is_source, source_pattern, argument_patterns, source_names};
+
+use lalrpop_norm_session::norm_util::{has_chosen, has_name_value, is_chosen, names_value};
+use lalrpop_norm_tree::grammar::parse_tree::{
+    ArgPattern, Atom, Name, NoMemory, Symbol, SymbolKind,
+};
+use std::alloc::Global;
+
+/// The arguments of an action.
+#[derive(Drop)]
+pub(crate) struct Arguments {
+    /// One pattern for each symbol.
+    pub(crate) patterns: Vec<ArgPattern>,
+    /// The names of the sources, in order.
+    pub(crate) names: Vec<Atom>,
+}
+
+/// The arguments of an alternative. A named or tuple symbol has its own pattern, any other source j the name of its number
+/// behind the prefix, and what is no source `_`.
+pub(crate) fn arguments_of(
+    alloc: Global,
+    prefix: &str,
+    symbols: &[Symbol],
+) -> Result<Arguments, NoMemory>
+    ensures patterns { IfOk result (λ a.
+        map argument_pattern_view a.patterns.items ≡ argument_patterns prefix.now (parts_view symbols.now)) }
+    ensures names { IfOk result (λ a. a.names.items ≡ source_names prefix.now (parts_view symbols.now)) }
+{
+    let some_named = has_name_value(symbols);
+    let some_chosen = has_chosen(symbols);
+    let mut patterns = Vec::with_capacity(alloc, symbols.len())?;
+    let mut names = Vec::with_capacity(alloc, symbols.len())?;
+    for symbol in symbols {
+        if is_source(some_named, some_chosen, symbol) {
+            let pattern = source_pattern(alloc, prefix, names.len(), symbol)?;
+            let name = name_given(alloc, &pattern)?;
+            patterns.push(pattern)?;
+            names.push(name)?;
+        } else {
+            let name = Atom::new(alloc, "_")?;
+            patterns.push(plain_name(name))?;
+        }
+    }
+    Ok(Arguments { patterns, names })
+}
+
+/// The pattern of the source of that number: its own, or its number behind the prefix.
+fn source_pattern(
+    alloc: Global,
+    prefix: &str,
+    number: usize,
+    symbol: &Symbol,
+) -> Result<ArgPattern, NoMemory>
+    ensures { IfOk result (λ p. argument_pattern_view p ≡ source_pattern prefix.now number (symbol_view symbol.now)) }
+{
+    match &symbol.kind {
+        SymbolKind::Name(name, _) => Ok(ArgPattern::Name(name.clone()?)),
+        SymbolKind::Tuple(names, _) => Ok(ArgPattern::Tuple(names.clone()?)),
+        SymbolKind::Expr(_)
+        | SymbolKind::AmbiguousId(_)
+        | SymbolKind::Terminal(_)
+        | SymbolKind::Nonterminal(_)
+        | SymbolKind::Macro(_)
+        | SymbolKind::Repeat(_)
+        | SymbolKind::Choose(_)
+        | SymbolKind::Lookahead
+        | SymbolKind::Lookbehind
+        | SymbolKind::Error => Ok(plain_name(source_name(alloc, prefix, number)?)),
+    }
+}
+
+/// The name that a pattern gives: without `mut`, and the text of a tuple.
+fn name_given(alloc: Global, pattern: &ArgPattern) -> Result<Atom, NoMemory>
+    ensures { IfOk result (λ n. n ≡ name_given (argument_pattern_view pattern.now)) }
+{
+    let text = pattern.name(alloc)?;
+    Atom::new(alloc, text.as_str())
+}
+
+fn plain_name(name: Atom) -> ArgPattern
+    ensures { argument_pattern_view result ≡ plain_name name }
+{
+    ArgPattern::Name(Name {
+        mutable: false,
+        name,
+    })
+}
+
+fn source_name(alloc: Global, prefix: &str, number: usize) -> Result<Atom, NoMemory>
+    ensures { IfOk result (λ a. a ≡ source_name prefix.now number) }
+{
+    let text = format!(in alloc; "{prefix}{number}")?;
+    Atom::new(alloc, text.as_str())
+}
+
+fn is_source(some_named: bool, some_chosen: bool, symbol: &Symbol) -> bool
+    ensures { result ≡ is_source some_named some_chosen (symbol_view symbol.now) }
+{
+    if some_named {
+        names_value(symbol)
+    } else if some_chosen {
+        is_chosen(symbol)
+    } else {
+        true
+    }
+}

@@ -1,0 +1,21 @@
+//! Lowering: from plain rules to numbered productions, action functions and types.
+#![tactic(auto)]
+
+mod actions;
+mod alternatives;
+mod arguments;
+mod bodies;
+mod clauses;
+mod head;
+mod nonterminals;
+mod patterns;
+mod placeholders;
+mod recovery;
+mod rules;
+mod starts;
+mod symbols;
+mod tokens;
+mod typing;
+mod whole;
+
+pub use whole::lower;

@@ -1,0 +1,69 @@
+//! Whether a grammar recovers from errors: whether `!` stands in an alternative.
+ghost use Rattle.std.specs.Prelude.{◌≡◌, map};
+ghost use Rattle.std.specs.List.{list_any};
+ghost use Rattle.lalrpop_norm_tree.specs.Items.{alternative_view, rule_view};
+ghost use Rattle.lalrpop_norm_tree.specs.Symbols.{kind_view, parts_view, symbol_view};
+ghost use Rattle.lalrpop_norm_lower.specs.Carried.{is_error_kind, is_error, any_error, uses_recovery};
+
+use lalrpop_norm_tree::grammar::parse_tree::{Alternative, NonterminalData, Symbol, SymbolKind};
+
+/// Whether `!` stands in an alternative of the rules.
+pub(crate) fn uses_recovery(rules: &[&NonterminalData]) -> bool
+    ensures { result ≡ uses_recovery (map (λ r. rule_view r.now) rules.now) }
+{
+    for rule in rules {
+        if some_error(&rule.alternatives) {
+            return true;
+        }
+    }
+    false
+}
+
+fn some_error(alternatives: &[Alternative]) -> bool
+    ensures { result ≡ list_any (λ a. any_error a.parts) (map alternative_view alternatives.now) }
+{
+    for alternative in alternatives {
+        if any_error(&alternative.expr.symbols) {
+            return true;
+        }
+    }
+    false
+}
+
+fn any_error(symbols: &[Symbol]) -> bool
+    ensures { result ≡ any_error (parts_view symbols.now) }
+{
+    for symbol in symbols {
+        if is_error(symbol) {
+            return true;
+        }
+    }
+    false
+}
+
+#[cycle(error)]
+fn is_error(symbol: &Symbol) -> bool
+    ensures { result ≡ is_error (symbol_view symbol.now) }
+{
+    is_error_kind(&symbol.kind)
+}
+
+#[cycle(error)]
+fn is_error_kind(kind: &SymbolKind) -> bool
+    ensures { result ≡ is_error_kind (kind_view kind.now) }
+{
+    match kind {
+        SymbolKind::Error => true,
+        SymbolKind::Choose(symbol) => is_error(symbol),
+        SymbolKind::Name(_, symbol) => is_error(symbol),
+        SymbolKind::Tuple(_, symbol) => is_error(symbol),
+        SymbolKind::Expr(_)
+        | SymbolKind::AmbiguousId(_)
+        | SymbolKind::Terminal(_)
+        | SymbolKind::Nonterminal(_)
+        | SymbolKind::Macro(_)
+        | SymbolKind::Repeat(_)
+        | SymbolKind::Lookahead
+        | SymbolKind::Lookbehind => false,
+    }
+}

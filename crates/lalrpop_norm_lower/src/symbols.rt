@@ -1,0 +1,64 @@
+//! The symbols of productions.
+ghost use Rattle.std.specs.Prelude.{◌≡◌, IfOk, map, unwrap_or};
+ghost use Rattle.lalrpop_norm_tree_parts.specs.Reprs.{repr_view, unit_type};
+ghost use Rattle.lalrpop_norm_tree.specs.Symbols.{kind_view, symbol_view, parts_view};
+ghost use Rattle.lalrpop_norm_tree.specs.SymbolTexts.{kind_text};
+ghost use Rattle.lalrpop_norm_repr.specs.Tables.{type_table};
+ghost use Rattle.lalrpop_norm_lower.specs.Lowering.{lowered_kind, lowered_symbol, lowered_symbols, type_or_unit};
+
+use lalrpop_norm_repr::grammar::repr::{Symbol, TypeRepr, Types};
+use lalrpop_norm_tree::grammar::parse_tree as pt;
+use lalrpop_norm_tree::grammar::parse_tree::{
+    Atom, NoMemory, NonterminalString, SymbolKind, TerminalString,
+};
+use std::alloc::Global;
+
+/// What the symbols are in a production.
+pub(crate) fn lowered_symbols(
+    alloc: Global,
+    symbols: &[pt::Symbol],
+) -> Result<Vec<Symbol>, NoMemory>
+    ensures { IfOk result (λ ss. ss.items ≡ lowered_symbols (parts_view symbols.now)) }
+{
+    let mut lowered = Vec::with_capacity(alloc, symbols.len())?;
+    for symbol in symbols {
+        lowered.push(lowered_symbol(alloc, symbol)?)?;
+    }
+    Ok(lowered)
+}
+
+#[cycle(lowered)]
+fn lowered_symbol(alloc: Global, symbol: &pt::Symbol) -> Result<Symbol, NoMemory>
+    ensures { IfOk result (λ s. s ≡ lowered_symbol (symbol_view symbol.now)) }
+{
+    lowered_kind(alloc, &symbol.kind)
+}
+
+#[cycle(lowered)]
+fn lowered_kind(alloc: Global, kind: &SymbolKind) -> Result<Symbol, NoMemory>
+    ensures { IfOk result (λ s. s ≡ lowered_kind (kind_view kind.now)) }
+{
+    match kind {
+        SymbolKind::Terminal(terminal) => Ok(Symbol::Terminal(terminal.clone()?)),
+        SymbolKind::Error => Ok(Symbol::Terminal(TerminalString::Error)),
+        SymbolKind::Nonterminal(name) => Ok(Symbol::Nonterminal(name.clone()?)),
+        SymbolKind::Choose(symbol) => lowered_symbol(alloc, symbol),
+        SymbolKind::Name(_, symbol) => lowered_symbol(alloc, symbol),
+        SymbolKind::Tuple(_, symbol) => lowered_symbol(alloc, symbol),
+        SymbolKind::Expr(_)
+        | SymbolKind::AmbiguousId(_)
+        | SymbolKind::Macro(_)
+        | SymbolKind::Repeat(_)
+        | SymbolKind::Lookahead
+        | SymbolKind::Lookbehind => named_by_text(alloc, kind),
+    }
+}
+
+/// The nonterminal that is named by the symbol's text.
+fn named_by_text(alloc: Global, kind: &SymbolKind) -> Result<Symbol, NoMemory>
+    ensures { IfOk result (λ s. s ≡ Symbol.Nonterminal (record { 0 = kind_text (kind_view kind.now) })) }
+{
+    let text = kind.to_string(alloc)?;
+    let name = Atom::new(alloc, text.as_str())?;
+    Ok(Symbol::Nonterminal(NonterminalString(name)))
+}

@@ -1,0 +1,37 @@
+//! The types of start symbols.
+ghost use Rattle.std.specs.Prelude.{◌≡◌, [], ◌∷◌, IfOk, OnOk, map};
+ghost use Rattle.lalrpop_norm_tree_parts.specs.Reprs.{repr_view, unit_type};
+ghost use Rattle.lalrpop_norm_repr.specs.Tables.{type_table};
+ghost use Rattle.lalrpop_norm_lower.specs.Starts.{start_typed};
+ghost use Rattle.lalrpop_norm_lower.specs.Typing.{AddsTypes};
+
+use crate::starts::Start;
+use lalrpop_norm_repr::grammar::repr::{TypeRepr, Types};
+use lalrpop_norm_tree::grammar::parse_tree::{NoMemory, NonterminalString};
+use std::alloc::Global;
+
+/// Adds the start symbols that have no type yet, each with its rule's type.
+pub(crate) fn add_start_types(types: &mut Types, starts: Vec<Start>) -> Result<(), NoMemory>
+    ensures { OnOk result (AddsTypes (type_table types.old) (type_table types.new) (map start_typed starts.entry.items)) }
+{
+    for start in starts {
+        add_missing(types, start.name, start.ty)?;
+    }
+    Ok(())
+}
+
+fn add_missing(types: &mut Types, name: NonterminalString, ty: TypeRepr) -> Result<(), NoMemory>
+    ensures { OnOk result (AddsTypes (type_table types.old) (type_table types.new) ((name, repr_view ty) ∷ [])) }
+{
+    let is_new = types.lookup_nonterminal_type(&name).is_none();
+    if is_new {
+        types.add_type(name, ty)?;
+    }
+    Ok(())
+}
+
+pub(crate) fn unit_type(alloc: Global) -> TypeRepr
+    ensures { repr_view result ≡ unit_type }
+{
+    TypeRepr::Tuple(Vec::new(alloc))
+}

@@ -1,0 +1,65 @@
+//! Start symbols: their alternatives, and their nonterminals.
+ghost use Rattle.std.specs.Prelude.{◌≡◌, ◌∷◌, [], IfOk};
+ghost use Rattle.lalrpop_norm_tree_parts.specs.Attributes.{no_attributes};
+ghost use Rattle.lalrpop_norm_tree.specs.Items.{alternative_view, rule_view};
+ghost use Rattle.lalrpop_norm_tree.specs.Symbols.{expr_view, symbol_view, nonterminal, at, part_and, no_parts};
+ghost use Rattle.lalrpop_norm_repr.specs.Productions.{nonterminal_data_view, production_view};
+ghost use Rattle.lalrpop_norm_lower_steps.specs.StartSymbols.{start_alternative};
+
+use lalrpop_norm_repr::grammar::repr::{self, Production};
+use lalrpop_norm_tree::grammar::parse_tree::{
+    Alternative, ExprSymbol, NoMemory, NonterminalData, NonterminalString, Span, Symbol, SymbolKind,
+};
+use std::alloc::Global;
+
+/// The one alternative of a start symbol: the rule's name.
+pub fn start_alternative(alloc: Global, rule: &NonterminalData) -> Result<Alternative, NoMemory>
+    ensures { IfOk result (λ a. alternative_view a ≡ start_alternative (rule_view rule.now)) }
+{
+    let expr = named(alloc, rule.span, &rule.name)?;
+    Ok(Alternative {
+        span: rule.span,
+        expr,
+        condition: None,
+        action: None,
+        attributes: Vec::new(alloc),
+    })
+}
+
+/// The nonterminal alone, at that place.
+fn named(alloc: Global, span: Span, name: &NonterminalString) -> Result<ExprSymbol, NoMemory>
+    ensures { IfOk result (λ e. expr_view e ≡ part_and (at span (nonterminal name.now.0)) no_parts) }
+{
+    let symbol = named_symbol(span, name)?;
+    let mut symbols = Vec::with_capacity(alloc, 1)?;
+    symbols.push(symbol)?;
+    Ok(ExprSymbol { symbols })
+}
+
+fn named_symbol(span: Span, name: &NonterminalString) -> Result<Symbol, NoMemory>
+    ensures { IfOk result (λ s. symbol_view s ≡ at span (nonterminal name.now.0)) }
+{
+    let kind = SymbolKind::Nonterminal(name.clone()?);
+    Ok(Symbol { span, kind })
+}
+
+/// The nonterminal of a start symbol with that one production: it is seen and stands where its rule does, and has no attributes.
+pub fn start_data(
+    alloc: Global,
+    rule: &NonterminalData,
+    production: Production,
+) -> Result<repr::NonterminalData, NoMemory>
+    ensures { IfOk result (λ n. nonterminal_data_view n
+        ≡ record { visibility = (rule_view rule.now).visibility; span = rule.now.span; attributes = no_attributes; productions = production_view production ∷ [] }) }
+{
+    let span = rule.span;
+    let attributes = Vec::new(alloc);
+    let mut productions = Vec::with_capacity(alloc, 1)?;
+    productions.push(production)?;
+    Ok(repr::NonterminalData {
+        visibility: rule.visibility.clone()?,
+        span,
+        attributes,
+        productions,
+    })
+}

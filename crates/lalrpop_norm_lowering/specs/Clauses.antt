@@ -1,9 +1,0 @@
--- Where clauses under their `for<..>`.
-use Rattle.std.specs.Prelude.{List, [], ◌∷◌}
-use Rattle.lalrpop_norm_names.specs.declared.names.TypeParameter.{TypeParameter}
-use Rattle.lalrpop_norm_parts.specs.Reprs.{LoweredClause, for_all}
-
--- under its `for<..>`, if there is one
-abbrev pub under : List TypeParameter → LoweredClause → LoweredClause
-under [] c = c
-under (f ∷ fs) c = for_all (f ∷ fs) c

@@ -1,0 +1,12 @@
+//! Macros, groups and repeats of a grammar become rules.
+#![tactic(auto)]
+
+ghost use Rattle.lalrpop_norm_macro_expand.specs.Laws.{NamesStayDistinct};
+
+pub mod macro_expand;
+
+/// Where no fault stands in the expansion of a grammar whose rules have distinct names, the plain rules have distinct names:
+/// those of its rules, and the text of each symbol that is made into a rule.
+pub fn names_stay_distinct()
+    ensures { NamesStayDistinct }
+{}

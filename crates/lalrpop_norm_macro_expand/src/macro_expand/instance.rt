@@ -1,0 +1,88 @@
+//! The rules of macro calls: those alternatives of the macro whose conditions hold, with the arguments put in.
+ghost use Rattle.std.specs.Prelude.{◌≡◌, ◌++◌, OnOk, map, flat_map};
+ghost use Rattle.lalrpop_norm_tree.specs.Symbols.{call, kind_view, parts_view};
+ghost use Rattle.lalrpop_norm_tree.specs.Items.{AlternativeData, alternative_view, rule_view};
+ghost use Rattle.lalrpop_norm_faults.specs.Faults.{Refuses, RefusesOr};
+ghost use Rattle.lalrpop_norm_conditions.specs.Conditions.{comparison};
+ghost use Rattle.lalrpop_norm_model.specs.MadeRules.{argument_kind, instance_rule};
+ghost use Rattle.lalrpop_norm_macro_expand_rules.specs.Conditions.{value_faults, instance_faults};
+ghost use Rattle.lalrpop_norm_macro_expand.specs.Making.{kept_of};
+ghost use Rattle.lalrpop_norm_macro_expand_met.specs.Meeting.{IsNamed};
+
+use lalrpop_norm_faults::NormResult;
+use lalrpop_norm_macro_expand_met::expander::Met;
+use lalrpop_norm_macro_expand_rules::alternatives::{instance_alternative, instance_type};
+use lalrpop_norm_macro_expand_rules::conditions::is_kept;
+use lalrpop_norm_macro_expand_rules::put_in::Bindings;
+use lalrpop_norm_tree::grammar::parse_tree::{
+    Alternative, NonterminalData, NonterminalString, Span, Symbol,
+};
+use lalrpop_norm_tree_parts::attribute::copy::copy_attributes;
+use std::alloc::Global;
+
+/// Adds an alternative, if its condition is true or absent.
+fn add_alternative(
+    alloc: Global,
+    bindings: &Bindings,
+    span: Span,
+    alternative: &Alternative,
+    kept: &mut Vec<Alternative>,
+) -> NormResult<()>
+    ensures refuses { Refuses result (value_faults (argument_kind bindings.now.names.now (parts_view bindings.now.symbols.now)) alternative.now.condition) }
+    ensures adds { OnOk result (map alternative_view kept.new.items
+        ≡ map alternative_view kept.old.items ++ kept_of span bindings.now.names.now (parts_view bindings.now.symbols.now) (alternative_view alternative.now)) }
+{
+    if is_kept(alloc, bindings, &alternative.condition)? {
+        kept.push(instance_alternative(alloc, bindings, span, alternative)?)?;
+    }
+    Ok(())
+}
+
+/// Those of a macro's alternatives whose conditions are true or absent, in order.
+fn instance_alternatives(
+    alloc: Global,
+    bindings: &Bindings,
+    span: Span,
+    alternatives: &[Alternative],
+) -> NormResult<Vec<Alternative>>
+    ensures { RefusesOr result (flat_map (λ (a : AlternativeData). value_faults (argument_kind bindings.now.names.now (parts_view bindings.now.symbols.now)) a.condition) (map alternative_view alternatives.now))
+        (λ kept. map alternative_view kept.items ≡ flat_map (kept_of span bindings.now.names.now (parts_view bindings.now.symbols.now)) (map alternative_view alternatives.now)) }
+{
+    let mut kept = Vec::with_capacity(alloc, alternatives.len())?;
+    for alternative in alternatives {
+        add_alternative(alloc, bindings, span, alternative, &mut kept)?;
+    }
+    Ok(kept)
+}
+
+/// The rule of a call of a macro.
+///
+/// Errors: at the first alternative whose condition has no value F33 (`ConditionArgument`) or F34 (`ConditionPattern`); `Memory`.
+pub(super) fn instance_rule(
+    alloc: Global,
+    met: &Met,
+    definition: &NonterminalData,
+    arguments: &[Symbol],
+) -> NormResult<NonterminalData>
+    requires named { IsNamed met.now }
+    requires kind { kind_view met.now.symbol.kind ≡ call definition.now.name.0 (parts_view arguments.now) }
+    ensures { RefusesOr result (instance_faults (rule_view definition.now) (parts_view arguments.now))
+        (λ r. rule_view r ≡ instance_rule comparison met.now.symbol.span (rule_view definition.now) (parts_view arguments.now)) }
+{
+    let span = met.symbol.span;
+    let bindings = Bindings {
+        names: &definition.args,
+        symbols: arguments,
+    };
+    let alternatives = instance_alternatives(alloc, &bindings, span, &definition.alternatives)?;
+    let type_decl = instance_type(alloc, &bindings, &definition.type_decl)?;
+    Ok(NonterminalData {
+        visibility: definition.visibility.clone()?,
+        name: NonterminalString(met.name.clone()?),
+        attributes: copy_attributes(&definition.attributes)?,
+        span,
+        args: Vec::new(alloc),
+        type_decl,
+        alternatives,
+    })
+}

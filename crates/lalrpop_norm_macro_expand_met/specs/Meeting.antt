@@ -1,0 +1,156 @@
+-- How the code meets symbols, one after another: its own words, of which no public clause speaks.
+use Rattle.std.specs.Prelude.{◌≡◌, ◌<◌, ℕ, Bool, true, false, not, ◌||◌, ◌&&◌, List, [], ◌∷◌, ◌++◌}
+use Rattle.std.specs.Prelude.{map, length, Option, Some, None, is_some, option_and_then, slice_get, bytes_eq, if◌then◌else◌}
+use Rattle.std.specs.List.{list_any}
+use Rattle.std.specs.Ordering.{nat_cmp}
+use Rattle.std.specs.Cmp.Lexicographic.{slice_cmp}
+use Rattle.std.specs.BTreeMap.{is_at, get}
+use Rattle.std.specs.BTreeSet.{BTreeSet}
+use Rattle.lalrpop_norm_tree_names.specs.declared.names.Span.{Span}
+use Rattle.lalrpop_norm_tree.specs.Symbols.{Kind, Part, group, ambiguous_id, terminal, nonterminal, call, repeated, chosen, named}
+use Rattle.lalrpop_norm_tree.specs.Symbols.{tupled, lookahead, lookbehind, error_terminal, at, symbol_view}
+use Rattle.lalrpop_norm_tree.specs.SymbolTexts.{part_text}
+use Rattle.lalrpop_norm_faults.specs.declared.kind.FaultKind.TheVariants.{SharedName}
+use Rattle.lalrpop_norm_faults.specs.Faults.{Fault, fault_if}
+use Rattle.lalrpop_norm_model.specs.PlainRules.{same_apart_from_spans, met, all_met}
+use Rattle.lalrpop_norm_macro_expand_met.specs.declared.expander.Expander.{Expander}
+use Rattle.lalrpop_norm_macro_expand_met.specs.declared.expander.Met.{Met}
+use Rattle.lalrpop_norm_model.specs.MadeRules.{span_of}
+
+-- ---- what a symbol meets
+
+-- what is inside it meets
+abbrev pub met_inside : Kind → List Part
+met_inside (group ps) = all_met ps
+met_inside (call n ps) = all_met ps
+met_inside (repeated op p) = met p
+met_inside (chosen p) = met p
+met_inside (named n p) = met p
+met_inside (tupled ns p) = met p
+met_inside (ambiguous_id a) = []
+met_inside (terminal t) = []
+met_inside (nonterminal n) = []
+met_inside lookahead = []
+met_inside lookbehind = []
+met_inside error_terminal = []
+
+-- the symbol itself, if it is made into a rule
+abbrev pub own : Span → Kind → List Part
+own s (group ps) = at s (group ps) ∷ []
+own s (call n ps) = at s (call n ps) ∷ []
+own s (repeated op p) = at s (repeated op p) ∷ []
+own s lookahead = at s lookahead ∷ []
+own s lookbehind = at s lookbehind ∷ []
+own s (ambiguous_id a) = []
+own s (terminal t) = []
+own s (nonterminal n) = []
+own s (chosen p) = []
+own s (named n p) = []
+own s (tupled ns p) = []
+own s error_terminal = []
+
+abbrev pub met_itself : Part → List Part
+met_itself (at s k) = own s k
+
+abbrev pub inside : Part → List Part
+inside (at s k) = met_inside k
+
+-- the text of a symbol that is made into a rule
+abbrev pub own_text : Part → Option (List ℕ)
+own_text (at s (group ps)) = Some (part_text (at s (group ps)))
+own_text (at s (call n ps)) = Some (part_text (at s (call n ps)))
+own_text (at s (repeated op p)) = Some (part_text (at s (repeated op p)))
+own_text (at s lookahead) = Some (part_text (at s lookahead))
+own_text (at s lookbehind) = Some (part_text (at s lookbehind))
+own_text (at s (ambiguous_id a)) = None
+own_text (at s (terminal t)) = None
+own_text (at s (nonterminal n)) = None
+own_text (at s (chosen p)) = None
+own_text (at s (named n p)) = None
+own_text (at s (tupled ns p)) = None
+own_text (at s error_terminal) = None
+
+-- ---- symbols met one after another
+
+-- the first symbol of that text
+abbrev pub first_with_text : List ℕ → List Part → Option Part
+first_with_text t [] = None
+first_with_text t (p ∷ ps) = if bytes_eq (part_text p) t then Some p else first_with_text t ps
+
+abbrev pub joined_by : Option Part → List Part → Part → List Part
+joined_by None seen x = seen ++ x ∷ []
+joined_by (Some y) seen x = seen
+
+-- the symbols met, once one more is met: the first of each text stays
+abbrev pub after_one : List Part → Part → List Part
+after_one seen x = joined_by (first_with_text (part_text x) seen) seen x
+
+abbrev pub after : List Part → List Part → List Part
+after seen [] = seen
+after seen (x ∷ xs) = after (after_one seen x) xs
+
+abbrev pub differs : Option Part → Part → Bool
+differs None x = false
+differs (Some y) x = not (same_apart_from_spans y x)
+
+-- its text is a name, or that of a symbol that is not the same
+abbrev pub clashes : (List ℕ → Bool) → List Part → Part → Bool
+clashes names seen x = names (part_text x) || differs (first_with_text (part_text x) seen) x
+
+abbrev pub clash_faults : (List ℕ → Bool) → List Part → List Part → List Fault
+clash_faults names seen [] = []
+clash_faults names seen (x ∷ xs) =
+    fault_if (clashes names seen x) (SharedName, span_of x) ++ clash_faults names (after_one seen x) xs
+
+-- a symbol of its text was met that is the same, and its text is no name
+abbrev pub was_met : (List ℕ → Bool) → List Part → Part → Bool
+was_met names seen x = is_some (first_with_text (part_text x) seen) && not (clashes names seen x)
+
+abbrev pub were_met : (List ℕ → Bool) → List Part → List Part → Bool
+were_met names seen [] = true
+were_met names seen (x ∷ xs) = was_met names seen x && were_met names seen xs
+
+-- what is inside each of these symbols was met
+abbrev pub were_met_inside : (List ℕ → Bool) → List Part → List Part → Bool
+were_met_inside names seen [] = true
+were_met_inside names seen (y ∷ ys) = were_met names seen (inside y) && were_met_inside names seen ys
+
+abbrev pub met_view : Met → Part
+met_view m = symbol_view m.symbol
+
+-- its name is its text
+abbrev pub IsNamed : Met → Type 0
+IsNamed m = m.name ≡ part_text (met_view m)
+
+abbrev pub AreNamed : List Met → Type 0
+AreNamed ms = map (λ m. m.name) ms ≡ map (λ m. part_text (met_view m)) ms
+
+abbrev pub seen_of : Expander → List Part
+seen_of e = map met_view e.met.items
+
+abbrev pub has_key : BTreeSet (List ℕ) → List ℕ → Bool
+has_key s t = list_any (is_at (slice_cmp nat_cmp t)) s.keys
+
+abbrev pub is_taken_by : Expander → List ℕ → Bool
+is_taken_by e = has_key e.names
+
+abbrev pub place_noted : Expander → List ℕ → Option ℕ
+place_noted e t = get (slice_cmp nat_cmp) e.places t
+
+-- the places lead to the symbols by their texts, which are their names, and what is inside a symbol that was met was met
+pub record IsExpander (e : Expander) : Type 0 where
+  pub finds : (t : List ℕ) → option_and_then (λ i. slice_get (seen_of e) i) (place_noted e t)
+      ≡ first_with_text t (seen_of e)
+  pub in_range : (t : List ℕ) (i : ℕ) → place_noted e t ≡ Some i → i < length e.met.items
+  pub named : AreNamed e.met.items
+  pub inward : were_met_inside (is_taken_by e) (seen_of e) (seen_of e) ≡ true
+
+-- the symbols were met
+pub record Meets (before later : Expander) (xs : List Part) : Type 0 where
+  pub seen : seen_of later ≡ after (seen_of before) xs
+  pub names : later.names ≡ before.names
+  pub indexed : IsExpander later
+
+-- what is refused where they are met
+abbrev pub refused_by : Expander → List Part → List Fault
+refused_by e xs = clash_faults (is_taken_by e) (seen_of e) xs

@@ -1,0 +1,59 @@
+//! Alternatives and types of a macro with the arguments of a call put in.
+ghost use Rattle.std.specs.Prelude.{◌≡◌, IfOk, option_map};
+ghost use Rattle.lalrpop_norm_tree.specs.Symbols.{parts_view};
+ghost use Rattle.lalrpop_norm_tree.specs.Types.{type_view};
+ghost use Rattle.lalrpop_norm_tree.specs.Items.{action_view, alternative_view};
+ghost use Rattle.lalrpop_norm_model.specs.MadeRules.{argument_kind, type_put_in, instance_alternative};
+
+use crate::put_in::{Bindings, all_put_in, type_put_in};
+use lalrpop_norm_tree::grammar::parse_tree::{
+    ActionKind, Alternative, ExprSymbol, NoMemory, Span, TypeRef,
+};
+use lalrpop_norm_tree_parts::attribute::copy::copy_attributes;
+use std::alloc::Global;
+
+fn copied_action(action: &Option<ActionKind>) -> Result<Option<ActionKind>, NoMemory>
+    ensures { IfOk result (λ a. option_map action_view a ≡ option_map action_view action.now) }
+{
+    match action {
+        None => Ok(None),
+        Some(action) => Ok(Some(action.clone()?)),
+    }
+}
+
+/// An alternative at the call's span, with the arguments put in and without its condition.
+pub fn instance_alternative(
+    alloc: Global,
+    bindings: &Bindings,
+    span: Span,
+    alternative: &Alternative,
+) -> Result<Alternative, NoMemory>
+    ensures { IfOk result (λ a. alternative_view a
+        ≡ instance_alternative span (argument_kind bindings.now.names.now (parts_view bindings.now.symbols.now)) (alternative_view alternative.now)) }
+{
+    let symbols = all_put_in(alloc, bindings, &alternative.expr.symbols)?;
+    let action = copied_action(&alternative.action)?;
+    let attributes = copy_attributes(&alternative.attributes)?;
+    Ok(Alternative {
+        span,
+        expr: ExprSymbol { symbols },
+        condition: None,
+        action,
+        attributes,
+    })
+}
+
+/// The declared type with the arguments put in.
+pub fn instance_type(
+    alloc: Global,
+    bindings: &Bindings,
+    ty: &Option<TypeRef>,
+) -> Result<Option<TypeRef>, NoMemory>
+    ensures { IfOk result (λ t. option_map type_view t
+        ≡ option_map (type_put_in (argument_kind bindings.now.names.now (parts_view bindings.now.symbols.now))) (option_map type_view ty.now)) }
+{
+    match ty {
+        None => Ok(None),
+        Some(ty) => Ok(Some(type_put_in(alloc, bindings, ty)?)),
+    }
+}

@@ -1,0 +1,97 @@
+//! Whether an alternative of a macro belongs to the rule of a call.
+ghost use Rattle.std.specs.Prelude.{◌≡◌, Some, option_map};
+ghost use Rattle.lalrpop_norm_tree.specs.Symbols.{terminal, parts_view};
+ghost use Rattle.lalrpop_norm_faults.specs.Faults.{RefusesOr, fault_if};
+ghost use Rattle.lalrpop_norm_faults.specs.declared.kind.FaultKind.TheVariants.{ConditionPattern};
+ghost use Rattle.lalrpop_norm_conditions.specs.Conditions.{comparison, lacks_reading};
+ghost use Rattle.lalrpop_norm_model.specs.Grammars.{is_true};
+ghost use Rattle.lalrpop_norm_model.specs.Reading.{read_all};
+ghost use Rattle.lalrpop_norm_model.specs.MadeRules.{flat_reader, argument_kind};
+ghost use Rattle.lalrpop_norm_macro_expand_rules.specs.Conditions.{quoted_text, value_faults};
+
+use crate::put_in::{Bindings, bound_to};
+use lalrpop_norm_conditions::{ConditionError, holds};
+use lalrpop_norm_faults::{FaultKind, NormFailure, NormResult, refusal};
+use lalrpop_norm_tree::grammar::parse_tree::{
+    Atom, Condition, SymbolKind, TerminalLiteral, TerminalString,
+};
+use std::alloc::Global;
+
+fn quoted(token: &TerminalString) -> Option<&Atom>
+    ensures { option_map (λ t. t.now) result ≡ quoted_text (Some (terminal token.now)) }
+{
+    match token {
+        TerminalString::Literal(TerminalLiteral::Quoted(text)) => Some(text),
+        TerminalString::Literal(TerminalLiteral::Regex(_))
+        | TerminalString::Bare(_)
+        | TerminalString::Error => None,
+    }
+}
+
+/// The text of the quoted literal that a name is bound to.
+fn literal_bound<'a>(bindings: &Bindings<'a>, name: &Atom) -> Option<&'a Atom>
+    ensures { option_map (λ t. t.now) result ≡ quoted_text (argument_kind bindings.now.names.now (parts_view bindings.now.symbols.now) name.now) }
+{
+    match bound_to(bindings, name)? {
+        SymbolKind::Terminal(token) => quoted(token),
+        SymbolKind::Expr(_)
+        | SymbolKind::AmbiguousId(_)
+        | SymbolKind::Nonterminal(_)
+        | SymbolKind::Macro(_)
+        | SymbolKind::Repeat(_)
+        | SymbolKind::Choose(_)
+        | SymbolKind::Name(_, _)
+        | SymbolKind::Tuple(_, _)
+        | SymbolKind::Lookahead
+        | SymbolKind::Lookbehind
+        | SymbolKind::Error => None,
+    }
+}
+
+/// What a condition says of a literal.
+///
+/// Errors: F34 (`ConditionPattern`) where a pattern is asked for and has no reading; `Memory`.
+fn says(alloc: Global, condition: &Condition, literal: &Atom) -> NormResult<bool>
+    ensures { RefusesOr result (fault_if (lacks_reading condition.now.op condition.now.rhs) (ConditionPattern, condition.now.span))
+        (λ b. b ≡ comparison condition.now.op literal.now condition.now.rhs) }
+{
+    let pattern = condition.rhs.as_str();
+    match holds(alloc, &condition.op, literal.as_str(), pattern) {
+        Ok(value) => Ok(value),
+        Err(ConditionError::NoReading) => Err(refusal(
+            FaultKind::ConditionPattern,
+            condition.span,
+            format!(in alloc;
+                "`{pattern}` is no regular expression, or nests too deep: correct the pattern of this condition"
+            ),
+        )),
+        Err(ConditionError::Memory) => Err(NormFailure::Memory),
+    }
+}
+
+/// Whether an alternative's condition is true or absent.
+///
+/// Errors: F33 (`ConditionArgument`) where its left side is bound to no quoted literal; F34 (`ConditionPattern`); `Memory`.
+pub fn is_kept(
+    alloc: Global,
+    bindings: &Bindings,
+    condition: &Option<Condition>,
+) -> NormResult<bool>
+    ensures { RefusesOr result (value_faults (argument_kind bindings.now.names.now (parts_view bindings.now.symbols.now)) condition.now)
+        (λ b. b ≡ is_true comparison bindings.now.names.now (read_all flat_reader (parts_view bindings.now.symbols.now)) condition.now) }
+{
+    let Some(condition) = condition else {
+        return Ok(true);
+    };
+    match literal_bound(bindings, &condition.lhs.0) {
+        Some(literal) => says(alloc, condition, literal),
+        None => Err(refusal(
+            FaultKind::ConditionArgument,
+            condition.span,
+            format!(in alloc;
+                "a condition tests quoted literals, and a call gives `{}` another symbol: call the macro with a literal",
+                condition.lhs
+            ),
+        )),
+    }
+}

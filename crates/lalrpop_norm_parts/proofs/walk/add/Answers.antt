@@ -1,4 +1,0 @@
-use Rattle.lalrpop_norm_parts.proofs.walk.add.Goals as goal
-
-pub returns : goal.returns
-returns g c = c.in_ok-push.ensures.items

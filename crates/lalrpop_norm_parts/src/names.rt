@@ -1,7 +1,0 @@
-//! Places and names, as `lalrpop_norm_names` has them; copies of lists of them, and the texts that they give to types.
-pub mod copy;
-pub mod show;
-
-pub use lalrpop_norm_names::names::{
-    Lifetime, NonterminalString, Span, TerminalLiteral, TerminalString, TypeParameter,
-};

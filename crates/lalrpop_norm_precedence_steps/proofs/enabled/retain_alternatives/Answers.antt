@@ -1,0 +1,14 @@
+use Rattle.std.proofs.Common.{rules, ap, ◌∙◌}
+use Rattle.std.specs.Prelude.{map}
+use Rattle.std.proofs.lemmas.Fn.{filter_same}
+use Rattle.lalrpop_norm_tree.specs.Items.{alternative_view}
+use Rattle.lalrpop_norm_model.specs.Features.{is_active}
+use Rattle.lalrpop_norm_session.specs.Sessions.{features_view}
+use Rattle.lalrpop_norm_precedence_steps.proofs.EnabledLemmas.{filter_viewed, active_kept}
+use Rattle.lalrpop_norm_precedence_steps.proofs.enabled.retain_alternatives.Goals as goal
+
+pub returns : goal.returns
+returns g c =
+    let fs = features_view c.args.session.now.features in
+    ap (λ xs. map alternative_view xs) (filter_same _ (λ x. is_active fs (alternative_view x).attributes) _ (λ x b f k. search rules) _ _ c.retain.ensures.filtered)
+    ∙ filter_viewed alternative_view (λ a. is_active fs a.attributes) c.args.alternatives.now.items ∙ active_kept fs (map alternative_view c.args.alternatives.now.items)

@@ -1,0 +1,54 @@
+-- The faults of an alternative, in the order in which they are looked for: its symbols, its attributes, its code.
+use Rattle.std.specs.Prelude.{ℕ, Bool, ◌||◌, not, List, [], ◌∷◌, ◌++◌, Option, Some, None, bytes_eq, codes}
+use Rattle.lalrpop_norm_tree_names.specs.declared.names.Span.{Span}
+use Rattle.lalrpop_norm_tree.specs.Accessors.{or_else}
+use Rattle.lalrpop_norm_tree_parts.specs.Attributes.{Attributes, attribute, no_attributes, attribute_and}
+use Rattle.lalrpop_norm_tree.specs.Items.{Action, user_code, fallible_code, lookahead_code, lookbehind_code, AlternativeData}
+use Rattle.lalrpop_norm_tree.specs.Symbols.{Kind, named, tupled, at, Parts, no_parts, part_and}
+use Rattle.lalrpop_norm_faults.specs.declared.kind.FaultKind.TheVariants.{AlternativeAttribute, NamedWithoutAction}
+use Rattle.lalrpop_norm_faults.specs.declared.kind.FaultKind.TheVariants.{AnonymousInBraces, WrittenLookaround}
+use Rattle.lalrpop_norm_faults.specs.Faults.{Fault, fault_if}
+use Rattle.lalrpop_norm_prevalidate.specs.declared.prevalidate.Place.{Place}
+use Rattle.lalrpop_norm_session.specs.Braces.{presence, is_in_braces}
+use Rattle.lalrpop_norm_prevalidate.specs.SymbolFaults.{list_faults}
+use Rattle.lalrpop_norm_model.specs.MadeRules.{span_of}
+
+abbrev pub is_known_on_alternative : List ℕ → Bool
+is_known_on_alternative name = bytes_eq name (codes "precedence") || bytes_eq name (codes "assoc") || bytes_eq name (codes "cfg")
+
+-- F13
+abbrev pub unknown_alternative_faults : Attributes → List Fault
+unknown_alternative_faults no_attributes = []
+unknown_alternative_faults (attribute_and (attribute s name x) rest) =
+    fault_if (not (is_known_on_alternative name)) (AlternativeAttribute, s) ++ unknown_alternative_faults rest
+
+abbrev pub place_inside : Kind → Option Span
+place_inside (named n p) = Some (span_of p)
+place_inside (tupled ps p) = Some (span_of p)
+place_inside k = None
+
+abbrev pub first_inside : Parts → Option Span
+first_inside no_parts = None
+first_inside (part_and (at s k) ps) = or_else (place_inside k) (first_inside ps)
+
+-- F14: a value with a name, and no code
+abbrev pub lacking_faults : Option Span → List Fault
+lacking_faults None = []
+lacking_faults (Some s) = (NamedWithoutAction, s) ∷ []
+
+-- F15
+abbrev pub between_braces_faults : Span → Option Span → List ℕ → List Fault
+between_braces_faults s (Some inside) code = []
+between_braces_faults s None code = fault_if (is_in_braces (presence code)) (AnonymousInBraces, s)
+
+-- F24, else F14 or F15
+abbrev pub action_faults : Span → Option Span → Option Action → List Fault
+action_faults s inside None = lacking_faults inside
+action_faults s inside (Some (user_code code)) = between_braces_faults s inside code
+action_faults s inside (Some (fallible_code code)) = between_braces_faults s inside code
+action_faults s inside (Some lookahead_code) = (WrittenLookaround, s) ∷ []
+action_faults s inside (Some lookbehind_code) = (WrittenLookaround, s) ∷ []
+
+unfoldable pub alternative_faults : Place → AlternativeData → List Fault
+alternative_faults c a =
+    list_faults c a.parts ++ (unknown_alternative_faults a.attributes ++ action_faults a.span (first_inside a.parts) a.action)

@@ -1,0 +1,102 @@
+-- The faults of symbols, in the order in which they are looked for.
+use Rattle.std.specs.Prelude.{ℕ, Bool, true, false, List, [], ◌∷◌, ◌++◌, Option, Some, None, bytes_eq, is_some}
+use Rattle.std.specs.Prelude.{option_map, if◌then◌else◌}
+use Rattle.std.specs.Ordering.{is_lt, nat_cmp}
+use Rattle.std.specs.Cmp.Lexicographic.{slice_cmp}
+use Rattle.lalrpop_norm_tree_names.specs.declared.names.Span.{Span}
+use Rattle.lalrpop_norm_tree_names.specs.declared.names.TerminalString.{TerminalString}
+use Rattle.lalrpop_norm_tree_names.specs.declared.names.TerminalString.TheVariants.{Literal, Bare, Error}
+use Rattle.lalrpop_norm_tree.specs.Symbols.{Kind, group, ambiguous_id, terminal, nonterminal, call, repeated, chosen, named}
+use Rattle.lalrpop_norm_tree.specs.Symbols.{tupled, lookahead, lookbehind, error_terminal, Part, at, Parts, no_parts, part_and}
+use Rattle.lalrpop_norm_faults.specs.declared.kind.FaultKind.TheVariants.{ErrorWithAscent, MacroWithoutArguments, NoLocation}
+use Rattle.lalrpop_norm_faults.specs.declared.kind.FaultKind.TheVariants.{WrittenErrorTerminal, ChosenWithNamed, NameTwice}
+use Rattle.lalrpop_norm_prevalidate.specs.declared.prevalidate.Place.{Place}
+use Rattle.lalrpop_norm_faults.specs.Faults.{Fault, fault_if}
+use Rattle.lalrpop_norm_session.specs.Values.{is_chosen_kind}
+
+-- a call without arguments
+unfoldable pub call_faults : Span → Parts → List Fault
+call_faults s no_parts = (MacroWithoutArguments, s) ∷ []
+call_faults s (part_and p ps) = []
+
+unfoldable pub terminal_faults : Span → TerminalString → List Fault
+terminal_faults s (Literal l) = []
+terminal_faults s (Bare n) = []
+terminal_faults s Error = (WrittenErrorTerminal, s) ∷ []
+
+abbrev pub name_of : Kind → Option (List ℕ)
+name_of (named n p) = Some n.name
+name_of k = None
+
+-- the first chosen symbol
+abbrev pub first_chosen : Parts → Option Span
+first_chosen no_parts = None
+first_chosen (part_and (at s k) ps) = if is_chosen_kind k then Some s else first_chosen ps
+
+abbrev pub has_named : Parts → Bool
+has_named no_parts = false
+has_named (part_and (at s k) ps) = if is_some (name_of k) then true else has_named ps
+
+abbrev pub is_that_name : List ℕ → Option (List ℕ) → Bool
+is_that_name name None = false
+is_that_name name (Some n) = bytes_eq name n
+
+-- the first symbol of that name
+abbrev pub named_at : List ℕ → Parts → Option Span
+named_at name no_parts = None
+named_at name (part_and (at s k) ps) = if is_that_name name (name_of k) then Some s else named_at name ps
+
+-- a name with the place of the second symbol of that name, if there is one
+abbrev pub again : Option (List ℕ) → Parts → Option (List ℕ × Span)
+again None ps = None
+again (Some n) ps = option_map (λ s. (n, s)) (named_at n ps)
+
+-- of two repeated names the lesser, and of one name the earlier place
+abbrev pub lesser_name : Option (List ℕ × Span) → Option (List ℕ × Span) → Option (List ℕ × Span)
+lesser_name None r = r
+lesser_name (Some n) None = Some n
+lesser_name (Some n) (Some r) = if is_lt (slice_cmp nat_cmp r.0 n.0) then Some r else Some n
+
+-- the least name that two symbols have, with the place of the second of them
+abbrev pub least_twice : Parts → Option (List ℕ × Span)
+least_twice no_parts = None
+least_twice (part_and (at s k) ps) = lesser_name (again (name_of k) ps) (least_twice ps)
+
+abbrev pub mixed_faults : Option Span → Bool → List Fault
+mixed_faults (Some s) true = (ChosenWithNamed, s) ∷ []
+mixed_faults (Some s) false = []
+mixed_faults None b = []
+
+abbrev pub repeated_name_faults : Option (List ℕ × Span) → List Fault
+repeated_name_faults None = []
+repeated_name_faults (Some n) = (NameTwice, n.1) ∷ []
+
+-- what is wrong with a list of symbols beside the symbols
+abbrev pub beside_faults : Parts → List Fault
+beside_faults ps = mixed_faults (first_chosen ps) (has_named ps) ++ repeated_name_faults (least_twice ps)
+
+abbrev mutual
+  pub kind_faults : Place → Span → Kind → List Fault
+  kind_faults c s (group ps) = parts_faults c ps ++ beside_faults ps
+  kind_faults c s (ambiguous_id a) = []
+  kind_faults c s (terminal t) = terminal_faults s t
+  kind_faults c s (nonterminal n) = []
+  kind_faults c s (call m ps) = call_faults s ps ++ parts_faults c ps
+  kind_faults c s (repeated op p) = part_faults c p
+  kind_faults c s (chosen p) = part_faults c p
+  kind_faults c s (named n p) = part_faults c p
+  kind_faults c s (tupled ps p) = part_faults c p
+  kind_faults c s lookahead = fault_if c.lacks_location (NoLocation, s)
+  kind_faults c s lookbehind = fault_if c.lacks_location (NoLocation, s)
+  kind_faults c s error_terminal = fault_if c.has_ascent (ErrorWithAscent, s)
+
+  pub part_faults : Place → Part → List Fault
+  part_faults c (at s k) = kind_faults c s k
+
+  pub parts_faults : Place → Parts → List Fault
+  parts_faults c no_parts = []
+  parts_faults c (part_and p ps) = part_faults c p ++ parts_faults c ps
+
+-- the symbols of one alternative or group
+abbrev pub list_faults : Place → Parts → List Fault
+list_faults c ps = parts_faults c ps ++ beside_faults ps

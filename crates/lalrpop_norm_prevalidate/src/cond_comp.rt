@@ -1,0 +1,73 @@
+//! Conditional compilation: what the features of a session leave of a grammar.
+ghost use Rattle.std.specs.Prelude.{◌≡◌, IsOkAnd, map, filter, option_map};
+ghost use Rattle.lalrpop_norm_tree.specs.Items.{conversion_view, enum_token_view, item_view, grammar_view};
+ghost use Rattle.lalrpop_norm_model.specs.Enabled.{enabled_enum, enabled_grammar};
+ghost use Rattle.lalrpop_norm_session.specs.Sessions.{features_view};
+ghost use Rattle.lalrpop_norm_prevalidate.specs.EnabledItems.{active_conversions, stays, trimmed};
+
+use lalrpop_norm_faults::NormResult;
+use lalrpop_norm_precedence_steps::enabled::retain_alternatives;
+use lalrpop_norm_session::Session;
+pub use lalrpop_norm_session::cfg_active;
+use lalrpop_norm_tree::grammar::parse_tree::{Conversion, EnumToken, Grammar, GrammarItem};
+
+/// The grammar without the rules, alternatives and conversions that the features of the session turn off, all else as it
+/// was. It is always Ok: want of memory is none of its answers.
+pub fn remove_disabled_decls<L>(session: &Session<L>, mut grammar: Grammar) -> NormResult<Grammar>
+    ensures { IsOkAnd result (λ g. grammar_view g ≡ enabled_grammar (features_view session.now.features) (grammar_view grammar)) }
+{
+    retain_items(session, &mut grammar.items);
+    trim_items(session, &mut grammar.items);
+    Ok(grammar)
+}
+
+fn retain_items<L>(session: &Session<L>, items: &mut Vec<GrammarItem>)
+    ensures { map item_view items.new.items ≡ filter (stays (features_view session.now.features)) (map item_view items.old.items) }
+{
+    items.retain(|item| stays(session, item));
+}
+
+fn stays<L>(session: &Session<L>, item: &GrammarItem) -> bool
+    ensures { result ≡ stays (features_view session.now.features) (item_view item.now) }
+{
+    match item {
+        GrammarItem::Nonterminal(rule) => cfg_active(session, &rule.attributes),
+        GrammarItem::MatchToken(_)
+        | GrammarItem::ExternToken(_)
+        | GrammarItem::InternToken(_)
+        | GrammarItem::Use(_) => true,
+    }
+}
+
+fn trim_items<L>(session: &Session<L>, items: &mut [GrammarItem])
+    ensures { map item_view items.new ≡ map (trimmed (features_view session.now.features)) (map item_view items.old) }
+{
+    for item in items.iter_mut() {
+        trim(session, item);
+    }
+}
+
+fn trim<L>(session: &Session<L>, item: &mut GrammarItem)
+    ensures { item_view item.new ≡ trimmed (features_view session.now.features) (item_view item.old) }
+{
+    match item {
+        GrammarItem::Nonterminal(rule) => retain_alternatives(session, &mut rule.alternatives),
+        GrammarItem::ExternToken(token) => trim_enum(session, &mut token.enum_token),
+        GrammarItem::MatchToken(_) | GrammarItem::InternToken(_) | GrammarItem::Use(_) => {}
+    }
+}
+
+fn trim_enum<L>(session: &Session<L>, tokens: &mut Option<EnumToken>)
+    ensures { option_map enum_token_view tokens.new ≡ option_map (enabled_enum (features_view session.now.features)) (option_map enum_token_view tokens.old) }
+{
+    match tokens {
+        Some(tokens) => retain_conversions(session, &mut tokens.conversions),
+        None => {}
+    }
+}
+
+fn retain_conversions<L>(session: &Session<L>, conversions: &mut Vec<Conversion>)
+    ensures { map conversion_view conversions.new.items ≡ active_conversions (features_view session.now.features) (map conversion_view conversions.old.items) }
+{
+    conversions.retain(|conversion| cfg_active(session, &conversion.attributes));
+}

@@ -1,0 +1,113 @@
+//! Conditions of attributes.
+ghost use Rattle.std.specs.Prelude.{◌≡◌, [], ◌∷◌};
+ghost use Rattle.lalrpop_norm_tree_parts.specs.Attributes.{argument_view, attribute_view, attributes_view};
+ghost use Rattle.lalrpop_norm_faults.specs.Faults.{Refuses, IsFirst};
+ghost use Rattle.lalrpop_norm_prevalidate.specs.CfgFaults.{test_of, test_faults, test_argument_faults, first_test_faults, empty_faults, tests_faults, cfg_faults};
+
+use lalrpop_norm_faults::{FaultKind, NormFailure, NormResult, refusal};
+use lalrpop_norm_tree::grammar::parse_tree::{Attribute, AttributeArg, Span};
+use std::alloc::Global;
+
+/// What a name in a condition asks of its argument.
+#[derive(Clone, Copy, Debug, PartialEq, Eq)]
+pub(crate) enum Test {
+    Feature,
+    Not,
+    Several,
+    Unknown,
+}
+
+fn test_of(name: &str) -> Test
+    ensures { result ≡ test_of name.now }
+{
+    if name == "feature" {
+        Test::Feature
+    } else if name == "not" {
+        Test::Not
+    } else if name == "any" || name == "all" {
+        Test::Several
+    } else {
+        Test::Unknown
+    }
+}
+
+fn malformed(alloc: Global, span: Span) -> NormFailure
+    ensures { IsFirst ((FaultKind.MalformedCfg, span) ∷ []) result }
+{
+    refusal(
+        FaultKind::MalformedCfg,
+        span,
+        format!(in alloc;
+            "a `cfg` takes `feature = \"..\"`, or `not`, `any` or `all` with conditions in brackets"
+        ),
+    )
+}
+
+#[cycle(cfg)]
+fn check_attribute(alloc: Global, attribute: &Attribute) -> NormResult<()>
+    ensures { Refuses result (test_faults (attribute_view attribute.now)) }
+{
+    let test = test_of(attribute.id.as_str());
+    check_arg(alloc, test, attribute.id_span, &attribute.arg)
+}
+
+#[cycle(cfg)]
+fn check_arg(alloc: Global, test: Test, span: Span, arg: &AttributeArg) -> NormResult<()>
+    ensures { Refuses result (test_argument_faults test span (argument_view arg.now)) }
+{
+    match test {
+        Test::Feature => match arg {
+            AttributeArg::Equal(_) => Ok(()),
+            AttributeArg::Empty | AttributeArg::Paren(_) => Err(malformed(alloc, span)),
+        },
+        Test::Not => match arg {
+            AttributeArg::Paren(attributes) => check_first(alloc, span, attributes),
+            AttributeArg::Empty | AttributeArg::Equal(_) => Err(malformed(alloc, span)),
+        },
+        Test::Several => match arg {
+            AttributeArg::Paren(attributes) => {
+                check_not_empty(alloc, span, attributes)?;
+                check_each(alloc, attributes)
+            }
+            AttributeArg::Empty | AttributeArg::Equal(_) => Err(malformed(alloc, span)),
+        },
+        Test::Unknown => Err(malformed(alloc, span)),
+    }
+}
+
+#[cycle(cfg)]
+fn check_first(alloc: Global, span: Span, attributes: &[Attribute]) -> NormResult<()>
+    ensures { Refuses result (first_test_faults span (attributes_view attributes.now)) }
+{
+    match attributes.first() {
+        Some(attribute) => check_attribute(alloc, attribute),
+        None => Err(malformed(alloc, span)),
+    }
+}
+
+#[tactic(auto, unfolding(crate::specs::CfgFaults::empty_faults), using(crate::proofs::CallLemmas::no_empty_faults))]
+fn check_not_empty(alloc: Global, span: Span, attributes: &[Attribute]) -> NormResult<()>
+    ensures { Refuses result (empty_faults span (attributes_view attributes.now)) }
+{
+    if attributes.is_empty() {
+        return Err(malformed(alloc, span));
+    }
+    Ok(())
+}
+
+#[cycle(cfg)]
+fn check_each(alloc: Global, attributes: &[Attribute]) -> NormResult<()>
+    ensures { Refuses result (tests_faults (attributes_view attributes.now)) }
+{
+    for attribute in attributes {
+        check_attribute(alloc, attribute)?;
+    }
+    Ok(())
+}
+
+/// The first argument of a `cfg`.
+pub(super) fn validate_cfg(alloc: Global, span: Span, arg: &AttributeArg) -> NormResult<()>
+    ensures { Refuses result (cfg_faults span (argument_view arg.now)) }
+{
+    check_arg(alloc, Test::Not, span, arg)
+}

@@ -1,0 +1,262 @@
+//! Symbols.
+ghost use Rattle.std.specs.Prelude.{◌≡◌, option_map};
+ghost use Rattle.lalrpop_norm_faults.specs.Faults.{Refuses, fault_if};
+ghost use Rattle.lalrpop_norm_prevalidate.specs.SymbolFaults.{call_faults, terminal_faults, kind_faults, part_faults, parts_faults, list_faults, beside_faults, name_of, is_that_name, first_chosen, has_named, named_at, again, lesser_name, least_twice};
+ghost use Rattle.lalrpop_norm_tree.specs.Symbols.{kind_view, symbol_view, parts_view};
+
+use super::Place;
+use lalrpop_norm_faults::{FaultKind, NormResult, refusal};
+use lalrpop_norm_session::norm_util::is_chosen_kind;
+use lalrpop_norm_tree::grammar::parse_tree::{Atom, Span, Symbol, SymbolKind, TerminalString};
+use std::alloc::Global;
+
+#[cycle(symbols)]
+pub(super) fn validate_list(alloc: Global, place: Place, symbols: &[Symbol]) -> NormResult<()>
+    ensures { Refuses result (list_faults place (parts_view symbols.now)) }
+{
+    validate_each(alloc, place, symbols)?;
+    validate_beside(alloc, symbols)
+}
+
+#[cycle(symbols)]
+fn validate_each(alloc: Global, place: Place, symbols: &[Symbol]) -> NormResult<()>
+    ensures { Refuses result (parts_faults place (parts_view symbols.now)) }
+{
+    for symbol in symbols {
+        validate_symbol(alloc, place, symbol)?;
+    }
+    Ok(())
+}
+
+#[cycle(symbols)]
+fn validate_symbol(alloc: Global, place: Place, symbol: &Symbol) -> NormResult<()>
+    ensures { Refuses result (part_faults place (symbol_view symbol.now)) }
+{
+    validate_kind(alloc, place, symbol.span, &symbol.kind)
+}
+
+#[cycle(symbols)]
+fn validate_kind(alloc: Global, place: Place, span: Span, kind: &SymbolKind) -> NormResult<()>
+    ensures { Refuses result (kind_faults place span (kind_view kind.now)) }
+{
+    match kind {
+        SymbolKind::Expr(expr) => validate_list(alloc, place, &expr.symbols),
+        SymbolKind::AmbiguousId(_) | SymbolKind::Nonterminal(_) => Ok(()),
+        SymbolKind::Terminal(terminal) => validate_terminal(alloc, span, terminal),
+        SymbolKind::Error => validate_error(alloc, place.has_ascent, span),
+        SymbolKind::Macro(call) => {
+            validate_call(alloc, span, &call.args)?;
+            validate_each(alloc, place, &call.args)
+        }
+        SymbolKind::Repeat(repeat) => validate_symbol(alloc, place, &repeat.symbol),
+        SymbolKind::Choose(symbol) => validate_symbol(alloc, place, symbol),
+        SymbolKind::Name(_, symbol) => validate_symbol(alloc, place, symbol),
+        SymbolKind::Tuple(_, symbol) => validate_symbol(alloc, place, symbol),
+        SymbolKind::Lookahead | SymbolKind::Lookbehind => {
+            validate_location(alloc, place.lacks_location, span)
+        }
+    }
+}
+
+/// Where a terminal is written, it is not the error terminal.
+#[tactic(auto, unfolding(crate::specs::SymbolFaults::terminal_faults))]
+pub(super) fn validate_terminal(
+    alloc: Global,
+    span: Span,
+    terminal: &TerminalString,
+) -> NormResult<()>
+    ensures { Refuses result (terminal_faults span terminal.now) }
+{
+    match terminal {
+        TerminalString::Literal(_) | TerminalString::Bare(_) => Ok(()),
+        TerminalString::Error => Err(refusal(
+            FaultKind::WrittenErrorTerminal,
+            span,
+            format!(in alloc;
+                "the error terminal can't be written: use `!` where a parser may recover"
+            ),
+        )),
+    }
+}
+
+fn validate_error(alloc: Global, has_ascent: bool, span: Span) -> NormResult<()>
+    ensures { Refuses result (fault_if has_ascent (FaultKind.ErrorWithAscent, span)) }
+{
+    if has_ascent {
+        return Err(refusal(
+            FaultKind::ErrorWithAscent,
+            span,
+            format!(in alloc;
+                "a parser by recursive ascent can't recover from errors: leave out `!`, or the attribute"
+            ),
+        ));
+    }
+    Ok(())
+}
+
+fn validate_location(alloc: Global, lacks_location: bool, span: Span) -> NormResult<()>
+    ensures { Refuses result (fault_if lacks_location (FaultKind.NoLocation, span)) }
+{
+    if lacks_location {
+        return Err(refusal(
+            FaultKind::NoLocation,
+            span,
+            format!(in alloc;
+                "`@L` and `@R` need the type of a location: add `type Location = ..` to the extern block"
+            ),
+        ));
+    }
+    Ok(())
+}
+
+/// What is wrong with a list of symbols beside the symbols.
+fn validate_beside(alloc: Global, symbols: &[Symbol]) -> NormResult<()>
+    ensures { Refuses result (beside_faults (parts_view symbols.now)) }
+{
+    if let Some(span) = first_chosen(symbols) {
+        if has_named(symbols) {
+            return Err(refusal(
+                FaultKind::ChosenWithNamed,
+                span,
+                format!(in alloc;
+                    "a chosen symbol without a name can't stand beside named ones: name this one too"
+                ),
+            ));
+        }
+    }
+    if let Some((name, span)) = least_twice(symbols) {
+        return Err(refusal(
+            FaultKind::NameTwice,
+            span,
+            format!(in alloc;
+                "there is a symbol named `{name}` before this one: give this one another name"
+            ),
+        ));
+    }
+    Ok(())
+}
+
+fn name_of(kind: &SymbolKind) -> Option<&Atom>
+    ensures { option_map (λ a. a.now) result ≡ name_of (kind_view kind.now) }
+{
+    match kind {
+        SymbolKind::Name(name, _) => Some(&name.name),
+        SymbolKind::Expr(_)
+        | SymbolKind::AmbiguousId(_)
+        | SymbolKind::Terminal(_)
+        | SymbolKind::Nonterminal(_)
+        | SymbolKind::Macro(_)
+        | SymbolKind::Repeat(_)
+        | SymbolKind::Choose(_)
+        | SymbolKind::Tuple(_, _)
+        | SymbolKind::Lookahead
+        | SymbolKind::Lookbehind
+        | SymbolKind::Error => None,
+    }
+}
+
+fn first_chosen(symbols: &[Symbol]) -> Option<Span>
+    ensures { result ≡ first_chosen (parts_view symbols.now) }
+{
+    for symbol in symbols {
+        if is_chosen_kind(&symbol.kind) {
+            return Some(symbol.span);
+        }
+    }
+    None
+}
+
+fn has_named(symbols: &[Symbol]) -> bool
+    ensures { result ≡ has_named (parts_view symbols.now) }
+{
+    for symbol in symbols {
+        if name_of(&symbol.kind).is_some() {
+            return true;
+        }
+    }
+    false
+}
+
+fn is_name(name: &Atom, found: Option<&Atom>) -> bool
+    ensures { result ≡ is_that_name name.now (option_map (λ a. a.now) found.entry) }
+{
+    match found {
+        Some(other) => name == other,
+        None => false,
+    }
+}
+
+/// Where the first symbol of that name stands.
+fn named_at(name: &Atom, symbols: &[Symbol]) -> Option<Span>
+    ensures { result ≡ named_at name.now (parts_view symbols.now) }
+{
+    for symbol in symbols {
+        if is_name(name, name_of(&symbol.kind)) {
+            return Some(symbol.span);
+        }
+    }
+    None
+}
+
+/// The name with the place of the second symbol of it, if there is one.
+fn again<'a>(name: Option<&'a Atom>, rest: &[Symbol]) -> Option<(&'a Atom, Span)>
+    ensures { option_map (λ r. (r.0.now, r.1)) result ≡ again (option_map (λ a. a.now) name.entry) (parts_view rest.now) }
+{
+    match name {
+        Some(name) => match named_at(name, rest) {
+            Some(span) => Some((name, span)),
+            None => None,
+        },
+        None => None,
+    }
+}
+
+fn lesser<'a>(
+    earlier: Option<(&'a Atom, Span)>,
+    later: Option<(&'a Atom, Span)>,
+) -> Option<(&'a Atom, Span)>
+    ensures { option_map (λ r. (r.0.now, r.1)) result
+        ≡ lesser_name (option_map (λ r. (r.0.now, r.1)) earlier.entry) (option_map (λ r. (r.0.now, r.1)) later.entry) }
+{
+    match earlier {
+        None => later,
+        Some(first) => match later {
+            None => Some(first),
+            Some(second) => {
+                if second.0 < first.0 {
+                    Some(second)
+                } else {
+                    Some(first)
+                }
+            }
+        },
+    }
+}
+
+/// The least name that two symbols have, with the place of the second of them.
+fn least_twice(symbols: &[Symbol]) -> Option<(&Atom, Span)>
+    ensures { option_map (λ r. (r.0.now, r.1)) result ≡ least_twice (parts_view symbols.now) }
+{
+    let mut least = None;
+    for i in (0..symbols.len()).rev() {
+        let found = again(name_of(&symbols[i].kind), &symbols[i + 1..]);
+        least = lesser(found, least);
+    }
+    least
+}
+
+#[tactic(auto, unfolding(crate::specs::SymbolFaults::call_faults), using(crate::proofs::CallLemmas::no_call_faults))]
+fn validate_call(alloc: Global, span: Span, args: &[Symbol]) -> NormResult<()>
+    ensures { Refuses result (call_faults span (parts_view args.now)) }
+{
+    if args.is_empty() {
+        return Err(refusal(
+            FaultKind::MacroWithoutArguments,
+            span,
+            format!(in alloc;
+                "a macro is called with at least one argument: name one, or leave out the brackets"
+            ),
+        ));
+    }
+    Ok(())
+}

@@ -1,0 +1,7 @@
+use Rattle.std.proofs.Common.{◌≡◌}
+use Rattle.lalrpop_norm_tree_parts.specs.Reprs.{repr_view}
+use Rattle.lalrpop_norm_tree_parts.proofs.BoundViews.{same_bound_views}
+use Rattle.lalrpop_norm_tree_parts.proofs.lowered.copy.copy_bound.Goals as goal
+
+pub returns : goal.returns
+returns c = same_bound_views (λ t u. repr_view u ≡ repr_view t) repr_view (λ t u same. same) c.args.bound.now c.in_ok-clone.field-0 c.in_ok-clone.ensures

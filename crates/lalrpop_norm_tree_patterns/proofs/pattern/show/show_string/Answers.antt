@@ -1,0 +1,5 @@
+use Rattle.lalrpop_norm_tree_parts.proofs.WrittenLemmas.{then_then_last}
+use Rattle.lalrpop_norm_tree_patterns.proofs.pattern.show.show_string.Goals as goal
+
+pub returns : goal.returns
+returns g c = then_then_last g.W.Write.write_str_gives _ _ _ _ _ _ _ _ c.in_ok-write_str.ensures.writes c.in_ok-write_escaped.ensures c.write_str-2.ensures.writes

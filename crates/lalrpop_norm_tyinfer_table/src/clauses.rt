@@ -1,0 +1,103 @@
+//! By which rules have types.
+ghost use Rattle.std.specs.Prelude.{◌≡◌, [], ◌∷◌, ◌++◌, IfOk, OnOk, map, option_map, option_to_list, filter_map};
+ghost use Rattle.lalrpop_norm_tree.specs.Items.{alternative_view, rule_view};
+ghost use Rattle.lalrpop_norm_tree.specs.Symbols.{expr_view};
+ghost use Rattle.lalrpop_norm_tree.specs.Types.{type_view};
+ghost use Rattle.lalrpop_norm_model.specs.TypeRelation.{alternative_clause, type_clauses, type_clauses_of, makes};
+ghost use Rattle.lalrpop_norm_tyinfer_table.specs.Clauses.{default_clause, clause_view};
+
+use lalrpop_norm_session::norm_util::{has_name_value, sources};
+use lalrpop_norm_tree::grammar::parse_tree::{
+    ActionKind, Alternative, ExprSymbol, NoMemory, NonterminalData, Symbol, TypeRef,
+};
+use std::alloc::Global;
+
+/// By which a rule has a type.
+#[derive(Debug, Drop)]
+pub enum Clause<'g> {
+    /// It declares one.
+    Declared(&'g TypeRef),
+    /// An alternative gives the values of these symbols, each with its place: one bare, any other number of them as a tuple.
+    Sources(Vec<(usize, &'g Symbol)>),
+    /// A lookaround gives a location.
+    Location,
+}
+
+/// The clause of an alternative: one without code and names gives the values of its sources, and a lookaround a location.
+pub fn alternative_clause(
+    alloc: Global,
+    alternative: &Alternative,
+) -> Result<Option<Clause<'_>>, NoMemory>
+    ensures { IfOk result (λ o. option_map clause_view o ≡ alternative_clause (alternative_view alternative.now)) }
+{
+    match &alternative.action {
+        None => default_clause(alloc, &alternative.expr),
+        Some(ActionKind::Lookahead) | Some(ActionKind::Lookbehind) => Ok(Some(Clause::Location)),
+        Some(ActionKind::User(_)) | Some(ActionKind::Fallible(_)) => Ok(None),
+    }
+}
+
+/// The clause of an alternative of these symbols without code.
+fn default_clause(alloc: Global, expr: &ExprSymbol) -> Result<Option<Clause<'_>>, NoMemory>
+    ensures { IfOk result (λ o. option_map clause_view o ≡ default_clause (expr_view expr.now)) }
+{
+    if has_name_value(&expr.symbols) {
+        return Ok(None);
+    }
+    let sources = sources(alloc, &expr.symbols)?;
+    Ok(Some(Clause::Sources(sources)))
+}
+
+/// The clauses of a rule: its declared type alone; without one, those of its alternatives in order.
+pub(crate) fn rule_clauses(
+    alloc: Global,
+    rule: &NonterminalData,
+) -> Result<Vec<Clause<'_>>, NoMemory>
+    ensures { IfOk result (λ cs. map clause_view cs.items ≡ type_clauses (rule_view rule.now)) }
+{
+    clauses_of(alloc, &rule.type_decl, &rule.alternatives)
+}
+
+fn clauses_of<'g>(
+    alloc: Global,
+    declared: &'g Option<TypeRef>,
+    alternatives: &'g [Alternative],
+) -> Result<Vec<Clause<'g>>, NoMemory>
+    ensures { IfOk result (λ cs. map clause_view cs.items ≡ type_clauses_of (option_map type_view declared.now) (map alternative_view alternatives.now)) }
+{
+    match declared {
+        Some(ty) => declared_clause(alloc, ty),
+        None => alternative_clauses(alloc, alternatives),
+    }
+}
+
+fn declared_clause(alloc: Global, ty: &TypeRef) -> Result<Vec<Clause<'_>>, NoMemory>
+    ensures { IfOk result (λ cs. map clause_view cs.items ≡ makes (type_view ty.now) ∷ []) }
+{
+    let mut clauses = Vec::with_capacity(alloc, 1)?;
+    clauses.push(Clause::Declared(ty))?;
+    Ok(clauses)
+}
+
+fn alternative_clauses(
+    alloc: Global,
+    alternatives: &[Alternative],
+) -> Result<Vec<Clause<'_>>, NoMemory>
+    ensures { IfOk result (λ cs. map clause_view cs.items ≡ filter_map alternative_clause (map alternative_view alternatives.now)) }
+{
+    let mut clauses = Vec::with_capacity(alloc, alternatives.len())?;
+    for alternative in alternatives {
+        add_clause(&mut clauses, alternative_clause(alloc, alternative)?)?;
+    }
+    Ok(clauses)
+}
+
+/// Adds the clause that is there.
+fn add_clause<'g>(clauses: &mut Vec<Clause<'g>>, clause: Option<Clause<'g>>) -> Result<(), NoMemory>
+    ensures { OnOk result (map clause_view clauses.new.items ≡ map clause_view clauses.old.items ++ option_to_list (option_map clause_view clause.entry)) }
+{
+    if let Some(clause) = clause {
+        clauses.push(clause)?;
+    }
+    Ok(())
+}

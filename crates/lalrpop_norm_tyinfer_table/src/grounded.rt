@@ -1,0 +1,85 @@
+//! Rules that nothing gives a type.
+ghost use Rattle.std.specs.Prelude.{◌≡◌, ◌∷◌, [], flat_map, map};
+ghost use Rattle.lalrpop_norm_tree.specs.Items.{alternative_view, rule_view};
+ghost use Rattle.lalrpop_norm_faults.specs.Faults.{Refuses, IsFirst};
+ghost use Rattle.lalrpop_norm_repr.specs.Tables.{type_table};
+ghost use Rattle.lalrpop_norm_model.specs.InferenceFaults.{lack_of};
+ghost use Rattle.lalrpop_norm_tyinfer_table.specs.TableFaults.{lacking_seen, untyped_in};
+ghost use Rattle.lalrpop_norm_tyinfer_table.specs.Visits.{rule_seen};
+
+use crate::rules::PlainRule;
+use lalrpop_norm_faults::{FaultKind, NormFailure, NormResult, refusal};
+use lalrpop_norm_repr::grammar::repr::Types;
+use lalrpop_norm_tree::grammar::parse_tree::{Alternative, NonterminalData};
+use std::alloc::Global;
+
+/// Refuses a rule without a declared type that has no alternative, or none that may give one.
+pub fn check_clauses(alloc: Global, rules: &[PlainRule]) -> NormResult<()>
+    ensures { Refuses result (flat_map lacking_seen (map rule_seen rules.now)) }
+{
+    for rule in rules {
+        check_rule(alloc, rule)?;
+    }
+    Ok(())
+}
+
+fn check_rule(alloc: Global, rule: &PlainRule) -> NormResult<()>
+    ensures { Refuses result (lacking_seen (rule_seen rule.now)) }
+{
+    if rule.data.type_decl.is_some() {
+        return Ok(());
+    }
+    if !rule.clauses.is_empty() {
+        return Ok(());
+    }
+    Err(lack(alloc, rule.data, &rule.data.alternatives))
+}
+
+/// What a rule without a type of its own and these alternatives lacks.
+fn lack(alloc: Global, rule: &NonterminalData, alternatives: &[Alternative]) -> NormFailure
+    ensures { IsFirst (lack_of (rule_view rule.now) (map alternative_view alternatives.now)) result }
+{
+    let name = &rule.name;
+    match alternatives.first() {
+        None => refusal(
+            FaultKind::NoAlternatives,
+            rule.span,
+            format!(in alloc;
+                "`{name}` has no alternatives, so nothing gives it a type: declare one, as `{name}: T`"
+            ),
+        ),
+        Some(alternative) => refusal(
+            FaultKind::OnlyCoded,
+            alternative.span,
+            format!(in alloc;
+                "all alternatives of `{name}` have code or named symbols, so nothing gives it a type: declare one, as `{name}: T`"
+            ),
+        ),
+    }
+}
+
+/// Refuses a rule without a type in the table.
+pub fn check_typed(alloc: Global, types: &Types, rules: &[PlainRule]) -> NormResult<()>
+    ensures { Refuses result (flat_map (untyped_in (type_table types.now)) (map (λ r. rule_view r.data.now) rules.now)) }
+{
+    for rule in rules {
+        check_type(alloc, types, rule.data)?;
+    }
+    Ok(())
+}
+
+fn check_type(alloc: Global, types: &Types, rule: &NonterminalData) -> NormResult<()>
+    ensures { Refuses result (untyped_in (type_table types.now) (rule_view rule.now)) }
+{
+    let name = &rule.name;
+    match types.lookup_nonterminal_type(name) {
+        Some(_) => Ok(()),
+        None => Err(refusal(
+            FaultKind::NotGrounded,
+            rule.span,
+            format!(in alloc;
+                "the type of `{name}` depends on itself, or on a rule without a type: declare one, as `{name}: T`"
+            ),
+        )),
+    }
+}

@@ -1,0 +1,60 @@
+//! Places of rules that wait for a visit.
+ghost use Rattle.std.specs.Prelude.{◌≡◌, ◌==◌, ◌<◌, ◌||◌, ℕ, true, false, IfOk, OnOk, MatchOption};
+ghost use Rattle.std.specs.Bool.{OnTrue, OnFalse};
+ghost use Rattle.lalrpop_norm_tyinfer_table.specs.Waiting.{has, TakesLeast};
+
+use lalrpop_norm_tree::grammar::parse_tree::NoMemory;
+use std::alloc::Global;
+use std::collections::BTreeSet;
+
+/// Some places of rules.
+#[derive(Drop)]
+pub struct Places {
+    set: BTreeSet<usize>,
+}
+
+impl Places {
+    /// No place.
+    pub fn new(alloc: Global) -> Places
+        ensures { (k : ℕ) → has result k ≡ false }
+    {
+        Places {
+            set: BTreeSet::new(alloc),
+        }
+    }
+
+    /// All places below a number.
+    pub fn below(alloc: Global, count: usize) -> Result<Places, NoMemory>
+        ensures all { IfOk result (λ p. (k : ℕ) → k < count → has p k ≡ true) }
+        ensures only { IfOk result (λ p. (k : ℕ) → has p k ≡ true → k < count) }
+    {
+        let mut places = Places::new(alloc);
+        for place in 0..count {
+            places.add(place)?;
+        }
+        Ok(places)
+    }
+
+    /// Whether there is none.
+    pub fn is_empty(&self) -> bool
+        ensures none { OnTrue result ((k : ℕ) → has self.now k ≡ false) }
+        ensures some { OnFalse result ((k : ℕ) × (has self.now k ≡ true)) }
+    {
+        self.set.is_empty()
+    }
+
+    /// Adds a place.
+    pub fn add(&mut self, place: usize) -> Result<(), NoMemory>
+        ensures { OnOk result ((k : ℕ) → has self.new k ≡ ((place == k) || has self.old k)) }
+    {
+        self.set.insert(place)?;
+        Ok(())
+    }
+
+    /// Takes the least place out, if there is one.
+    pub fn take_least(&mut self) -> Option<usize>
+        ensures { MatchOption result ((k : ℕ) → has self.old k ≡ false) (TakesLeast self.old self.new) }
+    {
+        self.set.pop_first()
+    }
+}

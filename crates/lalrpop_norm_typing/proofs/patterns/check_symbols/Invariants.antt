@@ -1,9 +1,0 @@
-use Rattle.std.proofs.Common.{◌≡◌, drop}
-use Rattle.lalrpop_norm_tree.specs.Symbols.{parts_view}
-use Rattle.lalrpop_norm_repr.specs.Tables.{type_table}
-use Rattle.lalrpop_norm_typing.specs.TableFaults.{parts_misfits}
-use Rattle.lalrpop_norm_typing.specs.TableValues.{type_by_name}
-use Rattle.lalrpop_norm_typing.proofs.patterns.check_symbols.Given as goal
-
-abbrev pub invariant-loop-symbol : goal.invariant-loop-symbol
-invariant-loop-symbol l = parts_misfits (type_by_name (type_table l.types)) (parts_view (drop l.symbol-index l.symbols)) ≡ parts_misfits (type_by_name (type_table l.types)) (parts_view l.symbols)

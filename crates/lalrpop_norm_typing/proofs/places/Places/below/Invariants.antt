@@ -1,9 +1,0 @@
-use Rattle.std.proofs.Common.{◌≡◌, ◌<◌, ℕ, true}
-use Rattle.lalrpop_norm_typing.specs.Waiting.{has}
-use Rattle.lalrpop_norm_typing.proofs.places.Places.below.Given as goal
-
-abbrev pub invariant-loop-place : goal.invariant-loop-place
-invariant-loop-place l = record {
-  all : (k : ℕ) → k < l.place → has l.places k ≡ true;
-  only : (k : ℕ) → has l.places k ≡ true → k < l.place;
-}

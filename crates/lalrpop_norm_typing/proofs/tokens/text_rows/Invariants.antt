@@ -1,7 +1,0 @@
-use Rattle.std.proofs.Common.{◌≡◌, ◌++◌, drop, map}
-use Rattle.lalrpop_norm_model.specs.TerminalTypes.{input_str}
-use Rattle.lalrpop_norm_typing.specs.TokenTypes.{rows_seen}
-use Rattle.lalrpop_norm_typing.proofs.tokens.text_rows.Given as goal
-
-abbrev pub invariant-loop-name : goal.invariant-loop-name
-invariant-loop-name l = rows_seen l.rows.items ++ map (λ t. (t, input_str)) (drop l.name-index l.names) ≡ map (λ t. (t, input_str)) l.names

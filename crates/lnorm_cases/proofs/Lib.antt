@@ -1,0 +1,3 @@
+pub mod Truths
+pub mod AllLemmas
+pub mod ScriptedLemmas

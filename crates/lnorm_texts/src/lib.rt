@@ -1,0 +1,17 @@
+//! The texts of runs: the printed forms of trees, tables and lowered grammars, and what a tree in JSON does not show (values that
+//! calls make, texts of parts, parts that have no form in JSON).
+#![tactic(auto)]
+
+mod actions;
+pub mod faults;
+mod lifetimes;
+mod looks;
+pub mod lowered;
+pub mod made;
+mod names;
+mod parts;
+mod patterns;
+pub mod print;
+mod tables;
+pub mod texts;
+pub mod values;
