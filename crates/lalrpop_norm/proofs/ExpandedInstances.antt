@@ -12,7 +12,7 @@ use Rattle.lalrpop_norm_theory.specs.Rounds.{In}
 use Rattle.lalrpop_norm_theory.proofs.RoundsLemmas.{in_cases}
 use Rattle.lalrpop_norm_model.specs.Grammars.{ConditionValue, is_true}
 use Rattle.lalrpop_norm_model.specs.Reading.{read_all}
-use Rattle.lalrpop_norm_model.specs.MadeRules.{group_rule, star_rule, plus_rule, question_rule, location_rule, argument_kind, or_name, put_in, kind_put_in, all_put_in, flat_reader, instance_alternative, instance_alternatives, instance_rule, instance_of, macro_named, made_rules}
+use Rattle.lalrpop_norm_model.specs.MadeRules.{group_rule, star_rule, plus_rule, question_rule, location_rule, argument_kind, or_name, substituted, kind_substituted, all_substituted, flat_reader, instance_alternative, instance_alternatives, instance_rule, instance_of, macro_named, made_rules}
 use Rattle.lalrpop_norm_model.specs.PlainRules.{met, all_met}
 use Rattle.lalrpop_norm.proofs.ExpandedScopes.{IsOverKind, IsOver, AreOver}
 use Rattle.lalrpop_norm.proofs.ExpandedSymbols.{named_listed}
@@ -49,7 +49,7 @@ module _ (P : TerminalString → Type 0) where
       | inr j ↦ all_met_over ps h.1 q j
     ]
 
-  -- ---- arguments put in
+  -- ---- arguments substituted
 
   argument_over : (params : List NonterminalString) (ps : Parts) → AreOver P ps → (n : List ℕ) → IsOverKind P (or_name n (argument_kind params ps n))
   argument_over [] no_parts h n = tt
@@ -63,7 +63,7 @@ module _ (P : TerminalString → Type 0) where
 
   module _ (argument : List ℕ → Option Kind) (over : (n : List ℕ) → IsOverKind P (or_name n (argument n))) where
     mutual
-      kind_put_over : (k : Kind) → IsOverKind P k → IsOverKind P (kind_put_in argument k)
+      kind_put_over : (k : Kind) → IsOverKind P k → IsOverKind P (kind_substituted argument k)
       kind_put_over (nonterminal n) h = over n
       kind_put_over (ambiguous_id n) h = over n
       kind_put_over (terminal t) h = h
@@ -77,10 +77,10 @@ module _ (P : TerminalString → Type 0) where
       kind_put_over lookbehind h = tt
       kind_put_over error_terminal h = tt
 
-      put_over : (p : Part) → IsOver P p → IsOver P (put_in argument p)
+      put_over : (p : Part) → IsOver P p → IsOver P (substituted argument p)
       put_over (at s k) h = kind_put_over k h
 
-      all_put_over : (ps : Parts) → AreOver P ps → AreOver P (all_put_in argument ps)
+      all_put_over : (ps : Parts) → AreOver P ps → AreOver P (all_substituted argument ps)
       all_put_over no_parts h = tt
       all_put_over (part_and p ps) h = (put_over p h.0, all_put_over ps h.1)
 
@@ -114,7 +114,7 @@ module _ (P : TerminalString → Type 0) where
       by (is_true value d.args (read_all flat_reader ps) a.condition) (all_put_over (argument_kind d.args ps) (argument_over d.args ps h) a.parts (f a (inl refl)))
       (instance_fit value s d ps h xs (λ b i. f b (inr i)))
     where
-      by : (b : Bool) → AreOver P (all_put_in (argument_kind d.args ps) a.parts) → AreFit (instance_alternatives value s d ps xs) →
+      by : (b : Bool) → AreOver P (all_substituted (argument_kind d.args ps) a.parts) → AreFit (instance_alternatives value s d ps xs) →
           AreFit (if b then instance_alternative s (argument_kind d.args ps) a ∷ instance_alternatives value s d ps xs else instance_alternatives value s d ps xs)
       by true o rest = ((refl, o), rest)
       by false o rest = rest

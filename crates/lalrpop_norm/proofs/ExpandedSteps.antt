@@ -9,7 +9,7 @@ use Rattle.lalrpop_norm_tree.specs.Items.{AlternativeData, RuleData, ItemData, G
 use Rattle.lalrpop_norm_theory.specs.Rounds.{In}
 use Rattle.lalrpop_norm_theory.proofs.RoundsLemmas.{in_cases, of_flat}
 use Rattle.lalrpop_norm_model.specs.Features.{Features, is_active}
-use Rattle.lalrpop_norm_model.specs.Enabled.{Places, present, if_active, all_places, enabled_rule, enabled_item, enabled_grammar}
+use Rattle.lalrpop_norm_model.specs.Enabled.{PlacedAlternatives, present, if_active, all_places, enabled_rule, enabled_item, enabled_grammar}
 use Rattle.lalrpop_norm_model.specs.Scopes.{a_rule, a_macro, a_terminal, Global, globals, Sense, an_argument, a_global, sense_of, by_sense, resolved_kind, resolved_part, resolved_parts, resolved_alternative, resolved_rule, resolved_item, resolved_grammar}
 use Rattle.lalrpop_norm_model.specs.Levels.{Leveled, with_levels, leveled_at, map_numbered, levels_of, previous_level, has_levels}
 use Rattle.lalrpop_norm_model.specs.LevelRules.{leveled_kind, leveled_part, leveled_parts, is_own, level_alternative, step_alternatives, of_level, level_rule, level_rules, leveled_grammar}
@@ -150,7 +150,7 @@ module _ (P : TerminalString → Type 0) (own : List ℕ → Bool) (level : ℕ 
     leveled_over before after (part_and p ps) h = (leveled_part_over before _ p h.0, leveled_over _ after ps h.1)
 
 -- what is leveled at a place is an alternative that stands there
-numbered_from : (ps : Places) (k : ℕ) (xs : List AlternativeData) (a : Leveled) → In a (present (map_numbered (leveled_at ps) k (map Some xs))) → In a.alternative xs
+numbered_from : (ps : PlacedAlternatives) (k : ℕ) (xs : List AlternativeData) (a : Leveled) → In a (present (map_numbered (leveled_at ps) k (map Some xs))) → In a.alternative xs
 numbered_from ps k [] a i = absurd i
 numbered_from ps k (x ∷ xs) a (inl e) = inl (ap (λ (y : Leveled). y.alternative) e)
 numbered_from ps k (x ∷ xs) a (inr i) = inr (numbered_from ps (suc k) xs a i)

@@ -14,7 +14,7 @@ use Rattle.lalrpop_norm_theory.specs.Rounds.{In}
 use Rattle.lalrpop_norm_theory.proofs.RoundsLemmas.{in_left, in_right, in_cases}
 use Rattle.lalrpop_norm_theory.proofs.ListLemmas.{in_one}
 use Rattle.lalrpop_norm_model.specs.Grammars.{ConditionValue}
-use Rattle.lalrpop_norm_model.specs.MadeRules.{kind_of, chosen_kinds, all_kinds, if_any, group_sources, type_of_kind, bare_or_tuple, group_rule, star_rule, plus_rule, question_rule, location_rule, argument_kind, type_of_name, type_put_in, types_put_in, returned_put_in, instance_rule, instance_of, macro_named, made_rules}
+use Rattle.lalrpop_norm_model.specs.MadeRules.{kind_of, chosen_kinds, all_kinds, if_any, group_sources, type_of_kind, bare_or_tuple, group_rule, star_rule, plus_rule, question_rule, location_rule, argument_kind, type_of_name, type_substituted, types_substituted, returned_substituted, instance_rule, instance_of, macro_named, made_rules}
 use Rattle.lalrpop_norm_model.specs.Replaced.{replaced_kind, replaced, all_replaced}
 use Rattle.lalrpop_norm_model.specs.PlainRules.{met, all_met}
 use Rattle.lalrpop_norm_model.specs.Expanded.{is_plain_terminal, is_plain_kind, names_in_kind, names_in, names_in_parts, symbols_in, symbols_in_all, symbols_in_return, declared_symbols}
@@ -58,7 +58,7 @@ module _ (argument : List ℕ → Option Kind) where
   name_put n (Some j) e k (inr i) = absurd i
 
   mutual
-    type_put : (t : TypeData) → symbols_in t ≡ [] → (k : Kind) → In k (symbols_in (type_put_in argument t)) → IsPut k
+    type_put : (t : TypeData) → symbols_in t ≡ [] → (k : Kind) → In k (symbols_in (type_substituted argument t)) → IsPut k
     type_put (id n) e k i = name_put n (argument n) refl k i
     type_put (tuple ts) e k i = types_put ts e k i
     type_put (slice t) e k i = type_put t e k i
@@ -69,28 +69,28 @@ module _ (argument : List ℕ → Option Kind) where
     type_put (of_symbol j) e k i = absurd (cc e)
     type_put (function fs p ts r) e k i =
         let none = both_empty (symbols_in_all ts) (symbols_in_return r) e in
-        elim (in_cases k (symbols_in_all (types_put_in argument ts)) (symbols_in_return (returned_put_in argument r)) i) [
+        elim (in_cases k (symbols_in_all (types_substituted argument ts)) (symbols_in_return (returned_substituted argument r)) i) [
           | inl j ↦ types_put ts none.0 k j
           | inr j ↦ returned_put r none.1 k j
         ]
 
-    types_put : (ts : TypesData) → symbols_in_all ts ≡ [] → (k : Kind) → In k (symbols_in_all (types_put_in argument ts)) → IsPut k
+    types_put : (ts : TypesData) → symbols_in_all ts ≡ [] → (k : Kind) → In k (symbols_in_all (types_substituted argument ts)) → IsPut k
     types_put no_types e k i = absurd i
     types_put (type_and t ts) e k i =
         let none = both_empty (symbols_in t) (symbols_in_all ts) e in
-        elim (in_cases k (symbols_in (type_put_in argument t)) (symbols_in_all (types_put_in argument ts)) i) [
+        elim (in_cases k (symbols_in (type_substituted argument t)) (symbols_in_all (types_substituted argument ts)) i) [
           | inl j ↦ type_put t none.0 k j
           | inr j ↦ types_put ts none.1 k j
         ]
 
-    returned_put : (r : MaybeType) → symbols_in_return r ≡ [] → (k : Kind) → In k (symbols_in_return (returned_put_in argument r)) → IsPut k
+    returned_put : (r : MaybeType) → symbols_in_return r ≡ [] → (k : Kind) → In k (symbols_in_return (returned_substituted argument r)) → IsPut k
     returned_put no_type e k i = absurd i
     returned_put (returns t) e k i = type_put t e k i
 
   declared_put : (o : Option TypeData) → flat_map symbols_in (option_to_list o) ≡ [] → (k : Kind) →
-      In k (flat_map symbols_in (option_to_list (option_map (type_put_in argument) o))) → IsPut k
+      In k (flat_map symbols_in (option_to_list (option_map (type_substituted argument) o))) → IsPut k
   declared_put None e k i = absurd i
-  declared_put (Some t) e k i = elim (in_cases k (symbols_in (type_put_in argument t)) [] i) [
+  declared_put (Some t) e k i = elim (in_cases k (symbols_in (type_substituted argument t)) [] i) [
     | inl j ↦ type_put t (both_empty (symbols_in t) [] e).0 k j
     | inr j ↦ absurd j
   ]

@@ -8,7 +8,7 @@ use Rattle.serde_json.specs.View.{items_of}
 use Rattle.lalrpop_norm_json_shapes.specs.Weight.{weight, items_weight}
 use Rattle.json_document.specs.Fields.{are_keys, has_fields, has_one_member}
 use Rattle.lalrpop_norm_json_shapes.specs.Parts.{is_null, is_pair, is_triple, is_variant}
-use Rattle.lalrpop_norm_json_shapes.specs.Shapes.{ShapeName, natural, Place, Held, Arrays, struct_of, each, row, place, fits, fits_items, fits_members, struct, variants, arrayed, optional, Shape, is}
+use Rattle.lalrpop_norm_json_shapes.specs.Shapes.{ShapeName, natural, Slot, Held, Arrays, struct_of, each, row, slot, fits, fits_items, fits_members, struct, variants, arrayed, optional, Shape, is}
 
 pub no_array_pair : (d : Data) → as_array d ≡ None → is_pair d ≡ false
 no_array_pair null e = refl
@@ -65,14 +65,14 @@ unlike_or_unfit : (a b c f : Bool) → (a && c) ≡ false → (c ≡ false → f
 unlike_or_unfit true b c f e h = and_false b f (h e)
 unlike_or_unfit false b c f e h = refl
 
-no_keys : (rows : List (List ℕ × Place)) (ms : Members) → are_keys (map (λ r. r.0) rows) ms ≡ false → fits_members (struct_of rows) ms ≡ false
+no_keys : (rows : List (List ℕ × Slot)) (ms : Members) → are_keys (map (λ r. r.0) rows) ms ≡ false → fits_members (struct_of rows) ms ≡ false
 no_keys [] no_members e = cc
 no_keys [] (member k d ms) e = refl
 no_keys (r ∷ rows) no_members e = refl
-no_keys (r ∷ rows) (member k d ms) e = unlike_or_unfit (bytes_eq k r.0) (fits (place r.1) d) (are_keys (map (λ r. r.0) rows) ms) (fits_members (struct_of rows) ms) e (no_keys rows ms)
+no_keys (r ∷ rows) (member k d ms) e = unlike_or_unfit (bytes_eq k r.0) (fits (slot r.1) d) (are_keys (map (λ r. r.0) rows) ms) (fits_members (struct_of rows) ms) e (no_keys rows ms)
 
 -- a value without the fields of a struct does not have its shape
-pub no_fields : (rows : List (List ℕ × Place)) (d : Data) → has_fields (map (λ r. r.0) rows) d ≡ false → fits (struct rows) d ≡ false
+pub no_fields : (rows : List (List ℕ × Slot)) (d : Data) → has_fields (map (λ r. r.0) rows) d ≡ false → fits (struct rows) d ≡ false
 no_fields rows null e = refl
 no_fields rows (boolean b) e = refl
 no_fields rows (number n) e = refl
@@ -110,7 +110,7 @@ no_array a (string s) e = refl
 no_array a (array ds) e = cc
 no_array a (object ms) e = refl
 
-pub no_pair : (p q : Place) (d : Data) → is_pair d ≡ false → fits (arrayed (row (p ∷ q ∷ []))) d ≡ false
+pub no_pair : (p q : Slot) (d : Data) → is_pair d ≡ false → fits (arrayed (row (p ∷ q ∷ []))) d ≡ false
 no_pair p q null e = refl
 no_pair p q (boolean b) e = refl
 no_pair p q (number n) e = refl
@@ -121,7 +121,7 @@ no_pair p q (array (item a (item b no_items))) e = cc
 no_pair p q (array (item a (item b (item c ds)))) e = and_false _ _ (and_false _ _ refl)
 no_pair p q (object ms) e = refl
 
-pub no_triple : (p q r : Place) (d : Data) → is_triple d ≡ false → fits (arrayed (row (p ∷ q ∷ r ∷ []))) d ≡ false
+pub no_triple : (p q r : Slot) (d : Data) → is_triple d ≡ false → fits (arrayed (row (p ∷ q ∷ r ∷ []))) d ≡ false
 no_triple p q r null e = refl
 no_triple p q r (boolean b) e = refl
 no_triple p q r (number n) e = refl
@@ -131,7 +131,7 @@ no_triple p q r (array (item a no_items)) e = and_false _ _ refl
 no_triple p q r (array (item a (item b no_items))) e = and_false _ _ (and_false _ _ refl)
 no_triple p q r (array (item a (item b (item c no_items)))) e = cc
 no_triple p q r (array (item a (item b (item c (item d ds))))) e =
-    and_false (fits (place p) a) _ (and_false (fits (place q) b) _ (and_false (fits (place r) c) _ refl))
+    and_false (fits (slot p) a) _ (and_false (fits (slot q) b) _ (and_false (fits (slot r) c) _ refl))
 no_triple p q r (object ms) e = refl
 
 pub no_optional : (s : Shape) (d : Data) → is_null d ≡ false → fits s d ≡ false → fits (optional s) d ≡ false

@@ -15,8 +15,8 @@ use Rattle.lalrpop_norm_tree.specs.declared.symbol.SymbolKind.TheViews.{rolls-Lo
 use Rattle.lalrpop_norm_tree.proofs.SymbolViews.{ambiguous_seen, terminal_seen, nonterminal_seen}
 use Rattle.lalrpop_norm_tree.specs.declared.symbol.RepeatOp.TheVariants as op
 use Rattle.lalrpop_norm_tree.specs.Symbols.{kind_step, expr_step, macro_step, repeat_step, symbol_step, Call, Again, kind_view, symbol_view, parts_view, Kind, Part, Parts, group, ambiguous_id, terminal, nonterminal, call, repeated, chosen, named, tupled, lookahead, lookbehind, error_terminal, at, no_parts, part_and}
-use Rattle.lalrpop_norm_macro_expand_met.specs.declared.content.Form.{Form}
-use Rattle.lalrpop_norm_macro_expand_met.specs.declared.content.Form.TheVariants as form
+use Rattle.lalrpop_norm_macro_expand_met.specs.declared.content.Case.{Case}
+use Rattle.lalrpop_norm_macro_expand_met.specs.declared.content.Case.TheVariants as case
 use Rattle.lalrpop_norm_macro_expand_met.specs.Apart.{nowhere, unplaced_kind, unplaced, all_unplaced}
 use Rattle.lalrpop_norm_macro_expand_met.specs.Contents.{Marks, marks_of, parts_inside}
 
@@ -30,23 +30,23 @@ abbrev string_of : Option TerminalString → TerminalString
 string_of None = string.Error
 string_of (Some t) = t
 
-abbrev made_as : Form → Marks → Parts → Kind
-made_as form.Group m ps = group ps
-made_as form.Rule m ps = nonterminal m.text
-made_as form.Terminal m ps = terminal (string_of m.terminal)
-made_as form.Call m ps = call m.text ps
-made_as form.Star m ps = repeated op.Star (only ps)
-made_as form.Plus m ps = repeated op.Plus (only ps)
-made_as form.Question m ps = repeated op.Question (only ps)
-made_as form.Chosen m ps = chosen (only ps)
-made_as form.Named m ps = named (record { mutable = m.mutable; name = m.text }) (only ps)
-made_as form.Tuple m ps = tupled m.patterns (only ps)
-made_as form.Lookahead m ps = lookahead
-made_as form.Lookbehind m ps = lookbehind
-made_as form.Error m ps = error_terminal
+abbrev made_as : Case → Marks → Parts → Kind
+made_as case.Group m ps = group ps
+made_as case.Rule m ps = nonterminal m.text
+made_as case.Terminal m ps = terminal (string_of m.terminal)
+made_as case.Call m ps = call m.text ps
+made_as case.Star m ps = repeated op.Star (only ps)
+made_as case.Plus m ps = repeated op.Plus (only ps)
+made_as case.Question m ps = repeated op.Question (only ps)
+made_as case.Chosen m ps = chosen (only ps)
+made_as case.Named m ps = named (record { mutable = m.mutable; name = m.text }) (only ps)
+made_as case.Tuple m ps = tupled m.patterns (only ps)
+made_as case.Lookahead m ps = lookahead
+made_as case.Lookbehind m ps = lookbehind
+made_as case.Error m ps = error_terminal
 
 abbrev made_of : Marks → Parts → Kind
-made_of m ps = made_as m.form m ps
+made_of m ps = made_as m.case m ps
 
 repeat_made : (o : RepeatOp) (p : Part) → made_of (marks_of (repeated o p)) (part_and (unplaced p) no_parts) ≡ repeated o (unplaced p)
 repeat_made op.Star p = refl

@@ -7,40 +7,40 @@ use Rattle.lalrpop_norm_tree.specs.declared.symbol.RepeatOp.TheVariants as op
 use Rattle.lalrpop_norm_tree.specs.Symbols.{ArgumentPatterns, no_arguments, argument_patterns_view, Kind, Parts, group}
 use Rattle.lalrpop_norm_tree.specs.Symbols.{ambiguous_id, terminal, nonterminal, call, repeated, chosen, named, tupled, lookahead}
 use Rattle.lalrpop_norm_tree.specs.Symbols.{lookbehind, error_terminal, no_parts, part_and}
-use Rattle.lalrpop_norm_macro_expand_met.specs.declared.content.Form.{Form}
-use Rattle.lalrpop_norm_macro_expand_met.specs.declared.content.Form.TheVariants as form
+use Rattle.lalrpop_norm_macro_expand_met.specs.declared.content.Case.{Case}
+use Rattle.lalrpop_norm_macro_expand_met.specs.declared.content.Case.TheVariants as case
 use Rattle.lalrpop_norm_macro_expand_met.specs.declared.content.Content.{Content}
 
 -- all that is compared of a kind, beside the symbols inside it
 pub record Marks : Type 0 where
-  pub form : Form
+  pub case : Case
   pub mutable : Bool
   pub text : List ℕ
   pub terminal : Option TerminalString
   pub patterns : ArgumentPatterns
 
-abbrev pub marked : Form → List ℕ → Marks
-marked f t = record { form = f; mutable = false; text = t; terminal = None; patterns = no_arguments }
+abbrev pub marked : Case → List ℕ → Marks
+marked f t = record { case = f; mutable = false; text = t; terminal = None; patterns = no_arguments }
 
-abbrev pub form_of_repeat : RepeatOp → Form
-form_of_repeat op.Star = form.Star
-form_of_repeat op.Plus = form.Plus
-form_of_repeat op.Question = form.Question
+abbrev pub case_of_repeat : RepeatOp → Case
+case_of_repeat op.Star = case.Star
+case_of_repeat op.Plus = case.Plus
+case_of_repeat op.Question = case.Question
 
 -- an identifier counts as the name of a rule
 abbrev pub marks_of : Kind → Marks
-marks_of (group ps) = marked form.Group []
-marks_of (ambiguous_id a) = marked form.Rule a
-marks_of (terminal t) = record { form = form.Terminal; mutable = false; text = []; terminal = Some t; patterns = no_arguments }
-marks_of (nonterminal n) = marked form.Rule n
-marks_of (call n ps) = marked form.Call n
-marks_of (repeated op p) = marked (form_of_repeat op) []
-marks_of (chosen p) = marked form.Chosen []
-marks_of (named n p) = record { form = form.Named; mutable = n.mutable; text = n.name; terminal = None; patterns = no_arguments }
-marks_of (tupled ns p) = record { form = form.Tuple; mutable = false; text = []; terminal = None; patterns = ns }
-marks_of lookahead = marked form.Lookahead []
-marks_of lookbehind = marked form.Lookbehind []
-marks_of error_terminal = marked form.Error []
+marks_of (group ps) = marked case.Group []
+marks_of (ambiguous_id a) = marked case.Rule a
+marks_of (terminal t) = record { case = case.Terminal; mutable = false; text = []; terminal = Some t; patterns = no_arguments }
+marks_of (nonterminal n) = marked case.Rule n
+marks_of (call n ps) = marked case.Call n
+marks_of (repeated op p) = marked (case_of_repeat op) []
+marks_of (chosen p) = marked case.Chosen []
+marks_of (named n p) = record { case = case.Named; mutable = n.mutable; text = n.name; terminal = None; patterns = no_arguments }
+marks_of (tupled ns p) = record { case = case.Tuple; mutable = false; text = []; terminal = None; patterns = ns }
+marks_of lookahead = marked case.Lookahead []
+marks_of lookbehind = marked case.Lookbehind []
+marks_of error_terminal = marked case.Error []
 
 abbrev pub parts_inside : Kind → Parts
 parts_inside (group ps) = ps
@@ -59,7 +59,7 @@ parts_inside error_terminal = no_parts
 -- the marks that a value of the program holds
 abbrev pub marks_seen : Content → Marks
 marks_seen c = record {
-  form = c.form;
+  case = c.case;
   mutable = c.mutable;
   text = c.text.now;
   terminal = option_map (λ t. t.now) c.terminal;

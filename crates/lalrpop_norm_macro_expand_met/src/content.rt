@@ -1,7 +1,7 @@
 //! What symbols hold: what tells them from others, and the symbols inside them.
 ghost use Rattle.std.specs.Prelude.{◌≡◌};
 ghost use Rattle.lalrpop_norm_tree.specs.Symbols.{kind_view, parts_view};
-ghost use Rattle.lalrpop_norm_macro_expand_met.specs.Contents.{marked, marks_of, marks_seen, parts_inside, form_of_repeat};
+ghost use Rattle.lalrpop_norm_macro_expand_met.specs.Contents.{marked, marks_of, marks_seen, parts_inside, case_of_repeat};
 
 use lalrpop_norm_tree::grammar::parse_tree::{
     ArgPattern, RepeatOp, Symbol, SymbolKind, TerminalString,
@@ -10,7 +10,7 @@ use std::slice;
 
 /// What a symbol is.
 #[derive(Clone, Copy, PartialEq, Eq)]
-pub(crate) enum Form {
+pub(crate) enum Case {
     Group,
     /// An identifier counts as the name of a rule.
     Rule,
@@ -27,10 +27,10 @@ pub(crate) enum Form {
     Error,
 }
 
-/// What a symbol holds apart from spans. What its form has no place for is empty.
+/// What a symbol holds apart from spans. What its case has no place for is empty.
 #[derive(Clone, Copy)]
 pub(crate) struct Content<'a> {
-    pub form: Form,
+    pub case: Case,
     /// Whether its name is `mut`.
     pub mutable: bool,
     /// The name of the rule or macro, or the name that it gives its value.
@@ -42,23 +42,23 @@ pub(crate) struct Content<'a> {
     pub symbols: &'a [Symbol],
 }
 
-fn repeat_form(op: RepeatOp) -> Form
-    ensures { result ≡ form_of_repeat op }
+fn repeat_case(op: RepeatOp) -> Case
+    ensures { result ≡ case_of_repeat op }
 {
     match op {
-        RepeatOp::Star => Form::Star,
-        RepeatOp::Plus => Form::Plus,
-        RepeatOp::Question => Form::Question,
+        RepeatOp::Star => Case::Star,
+        RepeatOp::Plus => Case::Plus,
+        RepeatOp::Question => Case::Question,
     }
 }
 
 /// What holds that text, and symbols.
-fn holding<'a>(form: Form, text: &'a str, symbols: &'a [Symbol]) -> Content<'a>
-    ensures marks { marks_seen result ≡ marked form text.entry.now }
+fn holding<'a>(case: Case, text: &'a str, symbols: &'a [Symbol]) -> Content<'a>
+    ensures marks { marks_seen result ≡ marked case text.entry.now }
     ensures symbols { result.symbols.now ≡ symbols.entry.now }
 {
     Content {
-        form,
+        case,
         mutable: false,
         text,
         terminal: None,
@@ -73,28 +73,28 @@ pub(crate) fn content_in(kind: &SymbolKind) -> Content<'_>
     ensures symbols { parts_view result.symbols.now ≡ parts_inside (kind_view kind.now) }
 {
     match kind {
-        SymbolKind::Expr(group) => holding(Form::Group, "", &group.symbols),
-        SymbolKind::AmbiguousId(name) => holding(Form::Rule, name.as_str(), &[]),
-        SymbolKind::Nonterminal(name) => holding(Form::Rule, name.0.as_str(), &[]),
+        SymbolKind::Expr(group) => holding(Case::Group, "", &group.symbols),
+        SymbolKind::AmbiguousId(name) => holding(Case::Rule, name.as_str(), &[]),
+        SymbolKind::Nonterminal(name) => holding(Case::Rule, name.0.as_str(), &[]),
         SymbolKind::Terminal(terminal) => Content {
             terminal: Some(terminal),
-            ..holding(Form::Terminal, "", &[])
+            ..holding(Case::Terminal, "", &[])
         },
-        SymbolKind::Macro(call) => holding(Form::Call, call.name.0.as_str(), &call.args),
+        SymbolKind::Macro(call) => holding(Case::Call, call.name.0.as_str(), &call.args),
         SymbolKind::Repeat(repeat) => {
-            holding(repeat_form(repeat.op), "", slice::from_ref(&repeat.symbol))
+            holding(repeat_case(repeat.op), "", slice::from_ref(&repeat.symbol))
         }
-        SymbolKind::Choose(inner) => holding(Form::Chosen, "", slice::from_ref(inner)),
+        SymbolKind::Choose(inner) => holding(Case::Chosen, "", slice::from_ref(inner)),
         SymbolKind::Name(name, inner) => Content {
             mutable: name.mutable,
-            ..holding(Form::Named, name.name.as_str(), slice::from_ref(inner))
+            ..holding(Case::Named, name.name.as_str(), slice::from_ref(inner))
         },
         SymbolKind::Tuple(tuple, inner) => Content {
             patterns: &tuple.tuples,
-            ..holding(Form::Tuple, "", slice::from_ref(inner))
+            ..holding(Case::Tuple, "", slice::from_ref(inner))
         },
-        SymbolKind::Lookahead => holding(Form::Lookahead, "", &[]),
-        SymbolKind::Lookbehind => holding(Form::Lookbehind, "", &[]),
-        SymbolKind::Error => holding(Form::Error, "", &[]),
+        SymbolKind::Lookahead => holding(Case::Lookahead, "", &[]),
+        SymbolKind::Lookbehind => holding(Case::Lookbehind, "", &[]),
+        SymbolKind::Error => holding(Case::Error, "", &[]),
     }
 }

@@ -56,7 +56,7 @@ fn is_same_terminal(a: Option<&TerminalString>, b: Option<&TerminalString>) -> b
 pub(crate) fn has_same_marks(a: &Content, b: &Content) -> bool
     ensures { IsTrue result ↔ (marks_seen a.now ≡ marks_seen b.now) }
 {
-    a.form == b.form
+    a.case == b.case
         && a.mutable == b.mutable
         && a.text == b.text
         && is_same_terminal(a.terminal, b.terminal)

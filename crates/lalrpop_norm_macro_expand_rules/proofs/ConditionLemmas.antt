@@ -9,7 +9,7 @@ use Rattle.lalrpop_norm_conditions.specs.Conditions.{comparison}
 use Rattle.lalrpop_norm_model.specs.Grammars.{bound_argument, is_true, value_of}
 use Rattle.lalrpop_norm_model.specs.Reading.{read_kind, read_part, read_parts, read_all}
 use Rattle.lalrpop_norm_model.specs.MadeRules.{flat_reader, argument_kind}
-use Rattle.lalrpop_norm_model.proofs.PutInLemmas.{flat_part}
+use Rattle.lalrpop_norm_model.proofs.SubstitutedLemmas.{flat_part}
 use Rattle.lalrpop_norm_macro_expand_rules.specs.Conditions.{quoted_text}
 
 -- what a name is bound to, read

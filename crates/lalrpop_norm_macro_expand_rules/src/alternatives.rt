@@ -1,11 +1,11 @@
-//! Alternatives and types of a macro with the arguments of a call put in.
+//! Alternatives and types of a macro with the arguments of a call substituted.
 ghost use Rattle.std.specs.Prelude.{◌≡◌, IfOk, option_map};
 ghost use Rattle.lalrpop_norm_tree.specs.Symbols.{parts_view};
 ghost use Rattle.lalrpop_norm_tree.specs.Types.{type_view};
 ghost use Rattle.lalrpop_norm_tree.specs.Items.{action_view, alternative_view};
-ghost use Rattle.lalrpop_norm_model.specs.MadeRules.{argument_kind, type_put_in, instance_alternative};
+ghost use Rattle.lalrpop_norm_model.specs.MadeRules.{argument_kind, type_substituted, instance_alternative};
 
-use crate::put_in::{Bindings, all_put_in, type_put_in};
+use crate::substituted::{Bindings, all_substituted, type_substituted};
 use lalrpop_norm_tree::grammar::parse_tree::{
     ActionKind, Alternative, ExprSymbol, NoMemory, Span, TypeRef,
 };
@@ -21,7 +21,7 @@ fn copied_action(action: &Option<ActionKind>) -> Result<Option<ActionKind>, NoMe
     }
 }
 
-/// An alternative at the call's span, with the arguments put in and without its condition.
+/// An alternative at the call's span, with the arguments substituted and without its condition.
 pub fn instance_alternative(
     alloc: Global,
     bindings: &Bindings,
@@ -31,7 +31,7 @@ pub fn instance_alternative(
     ensures { IfOk result (λ a. alternative_view a
         ≡ instance_alternative span (argument_kind bindings.now.names.now (parts_view bindings.now.symbols.now)) (alternative_view alternative.now)) }
 {
-    let symbols = all_put_in(alloc, bindings, &alternative.expr.symbols)?;
+    let symbols = all_substituted(alloc, bindings, &alternative.expr.symbols)?;
     let action = copied_action(&alternative.action)?;
     let attributes = copy_attributes(&alternative.attributes)?;
     Ok(Alternative {
@@ -43,17 +43,17 @@ pub fn instance_alternative(
     })
 }
 
-/// The declared type with the arguments put in.
+/// The declared type with the arguments substituted.
 pub fn instance_type(
     alloc: Global,
     bindings: &Bindings,
     ty: &Option<TypeRef>,
 ) -> Result<Option<TypeRef>, NoMemory>
     ensures { IfOk result (λ t. option_map type_view t
-        ≡ option_map (type_put_in (argument_kind bindings.now.names.now (parts_view bindings.now.symbols.now))) (option_map type_view ty.now)) }
+        ≡ option_map (type_substituted (argument_kind bindings.now.names.now (parts_view bindings.now.symbols.now))) (option_map type_view ty.now)) }
 {
     match ty {
         None => Ok(None),
-        Some(ty) => Ok(Some(type_put_in(alloc, bindings, ty)?)),
+        Some(ty) => Ok(Some(type_substituted(alloc, bindings, ty)?)),
     }
 }

@@ -9,7 +9,7 @@ ghost use Rattle.lalrpop_norm_model.specs.Reading.{read_all};
 ghost use Rattle.lalrpop_norm_model.specs.MadeRules.{flat_reader, argument_kind};
 ghost use Rattle.lalrpop_norm_macro_expand_rules.specs.Conditions.{quoted_text, value_faults};
 
-use crate::put_in::{Bindings, bound_to};
+use crate::substituted::{Bindings, bound_to};
 use lalrpop_norm_conditions::{ConditionError, holds};
 use lalrpop_norm_faults::{FaultKind, NormFailure, NormResult, refusal};
 use lalrpop_norm_tree::grammar::parse_tree::{

@@ -167,7 +167,7 @@ read_tuple : closed (written.tupled
     ≡ wrapped (tuple patterns) (star (literal (codes "t")))
 read_tuple = refl
 
--- so the text has the argument put in
+-- so the text has the argument substituted
 text_with_argument : text (closed (written.call (codes "M") (symbols (words.name_before (codes "x") (here (words.name (codes "T"))) ∷ [])))) ≡ codes "M<x:\"t\"*>"
 unfolding chars encode
 text_with_argument = refl

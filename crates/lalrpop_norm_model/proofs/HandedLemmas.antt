@@ -4,7 +4,7 @@ use Rattle.std.specs.Prelude.{option_map, unwrap_or, is_some, if◌then◌else�
 use Rattle.std.proofs.lemmas.List.{map-append}
 use Rattle.lalrpop_norm_tree.specs.Accessors.{or_else}
 use Rattle.lalrpop_norm_tree.specs.Items.{AlternativeData}
-use Rattle.lalrpop_norm_model.specs.Enabled.{Places, present}
+use Rattle.lalrpop_norm_model.specs.Enabled.{PlacedAlternatives, present}
 use Rattle.lalrpop_norm_model.specs.Levels.{Side, every, level_stated, side_stated, last_stated, some_states_level, since_level, level_at, side_at, leveled_at, map_numbered}
 use Rattle.lalrpop_norm_model.specs.Stated.{level_after, side_after, with_stated, handed_on}
 use Rattle.lalrpop_norm_model.specs.Laws.{LevelsAreHandedOn, DisabledAreNoMatter}
@@ -19,14 +19,14 @@ last_behind [] x = sym (or_else_none x)
 last_behind (y ∷ xs) x = ap (λ o. or_else o y) (last_behind xs x) ∙ or_else_assoc x (last_stated xs) y
 
 module _ (p : Option AlternativeData) where
-  level_behind : (qs : Places) → last_stated (map level_stated (qs ++ p ∷ [])) ≡ level_after (last_stated (map level_stated qs)) p
+  level_behind : (qs : PlacedAlternatives) → last_stated (map level_stated (qs ++ p ∷ [])) ≡ level_after (last_stated (map level_stated qs)) p
   level_behind qs = ap last_stated (map-append level_stated qs (p ∷ [])) ∙ last_behind (map level_stated qs) (level_stated p)
 
   -- what counts for sides, once p stands behind
-  abbrev counting : Bool → Places → Places
+  abbrev counting : Bool → PlacedAlternatives → PlacedAlternatives
   counting b qs = if b then p ∷ [] else since_level qs ++ p ∷ []
 
-  one_more : (o : Option ℕ) → level_stated p ≡ o → (q : Option AlternativeData) (qs : Places) →
+  one_more : (o : Option ℕ) → level_stated p ≡ o → (q : Option AlternativeData) (qs : PlacedAlternatives) →
       since_level (qs ++ p ∷ []) ≡ counting (is_some o) qs → since_level ((q ∷ qs) ++ p ∷ []) ≡ counting (is_some o) (q ∷ qs)
   one_more (Some v) e q qs h =
       ap (λ (o : Option ℕ). if is_some o then since_level (qs ++ p ∷ []) else q ∷ (qs ++ p ∷ []))
@@ -43,24 +43,24 @@ module _ (p : Option AlternativeData) where
   first_one true = refl
   first_one false = refl
 
-  since_behind : (qs : Places) → since_level (qs ++ p ∷ []) ≡ counting (is_some (level_stated p)) qs
+  since_behind : (qs : PlacedAlternatives) → since_level (qs ++ p ∷ []) ≡ counting (is_some (level_stated p)) qs
   since_behind [] = first_one (is_some (level_stated p))
   since_behind (q ∷ qs) = one_more (level_stated p) refl q qs (since_behind qs)
 
-  side_by : (qs : Places) (b : Bool) → last_stated (map side_stated (counting b qs))
+  side_by : (qs : PlacedAlternatives) (b : Bool) → last_stated (map side_stated (counting b qs))
       ≡ (if b then side_stated p else or_else (side_stated p) (last_stated (map side_stated (since_level qs))))
   side_by qs true = refl
   side_by qs false =
       ap last_stated (map-append side_stated (since_level qs) (p ∷ [])) ∙ last_behind (map side_stated (since_level qs)) (side_stated p)
 
-  side_behind : (qs : Places) → last_stated (map side_stated (since_level (qs ++ p ∷ []))) ≡ side_after (last_stated (map side_stated (since_level qs))) p
+  side_behind : (qs : PlacedAlternatives) → last_stated (map side_stated (since_level (qs ++ p ∷ []))) ≡ side_after (last_stated (map side_stated (since_level qs))) p
   side_behind qs = ap (λ xs. last_stated (map side_stated xs)) (since_behind qs) ∙ side_by qs (is_some (level_stated p))
 
 taken_to : {A : Type 0} (qs : List A) (p : A) (rest : List A) → take (suc (length qs)) (qs ++ p ∷ rest) ≡ qs ++ p ∷ []
 taken_to [] p rest = refl
 taken_to (q ∷ qs) p rest = ap (λ xs. q ∷ xs) (taken_to qs p rest)
 
-leveled_here : (o : Option ℕ) (s : Option Side) (ps : Places) (k : ℕ) (p : Option AlternativeData) → level_at ps k ≡ unwrap_or o 0 → side_at ps k ≡ unwrap_or s every →
+leveled_here : (o : Option ℕ) (s : Option Side) (ps : PlacedAlternatives) (k : ℕ) (p : Option AlternativeData) → level_at ps k ≡ unwrap_or o 0 → side_at ps k ≡ unwrap_or s every →
     leveled_at ps k p ≡ option_map (with_stated o s) p
 leveled_here o s ps k None e d = refl
 leveled_here o s ps k (Some a) e d = ap₂ (λ l side. Some (record { level = l; side = side; alternative = a })) e d
@@ -70,7 +70,7 @@ longer [] p = refl
 longer (q ∷ qs) p = ap suc (longer qs p)
 
 -- the places after some others
-handed : (qs ps : Places) →
+handed : (qs ps : PlacedAlternatives) →
     map_numbered (leveled_at (qs ++ ps)) (length qs) ps ≡ handed_on (last_stated (map level_stated qs)) (last_stated (map side_stated (since_level qs))) ps
 handed qs [] = refl
 handed qs (p ∷ ps) =
@@ -85,7 +85,7 @@ handed qs (p ∷ ps) =
 pub levels_are_handed_on : LevelsAreHandedOn
 levels_are_handed_on ps = handed [] ps
 
-enabled_handed : (level : Option ℕ) (side : Option Side) (ps : Places) → present (handed_on level side ps) ≡ present (handed_on level side (map Some (present ps)))
+enabled_handed : (level : Option ℕ) (side : Option Side) (ps : PlacedAlternatives) → present (handed_on level side ps) ≡ present (handed_on level side (map Some (present ps)))
 enabled_handed level side [] = refl
 enabled_handed level side (None ∷ ps) = enabled_handed level side ps
 enabled_handed level side (Some a ∷ ps) =

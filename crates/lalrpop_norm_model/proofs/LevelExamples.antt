@@ -3,7 +3,7 @@ use Rattle.std.proofs.Common.{◌≡◌, ℕ, List, [], ◌∷◌, refl}
 use Rattle.std.specs.Prelude.{◌^◌, true, false, Option, Some, None, option_map, codes, map}
 use Rattle.lalrpop_norm_tree_parts.specs.Attributes.{AttributeData, attributes_of}
 use Rattle.lalrpop_norm_tree.specs.Items.{AlternativeData}
-use Rattle.lalrpop_norm_model.specs.Enabled.{Places}
+use Rattle.lalrpop_norm_model.specs.Enabled.{PlacedAlternatives}
 use Rattle.lalrpop_norm_model.specs.Levels.{number_of, stated_level, Side, left, right, neither, every, side_named, stated_side, has_levels, Leveled, with_levels, without_levels, levels_of, highest_level, previous_level}
 use Rattle.lalrpop_norm_model.proofs.ExampleWords.{nowhere, bare_attribute, attribute_of, valued, precedence, assoc, cfg, feature, symbols, alternative}
 
@@ -120,7 +120,7 @@ with xs = Some (alternative nowhere xs (symbols []))
 abbrev level_and_side : Leveled → ℕ × Side
 level_and_side a = (a.level, a.side)
 
-abbrev read : Places → List (Option (ℕ × Side))
+abbrev read : PlacedAlternatives → List (Option (ℕ × Side))
 read ps = map (option_map level_and_side) (with_levels ps)
 
 -- level and side pass on, and a new level sets the side back to all

@@ -10,7 +10,7 @@ pub mod NumberedNames
 pub mod ReadingLemmas
 pub mod LevelRuleLemmas
 pub mod BoundLemmas
-pub mod PutInLemmas
+pub mod SubstitutedLemmas
 pub mod MadeReadLemmas
 pub mod MetReadLemmas
 pub mod MadeScopeLemmas

@@ -30,7 +30,7 @@ use Rattle.lalrpop_norm_model.specs.PlainTables.{closed, closed_parts, unwrapped
 use Rattle.lalrpop_norm_model.specs.Laws.{MadeRulesAreRead, RulesAreRead}
 use Rattle.lalrpop_norm_model.proofs.LevelLemmas.{in_map}
 use Rattle.lalrpop_norm_model.proofs.LevelRuleLemmas.{numbered_parts, resolved_rule_places}
-use Rattle.lalrpop_norm_model.proofs.PutInLemmas.{parts_agree, flat_part, HaveNoBounds, no_bounds, flat_rules_are, parts_read}
+use Rattle.lalrpop_norm_model.proofs.SubstitutedLemmas.{parts_agree, flat_part, HaveNoBounds, no_bounds, flat_rules_are, parts_read}
 
 -- ---- the rules of a resolved grammar
 

@@ -12,7 +12,7 @@ use Rattle.lalrpop_norm_tree_parts.specs.Paths.{PathData}
 use Rattle.lalrpop_norm_tree.specs.Symbols.{Kind, Part, Parts, group, call, chosen, lookahead, lookbehind, at, no_parts, parts_of}
 use Rattle.lalrpop_norm_tree.specs.Types.{TypeData, tuple, slice, nominal, reference, trait_object, of_lifetime, id, of_symbol, function, types_of, returns, no_type}
 use Rattle.lalrpop_norm_tree.specs.Items.{Action, user_code, fallible_code, lookahead_code, lookbehind_code, AlternativeData, RuleData, within}
-use Rattle.lalrpop_norm_model.specs.MadeRules.{argument_kind, type_put_in, put_in, made_rules}
+use Rattle.lalrpop_norm_model.specs.MadeRules.{argument_kind, type_substituted, substituted, made_rules}
 use Rattle.lalrpop_norm_model.proofs.ExampleWords.{span, rule_name, bare_attribute, literal, name, starred, plussed, optional, name_before, here, symbols, alternative, rule, macro_rule, conditional, example_value, conditional_macro}
 
 abbrev token : ℕ → ℕ → List ℕ → Part
@@ -202,21 +202,21 @@ unfolding chars encode
 both_alternatives = refl
 
 -- an argument that is a wrapped symbol keeps what is inside where that stood
-put_in_wrapped : put_in (argument_kind (rule_name (codes "T") ∷ []) (parts_of (at (span 6 10) (name_before (codes "x") (at (span 8 9) (name (codes "Y")))) ∷ [])))
+substituted_wrapped : substituted (argument_kind (rule_name (codes "T") ∷ []) (parts_of (at (span 6 10) (name_before (codes "x") (at (span 8 9) (name (codes "Y")))) ∷ [])))
     (at (span 30 35) (chosen (at (span 31 32) (name (codes "T"))))) ≡
     at (span 30 35) (chosen (at (span 31 32) (name_before (codes "x") (at (span 8 9) (name (codes "Y"))))))
-put_in_wrapped = refl
+substituted_wrapped = refl
 
--- what is put in is not looked at again: U for T and "u" for U
-put_in_at_once : put_in (argument_kind (map rule_name (codes "T" ∷ (codes "U" ∷ []))) (symbols (name (codes "U") ∷ (literal (codes "u") ∷ []))))
+-- what is substituted is not looked at again: U for T and "u" for U
+substituted_at_once : substituted (argument_kind (map rule_name (codes "T" ∷ (codes "U" ∷ []))) (symbols (name (codes "U") ∷ (literal (codes "u") ∷ []))))
     (here (group (symbols (name (codes "T") ∷ (name (codes "U") ∷ (name (codes "V") ∷ [])))))) ≡
     here (group (symbols (name (codes "U") ∷ (literal (codes "u") ∷ (name (codes "V") ∷ [])))))
-put_in_at_once = refl
+substituted_at_once = refl
 
 -- ---- declared types of instances, T being bound to `"t"*`
 
 abbrev put : TypeData → TypeData
-put t = type_put_in (argument_kind (rule_name (codes "T") ∷ []) (parts_of (at (span 6 10) (starred (token 6 9 (codes "t"))) ∷ []))) t
+put t = type_substituted (argument_kind (rule_name (codes "T") ∷ []) (parts_of (at (span 6 10) (starred (token 6 9 (codes "t"))) ∷ []))) t
 
 abbrev t_type : TypeData
 t_type = id (codes "T")
@@ -271,7 +271,7 @@ unfolding chars encode
 types_inside = refl
 
 -- a wrapped argument keeps its wrapper in the type, as x:Y*
-type_of_wrapped : type_put_in (argument_kind (rule_name (codes "T") ∷ []) (parts_of (at (span 6 10) (name_before (codes "x") (at (span 8 10) (starred (at (span 8 9) (name (codes "Y")))))) ∷ []))) t_type
+type_of_wrapped : type_substituted (argument_kind (rule_name (codes "T") ∷ []) (parts_of (at (span 6 10) (name_before (codes "x") (at (span 8 10) (starred (at (span 8 9) (name (codes "Y")))))) ∷ []))) t_type
     ≡ of_symbol (name_before (codes "x") (at (span 8 10) (name (codes "Y*"))))
 type_of_wrapped = refl
 

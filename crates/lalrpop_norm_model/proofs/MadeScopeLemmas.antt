@@ -19,7 +19,7 @@ use Rattle.lalrpop_norm_model.specs.WrittenRules.{WrittenRule, rule_named}
 use Rattle.lalrpop_norm_model.specs.Reading.{read_all}
 use Rattle.lalrpop_norm_model.specs.Grammars.{is_nil, is_true, ConditionValue}
 use Rattle.lalrpop_norm_model.specs.Scoped.{is_rule, takes, is_macro_for, is_scoped_kind, is_scoped, are_scoped, IsScoped}
-use Rattle.lalrpop_norm_model.specs.MadeRules.{kind_of, argument_kind, or_name, kind_put_in, put_in, all_put_in, flat_reader, instance_alternative, instance_alternatives, instance_rule, instance_of, group_rule, star_rule, plus_rule, question_rule, location_rule, made_rules}
+use Rattle.lalrpop_norm_model.specs.MadeRules.{kind_of, argument_kind, or_name, kind_substituted, substituted, all_substituted, flat_reader, instance_alternative, instance_alternatives, instance_rule, instance_of, group_rule, star_rule, plus_rule, question_rule, location_rule, made_rules}
 use Rattle.lalrpop_norm_model.specs.PlainRules.{met, all_met, met_in_rule, met_by_made}
 use Rattle.lalrpop_norm_model.specs.PlainTables.{closed}
 use Rattle.lalrpop_norm_model.proofs.LevelLemmas.{in_map}
@@ -98,7 +98,7 @@ module _ (rs : List WrittenRule) where
   scoped_in (x ∷ xs) h a (inl e) = subst (λ (y : AlternativeData). are_scoped rs [] y.parts ≡ true) (sym e) h.0
   scoped_in (x ∷ xs) h a (inr i) = scoped_in xs h.1 a i
 
-  -- ---- arguments put in
+  -- ---- arguments substituted
 
   argument_here : (n : Name) (p : Part) (o : Option Kind) (x y : Bool) → is_scoped rs [] p ≡ true →
       ((y || is_rule (rule_named rs n)) ≡ true → is_scoped_kind rs [] (or_name n o) ≡ true) →
@@ -115,19 +115,19 @@ module _ (rs : List WrittenRule) where
       let both = and_parts (is_scoped rs [] p) (are_scoped rs [] ps) h in
       argument_here n p (argument_kind params ps n) (bytes_eq a.0 n) (is_argument params n) both.0 (argument_scoped params ps n t both.1) i
 
-  takes_put : (params : List NonterminalString) (argument : Name → Option Kind) (ps : Parts) → takes params (all_put_in argument ps) ≡ takes params ps
+  takes_put : (params : List NonterminalString) (argument : Name → Option Kind) (ps : Parts) → takes params (all_substituted argument ps) ≡ takes params ps
   takes_put [] argument no_parts = refl
   takes_put [] argument (part_and p ps) = refl
   takes_put (a ∷ params) argument no_parts = refl
   takes_put (a ∷ params) argument (part_and p ps) = takes_put params argument ps
 
-  macro_put : (argument : Name → Option Kind) (ps : Parts) (o : Option WrittenRule) → is_macro_for (all_put_in argument ps) o ≡ is_macro_for ps o
+  macro_put : (argument : Name → Option Kind) (ps : Parts) (o : Option WrittenRule) → is_macro_for (all_substituted argument ps) o ≡ is_macro_for ps o
   macro_put argument ps None = refl
   macro_put argument ps (Some r) = ap (λ b. not (is_nil r.args) && b) (takes_put r.args argument ps)
 
   module _ (params : List NonterminalString) (args : Parts) (fitting : takes params args ≡ true) (scoped : are_scoped rs [] args ≡ true) where
     mutual
-      kind_put_scoped : (k : Kind) → is_scoped_kind rs params k ≡ true → is_scoped_kind rs [] (kind_put_in (argument_kind params args) k) ≡ true
+      kind_put_scoped : (k : Kind) → is_scoped_kind rs params k ≡ true → is_scoped_kind rs [] (kind_substituted (argument_kind params args) k) ≡ true
       kind_put_scoped (written.nonterminal n) h = argument_scoped params args n fitting scoped h
       kind_put_scoped (written.ambiguous_id n) h = absurd (cc h)
       kind_put_scoped (written.terminal t) h = refl
@@ -144,10 +144,10 @@ module _ (rs : List WrittenRule) where
       kind_put_scoped written.lookbehind h = refl
       kind_put_scoped written.error_terminal h = refl
 
-      part_put_scoped : (p : Part) → is_scoped rs params p ≡ true → is_scoped rs [] (put_in (argument_kind params args) p) ≡ true
+      part_put_scoped : (p : Part) → is_scoped rs params p ≡ true → is_scoped rs [] (substituted (argument_kind params args) p) ≡ true
       part_put_scoped (at s k) h = kind_put_scoped k h
 
-      pub parts_put_scoped : (ps : Parts) → are_scoped rs params ps ≡ true → are_scoped rs [] (all_put_in (argument_kind params args) ps) ≡ true
+      pub parts_put_scoped : (ps : Parts) → are_scoped rs params ps ≡ true → are_scoped rs [] (all_substituted (argument_kind params args) ps) ≡ true
       parts_put_scoped no_parts h = refl
       parts_put_scoped (part_and p ps) h =
           let both = and_parts (is_scoped rs params p) (are_scoped rs params ps) h in
@@ -160,7 +160,7 @@ module _ (rs : List WrittenRule) where
       by (is_true value d.args (read_all flat_reader ps) a.condition) (parts_put_scoped d.args ps t h a.parts (f a (inl refl)))
       (instances_scoped value s d ps t h xs (λ b i. f b (inr i)))
     where
-      by : (b : Bool) → are_scoped rs [] (all_put_in (argument_kind d.args ps) a.parts) ≡ true → AreScoped (instance_alternatives value s d ps xs) →
+      by : (b : Bool) → are_scoped rs [] (all_substituted (argument_kind d.args ps) a.parts) ≡ true → AreScoped (instance_alternatives value s d ps xs) →
           AreScoped (if b then instance_alternative s (argument_kind d.args ps) a ∷ instance_alternatives value s d ps xs else instance_alternatives value s d ps xs)
       by true e r = (e, r)
       by false e r = r

@@ -20,7 +20,7 @@ use Rattle.lalrpop_norm_model.specs.MadeRules.{flat_reader}
 use Rattle.lalrpop_norm_model.specs.PlainRules.{met, all_met, met_in_rule, rules_without_arguments}
 use Rattle.lalrpop_norm_model.specs.PlainTables.{closed, closed_parts, unwrapped, all_unwrapped}
 use Rattle.lalrpop_norm_model.specs.Laws.{MetIsRead}
-use Rattle.lalrpop_norm_model.proofs.PutInLemmas.{flat_part, flat_parts}
+use Rattle.lalrpop_norm_model.proofs.SubstitutedLemmas.{flat_part, flat_parts}
 use Rattle.lalrpop_norm_model.proofs.MadeReadLemmas.{held, made_rules_are_read, rules_are_read}
 
 -- ---- symbols

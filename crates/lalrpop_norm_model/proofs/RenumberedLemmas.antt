@@ -5,7 +5,7 @@ use Rattle.std.proofs.Math.Path.{fun_ext}
 use Rattle.lalrpop_norm_tree.specs.Items.{AlternativeData, RuleData, ItemData, match_item, extern_item, intern_item, rule_item, use_item}
 use Rattle.lalrpop_norm_theory.specs.Symbols.{Name, ClosedSymbol, ClosedSymbols, reference}
 use Rattle.lalrpop_norm_model.specs.Features.{Features, is_active}
-use Rattle.lalrpop_norm_model.specs.Enabled.{Places, if_active, present, enabled_places, all_places, enabled_rule, enabled_item, enabled_grammar}
+use Rattle.lalrpop_norm_model.specs.Enabled.{PlacedAlternatives, if_active, present, enabled_places, all_places, enabled_rule, enabled_item, enabled_grammar}
 use Rattle.lalrpop_norm_model.specs.Scopes.{Global, Sense, globals, sense_of, resolved_alternative, resolved_rule, resolved_item}
 use Rattle.lalrpop_norm_model.specs.Levels.{Leveled, has_level_attribute, has_levels, leveled_at, map_numbered, with_levels, levels_of, rising, greatest, below}
 use Rattle.lalrpop_norm_model.specs.WrittenRules.{WrittenRule, written_rule_with_levels, rules_through, rule_named, written_rules}
@@ -21,20 +21,20 @@ use Rattle.lalrpop_norm_model.proofs.HandedLemmas.{disabled_are_no_matter}
 -- ---- what is left of a rule
 
 module _ (sense : List ℕ → Option Sense) where
-  resolved_there : (ps : Places) →
+  resolved_there : (ps : PlacedAlternatives) →
       map (option_map (resolved_alternative sense)) (map Some (map (resolved_alternative sense) (present ps)))
       ≡ map Some (present (map (option_map (resolved_alternative sense)) ps))
   resolved_there [] = refl
   resolved_there (None ∷ ps) = resolved_there ps
   resolved_there (Some a ∷ ps) = ap₂ (λ parts xs. Some (record a { parts = parts }) ∷ xs) (parts_once sense a.parts) (resolved_there ps)
 
-  levels_there : (ps : Places) → has_levels (map Some (map (resolved_alternative sense) (present ps))) ≡ has_levels ps
+  levels_there : (ps : PlacedAlternatives) → has_levels (map Some (map (resolved_alternative sense) (present ps))) ≡ has_levels ps
   levels_there [] = refl
   levels_there (None ∷ ps) = levels_there ps
   levels_there (Some a ∷ ps) = ap (λ b. has_level_attribute a || b) (levels_there ps)
 
 -- where each alternative is there, each has its level
-all_leveled : (qs : Places) (k : ℕ) (xs : List AlternativeData) →
+all_leveled : (qs : PlacedAlternatives) (k : ℕ) (xs : List AlternativeData) →
     map_numbered (leveled_at qs) k (map Some xs) ≡ map Some (present (map_numbered (leveled_at qs) k (map Some xs)))
 all_leveled qs k [] = refl
 all_leveled qs k (x ∷ xs) = ap (λ ys. leveled_at qs k (Some x) ∷ ys) (all_leveled qs (suc k) xs)
@@ -121,7 +121,7 @@ count_closed [] = refl
 count_closed (None ∷ ps) = count_closed ps
 count_closed (Some x ∷ ps) = ap suc (count_closed ps)
 
-ranks_numbered : (fs : Features) (f : AlternativeData → AlternativeData) (qs : Places) (j : ℕ) (xs : List AlternativeData) (k : ℕ) →
+ranks_numbered : (fs : Features) (f : AlternativeData → AlternativeData) (qs : PlacedAlternatives) (j : ℕ) (xs : List AlternativeData) (k : ℕ) →
     rank_in (map_numbered (leveled_at qs) j (map (option_map f) (map (if_active fs) xs))) k
     ≡ length (filter (λ a. is_active fs a.attributes) (take k xs))
 ranks_numbered fs f qs j [] zero = refl

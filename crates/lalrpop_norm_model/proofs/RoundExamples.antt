@@ -48,7 +48,7 @@ first_round : new_in 0 ≡
     ∷ (at (span 94 100) (called (codes "C") (token 96 99 (codes "d"))) ∷ []))
 first_round = refl
 
--- Round 2 reads the rules of C, B and A. An argument put in stands where its name stood in the macro.
+-- Round 2 reads the rules of C, B and A. An argument that is substituted stands where its name stood in the macro.
 abbrev comma_group : Part
 comma_group = at (span 42 49) (pair (token 43 46 (codes ",")) (token 47 48 (codes "d")))
 
@@ -125,7 +125,7 @@ optional_group : made_from (at (span 4 15) (optional (at (span 4 14) (pair (toke
     ∷ (at (span 4 14) (pair (token 5 8 (codes "a")) (at (span 9 14) (chosen (token 10 13 (codes "b"))))) ∷ [])
 optional_group = refl
 
--- M<("a" "b")>: an argument is met before its call, and not again where it is put in
+-- M<("a" "b")>: an argument is met before its call, and not again where it is substituted
 argument_first : made_from (at (span 4 16) (called (codes "M") (at (span 6 15) (pair (token 7 10 (codes "a")) (token 11 14 (codes "b"))))) ∷ []) 2
     ≡ at (span 4 16) (called (codes "M") (at (span 6 15) (pair (token 7 10 (codes "a")) (token 11 14 (codes "b")))))
     ∷ (at (span 6 15) (pair (token 7 10 (codes "a")) (token 11 14 (codes "b")))

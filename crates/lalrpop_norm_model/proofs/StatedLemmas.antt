@@ -3,7 +3,7 @@ use Rattle.std.proofs.Common.{◌≡◌, ◌⊎◌, inl, inr, ℕ, zero, suc, �
 use Rattle.std.specs.Prelude.{slice_get, option_map, option_and_then, unwrap_or, is_some, if◌then◌else◌}
 use Rattle.lalrpop_norm_tree.specs.Accessors.{or_else}
 use Rattle.lalrpop_norm_tree.specs.Items.{AlternativeData}
-use Rattle.lalrpop_norm_model.specs.Enabled.{Places}
+use Rattle.lalrpop_norm_model.specs.Enabled.{PlacedAlternatives}
 use Rattle.lalrpop_norm_model.specs.Levels.{Side, every, level_stated, side_stated, last_stated, since_level, up_to, leveled_at, map_numbered}
 use Rattle.lalrpop_norm_model.specs.Stated.{level_stated_at, side_stated_at, IsStatedLevel, NoLevelIsStated, IsStatedSide, NoSideIsStated}
 use Rattle.lalrpop_norm_model.specs.Laws.{PlacesAreLeveled, LevelsAreStated, SidesAreStated}
@@ -67,13 +67,13 @@ last_of f (x ∷ xs) = last_on f x xs (last_stated (map f xs)) (f x) refl (last_
 -- ---- levels
 
 -- what is so of the places up to k is so of the places
-level_here : (ps : Places) (k i : ℕ) → i ≤ k → level_stated_at (up_to k ps) i ≡ level_stated_at ps i
+level_here : (ps : PlacedAlternatives) (k i : ℕ) → i ≤ k → level_stated_at (up_to k ps) i ≡ level_stated_at ps i
 level_here ps k i le = ap (option_and_then level_stated) (taken_at (suc k) ps i (omega arith))
 
-side_here : (ps : Places) (k i : ℕ) → i ≤ k → side_stated_at (up_to k ps) i ≡ side_stated_at ps i
+side_here : (ps : PlacedAlternatives) (k i : ℕ) → i ≤ k → side_stated_at (up_to k ps) i ≡ side_stated_at ps i
 side_here ps k i le = ap (option_and_then side_stated) (taken_at (suc k) ps i (omega arith))
 
-level_by : (ps : Places) (k : ℕ) (o : Option ℕ) → LastOf level_stated (up_to k ps) o →
+level_by : (ps : PlacedAlternatives) (k : ℕ) (o : Option ℕ) → LastOf level_stated (up_to k ps) o →
     IsStatedLevel ps k (unwrap_or o 0) ⊎ (NoLevelIsStated ps k × (unwrap_or o 0 ≡ 0))
 level_by ps k None h = inr ((λ i le. sym (level_here ps k i le) ∙ h i), refl)
 level_by ps k (Some v) h =
@@ -87,13 +87,13 @@ levels_are_stated ps k = level_by ps k (last_stated (map level_stated (up_to k p
 -- ---- sides
 
 -- the last side since the last level; where there is none, a level stands behind each side
-abbrev SideOf : Places → Option Side → Type 0
+abbrev SideOf : PlacedAlternatives → Option Side → Type 0
 SideOf ps (Some s) =
     (j : ℕ) × (side_stated_at ps j ≡ Some s) × ((i : ℕ) → j < i → (side_stated_at ps i ≡ None) × (level_stated_at ps i ≡ None))
 SideOf ps None = (j : ℕ) (s : Side) → side_stated_at ps j ≡ Some s → (i : ℕ) × (l : ℕ) × (j < i) × (level_stated_at ps i ≡ Some l)
 
 -- a level is stated further on: what stands before it is no matter
-side_on : (p : Option AlternativeData) (ps : Places) (l : ℕ) → IsLast level_stated ps l → (o : Option Side) → SideOf ps o → SideOf (p ∷ ps) o
+side_on : (p : Option AlternativeData) (ps : PlacedAlternatives) (l : ℕ) → IsLast level_stated ps l → (o : Option Side) → SideOf ps o → SideOf (p ∷ ps) o
 side_on p ps l last (Some s) h = (suc h.0, h.1, later)
   where
     later : (i : ℕ) → suc h.0 < i → (side_stated_at (p ∷ ps) i ≡ None) × (level_stated_at (p ∷ ps) i ≡ None)
@@ -107,7 +107,7 @@ side_on p ps l last None h = all
         let (i, m, lt, at) = h j s e in (suc i, m, omega arith, at)
 
 -- no level is stated after the first place: all sides count
-side_first : (p : Option AlternativeData) (ps : Places) → IsSilent level_stated ps → (o : Option Side) → LastOf side_stated (p ∷ ps) o → SideOf (p ∷ ps) o
+side_first : (p : Option AlternativeData) (ps : PlacedAlternatives) → IsSilent level_stated ps → (o : Option Side) → LastOf side_stated (p ∷ ps) o → SideOf (p ∷ ps) o
 side_first p ps none (Some s) h = (h.0, h.1, later)
   where
     later : (i : ℕ) → h.0 < i → (side_stated_at (p ∷ ps) i ≡ None) × (level_stated_at (p ∷ ps) i ≡ None)
@@ -118,16 +118,16 @@ side_first p ps none None h = λ j s e. absurd (apart (h j) e)
     apart : {o : Option Side} {s : Side} → o ≡ None → o ≡ Some s → ⊥
     apart e f = grind arith
 
-side_step : (p : Option AlternativeData) (ps : Places) (o : Option ℕ) → LastOf level_stated ps o → SideOf ps (last_stated (map side_stated (since_level ps))) →
+side_step : (p : Option AlternativeData) (ps : PlacedAlternatives) (o : Option ℕ) → LastOf level_stated ps o → SideOf ps (last_stated (map side_stated (since_level ps))) →
     SideOf (p ∷ ps) (last_stated (map side_stated (if is_some o then since_level ps else p ∷ ps)))
 side_step p ps (Some l) h i = side_on p ps l h (last_stated (map side_stated (since_level ps))) i
 side_step p ps None h i = side_first p ps h (last_stated (map side_stated (p ∷ ps))) (last_of side_stated (p ∷ ps))
 
-side_of : (ps : Places) → SideOf ps (last_stated (map side_stated (since_level ps)))
+side_of : (ps : PlacedAlternatives) → SideOf ps (last_stated (map side_stated (since_level ps)))
 side_of [] = λ j s e. absurd (grind arith)
 side_of (p ∷ ps) = side_step p ps (last_stated (map level_stated ps)) (last_of level_stated ps) (side_of ps)
 
-side_by : (ps : Places) (k : ℕ) (o : Option Side) → SideOf (up_to k ps) o →
+side_by : (ps : PlacedAlternatives) (k : ℕ) (o : Option Side) → SideOf (up_to k ps) o →
     IsStatedSide ps k (unwrap_or o every) ⊎ (NoSideIsStated ps k × (unwrap_or o every ≡ every))
 side_by ps k (Some s) h =
     let within : h.0 < suc k = taken_within side_stated (suc k) ps h.0 s h.1 in

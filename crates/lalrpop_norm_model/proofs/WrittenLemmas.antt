@@ -6,7 +6,7 @@ use Rattle.lalrpop_norm_tree_parts.specs.Attributes.{AttributeData}
 use Rattle.lalrpop_norm_tree.specs.Items.{AlternativeData, RuleData, ItemData, GrammarData, match_item, extern_item, intern_item, rule_item, use_item}
 use Rattle.lalrpop_norm_theory.specs.Rounds.{In}
 use Rattle.lalrpop_norm_model.specs.Features.{is_active}
-use Rattle.lalrpop_norm_model.specs.Enabled.{Places, enabled_places, all_places, enabled_grammar}
+use Rattle.lalrpop_norm_model.specs.Enabled.{PlacedAlternatives, enabled_places, all_places, enabled_grammar}
 use Rattle.lalrpop_norm_model.specs.Scopes.{Global, globals, sense_of, resolved_alternative}
 use Rattle.lalrpop_norm_model.specs.Levels.{every, Leveled, first_named, value_under, number_of, has_level_attribute, stated_level, level_stated, has_levels, leveled_at, level_at, map_numbered, with_levels, without_levels, levels_of}
 use Rattle.lalrpop_norm_model.specs.WrittenRules.{WrittenRule, resolved_places, written_rule_with_levels, flat_rule, rules_through, leveled_rules}
@@ -60,12 +60,12 @@ some_number l (m ∷ ls) h = omega arith
 no_two : (ps : List (Option Leveled)) → ((l : ℕ) → HasLevel ps l → l ≡ 0) → length (levels_of ps) ≤ 1
 no_two ps z = one_at_most (levels_of ps) (levels_are_listed ps).0 (λ l h. z l (level_had ps l h))
 
-has_some : (ps : Places) → has_levels ps ≡ true → (a : AlternativeData) × In (Some a) ps
+has_some : (ps : PlacedAlternatives) → has_levels ps ≡ true → (a : AlternativeData) × In (Some a) ps
 has_some [] h = absurd (cc h)
 has_some (None ∷ ps) h = let (a, i) = has_some ps h in (a, inr i)
 has_some (Some a ∷ ps) h = (a, inl refl)
 
-has_none : (ps : Places) (a : AlternativeData) → has_levels ps ≡ false → In (Some a) ps → has_level_attribute a ≡ false
+has_none : (ps : PlacedAlternatives) (a : AlternativeData) → has_levels ps ≡ false → In (Some a) ps → has_level_attribute a ≡ false
 has_none [] a h i = absurd i
 has_none (None ∷ ps) a h (inl e) = absurd (grind arith)
 has_none (None ∷ ps) a h (inr i) = has_none ps a h i
@@ -88,8 +88,8 @@ abbrev level_in : Option Leveled → ℕ
 level_in None = 0
 level_in (Some a) = a.level
 
-module _ (ds : List Global) (d : RuleData) (ps : Places) where
-  abbrev qs : Places
+module _ (ds : List Global) (d : RuleData) (ps : PlacedAlternatives) where
+  abbrev qs : PlacedAlternatives
   qs = resolved_places ds d ps
 
   resolved_none : has_levels ps ≡ false → (q : Option AlternativeData) → In q qs → level_stated q ≡ None
@@ -151,15 +151,15 @@ scoped_by rs some one = ((λ names. record { names = names; some_level = some })
 abbrev LeveledFit : WrittenRule → Type 0
 LeveledFit r = (r.has_levels ≡ true → 0 < length (levels_of r.places)) × (r.has_levels ≡ false → length (levels_of r.places) ≤ 1)
 
-leveled_fit : (ds : List Global) (d : RuleData) (ps : Places) (r : WrittenRule) → In r (written_rule_with_levels ds d ps ∷ []) → LeveledFit r
+leveled_fit : (ds : List Global) (d : RuleData) (ps : PlacedAlternatives) (r : WrittenRule) → In r (written_rule_with_levels ds d ps ∷ []) → LeveledFit r
 leveled_fit ds d ps r (inl e) = subst LeveledFit (sym e) (leveled_some ds d ps, leveled_one ds d ps)
 leveled_fit ds d ps r (inr h) = absurd h
 
-active_fit : (ds : List Global) (d : RuleData) (ps : Places) (r : WrittenRule) (b : Bool) → In r (if b then written_rule_with_levels ds d ps ∷ [] else []) → LeveledFit r
+active_fit : (ds : List Global) (d : RuleData) (ps : PlacedAlternatives) (r : WrittenRule) (b : Bool) → In r (if b then written_rule_with_levels ds d ps ∷ [] else []) → LeveledFit r
 active_fit ds d ps r true h = leveled_fit ds d ps r h
 active_fit ds d ps r false h = absurd h
 
-flat_fit : (ds : List Global) (d : RuleData) (ps : Places) (r : WrittenRule) → In r (flat_rule ds d ps ∷ []) → LeveledFit r
+flat_fit : (ds : List Global) (d : RuleData) (ps : PlacedAlternatives) (r : WrittenRule) → In r (flat_rule ds d ps ∷ []) → LeveledFit r
 flat_fit ds d ps r (inl e) = subst LeveledFit (sym e) ((λ h. absurd (cc h)), λ h. flat_one ds d ps)
 flat_fit ds d ps r (inr h) = absurd h
 

@@ -1,4 +1,4 @@
--- The text of a closed symbol: as it is displayed, with arguments put in and each bounded reference as the name of its level.
+-- The text of a closed symbol: as it is displayed, with arguments substituted and each bounded reference as the name of its level.
 use Rattle.std.specs.Prelude.{ℕ, Bool, List, [], ◌∷◌, ◌++◌, Option, Some, None, codes, decimal, nat_eq}
 use Rattle.std.specs.Prelude.{if◌then◌else◌}
 use Rattle.lalrpop_norm_tree_names.specs.Texts.{escape, joined}

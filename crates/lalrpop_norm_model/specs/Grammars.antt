@@ -85,7 +85,7 @@ abbrev pub bound_argument : List NonterminalString → ClosedSymbols → Name �
 bound_argument (a ∷ rest) (symbol_and g gs) n = if bytes_eq a.0 n then Some g else bound_argument rest gs n
 bound_argument _ _ n = None
 
--- an alternative of a macro is read with its arguments put in; a reference in it may hold any level
+-- an alternative of a macro is read with its arguments substituted; a reference in it may hold any level
 abbrev pub macro_reader : List WrittenRule → WrittenRule → ClosedSymbols → Reader
 macro_reader rs r args = record {
   argument = bound_argument r.args args;

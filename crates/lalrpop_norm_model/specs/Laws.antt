@@ -6,7 +6,7 @@ use Rattle.lalrpop_norm_tree.specs.Items.{AlternativeData, RuleData, ExternToken
 use Rattle.lalrpop_norm_tree.specs.Items.{extern_item}
 use Rattle.lalrpop_norm_tree.specs.declared.items.MatchEntry.{MatchEntry}
 use Rattle.lalrpop_norm_model.specs.Features.{Features, is_active}
-use Rattle.lalrpop_norm_model.specs.Enabled.{Places, present, all_places, enabled_places, enabled_rule, enabled_extern}
+use Rattle.lalrpop_norm_model.specs.Enabled.{PlacedAlternatives, present, all_places, enabled_places, enabled_rule, enabled_extern}
 use Rattle.lalrpop_norm_model.specs.Scopes.{Global, globals, resolved_grammar}
 use Rattle.lalrpop_norm_model.specs.Levels.{every, Leveled, level_at, side_at, leveled_at, has_levels, with_levels, levels_of}
 use Rattle.lalrpop_norm_model.specs.Levels.{highest_level, previous_level}
@@ -29,7 +29,7 @@ use Rattle.lalrpop_norm_model.specs.Occurrences.{count_parts}
 use Rattle.lalrpop_norm_model.specs.Bounds.{all_bounds_to, bounds_by, IsTrue}
 use Rattle.lalrpop_norm_model.specs.Reading.{read_kind, read_part, read_all}
 use Rattle.lalrpop_norm_model.specs.ClosedTexts.{closed_text, level_names, text_in}
-use Rattle.lalrpop_norm_model.specs.MadeRules.{argument_kind, put_in, flat_reader, made_rules}
+use Rattle.lalrpop_norm_model.specs.MadeRules.{argument_kind, substituted, flat_reader, made_rules}
 use Rattle.lalrpop_norm_model.specs.LevelRules.{level_rule, leveled_grammar}
 use Rattle.lalrpop_norm_theory.specs.Symbols.{Name, ClosedSymbol, ClosedSymbols, reference}
 use Rattle.lalrpop_norm_theory.specs.Clauses.{Clause, clauses}
@@ -97,25 +97,25 @@ HighestIsGreatest = (ps : List (Option Leveled)) (l : ℕ) → HasLevel ps l →
 
 -- An enabled alternative at place k has the level and the side of that place.
 abbrev pub PlacesAreLeveled : Type 0
-PlacesAreLeveled = (ps : Places) (k : ℕ) → slice_get (with_levels ps) k ≡ option_map (leveled_at ps k) (slice_get ps k)
+PlacesAreLeveled = (ps : PlacedAlternatives) (k : ℕ) → slice_get (with_levels ps) k ≡ option_map (leveled_at ps k) (slice_get ps k)
 
 -- The level of place k is the one stated last at or before it; without any it is 0.
 abbrev pub LevelsAreStated : Type 0
 LevelsAreStated =
-    (ps : Places) (k : ℕ) → IsStatedLevel ps k (level_at ps k) ⊎ (NoLevelIsStated ps k × (level_at ps k ≡ 0))
+    (ps : PlacedAlternatives) (k : ℕ) → IsStatedLevel ps k (level_at ps k) ⊎ (NoLevelIsStated ps k × (level_at ps k ≡ 0))
 
 -- The side of place k is the one stated last at or before it and not before its level; without any it is every side.
 abbrev pub SidesAreStated : Type 0
 SidesAreStated =
-    (ps : Places) (k : ℕ) → IsStatedSide ps k (side_at ps k) ⊎ (NoSideIsStated ps k × (side_at ps k ≡ every))
+    (ps : PlacedAlternatives) (k : ℕ) → IsStatedSide ps k (side_at ps k) ⊎ (NoSideIsStated ps k × (side_at ps k ≡ every))
 
 -- Levels and sides are handed on from place to place, from the first one on.
 abbrev pub LevelsAreHandedOn : Type 0
-LevelsAreHandedOn = (ps : Places) → with_levels ps ≡ handed_on None None ps
+LevelsAreHandedOn = (ps : PlacedAlternatives) → with_levels ps ≡ handed_on None None ps
 
 -- Alternatives that are not enabled are no matter for levels and sides: with these taken out the others keep theirs.
 abbrev pub DisabledAreNoMatter : Type 0
-DisabledAreNoMatter = (ps : Places) → present (with_levels ps) ≡ present (with_levels (map Some (present ps)))
+DisabledAreNoMatter = (ps : PlacedAlternatives) → present (with_levels ps) ≡ present (with_levels (map Some (present ps)))
 
 -- The own occurrences in an alternative with a level below its own have, in their order, the bounds of its side.
 abbrev pub BoundsAreBySide : Type 0
@@ -230,10 +230,10 @@ WrittenTreesAreLowered = (value : ConditionValue) (fs : Features) (g : GrammarDa
 
 -- ---- the two readings of the expansion
 
--- A symbol with the arguments of a macro put in reads as the symbol with the arguments bound.
-abbrev pub ArgumentsArePutIn : Type 0
-ArgumentsArePutIn = (g : GrammarData) (r : WrittenRule) (args : Parts) (p : Part) (before after : ℕ) →
-    closed (put_in (argument_kind r.args args) p)
+-- A symbol with the arguments of a macro substituted reads as the symbol with the arguments bound.
+abbrev pub ArgumentsAreSubstituted : Type 0
+ArgumentsAreSubstituted = (g : GrammarData) (r : WrittenRule) (args : Parts) (p : Part) (before after : ℕ) →
+    closed (substituted (argument_kind r.args args) p)
     ≡ read_part (macro_reader (flat_rules g) r (read_all flat_reader args)) before after p
 
 -- One rule is made of each symbol that a rule is made of, and it is the rule of that symbol.

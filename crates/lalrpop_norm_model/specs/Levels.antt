@@ -10,7 +10,7 @@ use Rattle.lalrpop_norm_tree_parts.specs.Attributes.{AttributeData, Attributes, 
 use Rattle.lalrpop_norm_tree_parts.specs.Accessors.{key_and_value}
 use Rattle.lalrpop_norm_tree.specs.Accessors.{or_else}
 use Rattle.lalrpop_norm_tree.specs.Items.{AlternativeData}
-use Rattle.lalrpop_norm_model.specs.Enabled.{Places, present}
+use Rattle.lalrpop_norm_model.specs.Enabled.{PlacedAlternatives, present}
 
 -- ---- what an alternative states
 
@@ -79,24 +79,24 @@ abbrev pub last_stated : {A : Type 0} → List (Option A) → Option A
 last_stated [] = None
 last_stated (x ∷ xs) = or_else (last_stated xs) x
 
-abbrev pub some_states_level : Places → Bool
+abbrev pub some_states_level : PlacedAlternatives → Bool
 some_states_level ps = is_some (last_stated (map level_stated ps))
 
 -- the places from the last one on that states a level; all, where none does
-abbrev pub since_level : Places → Places
+abbrev pub since_level : PlacedAlternatives → PlacedAlternatives
 since_level [] = []
 since_level (p ∷ ps) = if some_states_level ps then since_level ps else p ∷ ps
 
 -- the places up to number k, itself too
-abbrev pub up_to : ℕ → Places → Places
+abbrev pub up_to : ℕ → PlacedAlternatives → PlacedAlternatives
 up_to k ps = take (suc k) ps
 
 -- The level of an alternative: the one stated last at or before it. Without any, which is refused where there are levels, 0.
-abbrev pub level_at : Places → ℕ → ℕ
+abbrev pub level_at : PlacedAlternatives → ℕ → ℕ
 level_at ps k = unwrap_or (last_stated (map level_stated (up_to k ps))) 0
 
 -- The side of an alternative: the one stated last at or before it and not before its level; without one, every.
-abbrev pub side_at : Places → ℕ → Side
+abbrev pub side_at : PlacedAlternatives → ℕ → Side
 side_at ps k = unwrap_or (last_stated (map side_stated (since_level (up_to k ps)))) every
 
 -- ---- the levels of a rule
@@ -107,7 +107,7 @@ has_level_attribute a =
     is_some (first_named (codes "precedence") a.attributes) || is_some (first_named (codes "assoc") a.attributes)
 
 -- a rule has levels where one of its enabled alternatives has `precedence` or `assoc`
-abbrev pub has_levels : Places → Bool
+abbrev pub has_levels : PlacedAlternatives → Bool
 has_levels [] = false
 has_levels (None ∷ ps) = has_levels ps
 has_levels (Some a ∷ ps) = has_level_attribute a || has_levels ps
@@ -118,7 +118,7 @@ pub record Leveled : Type 0 where
   pub side : Side
   pub alternative : AlternativeData
 
-abbrev pub leveled_at : Places → ℕ → Option AlternativeData → Option Leveled
+abbrev pub leveled_at : PlacedAlternatives → ℕ → Option AlternativeData → Option Leveled
 leveled_at ps k None = None
 leveled_at ps k (Some a) = Some (record { level = level_at ps k; side = side_at ps k; alternative = a })
 
@@ -128,11 +128,11 @@ map_numbered f k [] = []
 map_numbered f k (x ∷ xs) = f k x ∷ map_numbered f (suc k) xs
 
 -- the enabled alternatives at their places, each with its level and side
-abbrev pub with_levels : Places → List (Option Leveled)
+abbrev pub with_levels : PlacedAlternatives → List (Option Leveled)
 with_levels ps = map_numbered (leveled_at ps) 0 ps
 
 -- the same with one level for all of them
-abbrev pub without_levels : Places → List (Option Leveled)
+abbrev pub without_levels : PlacedAlternatives → List (Option Leveled)
 without_levels ps = map (option_map (λ a. record { level = 0; side = every; alternative = a })) ps
 
 -- the levels that alternatives have, rising, each once

@@ -1,5 +1,5 @@
 -- What each macro call, group, repeat and lookaround is made into: a rule, as a function of the symbol where it was first met.
--- The symbols of its alternatives are written ones, with the arguments put in; nothing in them is a name yet of what it is made
+-- The symbols of its alternatives are written ones, with the arguments substituted; nothing in them is a name yet of what it is made
 -- into. A symbol whose type is put into a declared type stands there replaced.
 use Rattle.std.specs.Prelude.{ℕ, Bool, true, false, ◌||◌, List, [], ◌∷◌, map, Option, Some, None, option_map, codes}
 use Rattle.std.specs.Prelude.{bytes_eq, if◌then◌else◌}
@@ -163,61 +163,61 @@ abbrev pub or_name : List ℕ → Option Kind → Kind
 or_name n None = nonterminal n
 or_name n (Some k) = k
 
--- a symbol with the arguments put in; one that is put in stands where its name stood
+-- a symbol with the arguments substituted; one that is substituted stands where its name stood
 abbrev mutual
-  pub put_in : (List ℕ → Option Kind) → Part → Part
-  put_in argument (at s k) = at s (kind_put_in argument k)
+  pub substituted : (List ℕ → Option Kind) → Part → Part
+  substituted argument (at s k) = at s (kind_substituted argument k)
 
-  pub kind_put_in : (List ℕ → Option Kind) → Kind → Kind
-  kind_put_in argument (nonterminal n) = or_name n (argument n)
-  kind_put_in argument (ambiguous_id n) = or_name n (argument n)
-  kind_put_in argument (terminal t) = terminal t
-  kind_put_in argument (group ps) = group (all_put_in argument ps)
-  kind_put_in argument (call n ps) = call n (all_put_in argument ps)
-  kind_put_in argument (repeated op p) = repeated op (put_in argument p)
-  kind_put_in argument (chosen p) = chosen (put_in argument p)
-  kind_put_in argument (named n p) = named n (put_in argument p)
-  kind_put_in argument (tupled ns p) = tupled ns (put_in argument p)
-  kind_put_in argument lookahead = lookahead
-  kind_put_in argument lookbehind = lookbehind
-  kind_put_in argument error_terminal = error_terminal
+  pub kind_substituted : (List ℕ → Option Kind) → Kind → Kind
+  kind_substituted argument (nonterminal n) = or_name n (argument n)
+  kind_substituted argument (ambiguous_id n) = or_name n (argument n)
+  kind_substituted argument (terminal t) = terminal t
+  kind_substituted argument (group ps) = group (all_substituted argument ps)
+  kind_substituted argument (call n ps) = call n (all_substituted argument ps)
+  kind_substituted argument (repeated op p) = repeated op (substituted argument p)
+  kind_substituted argument (chosen p) = chosen (substituted argument p)
+  kind_substituted argument (named n p) = named n (substituted argument p)
+  kind_substituted argument (tupled ns p) = tupled ns (substituted argument p)
+  kind_substituted argument lookahead = lookahead
+  kind_substituted argument lookbehind = lookbehind
+  kind_substituted argument error_terminal = error_terminal
 
-  pub all_put_in : (List ℕ → Option Kind) → Parts → Parts
-  all_put_in argument no_parts = no_parts
-  all_put_in argument (part_and p ps) = part_and (put_in argument p) (all_put_in argument ps)
+  pub all_substituted : (List ℕ → Option Kind) → Parts → Parts
+  all_substituted argument no_parts = no_parts
+  all_substituted argument (part_and p ps) = part_and (substituted argument p) (all_substituted argument ps)
 
 abbrev pub type_of_name : List ℕ → Option Kind → TypeData
 type_of_name n None = nominal (path_of (n ∷ [])) no_types
 type_of_name n (Some k) = type_of_kind k
 
--- A declared type with the arguments put in: a single name that is an argument is the type of its symbol, any other a path.
+-- A declared type with the arguments substituted: a single name that is an argument is the type of its symbol, any other a path.
 abbrev mutual
-  pub type_put_in : (List ℕ → Option Kind) → TypeData → TypeData
-  type_put_in argument (id n) = type_of_name n (argument n)
-  type_put_in argument (tuple ts) = tuple (types_put_in argument ts)
-  type_put_in argument (slice t) = slice (type_put_in argument t)
-  type_put_in argument (nominal p ts) = nominal p (types_put_in argument ts)
-  type_put_in argument (reference l m t) = reference l m (type_put_in argument t)
-  type_put_in argument (trait_object p ts) = trait_object p (types_put_in argument ts)
-  type_put_in argument (of_lifetime l) = of_lifetime l
-  type_put_in argument (of_symbol k) = of_symbol k
-  type_put_in argument (function fs p ts r) = function fs p (types_put_in argument ts) (returned_put_in argument r)
+  pub type_substituted : (List ℕ → Option Kind) → TypeData → TypeData
+  type_substituted argument (id n) = type_of_name n (argument n)
+  type_substituted argument (tuple ts) = tuple (types_substituted argument ts)
+  type_substituted argument (slice t) = slice (type_substituted argument t)
+  type_substituted argument (nominal p ts) = nominal p (types_substituted argument ts)
+  type_substituted argument (reference l m t) = reference l m (type_substituted argument t)
+  type_substituted argument (trait_object p ts) = trait_object p (types_substituted argument ts)
+  type_substituted argument (of_lifetime l) = of_lifetime l
+  type_substituted argument (of_symbol k) = of_symbol k
+  type_substituted argument (function fs p ts r) = function fs p (types_substituted argument ts) (returned_substituted argument r)
 
-  pub types_put_in : (List ℕ → Option Kind) → TypesData → TypesData
-  types_put_in argument no_types = no_types
-  types_put_in argument (type_and t ts) = type_and (type_put_in argument t) (types_put_in argument ts)
+  pub types_substituted : (List ℕ → Option Kind) → TypesData → TypesData
+  types_substituted argument no_types = no_types
+  types_substituted argument (type_and t ts) = type_and (type_substituted argument t) (types_substituted argument ts)
 
-  pub returned_put_in : (List ℕ → Option Kind) → MaybeType → MaybeType
-  returned_put_in argument no_type = no_type
-  returned_put_in argument (returns t) = returns (type_put_in argument t)
+  pub returned_substituted : (List ℕ → Option Kind) → MaybeType → MaybeType
+  returned_substituted argument no_type = no_type
+  returned_substituted argument (returns t) = returns (type_substituted argument t)
 
 -- A symbol in which no name is an argument and no reference has a bound, as a closed symbol.
 abbrev pub flat_reader : Reader
 flat_reader = record { argument = λ n. None; is_own = λ n. false; own_bound = λ before after. None; bound = λ n. None }
 
--- An instance's alternative: at the call's span, with the arguments put in and without a condition.
+-- An instance's alternative: at the call's span, with the arguments substituted and without a condition.
 abbrev pub instance_alternative : Span → (List ℕ → Option Kind) → AlternativeData → AlternativeData
-instance_alternative s argument a = record a { span = s; parts = all_put_in argument a.parts; condition = None }
+instance_alternative s argument a = record a { span = s; parts = all_substituted argument a.parts; condition = None }
 
 -- those whose condition is true or absent, in order
 abbrev pub instance_alternatives : ConditionValue → Span → RuleData → Parts →
@@ -228,7 +228,7 @@ instance_alternatives value s d args (a ∷ rest) =
     then instance_alternative s (argument_kind d.args args) a ∷ instance_alternatives value s d args rest
     else instance_alternatives value s d args rest
 
--- A call of a macro: its definition's visibility and attributes, its declared type and alternatives with the arguments put in.
+-- A call of a macro: its definition's visibility and attributes, its declared type and alternatives with the arguments substituted.
 abbrev pub instance_rule : ConditionValue → Span → RuleData → Parts → RuleData
 instance_rule value s d args = record {
   visibility = d.visibility;
@@ -236,7 +236,7 @@ instance_rule value s d args = record {
   attributes = d.attributes;
   span = s;
   args = [];
-  type_decl = option_map (type_put_in (argument_kind d.args args)) d.type_decl;
+  type_decl = option_map (type_substituted (argument_kind d.args args)) d.type_decl;
   alternatives = instance_alternatives value s d args d.alternatives;
 }
 

@@ -4,7 +4,7 @@ use Rattle.std.specs.Prelude.{option_and_then, unwrap_or, is_some, slice_get, if
 use Rattle.lalrpop_norm_theory.specs.Rounds.{In}
 use Rattle.lalrpop_norm_tree.specs.Accessors.{or_else}
 use Rattle.lalrpop_norm_tree.specs.Items.{AlternativeData}
-use Rattle.lalrpop_norm_model.specs.Enabled.{Places}
+use Rattle.lalrpop_norm_model.specs.Enabled.{PlacedAlternatives}
 use Rattle.lalrpop_norm_model.specs.Levels.{Side, every, Leveled, level_stated, side_stated}
 
 -- each number is less than all that follow it
@@ -25,30 +25,30 @@ abbrev pub IsHighest : List (Option Leveled) → ℕ → Type 0
 IsHighest ps m = HasLevel ps m × ((n : ℕ) → HasLevel ps n → n ≤ m)
 
 -- what is stated at place k; nothing past the end
-abbrev pub level_stated_at : Places → ℕ → Option ℕ
+abbrev pub level_stated_at : PlacedAlternatives → ℕ → Option ℕ
 level_stated_at ps k = option_and_then level_stated (slice_get ps k)
 
-abbrev pub side_stated_at : Places → ℕ → Option Side
+abbrev pub side_stated_at : PlacedAlternatives → ℕ → Option Side
 side_stated_at ps k = option_and_then side_stated (slice_get ps k)
 
 -- the level is stated at a place at or before k, and none between that place and k, k too
-abbrev pub IsStatedLevel : Places → ℕ → ℕ → Type 0
+abbrev pub IsStatedLevel : PlacedAlternatives → ℕ → ℕ → Type 0
 IsStatedLevel ps k l =
     (j : ℕ) × (j ≤ k) × (level_stated_at ps j ≡ Some l)
     × ((i : ℕ) → j < i → i ≤ k → level_stated_at ps i ≡ None)
 
 -- no place at or before k states a level
-abbrev pub NoLevelIsStated : Places → ℕ → Type 0
+abbrev pub NoLevelIsStated : PlacedAlternatives → ℕ → Type 0
 NoLevelIsStated ps k = (i : ℕ) → i ≤ k → level_stated_at ps i ≡ None
 
 -- the side is stated at a place at or before k, and neither a side nor a level between that place and k, k too
-abbrev pub IsStatedSide : Places → ℕ → Side → Type 0
+abbrev pub IsStatedSide : PlacedAlternatives → ℕ → Side → Type 0
 IsStatedSide ps k s =
     (j : ℕ) × (j ≤ k) × (side_stated_at ps j ≡ Some s)
     × ((i : ℕ) → j < i → i ≤ k → (side_stated_at ps i ≡ None) × (level_stated_at ps i ≡ None))
 
 -- each place at or before k that states a side has a place behind it, at or before k, that states a level
-abbrev pub NoSideIsStated : Places → ℕ → Type 0
+abbrev pub NoSideIsStated : PlacedAlternatives → ℕ → Type 0
 NoSideIsStated ps k =
     (j : ℕ) (s : Side) → j ≤ k → side_stated_at ps j ≡ Some s → (i : ℕ) × (l : ℕ) × (j < i) × (i ≤ k)
     × (level_stated_at ps i ≡ Some l)
@@ -67,7 +67,7 @@ abbrev pub with_stated : Option ℕ → Option Side → AlternativeData → Leve
 with_stated level side a = record { level = unwrap_or level 0; side = unwrap_or side every; alternative = a }
 
 -- the places, where so much was stated before the first of them
-abbrev pub handed_on : Option ℕ → Option Side → Places → List (Option Leveled)
+abbrev pub handed_on : Option ℕ → Option Side → PlacedAlternatives → List (Option Leveled)
 handed_on level side [] = []
 handed_on level side (p ∷ ps) =
     option_map (with_stated (level_after level p) (side_after side p)) p

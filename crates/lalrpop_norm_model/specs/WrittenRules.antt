@@ -5,7 +5,7 @@ use Rattle.lalrpop_norm_tree_names.specs.declared.names.NonterminalString.{Nonte
 use Rattle.lalrpop_norm_tree.specs.Items.{RuleData, ItemData, GrammarData, rule_item, match_item, extern_item, intern_item}
 use Rattle.lalrpop_norm_tree.specs.Items.{use_item}
 use Rattle.lalrpop_norm_model.specs.Features.{Features, is_active}
-use Rattle.lalrpop_norm_model.specs.Enabled.{Places, enabled_places, all_places, enabled_grammar}
+use Rattle.lalrpop_norm_model.specs.Enabled.{PlacedAlternatives, enabled_places, all_places, enabled_grammar}
 use Rattle.lalrpop_norm_model.specs.Scopes.{Global, globals, sense_of, resolved_alternative}
 use Rattle.lalrpop_norm_model.specs.Levels.{Leveled, has_levels, with_levels, without_levels}
 
@@ -16,16 +16,16 @@ pub record WrittenRule : Type 0 where
   pub has_levels : Bool
   pub places : List (Option Leveled)
 
-abbrev pub resolved_places : List Global → RuleData → Places → Places
+abbrev pub resolved_places : List Global → RuleData → PlacedAlternatives → PlacedAlternatives
 resolved_places ds r ps = map (option_map (resolved_alternative (sense_of ds r.args))) ps
 
 -- with the levels that its alternatives state
-abbrev pub written_rule_with_levels : List Global → RuleData → Places → WrittenRule
+abbrev pub written_rule_with_levels : List Global → RuleData → PlacedAlternatives → WrittenRule
 written_rule_with_levels ds r ps =
     record { name = r.name.0; args = r.args; has_levels = has_levels ps; places = with_levels (resolved_places ds r ps) }
 
 -- whatever its alternatives state
-abbrev pub flat_rule : List Global → RuleData → Places → WrittenRule
+abbrev pub flat_rule : List Global → RuleData → PlacedAlternatives → WrittenRule
 flat_rule ds r ps =
     record { name = r.name.0; args = r.args; has_levels = false; places = without_levels (resolved_places ds r ps) }
 

@@ -11,7 +11,7 @@ ghost use Rattle.lalrpop_norm_model.specs.Laws.{ScopedAsWritten, EnabledAreActiv
 ghost use Rattle.lalrpop_norm_model.specs.Laws.{LevelRulesAreRead, BoundsAreBySide, ConditionsDecide};
 ghost use Rattle.lalrpop_norm_model.specs.Laws.{DisabledAreLeftOut, RanksCountEnabled, DisabledOnlyRenumber, ClausesOnlyRenumber, TreesOnlyRenumber};
 ghost use Rattle.lalrpop_norm_model.specs.Laws.{GrammarsAreLeveled, LevelsAreSteps, WrittenTreesAreLowered};
-ghost use Rattle.lalrpop_norm_model.specs.Laws.{ArgumentsArePutIn, MadeRulesAreRead, RulesAreRead, MetIsRead};
+ghost use Rattle.lalrpop_norm_model.specs.Laws.{ArgumentsAreSubstituted, MadeRulesAreRead, RulesAreRead, MetIsRead};
 ghost use Rattle.lalrpop_norm_model.specs.Laws.{MadeSymbolsAreScoped, RoundsAreRead};
 ghost use Rattle.lalrpop_norm_model.specs.Laws.{TextsInGrammars, PlainRulesAreRead};
 ghost use Rattle.lalrpop_norm_model.specs.Laws.{PlainGrammarsHoldPlainRules, DistinctNamesMeanOneRule, PlainRulesAreFaithful};
@@ -160,9 +160,9 @@ pub fn written_trees_are_lowered()
 }
 
 /// In a grammar read without levels, a symbol into which the arguments of a macro are put reads as the symbol whose arguments
-/// are bound to what was put in.
-pub fn arguments_are_put_in()
-    ensures { ArgumentsArePutIn }
+/// are bound to what was substituted.
+pub fn arguments_are_substituted()
+    ensures { ArgumentsAreSubstituted }
 {}
 
 /// Exactly one rule is made of each call, group, repeat and lookaround whose names have a meaning: it has the symbol's text as

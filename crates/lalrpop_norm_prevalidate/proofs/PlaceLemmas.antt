@@ -10,7 +10,7 @@ use Rattle.lalrpop_norm_faults.specs.declared.kind.FaultKind.TheVariants.{Unknow
 use Rattle.lalrpop_norm_faults.specs.Faults.{fault_if}
 use Rattle.lalrpop_norm_model.specs.Features.{is_one_of}
 use Rattle.lalrpop_norm_model.specs.TokenFaults.{each_after}
-use Rattle.lalrpop_norm_prevalidate.specs.declared.prevalidate.Place.{Place}
+use Rattle.lalrpop_norm_prevalidate.specs.declared.prevalidate.Surroundings.{Surroundings}
 use Rattle.lalrpop_norm_prevalidate.specs.declared.prevalidate.Blocks.{Blocks}
 use Rattle.lalrpop_norm_prevalidate.specs.CfgFaults.{cfg_faults}
 use Rattle.lalrpop_norm_prevalidate.specs.GrammarFaults.{is_known_on_rule, attribute_name, attribute_list, rule_attribute_faults, attributes_faults, is_known_type, associated_faults, types_faults, is_match, is_extern, item_faults, items_faults}
@@ -76,7 +76,7 @@ types_placed ts = types_from [] [] (λ n. refl) ts
 
 -- ---- items
 
-module _ (c : Place) (b : Blocks) (s : Span) where
+module _ (c : Surroundings) (b : Blocks) (s : Span) where
   items_from : (m e : Bool) (before : List ItemData) → m ≡ list_any is_match before → e ≡ list_any is_extern before → (is : List ItemData) →
       items_along c b s m e is ≡ each_after (λ before i. item_faults c b s (list_any is_match before) (list_any is_extern before) i) before is
   items_from m e before f h [] = refl

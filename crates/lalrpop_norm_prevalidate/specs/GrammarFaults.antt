@@ -23,7 +23,7 @@ use Rattle.lalrpop_norm_faults.specs.declared.kind.FaultKind.TheVariants.{Inline
 use Rattle.lalrpop_norm_faults.specs.Faults.{Fault, fault_if}
 use Rattle.lalrpop_norm_model.specs.Features.{is_one_of}
 use Rattle.lalrpop_norm_model.specs.TokenFaults.{each_after}
-use Rattle.lalrpop_norm_prevalidate.specs.declared.prevalidate.Place.{Place}
+use Rattle.lalrpop_norm_prevalidate.specs.declared.prevalidate.Surroundings.{Surroundings}
 use Rattle.lalrpop_norm_prevalidate.specs.declared.prevalidate.Blocks.{Blocks}
 use Rattle.lalrpop_norm_prevalidate.specs.SymbolFaults.{terminal_faults}
 use Rattle.lalrpop_norm_prevalidate.specs.AlternativeFaults.{alternative_faults}
@@ -158,8 +158,8 @@ abbrev pub lacks_location : Option ExternTokenData → Bool
 lacks_location None = false
 lacks_location (Some t) = is_some t.enum_token && is_none (first_of (type_named (codes "Location")) t.associated_types)
 
-abbrev pub place_in : GrammarData → Place
-place_in g =
+abbrev pub surroundings : GrammarData → Surroundings
+surroundings g =
     record {
       has_ascent = is_asked (ascent_asked g.attributes);
       lacks_location = lacks_location (first_of extern_token_of g.items);
@@ -201,4 +201,4 @@ validate_faults g =
     unknown_grammar_faults g.attributes
     ++ (flat_map (parameter_faults g.span) g.parameters
     ++ (flat_map (clause_faults g.span) g.where_clauses
-    ++ items_faults (place_in g) (blocks_in g) g.span g.items))
+    ++ items_faults (surroundings g) (blocks_in g) g.span g.items))

@@ -6,7 +6,7 @@ ghost use Rattle.lalrpop_norm_tree_parts.specs.Bounds.{where_clause_view};
 ghost use Rattle.lalrpop_norm_tree.specs.Items.{extern_token_view, grammar_view, item_view};
 ghost use Rattle.lalrpop_norm_tree.specs.Types.{parameter_view, type_view};
 ghost use Rattle.lalrpop_norm_faults.specs.Faults.{Refuses};
-ghost use Rattle.lalrpop_norm_prevalidate.specs.GrammarFaults.{is_match, is_extern, item_faults, items_faults, ascent_named, ascent_asked, is_asked, lacks_location, place_in, blocks_in, unknown_grammar_faults, parameter_faults, clause_faults, validate_faults};
+ghost use Rattle.lalrpop_norm_prevalidate.specs.GrammarFaults.{is_match, is_extern, item_faults, items_faults, ascent_named, ascent_asked, is_asked, lacks_location, surroundings, blocks_in, unknown_grammar_faults, parameter_faults, clause_faults, validate_faults};
 
 mod alternatives;
 mod cfg;
@@ -27,7 +27,7 @@ use types::clause_holds;
 
 /// What the symbols of a grammar stand in.
 #[derive(Clone, Copy)]
-pub(crate) struct Place {
+pub(crate) struct Surroundings {
     /// `recursive_ascent` or `test_all` is in force.
     has_ascent: bool,
     /// The tokens are an extern enum's, and no type of locations is declared.
@@ -52,9 +52,9 @@ pub fn validate(alloc: Global, grammar: &Grammar) -> NormResult<()>
     validate_attributes(alloc, &grammar.attributes)?;
     validate_parameters(alloc, grammar.span, &grammar.parameters)?;
     validate_clauses(alloc, grammar.span, &grammar.where_clauses)?;
-    let place = place_in(grammar);
+    let around = surroundings(grammar);
     let blocks = blocks_in(grammar);
-    validate_items(alloc, place, blocks, grammar.span, &grammar.items)?;
+    validate_items(alloc, around, blocks, grammar.span, &grammar.items)?;
     Ok(())
 }
 
@@ -131,8 +131,8 @@ fn lacks_location(token: &ExternToken) -> bool
     token.enum_token.is_some() && token.associated_type("Location").is_none()
 }
 
-fn place_in(grammar: &Grammar) -> Place
-    ensures { result ≡ place_in (grammar_view grammar.now) }
+fn surroundings(grammar: &Grammar) -> Surroundings
+    ensures { result ≡ surroundings (grammar_view grammar.now) }
 {
     let has_ascent = match ascent_asked(&grammar.attributes) {
         Some(asked) => asked,
@@ -186,13 +186,13 @@ fn is_extern(item: &GrammarItem) -> bool
 #[tactic(auto, unfolding(crate::specs::GrammarFaults::item_faults))]
 fn validate_item(
     alloc: Global,
-    place: Place,
+    around: Surroundings,
     blocks: Blocks,
     span: Span,
     seen: (bool, bool),
     item: &GrammarItem,
 ) -> NormResult<()>
-    ensures { Refuses result (item_faults place blocks span seen.0 seen.1 (item_view item.now)) }
+    ensures { Refuses result (item_faults around blocks span seen.0 seen.1 (item_view item.now)) }
 {
     match item {
         GrammarItem::MatchToken(token) => validate_match(alloc, blocks, seen.0, token),
@@ -202,7 +202,7 @@ fn validate_item(
             span,
             format!(in alloc; "the tokenizer of a grammar can't be written: write a match block"),
         )),
-        GrammarItem::Nonterminal(rule) => validate_rule(alloc, place, rule),
+        GrammarItem::Nonterminal(rule) => validate_rule(alloc, around, rule),
         GrammarItem::Use(_) => Ok(()),
     }
 }
@@ -210,17 +210,17 @@ fn validate_item(
 #[tactic(auto, using(crate::proofs::PlaceLemmas::items_placed))]
 fn validate_items(
     alloc: Global,
-    place: Place,
+    around: Surroundings,
     blocks: Blocks,
     span: Span,
     items: &[GrammarItem],
 ) -> NormResult<()>
-    ensures { Refuses result (items_faults place blocks span (map item_view items.now)) }
+    ensures { Refuses result (items_faults around blocks span (map item_view items.now)) }
 {
     let mut seen_match = false;
     let mut seen_extern = false;
     for item in items {
-        validate_item(alloc, place, blocks, span, (seen_match, seen_extern), item)?;
+        validate_item(alloc, around, blocks, span, (seen_match, seen_extern), item)?;
         seen_match = seen_match || is_match(item);
         seen_extern = seen_extern || is_extern(item);
     }

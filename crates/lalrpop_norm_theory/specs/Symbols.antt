@@ -1,4 +1,4 @@
--- Closed symbols: what a written symbol is once the arguments of its macro are put in and each of its references has a
+-- Closed symbols: what a written symbol is once the arguments of its macro are substituted and each of its references has a
 -- bound. Spans are no part of them, so two closed symbols are the same exactly where they are equal.
 use Rattle.std.specs.Prelude.{ℕ, Bool, List, Option}
 

@@ -11,7 +11,7 @@ use Rattle.lalrpop_norm_theory.specs.Rounds.{In}
 use Rattle.lalrpop_norm_theory.proofs.RoundsLemmas.{in_left, in_right, in_cases}
 use Rattle.lalrpop_norm_repr.specs.Tables.{TypeTable}
 use Rattle.lalrpop_norm_tyinfer_table.specs.declared.dependents.Dependents.{Dependents}
-use Rattle.lalrpop_norm_tyinfer_table.specs.declared.places.Places.{Places}
+use Rattle.lalrpop_norm_tyinfer_table.specs.declared.waiting.Waiting.{Waiting}
 use Rattle.lalrpop_norm_tyinfer_table.specs.Clauses.{first_in}
 use Rattle.lalrpop_norm_tyinfer_table.specs.TableValues.{type_by_name}
 use Rattle.lalrpop_norm_tyinfer_table.specs.Visits.{Seen, TakesType, Passes}
@@ -80,7 +80,7 @@ skipped_to ps before tt ss from to le p quiet =
 
 -- ---- places that are added
 
-pub wakes_none : (place : ℕ) (now next : Places) → Wakes [] place now now next next
+pub wakes_none : (place : ℕ) (now next : Waiting) → Wakes [] place now now next next
 wakes_none place now next = record {
   kept_now = λ k h. h;
   kept_next = λ k h. h;
@@ -90,7 +90,7 @@ wakes_none place now next = record {
   only_next = λ k h. inl h;
 }
 
-pub wakes_more : (xs ys : List ℕ) (place : ℕ) (now now_mid now_after next next_mid next_after : Places) → Wakes xs place now now_mid next next_mid →
+pub wakes_more : (xs ys : List ℕ) (place : ℕ) (now now_mid now_after next next_mid next_after : Waiting) → Wakes xs place now now_mid next next_mid →
     Wakes ys place now_mid now_after next_mid next_after → Wakes (xs ++ ys) place now now_after next next_after
 wakes_more xs ys place now now_mid now_after next next_mid next_after one two = record {
   kept_now = λ k h. two.kept_now k (one.kept_now k h);
@@ -109,7 +109,7 @@ wakes_more xs ys place now now_mid now_after next next_mid next_after one two = 
 
 -- ---- the places that are left
 
-rest_true : (now left : Places) (place : ℕ) → TakesLeast now left place → (k : ℕ) → has left k ≡ true → (has now k ≡ true) × (place < k)
+rest_true : (now left : Waiting) (place : ℕ) → TakesLeast now left place → (k : ℕ) → has left k ≡ true → (has now k ≡ true) × (place < k)
 rest_true now left place t k h = elim (eqb_tells place k) [
   | inl w ↦ absurd (both_ways (has left k) (rw w.0 at (t.rest k)) h)
   | inr w ↦
@@ -119,7 +119,7 @@ rest_true now left place t k h = elim (eqb_tells place k) [
       (was, omega arith)
 ]
 
-rest_false : (now left : Places) (place : ℕ) → TakesLeast now left place → (k : ℕ) → place < k → has left k ≡ false → has now k ≡ false
+rest_false : (now left : Waiting) (place : ℕ) → TakesLeast now left place → (k : ℕ) → place < k → has left k ≡ false → has now k ≡ false
 rest_false now left place t k lt h = elim (eqb_tells place k) [
   | inl w ↦ let same = w.1 in absurd (omega arith)
   | inr w ↦ sym (rw w.0 at (t.rest k)) ∙ h
@@ -128,7 +128,7 @@ rest_false now left place t k lt h = elim (eqb_tells place k) [
 -- ---- a round
 
 -- the rules before a place are visited, and those that are not quiet wait
-pub record Midway (ps : List TypeParameter) (before tt : TypeTable) (ss : List Seen) (from : ℕ) (now next : Places) : Type 0 where
+pub record Midway (ps : List TypeParameter) (before tt : TypeTable) (ss : List Seen) (from : ℕ) (now next : Waiting) : Type 0 where
   pub passes : Passes ps before tt (take from ss)
   pub behind : (k : ℕ) (s : Seen) → slice_get ss k ≡ Some s → from ≤ k → has now k ≡ false → IsQuiet ps tt s
   pub earlier : (k : ℕ) (s : Seen) → slice_get ss k ≡ Some s → k < from → has next k ≡ false → IsQuiet ps tt s
@@ -144,7 +144,7 @@ of_woken : (a : Bool) (xs : List ℕ) (k : ℕ) → In k (if a then xs else []) 
 of_woken true xs k h = h
 of_woken false xs k h = absurd h
 
-module _ (d : Dependents) (ps : List TypeParameter) (before mid after : TypeTable) (ss : List Seen) (from place : ℕ) (s : Seen) (now left now_after next next_after : Places)
+module _ (d : Dependents) (ps : List TypeParameter) (before mid after : TypeTable) (ss : List Seen) (from place : ℕ) (s : Seen) (now left now_after next next_after : Waiting)
     (covers : Covers d ss) (m : Midway ps before mid ss from now next) (t : TakesLeast now left place) (there : slice_get ss place ≡ Some s)
     (st : VisitsOne d ps mid after s place left now_after next next_after) where
   high : from ≤ place
@@ -203,7 +203,7 @@ module _ (d : Dependents) (ps : List TypeParameter) (before mid after : TypeTabl
   }
 
 -- no rule waits any more: those that are left out to the end are quiet
-pub midway_passes : (ps : List TypeParameter) (before tt : TypeTable) (ss : List Seen) (from : ℕ) (now next : Places) → Midway ps before tt ss from now next →
+pub midway_passes : (ps : List TypeParameter) (before tt : TypeTable) (ss : List Seen) (from : ℕ) (now next : Waiting) → Midway ps before tt ss from now next →
     ((k : ℕ) → has now k ≡ false) → Passes ps before tt ss
 midway_passes ps before tt ss from now next m none =
     let all : take (from + length ss) ss ≡ ss = take_all (from + length ss) ss (omega arith) in
@@ -212,18 +212,18 @@ midway_passes ps before tt ss from now next m none =
 
 -- ---- the visit of a rule that waits
 
-pub steps_still : (d : Dependents) (ps : List TypeParameter) (before after : TypeTable) (s : Seen) (place : ℕ) (now next : Places) →
+pub steps_still : (d : Dependents) (ps : List TypeParameter) (before after : TypeTable) (s : Seen) (place : ℕ) (now next : Waiting) →
     TakesType before after s.0.name.0 (first_in ps before s.1) false → VisitsOne d ps before after s place now now next next
 steps_still d ps before after s place now next t = record { added = false; takes = t; wakes = wakes_none place now next }
 
-pub steps_taken : {T E : Type 0} (d : Dependents) (ps : List TypeParameter) (before after : TypeTable) (s : Seen) (place : ℕ) (now now_after next next_after : Places) →
+pub steps_taken : {T E : Type 0} (d : Dependents) (ps : List TypeParameter) (before after : TypeTable) (s : Seen) (place : ℕ) (now now_after next next_after : Waiting) →
     (r : Result T E) → TakesType before after s.0.name.0 (first_in ps before s.1) true → OnOk r (Wakes (places_of d s.0.name.0) place now now_after next next_after) →
     OnOk r (VisitsOne d ps before after s place now now_after next next_after)
 steps_taken d ps before after s place now now_after next next_after (Ok x) t w = record { added = true; takes = t; wakes = w }
 steps_taken d ps before after s place now now_after next next_after (Err e) t w = w
 
 -- in the first round all rules are visited
-pub all_wait : (ps : List TypeParameter) (tt : TypeTable) (ss : List Seen) (now : Places) (count : ℕ) → count ≡ length ss → ((k : ℕ) → k < count → has now k ≡ true) →
+pub all_wait : (ps : List TypeParameter) (tt : TypeTable) (ss : List Seen) (now : Waiting) (count : ℕ) → count ≡ length ss → ((k : ℕ) → k < count → has now k ≡ true) →
     ((k : ℕ) → has now k ≡ true → k < count) → Waits ps tt ss now
 all_wait ps tt ss now count long all only = record {
   quiet = λ k s here out. let lt = slice_get_within ss k s here in absurd (both_ways (has now k) out (all k (omega arith)));

@@ -10,15 +10,15 @@ use Rattle.lalrpop_norm_repr.specs.Tables.{TypeTable}
 use Rattle.lalrpop_norm_model.specs.MadeRules.{group_sources, bare_or_tuple, some_name_value}
 use Rattle.lalrpop_norm_model.specs.TypeRelation as model
 use Rattle.lalrpop_norm_model.specs.TypeTables.{both}
-use Rattle.lalrpop_norm_tyinfer_table.specs.declared.clauses.Clause.{Clause}
-use Rattle.lalrpop_norm_tyinfer_table.specs.declared.clauses.Clause.TheVariants.{Declared, Sources, Location}
+use Rattle.lalrpop_norm_tyinfer_table.specs.declared.type_sources.TypeSource.{TypeSource}
+use Rattle.lalrpop_norm_tyinfer_table.specs.declared.type_sources.TypeSource.TheVariants.{Declared, Sources, Location}
 use Rattle.lalrpop_norm_tyinfer_table.specs.TableValues.{kind_in, type_in}
 
 -- the type of the values of these symbols
 abbrev pub type_of_sources : List Kind → TypeData
 type_of_sources ks = bare_or_tuple (map of_symbol ks)
 
-abbrev pub clause_view : Clause → model.TypeClause
+abbrev pub clause_view : TypeSource → model.TypeClause
 clause_view (Declared t) = model.makes (type_view t.now)
 clause_view (Sources ss) = model.makes (type_of_sources (map (λ t. kind_view t.1.now.kind) ss.items))
 clause_view Location = model.locates

@@ -12,7 +12,7 @@ use Rattle.lalrpop_norm_repr.specs.Tables.{TypeTable}
 use Rattle.lalrpop_norm_model.specs.Expanded.{names_in_kind, symbols_in}
 use Rattle.lalrpop_norm_model.specs.TypeRelation.{TypeClause, makes, locates}
 use Rattle.lalrpop_norm_tyinfer_table.specs.declared.dependents.Dependents.{Dependents}
-use Rattle.lalrpop_norm_tyinfer_table.specs.declared.places.Places.{Places}
+use Rattle.lalrpop_norm_tyinfer_table.specs.declared.waiting.Waiting.{Waiting}
 use Rattle.lalrpop_norm_tyinfer_table.specs.Clauses.{first_in}
 use Rattle.lalrpop_norm_tyinfer_table.specs.TableValues.{type_by_name}
 use Rattle.lalrpop_norm_tyinfer_table.specs.Visits.{Seen, TakesType}
@@ -20,11 +20,11 @@ use Rattle.lalrpop_norm_tyinfer_table.specs.Visits.{Seen, TakesType}
 -- ---- places of rules
 
 -- the place is among these
-abbrev pub has : Places → ℕ → Bool
+abbrev pub has : Waiting → ℕ → Bool
 has p k = contains nat_cmp p.set k
 
 -- the least place is taken out
-pub record TakesLeast (before after : Places) (place : ℕ) : Type 0 where
+pub record TakesLeast (before after : Waiting) (place : ℕ) : Type 0 where
   pub there : has before place ≡ true
   pub least : (k : ℕ) → has before k ≡ true → place ≤ k
   pub rest : (k : ℕ) → has after k ≡ (if place == k then false else has before k)
@@ -63,12 +63,12 @@ abbrev pub IsQuiet : List TypeParameter → TypeTable → Seen → Type 0
 IsQuiet ps tt s = type_by_name tt s.0.name.0 ≡ None → first_in ps tt s.1 ≡ None
 
 -- the rules at other places than these are quiet
-pub record Waits (ps : List TypeParameter) (tt : TypeTable) (ss : List Seen) (waiting : Places) : Type 0 where
+pub record Waits (ps : List TypeParameter) (tt : TypeTable) (ss : List Seen) (waiting : Waiting) : Type 0 where
   pub quiet : (k : ℕ) (s : Seen) → slice_get ss k ≡ Some s → has waiting k ≡ false → IsQuiet ps tt s
   pub within : (k : ℕ) → has waiting k ≡ true → k < length ss
 
 -- Some places are added: those behind the place to the ones of this round, the others to those of the next.
-pub record Wakes (places : List ℕ) (place : ℕ) (now now_after next next_after : Places) : Type 0 where
+pub record Wakes (places : List ℕ) (place : ℕ) (now now_after next next_after : Waiting) : Type 0 where
   pub kept_now : (k : ℕ) → has now k ≡ true → has now_after k ≡ true
   pub kept_next : (k : ℕ) → has next k ≡ true → has next_after k ≡ true
   pub behind : (k : ℕ) → In k places → place < k → has now_after k ≡ true
@@ -78,7 +78,7 @@ pub record Wakes (places : List ℕ) (place : ℕ) (now now_after next next_afte
 
 -- the rule at the place is visited, and where it takes a type those that mention its name wait
 pub record VisitsOne (d : Dependents) (ps : List TypeParameter) (before after : TypeTable) (s : Seen)
-    (place : ℕ) (now now_after next next_after : Places) : Type 0 where
+    (place : ℕ) (now now_after next next_after : Waiting) : Type 0 where
   pub added : Bool
   pub takes : TakesType before after s.0.name.0 (first_in ps before s.1) added
   pub wakes : Wakes (if added then places_of d s.0.name.0 else []) place now now_after next next_after

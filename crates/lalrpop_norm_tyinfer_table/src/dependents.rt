@@ -7,8 +7,8 @@ ghost use Rattle.lalrpop_norm_tyinfer_table.specs.Clauses.{clause_view};
 ghost use Rattle.lalrpop_norm_tyinfer_table.specs.Visits.{rule_seen};
 ghost use Rattle.lalrpop_norm_tyinfer_table.specs.Waiting.{mentioned, mentioned_in, places_of, Notes, Covers};
 
-use crate::clauses::Clause;
 use crate::rules::PlainRule;
+use crate::type_sources::TypeSource;
 use lalrpop_norm_tree::grammar::parse_tree::{
     Atom, NoMemory, NonterminalString, Symbol, SymbolKind, TypeRef,
 };
@@ -170,20 +170,25 @@ impl Dependents {
     }
 
     /// Puts a place under each name that a clause mentions.
-    fn note_clause(&mut self, alloc: Global, clause: &Clause, place: usize) -> Result<(), NoMemory>
+    fn note_clause(
+        &mut self,
+        alloc: Global,
+        clause: &TypeSource,
+        place: usize,
+    ) -> Result<(), NoMemory>
         ensures { OnOk result (Notes self.old self.new (mentioned_in (clause_view clause.now)) place) }
     {
         match clause {
-            Clause::Declared(written) => self.note_type(alloc, written, place),
-            Clause::Sources(sources) => self.note_sources(alloc, sources, place),
-            Clause::Location => Ok(()),
+            TypeSource::Declared(written) => self.note_type(alloc, written, place),
+            TypeSource::Sources(sources) => self.note_sources(alloc, sources, place),
+            TypeSource::Location => Ok(()),
         }
     }
 
     fn note_clauses(
         &mut self,
         alloc: Global,
-        clauses: &[Clause],
+        clauses: &[TypeSource],
         place: usize,
     ) -> Result<(), NoMemory>
         ensures { OnOk result (Notes self.old self.new (mentioned (map clause_view clauses.now)) place) }

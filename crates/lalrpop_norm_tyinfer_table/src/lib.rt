@@ -1,13 +1,13 @@
 //! Type inference up to the table: what the parts of a grammar mean by a table of types, and what a table shows of its rules.
 #![tactic(auto)]
 
-pub mod clauses;
 pub mod dependents;
 pub mod grounded;
 mod named;
 pub mod patterns;
-pub mod places;
 pub mod rules;
 pub mod same;
 pub mod tokens;
+pub mod type_sources;
 pub mod values;
+pub mod waiting;

@@ -4,7 +4,7 @@ ghost use Rattle.lalrpop_norm_tree.specs.Items.{item_view, rule_view};
 ghost use Rattle.lalrpop_norm_model.specs.PlainRules.{rule_of_item};
 ghost use Rattle.lalrpop_norm_tyinfer_table.specs.Visits.{rule_seen, with_clauses};
 
-use crate::clauses::{Clause, rule_clauses};
+use crate::type_sources::{TypeSource, rule_clauses};
 use lalrpop_norm_tree::grammar::parse_tree::{GrammarItem, NoMemory, NonterminalData};
 use std::alloc::Global;
 
@@ -14,7 +14,7 @@ pub struct PlainRule<'g> {
     /// The rule.
     pub data: &'g NonterminalData,
     /// By which it has a type.
-    pub clauses: Vec<Clause<'g>>,
+    pub clauses: Vec<TypeSource<'g>>,
 }
 
 fn plain_rule(alloc: Global, rule: &NonterminalData) -> Result<PlainRule<'_>, NoMemory>

@@ -2,7 +2,7 @@
 use crate::asks::push_no_feature;
 use crate::call::{Call, Last, Pass, call_of};
 use crate::cuts::{push_cut_faults, push_cut_reads, push_cut_writes};
-use crate::outcome::{Form, push_outcome};
+use crate::outcome::{Layout, push_outcome};
 use crate::readings::parts::push_parts;
 use crate::readings::twice::{push_beginnings, push_read_twice};
 use crate::runs::push_run;
@@ -63,12 +63,12 @@ fn push_passes(
 ) -> Result<(), AllocError> {
     match words {
         [first, words @ ..] if first.as_str() == "whole" => {
-            push_passed(alloc, text, passes, last, Form::Whole, words, bytes)
+            push_passed(alloc, text, passes, last, Layout::Whole, words, bytes)
         }
         [first, words @ ..] if first.as_str() == "told" => {
-            push_passed(alloc, text, passes, last, Form::Told, words, bytes)
+            push_passed(alloc, text, passes, last, Layout::Told, words, bytes)
         }
-        _ => push_passed(alloc, text, passes, last, Form::Lines, words, bytes),
+        _ => push_passed(alloc, text, passes, last, Layout::Lines, words, bytes),
     }
 }
 
@@ -84,7 +84,7 @@ fn push_passed(
     text: &mut String,
     passes: &[Pass],
     last: Last,
-    form: Form,
+    layout: Layout,
     words: &[String],
     bytes: &[u8],
 ) -> Result<(), AllocError> {
@@ -104,7 +104,7 @@ fn push_in_session<L: Lexer + Drop>(
     alloc: Global,
     text: &mut String,
     session: Result<Session<L>, WordsError>,
-    form: Form,
+    layout: Layout,
     passes: &[Pass],
     last: Last,
     bytes: &[u8],

@@ -20,7 +20,7 @@ use std::alloc::{AllocError, Global};
 
 /// How an outcome is printed.
 #[derive(Clone, Copy)]
-pub(crate) enum Form {
+pub(crate) enum Layout {
     /// In lines.
     Lines,
     /// Whole, as its `Debug` has it.
@@ -34,7 +34,7 @@ pub(crate) fn push_outcome<L: Lexer>(
     alloc: Global,
     text: &mut String,
     session: &Session<L>,
-    form: Form,
+    layout: Layout,
     passes: &[Pass],
     last: Last,
     bytes: &[u8],
@@ -60,7 +60,7 @@ fn push_answered<L: Lexer>(
     alloc: Global,
     text: &mut String,
     session: &Session<L>,
-    form: Form,
+    layout: Layout,
     last: Last,
     answer: Result<Grammar, Stopped>,
 ) -> Result<(), AllocError> {
@@ -73,7 +73,7 @@ fn push_answered<L: Lexer>(
 /// The text of the value that was answered, or the failure. Either ends.
 fn push_answer_of<T: Drop, F: FnOnce(&mut String, &T) -> Result<(), AllocError>>(
     text: &mut String,
-    form: Form,
+    layout: Layout,
     answer: Result<T, Stopped>,
     push: F,
 ) -> Result<(), AllocError>
@@ -85,7 +85,7 @@ fn push_answer_of<T: Drop, F: FnOnce(&mut String, &T) -> Result<(), AllocError>>
     }
 }
 
-fn push_stopped(text: &mut String, form: Form, stopped: Stopped) -> Result<(), AllocError> {
+fn push_stopped(text: &mut String, layout: Layout, stopped: Stopped) -> Result<(), AllocError> {
     let done = push_reason(text, form, &stopped);
     ended(stopped, done)
 }
@@ -95,7 +95,7 @@ fn push_last<L: Lexer>(
     alloc: Global,
     text: &mut String,
     session: &Session<L>,
-    form: Form,
+    layout: Layout,
     last: Last,
     tree: Grammar,
 ) -> Result<(), AllocError> {
@@ -127,7 +127,7 @@ fn push_last<L: Lexer>(
 
 fn push_pass(
     text: &mut String,
-    form: Form,
+    layout: Layout,
     pass: Pass,
     answer: Result<Grammar, Stopped>,
 ) -> Result<(), AllocError> {
@@ -138,7 +138,7 @@ fn push_pass(
 
 fn push_tree_after(
     text: &mut String,
-    form: Form,
+    layout: Layout,
     pass: Pass,
     tree: &Grammar,
 ) -> Result<(), AllocError> {
@@ -149,10 +149,10 @@ fn push_tree_after(
     }
 }
 
-fn push_tree_as(text: &mut String, form: Form, tree: &Grammar) -> Result<(), AllocError> {
+fn push_tree_as(text: &mut String, layout: Layout, tree: &Grammar) -> Result<(), AllocError> {
     match form {
-        Form::Lines | Form::Told => push_tree(text, tree),
-        Form::Whole => push_whole_tree(text, tree),
+        Layout::Lines | Layout::Told => push_tree(text, tree),
+        Layout::Whole => push_whole_tree(text, tree),
     }
 }
 
@@ -160,7 +160,7 @@ fn push_tree_as(text: &mut String, form: Form, tree: &Grammar) -> Result<(), All
 fn push_typed(
     alloc: Global,
     text: &mut String,
-    form: Form,
+    layout: Layout,
     tree: Grammar,
 ) -> Result<(), AllocError> {
     push_answer_of(text, form, typed(alloc, tree), |text, typed| {
@@ -170,13 +170,13 @@ fn push_typed(
 
 fn push_types_as(
     text: &mut String,
-    form: Form,
+    layout: Layout,
     typed: &(Grammar, Types),
 ) -> Result<(), AllocError> {
     let (tree, types) = typed;
     match form {
-        Form::Lines | Form::Told => push_types(text, tree, types),
-        Form::Whole => push_whole_types(text, types),
+        Layout::Lines | Layout::Told => push_types(text, tree, types),
+        Layout::Whole => push_whole_types(text, types),
     }
 }
 
@@ -185,7 +185,7 @@ fn push_is_typed<L>(
     alloc: Global,
     text: &mut String,
     session: &Session<L>,
-    form: Form,
+    layout: Layout,
     tree: Grammar,
 ) -> Result<(), AllocError> {
     match typed(alloc, tree) {
@@ -209,7 +209,7 @@ fn push_is_typed_line<L>(
 
 fn push_normalized(
     text: &mut String,
-    form: Form,
+    layout: Layout,
     answer: Result<repr::Grammar, Stopped>,
 ) -> Result<(), AllocError> {
     push_answer_of(text, form, answer, |text, lowered| {
@@ -219,19 +219,19 @@ fn push_normalized(
 
 fn push_lowered_as(
     text: &mut String,
-    form: Form,
+    layout: Layout,
     lowered: &repr::Grammar,
 ) -> Result<(), AllocError> {
     match form {
-        Form::Lines | Form::Told => push_lowered(text, lowered),
-        Form::Whole => push_whole_lowered(text, lowered),
+        Layout::Lines | Layout::Told => push_lowered(text, lowered),
+        Layout::Whole => push_whole_lowered(text, lowered),
     }
 }
 
 fn push_copied(
     alloc: Global,
     text: &mut String,
-    form: Form,
+    layout: Layout,
     answer: Result<repr::Grammar, Stopped>,
 ) -> Result<(), AllocError> {
     push_answer_of(text, form, answer, |text, lowered| {
@@ -250,7 +250,7 @@ fn push_lowered_copy_or_memory(
     }
 }
 
-fn push_copy(text: &mut String, form: Form, tree: &Grammar) -> Result<(), AllocError> {
+fn push_copy(text: &mut String, layout: Layout, tree: &Grammar) -> Result<(), AllocError> {
     push_or(
         text,
         tree.clone(),
@@ -271,7 +271,7 @@ fn push_texts_or_memory(
 }
 
 /// Why there is no answer.
-fn push_reason(text: &mut String, form: Form, stopped: &Stopped) -> Result<(), AllocError> {
+fn push_reason(text: &mut String, layout: Layout, stopped: &Stopped) -> Result<(), AllocError> {
     match stopped {
         Stopped::Failed(failure) => push_failure(text, form, failure),
         Stopped::NotExpanded => text.push_str("not expanded\n"),
@@ -279,10 +279,14 @@ fn push_reason(text: &mut String, form: Form, stopped: &Stopped) -> Result<(), A
 }
 
 /// The number of a refusal and where it stands; its message too, where that is asked for.
-fn push_failure(text: &mut String, form: Form, failure: &NormFailure) -> Result<(), AllocError> {
+fn push_failure(
+    text: &mut String,
+    layout: Layout,
+    failure: &NormFailure,
+) -> Result<(), AllocError> {
     match form {
-        Form::Told => push_told(text, failure),
-        Form::Lines | Form::Whole => push_place(text, failure),
+        Layout::Told => push_told(text, failure),
+        Layout::Lines | Layout::Whole => push_place(text, failure),
     }
 }
 

@@ -4,7 +4,7 @@ ghost use Rattle.serde_json.specs.Data.{array};
 ghost use Rattle.json_document.specs.View.{view};
 ghost use Rattle.lalrpop_norm_tree_parts.specs.Attributes.{argument_view, attribute_view, attributes_view};
 ghost use Rattle.lalrpop_norm_json_shapes.specs.Shapes as shape;
-ghost use Rattle.lalrpop_norm_json_shapes.specs.Shapes.{is, fits, place, many};
+ghost use Rattle.lalrpop_norm_json_shapes.specs.Shapes.{is, fits, slot, many};
 ghost use Rattle.lalrpop_norm_json.specs.Forms.{argument_form, attribute_form, attributes_form};
 
 use super::names::{atom, span, string};
@@ -51,7 +51,7 @@ fn attribute(alloc: Global, value: Value<'_, '_>) -> Result<Attribute, TreeError
 #[tactic(auto, using(lalrpop_norm_json_shapes::proofs::Refusals::refusals))]
 pub(super) fn attributes(alloc: Global, value: Value<'_, '_>) -> Result<Vec<Attribute>, TreeError>
     ensures ok { IfOk result (λ xs. view value.entry ≡ array (attributes_form (attributes_view xs.items))) }
-    ensures err { IsErrOf result TreeError.NotATree → fits (place (many shape.attribute)) (view value.entry) ≡ false }
+    ensures err { IsErrOf result TreeError.NotATree → fits (slot (many shape.attribute)) (view value.entry) ≡ false }
 {
     let (count, mut values) = counted_items(value)?;
     let mut attributes = Vec::with_capacity(alloc, count)?;

@@ -6,7 +6,7 @@ ghost use Rattle.json_document.specs.View.{view};
 ghost use Rattle.lalrpop_norm_tree.specs.Items.{item_view, grammar_view};
 ghost use Rattle.lalrpop_norm_json_shapes.specs.Parts.{case_form};
 ghost use Rattle.lalrpop_norm_json_shapes.specs.Shapes as shape;
-ghost use Rattle.lalrpop_norm_json_shapes.specs.Shapes.{is, fits, place, many};
+ghost use Rattle.lalrpop_norm_json_shapes.specs.Shapes.{is, fits, slot, many};
 ghost use Rattle.lalrpop_norm_json.specs.ItemForms.{item_form, items_form, grammar_fields, grammar_form};
 
 use super::attributes::attributes;
@@ -47,7 +47,7 @@ fn item_of(alloc: Global, case: Case<'_, '_>) -> Result<GrammarItem, TreeError>
 #[tactic(auto, using(lalrpop_norm_json_shapes::proofs::Refusals::refusals))]
 fn grammar_items(alloc: Global, value: Value<'_, '_>) -> Result<Vec<GrammarItem>, TreeError>
     ensures ok { IfOk result (λ is. items_form (map item_view is.items) ≡ Some (view value.entry)) }
-    ensures err { IsErrOf result TreeError.NotATree → fits (place (many shape.grammar_item)) (view value.entry) ≡ false }
+    ensures err { IsErrOf result TreeError.NotATree → fits (slot (many shape.grammar_item)) (view value.entry) ≡ false }
 {
     let (count, mut values) = counted_items(value)?;
     let mut read = Vec::with_capacity(alloc, count)?;

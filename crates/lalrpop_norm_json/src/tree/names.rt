@@ -1,4 +1,4 @@
-//! Places, names, terminals and paths.
+//! PlacedAlternatives, names, terminals and paths.
 ghost use Rattle.std.specs.Prelude.{◌≡◌, IfOk, IsErrOf, string_bytes, false};
 ghost use Rattle.serde_json.specs.Data.{string};
 ghost use Rattle.json_document.specs.View.{view};

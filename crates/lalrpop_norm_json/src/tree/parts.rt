@@ -2,7 +2,7 @@
 ghost use Rattle.std.specs.Prelude.{◌≡◌, [], ◌∷◌, ◌++◌, Ok, IfOk, IsErrOf, false};
 ghost use Rattle.serde_json.specs.Data.{Data};
 ghost use Rattle.json_document.specs.View.{view};
-ghost use Rattle.lalrpop_norm_json_shapes.specs.Shapes.{ShapeName, is, fits, place, many, maybe};
+ghost use Rattle.lalrpop_norm_json_shapes.specs.Shapes.{ShapeName, is, fits, slot, many, maybe};
 ghost use Rattle.lalrpop_norm_json.specs.Json.{list_form, maybe_form};
 
 use json_document::Value;
@@ -28,7 +28,7 @@ pub(super) fn maybe<T: FromValue>(
     value: Value<'_, '_>,
 ) -> Result<Option<T>, TreeError>
     ensures ok { IfOk result (λ o. view value.entry ≡ maybe_form T.FromValue.form o) }
-    ensures err { IsErrOf result TreeError.NotATree → fits (place (maybe T.FromValue.named)) (view value.entry) ≡ false }
+    ensures err { IsErrOf result TreeError.NotATree → fits (slot (maybe T.FromValue.named)) (view value.entry) ≡ false }
 {
     match present(value) {
         None => Ok(None),
@@ -55,7 +55,7 @@ pub(super) fn list<T: FromValue + Drop>(
     value: Value<'_, '_>,
 ) -> Result<Vec<T>, TreeError>
     ensures ok { IfOk result (λ xs. view value.entry ≡ list_form T.FromValue.form xs.items) }
-    ensures err { IsErrOf result TreeError.NotATree → fits (place (many T.FromValue.named)) (view value.entry) ≡ false }
+    ensures err { IsErrOf result TreeError.NotATree → fits (slot (many T.FromValue.named)) (view value.entry) ≡ false }
 {
     let (count, mut values) = counted_items(value)?;
     let mut read = Vec::with_capacity(alloc, count)?;

@@ -6,7 +6,7 @@ ghost use Rattle.lalrpop_norm_tree.specs.Types.{type_view};
 ghost use Rattle.lalrpop_norm_tree_parts.specs.Paths.{path_view};
 ghost use Rattle.lalrpop_norm_tree_patterns.specs.Patterns.{pattern_kind_view, pattern_view, patterns_view, field_view, fields_view};
 ghost use Rattle.lalrpop_norm_json_shapes.specs.Shapes as shape;
-ghost use Rattle.lalrpop_norm_json_shapes.specs.Shapes.{is, fits, place, one, many, arrayed, row};
+ghost use Rattle.lalrpop_norm_json_shapes.specs.Shapes.{is, fits, slot, one, many, arrayed, row};
 ghost use Rattle.lalrpop_norm_json.specs.Json as json;
 ghost use Rattle.lalrpop_norm_json.specs.Json.{variant};
 ghost use Rattle.lalrpop_norm_json.specs.Forms.{path_form};
@@ -112,7 +112,7 @@ fn field_patterns(
     value: Value<'_, '_>,
 ) -> Result<Vec<FieldPattern<TypeRef>>, TreeError>
     ensures ok { IfOk result (λ fs. view value.entry ≡ array (field_patterns_form (fields_view type_view fs.items))) }
-    ensures err { IsErrOf result TreeError.NotATree → fits (place (many shape.field_pattern)) (view value.entry) ≡ false }
+    ensures err { IsErrOf result TreeError.NotATree → fits (slot (many shape.field_pattern)) (view value.entry) ≡ false }
 {
     let (count, mut values) = counted_items(value)?;
     let mut fields = Vec::with_capacity(alloc, count)?;
@@ -138,7 +138,7 @@ pub(super) fn pattern(alloc: Global, value: Value<'_, '_>) -> Result<Pattern<Typ
 #[tactic(auto, using(lalrpop_norm_json_shapes::proofs::Refusals::refusals))]
 fn patterns(alloc: Global, value: Value<'_, '_>) -> Result<Vec<Pattern<TypeRef>>, TreeError>
     ensures ok { IfOk result (λ ps. view value.entry ≡ array (patterns_form (patterns_view type_view ps.items))) }
-    ensures err { IsErrOf result TreeError.NotATree → fits (place (many shape.pattern)) (view value.entry) ≡ false }
+    ensures err { IsErrOf result TreeError.NotATree → fits (slot (many shape.pattern)) (view value.entry) ≡ false }
 {
     let (count, mut values) = counted_items(value)?;
     let mut patterns = Vec::with_capacity(alloc, count)?;

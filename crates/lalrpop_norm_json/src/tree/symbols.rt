@@ -4,7 +4,7 @@ ghost use Rattle.serde_json.specs.Data.{array};
 ghost use Rattle.json_document.specs.View.{view};
 ghost use Rattle.lalrpop_norm_tree.specs.Symbols.{kind_view, symbol_view, expr_view, parts_view, argument_pattern_view, argument_patterns_view, tuple_view};
 ghost use Rattle.lalrpop_norm_json_shapes.specs.Shapes as shape;
-ghost use Rattle.lalrpop_norm_json_shapes.specs.Shapes.{is, fits, place, many};
+ghost use Rattle.lalrpop_norm_json_shapes.specs.Shapes.{is, fits, slot, many};
 ghost use Rattle.lalrpop_norm_json.specs.Json.{variant};
 ghost use Rattle.lalrpop_norm_json.specs.SymbolForms.{op_form, name_form, argument_pattern_form, argument_patterns_form, tuple_form, kind_form, part_form, parts_form, group_form};
 
@@ -77,7 +77,7 @@ fn tuple(alloc: Global, value: Value<'_, '_>) -> Result<Tuple, TreeError>
 #[tactic(auto, using(lalrpop_norm_json_shapes::proofs::Refusals::refusals))]
 fn argument_patterns(alloc: Global, value: Value<'_, '_>) -> Result<Vec<ArgPattern>, TreeError>
     ensures ok { IfOk result (λ ps. view value.entry ≡ array (argument_patterns_form (argument_patterns_view ps.items))) }
-    ensures err { IsErrOf result TreeError.NotATree → fits (place (many shape.argument_pattern)) (view value.entry) ≡ false }
+    ensures err { IsErrOf result TreeError.NotATree → fits (slot (many shape.argument_pattern)) (view value.entry) ≡ false }
 {
     let (count, mut values) = counted_items(value)?;
     let mut patterns = Vec::with_capacity(alloc, count)?;
@@ -204,7 +204,7 @@ pub(super) fn group(alloc: Global, value: Value<'_, '_>) -> Result<ExprSymbol, T
 #[tactic(auto, using(lalrpop_norm_json_shapes::proofs::Refusals::refusals))]
 fn symbols(alloc: Global, value: Value<'_, '_>) -> Result<Vec<Symbol>, TreeError>
     ensures ok { IfOk result (λ ss. view value.entry ≡ array (parts_form (parts_view ss.items))) }
-    ensures err { IsErrOf result TreeError.NotATree → fits (place (many shape.symbol)) (view value.entry) ≡ false }
+    ensures err { IsErrOf result TreeError.NotATree → fits (slot (many shape.symbol)) (view value.entry) ≡ false }
 {
     let (count, mut values) = counted_items(value)?;
     let mut symbols = Vec::with_capacity(alloc, count)?;

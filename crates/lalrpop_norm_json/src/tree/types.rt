@@ -5,7 +5,7 @@ ghost use Rattle.json_document.specs.View.{view};
 ghost use Rattle.lalrpop_norm_tree_parts.specs.Paths.{path_view};
 ghost use Rattle.lalrpop_norm_tree.specs.Types.{type_view, types_view, maybe_of};
 ghost use Rattle.lalrpop_norm_json_shapes.specs.Shapes as shape;
-ghost use Rattle.lalrpop_norm_json_shapes.specs.Shapes.{is, fits, place, one, many, maybe, struct};
+ghost use Rattle.lalrpop_norm_json_shapes.specs.Shapes.{is, fits, slot, one, many, maybe, struct};
 ghost use Rattle.lalrpop_norm_json.specs.Json.{fields, variant};
 ghost use Rattle.lalrpop_norm_json.specs.Forms.{path_form};
 ghost use Rattle.lalrpop_norm_json.specs.TypeForms.{type_form, types_form, maybe_type_form};
@@ -145,7 +145,7 @@ fn function_type(alloc: Global, value: Value<'_, '_>) -> Result<TypeRef, TreeErr
 #[tactic(auto, using(lalrpop_norm_json_shapes::proofs::Refusals::refusals))]
 fn maybe_type_ref(alloc: Global, value: Value<'_, '_>) -> Result<Option<Box<TypeRef>>, TreeError>
     ensures ok { IfOk result (λ o. view value.entry ≡ maybe_type_form (maybe_of (option_map (λ b. type_view b.value) o))) }
-    ensures err { IsErrOf result TreeError.NotATree → fits (place (maybe shape.type)) (view value.entry) ≡ false }
+    ensures err { IsErrOf result TreeError.NotATree → fits (slot (maybe shape.type)) (view value.entry) ≡ false }
 {
     match present(value) {
         None => Ok(None),
@@ -157,7 +157,7 @@ fn maybe_type_ref(alloc: Global, value: Value<'_, '_>) -> Result<Option<Box<Type
 #[tactic(auto, using(lalrpop_norm_json_shapes::proofs::Refusals::refusals))]
 fn type_refs(alloc: Global, value: Value<'_, '_>) -> Result<Vec<TypeRef>, TreeError>
     ensures ok { IfOk result (λ ts. view value.entry ≡ array (types_form (types_view ts.items))) }
-    ensures err { IsErrOf result TreeError.NotATree → fits (place (many shape.type)) (view value.entry) ≡ false }
+    ensures err { IsErrOf result TreeError.NotATree → fits (slot (many shape.type)) (view value.entry) ≡ false }
 {
     let (count, mut values) = counted_items(value)?;
     let mut types = Vec::with_capacity(alloc, count)?;

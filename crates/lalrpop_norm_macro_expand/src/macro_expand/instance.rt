@@ -1,4 +1,4 @@
-//! The rules of macro calls: those alternatives of the macro whose conditions hold, with the arguments put in.
+//! The rules of macro calls: those alternatives of the macro whose conditions hold, with the arguments substituted.
 ghost use Rattle.std.specs.Prelude.{◌≡◌, ◌++◌, OnOk, map, flat_map};
 ghost use Rattle.lalrpop_norm_tree.specs.Symbols.{call, kind_view, parts_view};
 ghost use Rattle.lalrpop_norm_tree.specs.Items.{AlternativeData, alternative_view, rule_view};
@@ -13,7 +13,7 @@ use lalrpop_norm_faults::NormResult;
 use lalrpop_norm_macro_expand_met::expander::Met;
 use lalrpop_norm_macro_expand_rules::alternatives::{instance_alternative, instance_type};
 use lalrpop_norm_macro_expand_rules::conditions::is_kept;
-use lalrpop_norm_macro_expand_rules::put_in::Bindings;
+use lalrpop_norm_macro_expand_rules::substituted::Bindings;
 use lalrpop_norm_tree::grammar::parse_tree::{
     Alternative, NonterminalData, NonterminalString, Span, Symbol,
 };

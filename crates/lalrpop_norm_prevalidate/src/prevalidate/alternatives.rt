@@ -6,7 +6,7 @@ ghost use Rattle.lalrpop_norm_tree.specs.Symbols.{kind_view, parts_view};
 ghost use Rattle.lalrpop_norm_faults.specs.Faults.{Refuses};
 ghost use Rattle.lalrpop_norm_prevalidate.specs.AlternativeFaults.{alternative_faults, unknown_alternative_faults, is_known_on_alternative, place_inside, first_inside, action_faults, between_braces_faults};
 
-use super::Place;
+use super::Surroundings;
 use super::symbols::validate_list;
 use lalrpop_norm_faults::{FaultKind, NormResult, refusal};
 use lalrpop_norm_session::norm_util::check_between_braces;
@@ -18,12 +18,12 @@ use std::alloc::Global;
 #[tactic(auto, unfolding(crate::specs::AlternativeFaults::alternative_faults))]
 pub(super) fn validate_alternative(
     alloc: Global,
-    place: Place,
+    around: Surroundings,
     alternative: &Alternative,
 ) -> NormResult<()>
-    ensures { Refuses result (alternative_faults place (alternative_view alternative.now)) }
+    ensures { Refuses result (alternative_faults around (alternative_view alternative.now)) }
 {
-    validate_list(alloc, place, &alternative.expr.symbols)?;
+    validate_list(alloc, around, &alternative.expr.symbols)?;
     validate_attributes(alloc, &alternative.attributes)?;
     let inside = first_inside(&alternative.expr.symbols);
     validate_action(alloc, alternative.span, inside, &alternative.action)?;

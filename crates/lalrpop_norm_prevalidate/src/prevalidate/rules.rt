@@ -8,7 +8,7 @@ ghost use Rattle.lalrpop_norm_prevalidate.specs.AlternativeFaults.{alternative_f
 ghost use Rattle.lalrpop_norm_prevalidate.specs.GrammarFaults.{is_known_on_rule, rule_attribute_faults, attributes_faults, rule_faults};
 ghost use Rattle.lalrpop_norm_precedence_steps.specs.LevelFaults.{level_faults};
 
-use super::Place;
+use super::Surroundings;
 use super::alternatives::validate_alternative;
 use super::cfg::validate_cfg;
 use super::types::some_holds;
@@ -108,13 +108,13 @@ fn validate_attributes(alloc: Global, public: bool, attributes: &[Attribute]) ->
 
 fn validate_alternatives(
     alloc: Global,
-    place: Place,
+    around: Surroundings,
     alternatives: &[Alternative],
 ) -> NormResult<()>
-    ensures { Refuses result (flat_map (alternative_faults place) (map alternative_view alternatives.now)) }
+    ensures { Refuses result (flat_map (alternative_faults around) (map alternative_view alternatives.now)) }
 {
     for alternative in alternatives {
-        validate_alternative(alloc, place, alternative)?;
+        validate_alternative(alloc, around, alternative)?;
     }
     Ok(())
 }
@@ -155,14 +155,18 @@ pub(super) fn check_type(alloc: Global, holds: bool, span: Span) -> NormResult<(
 }
 
 #[tactic(auto, unfolding(crate::specs::GrammarFaults::rule_faults))]
-pub(super) fn validate_rule(alloc: Global, place: Place, rule: &NonterminalData) -> NormResult<()>
-    ensures { Refuses result (rule_faults place (rule_view rule.now)) }
+pub(super) fn validate_rule(
+    alloc: Global,
+    around: Surroundings,
+    rule: &NonterminalData,
+) -> NormResult<()>
+    ensures { Refuses result (rule_faults around (rule_view rule.now)) }
 {
     let public = rule.visibility.is_pub();
     check_public(alloc, public && rule.is_macro_def(), rule.span)?;
     check_type(alloc, some_holds(&rule.type_decl), rule.span)?;
     validate_attributes(alloc, public, &rule.attributes)?;
     validate_levels(alloc, rule)?;
-    validate_alternatives(alloc, place, &rule.alternatives)?;
+    validate_alternatives(alloc, around, &rule.alternatives)?;
     Ok(())
 }

@@ -4,56 +4,65 @@ ghost use Rattle.lalrpop_norm_faults.specs.Faults.{Refuses, fault_if};
 ghost use Rattle.lalrpop_norm_prevalidate.specs.SymbolFaults.{call_faults, terminal_faults, kind_faults, part_faults, parts_faults, list_faults, beside_faults, name_of, is_that_name, first_chosen, has_named, named_at, again, lesser_name, least_twice};
 ghost use Rattle.lalrpop_norm_tree.specs.Symbols.{kind_view, symbol_view, parts_view};
 
-use super::Place;
+use super::Surroundings;
 use lalrpop_norm_faults::{FaultKind, NormResult, refusal};
 use lalrpop_norm_session::norm_util::is_chosen_kind;
 use lalrpop_norm_tree::grammar::parse_tree::{Atom, Span, Symbol, SymbolKind, TerminalString};
 use std::alloc::Global;
 
 #[cycle(symbols)]
-pub(super) fn validate_list(alloc: Global, place: Place, symbols: &[Symbol]) -> NormResult<()>
-    ensures { Refuses result (list_faults place (parts_view symbols.now)) }
+pub(super) fn validate_list(
+    alloc: Global,
+    around: Surroundings,
+    symbols: &[Symbol],
+) -> NormResult<()>
+    ensures { Refuses result (list_faults around (parts_view symbols.now)) }
 {
-    validate_each(alloc, place, symbols)?;
+    validate_each(alloc, around, symbols)?;
     validate_beside(alloc, symbols)
 }
 
 #[cycle(symbols)]
-fn validate_each(alloc: Global, place: Place, symbols: &[Symbol]) -> NormResult<()>
-    ensures { Refuses result (parts_faults place (parts_view symbols.now)) }
+fn validate_each(alloc: Global, around: Surroundings, symbols: &[Symbol]) -> NormResult<()>
+    ensures { Refuses result (parts_faults around (parts_view symbols.now)) }
 {
     for symbol in symbols {
-        validate_symbol(alloc, place, symbol)?;
+        validate_symbol(alloc, around, symbol)?;
     }
     Ok(())
 }
 
 #[cycle(symbols)]
-fn validate_symbol(alloc: Global, place: Place, symbol: &Symbol) -> NormResult<()>
-    ensures { Refuses result (part_faults place (symbol_view symbol.now)) }
+fn validate_symbol(alloc: Global, around: Surroundings, symbol: &Symbol) -> NormResult<()>
+    ensures { Refuses result (part_faults around (symbol_view symbol.now)) }
 {
-    validate_kind(alloc, place, symbol.span, &symbol.kind)
+    validate_kind(alloc, around, symbol.span, &symbol.kind)
 }
 
 #[cycle(symbols)]
-fn validate_kind(alloc: Global, place: Place, span: Span, kind: &SymbolKind) -> NormResult<()>
-    ensures { Refuses result (kind_faults place span (kind_view kind.now)) }
+fn validate_kind(
+    alloc: Global,
+    around: Surroundings,
+    span: Span,
+    kind: &SymbolKind,
+) -> NormResult<()>
+    ensures { Refuses result (kind_faults around span (kind_view kind.now)) }
 {
     match kind {
-        SymbolKind::Expr(expr) => validate_list(alloc, place, &expr.symbols),
+        SymbolKind::Expr(expr) => validate_list(alloc, around, &expr.symbols),
         SymbolKind::AmbiguousId(_) | SymbolKind::Nonterminal(_) => Ok(()),
         SymbolKind::Terminal(terminal) => validate_terminal(alloc, span, terminal),
-        SymbolKind::Error => validate_error(alloc, place.has_ascent, span),
+        SymbolKind::Error => validate_error(alloc, around.has_ascent, span),
         SymbolKind::Macro(call) => {
             validate_call(alloc, span, &call.args)?;
-            validate_each(alloc, place, &call.args)
+            validate_each(alloc, around, &call.args)
         }
-        SymbolKind::Repeat(repeat) => validate_symbol(alloc, place, &repeat.symbol),
-        SymbolKind::Choose(symbol) => validate_symbol(alloc, place, symbol),
-        SymbolKind::Name(_, symbol) => validate_symbol(alloc, place, symbol),
-        SymbolKind::Tuple(_, symbol) => validate_symbol(alloc, place, symbol),
+        SymbolKind::Repeat(repeat) => validate_symbol(alloc, around, &repeat.symbol),
+        SymbolKind::Choose(symbol) => validate_symbol(alloc, around, symbol),
+        SymbolKind::Name(_, symbol) => validate_symbol(alloc, around, symbol),
+        SymbolKind::Tuple(_, symbol) => validate_symbol(alloc, around, symbol),
         SymbolKind::Lookahead | SymbolKind::Lookbehind => {
-            validate_location(alloc, place.lacks_location, span)
+            validate_location(alloc, around.lacks_location, span)
         }
     }
 }

@@ -14,9 +14,9 @@ use lalrpop_norm_repr::grammar::repr::{TypeRepr, Types};
 use lalrpop_norm_tree::grammar::parse_tree::{
     Alternative, NonterminalData, NonterminalString, Span, TypeParameter,
 };
-use lalrpop_norm_tyinfer_table::clauses::alternative_clause;
 use lalrpop_norm_tyinfer_table::rules::PlainRule;
 use lalrpop_norm_tyinfer_table::same::is_same_type;
+use lalrpop_norm_tyinfer_table::type_sources::alternative_clause;
 use std::alloc::Global;
 
 /// Refuses an alternative of a rule without a declared type that gives another type than the rule has.

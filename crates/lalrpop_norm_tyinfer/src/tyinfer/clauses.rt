@@ -7,7 +7,7 @@ ghost use Rattle.lalrpop_norm_tyinfer_table.specs.Clauses.{kinds_in, sources_in,
 
 use lalrpop_norm_repr::grammar::repr::{TypeRepr, Types};
 use lalrpop_norm_tree::grammar::parse_tree::{NoMemory, Symbol, TypeParameter};
-use lalrpop_norm_tyinfer_table::clauses::Clause;
+use lalrpop_norm_tyinfer_table::type_sources::TypeSource;
 use lalrpop_norm_tyinfer_table::values::{copy_of, kind_value, type_value};
 use std::alloc::Global;
 
@@ -16,14 +16,14 @@ pub(crate) fn clause_value(
     alloc: Global,
     parameters: &[TypeParameter],
     types: &Types,
-    clause: &Clause,
+    clause: &TypeSource,
 ) -> Result<Option<TypeRepr>, NoMemory>
     ensures { IfOk result (λ o. option_map repr_view o ≡ clause_in parameters.now (type_table types.now) (clause_view clause.now)) }
 {
     match clause {
-        Clause::Declared(written) => type_value(alloc, parameters, types, written),
-        Clause::Sources(sources) => sources_value(alloc, types, sources),
-        Clause::Location => location_value(types),
+        TypeSource::Declared(written) => type_value(alloc, parameters, types, written),
+        TypeSource::Sources(sources) => sources_value(alloc, types, sources),
+        TypeSource::Location => location_value(types),
     }
 }
 
@@ -72,7 +72,7 @@ pub(crate) fn first_value(
     alloc: Global,
     parameters: &[TypeParameter],
     types: &Types,
-    clauses: &[Clause],
+    clauses: &[TypeSource],
 ) -> Result<Option<TypeRepr>, NoMemory>
     ensures { IfOk result (λ o. option_map repr_view o ≡ first_in parameters.now (type_table types.now) (map clause_view clauses.now)) }
 {

@@ -11,8 +11,8 @@ use crate::tyinfer::clauses::first_value;
 use lalrpop_norm_repr::grammar::repr::{TypeRepr, Types};
 use lalrpop_norm_tree::grammar::parse_tree::{NoMemory, NonterminalString, TypeParameter};
 use lalrpop_norm_tyinfer_table::dependents::Dependents;
-use lalrpop_norm_tyinfer_table::places::Places;
 use lalrpop_norm_tyinfer_table::rules::PlainRule;
+use lalrpop_norm_tyinfer_table::waiting::Waiting;
 use std::alloc::Global;
 
 /// Gives a nonterminal that has no type yet its type.
@@ -65,7 +65,12 @@ fn visit(
 }
 
 /// Lets some places wait for a visit: those behind the place in this round, the others in the next one.
-fn wake(places: &[usize], place: usize, now: &mut Places, next: &mut Places) -> Result<(), NoMemory>
+fn wake(
+    places: &[usize],
+    place: usize,
+    now: &mut Waiting,
+    next: &mut Waiting,
+) -> Result<(), NoMemory>
     ensures { OnOk result (Wakes places.now place now.old now.new next.old next.new) }
 {
     for other in places {
@@ -74,7 +79,12 @@ fn wake(places: &[usize], place: usize, now: &mut Places, next: &mut Places) -> 
     Ok(())
 }
 
-fn wake_one(other: usize, place: usize, now: &mut Places, next: &mut Places) -> Result<(), NoMemory>
+fn wake_one(
+    other: usize,
+    place: usize,
+    now: &mut Waiting,
+    next: &mut Waiting,
+) -> Result<(), NoMemory>
     ensures { OnOk result (Wakes (other ∷ []) place now.old now.new next.old next.new) }
 {
     if place < other {
@@ -91,8 +101,8 @@ fn step(
     dependents: &Dependents,
     rule: &PlainRule,
     place: usize,
-    now: &mut Places,
-    next: &mut Places,
+    now: &mut Waiting,
+    next: &mut Waiting,
 ) -> Result<(), NoMemory>
     ensures { OnOk result (VisitsOne dependents.now parameters.now (type_table types.old) (type_table types.new) (rule_seen rule.now) place now.old now.new next.old next.new) }
 {
@@ -111,14 +121,14 @@ fn round(
     types: &mut Types,
     rules: &[PlainRule],
     dependents: &Dependents,
-    now: &mut Places,
-) -> Result<Places, NoMemory>
+    now: &mut Waiting,
+) -> Result<Waiting, NoMemory>
     requires covers { Covers dependents.now (map rule_seen rules.now) }
     requires waits { Waits parameters.now (type_table types.old) (map rule_seen rules.now) now.old }
     ensures passes { IfOk result (λ next. Passes parameters.now (type_table types.old) (type_table types.new) (map rule_seen rules.now)) }
     ensures waits { IfOk result (λ next. Waits parameters.now (type_table types.new) (map rule_seen rules.now) next) }
 {
-    let mut next = Places::new(alloc);
+    let mut next = Waiting::new(alloc);
     let mut from = 0;
     while let Some(place) = now.take_least() {
         step(
@@ -146,7 +156,7 @@ pub(crate) fn run_rounds(
     ensures { OnOk result (EndsRounds parameters.now (type_table types.old) (type_table types.new) (map rule_seen rules.now) (length rules.now)) }
 {
     let dependents = Dependents::of(alloc, rules)?;
-    let mut now = Places::below(alloc, rules.len())?;
+    let mut now = Waiting::below(alloc, rules.len())?;
     for count in 0..rules.len() {
         now = round(alloc, parameters, types, rules, &dependents, &mut now)?;
         if now.is_empty() {

@@ -5,4 +5,4 @@ use Rattle.lalrpop_norm_prevalidate.specs.Walks.{items_along}
 use Rattle.lalrpop_norm_prevalidate.proofs.prevalidate.validate_items.Given as goal
 
 abbrev pub invariant-loop-item : goal.invariant-loop-item
-invariant-loop-item l = items_along l.place l.blocks l.span l.seen_match l.seen_extern (map item_view (drop l.item-index l.items)) ≡ items_faults l.place l.blocks l.span (map item_view l.items)
+invariant-loop-item l = items_along l.around l.blocks l.span l.seen_match l.seen_extern (map item_view (drop l.item-index l.items)) ≡ items_faults l.around l.blocks l.span (map item_view l.items)

@@ -3,7 +3,7 @@ use Rattle.std.specs.Prelude.{filter_map}
 use Rattle.lalrpop_norm_tree.specs.Items.{alternative_view}
 use Rattle.lalrpop_norm_model.specs.TypeRelation.{alternative_clause}
 use Rattle.lalrpop_norm_tyinfer_table.specs.Clauses.{clause_view}
-use Rattle.lalrpop_norm_tyinfer_table.proofs.clauses.alternative_clauses.Given as goal
+use Rattle.lalrpop_norm_tyinfer_table.proofs.type_sources.alternative_clauses.Given as goal
 
 abbrev pub invariant-loop-alternative : goal.invariant-loop-alternative
 invariant-loop-alternative l =

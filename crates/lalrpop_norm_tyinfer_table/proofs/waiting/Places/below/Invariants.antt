@@ -1,6 +1,6 @@
 use Rattle.std.proofs.Common.{◌≡◌, ◌<◌, ℕ, true}
 use Rattle.lalrpop_norm_tyinfer_table.specs.Waiting.{has}
-use Rattle.lalrpop_norm_tyinfer_table.proofs.places.Places.below.Given as goal
+use Rattle.lalrpop_norm_tyinfer_table.proofs.waiting.Waiting.below.Given as goal
 
 abbrev pub invariant-loop-place : goal.invariant-loop-place
 invariant-loop-place l = record {

@@ -5,7 +5,7 @@ use Rattle.lalrpop_norm_tree.specs.Items.{alternative_view}
 use Rattle.lalrpop_norm_model.specs.TypeRelation.{alternative_clause}
 use Rattle.lalrpop_norm_tyinfer_table.specs.Clauses.{clause_view}
 use Rattle.lalrpop_norm_session.proofs.ListLemmas.{first_of_some, next_collected}
-use Rattle.lalrpop_norm_tyinfer_table.proofs.clauses.alternative_clauses.Goals as goal
+use Rattle.lalrpop_norm_tyinfer_table.proofs.type_sources.alternative_clauses.Goals as goal
 
 pub loop-alternative-preserved : goal.loop-alternative-preserved
 loop-alternative-preserved c =

@@ -14,7 +14,7 @@ use std::alloc::Global;
 
 /// By which a rule has a type.
 #[derive(Debug, Drop)]
-pub enum Clause<'g> {
+pub enum TypeSource<'g> {
     /// It declares one.
     Declared(&'g TypeRef),
     /// An alternative gives the values of these symbols, each with its place: one bare, any other number of them as a tuple.
@@ -27,32 +27,34 @@ pub enum Clause<'g> {
 pub fn alternative_clause(
     alloc: Global,
     alternative: &Alternative,
-) -> Result<Option<Clause<'_>>, NoMemory>
+) -> Result<Option<TypeSource<'_>>, NoMemory>
     ensures { IfOk result (λ o. option_map clause_view o ≡ alternative_clause (alternative_view alternative.now)) }
 {
     match &alternative.action {
         None => default_clause(alloc, &alternative.expr),
-        Some(ActionKind::Lookahead) | Some(ActionKind::Lookbehind) => Ok(Some(Clause::Location)),
+        Some(ActionKind::Lookahead) | Some(ActionKind::Lookbehind) => Ok(Some(
+            TypeSource::Location,
+        )),
         Some(ActionKind::User(_)) | Some(ActionKind::Fallible(_)) => Ok(None),
     }
 }
 
 /// The clause of an alternative of these symbols without code.
-fn default_clause(alloc: Global, expr: &ExprSymbol) -> Result<Option<Clause<'_>>, NoMemory>
+fn default_clause(alloc: Global, expr: &ExprSymbol) -> Result<Option<TypeSource<'_>>, NoMemory>
     ensures { IfOk result (λ o. option_map clause_view o ≡ default_clause (expr_view expr.now)) }
 {
     if has_name_value(&expr.symbols) {
         return Ok(None);
     }
     let sources = sources(alloc, &expr.symbols)?;
-    Ok(Some(Clause::Sources(sources)))
+    Ok(Some(TypeSource::Sources(sources)))
 }
 
 /// The clauses of a rule: its declared type alone; without one, those of its alternatives in order.
 pub(crate) fn rule_clauses(
     alloc: Global,
     rule: &NonterminalData,
-) -> Result<Vec<Clause<'_>>, NoMemory>
+) -> Result<Vec<TypeSource<'_>>, NoMemory>
     ensures { IfOk result (λ cs. map clause_view cs.items ≡ type_clauses (rule_view rule.now)) }
 {
     clauses_of(alloc, &rule.type_decl, &rule.alternatives)
@@ -62,7 +64,7 @@ fn clauses_of<'g>(
     alloc: Global,
     declared: &'g Option<TypeRef>,
     alternatives: &'g [Alternative],
-) -> Result<Vec<Clause<'g>>, NoMemory>
+) -> Result<Vec<TypeSource<'g>>, NoMemory>
     ensures { IfOk result (λ cs. map clause_view cs.items ≡ type_clauses_of (option_map type_view declared.now) (map alternative_view alternatives.now)) }
 {
     match declared {
@@ -71,18 +73,18 @@ fn clauses_of<'g>(
     }
 }
 
-fn declared_clause(alloc: Global, ty: &TypeRef) -> Result<Vec<Clause<'_>>, NoMemory>
+fn declared_clause(alloc: Global, ty: &TypeRef) -> Result<Vec<TypeSource<'_>>, NoMemory>
     ensures { IfOk result (λ cs. map clause_view cs.items ≡ makes (type_view ty.now) ∷ []) }
 {
     let mut clauses = Vec::with_capacity(alloc, 1)?;
-    clauses.push(Clause::Declared(ty))?;
+    clauses.push(TypeSource::Declared(ty))?;
     Ok(clauses)
 }
 
 fn alternative_clauses(
     alloc: Global,
     alternatives: &[Alternative],
-) -> Result<Vec<Clause<'_>>, NoMemory>
+) -> Result<Vec<TypeSource<'_>>, NoMemory>
     ensures { IfOk result (λ cs. map clause_view cs.items ≡ filter_map alternative_clause (map alternative_view alternatives.now)) }
 {
     let mut clauses = Vec::with_capacity(alloc, alternatives.len())?;
@@ -93,7 +95,10 @@ fn alternative_clauses(
 }
 
 /// Adds the clause that is there.
-fn add_clause<'g>(clauses: &mut Vec<Clause<'g>>, clause: Option<Clause<'g>>) -> Result<(), NoMemory>
+fn add_clause<'g>(
+    clauses: &mut Vec<TypeSource<'g>>,
+    clause: Option<TypeSource<'g>>,
+) -> Result<(), NoMemory>
     ensures { OnOk result (map clause_view clauses.new.items ≡ map clause_view clauses.old.items ++ option_to_list (option_map clause_view clause.entry)) }
 {
     if let Some(clause) = clause {

@@ -9,26 +9,26 @@ use std::collections::BTreeSet;
 
 /// Some places of rules.
 #[derive(Drop)]
-pub struct Places {
+pub struct Waiting {
     set: BTreeSet<usize>,
 }
 
-impl Places {
+impl Waiting {
     /// No place.
-    pub fn new(alloc: Global) -> Places
+    pub fn new(alloc: Global) -> Waiting
         ensures { (k : ℕ) → has result k ≡ false }
     {
-        Places {
+        Waiting {
             set: BTreeSet::new(alloc),
         }
     }
 
     /// All places below a number.
-    pub fn below(alloc: Global, count: usize) -> Result<Places, NoMemory>
+    pub fn below(alloc: Global, count: usize) -> Result<Waiting, NoMemory>
         ensures all { IfOk result (λ p. (k : ℕ) → k < count → has p k ≡ true) }
         ensures only { IfOk result (λ p. (k : ℕ) → has p k ≡ true → k < count) }
     {
-        let mut places = Places::new(alloc);
+        let mut places = Waiting::new(alloc);
         for place in 0..count {
             places.add(place)?;
         }

@@ -4,7 +4,7 @@ use Rattle.lalrpop_norm_tree.specs.Items.{alternative_view}
 use Rattle.lalrpop_norm_model.specs.TypeRelation.{TypeClause}
 use Rattle.lalrpop_norm_tyinfer_table.specs.Clauses.{clause_view}
 use Rattle.lalrpop_norm_tyinfer_table.proofs.ClauseLemmas.{default_is}
-use Rattle.lalrpop_norm_tyinfer_table.proofs.clauses.alternative_clause.Goals as goal
+use Rattle.lalrpop_norm_tyinfer_table.proofs.type_sources.alternative_clause.Goals as goal
 
 pub returns-in-None : goal.returns-in-None
 returns-in-None c =

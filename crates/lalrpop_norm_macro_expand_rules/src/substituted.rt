@@ -3,7 +3,7 @@ ghost use Rattle.std.specs.Prelude.{◌≡◌, ◌∷◌, [], IfOk, option_map};
 ghost use Rattle.lalrpop_norm_tree_parts.specs.Accessors.{path_of};
 ghost use Rattle.lalrpop_norm_tree.specs.Symbols.{group, call, repeated, kind_view, symbol_view, parts_view, expr_view, macro_view};
 ghost use Rattle.lalrpop_norm_tree.specs.Types.{nominal, no_types, type_view, types_view, maybe_of};
-ghost use Rattle.lalrpop_norm_model.specs.MadeRules.{argument_kind, or_name, put_in, kind_put_in, all_put_in, type_of_name, type_put_in, types_put_in, returned_put_in};
+ghost use Rattle.lalrpop_norm_model.specs.MadeRules.{argument_kind, or_name, substituted, kind_substituted, all_substituted, type_of_name, type_substituted, types_substituted, returned_substituted};
 
 use crate::replaced::{named, replaced_kind, tupled};
 use crate::rules::repeat_of;
@@ -50,32 +50,34 @@ fn or_name(bindings: &Bindings, name: &Atom) -> Result<SymbolKind, NoMemory>
     }
 }
 
-/// The symbol with the arguments put in.
-#[cycle(put_in)]
-fn put_in(alloc: Global, bindings: &Bindings, symbol: &Symbol) -> Result<Symbol, NoMemory>
-    ensures { IfOk result (λ s. symbol_view s ≡ put_in (argument_kind bindings.now.names.now (parts_view bindings.now.symbols.now)) (symbol_view symbol.now)) }
+/// The symbol with the arguments substituted.
+#[cycle(substituted)]
+fn substituted(alloc: Global, bindings: &Bindings, symbol: &Symbol) -> Result<Symbol, NoMemory>
+    ensures { IfOk result (λ s. symbol_view s ≡ substituted (argument_kind bindings.now.names.now (parts_view bindings.now.symbols.now)) (symbol_view symbol.now)) }
 {
-    let kind = kind_put_in(alloc, bindings, &symbol.kind)?;
+    let kind = kind_substituted(alloc, bindings, &symbol.kind)?;
     Ok(Symbol::new(symbol.span, kind))
 }
 
-#[cycle(put_in)]
-fn kind_put_in(
+#[cycle(substituted)]
+fn kind_substituted(
     alloc: Global,
     bindings: &Bindings,
     kind: &SymbolKind,
 ) -> Result<SymbolKind, NoMemory>
-    ensures { IfOk result (λ k. kind_view k ≡ kind_put_in (argument_kind bindings.now.names.now (parts_view bindings.now.symbols.now)) (kind_view kind.now)) }
+    ensures { IfOk result (λ k. kind_view k ≡ kind_substituted (argument_kind bindings.now.names.now (parts_view bindings.now.symbols.now)) (kind_view kind.now)) }
 {
     match kind {
         SymbolKind::Nonterminal(name) => or_name(bindings, &name.0),
         SymbolKind::AmbiguousId(id) => or_name(bindings, id),
-        SymbolKind::Expr(expr) => group_put_in(alloc, bindings, expr),
-        SymbolKind::Macro(call) => call_put_in(alloc, bindings, call),
-        SymbolKind::Repeat(repeat) => repeat_put_in(alloc, bindings, repeat),
-        SymbolKind::Choose(inner) => Ok(SymbolKind::Choose(box_put_in(alloc, bindings, inner)?)),
-        SymbolKind::Name(name, inner) => named(name, box_put_in(alloc, bindings, inner)?),
-        SymbolKind::Tuple(tuple, inner) => tupled(tuple, box_put_in(alloc, bindings, inner)?),
+        SymbolKind::Expr(expr) => group_substituted(alloc, bindings, expr),
+        SymbolKind::Macro(call) => call_substituted(alloc, bindings, call),
+        SymbolKind::Repeat(repeat) => repeat_substituted(alloc, bindings, repeat),
+        SymbolKind::Choose(inner) => Ok(SymbolKind::Choose(box_substituted(
+            alloc, bindings, inner,
+        )?)),
+        SymbolKind::Name(name, inner) => named(name, box_substituted(alloc, bindings, inner)?),
+        SymbolKind::Tuple(tuple, inner) => tupled(tuple, box_substituted(alloc, bindings, inner)?),
         SymbolKind::Terminal(terminal) => Ok(SymbolKind::Terminal(terminal.clone()?)),
         SymbolKind::Lookahead => Ok(SymbolKind::Lookahead),
         SymbolKind::Lookbehind => Ok(SymbolKind::Lookbehind),
@@ -83,64 +85,68 @@ fn kind_put_in(
     }
 }
 
-#[cycle(put_in)]
-fn box_put_in(alloc: Global, bindings: &Bindings, symbol: &Symbol) -> Result<Box<Symbol>, NoMemory>
-    ensures { IfOk result (λ b. symbol_view b.value ≡ put_in (argument_kind bindings.now.names.now (parts_view bindings.now.symbols.now)) (symbol_view symbol.now)) }
+#[cycle(substituted)]
+fn box_substituted(
+    alloc: Global,
+    bindings: &Bindings,
+    symbol: &Symbol,
+) -> Result<Box<Symbol>, NoMemory>
+    ensures { IfOk result (λ b. symbol_view b.value ≡ substituted (argument_kind bindings.now.names.now (parts_view bindings.now.symbols.now)) (symbol_view symbol.now)) }
 {
-    Ok(Box::new(alloc, put_in(alloc, bindings, symbol)?)?)
+    Ok(Box::new(alloc, substituted(alloc, bindings, symbol)?)?)
 }
 
-#[cycle(put_in)]
-fn group_put_in(
+#[cycle(substituted)]
+fn group_substituted(
     alloc: Global,
     bindings: &Bindings,
     expr: &ExprSymbol,
 ) -> Result<SymbolKind, NoMemory>
-    ensures { IfOk result (λ k. kind_view k ≡ group (all_put_in (argument_kind bindings.now.names.now (parts_view bindings.now.symbols.now)) (expr_view expr.now))) }
+    ensures { IfOk result (λ k. kind_view k ≡ group (all_substituted (argument_kind bindings.now.names.now (parts_view bindings.now.symbols.now)) (expr_view expr.now))) }
 {
-    let symbols = all_put_in(alloc, bindings, &expr.symbols)?;
+    let symbols = all_substituted(alloc, bindings, &expr.symbols)?;
     Ok(SymbolKind::Expr(ExprSymbol { symbols }))
 }
 
-#[cycle(put_in)]
-fn call_put_in(
+#[cycle(substituted)]
+fn call_substituted(
     alloc: Global,
     bindings: &Bindings,
     instance: &MacroSymbol,
 ) -> Result<SymbolKind, NoMemory>
     ensures { IfOk result (λ k. kind_view k
-        ≡ call (macro_view instance.now).0 (all_put_in (argument_kind bindings.now.names.now (parts_view bindings.now.symbols.now)) (macro_view instance.now).1)) }
+        ≡ call (macro_view instance.now).0 (all_substituted (argument_kind bindings.now.names.now (parts_view bindings.now.symbols.now)) (macro_view instance.now).1)) }
 {
     let name = instance.name.clone()?;
-    let args = all_put_in(alloc, bindings, &instance.args)?;
+    let args = all_substituted(alloc, bindings, &instance.args)?;
     Ok(SymbolKind::Macro(MacroSymbol { name, args }))
 }
 
-#[cycle(put_in)]
-fn repeat_put_in(
+#[cycle(substituted)]
+fn repeat_substituted(
     alloc: Global,
     bindings: &Bindings,
     repeat: &RepeatSymbol,
 ) -> Result<SymbolKind, NoMemory>
     ensures { IfOk result (λ k. kind_view k
-        ≡ repeated repeat.now.op (put_in (argument_kind bindings.now.names.now (parts_view bindings.now.symbols.now)) (symbol_view repeat.now.symbol))) }
+        ≡ repeated repeat.now.op (substituted (argument_kind bindings.now.names.now (parts_view bindings.now.symbols.now)) (symbol_view repeat.now.symbol))) }
 {
-    let symbol = put_in(alloc, bindings, &repeat.symbol)?;
+    let symbol = substituted(alloc, bindings, &repeat.symbol)?;
     repeat_of(alloc, repeat.op, symbol)
 }
 
-/// The symbols, each with the arguments put in.
-#[cycle(put_in)]
-pub(crate) fn all_put_in(
+/// The symbols, each with the arguments substituted.
+#[cycle(substituted)]
+pub(crate) fn all_substituted(
     alloc: Global,
     bindings: &Bindings,
     symbols: &[Symbol],
 ) -> Result<Vec<Symbol>, NoMemory>
-    ensures { IfOk result (λ ss. parts_view ss.items ≡ all_put_in (argument_kind bindings.now.names.now (parts_view bindings.now.symbols.now)) (parts_view symbols.now)) }
+    ensures { IfOk result (λ ss. parts_view ss.items ≡ all_substituted (argument_kind bindings.now.names.now (parts_view bindings.now.symbols.now)) (parts_view symbols.now)) }
 {
     let mut all = Vec::with_capacity(alloc, symbols.len())?;
     for symbol in symbols {
-        all.push(put_in(alloc, bindings, symbol)?)?;
+        all.push(substituted(alloc, bindings, symbol)?)?;
     }
     Ok(all)
 }
@@ -165,32 +171,32 @@ fn path_of_name(alloc: Global, name: &Atom) -> Result<TypeRef, NoMemory>
     Ok(TypeRef::Nominal { path, types })
 }
 
-/// The declared type with the arguments put in.
-#[cycle(type_put_in)]
-pub(crate) fn type_put_in(
+/// The declared type with the arguments substituted.
+#[cycle(type_substituted)]
+pub(crate) fn type_substituted(
     alloc: Global,
     bindings: &Bindings,
     written: &TypeRef,
 ) -> Result<TypeRef, NoMemory>
-    ensures { IfOk result (λ t. type_view t ≡ type_put_in (argument_kind bindings.now.names.now (parts_view bindings.now.symbols.now)) (type_view written.now)) }
+    ensures { IfOk result (λ t. type_view t ≡ type_substituted (argument_kind bindings.now.names.now (parts_view bindings.now.symbols.now)) (type_view written.now)) }
 {
     match written {
         TypeRef::Id(name) => type_of_name(alloc, bindings, name),
-        TypeRef::Tuple(types) => Ok(TypeRef::Tuple(types_put_in(alloc, bindings, types)?)),
+        TypeRef::Tuple(types) => Ok(TypeRef::Tuple(types_substituted(alloc, bindings, types)?)),
         TypeRef::Slice(inner) => {
-            let inner = type_put_in(alloc, bindings, inner)?;
+            let inner = type_substituted(alloc, bindings, inner)?;
             Ok(TypeRef::Slice(Box::new(alloc, inner)?))
         }
         TypeRef::Nominal { path, types } => Ok(TypeRef::Nominal {
             path: path.clone()?,
-            types: types_put_in(alloc, bindings, types)?,
+            types: types_substituted(alloc, bindings, types)?,
         }),
         TypeRef::Ref {
             lifetime,
             mutable,
             referent,
         } => {
-            let referent = type_put_in(alloc, bindings, referent)?;
+            let referent = type_substituted(alloc, bindings, referent)?;
             Ok(TypeRef::Ref {
                 lifetime: lifetime.clone()?,
                 mutable: *mutable,
@@ -199,7 +205,7 @@ pub(crate) fn type_put_in(
         }
         TypeRef::TraitObject { path, types } => Ok(TypeRef::TraitObject {
             path: path.clone()?,
-            types: types_put_in(alloc, bindings, types)?,
+            types: types_substituted(alloc, bindings, types)?,
         }),
         TypeRef::Lifetime(lifetime) => Ok(TypeRef::Lifetime(lifetime.clone()?)),
         TypeRef::OfSymbol(kind) => Ok(TypeRef::OfSymbol(kind.clone()?)),
@@ -211,41 +217,41 @@ pub(crate) fn type_put_in(
         } => Ok(TypeRef::Fn {
             forall: copy_type_parameters(forall)?,
             path: path.clone()?,
-            parameters: types_put_in(alloc, bindings, parameters)?,
-            ret: returned_put_in(alloc, bindings, ret)?,
+            parameters: types_substituted(alloc, bindings, parameters)?,
+            ret: returned_substituted(alloc, bindings, ret)?,
         }),
     }
 }
 
-#[cycle(type_put_in)]
-fn returned_put_in(
+#[cycle(type_substituted)]
+fn returned_substituted(
     alloc: Global,
     bindings: &Bindings,
     ret: &Option<Box<TypeRef>>,
 ) -> Result<Option<Box<TypeRef>>, NoMemory>
     ensures { IfOk result (λ r. maybe_of (option_map (λ b. type_view b.value) r)
-        ≡ returned_put_in (argument_kind bindings.now.names.now (parts_view bindings.now.symbols.now)) (maybe_of (option_map (λ b. type_view b.value) ret.now))) }
+        ≡ returned_substituted (argument_kind bindings.now.names.now (parts_view bindings.now.symbols.now)) (maybe_of (option_map (λ b. type_view b.value) ret.now))) }
 {
     match ret {
         None => Ok(None),
         Some(inner) => {
-            let inner = type_put_in(alloc, bindings, inner)?;
+            let inner = type_substituted(alloc, bindings, inner)?;
             Ok(Some(Box::new(alloc, inner)?))
         }
     }
 }
 
-#[cycle(type_put_in)]
-fn types_put_in(
+#[cycle(type_substituted)]
+fn types_substituted(
     alloc: Global,
     bindings: &Bindings,
     types: &[TypeRef],
 ) -> Result<Vec<TypeRef>, NoMemory>
-    ensures { IfOk result (λ ts. types_view ts.items ≡ types_put_in (argument_kind bindings.now.names.now (parts_view bindings.now.symbols.now)) (types_view types.now)) }
+    ensures { IfOk result (λ ts. types_view ts.items ≡ types_substituted (argument_kind bindings.now.names.now (parts_view bindings.now.symbols.now)) (types_view types.now)) }
 {
     let mut all = Vec::with_capacity(alloc, types.len())?;
     for inner in types {
-        all.push(type_put_in(alloc, bindings, inner)?)?;
+        all.push(type_substituted(alloc, bindings, inner)?)?;
     }
     Ok(all)
 }

@@ -1,7 +1,7 @@
 use Rattle.std.proofs.Common.{◌≡◌, drop}
 use Rattle.lalrpop_norm_tree.specs.Symbols.{parts_view}
 use Rattle.lalrpop_norm_model.specs.MadeRules.{argument_kind}
-use Rattle.lalrpop_norm_macro_expand_rules.proofs.put_in.bound_to.Given as goal
+use Rattle.lalrpop_norm_macro_expand_rules.proofs.substituted.bound_to.Given as goal
 
 -- of the names and the symbols that are left the name is bound to what it is bound to of all
 abbrev pub invariant-loop-argument : goal.invariant-loop-argument

@@ -1,4 +1,4 @@
--- A symbol with arguments put in reads as the symbol with the arguments bound.
+-- A symbol with arguments substituted reads as the symbol with the arguments bound.
 use Rattle.std.proofs.Common.{◌≡◌, ℕ, ◌+◌, List, [], ◌∷◌, map, Option, Some, None, Bool, true, false, refl, sym, ap, ap₂, ◌∙◌}
 use Rattle.std.specs.Prelude.{bytes_eq, flat_map, unwrap_or, if◌then◌else◌}
 use Rattle.lalrpop_norm_tree_names.specs.declared.names.NonterminalString.{NonterminalString}
@@ -12,9 +12,9 @@ use Rattle.lalrpop_norm_model.specs.WrittenRules.{WrittenRule, rules_through, fl
 use Rattle.lalrpop_norm_model.specs.Occurrences.{count_part, count_parts}
 use Rattle.lalrpop_norm_model.specs.Reading.{Reader, closed_patterns_of, repeat_of, read_name, read_kind, read_part, read_parts, read_all}
 use Rattle.lalrpop_norm_model.specs.Grammars.{bound_of, bound_argument, macro_reader}
-use Rattle.lalrpop_norm_model.specs.MadeRules.{kind_of, argument_kind, or_name, kind_put_in, put_in, all_put_in, flat_reader}
+use Rattle.lalrpop_norm_model.specs.MadeRules.{kind_of, argument_kind, or_name, kind_substituted, substituted, all_substituted, flat_reader}
 use Rattle.lalrpop_norm_model.specs.PlainRules.{rule_of_item, all_rules}
-use Rattle.lalrpop_norm_model.specs.Laws.{ArgumentsArePutIn}
+use Rattle.lalrpop_norm_model.specs.Laws.{ArgumentsAreSubstituted}
 
 -- ---- readers that agree
 
@@ -52,13 +52,13 @@ flat_part = part_agrees flat_reader flat_reader (λ n b a before after. refl)
 pub flat_parts : (b a before after : ℕ) (ps : Parts) → read_parts flat_reader b a ps ≡ read_parts flat_reader before after ps
 flat_parts = parts_agree flat_reader flat_reader (λ n b a before after. refl)
 
--- ---- arguments put in
+-- ---- arguments substituted
 
--- R reads a name as Q reads what is put in for it
+-- R reads a name as Q reads what is substituted for it
 module _ (Q R : Reader) (argument : Name → Option Kind)
     (same : (n : Name) (b a before after : ℕ) → read_kind Q b a (or_name n (argument n)) ≡ read_name R before after n) where
   mutual
-    kind_put : (b a before after : ℕ) (k : Kind) → read_kind Q b a (kind_put_in argument k) ≡ read_kind R before after k
+    kind_put : (b a before after : ℕ) (k : Kind) → read_kind Q b a (kind_substituted argument k) ≡ read_kind R before after k
     kind_put b a before after (written.nonterminal n) = same n b a before after
     kind_put b a before after (written.ambiguous_id n) = same n b a before after
     kind_put b a before after (written.terminal t) = refl
@@ -72,17 +72,17 @@ module _ (Q R : Reader) (argument : Name → Option Kind)
     kind_put b a before after written.lookbehind = refl
     kind_put b a before after written.error_terminal = refl
 
-    part_put : (b a before after : ℕ) (p : Part) → read_part Q b a (put_in argument p) ≡ read_part R before after p
+    part_put : (b a before after : ℕ) (p : Part) → read_part Q b a (substituted argument p) ≡ read_part R before after p
     part_put b a before after (at s k) = kind_put b a before after k
 
-    parts_put : (b a before after : ℕ) (ps : Parts) → read_parts Q b a (all_put_in argument ps) ≡ read_parts R before after ps
+    parts_put : (b a before after : ℕ) (ps : Parts) → read_parts Q b a (all_substituted argument ps) ≡ read_parts R before after ps
     parts_put b a before after no_parts = refl
     parts_put b a before after (part_and p ps) =
         ap₂ symbol_and
-        (part_put b (a + count_parts Q.is_own (all_put_in argument ps)) before (after + count_parts R.is_own ps) p)
-        (parts_put (b + count_part Q.is_own (put_in argument p)) a (before + count_part R.is_own p) after ps)
+        (part_put b (a + count_parts Q.is_own (all_substituted argument ps)) before (after + count_parts R.is_own ps) p)
+        (parts_put (b + count_part Q.is_own (substituted argument p)) a (before + count_part R.is_own p) after ps)
 
--- what is put in for a name reads as what the name is bound to
+-- what is substituted for a name reads as what the name is bound to
 argument_here : (n : Name) (b a before after : ℕ) (p : Part) (o : Option Kind) (q : Option ClosedSymbol) (x : Bool) →
     read_kind flat_reader b a (or_name n o) ≡ unwrap_or q (reference n None) →
     read_kind flat_reader b a (or_name n (if x then Some (kind_of p) else o))
@@ -138,12 +138,12 @@ module _ (rs : List WrittenRule) (flat : HaveNoBounds rs) (r : WrittenRule) (arg
       ∙ ap (λ o. unwrap_or (bound_argument r.args (read_all flat_reader args) n) (reference n o)) (sym (flat n))
 
   pub part_read : (b a before after : ℕ) (p : Part) →
-      read_part flat_reader b a (put_in (argument_kind r.args args) p) ≡ read_part (macro_reader rs r (read_all flat_reader args)) before after p
+      read_part flat_reader b a (substituted (argument_kind r.args args) p) ≡ read_part (macro_reader rs r (read_all flat_reader args)) before after p
   part_read = part_put flat_reader (macro_reader rs r (read_all flat_reader args)) (argument_kind r.args args) name_put
 
   pub parts_read : (b a before after : ℕ) (ps : Parts) →
-      read_parts flat_reader b a (all_put_in (argument_kind r.args args) ps) ≡ read_parts (macro_reader rs r (read_all flat_reader args)) before after ps
+      read_parts flat_reader b a (all_substituted (argument_kind r.args args) ps) ≡ read_parts (macro_reader rs r (read_all flat_reader args)) before after ps
   parts_read = parts_put flat_reader (macro_reader rs r (read_all flat_reader args)) (argument_kind r.args args) name_put
 
-pub arguments_are_put_in : ArgumentsArePutIn
-arguments_are_put_in g r args p before after = part_read (flat_rules g) (flat_have_no_bounds g) r args 0 0 before after p
+pub arguments_are_substituted : ArgumentsAreSubstituted
+arguments_are_substituted g r args p before after = part_read (flat_rules g) (flat_have_no_bounds g) r args 0 0 before after p

@@ -6,7 +6,7 @@ use Rattle.std.specs.List.{list_any}
 use Rattle.std.specs.BTreeMap.{is_at}
 use Rattle.std.specs.Ordering.{is_eq}
 use Rattle.std.proofs.lemmas.Bool.{eq-eqb}
-use Rattle.lalrpop_norm_tyinfer_table.proofs.places.Places.is_empty.Goals as goal
+use Rattle.lalrpop_norm_tyinfer_table.proofs.waiting.Waiting.is_empty.Goals as goal
 
 some_key : (b : Bool) (ks : List ℕ) → (IsTrue b ↔ (length ks ≡ 0)) → OnFalse b ((k : ℕ) × (list_any (is_at (nat_cmp k)) ks ≡ true))
 some_key true ks e = tt

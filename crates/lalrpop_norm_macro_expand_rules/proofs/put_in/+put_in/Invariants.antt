@@ -1,9 +1,0 @@
-use Rattle.std.proofs.Common.{◌≡◌, map, take}
-use Rattle.lalrpop_norm_tree.specs.Symbols.{symbol_view, parts_view}
-use Rattle.lalrpop_norm_model.specs.MadeRules.{argument_kind, put_in}
-use Rattle.lalrpop_norm_macro_expand_rules.proofs.put_in.+put_in.Given as goal
-
-abbrev pub invariant-all_put_in-loop-symbol : goal.invariant-all_put_in-loop-symbol
-invariant-all_put_in-loop-symbol l =
-    map symbol_view l.all.items
-    ≡ map (λ s. put_in (argument_kind l.bindings.names.now (parts_view l.bindings.symbols.now)) (symbol_view s)) (take l.symbol-index l.symbols)
