@@ -49,6 +49,6 @@ action_faults s inside (Some (fallible_code code)) = between_braces_faults s ins
 action_faults s inside (Some lookahead_code) = (WrittenLookaround, s) ∷ []
 action_faults s inside (Some lookbehind_code) = (WrittenLookaround, s) ∷ []
 
-unfoldable pub alternative_faults : Place → AlternativeData → List Fault
+unfoldable pub alternative_faults : Surroundings → AlternativeData → List Fault
 alternative_faults c a =
     list_faults c a.parts ++ (unknown_alternative_faults a.attributes ++ action_faults a.span (first_inside a.parts) a.action)

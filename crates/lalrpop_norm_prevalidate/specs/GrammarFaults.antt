@@ -57,7 +57,7 @@ attributes_faults public xs =
     each_after (λ before a. rule_attribute_faults public (map attribute_name before) a) [] (attribute_list xs)
 
 -- F7, F23, then attributes, levels, alternatives
-unfoldable pub rule_faults : Place → RuleData → List Fault
+unfoldable pub rule_faults : Surroundings → RuleData → List Fault
 rule_faults c r =
     fault_if (is_public r.visibility && is_macro r) (PublicMacro, r.span)
     ++ (fault_if (some_holds r.type_decl) (WrittenOfSymbol, r.span)
@@ -125,7 +125,7 @@ abbrev pub is_extern : ItemData → Bool
 is_extern i = is_some (extern_token_of i)
 
 -- an item, after a match block and an extern block or not
-unfoldable pub item_faults : Place → Blocks → Span → Bool → Bool → ItemData → List Fault
+unfoldable pub item_faults : Surroundings → Blocks → Span → Bool → Bool → ItemData → List Fault
 item_faults c b s m e (match_item t) = match_faults b m t
 item_faults c b s m e (extern_item t) = extern_faults b e t
 item_faults c b s m e (intern_item t) = (WrittenIntern, s) ∷ []
@@ -133,7 +133,7 @@ item_faults c b s m e (rule_item r) = rule_faults c r
 item_faults c b s m e (use_item u) = []
 
 -- each item by the blocks that stand before it
-abbrev pub items_faults : Place → Blocks → Span → List ItemData → List Fault
+abbrev pub items_faults : Surroundings → Blocks → Span → List ItemData → List Fault
 items_faults c b s is = each_after (λ before i. item_faults c b s (list_any is_match before) (list_any is_extern before) i) [] is
 
 -- ---- what the first blocks and the grammar's attributes say
@@ -158,8 +158,8 @@ abbrev pub lacks_location : Option ExternTokenData → Bool
 lacks_location None = false
 lacks_location (Some t) = is_some t.enum_token && is_none (first_of (type_named (codes "Location")) t.associated_types)
 
-abbrev pub surroundings : GrammarData → Surroundings
-surroundings g =
+abbrev pub surroundings_of : GrammarData → Surroundings
+surroundings_of g =
     record {
       has_ascent = is_asked (ascent_asked g.attributes);
       lacks_location = lacks_location (first_of extern_token_of g.items);
@@ -201,4 +201,4 @@ validate_faults g =
     unknown_grammar_faults g.attributes
     ++ (flat_map (parameter_faults g.span) g.parameters
     ++ (flat_map (clause_faults g.span) g.where_clauses
-    ++ items_faults (surroundings g) (blocks_in g) g.span g.items))
+    ++ items_faults (surroundings_of g) (blocks_in g) g.span g.items))

@@ -76,7 +76,7 @@ abbrev pub beside_faults : Parts → List Fault
 beside_faults ps = mixed_faults (first_chosen ps) (has_named ps) ++ repeated_name_faults (least_twice ps)
 
 abbrev mutual
-  pub kind_faults : Place → Span → Kind → List Fault
+  pub kind_faults : Surroundings → Span → Kind → List Fault
   kind_faults c s (group ps) = parts_faults c ps ++ beside_faults ps
   kind_faults c s (ambiguous_id a) = []
   kind_faults c s (terminal t) = terminal_faults s t
@@ -90,13 +90,13 @@ abbrev mutual
   kind_faults c s lookbehind = fault_if c.lacks_location (NoLocation, s)
   kind_faults c s error_terminal = fault_if c.has_ascent (ErrorWithAscent, s)
 
-  pub part_faults : Place → Part → List Fault
+  pub part_faults : Surroundings → Part → List Fault
   part_faults c (at s k) = kind_faults c s k
 
-  pub parts_faults : Place → Parts → List Fault
+  pub parts_faults : Surroundings → Parts → List Fault
   parts_faults c no_parts = []
   parts_faults c (part_and p ps) = part_faults c p ++ parts_faults c ps
 
 -- the symbols of one alternative or group
-abbrev pub list_faults : Place → Parts → List Fault
+abbrev pub list_faults : Surroundings → Parts → List Fault
 list_faults c ps = parts_faults c ps ++ beside_faults ps

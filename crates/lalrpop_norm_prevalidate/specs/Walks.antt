@@ -21,6 +21,6 @@ types_along before [] = []
 types_along before (t ∷ ts) = associated_faults before t ++ types_along (before ++ t.type_name ∷ []) ts
 
 -- after a match block and an extern block or not
-abbrev pub items_along : Place → Blocks → Span → Bool → Bool → List ItemData → List Fault
+abbrev pub items_along : Surroundings → Blocks → Span → Bool → Bool → List ItemData → List Fault
 items_along c b s m e [] = []
 items_along c b s m e (i ∷ is) = item_faults c b s m e i ++ items_along c b s (m || is_match i) (e || is_extern i) is

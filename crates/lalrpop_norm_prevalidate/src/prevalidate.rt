@@ -6,7 +6,7 @@ ghost use Rattle.lalrpop_norm_tree_parts.specs.Bounds.{where_clause_view};
 ghost use Rattle.lalrpop_norm_tree.specs.Items.{extern_token_view, grammar_view, item_view};
 ghost use Rattle.lalrpop_norm_tree.specs.Types.{parameter_view, type_view};
 ghost use Rattle.lalrpop_norm_faults.specs.Faults.{Refuses};
-ghost use Rattle.lalrpop_norm_prevalidate.specs.GrammarFaults.{is_match, is_extern, item_faults, items_faults, ascent_named, ascent_asked, is_asked, lacks_location, surroundings, blocks_in, unknown_grammar_faults, parameter_faults, clause_faults, validate_faults};
+ghost use Rattle.lalrpop_norm_prevalidate.specs.GrammarFaults.{is_match, is_extern, item_faults, items_faults, ascent_named, ascent_asked, is_asked, lacks_location, surroundings_of, blocks_in, unknown_grammar_faults, parameter_faults, clause_faults, validate_faults};
 
 mod alternatives;
 mod cfg;
@@ -52,7 +52,7 @@ pub fn validate(alloc: Global, grammar: &Grammar) -> NormResult<()>
     validate_attributes(alloc, &grammar.attributes)?;
     validate_parameters(alloc, grammar.span, &grammar.parameters)?;
     validate_clauses(alloc, grammar.span, &grammar.where_clauses)?;
-    let around = surroundings(grammar);
+    let around = surroundings_of(grammar);
     let blocks = blocks_in(grammar);
     validate_items(alloc, around, blocks, grammar.span, &grammar.items)?;
     Ok(())
@@ -131,8 +131,8 @@ fn lacks_location(token: &ExternToken) -> bool
     token.enum_token.is_some() && token.associated_type("Location").is_none()
 }
 
-fn surroundings(grammar: &Grammar) -> Surroundings
-    ensures { result ≡ surroundings (grammar_view grammar.now) }
+fn surroundings_of(grammar: &Grammar) -> Surroundings
+    ensures { result ≡ surroundings_of (grammar_view grammar.now) }
 {
     let has_ascent = match ascent_asked(&grammar.attributes) {
         Some(asked) => asked,
@@ -142,7 +142,7 @@ fn surroundings(grammar: &Grammar) -> Surroundings
         Some(token) => lacks_location(token),
         None => false,
     };
-    Place {
+    Surroundings {
         has_ascent,
         lacks_location,
     }

@@ -2,6 +2,7 @@
 use crate::asks::push_no_feature;
 use crate::call::{Call, Last, Pass, call_of};
 use crate::cuts::{push_cut_faults, push_cut_reads, push_cut_writes};
+use crate::library_call::push_counts_of;
 use crate::outcome::{Layout, push_outcome};
 use crate::readings::parts::push_parts;
 use crate::readings::twice::{push_beginnings, push_read_twice};
@@ -38,6 +39,7 @@ fn push_called(
 ) -> Result<(), AllocError> {
     match call {
         Call::Lnorm => push_run(alloc, text, words, bytes),
+        Call::Library => push_counts_of(alloc, text, bytes),
         Call::CutReads => push_cut_reads(alloc, text, words, bytes),
         Call::CutWrites => push_cut_writes(alloc, text, words, bytes),
         Call::CutFaults => push_cut_faults(alloc, text, words, bytes),
@@ -91,11 +93,11 @@ fn push_passed(
     match last {
         Last::TokenCheckScripted => {
             let session = scripted_session(alloc, words);
-            push_in_session(alloc, text, session, form, passes, last, bytes)
+            push_in_session(alloc, text, session, layout, passes, last, bytes)
         }
         _ => {
             let session = session_of(alloc, words);
-            push_in_session(alloc, text, session, form, passes, last, bytes)
+            push_in_session(alloc, text, session, layout, passes, last, bytes)
         }
     }
 }
@@ -110,7 +112,7 @@ fn push_in_session<L: Lexer + Drop>(
     bytes: &[u8],
 ) -> Result<(), AllocError> {
     match session {
-        Ok(session) => push_outcome(alloc, text, &session, form, passes, last, bytes),
+        Ok(session) => push_outcome(alloc, text, &session, layout, passes, last, bytes),
         Err(WordsError::Usage) => text.push_str("usage\n"),
         Err(WordsError::Memory) => text.push_str("memory\n"),
     }

@@ -6,6 +6,8 @@ use std::alloc::{AllocError, Global};
 pub(crate) enum Call {
     /// A run of `lnorm`.
     Lnorm,
+    /// The library's call, as README.md shows it.
+    Library,
     /// Runs of it whose reads fail in turn.
     CutReads,
     /// Runs of it whose writes fail in turn.
@@ -89,6 +91,7 @@ pub(crate) enum Last {
 pub(crate) fn call_of(alloc: Global, name: &str) -> Result<Option<Call>, AllocError> {
     match name {
         "lnorm" => Ok(Some(Call::Lnorm)),
+        "library" => Ok(Some(Call::Library)),
         "cut_reads" => Ok(Some(Call::CutReads)),
         "cut_writes" => Ok(Some(Call::CutWrites)),
         "cut_faults" => Ok(Some(Call::CutFaults)),

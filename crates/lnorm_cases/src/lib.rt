@@ -6,6 +6,7 @@ pub mod answer;
 mod asks;
 mod call;
 mod cuts;
+mod library_call;
 mod outcome;
 mod passes;
 pub mod readings;

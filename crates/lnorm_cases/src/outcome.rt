@@ -42,7 +42,7 @@ pub(crate) fn push_outcome<L: Lexer>(
     match read(alloc, bytes) {
         Ok(tree) => {
             let answer = tree_after_all(alloc, session, passes, tree);
-            push_answered(alloc, text, session, form, last, answer)
+            push_answered(alloc, text, session, layout, last, answer)
         }
         Err(TreeError::NotATree) => text.push_str("not a tree\n"),
         Err(TreeError::Memory) => text.push_str("memory\n"),
@@ -65,8 +65,8 @@ fn push_answered<L: Lexer>(
     answer: Result<Grammar, Stopped>,
 ) -> Result<(), AllocError> {
     match answer {
-        Ok(tree) => push_last(alloc, text, session, form, last, tree),
-        Err(stopped) => push_stopped(text, form, stopped),
+        Ok(tree) => push_last(alloc, text, session, layout, last, tree),
+        Err(stopped) => push_stopped(text, layout, stopped),
     }
 }
 
@@ -81,12 +81,12 @@ fn push_answer_of<T: Drop, F: FnOnce(&mut String, &T) -> Result<(), AllocError>>
 {
     match answer {
         Ok(value) => push(text, &value),
-        Err(stopped) => push_stopped(text, form, stopped),
+        Err(stopped) => push_stopped(text, layout, stopped),
     }
 }
 
 fn push_stopped(text: &mut String, layout: Layout, stopped: Stopped) -> Result<(), AllocError> {
-    let done = push_reason(text, form, &stopped);
+    let done = push_reason(text, layout, &stopped);
     ended(stopped, done)
 }
 
@@ -100,18 +100,18 @@ fn push_last<L: Lexer>(
     tree: Grammar,
 ) -> Result<(), AllocError> {
     match last {
-        Last::Pass(pass) => push_pass(text, form, pass, tree_after(alloc, session, pass, tree)),
+        Last::Pass(pass) => push_pass(text, layout, pass, tree_after(alloc, session, pass, tree)),
         Last::TokenCheckScripted => {
             let pass = Pass::TokenCheck;
-            push_pass(text, form, pass, tree_after(alloc, session, pass, tree))
+            push_pass(text, layout, pass, tree_after(alloc, session, pass, tree))
         }
-        Last::InferTypes => push_typed(alloc, text, form, tree),
-        Last::IsTyped => push_is_typed(alloc, text, session, form, tree),
-        Last::Lower => push_normalized(text, form, lowered(alloc, session, tree)),
-        Last::Normalize => push_normalized(text, form, normalized(alloc, session, tree)),
-        Last::LoweredCopy => push_copied(alloc, text, form, normalized(alloc, session, tree)),
+        Last::InferTypes => push_typed(alloc, text, layout, tree),
+        Last::IsTyped => push_is_typed(alloc, text, session, layout, tree),
+        Last::Lower => push_normalized(text, layout, lowered(alloc, session, tree)),
+        Last::Normalize => push_normalized(text, layout, normalized(alloc, session, tree)),
+        Last::LoweredCopy => push_copied(alloc, text, layout, normalized(alloc, session, tree)),
         Last::Copy => {
-            let done = push_copy(text, form, &tree);
+            let done = push_copy(text, layout, &tree);
             ended(tree, done)
         }
         Last::Ask => {
@@ -131,8 +131,8 @@ fn push_pass(
     pass: Pass,
     answer: Result<Grammar, Stopped>,
 ) -> Result<(), AllocError> {
-    push_answer_of(text, form, answer, |text, tree| {
-        push_tree_after(text, form, pass, tree)
+    push_answer_of(text, layout, answer, |text, tree| {
+        push_tree_after(text, layout, pass, tree)
     })
 }
 
@@ -145,12 +145,12 @@ fn push_tree_after(
     if pass.only_looks() {
         text.push_str("ok\n")
     } else {
-        push_tree_as(text, form, tree)
+        push_tree_as(text, layout, tree)
     }
 }
 
 fn push_tree_as(text: &mut String, layout: Layout, tree: &Grammar) -> Result<(), AllocError> {
-    match form {
+    match layout {
         Layout::Lines | Layout::Told => push_tree(text, tree),
         Layout::Whole => push_whole_tree(text, tree),
     }
@@ -163,8 +163,8 @@ fn push_typed(
     layout: Layout,
     tree: Grammar,
 ) -> Result<(), AllocError> {
-    push_answer_of(text, form, typed(alloc, tree), |text, typed| {
-        push_types_as(text, form, typed)
+    push_answer_of(text, layout, typed(alloc, tree), |text, typed| {
+        push_types_as(text, layout, typed)
     })
 }
 
@@ -174,7 +174,7 @@ fn push_types_as(
     typed: &(Grammar, Types),
 ) -> Result<(), AllocError> {
     let (tree, types) = typed;
-    match form {
+    match layout {
         Layout::Lines | Layout::Told => push_types(text, tree, types),
         Layout::Whole => push_whole_types(text, types),
     }
@@ -193,7 +193,7 @@ fn push_is_typed<L>(
             let done = push_is_typed_line(text, session, &typed);
             ended(typed, done)
         }
-        Err(stopped) => push_stopped(text, form, stopped),
+        Err(stopped) => push_stopped(text, layout, stopped),
     }
 }
 
@@ -212,8 +212,8 @@ fn push_normalized(
     layout: Layout,
     answer: Result<repr::Grammar, Stopped>,
 ) -> Result<(), AllocError> {
-    push_answer_of(text, form, answer, |text, lowered| {
-        push_lowered_as(text, form, lowered)
+    push_answer_of(text, layout, answer, |text, lowered| {
+        push_lowered_as(text, layout, lowered)
     })
 }
 
@@ -222,7 +222,7 @@ fn push_lowered_as(
     layout: Layout,
     lowered: &repr::Grammar,
 ) -> Result<(), AllocError> {
-    match form {
+    match layout {
         Layout::Lines | Layout::Told => push_lowered(text, lowered),
         Layout::Whole => push_whole_lowered(text, lowered),
     }
@@ -234,7 +234,7 @@ fn push_copied(
     layout: Layout,
     answer: Result<repr::Grammar, Stopped>,
 ) -> Result<(), AllocError> {
-    push_answer_of(text, form, answer, |text, lowered| {
+    push_answer_of(text, layout, answer, |text, lowered| {
         push_lowered_copy_or_memory(alloc, text, lowered)
     })
 }
@@ -254,7 +254,7 @@ fn push_copy(text: &mut String, layout: Layout, tree: &Grammar) -> Result<(), Al
     push_or(
         text,
         tree.clone(),
-        |text, copy| push_tree_as(text, form, copy),
+        |text, copy| push_tree_as(text, layout, copy),
         "memory\n",
     )
 }
@@ -273,7 +273,7 @@ fn push_texts_or_memory(
 /// Why there is no answer.
 fn push_reason(text: &mut String, layout: Layout, stopped: &Stopped) -> Result<(), AllocError> {
     match stopped {
-        Stopped::Failed(failure) => push_failure(text, form, failure),
+        Stopped::Failed(failure) => push_failure(text, layout, failure),
         Stopped::NotExpanded => text.push_str("not expanded\n"),
     }
 }
@@ -284,7 +284,7 @@ fn push_failure(
     layout: Layout,
     failure: &NormFailure,
 ) -> Result<(), AllocError> {
-    match form {
+    match layout {
         Layout::Told => push_told(text, failure),
         Layout::Lines | Layout::Whole => push_place(text, failure),
     }

@@ -8,7 +8,7 @@ ghost use Rattle.lalrpop_norm_repr.specs.Tables.{type_table};
 ghost use Rattle.lalrpop_norm_model.specs.InferenceFaults.{is_other};
 ghost use Rattle.lalrpop_norm_tyinfer_table.specs.TableFaults.{other_in, others_in};
 
-use crate::tyinfer::clauses::clause_value;
+use crate::tyinfer::type_sources::clause_value;
 use lalrpop_norm_faults::{FaultKind, NormResult, refusal};
 use lalrpop_norm_repr::grammar::repr::{TypeRepr, Types};
 use lalrpop_norm_tree::grammar::parse_tree::{

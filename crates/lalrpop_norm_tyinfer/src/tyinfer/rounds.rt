@@ -7,7 +7,7 @@ ghost use Rattle.lalrpop_norm_tyinfer_table.specs.Clauses.{clause_view, first_in
 ghost use Rattle.lalrpop_norm_tyinfer_table.specs.Visits.{rule_seen, EndsRounds, Passes, TakesType};
 ghost use Rattle.lalrpop_norm_tyinfer_table.specs.Waiting.{Covers, VisitsOne, Waits, Wakes};
 
-use crate::tyinfer::clauses::first_value;
+use crate::tyinfer::type_sources::first_value;
 use lalrpop_norm_repr::grammar::repr::{TypeRepr, Types};
 use lalrpop_norm_tree::grammar::parse_tree::{NoMemory, NonterminalString, TypeParameter};
 use lalrpop_norm_tyinfer_table::dependents::Dependents;

@@ -5,7 +5,7 @@ use Rattle.lalrpop_norm_tree_parts.specs.Reprs.{ReprData, repr_view}
 use Rattle.lalrpop_norm_tree.specs.Symbols.{kind_view}
 use Rattle.lalrpop_norm_repr.specs.Tables.{type_table}
 use Rattle.lalrpop_norm_tyinfer_table.proofs.ClauseLemmas.{sources_mean}
-use Rattle.lalrpop_norm_tyinfer.proofs.tyinfer.clauses.clause_value.Goals as goal
+use Rattle.lalrpop_norm_tyinfer.proofs.tyinfer.type_sources.clause_value.Goals as goal
 
 pub returns-in-Sources : goal.returns-in-Sources
 returns-in-Sources c =

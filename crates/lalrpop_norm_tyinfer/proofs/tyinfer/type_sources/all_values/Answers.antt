@@ -5,7 +5,7 @@ use Rattle.lalrpop_norm_repr.specs.Tables.{type_table}
 use Rattle.lalrpop_norm_tyinfer_table.specs.Clauses.{kinds_in}
 use Rattle.lalrpop_norm_tyinfer_table.specs.TableValues.{kind_in}
 use Rattle.lalrpop_norm_tyinfer_table.proofs.ValueLemmas.{next_value, last_value}
-use Rattle.lalrpop_norm_tyinfer.proofs.tyinfer.clauses.all_values.Goals as goal
+use Rattle.lalrpop_norm_tyinfer.proofs.tyinfer.type_sources.all_values.Goals as goal
 
 pub loop-source-preserved : goal.loop-source-preserved
 loop-source-preserved c =

@@ -5,7 +5,7 @@ use Rattle.lalrpop_norm_tree.specs.Symbols.{kind_view}
 use Rattle.lalrpop_norm_repr.specs.Tables.{type_table}
 use Rattle.lalrpop_norm_tyinfer_table.specs.Clauses.{kinds_in}
 use Rattle.lalrpop_norm_tyinfer_table.proofs.ValueLemmas.{before}
-use Rattle.lalrpop_norm_tyinfer.proofs.tyinfer.clauses.all_values.Given as goal
+use Rattle.lalrpop_norm_tyinfer.proofs.tyinfer.type_sources.all_values.Given as goal
 
 abbrev pub invariant-loop-source : goal.invariant-loop-source
 invariant-loop-source l =
