@@ -23,7 +23,7 @@ false_if : (b : Bool) → (b ≡ true → ⊥) → b ≡ false
 false_if true h = absurd (h refl)
 false_if false h = refl
 
-and_no : (p q : Bool) → q ≡ false → (p && q) ≡ false
+pub and_no : (p q : Bool) → q ≡ false → (p && q) ≡ false
 and_no true q e = e
 and_no false q e = refl
 
@@ -33,7 +33,7 @@ greater_turned k l e = nat_list_cmp_total.antisymm l k ∙ ap ordering_reverse e
 equal_by : (k l : List ℕ) → bytes_eq k l ≡ true → k ≡ l
 equal_by k l e = (bytes_eq-Decides k l).0 e
 
-itself : (k : List ℕ) → bytes_eq k k ≡ true
+pub itself : (k : List ℕ) → bytes_eq k k ≡ true
 itself k = (bytes_eq-Decides k k).1 refl
 
 pub no_object : (ks : List (List ℕ)) (d : Data) → as_object d ≡ None → has_fields ks d ≡ false

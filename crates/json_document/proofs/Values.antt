@@ -6,10 +6,8 @@ use Rattle.std.specs.Ordering.{match_ordering}
 use Rattle.std.specs.Prelude.{bytes_eq}
 use Rattle.serde_json.specs.Data.{Data, Members, no_members, member, put}
 use Rattle.json_document.specs.Parted.{with_value}
+use Rattle.json_document.proofs.Keyed.{itself}
 use Rattle.json_document.proofs.Ordered.{order, equal_keys}
-
-itself : (k : List ℕ) → bytes_eq k k ≡ true
-itself k = (bytes_eq-Decides k k).1 refl
 
 -- a value that is put under another key stays
 module _ (k l : List ℕ) (d x : Data) (other : bytes_eq l k ≡ false) where

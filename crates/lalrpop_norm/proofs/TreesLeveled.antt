@@ -1,9 +1,8 @@
 -- What an expansion makes of a grammar, and of its grammar with levels: the same symbols in the same order, each bounded reference as the
 -- name of its level.
-use Rattle.std.proofs.Common.{◌≡◌, ◌≤◌, ◌<◌, ◌+◌, inl, inr, ℕ, zero, suc, List, [], ◌∷◌, ◌++◌, length, map, refl, sym, ap, ap₂, ◌∙◌, subst, arith, append-nil}
+use Rattle.std.proofs.Common.{◌≡◌, ◌≤◌, ◌+◌, inl, inr, ℕ, zero, suc, List, [], ◌∷◌, ◌++◌, length, map, refl, sym, ap, ap₂, ◌∙◌, subst, arith, append-nil}
 use Rattle.std.specs.Prelude.{flat_map, slice_get, Option, Some, None, option_map}
 use Rattle.std.proofs.lemmas.List.{map-append}
-use Rattle.std.proofs.lemmas.Option.{slice_get_cases}
 use Rattle.lalrpop_norm_theory.specs.Symbols.{Name, ClosedSymbol, ClosedSymbols, terminal, error, reference, call, group, star, plus, question, wrapped, lookahead, lookbehind, no_symbols, symbol_and}
 use Rattle.lalrpop_norm_theory.specs.Meaning.{Meaning, HasCounts, HasLevels}
 use Rattle.lalrpop_norm_theory.specs.LoweredTrees.{Origin}
@@ -16,19 +15,16 @@ use Rattle.lalrpop_norm_theory.specs.Laws.{level_named}
 use Rattle.lalrpop_norm_theory.proofs.RoundsLemmas.{of_flat}
 use Rattle.lalrpop_norm_theory.proofs.SameLemmas.{symbol_test}
 use Rattle.lalrpop_norm_theory.proofs.ResolvedLemmas.{rule_met_resolved}
-use Rattle.lalrpop_norm_theory.proofs.LeveledLemmas.{symbol_named, shifted}
+use Rattle.lalrpop_norm_theory.proofs.LeveledLemmas.{leveled_parts, own_is_all, enough_numbers, symbol_named, shifted}
 use Rattle.lalrpop_norm_theory.proofs.ViewedLemmas.{same_view}
 use Rattle.lalrpop_norm_tree.specs.Items.{RuleData}
 use Rattle.lalrpop_norm_model.proofs.RoundReadLemmas.{rounds_viewed, made_viewed, made_within}
 use Rattle.lalrpop_norm_model.proofs.PlainReadLemmas.{AllFit}
 use Rattle.lalrpop_norm.proofs.TreesRounds.{rounds_alike, made_alike, symbol_alike}
 
--- the parts of a clause, as they are and with the names of levels
+-- the parts of a clause as they are
 abbrev pub parts_of : Clause → ClosedSymbols
 parts_of c = c.parts
-
-abbrev pub leveled_parts : (Name → ℕ → Name) → Clause → ClosedSymbols
-leveled_parts l c = leveled_symbols l c.parts
 
 -- ---- clauses
 
@@ -63,38 +59,13 @@ calls_read n l f h k (suc left) e = rw (e k) (at (h k) (calls_read n l f h (suc 
 
 module _ (M L : Meaning) (l : Name → ℕ → Name) (origin : Name → ℕ → Origin) (declared : List ClosedSymbol)
     (I : IsLeveled M L l origin declared) (C : HasCounts L) (V : HasLevels L) where
-  -- a rule without levels has all its alternatives on its one level
-  own_is_all : (n : Name) (k : ℕ) (o : Option ClosedSymbols) → L.reference_parts n None k ≡ o → L.own_parts n None k ≡ o
-  own_is_all n k (Some parts) e = elim (V.split n None k parts e) [
-    | inl own ↦ own
-    | inr r ↦ let flat = I.flat n in absurd (let below = r.2 in none_some (sym flat ∙ below))
-  ]
-    where
-      none_some : {A : Type 0} {x : A} → None ≡ Some x → ⊥
-      none_some h = grind arith
-  own_is_all n k None e = at (L.own_parts n None k) refl
-    where
-      at : (o : Option ClosedSymbols) → L.own_parts n None k ≡ o → L.own_parts n None k ≡ None
-      at None q = q
-      at (Some parts) q = let some = V.own n None k parts q in absurd (let both : None ≡ Some parts = sym e ∙ some in grind arith)
-
-  enough_numbers : (n : Name) (cs : List Clause) → ((j : ℕ) → L.own_parts n None j ≡ option_map (leveled_parts l) (slice_get cs j)) →
-      length cs ≤ L.reference_count n
-  enough_numbers n cs h = elim (slice_get_cases cs (L.reference_count n)).1 [
-    | inl r ↦
-        let (c, within, is, same) = r in
-        let parts = rw is at (h (L.reference_count n)) in
-        absurd (let less : L.reference_count n < L.reference_count n = C.of_rules n None (L.reference_count n) (leveled_parts l c) parts in omega arith)
-    | inr r ↦ r.0
-  ]
-
   rule_read : (n : Name) (b : Option ℕ) → In (reference n b) declared →
       map parts_of (clauses L (reference (level_reference l n b) None)) ≡ map (leveled_parts l) (clauses M (reference n b))
   rule_read n b r =
-      let own = (λ (j : ℕ). own_is_all (level_reference l n b) j _ (I.rules n b j r)) in
+      let own = (λ (j : ℕ). own_is_all M L l origin declared I C V (level_reference l n b) j _ (I.rules n b j r)) in
       rw (I.flat (level_reference l n b), append-nil (own_clauses L (level_reference l n b) None))
       (numbered_read (level_reference l n b) l (L.own_parts (level_reference l n b) None) 0 (L.reference_count (level_reference l n b))
-      (clauses M (reference n b)) (enough_numbers (level_reference l n b) (clauses M (reference n b)) own)
+      (clauses M (reference n b)) (enough_numbers M L l origin declared I C V (level_reference l n b) (clauses M (reference n b)) own)
       (λ j. let z : 0 + j ≡ j = omega arith in rw z (own j)))
 
   -- the rule of a symbol in the grammar with levels is its rule in the written one

@@ -50,7 +50,8 @@ use Rattle.lalrpop_norm_model.proofs.FaithfulLemmas.{plain_grammars_hold_plain_r
 use Rattle.lalrpop_norm_model.proofs.RenumberedLemmas.{disabled_are_left_out, disabled_only_renumber, named_closed, all_present}
 use Rattle.lalrpop_norm_model.proofs.RenumberedClauses.{clauses_only_renumber}
 use Rattle.lalrpop_norm_model.proofs.PatternLemmas.{no_map}
-use Rattle.lalrpop_norm.proofs.TreesLeveled.{parts_of, leveled_parts, leveled_read, fresh_leveled, made_leveled, made_resolved, fits_leveled}
+use Rattle.lalrpop_norm_theory.proofs.LeveledLemmas.{leveled_parts}
+use Rattle.lalrpop_norm.proofs.TreesLeveled.{parts_of, leveled_read, fresh_leveled, made_leveled, made_resolved, fits_leveled}
 
 -- ---- declared references
 

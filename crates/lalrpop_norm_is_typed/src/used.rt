@@ -1,7 +1,7 @@
 //! The terminals that alternatives use.
 ghost use Rattle.std.specs.Prelude.{◌≡◌, map};
 ghost use Rattle.std.specs.List.{list_all};
-ghost use Rattle.lalrpop_norm_tree.specs.Items.{alternative_view, item_view, rule_view};
+ghost use Rattle.lalrpop_norm_tree.specs.Items.{alternative_view, item_view};
 ghost use Rattle.lalrpop_norm_tree.specs.Symbols.{kind_view, parts_view, symbol_view};
 ghost use Rattle.lalrpop_norm_session.specs.Sessions.{features_view};
 ghost use Rattle.lalrpop_norm_is_typed.specs.Terminals.{source_view};

@@ -6,7 +6,6 @@ use Rattle.lalrpop_norm_tree_patterns.specs.declared.pattern.Pattern.{Pattern}
 use Rattle.lalrpop_norm_tree_patterns.specs.declared.pattern.PatternKind.{PatternKind}
 use Rattle.lalrpop_norm_tree_patterns.specs.declared.pattern.PatternKind.TheFolds.{fold-roll-FieldPattern}
 use Rattle.lalrpop_norm_tree_patterns.specs.declared.pattern.PatternKind.TheOpen.{FieldPattern-F}
-use Rattle.lalrpop_norm_tree_patterns.specs.declared.pattern.PatternKind.TheVariants as kind
 use Rattle.lalrpop_norm_tree_patterns.specs.declared.pattern.PatternKind.TheViews.{rolls-struct-FieldPattern}
 use Rattle.lalrpop_norm_tree_patterns.specs.Patterns.{PatternKindData, PatternData, FieldData, pattern_kind_step, field_step, pattern_step, pattern_view, field_view}
 use Rattle.lalrpop_norm_tree.specs.declared.types.TypeRef.{TypeRef}

@@ -6,6 +6,7 @@ use Rattle.serde_json.specs.Data.{Data, null, boolean, number, unsigned, negativ
 use Rattle.serde_json.specs.Find.{as_str, as_array, as_number, as_u64}
 use Rattle.serde_json.specs.View.{items_of}
 use Rattle.lalrpop_norm_json_shapes.specs.Weight.{weight, items_weight}
+use Rattle.json_document.proofs.Keyed.{and_no}
 use Rattle.json_document.specs.Fields.{are_keys, has_fields, has_one_member}
 use Rattle.lalrpop_norm_json_shapes.specs.Parts.{is_null, is_pair, is_triple, is_variant}
 use Rattle.lalrpop_norm_json_shapes.specs.Shapes.{ShapeName, natural, Slot, Held, Arrays, struct_of, each, row, slot, fits, fits_items, fits_members, struct, variants, arrayed, optional, Shape, is}
@@ -48,10 +49,6 @@ not_natural (object ms) e = refl
 
 -- ---- parts of which one is refused
 
-pub and_false : (a b : Bool) → b ≡ false → (a && b) ≡ false
-and_false true b e = e
-and_false false b e = refl
-
 -- ---- a record of known fields
 
 -- behind a place that holds a value
@@ -62,7 +59,7 @@ pub none_lacks : {P : Type 0} (b : Bool) → b ≡ true → b ≡ false → P
 none_lacks b e f = absurd (cc (e, f))
 
 unlike_or_unfit : (a b c f : Bool) → (a && c) ≡ false → (c ≡ false → f ≡ false) → (a && (b && f)) ≡ false
-unlike_or_unfit true b c f e h = and_false b f (h e)
+unlike_or_unfit true b c f e h = and_no b f (h e)
 unlike_or_unfit false b c f e h = refl
 
 no_keys : (rows : List (List ℕ × Slot)) (ms : Members) → are_keys (map (λ r. r.0) rows) ms ≡ false → fits_members (struct_of rows) ms ≡ false
@@ -116,9 +113,9 @@ no_pair p q (boolean b) e = refl
 no_pair p q (number n) e = refl
 no_pair p q (string s) e = refl
 no_pair p q (array no_items) e = refl
-no_pair p q (array (item a no_items)) e = and_false _ _ refl
+no_pair p q (array (item a no_items)) e = and_no _ _ refl
 no_pair p q (array (item a (item b no_items))) e = cc
-no_pair p q (array (item a (item b (item c ds)))) e = and_false _ _ (and_false _ _ refl)
+no_pair p q (array (item a (item b (item c ds)))) e = and_no _ _ (and_no _ _ refl)
 no_pair p q (object ms) e = refl
 
 pub no_triple : (p q r : Slot) (d : Data) → is_triple d ≡ false → fits (arrayed (row (p ∷ q ∷ r ∷ []))) d ≡ false
@@ -127,11 +124,11 @@ no_triple p q r (boolean b) e = refl
 no_triple p q r (number n) e = refl
 no_triple p q r (string s) e = refl
 no_triple p q r (array no_items) e = refl
-no_triple p q r (array (item a no_items)) e = and_false _ _ refl
-no_triple p q r (array (item a (item b no_items))) e = and_false _ _ (and_false _ _ refl)
+no_triple p q r (array (item a no_items)) e = and_no _ _ refl
+no_triple p q r (array (item a (item b no_items))) e = and_no _ _ (and_no _ _ refl)
 no_triple p q r (array (item a (item b (item c no_items)))) e = cc
 no_triple p q r (array (item a (item b (item c (item d ds))))) e =
-    and_false (fits (slot p) a) _ (and_false (fits (slot q) b) _ (and_false (fits (slot r) c) _ refl))
+    and_no (fits (slot p) a) _ (and_no (fits (slot q) b) _ (and_no (fits (slot r) c) _ refl))
 no_triple p q r (object ms) e = refl
 
 pub no_optional : (s : Shape) (d : Data) → is_null d ≡ false → fits s d ≡ false → fits (optional s) d ≡ false
@@ -167,7 +164,7 @@ onto_weight (c ∷ ds) d es = omega (arith, onto_weight ds d es)
 
 onto_refused : (n : ShapeName) (ds : List Data) (d : Data) (es : Items) → is n d ≡ false → fits_items (each n) (onto ds (item d es)) ≡ false
 onto_refused n [] d es e = rw e refl
-onto_refused n (c ∷ ds) d es e = and_false _ _ (onto_refused n ds d es e)
+onto_refused n (c ∷ ds) d es e = and_no _ _ (onto_refused n ds d es e)
 
 -- one more item was read
 pub one_more : (v : Data) (ds : List Data) (left : Items) (d : Data) (es : Items) → v ≡ array (onto ds left) → left ≡ item d es → v ≡ array (onto (ds ++ d ∷ []) es)
@@ -201,4 +198,4 @@ whole_list v ds left is none = is ∙ ap (λ x. array (onto ds x)) none ∙ ap a
 pub shorter : (left : Items) (d : Data) (es : Items) → left ≡ item d es → count es < count left
 shorter left d es e = omega (arith, ap count e)
 
-pub ruleset refusals = (no_fields, and_false, no_variant, no_array, no_pair, no_triple, no_optional, lighter, no_list, shorter)
+pub ruleset refusals = (no_fields, and_no, no_variant, no_array, no_pair, no_triple, no_optional, lighter, no_list, shorter)

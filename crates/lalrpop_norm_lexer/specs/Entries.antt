@@ -1,12 +1,10 @@
 -- What is read of the literals of entries.
-use Rattle.std.specs.Prelude.{◌≡◌, ℕ, List, take, slice_get, Option, Some, None, Result, Ok, Err}
+use Rattle.std.specs.Prelude.{ℕ, List, Option, Some, None, Result, Ok, Err}
 use Rattle.lalrpop_norm_tree_names.specs.declared.names.TerminalLiteral.{TerminalLiteral}
 use Rattle.lalrpop_norm_tree_names.specs.declared.names.TerminalLiteral.TheVariants.{Quoted, Regex}
-use Rattle.lalrpop_norm_tree.specs.declared.items.MatchEntry.{MatchEntry}
 use Rattle.lalrpop_norm_lexer.specs.declared.reading.ReadError.{ReadError}
 use Rattle.lalrpop_norm_lexer.specs.declared.reading.ReadError.TheVariants.{Bad, Memory}
 use Rattle.lalrpop_norm_model.specs.Lexers.{Lexer, Read, KeepsLiteral, KeepsPattern}
-use Rattle.lalrpop_norm_model.specs.CheckedTokens.{AreRegexes}
 
 -- a literal is read as its kind says
 abbrev pub KeepsReading : {R : Type 0} → Lexer R → TerminalLiteral → Read R → Type 0

@@ -13,22 +13,17 @@ use Rattle.lalrpop_norm_lower_steps.specs.Counts.{count_faults}
 use Rattle.lalrpop_norm_session.specs.ExprSymbols.{Placed, NamedPart, named_parts, chosen_parts, all_parts, SymbolsSeen, with_names, without_names, with_any, analyzed_symbols}
 use Rattle.lalrpop_norm_model.specs.LoweringFaults.{slots, code_in, code_faults, span_over}
 use Rattle.lalrpop_norm_model.specs.MadeRules.{some_name_value, if_any}
-use Rattle.lalrpop_norm_model.specs.Sources.{Source, named_sources, chosen_sources, all_sources, sources}
+use Rattle.lalrpop_norm_model.specs.Sources.{Source, chosen_sources, all_sources, sources}
 use Rattle.lalrpop_norm_lower.specs.Arguments.{in_slots}
 use Rattle.lalrpop_norm_lower_steps.specs.Code.{sources_code, absent_code, written_code}
 use Rattle.lalrpop_norm_session.specs.Values.{has_chosen}
+use Rattle.lalrpop_norm_session.proofs.SymbolLemmas.{no_named}
 use Rattle.lalrpop_norm_lower.specs.Naming.{names_from, source_names}
 use Rattle.lalrpop_norm_faults.proofs.FaultLemmas.{not_fault}
 use Rattle.lalrpop_norm_theory.proofs.BoolLemmas.{or_true}
 use Rattle.lalrpop_norm_tree_parts.proofs.KnownTextLemmas.{map_twice}
 
 -- ---- how many there are
-
-no_named : (k : ℕ) (ps : Parts) → some_name_value ps ≡ false → named_sources k ps ≡ []
-no_named k no_parts h = refl
-no_named k (part_and (at s (named n p)) ps) h = cc
-no_named k (part_and (at s (tupled ns p)) ps) h = cc
-no_named k (part_and (at s x) ps) h = no_named (suc k) ps h
 
 no_chosen : (k : ℕ) (ps : Parts) → has_chosen ps ≡ false → chosen_sources k ps ≡ []
 no_chosen k no_parts h = refl

@@ -11,7 +11,7 @@ use Rattle.lalrpop_norm_tree.specs.Items.{ItemData, extern_item, intern_item, us
 use Rattle.lalrpop_norm_tree.specs.LoweredTypes.{repr_of, named_path}
 use Rattle.lalrpop_norm_tree_patterns.specs.Patterns.{PatternData, pattern_at, tuple_struct, pattern_and, no_patterns, number}
 use Rattle.lalrpop_norm_tree_patterns.specs.Patterns.{chosen as chosen_type}
-use Rattle.lalrpop_norm_tree_parts.specs.Reprs.{ReprData, of_lifetime, reference, named_repr, LoweredClause, has_bound}
+use Rattle.lalrpop_norm_tree_parts.specs.Reprs.{ReprData, of_lifetime, input_str, LoweredClause, has_bound}
 use Rattle.lalrpop_norm_tree.specs.Symbols.{Kind, group, ambiguous_id, terminal, nonterminal, call, repeated, chosen, named}
 use Rattle.lalrpop_norm_tree.specs.Symbols.{tupled, lookahead, lookbehind, error_terminal, Part, at, Parts, no_parts, part_and}
 use Rattle.lalrpop_norm_tree.specs.Types.{TypeData, ParameterData}
@@ -28,15 +28,11 @@ pub use Rattle.lalrpop_norm_lower_steps.specs.Algorithm.{asks_lalr, asked_code}
 abbrev pub TokenRow : Type 0
 TokenRow = TerminalString × PatternData ReprData
 
--- `&'input str`
-abbrev pub input_type : ReprData
-input_type = reference (Some (record { 0 = codes "'input" })) false (named_repr (codes "str"))
-
 -- `Token(i, <&'input str>)`
 abbrev pub internal_pattern : Span → ℕ → PatternData ReprData
 internal_pattern span i =
     pattern_at span (tuple_struct (named_path (codes "Token"))
-    (pattern_and (pattern_at span (number i)) (pattern_and (pattern_at span (chosen_type input_type)) no_patterns)))
+    (pattern_and (pattern_at span (number i)) (pattern_and (pattern_at span (chosen_type input_str)) no_patterns)))
 
 -- the entries of a tokenizer that name a terminal, each with its own place
 abbrev pub entry_rows : Span → List MatchEntry → List TokenRow

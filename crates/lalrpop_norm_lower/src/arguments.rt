@@ -1,5 +1,5 @@
 //! The arguments of an action: which symbols its code gets, and their names.
-ghost use Rattle.std.specs.Prelude.{◌≡◌, ◌++◌, IfOk, map, string_bytes};
+ghost use Rattle.std.specs.Prelude.{◌≡◌, IfOk, map};
 ghost use Rattle.lalrpop_norm_tree.specs.Symbols.{symbol_view, parts_view, argument_pattern_view};
 ghost use Rattle.lalrpop_norm_lower.specs.Arguments.{name_given};
 ghost use Rattle.lalrpop_norm_lower.specs.Sources.{source_name, plain_name};

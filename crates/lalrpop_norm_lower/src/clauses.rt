@@ -1,5 +1,5 @@
 //! Where clauses, one for each bound.
-ghost use Rattle.std.specs.Prelude.{◌≡◌, ◌++◌, [], ◌∷◌, IfOk, OnOk, flat_map, map};
+ghost use Rattle.std.specs.Prelude.{◌≡◌, ◌++◌, IfOk, OnOk, flat_map, map};
 ghost use Rattle.lalrpop_norm_tree_parts.specs.Bounds.{bound_view, lifetime_bound, where_clause_view};
 ghost use Rattle.lalrpop_norm_tree_parts.specs.Reprs.{repr_view, lowered_where_clause_view, of_lifetime, has_bound};
 ghost use Rattle.lalrpop_norm_tree.specs.LoweredTypes.{repr_of};

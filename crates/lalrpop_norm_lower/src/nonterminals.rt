@@ -1,7 +1,6 @@
 //! The nonterminals of a lowered grammar: start symbols first, then the rules.
 ghost use Rattle.std.specs.Prelude.{◌≡◌, ◌+◌, ◌++◌, [], ◌∷◌, length, IfOk, OnOk, map, vec_len};
 ghost use Rattle.lalrpop_norm_faults.specs.Faults.{Refuses};
-ghost use Rattle.lalrpop_norm_tree_parts.specs.Attributes.{no_attributes};
 ghost use Rattle.lalrpop_norm_tree_parts.specs.Reprs.{repr_view};
 ghost use Rattle.lalrpop_norm_tree.specs.Items.{rule_view};
 ghost use Rattle.lalrpop_norm_model.specs.LoweringFaults.{start_faults, action_number_faults};
@@ -19,9 +18,7 @@ use crate::typing::unit_type;
 use lalrpop_norm_faults::NormResult;
 use lalrpop_norm_lower_steps::refusals::check_start;
 use lalrpop_norm_lower_steps::starts::{start_alternative, start_data};
-use lalrpop_norm_repr::grammar::repr::{
-    ActionFnDefn, NonterminalData, Production, TypeRepr, Types,
-};
+use lalrpop_norm_repr::grammar::repr::{ActionFnDefn, NonterminalData, Production, Types};
 use lalrpop_norm_tree::grammar::parse_tree as pt;
 use lalrpop_norm_tree::grammar::parse_tree::{NoMemory, NonterminalString};
 use lalrpop_norm_tree_parts::attribute::copy::copy_attributes;

@@ -1,12 +1,10 @@
 //! The symbols of productions.
-ghost use Rattle.std.specs.Prelude.{◌≡◌, IfOk, map, unwrap_or};
-ghost use Rattle.lalrpop_norm_tree_parts.specs.Reprs.{repr_view, unit_type};
+ghost use Rattle.std.specs.Prelude.{◌≡◌, IfOk};
 ghost use Rattle.lalrpop_norm_tree.specs.Symbols.{kind_view, symbol_view, parts_view};
 ghost use Rattle.lalrpop_norm_tree.specs.SymbolTexts.{kind_text};
-ghost use Rattle.lalrpop_norm_repr.specs.Tables.{type_table};
-ghost use Rattle.lalrpop_norm_lower.specs.Lowering.{lowered_kind, lowered_symbol, lowered_symbols, type_or_unit};
+ghost use Rattle.lalrpop_norm_lower.specs.Lowering.{lowered_kind, lowered_symbol, lowered_symbols};
 
-use lalrpop_norm_repr::grammar::repr::{Symbol, TypeRepr, Types};
+use lalrpop_norm_repr::grammar::repr::Symbol;
 use lalrpop_norm_tree::grammar::parse_tree as pt;
 use lalrpop_norm_tree::grammar::parse_tree::{
     Atom, NoMemory, NonterminalString, SymbolKind, TerminalString,

@@ -6,10 +6,10 @@ ghost use Rattle.lalrpop_norm_tree.specs.Items.{conversion_view, grammar_view, i
 ghost use Rattle.lalrpop_norm_tree.specs.LoweredTypes.{named_path};
 ghost use Rattle.lalrpop_norm_tree_parts.specs.Paths.{path_view};
 ghost use Rattle.lalrpop_norm_tree_patterns.specs.Patterns.{pattern_view, patterns_view, pattern_at, pattern_and, no_patterns, number, chosen};
-ghost use Rattle.lalrpop_norm_tree_parts.specs.Reprs.{repr_view};
+ghost use Rattle.lalrpop_norm_tree_parts.specs.Reprs.{repr_view, input_str};
 ghost use Rattle.lalrpop_norm_session.specs.Sessions.{features_view};
 ghost use Rattle.lalrpop_norm_repr.specs.Tables.{rows};
-ghost use Rattle.lalrpop_norm_lower.specs.Carried.{input_type, internal_pattern};
+ghost use Rattle.lalrpop_norm_lower.specs.Carried.{internal_pattern};
 ghost use Rattle.lalrpop_norm_lower.specs.Conversions.{sorted_terminals, numbered_terminals, terminal_cmp};
 ghost use Rattle.lalrpop_norm_lower.specs.Made.{conversion_rows, row_of_entry, entry_rows_from, token_rows, made_tokens};
 
@@ -18,7 +18,7 @@ use lalrpop_norm_lower_steps::terminals::{terminal_of_entry, terminal_set};
 use lalrpop_norm_repr::grammar::repr::{TerminalSet, TerminalString, TypeRepr};
 use lalrpop_norm_session::{Session, cfg_active};
 use lalrpop_norm_tree::grammar::parse_tree::{
-    Atom, Conversion, Grammar, GrammarItem, Lifetime, MatchEntry, NoMemory, Path, Span,
+    Atom, Conversion, Grammar, GrammarItem, MatchEntry, NoMemory, Path, Span,
 };
 use lalrpop_norm_tree::grammar::pattern::{Pattern, PatternKind};
 use std::alloc::Global;
@@ -195,11 +195,11 @@ fn internal_pattern(alloc: Global, span: Span, index: usize) -> Result<Pattern<T
 /// `i, <&'input str>`
 fn listed(alloc: Global, span: Span, index: usize) -> Result<Vec<Pattern<TypeRepr>>, NoMemory>
     ensures { IfOk result (λ ps. patterns_view repr_view ps.items
-        ≡ pattern_and (pattern_at span (number index)) (pattern_and (pattern_at span (chosen input_type)) no_patterns)) }
+        ≡ pattern_and (pattern_at span (number index)) (pattern_and (pattern_at span (chosen input_str)) no_patterns)) }
 {
     let mut inner = Vec::with_capacity(alloc, 2)?;
     inner.push(at(span, PatternKind::Usize(index)))?;
-    inner.push(at(span, PatternKind::Choose(input_type(alloc)?)))?;
+    inner.push(at(span, PatternKind::Choose(TypeRepr::input_str(alloc)?)))?;
     Ok(inner)
 }
 
@@ -213,25 +213,5 @@ fn at(span: Span, kind: PatternKind<TypeRepr>) -> Pattern<TypeRepr>
 fn token_path(alloc: Global) -> Result<Path, NoMemory>
     ensures { IfOk result (λ p. path_view p ≡ named_path (codes "Token")) }
 {
-    let name = Atom::new(alloc, "Token")?;
-    let mut ids = Vec::with_capacity(alloc, 1)?;
-    ids.push(name)?;
-    Ok(Path {
-        absolute: false,
-        ids,
-    })
-}
-
-/// `&'input str`.
-fn input_type(alloc: Global) -> Result<TypeRepr, NoMemory>
-    ensures { IfOk result (λ t. repr_view t ≡ input_type) }
-{
-    let lifetime = Lifetime(Atom::new(alloc, "'input")?);
-    let text = TypeRepr::str(alloc)?;
-    let referent = Box::new(alloc, text)?;
-    Ok(TypeRepr::Ref {
-        lifetime: Some(lifetime),
-        mutable: false,
-        referent,
-    })
+    Path::from_id(alloc, Atom::new(alloc, "Token")?)
 }

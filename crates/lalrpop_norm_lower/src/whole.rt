@@ -64,6 +64,8 @@ pub fn lower<L>(
 }
 
 /// The same, of a grammar that the caller keeps.
+// `lower`, `lower_kept` and `lower_over` are apart for drops: what a function owns ends at each `?` behind it, and each end is
+// proved.
 fn lower_kept<L>(
     alloc: Global,
     session: &Session<L>,
@@ -104,6 +106,7 @@ fn lower_over<L>(
     let signature = signature_of(alloc, grammar)?;
     let start_nonterminals = start_table(alloc, &starts)?;
     add_start_types(&mut types, starts)?;
+    // A law, which does nothing: it gives the order of the rows.
     types.rows_ascend();
     let recovers = uses_recovery(rules);
     let (terminals, conversions) = terminals_of(alloc, session, grammar, recovers)?;

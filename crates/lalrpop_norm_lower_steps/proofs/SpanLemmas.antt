@@ -2,8 +2,8 @@
 use Rattle.std.proofs.Common.{◌≡◌, ◌∙◌, ℕ, List, [], ◌∷◌, map, refl, sym, ap}
 use Rattle.lalrpop_norm_tree_names.specs.declared.names.Span.{Span}
 use Rattle.lalrpop_norm_tree.specs.declared.symbol.Symbol.{Symbol}
-use Rattle.lalrpop_norm_tree.specs.declared.symbol.SymbolKind.TheFolds.{fold_out-Symbol}
-use Rattle.lalrpop_norm_tree.specs.Symbols.{Kind, Part, Parts, Call, Again, kind_step, expr_step, macro_step, repeat_step, symbol_step, symbol_view}
+use Rattle.lalrpop_norm_tree.specs.Symbols.{symbol_view}
+use Rattle.lalrpop_norm_tree.proofs.SymbolViews.{seen_at}
 use Rattle.lalrpop_norm_model.specs.MadeRules.{span_of}
 use Rattle.lalrpop_norm_model.specs.LoweringFaults.{last_of, span_over}
 use Rattle.lalrpop_norm_model.specs.Sources.{Source}
@@ -14,7 +14,7 @@ end_is x [] = refl
 end_is x (y ∷ ys) = end_is y ys
 
 span_is : (s : Symbol) → span_of (symbol_view s) ≡ s.span
-span_is s = ap span_of (fold_out-Symbol Kind Parts Call Again Part kind_step expr_step macro_step repeat_step symbol_step s)
+span_is s = ap span_of (seen_at s)
 
 abbrev span_at : ℕ → ℕ → Span
 span_at m n = record { 0 = m; 1 = n }

@@ -31,8 +31,7 @@ fn named(alloc: Global, span: Span, name: &NonterminalString) -> Result<ExprSymb
     ensures { IfOk result (λ e. expr_view e ≡ part_and (at span (nonterminal name.now.0)) no_parts) }
 {
     let symbol = named_symbol(span, name)?;
-    let mut symbols = Vec::with_capacity(alloc, 1)?;
-    symbols.push(symbol)?;
+    let symbols = vec![in alloc; symbol]?;
     Ok(ExprSymbol { symbols })
 }
 
@@ -54,8 +53,7 @@ pub fn start_data(
 {
     let span = rule.span;
     let attributes = Vec::new(alloc);
-    let mut productions = Vec::with_capacity(alloc, 1)?;
-    productions.push(production)?;
+    let productions = vec![in alloc; production]?;
     Ok(repr::NonterminalData {
         visibility: rule.visibility.clone()?,
         span,

@@ -16,7 +16,7 @@ use Rattle.lalrpop_norm_macro_expand.specs.Expansion.{unmade, past_cap}
 use Rattle.lalrpop_norm_macro_expand.specs.Making.{rules_to_read}
 use Rattle.lalrpop_norm_macro_expand_met.specs.Meeting.{met_view}
 use Rattle.lalrpop_norm_macro_expand_met.specs.declared.expander.Met.{Met}
-use Rattle.lalrpop_norm_macro_expand_met.proofs.SymbolLemmas.{part_is}
+use Rattle.lalrpop_norm_tree.proofs.SymbolViews.{seen_at}
 
 view_at : (ss : List Met) (i : ℕ) (s : Met) → i < length ss → s ≡ get_or ss i s → met_view s ≡ get_or (map met_view ss) i (met_view s)
 view_at ss i s l e = ap met_view e ∙ sym (get_or-map met_view ss i s (met_view s) l)
@@ -92,4 +92,4 @@ past_cap_is ss from s l e =
     (one_more ss i (i + 1) s refl (omega arith) e
     ∙ ap (λ ys. met_view s ∷ ys) (drop_all (i + 1) vs (omega (arith, long)))))
     ∙ last_past_cap (take (i - from) (drop from vs)) (met_view s)
-    ∙ ap (λ p. (RecursionCap, span_of p) ∷ []) (part_is s.symbol)
+    ∙ ap (λ p. (RecursionCap, span_of p) ∷ []) (seen_at s.symbol)

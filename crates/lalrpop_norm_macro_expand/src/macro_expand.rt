@@ -3,7 +3,7 @@
 //! Round 1 reads the rules of the grammar, each later one the rules that the round before made. To read a rule is to meet
 //! the symbols in it, inner ones before outer ones, and to put in the place of each that is made into a rule the
 //! nonterminal of its text. Symbols that are the same apart from spans are made into one rule, where they were first met.
-ghost use Rattle.std.specs.Prelude.{◌≡◌, ◌<◌, ◌≤◌, ◌++◌, [], IfOk, map, drop, length, reverse, flat_map};
+ghost use Rattle.std.specs.Prelude.{◌≡◌, ◌<◌, ◌≤◌, IfOk, map, drop, length, reverse, flat_map};
 ghost use Rattle.lalrpop_norm_tree.specs.Items.{item_view, rule_item, grammar_view};
 ghost use Rattle.lalrpop_norm_faults.specs.Faults.{Refuses, IsFirst};
 ghost use Rattle.lalrpop_norm_conditions.specs.Conditions.{comparison};
@@ -108,6 +108,7 @@ pub fn expand_resolved(alloc: Global, grammar: Grammar, limit: u16) -> NormResul
     let mut done = Vec::new(alloc);
     let mut from = 0;
     let mut left = limit;
+    // The label is the loop's name in the proof, where its invariant and its measure stand.
     'rounds: loop {
         read_items(alloc, pending, &mut done, &mut expander)?;
         let met = expander.met.len();

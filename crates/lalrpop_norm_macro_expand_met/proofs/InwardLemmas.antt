@@ -19,7 +19,8 @@ use Rattle.lalrpop_norm_model.specs.PlainTables.{closed}
 use Rattle.lalrpop_norm_macro_expand_met.proofs.ApartLemmas.{part_closed, unplaced_same}
 use Rattle.lalrpop_norm_macro_expand_met.proofs.SamenessLemmas.{closed_same, closed_text_same, none_if, or_false}
 use Rattle.lalrpop_norm_macro_expand_met.proofs.IndexLemmas.{first_at}
-use Rattle.lalrpop_norm_macro_expand_met.proofs.SymbolLemmas.{part_is, met_is}
+use Rattle.lalrpop_norm_macro_expand_met.proofs.SymbolLemmas.{met_is}
+use Rattle.lalrpop_norm_tree.proofs.SymbolViews.{seen_at}
 use Rattle.lalrpop_norm_theory.proofs.BoolLemmas.{false_of_not, both_false, not_false}
 use Rattle.lalrpop_norm_theory.proofs.ListLemmas.{some_inner}
 
@@ -288,7 +289,7 @@ all_was_met e s t ix own h =
     met_is s ∙ ap (λ (ps : List Part). met_inside (kind_view s.kind) ++ ps) (own_is_one (symbol_view s) t own) in
     subst (λ (ps : List Part). were_met (is_taken_by e) (seen_of e) ps ≡ true) (sym split)
     (were_both (is_taken_by e) (seen_of e) inside_of_kind (symbol_view s ∷ [])
-    (subst (λ (p : Part). were_met (is_taken_by e) (seen_of e) (inside p) ≡ true) (part_is s) (inside_met (is_taken_by e) (seen_of e) (symbol_view s) ix.inward h))
+    (subst (λ (p : Part). were_met (is_taken_by e) (seen_of e) (inside p) ≡ true) (seen_at s) (inside_met (is_taken_by e) (seen_of e) (symbol_view s) ix.inward h))
     (and_from _ _ h refl))
   where
     inside_of_kind : List Part
@@ -308,5 +309,5 @@ met_now a b s h none =
     let xs = met_inside (kind_view s.kind) in
     let there : were_met (is_taken_by a) (after (seen_of a) xs) xs ≡ true = met_then (is_taken_by a) (seen_of a) xs none in
     let names : is_taken_by b ≡ is_taken_by a = ap has_key h.names in
-    let same : inside (symbol_view s) ≡ xs = ap inside (part_is s) in
+    let same : inside (symbol_view s) ≡ xs = ap inside (seen_at s) in
     rw (names, h.seen, same) there

@@ -5,8 +5,8 @@ use Rattle.std.specs.Result.{IsErrAnd}
 use Rattle.std.proofs.lemmas.List.{take_more, drop_more, take-append-drop}
 use Rattle.std.proofs.lemmas.Grind.{flat_map-append}
 use Rattle.lalrpop_norm_tree.specs.declared.symbol.Symbol.{Symbol}
-use Rattle.lalrpop_norm_tree.specs.declared.symbol.SymbolKind.TheFolds.{fold_out-Symbol}
-use Rattle.lalrpop_norm_tree.specs.Symbols.{Call, Again, kind_step, expr_step, macro_step, repeat_step, symbol_step, Kind, group, ambiguous_id, terminal, nonterminal, call, repeated, chosen, named, tupled, lookahead, lookbehind, error_terminal, Part, at, Parts, kind_view, symbol_view, parts_view}
+use Rattle.lalrpop_norm_tree.specs.Symbols.{Kind, group, ambiguous_id, terminal, nonterminal, call, repeated, chosen, named, tupled, lookahead, lookbehind, error_terminal, Part, at, kind_view, symbol_view, parts_view}
+use Rattle.lalrpop_norm_tree.proofs.SymbolViews.{seen_at}
 use Rattle.lalrpop_norm_faults.specs.declared.failure.NormFailure.{NormFailure}
 use Rattle.lalrpop_norm_faults.specs.Faults.{IsFirst, Refuses}
 use Rattle.lalrpop_norm_model.specs.PlainRules.{met, all_met}
@@ -14,12 +14,9 @@ use Rattle.lalrpop_norm_macro_expand_met.specs.declared.expander.Expander.{Expan
 use Rattle.lalrpop_norm_macro_expand_met.specs.Meeting.{met_inside, own, met_itself, Meets, refused_by}
 use Rattle.lalrpop_norm_macro_expand_met.proofs.MeetingLemmas.{meets_both, refused_later, refuses_same, exit_first}
 
-pub part_is : (s : Symbol) → symbol_view s ≡ at s.span (kind_view s.kind)
-part_is s = fold_out-Symbol Kind Parts Call Again Part kind_step expr_step macro_step repeat_step symbol_step s
-
 -- a symbol meets what is inside it, then itself
 pub met_is : (s : Symbol) → met (symbol_view s) ≡ met_inside (kind_view s.kind) ++ met_itself (symbol_view s)
-met_is s = rw (part_is s) (by s.span (kind_view s.kind))
+met_is s = rw (seen_at s) (by s.span (kind_view s.kind))
   where
     by : (p : _) (k : Kind) → met (at p k) ≡ met_inside k ++ own p k
     by p (group ps) = refl

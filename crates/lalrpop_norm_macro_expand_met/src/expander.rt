@@ -4,7 +4,7 @@ ghost use Rattle.lalrpop_norm_tree.specs.Symbols.{symbol_view};
 ghost use Rattle.lalrpop_norm_tree.specs.SymbolTexts.{part_text};
 ghost use Rattle.lalrpop_norm_faults.specs.Faults.{Refuses, IsFirst};
 ghost use Rattle.lalrpop_norm_faults.specs.declared.kind.FaultKind.TheVariants.{SharedName};
-ghost use Rattle.lalrpop_norm_macro_expand_met.specs.Meeting.{first_with_text, after_one, inside, was_met, were_met, seen_of, has_key, is_taken_by, IsExpander, Meets, refused_by};
+ghost use Rattle.lalrpop_norm_macro_expand_met.specs.Meeting.{first_with_text, after_one, inside, was_met, were_met, seen_of, is_taken_by, IsExpander, Meets, refused_by};
 
 use crate::same::is_same_symbol;
 use lalrpop_norm_faults::{FaultKind, NormFailure, NormResult, refusal};

@@ -2,24 +2,14 @@
 ghost use Rattle.std.specs.Prelude.{◌≡◌, IfOk, option_map};
 ghost use Rattle.lalrpop_norm_tree.specs.Symbols.{parts_view};
 ghost use Rattle.lalrpop_norm_tree.specs.Types.{type_view};
-ghost use Rattle.lalrpop_norm_tree.specs.Items.{action_view, alternative_view};
+ghost use Rattle.lalrpop_norm_tree.specs.Items.{alternative_view};
 ghost use Rattle.lalrpop_norm_model.specs.MadeRules.{argument_kind, type_substituted, instance_alternative};
 
 use crate::substituted::{Bindings, all_substituted, type_substituted};
-use lalrpop_norm_tree::grammar::parse_tree::{
-    ActionKind, Alternative, ExprSymbol, NoMemory, Span, TypeRef,
-};
+use lalrpop_norm_tree::grammar::copy::copy_action;
+use lalrpop_norm_tree::grammar::parse_tree::{Alternative, ExprSymbol, NoMemory, Span, TypeRef};
 use lalrpop_norm_tree_parts::attribute::copy::copy_attributes;
 use std::alloc::Global;
-
-fn copied_action(action: &Option<ActionKind>) -> Result<Option<ActionKind>, NoMemory>
-    ensures { IfOk result (λ a. option_map action_view a ≡ option_map action_view action.now) }
-{
-    match action {
-        None => Ok(None),
-        Some(action) => Ok(Some(action.clone()?)),
-    }
-}
 
 /// An alternative at the call's span, with the arguments substituted and without its condition.
 pub fn instance_alternative(
@@ -32,7 +22,7 @@ pub fn instance_alternative(
         ≡ instance_alternative span (argument_kind bindings.now.names.now (parts_view bindings.now.symbols.now)) (alternative_view alternative.now)) }
 {
     let symbols = all_substituted(alloc, bindings, &alternative.expr.symbols)?;
-    let action = copied_action(&alternative.action)?;
+    let action = copy_action(&alternative.action)?;
     let attributes = copy_attributes(&alternative.attributes)?;
     Ok(Alternative {
         span,

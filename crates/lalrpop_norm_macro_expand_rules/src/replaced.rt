@@ -1,7 +1,7 @@
 //! What stands in the place of symbols.
 ghost use Rattle.std.specs.Prelude.{◌≡◌, IfOk};
 ghost use Rattle.lalrpop_norm_tree.specs.Symbols.{named, tupled, kind_view, symbol_view, parts_view, tuple_view};
-ghost use Rattle.lalrpop_norm_tree.specs.SymbolTexts.{part_text, kind_text};
+ghost use Rattle.lalrpop_norm_tree.specs.SymbolTexts.{kind_text};
 ghost use Rattle.lalrpop_norm_model.specs.Replaced.{replaced, replaced_kind, all_replaced};
 
 use lalrpop_norm_tree::grammar::parse_tree::{

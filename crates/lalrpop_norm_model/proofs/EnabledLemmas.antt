@@ -6,7 +6,7 @@ use Rattle.lalrpop_norm_model.specs.Features.{Features, is_active}
 use Rattle.lalrpop_norm_model.specs.Enabled.{if_active, present}
 use Rattle.lalrpop_norm_model.specs.Laws.{EnabledAreActive}
 
-kept : (a : AlternativeData) (b : Bool) (xs : List (Option AlternativeData)) (ys : List AlternativeData) → present xs ≡ ys →
+pub kept : (a : AlternativeData) (b : Bool) (xs : List (Option AlternativeData)) (ys : List AlternativeData) → present xs ≡ ys →
     present ((if b then Some a else None) ∷ xs) ≡ (if b then a ∷ ys else ys)
 kept a true xs ys e = ap (λ zs. a ∷ zs) e
 kept a false xs ys e = e

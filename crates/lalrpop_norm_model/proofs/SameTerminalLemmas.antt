@@ -1,11 +1,12 @@
 -- Terminals that a test counts as the same are equal, and what stands in a list is found there.
-use Rattle.std.proofs.Common.{◌≡◌, Bool, true, false, ◌||◌, List, [], ◌∷◌, inl, inr, refl, sym, ap, subst}
+use Rattle.std.proofs.Common.{◌≡◌, Bool, true, false, ◌||◌, List, [], ◌∷◌, inl, inr, refl, sym, subst}
 use Rattle.std.specs.List.{list_any}
 use Rattle.std.proofs.lemmas.Slice.Eq.{bytes_eq-Decides}
 use Rattle.lalrpop_norm_tree_names.specs.declared.names.TerminalLiteral.{TerminalLiteral}
 use Rattle.lalrpop_norm_tree_names.specs.declared.names.TerminalLiteral.TheVariants.{Quoted, Regex}
 use Rattle.lalrpop_norm_tree_names.specs.declared.names.TerminalString.{TerminalString}
 use Rattle.lalrpop_norm_tree_names.specs.declared.names.TerminalString.TheVariants.{Literal, Bare, Error}
+pub use Rattle.lalrpop_norm_tree.proofs.TerminalLemmas.{literals_same, terminals_same}
 use Rattle.lalrpop_norm_theory.specs.Rounds.{In}
 use Rattle.lalrpop_norm_model.specs.Terminals.{same_literal, same_terminal}
 
@@ -17,23 +18,6 @@ pub terminal_itself : (t : TerminalString) → same_terminal t t ≡ true
 terminal_itself (Literal l) = literal_itself l
 terminal_itself (Bare a) = (bytes_eq-Decides a a).1 refl
 terminal_itself Error = refl
-
-pub literals_same : (a b : TerminalLiteral) → same_literal a b ≡ true → a ≡ b
-literals_same (Quoted a) (Quoted b) h = ap Quoted ((bytes_eq-Decides a b).0 h)
-literals_same (Quoted a) (Regex b) h = absurd (cc h)
-literals_same (Regex a) (Quoted b) h = absurd (cc h)
-literals_same (Regex a) (Regex b) h = ap Regex ((bytes_eq-Decides a b).0 h)
-
-pub terminals_same : (a b : TerminalString) → same_terminal a b ≡ true → a ≡ b
-terminals_same (Literal a) (Literal b) h = ap Literal (literals_same a b h)
-terminals_same (Literal a) (Bare b) h = absurd (cc h)
-terminals_same (Literal a) Error h = absurd (cc h)
-terminals_same (Bare a) (Literal b) h = absurd (cc h)
-terminals_same (Bare a) (Bare b) h = ap Bare ((bytes_eq-Decides a b).0 h)
-terminals_same (Bare a) Error h = absurd (cc h)
-terminals_same Error (Literal b) h = absurd (cc h)
-terminals_same Error (Bare b) h = absurd (cc h)
-terminals_same Error Error h = refl
 
 -- what passes a test and stands in a list
 pub passes_any : {A : Type 0} (p : A → Bool) (xs : List A) (x : A) → In x xs → p x ≡ true → list_any p xs ≡ true

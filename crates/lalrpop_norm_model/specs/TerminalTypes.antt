@@ -1,7 +1,6 @@
 -- The types that need no inference: of terminals, of locations, of errors and of `!`.
-use Rattle.std.specs.Prelude.{ℕ, false, List, [], ◌∷◌, ◌++◌, map, flat_map, Option, Some, None, option_map}
+use Rattle.std.specs.Prelude.{ℕ, List, [], ◌∷◌, ◌++◌, map, flat_map, Option, Some, None, option_map}
 use Rattle.std.specs.Prelude.{option_and_then, unwrap_or, codes, if◌then◌else◌}
-use Rattle.lalrpop_norm_tree_names.specs.declared.names.Lifetime.{Lifetime}
 use Rattle.lalrpop_norm_tree_names.specs.declared.names.TerminalString.{TerminalString}
 use Rattle.lalrpop_norm_tree_names.specs.declared.names.TerminalString.TheVariants.{Literal, Bare, Error}
 use Rattle.lalrpop_norm_tree.specs.declared.items.MatchEntry.{MatchEntry}
@@ -12,22 +11,13 @@ use Rattle.lalrpop_norm_tree.specs.Items.{GrammarData}
 use Rattle.lalrpop_norm_tree.specs.LoweredTypes.{repr_of}
 pub use Rattle.lalrpop_norm_tree_patterns.specs.MappedPatterns.{chosen_in_kind, chosen_in_pattern, chosen_in_all, chosen_in_fields}
 use Rattle.lalrpop_norm_tree_parts.specs.Reprs as lowered
-use Rattle.lalrpop_norm_tree_parts.specs.Reprs.{ReprData, nominal, reference, of_lifetime, no_reprs, repr_and, reprs_of, named_repr}
+use Rattle.lalrpop_norm_tree_parts.specs.Reprs.{ReprData, nominal, of_lifetime, no_reprs, repr_and, reprs_of, named_repr}
 use Rattle.lalrpop_norm_tree_parts.specs.Reprs.{unit_type, static_str}
+pub use Rattle.lalrpop_norm_tree_parts.specs.Reprs.{input_lifetime, input_str}
 use Rattle.lalrpop_norm_model.specs.Entries.{user_names, match_entries, catch_all}
 use Rattle.lalrpop_norm_model.specs.Terminals.{same_terminal, terminals_used}
 
 -- ---- types with a name
-
-abbrev pub input_lifetime : Lifetime
-input_lifetime = record { 0 = codes "'input" }
-
-abbrev pub str_at : Lifetime → ReprData
-str_at l = reference (Some l) false (named_repr (codes "str"))
-
--- `&'input str`
-abbrev pub input_str : ReprData
-input_str = str_at input_lifetime
 
 -- `Token<'input>`
 abbrev pub token_of_input : ReprData

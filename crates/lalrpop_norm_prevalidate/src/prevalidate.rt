@@ -1,12 +1,12 @@
 //! Checks of a written grammar that need no names. They look at all parts, also at those that a `cfg` turns off.
-ghost use Rattle.std.specs.Prelude.{◌≡◌, ◌||◌, Bool, Some, true, false, map, flat_map, option_map};
-ghost use Rattle.lalrpop_norm_tree.specs.Accessors.{first_of, extern_token_of, match_token_of, or_else};
+ghost use Rattle.std.specs.Prelude.{◌≡◌, ◌||◌, Some, true, false, map, flat_map};
+ghost use Rattle.lalrpop_norm_tree.specs.Accessors.{or_else};
 ghost use Rattle.lalrpop_norm_tree_parts.specs.Attributes.{attributes_view};
 ghost use Rattle.lalrpop_norm_tree_parts.specs.Bounds.{where_clause_view};
 ghost use Rattle.lalrpop_norm_tree.specs.Items.{extern_token_view, grammar_view, item_view};
 ghost use Rattle.lalrpop_norm_tree.specs.Types.{parameter_view, type_view};
 ghost use Rattle.lalrpop_norm_faults.specs.Faults.{Refuses};
-ghost use Rattle.lalrpop_norm_prevalidate.specs.GrammarFaults.{is_match, is_extern, item_faults, items_faults, ascent_named, ascent_asked, is_asked, lacks_location, surroundings_of, blocks_in, unknown_grammar_faults, parameter_faults, clause_faults, validate_faults};
+ghost use Rattle.lalrpop_norm_prevalidate.specs.GrammarFaults.{is_match, is_extern, item_faults, items_faults, ascent_named, ascent_asked, lacks_location, surroundings_of, blocks_in, unknown_grammar_faults, parameter_faults, clause_faults, validate_faults};
 
 mod alternatives;
 mod cfg;

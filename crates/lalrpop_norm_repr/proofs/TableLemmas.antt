@@ -9,11 +9,9 @@ use Rattle.std.proofs.lemmas.Map.Text.{is_eq-slice_cmp}
 use Rattle.std.proofs.lemmas.Slice.Eq.{bytes_eq-Decides}
 use Rattle.std.proofs.lemmas.Bool.{false_from_ne_true}
 use Rattle.lalrpop_norm_tree_names.specs.declared.names.NonterminalString.{NonterminalString}
-use Rattle.lalrpop_norm_tree_names.specs.declared.names.TerminalLiteral.{TerminalLiteral}
-use Rattle.lalrpop_norm_tree_names.specs.declared.names.TerminalLiteral.TheVariants.{Quoted, Regex}
 use Rattle.lalrpop_norm_tree_names.specs.declared.names.TerminalString.{TerminalString}
-use Rattle.lalrpop_norm_tree_names.specs.declared.names.TerminalString.TheVariants as terminal
-use Rattle.lalrpop_norm_repr.specs.Tables.{found, found_terminal, same_literal, same_terminal}
+use Rattle.lalrpop_norm_tree.proofs.TerminalLemmas.{terminals_same}
+use Rattle.lalrpop_norm_repr.specs.Tables.{found, found_terminal, same_terminal}
 
 -- what a found value looks like
 pub seen_map : {X V : Type 0} (f : X → V) (b : Bool) (x : X) (o : Option X) → option_map f (cond b (Some x) o) ≡ cond b (Some (f x)) (option_map f o)
@@ -29,23 +27,6 @@ pub found_terminal_rows : {X V : Type 0} (f : X → V) (k : TerminalString) (tes
     → option_map f (lookup test es) ≡ found_terminal k (map {B = TerminalString × V} (λ e. (e.0, f e.1)) es)
 found_terminal_rows f k test same [] = refl
 found_terminal_rows f k test same (e ∷ es) = rw (same e.0) (seen_map f (same_terminal k e.0) e.1 _ ∙ ap (λ o. cond (same_terminal k e.0) (Some (f e.1)) o) (found_terminal_rows f k test same es))
-
-literals_same : (a b : TerminalLiteral) → same_literal a b ≡ true → a ≡ b
-literals_same (Quoted a) (Quoted b) h = ap Quoted ((bytes_eq-Decides a b).0 h)
-literals_same (Regex a) (Regex b) h = ap Regex ((bytes_eq-Decides a b).0 h)
-literals_same (Quoted a) (Regex b) h = cc
-literals_same (Regex a) (Quoted b) h = cc
-
-pub terminals_same : (a b : TerminalString) → same_terminal a b ≡ true → a ≡ b
-terminals_same (terminal.Literal a) (terminal.Literal b) h = ap terminal.Literal (literals_same a b h)
-terminals_same (terminal.Bare a) (terminal.Bare b) h = ap terminal.Bare ((bytes_eq-Decides a b).0 h)
-terminals_same terminal.Error terminal.Error h = refl
-terminals_same (terminal.Literal a) (terminal.Bare b) h = cc
-terminals_same (terminal.Literal a) terminal.Error h = cc
-terminals_same (terminal.Bare a) (terminal.Literal b) h = cc
-terminals_same (terminal.Bare a) terminal.Error h = cc
-terminals_same terminal.Error (terminal.Literal b) h = cc
-terminals_same terminal.Error (terminal.Bare b) h = cc
 
 pub other_name : (name other : NonterminalString) → (other ≡ name → ⊥) → bytes_eq name.0 other.0 ≡ false
 other_name name other apart = false_from_ne_true _ (λ e. apart (ap (λ (b : List ℕ). let n : NonterminalString = record { 0 = b } in n) (sym ((bytes_eq-Decides name.0 other.0).0 e))))

@@ -9,7 +9,7 @@ use Rattle.lalrpop_norm_tree.specs.Symbols.{Kind, Part, Parts, Call, Again, kind
 use Rattle.lalrpop_norm_model.specs.MadeRules.{kind_of, chosen_kinds, all_kinds, if_any, group_sources}
 use Rattle.lalrpop_norm_faults.proofs.FaultLemmas.{at_drop_item}
 use Rattle.lalrpop_norm_session.specs.ExprSymbols.{NamedPart, Placed, SymbolsSeen, with_names, with_any, named_in, named_parts, chosen_in, chosen_parts, all_parts, placed_sources}
-use Rattle.lalrpop_norm_session.proofs.SymbolLemmas.{seen_at}
+use Rattle.lalrpop_norm_tree.proofs.SymbolViews.{seen_at}
 
 pub seen_named : {A : Type 0} (f : A → NamedPart) (xs : List A) (n : ℕ) (ys : List NamedPart) (o : SymbolsSeen) →
     n ≡ length xs → map f xs ≡ ys → false ≡ (n == 0) → with_names (map f xs) ≡ with_any ys o

@@ -3,3 +3,4 @@ pub mod Slots
 pub mod FeatureLemmas
 pub mod SymbolLemmas
 pub mod ExprLemmas
+pub mod UsedLemmas

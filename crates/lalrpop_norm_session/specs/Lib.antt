@@ -2,3 +2,4 @@ pub mod Braces
 pub mod Sessions
 pub mod ExprSymbols
 pub mod Values
+pub mod Uses

@@ -266,23 +266,11 @@ pub fn is_chosen(symbol: &Symbol) -> bool
 }
 
 /// Whether a symbol of this kind is chosen.
+#[tactic(auto, using(crate::proofs::SymbolLemmas::chosen_known))]
 pub fn is_chosen_kind(kind: &SymbolKind) -> bool
     ensures { result ≡ is_chosen_kind (kind_view kind.now) }
 {
-    match kind {
-        SymbolKind::Choose(_) => true,
-        SymbolKind::Expr(_)
-        | SymbolKind::AmbiguousId(_)
-        | SymbolKind::Terminal(_)
-        | SymbolKind::Nonterminal(_)
-        | SymbolKind::Macro(_)
-        | SymbolKind::Repeat(_)
-        | SymbolKind::Name(_, _)
-        | SymbolKind::Tuple(_, _)
-        | SymbolKind::Lookahead
-        | SymbolKind::Lookbehind
-        | SymbolKind::Error => false,
-    }
+    chosen_in(0, kind).is_some()
 }
 
 /// Whether one of the symbols is chosen.

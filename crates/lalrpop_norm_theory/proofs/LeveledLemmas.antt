@@ -21,7 +21,7 @@ composed_clause origin c = clause (composed origin c.origin) c.parts
 abbrev leveled_clause : (Name → ℕ → Name) → Clause → Clause
 leveled_clause l c = clause c.origin (leveled_symbols l c.parts)
 
-abbrev leveled_parts : (Name → ℕ → Name) → Clause → ClosedSymbols
+abbrev pub leveled_parts : (Name → ℕ → Name) → Clause → ClosedSymbols
 leveled_parts l c = leveled_symbols l c.parts
 
 pub shifted : (k j : ℕ) → k + suc j ≡ suc k + j
@@ -63,7 +63,7 @@ numbered_calls n l origin f h k (suc left) e o = rw (e k) (at (h k) refl (number
 module _ (M L : Meaning) (l : Name → ℕ → Name) (origin : Name → ℕ → Origin) (declared : List ClosedSymbol)
     (I : IsLeveled M L l origin declared) (C : HasCounts L) (V : HasLevels L) where
   -- a rule without levels has all its alternatives on its one level
-  own_is_all : (n : Name) (k : ℕ) (o : Option ClosedSymbols) → L.reference_parts n None k ≡ o → L.own_parts n None k ≡ o
+  pub own_is_all : (n : Name) (k : ℕ) (o : Option ClosedSymbols) → L.reference_parts n None k ≡ o → L.own_parts n None k ≡ o
   own_is_all n k (Some parts) e = elim (V.split n None k parts e) [
     | inl own ↦ own
     | inr r ↦ let flat = I.flat n in absurd (let below = r.2 in none_some (sym flat ∙ below))
@@ -77,7 +77,7 @@ module _ (M L : Meaning) (l : Name → ℕ → Name) (origin : Name → ℕ → 
       at None q = q
       at (Some parts) q = let some = V.own n None k parts q in absurd (let both : None ≡ Some parts = sym e ∙ some in grind arith)
 
-  enough_numbers : (n : Name) (cs : List Clause) → ((j : ℕ) → L.own_parts n None j ≡ option_map (leveled_parts l) (slice_get cs j)) →
+  pub enough_numbers : (n : Name) (cs : List Clause) → ((j : ℕ) → L.own_parts n None j ≡ option_map (leveled_parts l) (slice_get cs j)) →
       length cs ≤ L.reference_count n
   enough_numbers n cs h = elim (slice_get_cases cs (L.reference_count n)).1 [
     | inl r ↦

@@ -1,5 +1,5 @@
 -- What is found of the terminals used, by the definitions of entries and of faults.
-use Rattle.std.proofs.Common.{◌≡◌, ◌⊎◌, ℕ, Bool, true, false, ◌||◌, ◌&&◌, cond, not, List, [], ◌∷◌, ◌++◌, map, Option, Some, None, is_none, inl, inr, refl, sym, ap, ap₂, ◌∙◌}
+use Rattle.std.proofs.Common.{◌≡◌, ◌⊎◌, ℕ, Bool, true, false, ◌||◌, cond, not, List, [], ◌∷◌, ◌++◌, map, Option, Some, None, is_none, inl, inr, refl, sym, ap, ap₂, ◌∙◌}
 use Rattle.std.specs.List.{flat_map}
 use Rattle.std.specs.Cmp.Lexicographic.{nat_list_eq_equiv}
 use Rattle.lalrpop_norm_tree_names.specs.declared.names.Span.{Span}
@@ -15,16 +15,13 @@ use Rattle.lalrpop_norm_faults.specs.declared.kind.FaultKind.TheVariants.{NoMapp
 use Rattle.lalrpop_norm_model.specs.Terminals.{same_literal}
 use Rattle.lalrpop_norm_model.specs.Entries.{entry_in, own_mapping, entry_cmp}
 use Rattle.lalrpop_norm_model.specs.LexerFaults.{place_if}
+use Rattle.lalrpop_norm_session.specs.Uses.{Use}
 use Rattle.lalrpop_norm_token_check.specs.Keys.{terminal_in, place_by}
 use Rattle.lalrpop_norm_token_check.specs.Found.{FoundData, lacks_entry, with_added, with_terminal, uses_faults, with_uses}
 use Rattle.lalrpop_norm_token_check.proofs.KeyLemmas.{named_more, place_more, in_inserted, kept_inserted, exact_entries}
 use Rattle.lalrpop_norm_token_check.proofs.FoundLemmas.{HasPlaces, placed_more}
 use Rattle.lalrpop_norm_theory.proofs.BoolLemmas.{or_true, and_false, right_false}
 use Rattle.lalrpop_norm_model.proofs.SameTerminalLemmas.{literals_same}
-
--- a terminal where it stands
-abbrev pub Use : Type 0
-Use = TerminalString × Span
 
 by_test : {A : Type 0} (P : A → Type 0) (b : Bool) (x y : A) → (b ≡ true → P x) → (b ≡ false → P y) → P (cond b x y)
 by_test P true x y f g = f refl

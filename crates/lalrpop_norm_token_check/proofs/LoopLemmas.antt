@@ -1,18 +1,9 @@
--- Loops that collect, and loops that keep a state and refuse by the first fault.
-use Rattle.std.proofs.Common.{◌≡◌, ◌<◌, ◌+◌, ℕ, Result, List, [], ◌∷◌, ◌++◌, append_assoc, length, drop, get_or, sym, ap, ◌∙◌}
+-- Loops that keep a state and refuse by the first fault.
+use Rattle.std.proofs.Common.{◌≡◌, ◌<◌, ◌+◌, ℕ, Result, List, [], ◌∷◌, ◌++◌, length, drop, get_or, sym, ap, ◌∙◌}
 use Rattle.std.specs.Result.{IsErrAnd}
 use Rattle.lalrpop_norm_faults.specs.declared.failure.NormFailure.{NormFailure}
 use Rattle.lalrpop_norm_faults.specs.Faults.{Fault, IsFirst, Refuses}
 use Rattle.lalrpop_norm_faults.proofs.FaultLemmas.{exit_at, at_drop_item}
-
--- what is collected so far, and what the rest gives, is all
-pub next_collected : {X Y : Type 0} (F : List X → List Y) (v : X → List Y) → ((x : X) (xs : List X) → F (x ∷ xs) ≡ v x ++ F xs) →
-    (xs : List X) (i : ℕ) (x : X) (old new all : List Y) → i < length xs → x ≡ get_or xs i x → new ≡ old ++ v x → old ++ F (drop i xs) ≡ all →
-    new ++ F (drop (i + 1) xs) ≡ all
-next_collected F v more xs i x old new all lt is made before =
-    ap (λ ys. ys ++ F (drop (i + 1) xs)) made
-    ∙ (append_assoc old (v x) (F (drop (i + 1) xs))
-    ∙ (ap (λ ys. old ++ ys) (sym (more x (drop (i + 1) xs))) ∙ (sym (at_drop_item (λ ys. old ++ F ys) xs i x lt is) ∙ before)))
 
 -- A loop that goes on from a state, where the next element has these faults and leads to the state `stepped`.
 module _ {X S : Type 0} (faults : S → List X → List Fault) (end : S → List X → S) (xs : List X) (i : ℕ) (x : X) (old : S)

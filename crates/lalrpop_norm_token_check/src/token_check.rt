@@ -18,7 +18,6 @@ mod entries;
 mod found;
 mod input;
 mod matches;
-mod uses;
 
 use automaton::automaton_of;
 use conversions::check_enum;
@@ -27,10 +26,10 @@ use found::Found;
 use input::{check_input, with_tokens};
 use lalrpop_norm_faults::NormResult;
 use lalrpop_norm_lexer::lexer::Lexer;
+use lalrpop_norm_session::uses::{Use, uses_of};
 use lalrpop_norm_tree::grammar::parse_tree::{Grammar, InternToken, MatchEntry, NoMemory};
 use std::alloc::Global;
 use std::collections::BTreeSet;
-use uses::{Use, uses_of};
 
 /// The grammar with its tokens: beside an extern enum it stays as it is, else it gets its entries with their automaton, which
 /// the lexer builds, as its last item, the lifetime `'input` as its first type parameter and `input` as its last parameter.
@@ -64,6 +63,8 @@ fn tokens_of<L: Lexer>(
 }
 
 /// The same, where the terminals used are at hand.
+// `tokens_of`, `tokens_by` and `internal_tokens` are apart for drops: what a function owns ends at each `?` behind it, and each
+// end is proved.
 fn tokens_by<L: Lexer>(
     alloc: Global,
     lexer: &L,

@@ -1,4 +1,5 @@
 pub mod SymbolViews
+pub mod TerminalLemmas
 pub mod TextLemmas
 pub mod FirstLemmas
 pub mod TypeLemmas

@@ -34,3 +34,8 @@ pub mod repr {
         Algorithm, LrCodeGeneration, NominalTypeRepr, TypeRepr, WhereClause,
     };
 }
+
+/// A copy that a pass makes of a part.
+pub mod copy {
+    pub use crate::items::copy::copy_action;
+}

@@ -3,7 +3,7 @@ ghost use Rattle.std.specs.Prelude.{Some};
 ghost use Rattle.lalrpop_norm_tree.specs.SymbolTexts.{mapping_text};
 
 mod accessors;
-mod copy;
+pub(crate) mod copy;
 mod copy_grammar;
 mod show;
 

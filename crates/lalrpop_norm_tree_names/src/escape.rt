@@ -1,5 +1,5 @@
 //! The texts of literals and terminals.
-ghost use Rattle.std.specs.Prelude.{Some, ◌≡◌};
+ghost use Rattle.std.specs.Prelude.{Some};
 ghost use Rattle.std.specs.Fmt.{WritesOnOk};
 ghost use Rattle.lalrpop_norm_tree_names.specs.Texts.{escape_char, escape, literal_text, terminal_text};
 

@@ -1,5 +1,5 @@
 -- Walks over the types of a bound by a function.
-use Rattle.std.proofs.Common.{◌≡◌, Result, List, [], ◌∷◌, ◌++◌, map, Option, Some, None, option_map, refl}
+use Rattle.std.proofs.Common.{◌≡◌, Result, List, ◌++◌, map, Option, Some, None, option_map, refl}
 use Rattle.std.specs.Prelude.{option_to_list}
 use Rattle.std.proofs.lemmas.List.{map-id}
 use Rattle.std.proofs.lemmas.Iterator.Adapters.{option_map_id}

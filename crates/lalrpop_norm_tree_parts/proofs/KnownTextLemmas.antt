@@ -1,5 +1,5 @@
 -- The texts of lists that may be open, one after another.
-use Rattle.std.proofs.Common.{Result, ◌≡◌, ℕ, ◌+◌, List, [], ◌∷◌, ◌++◌, ◌≤◌, ◌<◌, true, ◌==◌, Option, Some, None, IfSome, length, take, get_or, map, refl, sym, ap, subst, codes, Vec, Global, ◌∙◌, append_assoc}
+use Rattle.std.proofs.Common.{Result, ◌≡◌, ℕ, ◌+◌, List, [], ◌∷◌, ◌++◌, ◌≤◌, ◌<◌, true, Option, Some, None, IfSome, length, take, get_or, map, refl, sym, ap, subst, codes, Vec, Global, ◌∙◌, append_assoc}
 use Rattle.std.proofs.lemmas.List.{take_all, take_more, append-nil}
 use Rattle.std.specs.List.{flat_map}
 use Rattle.std.specs.Fmt.{◌++?◌, IsPlainFormatter, HasWritten, DisplaysOnOk}

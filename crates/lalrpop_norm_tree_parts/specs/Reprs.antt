@@ -93,6 +93,17 @@ lowered_where_clause_view = fold-WhereClause LoweredClause lowered_clause_step
 abbrev pub unit_type : ReprData
 unit_type = tuple no_reprs
 
+-- the type of a text that lives so long
+abbrev pub str_at : Lifetime → ReprData
+str_at l = reference (Some l) false (named_repr (codes "str"))
+
 -- `&'static str`
 abbrev pub static_str : ReprData
-static_str = reference (Some (record { 0 = codes "'static" })) false (named_repr (codes "str"))
+static_str = str_at (record { 0 = codes "'static" })
+
+abbrev pub input_lifetime : Lifetime
+input_lifetime = record { 0 = codes "'input" }
+
+-- `&'input str`
+abbrev pub input_str : ReprData
+input_str = str_at input_lifetime

@@ -3,7 +3,7 @@ ghost use Rattle.std.specs.Prelude.{◌≡◌, false};
 ghost use Rattle.lalrpop_norm_tree_parts.specs.declared.lowered.LrCodeGeneration.TheVariants.{TableDriven};
 
 mod bottom_up;
-mod copy;
+pub mod copy;
 mod free;
 mod make;
 mod naming;

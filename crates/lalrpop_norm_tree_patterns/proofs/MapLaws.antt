@@ -1,5 +1,5 @@
 -- What a map of patterns answers where each call answers one function of its place.
-use Rattle.std.proofs.Common.{◌≡◌, Result, Ok, Err, IfOk, List, [], ◌∷◌, ◌++◌, map, Bor, refl, ap, sym, ◌∙◌}
+use Rattle.std.proofs.Common.{◌≡◌, Result, Ok, Err, IfOk, List, [], ◌++◌, map, Bor, refl, ap, sym, ◌∙◌}
 use Rattle.std.proofs.lemmas.List.{append_assoc, append-nil}
 use Rattle.std.specs.Fn.{Mut, Called, CalledAt}
 use Rattle.lalrpop_norm_tree_patterns.specs.declared.pattern.Pattern.{Pattern}

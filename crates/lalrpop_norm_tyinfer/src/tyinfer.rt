@@ -12,9 +12,9 @@ ghost use Rattle.lalrpop_norm_tyinfer_table.specs.Inferred.{IsInferred};
 ghost use Rattle.lalrpop_norm_tyinfer_table.specs.Visits.{rule_seen, with_clauses};
 
 mod agreement;
+mod clauses;
 mod rounds;
 mod tokens;
-mod type_sources;
 
 use agreement::check_agreement;
 use lalrpop_norm_faults::NormResult;
@@ -45,6 +45,7 @@ pub fn infer_types(alloc: Global, grammar: &Grammar) -> NormResult<Types>
 }
 
 /// As `infer_types`, where the rules stand by.
+// The two are apart for drops: what a function owns ends at each `?` behind it, and each end is proved.
 fn infer(alloc: Global, grammar: &Grammar, rules: &[PlainRule]) -> NormResult<Types>
     requires seen { map rule_seen rules.now ≡ map with_clauses (all_rules (grammar_view grammar.now)) }
     requires distinct { IsDistinct (rule_names (grammar_view grammar.now)) }
@@ -64,6 +65,7 @@ fn filled_table(alloc: Global, grammar: &Grammar, rules: &[PlainRule]) -> Result
 {
     let mut types = token_types(alloc, grammar)?;
     run_rounds(alloc, &grammar.type_parameters, &mut types, rules)?;
+    // A law, which does nothing: it gives the order of the rows.
     types.rows_ascend();
     Ok(types)
 }

@@ -1,48 +1,26 @@
 -- The clause of an alternative.
 use Rattle.std.proofs.Common.{◌≡◌, ℕ, suc, Bool, true, false, List, [], ◌∷◌, map, Some, None, refl, sym, ap, ◌∙◌}
 use Rattle.std.specs.Prelude.{option_map}
-use Rattle.lalrpop_norm_tree_names.specs.declared.names.Span.{Span}
 use Rattle.lalrpop_norm_tree_names.specs.declared.names.TypeParameter.{TypeParameter}
 use Rattle.lalrpop_norm_tree.specs.Items.{AlternativeData}
 use Rattle.lalrpop_norm_tree_parts.specs.Reprs.{repr_and, tuple}
-use Rattle.lalrpop_norm_tree.specs.Symbols.{Kind, Parts, group, ambiguous_id, terminal, nonterminal, call, repeated, chosen, named, tupled, lookahead, lookbehind, error_terminal, at, no_parts, part_and}
+use Rattle.lalrpop_norm_tree.specs.Symbols.{Kind, Parts, chosen, at, no_parts, part_and}
 use Rattle.lalrpop_norm_tree.specs.Types.{of_symbol, types_of}
 use Rattle.lalrpop_norm_repr.specs.Tables.{TypeTable}
-use Rattle.lalrpop_norm_model.specs.MadeRules.{kind_of, chosen_kinds, all_kinds, if_any, group_sources, bare_or_tuple, names_value, some_name_value}
-use Rattle.lalrpop_norm_model.specs.Sources.{Source, named_sources, chosen_sources, all_sources, sources, default_type}
+use Rattle.lalrpop_norm_model.specs.MadeRules.{kind_of, chosen_kinds, all_kinds, if_any, group_sources, bare_or_tuple, some_name_value}
+use Rattle.lalrpop_norm_model.specs.Sources.{Source, chosen_sources, all_sources, sources, default_type}
 use Rattle.lalrpop_norm_model.specs.TypeRelation.{makes, alternative_clause}
 use Rattle.lalrpop_norm_model.specs.TypeTables.{both}
 use Rattle.lalrpop_norm_tyinfer_table.specs.Clauses.{type_of_sources, default_clause, kinds_in, sources_in}
 use Rattle.lalrpop_norm_session.proofs.ExprLemmas.{map_any}
+use Rattle.lalrpop_norm_session.proofs.SymbolLemmas.{no_named}
 use Rattle.lalrpop_norm_tyinfer_table.specs.TableValues.{kind_in, type_in, types_in}
-use Rattle.lalrpop_norm_theory.proofs.BoolLemmas.{left_false, right_false}
 use Rattle.lalrpop_norm_tree_parts.proofs.KnownTextLemmas.{map_twice}
 
 -- ---- sources
 
 abbrev kind_in_source : Source → Kind
 kind_in_source s = kind_of s.symbol
-
--- without names no source is named
-unnamed_one : (k : ℕ) (s : Span) (x : Kind) (ps : Parts) → names_value (at s x) ≡ false → named_sources (suc k) ps ≡ [] → named_sources k (part_and (at s x) ps) ≡ []
-unnamed_one k s (named n p) ps e d = absurd (cc e)
-unnamed_one k s (tupled ns p) ps e d = absurd (cc e)
-unnamed_one k s (group qs) ps e d = d
-unnamed_one k s (ambiguous_id a) ps e d = d
-unnamed_one k s (terminal t) ps e d = d
-unnamed_one k s (nonterminal n) ps e d = d
-unnamed_one k s (call n qs) ps e d = d
-unnamed_one k s (repeated op p) ps e d = d
-unnamed_one k s (chosen p) ps e d = d
-unnamed_one k s lookahead ps e d = d
-unnamed_one k s lookbehind ps e d = d
-unnamed_one k s error_terminal ps e d = d
-
-unnamed : (k : ℕ) (ps : Parts) → some_name_value ps ≡ false → named_sources k ps ≡ []
-unnamed k no_parts e = refl
-unnamed k (part_and (at s x) ps) e =
-    unnamed_one k s x ps (left_false (names_value (at s x)) (some_name_value ps) e)
-    (unnamed (suc k) ps (right_false (names_value (at s x)) (some_name_value ps) e))
 
 chosen_are : (k : ℕ) (ps : Parts) → map kind_in_source (chosen_sources k ps) ≡ chosen_kinds ps
 chosen_are k no_parts = refl
@@ -55,7 +33,7 @@ all_are k (part_and p ps) = ap (λ ks. kind_of p ∷ ks) (all_are (suc k) ps)
 
 sources_are : (ps : Parts) → some_name_value ps ≡ false → map kind_in_source (sources ps) ≡ group_sources ps
 sources_are ps e =
-    ap (λ ss. map kind_in_source (if_any ss (if_any (chosen_sources 0 ps) (all_sources 0 ps)))) (unnamed 0 ps e)
+    ap (λ ss. map kind_in_source (if_any ss (if_any (chosen_sources 0 ps) (all_sources 0 ps)))) (no_named 0 ps e)
     ∙ (map_any kind_in_source (chosen_sources 0 ps) (all_sources 0 ps)
     ∙ (ap (λ ks. if_any ks (map kind_in_source (all_sources 0 ps))) (chosen_are 0 ps) ∙ ap (if_any (chosen_kinds ps)) (all_are 0 ps)))
 

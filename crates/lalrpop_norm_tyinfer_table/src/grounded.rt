@@ -1,5 +1,5 @@
 //! Rules that nothing gives a type.
-ghost use Rattle.std.specs.Prelude.{◌≡◌, ◌∷◌, [], flat_map, map};
+ghost use Rattle.std.specs.Prelude.{flat_map, map};
 ghost use Rattle.lalrpop_norm_tree.specs.Items.{alternative_view, rule_view};
 ghost use Rattle.lalrpop_norm_faults.specs.Faults.{Refuses, IsFirst};
 ghost use Rattle.lalrpop_norm_repr.specs.Tables.{type_table};

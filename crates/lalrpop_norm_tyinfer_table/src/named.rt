@@ -1,17 +1,18 @@
 //! The terminals that entries will name, where a grammar has no internal tokens yet.
 ghost use Rattle.std.specs.Prelude.{◌≡◌, ◌++◌, IfOk, OnOk, flat_map, is_some, map, option_map};
-ghost use Rattle.lalrpop_norm_tree.specs.Items.{alternative_view, grammar_view, item_view, match_contents_view, match_token_view};
-ghost use Rattle.lalrpop_norm_tree.specs.Symbols.{expr_view, kind_view, parts_view, symbol_view};
-ghost use Rattle.lalrpop_norm_model.specs.Entries.{catch_all, catch_all_in, entries_in, has_catch_all, is_catch_all, last_catch_all, match_entries, terminal_named, user_names};
+ghost use Rattle.lalrpop_norm_tree.specs.Items.{grammar_view, item_view, match_contents_view, match_token_view};
+ghost use Rattle.lalrpop_norm_model.specs.Entries.{catch_all, catch_all_in, entries_in, match_entries, terminal_named, user_names};
 ghost use Rattle.lalrpop_norm_model.specs.PlainRules.{rule_of_item};
 ghost use Rattle.lalrpop_norm_model.specs.TerminalTypes.{let_in};
-ghost use Rattle.lalrpop_norm_model.specs.Terminals.{terminals_in, terminals_in_kind, terminals_in_parts, terminals_in_rule, terminals_used};
+ghost use Rattle.lalrpop_norm_model.specs.Terminals.{terminals_in_rule, terminals_used};
 ghost use Rattle.lalrpop_norm_model.specs.TokenFaults.{names_mapped_by};
-ghost use Rattle.lalrpop_norm_tyinfer_table.specs.Literals.{used_literal, terminals_in_alternatives};
+ghost use Rattle.lalrpop_norm_tyinfer_table.specs.Literals.{used_literal};
 
+use lalrpop_norm_session::match_block::catch_all_of;
+use lalrpop_norm_session::uses::{Use, uses_of};
 use lalrpop_norm_tree::grammar::parse_tree::{
-    Alternative, ExprSymbol, Grammar, GrammarItem, MatchContents, MatchItem, MatchMapping,
-    MatchToken, NoMemory, Symbol, SymbolKind, TerminalString,
+    Grammar, GrammarItem, MatchContents, MatchItem, MatchMapping, MatchToken, NoMemory,
+    TerminalString,
 };
 use std::alloc::Global;
 
@@ -25,7 +26,7 @@ pub(crate) fn names_to_come(
 {
     let block = grammar.match_token();
     let mut names = block_names(alloc, block)?;
-    add_let_in(&mut names, block, &grammar.items)?;
+    add_let_in(alloc, &mut names, block, &grammar.items)?;
     Ok(names)
 }
 
@@ -85,6 +86,7 @@ fn add_mapping(names: &mut Vec<TerminalString>, mapping: &MatchMapping) -> Resul
 
 /// Adds the literals that a match block, or the want of one, lets in.
 fn add_let_in(
+    alloc: Global,
     names: &mut Vec<TerminalString>,
     block: Option<&MatchToken>,
     items: &[GrammarItem],
@@ -95,7 +97,8 @@ fn add_let_in(
         (flat_map terminals_in_rule (flat_map rule_of_item (map item_view items.now)))) }
 {
     if lets_in(block) {
-        return add_literals(names, items);
+        let uses = uses_of(alloc, items)?;
+        return add_literals(names, &uses);
     }
     Ok(())
 }
@@ -104,119 +107,17 @@ fn add_let_in(
 fn lets_in(block: Option<&MatchToken>) -> bool
     ensures { result ≡ is_some (catch_all_in (option_map (λ m. match_token_view m.now) block.entry)) }
 {
-    match block {
-        Some(block) => some_catch_all(&block.contents),
-        None => true,
-    }
+    catch_all_of(block).is_some()
 }
 
-fn some_catch_all(groups: &[MatchContents]) -> bool
-    ensures { result ≡ is_some (last_catch_all (map match_contents_view groups.now)) }
+/// Adds the literals among the terminals used.
+fn add_literals(names: &mut Vec<TerminalString>, uses: &[Use]) -> Result<(), NoMemory>
+    ensures { OnOk result (names.new.items ≡ names.old.items ++ flat_map (λ u. used_literal u.0) uses.now) }
 {
-    for group in groups {
-        if has_catch_all(&group.items) {
-            return true;
-        }
-    }
-    false
-}
-
-fn has_catch_all(items: &[MatchItem]) -> bool
-    ensures { result ≡ has_catch_all items.now }
-{
-    for item in items {
-        if is_catch_all(item) {
-            return true;
-        }
-    }
-    false
-}
-
-fn is_catch_all(item: &MatchItem) -> bool
-    ensures { result ≡ is_catch_all item.now }
-{
-    match item {
-        MatchItem::CatchAll(_) => true,
-        MatchItem::Unmapped(_, _) | MatchItem::Mapped(_, _, _) => false,
-    }
-}
-
-/// Adds the literals that alternatives use, in reading order.
-fn add_literals(names: &mut Vec<TerminalString>, items: &[GrammarItem]) -> Result<(), NoMemory>
-    ensures { OnOk result (names.new.items
-        ≡ names.old.items ++ flat_map used_literal (flat_map terminals_in_rule (flat_map rule_of_item (map item_view items.now)))) }
-{
-    for item in items {
-        add_used_in(names, item)?;
+    for (terminal, _) in uses {
+        add_literal(names, terminal)?;
     }
     Ok(())
-}
-
-fn add_used_in(names: &mut Vec<TerminalString>, item: &GrammarItem) -> Result<(), NoMemory>
-    ensures { OnOk result (names.new.items ≡ names.old.items ++ flat_map used_literal (flat_map terminals_in_rule (rule_of_item (item_view item.now)))) }
-{
-    match item {
-        GrammarItem::Nonterminal(rule) => add_alternatives(names, &rule.alternatives),
-        GrammarItem::MatchToken(_)
-        | GrammarItem::ExternToken(_)
-        | GrammarItem::InternToken(_)
-        | GrammarItem::Use(_) => Ok(()),
-    }
-}
-
-fn add_alternatives(
-    names: &mut Vec<TerminalString>,
-    alternatives: &[Alternative],
-) -> Result<(), NoMemory>
-    ensures { OnOk result (names.new.items
-        ≡ names.old.items ++ flat_map used_literal (terminals_in_alternatives (map alternative_view alternatives.now))) }
-{
-    for alternative in alternatives {
-        add_expr(names, &alternative.expr)?;
-    }
-    Ok(())
-}
-
-fn add_expr(names: &mut Vec<TerminalString>, expr: &ExprSymbol) -> Result<(), NoMemory>
-    ensures { OnOk result (names.new.items ≡ names.old.items ++ flat_map used_literal (terminals_in_parts (expr_view expr.now))) }
-{
-    add_symbols(names, &expr.symbols)
-}
-
-fn add_symbols(names: &mut Vec<TerminalString>, symbols: &[Symbol]) -> Result<(), NoMemory>
-    ensures { OnOk result (names.new.items ≡ names.old.items ++ flat_map used_literal (terminals_in_parts (parts_view symbols.now))) }
-{
-    for symbol in symbols {
-        add_symbol(names, symbol)?;
-    }
-    Ok(())
-}
-
-#[cycle(symbol)]
-fn add_symbol(names: &mut Vec<TerminalString>, symbol: &Symbol) -> Result<(), NoMemory>
-    ensures { OnOk result (names.new.items ≡ names.old.items ++ flat_map used_literal (terminals_in (symbol_view symbol.now))) }
-{
-    add_kind(names, &symbol.kind)
-}
-
-#[cycle(symbol)]
-fn add_kind(names: &mut Vec<TerminalString>, kind: &SymbolKind) -> Result<(), NoMemory>
-    ensures { OnOk result (names.new.items ≡ names.old.items ++ flat_map used_literal (terminals_in_kind (kind_view kind.now))) }
-{
-    match kind {
-        SymbolKind::Terminal(terminal) => add_literal(names, terminal),
-        SymbolKind::Choose(symbol) => add_symbol(names, symbol),
-        SymbolKind::Name(_, symbol) => add_symbol(names, symbol),
-        SymbolKind::Tuple(_, symbol) => add_symbol(names, symbol),
-        SymbolKind::Expr(_)
-        | SymbolKind::AmbiguousId(_)
-        | SymbolKind::Nonterminal(_)
-        | SymbolKind::Macro(_)
-        | SymbolKind::Repeat(_)
-        | SymbolKind::Lookahead
-        | SymbolKind::Lookbehind
-        | SymbolKind::Error => Ok(()),
-    }
 }
 
 fn add_literal(names: &mut Vec<TerminalString>, terminal: &TerminalString) -> Result<(), NoMemory>

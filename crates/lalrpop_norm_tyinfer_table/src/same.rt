@@ -1,5 +1,5 @@
 //! Whether two lowered types are equal.
-ghost use Rattle.std.specs.Prelude.{◌≡◌, bytes_eq, length, option_map};
+ghost use Rattle.std.specs.Prelude.{◌≡◌, bytes_eq, option_map};
 ghost use Rattle.lalrpop_norm_tree_parts.specs.Paths.{path_view};
 ghost use Rattle.lalrpop_norm_tree_parts.specs.Reprs.{repr_view, reprs_view, applied_view, maybe_repr_of};
 ghost use Rattle.lalrpop_norm_theory.specs.Same.{same_flag};

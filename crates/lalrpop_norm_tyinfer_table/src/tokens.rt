@@ -4,10 +4,10 @@ ghost use Rattle.lalrpop_norm_tree_parts.specs.Accessors.{path_of};
 ghost use Rattle.lalrpop_norm_tree.specs.Accessors.{first_of, type_named};
 ghost use Rattle.lalrpop_norm_tree.specs.Items.{extern_token_view, grammar_view};
 ghost use Rattle.lalrpop_norm_tree.specs.LoweredTypes.{repr_of};
-ghost use Rattle.lalrpop_norm_tree_parts.specs.Reprs.{repr_view, reprs_view, applied_view, no_reprs, repr_and, of_lifetime};
+ghost use Rattle.lalrpop_norm_tree_parts.specs.Reprs.{repr_view, reprs_view, applied_view, no_reprs, repr_and, of_lifetime, input_lifetime, input_str};
 ghost use Rattle.lalrpop_norm_repr.specs.Tables.{type_table};
 ghost use Rattle.lalrpop_norm_model.specs.Entries.{user_names};
-ghost use Rattle.lalrpop_norm_model.specs.TerminalTypes.{declared_under, declared_location, token_type, token_of_input, input_lifetime, input_str, type_of_chosen, named_with};
+ghost use Rattle.lalrpop_norm_model.specs.TerminalTypes.{declared_under, declared_location, token_type, token_of_input, type_of_chosen, named_with};
 ghost use Rattle.lalrpop_norm_tyinfer_table.specs.TokenTypes.{AddsTerminals, rows_seen, base_table};
 
 use crate::named::names_to_come;
@@ -73,13 +73,6 @@ fn token_type(alloc: Global, grammar: &Grammar) -> Result<TypeRepr, NoMemory>
     }
 }
 
-fn input_lifetime(alloc: Global) -> Result<Lifetime, NoMemory>
-    ensures { IfOk result (λ l. l ≡ input_lifetime) }
-{
-    let text = Atom::new(alloc, "'input")?;
-    Ok(Lifetime(text))
-}
-
 /// `Token<'input>`.
 fn token_of_input(alloc: Global) -> Result<TypeRepr, NoMemory>
     ensures { IfOk result (λ t. repr_view t ≡ token_of_input) }
@@ -100,24 +93,9 @@ fn token_path(alloc: Global) -> Result<NominalTypeRepr, NoMemory>
 fn input_arguments(alloc: Global) -> Result<Vec<TypeRepr>, NoMemory>
     ensures { IfOk result (λ ts. reprs_view ts.items ≡ repr_and (of_lifetime input_lifetime) no_reprs) }
 {
-    let lifetime = input_lifetime(alloc)?;
-    let mut types = Vec::with_capacity(alloc, 1)?;
-    types.push(TypeRepr::Lifetime(lifetime))?;
+    let lifetime = Lifetime::input(alloc)?;
+    let types = vec![in alloc; TypeRepr::Lifetime(lifetime)]?;
     Ok(types)
-}
-
-/// `&'input str`.
-fn input_str(alloc: Global) -> Result<TypeRepr, NoMemory>
-    ensures { IfOk result (λ t. repr_view t ≡ input_str) }
-{
-    let lifetime = input_lifetime(alloc)?;
-    let text = TypeRepr::str(alloc)?;
-    let referent = Box::new(alloc, text)?;
-    Ok(TypeRepr::Ref {
-        lifetime: Some(lifetime),
-        mutable: false,
-        referent,
-    })
 }
 
 /// The rows of the entries that a grammar without internal tokens will have.
@@ -158,7 +136,7 @@ fn text_row(alloc: Global, terminal: &TerminalString) -> Result<Row, NoMemory>
     ensures type_of_text { IfOk result (λ r. repr_view r.1 ≡ input_str) }
 {
     let terminal = terminal.clone()?;
-    Ok((terminal, input_str(alloc)?))
+    Ok((terminal, TypeRepr::input_str(alloc)?))
 }
 
 /// One type bare, several as a tuple; nothing of none.

@@ -1,5 +1,5 @@
 //! What symbols give and written types mean by a table of types.
-ghost use Rattle.std.specs.Prelude.{◌≡◌, Bool, IfOk, option_map, is_some};
+ghost use Rattle.std.specs.Prelude.{◌≡◌, IfOk, option_map};
 ghost use Rattle.lalrpop_norm_tree_parts.specs.Paths.{path_view};
 ghost use Rattle.lalrpop_norm_tree_parts.specs.Reprs as lowered;
 ghost use Rattle.lalrpop_norm_tree_parts.specs.Reprs.{repr_view, reprs_view, applied_view, maybe_repr_of};
@@ -16,6 +16,7 @@ use lalrpop_norm_repr::grammar::repr::{NominalTypeRepr, TypeRepr, Types};
 use lalrpop_norm_tree::grammar::parse_tree::{
     Atom, Lifetime, NoMemory, Path, Symbol, SymbolKind, TypeParameter, TypeRef,
 };
+use lalrpop_norm_tree_parts::lowered::copy::copy_of;
 use lalrpop_norm_tree_parts::names::copy::copy_type_parameters;
 use std::alloc::Global;
 
@@ -25,9 +26,9 @@ pub fn kind_value(types: &Types, kind: &SymbolKind) -> Result<Option<TypeRepr>, 
     ensures { IfOk result (λ o. option_map repr_view o ≡ kind_in (type_table types.now) (kind_view kind.now)) }
 {
     match kind {
-        SymbolKind::Terminal(terminal) => copy_of(Some(types.terminal_type(terminal))),
-        SymbolKind::Error => copy_of(Some(types.error_recovery_type())),
-        SymbolKind::Nonterminal(name) => copy_of(types.lookup_nonterminal_type(name)),
+        SymbolKind::Terminal(terminal) => Ok(copy_of(Some(types.terminal_type(terminal)))?),
+        SymbolKind::Error => Ok(copy_of(Some(types.error_recovery_type()))?),
+        SymbolKind::Nonterminal(name) => Ok(copy_of(types.lookup_nonterminal_type(name))?),
         SymbolKind::Choose(inner) => symbol_value(types, inner),
         SymbolKind::Name(_, inner) => symbol_value(types, inner),
         SymbolKind::Tuple(_, inner) => symbol_value(types, inner),
@@ -45,16 +46,6 @@ fn symbol_value(types: &Types, symbol: &Symbol) -> Result<Option<TypeRepr>, NoMe
     ensures { IfOk result (λ o. option_map repr_view o ≡ part_in (type_table types.now) (symbol_view symbol.now)) }
 {
     kind_value(types, &symbol.kind)
-}
-
-/// A copy of the type that is there.
-pub fn copy_of(ty: Option<&TypeRepr>) -> Result<Option<TypeRepr>, NoMemory>
-    ensures { IfOk result (λ o. option_map repr_view o ≡ option_map (λ t. repr_view t.now) ty.entry) }
-{
-    match ty {
-        Some(ty) => Ok(Some(ty.clone()?)),
-        None => Ok(None),
-    }
 }
 
 fn is_parameter_of(name: &Atom, parameter: &TypeParameter) -> bool

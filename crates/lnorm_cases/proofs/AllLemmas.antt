@@ -1,5 +1,5 @@
 -- Items with a list of truth values as their parts.
-use Rattle.std.proofs.Common.{◌≡◌, ℕ, List, Bool, map, Option, Some, refl, sym, ap, ◌∙◌}
+use Rattle.std.proofs.Common.{◌≡◌, ℕ, List, Bool, map, Some, refl, sym, ◌∙◌}
 use Rattle.std.specs.Prelude.{codes}
 use Rattle.serde_json.specs.Data.{Data, boolean, array, object, member, no_members}
 use Rattle.serde_json.specs.View.{items_of}

@@ -5,11 +5,12 @@ use lalrpop_norm::normalize::cond_comp::cfg_active;
 use lalrpop_norm::normalize::norm_util::{
     AlternativeAction, Presence, Symbols, analyze_action, check_between_braces,
 };
-use lalrpop_norm_precedence::precedence::{AlternativeLevel, Assoc, has_prec_attr, read_levels};
+use lalrpop_norm_precedence::precedence::{AlternativeLevel, has_prec_attr, read_levels};
 use lalrpop_norm_tree::grammar::parse_tree::{
     ActionKind, Alternative, ArgPattern, AssociatedType, Attribute, AttributeArg, Conversion,
     EnumToken, ExternToken, Grammar, GrammarItem, NoMemory, NonterminalData, Span, Symbol, TypeRef,
 };
+use lnorm_texts::faults::side_name;
 use lnorm_texts::made::{atom, both, list_of_one, made_of, push_shown, string};
 use lnorm_texts::print::symbols::{push_span, push_span_line, push_terminal};
 use std::alloc::{AllocError, Global};
@@ -208,15 +209,6 @@ fn push_read_levels(text: &mut String, levels: &[AlternativeLevel]) -> Result<()
         write!(text, " {level} {side}")?;
     }
     Ok(())
-}
-
-fn side_name(side: &Assoc) -> &'static str {
-    match side {
-        Assoc::Left => "left",
-        Assoc::Right => "right",
-        Assoc::NonAssoc => "none",
-        Assoc::FullyAssoc => "all",
-    }
 }
 
 /// Which symbols give values, and where the first `<>` of its code stands.

@@ -1,5 +1,5 @@
 -- Where normalization with the program's lexer answers, no fault stands, none of the lexer's either.
-use Rattle.std.proofs.Common.{◌≡◌, ◌⊎◌, List, [], ◌∷◌, ◌++◌, map, Option, Some, None, inl, inr, refl, sym, ◌∙◌}
+use Rattle.std.proofs.Common.{◌≡◌, List, [], ◌∷◌, ◌++◌, map, Option, Some, None, inl, inr, refl, sym, ◌∙◌}
 use Rattle.lalrpop_norm_tree.specs.Items.{GrammarData, EnumTokenData}
 use Rattle.lalrpop_norm_faults.specs.Faults.{Fault, Finding, sure, maybe, sure_ones, StandsAmong}
 use Rattle.lalrpop_norm_faults.proofs.FindingLemmas.{sure_append}

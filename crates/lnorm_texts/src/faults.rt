@@ -59,17 +59,18 @@ pub(crate) fn push_sides(text: &mut String) -> Result<(), AllocError> {
     for name in ["left", "right", "none", "all", "", "Left", "left ", "both"] {
         match name.parse::<Assoc>() {
             Ok(side) => {
-                let found = side_name(side);
+                let found = side_name(&side);
                 write!(text, "side \"{name}\": {found}\n")?;
             }
             Err(error) => write!(text, "side \"{name}\": {error}\n")?,
         }
     }
-    let found = side_name(Assoc::default());
+    let found = side_name(&Assoc::default());
     write!(text, "no side: {found}\n")
 }
 
-fn side_name(side: Assoc) -> &'static str {
+/// The word for the side.
+pub fn side_name(side: &Assoc) -> &'static str {
     match side {
         Assoc::Left => "left",
         Assoc::Right => "right",

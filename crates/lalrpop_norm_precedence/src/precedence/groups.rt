@@ -1,5 +1,5 @@
 //! Alternatives with their levels, level by level.
-ghost use Rattle.std.specs.Prelude.{◌≡◌, ◌<◌, [], ◌∷◌, ◌++◌, IfOk, OnOk, Some, length, map, slice_get, vec_len};
+ghost use Rattle.std.specs.Prelude.{◌≡◌, ◌<◌, [], IfOk, OnOk, Some, length, map, slice_get, vec_len};
 ghost use Rattle.lalrpop_norm_theory.specs.Rounds.{In};
 ghost use Rattle.lalrpop_norm_tree.specs.Items.{alternative_view};
 ghost use Rattle.lalrpop_norm_model.specs.Levels.{Leveled, rising};

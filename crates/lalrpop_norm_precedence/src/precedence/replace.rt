@@ -1,5 +1,5 @@
 //! Own occurrences replaced by the names of levels.
-ghost use Rattle.std.specs.Prelude.{◌≡◌, false, IfOk, OnOk, map};
+ghost use Rattle.std.specs.Prelude.{◌≡◌, false, IfOk, OnOk};
 ghost use Rattle.lalrpop_norm_tree.specs.Symbols.{kind_view, symbol_view, repeat_view, parts_view};
 ghost use Rattle.lalrpop_norm_model.specs.Occurrences.{count_kind, count_part, count_parts};
 ghost use Rattle.lalrpop_norm_precedence_steps.specs.Substitutions.{substitution_view, met_kind};

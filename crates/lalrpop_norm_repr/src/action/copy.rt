@@ -1,14 +1,10 @@
 //! Copies of actions.
 ghost use Rattle.std.specs.Prelude.{◌≡◌, IfOk, map};
-ghost use Rattle.lalrpop_norm_tree_parts.specs.Reprs.{repr_view};
-ghost use Rattle.lalrpop_norm_tree.specs.Symbols.{argument_pattern_view};
 ghost use Rattle.lalrpop_norm_repr.specs.Actions.{action_defn_view, action_kind_view, inline_action_view, inlined_symbol_view, user_action_view};
 
 use super::{ActionFnDefn, ActionFnDefnKind, InlineActionFnDefn, InlinedSymbol, UserActionFnDefn};
 use crate::production::copy_symbols;
-use lalrpop_norm_tree::grammar::parse_tree::ArgPattern;
-use lalrpop_norm_tree::grammar::repr::TypeRepr;
-use std::alloc::{AllocError, Global};
+use std::alloc::AllocError;
 
 impl Clone for ActionFnDefn {
     ghost is_clone = { λ a b. action_defn_view b ≡ action_defn_view a };

@@ -1,9 +1,9 @@
 //! The texts of actions.
-ghost use Rattle.std.specs.Prelude.{Some, map, codes, ◌++◌, string_bytes};
+ghost use Rattle.std.specs.Prelude.{Some, map, codes, ◌++◌};
 ghost use Rattle.std.specs.Fmt.{WritesOnOk};
 ghost use Rattle.std.specs.List.{flat_map, zip};
-ghost use Rattle.lalrpop_norm_tree_parts.specs.Reprs.{ReprData, repr_view};
-ghost use Rattle.lalrpop_norm_tree.specs.Symbols.{ArgumentPattern, argument_pattern_view};
+ghost use Rattle.lalrpop_norm_tree_parts.specs.Reprs.{repr_view};
+ghost use Rattle.lalrpop_norm_tree.specs.Symbols.{argument_pattern_view};
 ghost use Rattle.lalrpop_norm_tree_names.specs.Texts.{joined};
 ghost use Rattle.lalrpop_norm_tree_parts.specs.TypeTexts.{repr_text};
 ghost use Rattle.lalrpop_norm_repr.specs.Actions.{action_defn_view, inlined_symbol_view, user_action_view};

@@ -6,6 +6,7 @@ ghost use Rattle.lalrpop_norm_repr.specs.Tables.{rows, type_table};
 use super::Types;
 use lalrpop_norm_tree::grammar::parse_tree::{NonterminalString, TerminalString};
 use lalrpop_norm_tree::grammar::repr::TypeRepr;
+use lalrpop_norm_tree_parts::lowered::copy::copy_of;
 use std::alloc::AllocError;
 use std::collections::BTreeMap;
 
@@ -70,18 +71,9 @@ fn copy_declared(
     ensures error { IfOk result (λ d. option_map repr_view d.2 ≡ option_map repr_view types.now.error_type) }
 {
     let token = types.terminal_token_type.clone()?;
-    let location = copy_option(&types.terminal_loc_type)?;
-    let error = copy_option(&types.error_type)?;
+    let location = copy_of(types.terminal_loc_type.as_ref())?;
+    let error = copy_of(types.error_type.as_ref())?;
     Ok((token, location, error))
-}
-
-fn copy_option(ty: &Option<TypeRepr>) -> Result<Option<TypeRepr>, AllocError>
-    ensures { IfOk result (λ t. option_map repr_view t ≡ option_map repr_view ty.now) }
-{
-    match ty {
-        Some(ty) => Ok(Some(ty.clone()?)),
-        None => Ok(None),
-    }
 }
 
 fn copy_terminals(

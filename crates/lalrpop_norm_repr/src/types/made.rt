@@ -1,12 +1,12 @@
 //! Types that a table makes.
-ghost use Rattle.std.specs.Prelude.{◌≡◌, List, [], ◌∷◌, ◌++◌, map, Some, None, codes, unwrap_or, option_map, IfOk, string_bytes, false};
+ghost use Rattle.std.specs.Prelude.{◌≡◌, [], ◌∷◌, ◌++◌, map, Some, None, codes, unwrap_or, option_map, IfOk, false};
 ghost use Rattle.lalrpop_norm_tree_parts.specs.Paths.{path_view};
 ghost use Rattle.lalrpop_norm_tree_parts.specs.Reprs.{repr_view, reprs_view, repr_and, no_reprs, unit_type, static_str};
 ghost use Rattle.lalrpop_norm_repr.specs.Tables.{rows, type_table, new_table, location_type, user_error_type, spanned, util_type};
 ghost use Rattle.lalrpop_norm_tree_names.specs.declared.names.TerminalString.TheVariants.{Error};
 
 use super::Types;
-use lalrpop_norm_tree::grammar::parse_tree::{Atom, Lifetime, NoMemory, Path, TerminalString};
+use lalrpop_norm_tree::grammar::parse_tree::{Atom, NoMemory, Path, TerminalString};
 use lalrpop_norm_tree::grammar::repr::{NominalTypeRepr, TypeRepr};
 use std::alloc::Global;
 use std::collections::BTreeMap;
@@ -126,22 +126,8 @@ fn error_or_text(alloc: Global, error: &Option<TypeRepr>) -> Result<TypeRepr, No
 {
     match error {
         Some(error) => Ok(error.clone()?),
-        None => Ok(text_reference(alloc)?),
+        None => Ok(TypeRepr::static_str(alloc)?),
     }
-}
-
-/// `&'static str`.
-fn text_reference(alloc: Global) -> Result<TypeRepr, NoMemory>
-    ensures { IfOk result (λ t. repr_view t ≡ static_str) }
-{
-    let lifetime = Lifetime(Atom::new(alloc, "'static")?);
-    let text = TypeRepr::str(alloc)?;
-    let referent = Box::new(alloc, text)?;
-    Ok(TypeRepr::Ref {
-        lifetime: Some(lifetime),
-        mutable: false,
-        referent,
-    })
 }
 
 /// `{prefix}lalrpop_util::Name<L, T, E>`.

@@ -1,6 +1,6 @@
 //! Global names.
 ghost use Rattle.std.specs.Prelude.{◌≡◌, [], OnOk, flat_map, map, option_map};
-ghost use Rattle.lalrpop_norm_tree.specs.Items.{ConversionData, conversion_view, enum_token_view, item_view, match_contents_view};
+ghost use Rattle.lalrpop_norm_tree.specs.Items.{conversion_view, enum_token_view, item_view, match_contents_view};
 ghost use Rattle.lalrpop_norm_faults.specs.Faults.{Refuses, RefusesOr};
 ghost use Rattle.lalrpop_norm_model.specs.Scopes.{rule_definition, bare_global, match_global, conversions_in, rule_globals, conversion_globals, match_globals};
 ghost use Rattle.lalrpop_norm_resolve.specs.NameTables.{def_of, with_def, all_rows, row_faults, rows_faults, items_globals, conversion_global};

@@ -1,5 +1,5 @@
 //! Names in symbols.
-ghost use Rattle.std.specs.Prelude.{◌≡◌, [], ◌∷◌, OnOk, length};
+ghost use Rattle.std.specs.Prelude.{◌≡◌, [], ◌∷◌, OnOk};
 ghost use Rattle.lalrpop_norm_tree.specs.Symbols.{kind_view, symbol_view, repeat_view, parts_view};
 ghost use Rattle.lalrpop_norm_faults.specs.Faults.{IsFirst, Refuses, RefusesOr};
 ghost use Rattle.lalrpop_norm_model.specs.Scopes.{is_argument, by_sense, resolved_kind, resolved_part, resolved_parts};

@@ -1,6 +1,5 @@
 //! An extern enum: its conversions, and that each terminal used has one.
 ghost use Rattle.std.specs.Prelude.{◌≡◌, [], OnOk, map, flat_map, not};
-ghost use Rattle.std.specs.BTreeSet.{insert_key};
 ghost use Rattle.lalrpop_norm_tree.specs.Items.{conversion_view, enum_token_view};
 ghost use Rattle.lalrpop_norm_faults.specs.Faults.{Refuses, RefusesOr, fault_if};
 ghost use Rattle.lalrpop_norm_model.specs.Terminals.{terminal_cmp};
@@ -10,8 +9,8 @@ ghost use Rattle.lalrpop_norm_token_check.specs.Converted.{twice_from, converted
 ghost use Rattle.lalrpop_norm_token_check.specs.Keys.{with_keys, terminal_in};
 
 use super::found::add_name;
-use super::uses::Use;
 use lalrpop_norm_faults::{FaultKind, NormResult, refusal};
+use lalrpop_norm_session::uses::Use;
 use lalrpop_norm_tree::grammar::parse_tree::{Conversion, EnumToken, Span, TerminalString};
 use std::alloc::Global;
 use std::collections::BTreeSet;

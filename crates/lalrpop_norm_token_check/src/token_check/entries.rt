@@ -5,9 +5,10 @@ ghost use Rattle.lalrpop_norm_faults.specs.Faults.{IsFirst, Refuses, RefusesOr, 
 ghost use Rattle.lalrpop_norm_token_check.specs.Found.{found_view, lacks_entry, with_added, with_terminal, uses_faults, with_uses, found_faults, all_found};
 
 use super::found::{Found, add_entry, own_mapping};
-use super::matches::{add_block, catch_all_of};
-use super::uses::Use;
+use super::matches::add_block;
 use lalrpop_norm_faults::{FaultKind, NormFailure, NormResult, refusal};
+use lalrpop_norm_session::match_block::catch_all_of;
+use lalrpop_norm_session::uses::Use;
 use lalrpop_norm_tree::grammar::parse_tree::{
     MatchToken, NoMemory, Span, TerminalLiteral, TerminalString,
 };

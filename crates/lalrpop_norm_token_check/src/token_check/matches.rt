@@ -1,8 +1,7 @@
-//! The match block: its entries, group by group, and its catch-all.
-ghost use Rattle.std.specs.Prelude.{◌≡◌, ◌<◌, ◌^◌, OnOk, IfSome, map, length, None, option_map};
+//! The match block: its entries, group by group.
+ghost use Rattle.std.specs.Prelude.{◌≡◌, ◌<◌, ◌^◌, OnOk, map, option_map};
 ghost use Rattle.lalrpop_norm_tree.specs.Items.{match_contents_view, match_token_view};
 ghost use Rattle.lalrpop_norm_faults.specs.Faults.{Refuses};
-ghost use Rattle.lalrpop_norm_model.specs.Entries.{catch_all_in, has_catch_all, is_catch_all, last_catch_all};
 ghost use Rattle.lalrpop_norm_token_check.specs.Found.{found_view, none_found, mapped_faults, with_mapped, found_item_faults, with_item, found_items_faults, with_items, groups_faults, with_groups, block_faults, with_block};
 
 use super::found::{Found, add_entry, add_name, add_place, own_mapping};
@@ -90,48 +89,4 @@ fn add_mapped(
     }
     add_entry(&mut found.entries, precedence, literal, mapping)?;
     Ok(())
-}
-
-/// The precedence of the literals that the match block does not name, if it lets them in.
-pub(super) fn catch_all_of(block: Option<&MatchToken>) -> Option<usize>
-    ensures precedence { result ≡ catch_all_in (option_map (λ m. match_token_view m.now) block.entry) }
-    ensures small { IfSome result (λ p. p < 2 ^ 63) }
-{
-    match block {
-        Some(block) => last_catch_all(&block.contents),
-        None => Some(0),
-    }
-}
-
-fn last_catch_all(groups: &[MatchContents]) -> Option<usize>
-    ensures precedence { result ≡ last_catch_all (map match_contents_view groups.now) }
-    ensures small { IfSome result (λ p. p < 2 ^ 63) }
-{
-    let mut last = None;
-    for index in 0..groups.len() {
-        if has_catch_all(&groups[index].items) {
-            last = Some(groups.len() - index);
-        }
-    }
-    last
-}
-
-fn has_catch_all(items: &[MatchItem]) -> bool
-    ensures { result ≡ has_catch_all items.now }
-{
-    for item in items {
-        if is_catch_all(item) {
-            return true;
-        }
-    }
-    false
-}
-
-fn is_catch_all(item: &MatchItem) -> bool
-    ensures { result ≡ is_catch_all item.now }
-{
-    match item {
-        MatchItem::CatchAll(_) => true,
-        MatchItem::Unmapped(_, _) | MatchItem::Mapped(_, _, _) => false,
-    }
 }

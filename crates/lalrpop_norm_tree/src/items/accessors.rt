@@ -1,5 +1,5 @@
 //! What items and grammars are made of and asked for.
-ghost use Rattle.std.specs.Prelude.{◌≡◌, [], ◌∷◌, ◌++◌, Bool, None, option_map, IfOk, IfErr};
+ghost use Rattle.std.specs.Prelude.{◌≡◌, [], ◌∷◌, ◌++◌, None, option_map, IfOk, IfErr};
 ghost use Rattle.lalrpop_norm_tree.specs.Accessors.{first_of, match_item_span, is_public, is_macro, is_macro_item, rule_of, match_token_of, extern_token_of, intern_token_of, enum_token_of, type_named};
 ghost use Rattle.lalrpop_norm_tree.specs.Items.{associated_type_view, enum_token_view, extern_token_view, grammar_view, intern_token_view, item_view, match_contents_view, match_token_view, rule_item, rule_view, visibility_view};
 

@@ -10,7 +10,7 @@ use super::{
 use crate::types::TypeRef;
 use lalrpop_norm_tree_parts::attribute::copy::copy_attributes;
 use lalrpop_norm_tree_parts::names::NonterminalString;
-use std::alloc::{AllocError, Global};
+use std::alloc::AllocError;
 
 impl Clone for ActionKind {
     ghost is_clone = { λ a b. action_view b ≡ action_view a };
@@ -56,7 +56,8 @@ impl Clone for Alternative {
     }
 }
 
-fn copy_action(action: &Option<ActionKind>) -> Result<Option<ActionKind>, AllocError>
+/// A copy of the code of an alternative. The only error is want of memory.
+pub fn copy_action(action: &Option<ActionKind>) -> Result<Option<ActionKind>, AllocError>
     ensures { IfOk result (λ a. option_map action_view a ≡ option_map action_view action.now) }
 {
     match action {

@@ -1,5 +1,5 @@
 //! Copies of conversions, extern blocks, items and grammars.
-ghost use Rattle.std.specs.Prelude.{◌≡◌, IfOk, map, option_map, string_bytes};
+ghost use Rattle.std.specs.Prelude.{◌≡◌, IfOk, map, option_map};
 ghost use Rattle.lalrpop_norm_tree_parts.specs.Bounds.{where_clause_view};
 ghost use Rattle.lalrpop_norm_tree.specs.Items.{conversion_view, enum_token_view, extern_token_view, grammar_view, item_view};
 ghost use Rattle.lalrpop_norm_tree_patterns.specs.Patterns.{pattern_view};

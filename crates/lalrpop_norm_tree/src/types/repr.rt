@@ -1,5 +1,5 @@
 //! What written types become.
-ghost use Rattle.std.specs.Prelude.{◌≡◌, ◌↔◌, Bool, true, false, option_map, IfOk, IsTrue, IsErrOf};
+ghost use Rattle.std.specs.Prelude.{◌≡◌, ◌↔◌, true, false, option_map, IfOk, IsTrue, IsErrOf};
 ghost use Rattle.lalrpop_norm_tree.specs.LoweredTypes.{holds_symbol, any_holds_symbol, result_holds_symbol, named_path, repr_of, all_reprs_of, result_repr_of};
 ghost use Rattle.lalrpop_norm_tree_parts.specs.Paths.{path_view};
 ghost use Rattle.lalrpop_norm_tree_parts.specs.Reprs.{repr_view, reprs_view, applied_view, maybe_repr_of, no_reprs};

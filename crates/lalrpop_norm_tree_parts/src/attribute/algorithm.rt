@@ -1,5 +1,5 @@
 //! What a grammar's attributes say of its parser.
-ghost use Rattle.std.specs.Prelude.{◌≡◌, ◌||◌, Bool, IsTrue, All, bytes_eq, codes, fold, unwrap_or};
+ghost use Rattle.std.specs.Prelude.{◌≡◌, ◌||◌, IsTrue, All, bytes_eq, codes, fold, unwrap_or};
 ghost use Rattle.std.specs.List.{list_any};
 ghost use Rattle.lalrpop_norm_tree_parts.specs.Accessors.{is_known_name, codegen_named};
 

@@ -8,7 +8,6 @@ ghost use Rattle.lalrpop_norm_tree_parts.specs.Paths.{path_view};
 ghost use Rattle.lalrpop_norm_tree_parts.specs.Walks.{Answered, Ended};
 
 use super::{TypeBound, TypeBoundParameter};
-use crate::names::copy::copy_type_parameters;
 use crate::names::{Lifetime, TypeParameter};
 use crate::path::Path;
 use crate::walk::{add, map_one, same_head, same_name};

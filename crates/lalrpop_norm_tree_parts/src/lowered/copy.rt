@@ -25,6 +25,16 @@ impl Clone for NominalTypeRepr {
     }
 }
 
+/// A copy of the type that is there. The only error is want of memory.
+pub fn copy_of(ty: Option<&TypeRepr>) -> Result<Option<TypeRepr>, AllocError>
+    ensures { IfOk result (λ o. option_map repr_view o ≡ option_map (λ t. repr_view t.now) ty.entry) }
+{
+    match ty {
+        Some(ty) => Ok(Some(ty.clone()?)),
+        None => Ok(None),
+    }
+}
+
 #[cycle(copy)]
 fn copy_repr(ty: &TypeRepr) -> Result<TypeRepr, AllocError>
     ensures { IfOk result (λ t. repr_view t ≡ repr_view ty.now) }

@@ -1,6 +1,6 @@
 //! The parameters that lowered types speak of.
 ghost use Rattle.std.specs.Prelude.{◌≡◌, ◌∷◌, ◌++◌, [], map, filter, not, IfOk, OnOk, option_map, option_to_list};
-ghost use Rattle.lalrpop_norm_tree_parts.specs.FreeVariables.{same_parameter, is_parameter_among, met_in_type, met_in_path, met_in_all, met_in_return, with_parameters, free_in};
+ghost use Rattle.lalrpop_norm_tree_parts.specs.FreeVariables.{is_parameter_among, met_in_type, met_in_path, met_in_all, met_in_return, with_parameters, free_in};
 ghost use Rattle.lalrpop_norm_tree_parts.specs.Paths.{path_view};
 ghost use Rattle.lalrpop_norm_tree_parts.specs.Reprs.{repr_view, reprs_view, applied_view, maybe_repr_of};
 

@@ -1,10 +1,9 @@
-//! Lowered types of one name, and the unit type.
-ghost use Rattle.std.specs.Prelude.{◌≡◌, ◌↔◌, ◌∷◌, [], IfOk, IsTrue, codes, false};
-ghost use Rattle.lalrpop_norm_tree_parts.specs.Paths.{path_view};
-ghost use Rattle.lalrpop_norm_tree_parts.specs.Reprs.{repr_view, tuple, no_reprs, named_repr, parameter_repr};
+//! Lowered types of one name, references to `str`, and the unit type.
+ghost use Rattle.std.specs.Prelude.{◌≡◌, ◌↔◌, IfOk, IsTrue, codes};
+ghost use Rattle.lalrpop_norm_tree_parts.specs.Reprs.{repr_view, tuple, no_reprs, named_repr, parameter_repr, str_at, static_str, input_str};
 
 use super::{NominalTypeRepr, TypeRepr};
-use crate::names::TypeParameter;
+use crate::names::{Lifetime, TypeParameter};
 use crate::path::Path;
 use shared_text::{Atom, NoMemory};
 use std::alloc::Global;
@@ -22,6 +21,20 @@ impl TypeRepr {
         ensures { IfOk result (λ t. repr_view t ≡ named_repr (codes "str")) }
     {
         named(alloc, Atom::new(alloc, "str")?)
+    }
+
+    /// `&'static str`. The only error is want of memory.
+    pub fn static_str(alloc: Global) -> Result<TypeRepr, NoMemory>
+        ensures { IfOk result (λ t. repr_view t ≡ static_str) }
+    {
+        str_at(alloc, Lifetime::statik(alloc)?)
+    }
+
+    /// `&'input str`. The only error is want of memory.
+    pub fn input_str(alloc: Global) -> Result<TypeRepr, NoMemory>
+        ensures { IfOk result (λ t. repr_view t ≡ input_str) }
+    {
+        str_at(alloc, Lifetime::input(alloc)?)
     }
 
     /// The type that a parameter stands for: a lifetime itself, or the type of that name. The only error is want of memory.
@@ -51,22 +64,24 @@ impl TypeRepr {
     }
 }
 
+/// A reference to `str` that lives so long.
+fn str_at(alloc: Global, lifetime: Lifetime) -> Result<TypeRepr, NoMemory>
+    ensures { IfOk result (λ t. repr_view t ≡ str_at lifetime) }
+{
+    let text = TypeRepr::str(alloc)?;
+    let referent = Box::new(alloc, text)?;
+    Ok(TypeRepr::Ref {
+        lifetime: Some(lifetime),
+        mutable: false,
+        referent,
+    })
+}
+
 /// The type of that one name.
 fn named(alloc: Global, name: Atom) -> Result<TypeRepr, NoMemory>
     ensures { IfOk result (λ t. repr_view t ≡ named_repr name) }
 {
-    let path = path_of(alloc, name)?;
+    let path = Path::from_id(alloc, name)?;
     let types = Vec::new(alloc);
     Ok(TypeRepr::Nominal(NominalTypeRepr { path, types }))
-}
-
-fn path_of(alloc: Global, name: Atom) -> Result<Path, NoMemory>
-    ensures { IfOk result (λ p. path_view p ≡ record { absolute = false; ids = name ∷ [] }) }
-{
-    let mut ids = Vec::with_capacity(alloc, 1)?;
-    ids.push(name)?;
-    Ok(Path {
-        absolute: false,
-        ids,
-    })
 }

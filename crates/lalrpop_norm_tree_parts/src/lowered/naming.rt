@@ -1,8 +1,8 @@
 //! Names for the anonymous lifetimes of lowered types.
-ghost use Rattle.std.specs.Prelude.{◌≡◌, ◌∷◌, ◌++◌, [], length, List, IfOk, Some};
-ghost use Rattle.lalrpop_norm_tree_names.specs.NewLifetimes.{BeginsWith, IsLifetimeOf, numbered_lifetime};
-ghost use Rattle.lalrpop_norm_tree_parts.specs.LifetimeNames.{Scope, scope_of, lifetime_named, named, named_here, reference_named};
-ghost use Rattle.lalrpop_norm_tree_parts.specs.Reprs.{repr_view, LoweredClause};
+ghost use Rattle.std.specs.Prelude.{◌≡◌, List, IfOk, Some};
+ghost use Rattle.lalrpop_norm_tree_names.specs.NewLifetimes.{BeginsWith};
+ghost use Rattle.lalrpop_norm_tree_parts.specs.LifetimeNames.{scope_of, lifetime_named, named, named_here};
+ghost use Rattle.lalrpop_norm_tree_parts.specs.Reprs.{repr_view};
 
 use super::outlives::add_outlives;
 use super::{TypeRepr, WhereClause};

@@ -1,5 +1,5 @@
 //! Where clauses by which type parameters outlive a lifetime.
-ghost use Rattle.std.specs.Prelude.{◌≡◌, ◌↔◌, ◌∷◌, ◌++◌, [], map, bytes_eq, IfOk, OnOk, OnErr, IsTrue};
+ghost use Rattle.std.specs.Prelude.{◌≡◌, ◌↔◌, ◌∷◌, ◌++◌, [], map, IfOk, OnOk, OnErr, IsTrue};
 ghost use Rattle.std.specs.List.{list_any};
 ghost use Rattle.lalrpop_norm_tree_parts.specs.Accessors.{single_name};
 ghost use Rattle.lalrpop_norm_tree_parts.specs.FreeVariables.{free_in};

@@ -1,5 +1,5 @@
 //! Copies of patterns.
-ghost use Rattle.std.specs.Prelude.{◌≡◌, ℕ, IfOk};
+ghost use Rattle.std.specs.Prelude.{◌≡◌, IfOk};
 ghost use Rattle.lalrpop_norm_tree_parts.specs.Paths.{path_view};
 ghost use Rattle.lalrpop_norm_tree_patterns.specs.Patterns.{enumerated, structured, tuple_struct, pattern_view, pattern_kind_view, field_view, patterns_view, fields_view, SamePattern, SamePatternKind, SamePatterns, SameField, SameFields};
 

@@ -1,5 +1,5 @@
 //! The texts of patterns.
-ghost use Rattle.std.specs.Prelude.{Some, codes, map, ◌++◌};
+ghost use Rattle.std.specs.Prelude.{Some, codes, ◌++◌};
 ghost use Rattle.std.specs.Fmt.{DisplaysOnOk, WritesOnOk, ◌++?◌};
 ghost use Rattle.lalrpop_norm_tree_parts.specs.Paths.{path_view};
 ghost use Rattle.lalrpop_norm_tree_patterns.specs.Patterns.{pattern_kind_view, pattern_view, field_view, patterns_view, fields_view};

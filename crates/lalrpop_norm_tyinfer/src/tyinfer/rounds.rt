@@ -129,6 +129,7 @@ fn round(
     ensures waits { IfOk result (λ next. Waits parameters.now (type_table types.new) (map rule_seen rules.now) next) }
 {
     let mut next = Waiting::new(alloc);
+    // No code reads it: the invariant and the measure of the loop speak of it.
     let mut from = 0;
     while let Some(place) = now.take_least() {
         step(
@@ -157,6 +158,7 @@ pub(crate) fn run_rounds(
 {
     let dependents = Dependents::of(alloc, rules)?;
     let mut now = Waiting::below(alloc, rules.len())?;
+    // No code reads `count`: the invariant speaks of it.
     for count in 0..rules.len() {
         now = round(alloc, parameters, types, rules, &dependents, &mut now)?;
         if now.is_empty() {

@@ -1,5 +1,5 @@
 //! The types that need no inference, in a table: those that conversions choose, and the rows of terminals.
-ghost use Rattle.std.specs.Prelude.{◌≡◌, ◌++◌, [], ◌∷◌, None, IfOk, OnOk, map, flat_map};
+ghost use Rattle.std.specs.Prelude.{◌≡◌, ◌++◌, None, IfOk, OnOk, map, flat_map};
 ghost use Rattle.lalrpop_norm_tree.specs.Items.{conversion_view, grammar_view};
 ghost use Rattle.lalrpop_norm_tree.specs.LoweredTypes.{repr_of};
 ghost use Rattle.lalrpop_norm_tree_patterns.specs.Patterns.{pattern_view};

@@ -7,8 +7,9 @@ ghost use Rattle.lalrpop_norm_tyinfer_table.specs.Clauses.{kinds_in, sources_in,
 
 use lalrpop_norm_repr::grammar::repr::{TypeRepr, Types};
 use lalrpop_norm_tree::grammar::parse_tree::{NoMemory, Symbol, TypeParameter};
+use lalrpop_norm_tree_parts::lowered::copy::copy_of;
 use lalrpop_norm_tyinfer_table::type_sources::TypeSource;
-use lalrpop_norm_tyinfer_table::values::{copy_of, kind_value, type_value};
+use lalrpop_norm_tyinfer_table::values::{kind_value, type_value};
 use std::alloc::Global;
 
 /// A copy of the type that a clause makes of the table, if it makes one.
@@ -30,7 +31,7 @@ pub(crate) fn clause_value(
 fn location_value(types: &Types) -> Result<Option<TypeRepr>, NoMemory>
     ensures { IfOk result (λ o. option_map repr_view o ≡ (type_table types.now).location) }
 {
-    copy_of(types.opt_terminal_loc_type())
+    Ok(copy_of(types.opt_terminal_loc_type())?)
 }
 
 /// The type of the values of these symbols, each with its place: one bare, any other number of them as a tuple.

@@ -1,4 +1,4 @@
-use Rattle.std.proofs.Common.{List, [], ◌∷◌, ◌++◌, None, ap, ap₂, ◌∙◌}
+use Rattle.std.proofs.Common.{[], ◌∷◌, ◌++◌, None, ap, ap₂, ◌∙◌}
 use Rattle.lalrpop_norm_tree_parts.specs.Attributes.{Attributes, attributes_view}
 use Rattle.lalrpop_norm_tree.specs.declared.symbol.Symbol.{Symbol}
 use Rattle.lalrpop_norm_tree.specs.declared.symbol.SymbolKind.TheVariants.{Nonterminal}

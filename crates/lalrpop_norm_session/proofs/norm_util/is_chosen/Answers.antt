@@ -1,6 +1,6 @@
 use Rattle.std.proofs.Common.{◌∙◌, ap, sym}
 use Rattle.lalrpop_norm_session.specs.Values.{is_chosen}
-use Rattle.lalrpop_norm_session.proofs.SymbolLemmas.{seen_at}
+use Rattle.lalrpop_norm_tree.proofs.SymbolViews.{seen_at}
 use Rattle.lalrpop_norm_session.proofs.norm_util.is_chosen.Goals as goal
 
 pub returns : goal.returns

@@ -1,5 +1,5 @@
 use Rattle.std.proofs.Common.{◌≡◌, ◌++◌, drop, map}
-use Rattle.lalrpop_norm_model.specs.TerminalTypes.{input_str}
+use Rattle.lalrpop_norm_tree_parts.specs.Reprs.{input_str}
 use Rattle.lalrpop_norm_tyinfer_table.specs.TokenTypes.{rows_seen}
 use Rattle.lalrpop_norm_tyinfer_table.proofs.tokens.text_rows.Given as goal
 

@@ -1,9 +1,9 @@
 //! The terminals that alternatives use, each where it stands.
 ghost use Rattle.std.specs.Prelude.{◌≡◌, [], ◌∷◌, ◌++◌, IfOk, OnOk, flat_map, map};
-ghost use Rattle.lalrpop_norm_tree.specs.Items.{alternative_view, item_view, rule_view};
+ghost use Rattle.lalrpop_norm_tree.specs.Items.{alternative_view, item_view};
 ghost use Rattle.lalrpop_norm_tree.specs.Symbols.{symbol_view, kind_view, parts_view};
 ghost use Rattle.lalrpop_norm_model.specs.TokenFaults.{places_in, places_in_kind, places_in_parts};
-ghost use Rattle.lalrpop_norm_token_check.specs.Uses.{places_in_alternatives, places_in_item};
+ghost use Rattle.lalrpop_norm_session.specs.Uses.{places_in_alternatives, places_in_item};
 
 use lalrpop_norm_tree::grammar::parse_tree::{
     Alternative, GrammarItem, NoMemory, Span, Symbol, SymbolKind, TerminalString,
@@ -11,10 +11,10 @@ use lalrpop_norm_tree::grammar::parse_tree::{
 use std::alloc::Global;
 
 /// A terminal, and where it stands.
-pub(super) type Use = (TerminalString, Span);
+pub type Use = (TerminalString, Span);
 
-/// The terminals that the alternatives of the rules use, in reading order.
-pub(super) fn uses_of(alloc: Global, items: &[GrammarItem]) -> Result<Vec<Use>, NoMemory>
+/// The terminals that the alternatives of the rules use, in reading order. The only error is want of memory.
+pub fn uses_of(alloc: Global, items: &[GrammarItem]) -> Result<Vec<Use>, NoMemory>
     ensures { IfOk result (λ us. us.items ≡ flat_map places_in_item (map item_view items.now)) }
 {
     let mut uses = Vec::new(alloc);

@@ -1,7 +1,7 @@
 use Rattle.std.proofs.Common.{◌≡◌, ◌++◌, drop, map}
 use Rattle.lalrpop_norm_tree.specs.Items.{alternative_view}
-use Rattle.lalrpop_norm_token_check.specs.Uses.{places_in_alternatives}
-use Rattle.lalrpop_norm_token_check.proofs.token_check.uses.add_alternatives.Given as goal
+use Rattle.lalrpop_norm_session.specs.Uses.{places_in_alternatives}
+use Rattle.lalrpop_norm_session.proofs.uses.add_alternatives.Given as goal
 
 abbrev pub invariant-loop-alternative : goal.invariant-loop-alternative
 invariant-loop-alternative l =

@@ -2,9 +2,9 @@ use Rattle.std.proofs.Common.{List, map, refl, arith}
 use Rattle.std.specs.List.{flat_map}
 use Rattle.lalrpop_norm_tree.specs.declared.items.GrammarItem.{GrammarItem}
 use Rattle.lalrpop_norm_tree.specs.Items.{item_view}
-use Rattle.lalrpop_norm_token_check.specs.Uses.{places_in_item}
-use Rattle.lalrpop_norm_token_check.proofs.LoopLemmas.{next_collected}
-use Rattle.lalrpop_norm_token_check.proofs.token_check.uses.uses_of.Goals as goal
+use Rattle.lalrpop_norm_session.specs.Uses.{places_in_item}
+use Rattle.lalrpop_norm_session.proofs.ListLemmas.{next_collected}
+use Rattle.lalrpop_norm_session.proofs.uses.uses_of.Goals as goal
 
 pub loop-item-preserved : goal.loop-item-preserved
 loop-item-preserved c =

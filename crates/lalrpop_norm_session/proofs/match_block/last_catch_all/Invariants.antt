@@ -2,7 +2,7 @@ use Rattle.std.proofs.Common.{◌≡◌, ◌<◌, ◌^◌, IfSome, drop, map}
 use Rattle.lalrpop_norm_tree.specs.Accessors.{or_else}
 use Rattle.lalrpop_norm_tree.specs.Items.{match_contents_view}
 use Rattle.lalrpop_norm_model.specs.Entries.{last_catch_all}
-use Rattle.lalrpop_norm_token_check.proofs.token_check.matches.last_catch_all.Given as goal
+use Rattle.lalrpop_norm_session.proofs.match_block.last_catch_all.Given as goal
 
 abbrev pub invariant-loop-index : goal.invariant-loop-index
 invariant-loop-index l = record {

@@ -1,7 +1,7 @@
 use Rattle.std.proofs.Common.{◌≡◌, ◌++◌, drop}
 use Rattle.lalrpop_norm_tree.specs.Symbols.{parts_view}
 use Rattle.lalrpop_norm_model.specs.TokenFaults.{places_in_parts}
-use Rattle.lalrpop_norm_token_check.proofs.token_check.uses.add_symbols.Given as goal
+use Rattle.lalrpop_norm_session.proofs.uses.add_symbols.Given as goal
 
 abbrev pub invariant-loop-symbol : goal.invariant-loop-symbol
 invariant-loop-symbol l =
