@@ -9,8 +9,8 @@ prints `?`, and compares nothing. It knows the printed forms, which texts are tr
 take, and what they refuse one for, but for F56. It counts the lines of which it tells nothing: those are to be written by hand.
 
 The passes are written here a second time, briefly, after the published source of lalrpop 0.23.1; the order of faults, and what
-differs from that source, after docs/use/FAULTS.md and docs/language/DEFINITIONS.md. Patterns are read by `re`, so they are to mean the same
-there as in the library; none is told where it looks around, repeats a hundred times or more, or nests past 250.
+differs from that source, after docs/use/FAULTS.md and docs/language/DEFINITIONS.md. Which patterns are told stands in
+wanted_patterns.py: all others are `?`.
 """
 import copy
 import json
@@ -21,7 +21,8 @@ import sys
 sys.dont_write_bytecode = True
 from wanted_forms import (WRAPPERS, Refused, Unknown, argument, attributes, canonical, clause_lines, intern, lowered_clauses,
                           names_text, one, pattern, place, signature, terminal, tree_text, type_text, visibility)
-from wanted_shapes import beginnings, debug_tree, readings, tree_of
+from wanted_patterns import is_found, is_pattern
+from wanted_shapes import beginnings, debug_tree, listed_parts, readings, tree_of
 from wanted_tokens import (KNOWN_ATTRIBUTES, CheckOnly, Scripted, blocks_of, check_tokens, extern_enum, is_expanded, item_parts,
                            named_terminals, terminals_used)
 from wanted_types import LOOKAROUNDS, Types, sources, text_of
@@ -347,12 +348,9 @@ def holds_of(condition, bound_to):
     literal_text, right = one(text)[1], condition["rhs"]
     if condition["op"] in ("Equals", "NotEquals"):
         return (literal_text == right) == (condition["op"] == "Equals")
-    if re.search(r"\(\?[=!<]|\{\d{3,}|\({251}", right):
-        raise Unknown
-    try:
-        found = re.search(right, literal_text) is not None
-    except re.error:
-        raise Refused("F34 " + place(condition["span"])) from None
+    if not is_pattern(right):
+        raise Refused("F34 " + place(condition["span"]))
+    found = is_found(right, literal_text)
     return found == (condition["op"] == "Match")
 
 
@@ -733,8 +731,9 @@ def answer(data, name, call, *words):
     try:
         if call in ("cut_reads", "cut_writes", "cut_faults", "values"):
             raise Unknown
-        if call in ("read_twice", "beginnings"):
-            return readings(content) if call == "read_twice" else beginnings(content)
+        readers = {"read_twice": readings, "beginnings": beginnings, "parts": listed_parts}
+        if call in readers:
+            return readers[call](content)
         return lines_of(content, words) if call == "lnorm" else passes_answer(content, call, words)
     except NotExpanded:
         return "not expanded\n"

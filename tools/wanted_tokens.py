@@ -6,6 +6,7 @@ pattern, and `Scripted`, which refuses what its lists name.
 import re
 
 from wanted_forms import WRAPPERS, Refused, Unknown, one, place
+from wanted_patterns import is_pattern
 
 KNOWN_ATTRIBUTES = ("LALR", "table_driven", "recursive_ascent", "test_all")
 
@@ -176,17 +177,11 @@ def terminals_used(tree):
 # ---- lexers
 
 class CheckOnly:
-    """Refuses what is no pattern. Patterns are read by `re`: where that may read another one, nothing is told."""
+    """Refuses what is no pattern."""
 
     def read(self, text):
         """Whether the text is a pattern."""
-        if re.search(r"\(\?[=!<]|\(\?-|\\[pPxuz1-9]|\[\[|&&|--|~~|\{\d{3,}|\{,|\({251}", text):
-            raise Unknown
-        try:
-            re.compile(text)
-        except re.error:
-            return False
-        return True
+        return is_pattern(text)
 
     def refusal(self, literals):
         return None
