@@ -585,6 +585,10 @@ class Lowered:
         failing = [" %d" % n for n, shown in enumerate(self.actions) if shown.startswith("fallible ")]
         return text + "actions that may fail" + "".join(failing) + "\n"
 
+    def counts(self):
+        """How many productions each nonterminal has."""
+        return "".join("%s: %d\n" % (n, len(self.found[n][3])) for n in sorted(self.found, key=str.encode))
+
     def lines(self):
         """What the program `lnorm` prints."""
         names = sorted(self.found, key=str.encode)
@@ -685,6 +689,17 @@ def lines_of(data, words):
         return "standard error: %s\nstatus 1\n" % fault
 
 
+def counts_of(data):
+    """What a call of the library prints; of a fault it prints the message too, which is not told here."""
+    tree = tree_of(data)
+    if tree is None:
+        return "no tree\n"
+    try:
+        return normalized(tree, set(), 200).counts()
+    except Refused:
+        raise Unknown from None
+
+
 PASSES = ("read", "validate", "check_globals", "remove_disabled_decls", "resolve", "expand_levels", "expand_precedence",
           "expand_macros", "token_check")
 LAST = ("token_check_scripted", "infer_types", "normalize", "lowered_copy", "copy", "lower", "is_typed", "ask", "texts")
@@ -731,7 +746,7 @@ def answer(data, name, call, *words):
     try:
         if call in ("cut_reads", "cut_writes", "cut_faults", "values"):
             raise Unknown
-        readers = {"read_twice": readings, "beginnings": beginnings, "parts": listed_parts}
+        readers = {"read_twice": readings, "beginnings": beginnings, "parts": listed_parts, "library": counts_of}
         if call in readers:
             return readers[call](content)
         return lines_of(content, words) if call == "lnorm" else passes_answer(content, call, words)
