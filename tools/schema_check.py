@@ -668,4 +668,5 @@ def compare(root, schema, value_of, faults):
         len(made), len(chosen), from_files, sum(map(sum, kinds.values()))), found)
     for kind, (no, yes) in sorted(kinds.items()):
         print("  %s: %d are no trees, %d still are" % (kind, no, yes))
+    print("tools/schema: %s" % ("%d differences" % len(wrong) if wrong else "the schema, the reader, docs/use/FORMATS.md and the cases agree"))
     return 1 if wrong else 0
