@@ -9,7 +9,7 @@ ROOT = os.path.dirname(os.path.dirname(os.path.abspath(__file__)))
 EDITS = ("must-fail", "further-edits", "wrong-definitions")
 PREFIX = "lalrpop_norm_"
 # What stands for any name in a path.
-ANY_NAME = re.compile(r"(\*\*|\*|(?<![A-Za-z])(?:NAME|CRATE|FILE|DATE|MODULE|FUNCTION|PASS|FEATURE)(?![A-Za-z]))")
+ANY_NAME = re.compile(r"(\*\*|\*|(?<![A-Za-z])(?:NAME|GRAMMAR|CRATE|FILE|DATE|MODULE|FUNCTION|PASS|FEATURE)(?![A-Za-z]))")
 UNREAD = {".git", "out", "__pycache__"}
 
 
