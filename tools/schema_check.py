@@ -567,7 +567,7 @@ def wanted_readings(root):
         if call in JSON_CALLS:
             found.setdefault(name, set())
             continue
-        is_tree = text != "not a tree" and not text.startswith("standard error: lnorm: not a tree")
+        is_tree = text not in ("not a tree", "no tree") and not text.startswith("standard error: lnorm: not a tree")
         found.setdefault(name, set()).add(is_tree)
     return found
 
