@@ -345,7 +345,8 @@ def block(text, start):
 
 
 def of_reader(folder):
-    """The lists of keys in the code, the pairs of names of variants, without and with content, and the texts in neither."""
+    """The lists of keys in the code, the pairs of names of variants, without and with content, and the texts in neither, each with
+    a line that says where."""
     lists, variants, rest = set(), set(), []
     for path in sorted(glob.glob(os.path.join(folder, "*.rt"))):
         with open(path, encoding="utf-8") as file:
@@ -354,13 +355,13 @@ def of_reader(folder):
         for keys in KEYS.findall(text):
             lists.add(frozenset(re.findall(r"\w+", keys)))
             texts = without(texts, re.findall(r"\w+", keys))
-        for match in re.finditer(r"match case_of\(value\)\?", text):
+        for match in re.finditer(r"match case(_of\(value\)\?)? \{", text):
             arms = block(text, match.start())
             of = arms.index("Case::Of(")
             pair = [re.findall(r'^ +"(\w+)" =>', side, re.M) for side in (arms[:of], arms[of:])]
             variants.add(tuple(frozenset(side) for side in pair))
             texts = without(texts, pair[0] + pair[1])
-        rest += ['%s: the text "%s"' % (os.path.basename(path), name) for name in texts]
+        rest += [(name, '%s: the text "%s"' % (os.path.basename(path), name)) for name in texts]
     return lists, variants, rest
 
 
@@ -371,8 +372,10 @@ def without(texts, taken_ones):
 
 
 def reader_differences(folder, table):
-    lists, variants, found = of_reader(folder)
+    lists, variants, rest = of_reader(folder)
     forms = all_forms(table)
+    known = {name for form in forms for part in (form.fields, form.cases, form.names) for name in part or ()}
+    found = [line for name, line in rest if name not in known]
     my_lists = {frozenset(form.fields) for form in forms if form.fields}
     my_variants = {(form.names or frozenset(), frozenset(form.cases or ())) for form in forms if form.names or form.cases}
     for what, mine, its in (("keys", my_lists, lists), ("variants", my_variants, variants)):
@@ -544,8 +547,13 @@ def changed(tree, vocabulary):
 
 # ---- the check
 
+# Calls that look at a text as JSON, and don't say whether it is a tree.
+JSON_CALLS = {"read_twice", "beginnings", "parts"}
+
+
 def wanted_readings(root):
-    """The names of the cases' trees, each with whether it is to be a tree, by the answers that are wanted."""
+    """The names of the cases' trees, each with whether it is to be a tree, by the answers that are wanted: nothing, where no
+    answer says so."""
     with open(os.path.join(root, "crates/cases/stdout"), encoding="utf-8", errors="replace") as file:
         answers = re.split(r"^== ", file.read(), flags=re.M)[1:]
     found = {}
@@ -556,7 +564,10 @@ def wanted_readings(root):
         if text in ("no file", "no case", "no such call", "usage", "memory") or text.startswith("standard error: lnorm: usage") \
                 or not call or call.startswith("cut_"):
             continue
-        is_tree = text != "not a tree" and not text.startswith("standard error: lnorm: not a tree")
+        if call in JSON_CALLS:
+            found.setdefault(name, set())
+            continue
+        is_tree = text not in ("not a tree", "no tree") and not text.startswith("standard error: lnorm: not a tree")
         found.setdefault(name, set()).add(is_tree)
     return found
 
@@ -628,7 +639,7 @@ def compare(root, schema, value_of, faults):
             found.append("%s: %s by the schema, %s by the table" % (name, said(is_tree), said(by_table)))
         if says is None:
             found.append("%s: no line of the script says whether it is a tree" % name)
-        elif says != {is_tree}:
+        elif says and says != {is_tree}:
             found.append("%s: %s by the schema, %s by the wanted answers" % (
                 name, said(is_tree), " and ".join(map(said, sorted(says)))))
         if is_tree and by_table:
@@ -657,4 +668,5 @@ def compare(root, schema, value_of, faults):
         len(made), len(chosen), from_files, sum(map(sum, kinds.values()))), found)
     for kind, (no, yes) in sorted(kinds.items()):
         print("  %s: %d are no trees, %d still are" % (kind, no, yes))
+    print("tools/schema: %s" % ("%d differences" % len(wrong) if wrong else "the schema, the reader, docs/use/FORMATS.md and the cases agree"))
     return 1 if wrong else 0

@@ -62,7 +62,3 @@ terminals_of rules =
 -- the terminals used are those that have places
 pub terminals_are_used : (g : GrammarData) → terminals_used g ≡ map (λ (u : Use). u.0) (places_used g)
 terminals_are_used g = terminals_of (all_rules g)
-
--- likewise of items
-pub terminals_of_items : (items : List ItemData) → flat_map terminals_in_rule (flat_map rule_of_item items) ≡ map (λ (u : Use). u.0) (flat_map places_in_item items)
-terminals_of_items items = terminals_of (flat_map rule_of_item items) ∙ ap (map (λ (u : Use). u.0)) (sym (uses_in items))
