@@ -5,7 +5,7 @@ last one does; what no token belongs to has no place. Code has one token, which 
 blanks included: so a conversion, a match item or an alternative that ends with it goes as far. A pattern or a mapping is read
 from the tokens of that code.
 """
-from tree_tokens import Scanner, Wrong
+from tree_tokens import Scanner, Wrong, stripped
 
 ESCAPES = {"\\": "\\", '"': '"', "n": "\n", "r": "\r", "t": "\t"}
 OPERATORS = {"==": "Equals", "!=": "NotEquals", "~~": "Match", "!~": "NotMatch"}
@@ -65,7 +65,13 @@ class Reader:
         return True
 
     def fail(self, what):
-        raise Wrong("%s was expected, not %s" % (what, shown(self.peek().kind)), self.peek().start)
+        token = self.peek()
+        why = "%s was expected, not %s" % (what, shown(token.kind))
+        passed = self.scanner.passed_over
+        if passed is not None and passed == token.start - 1:
+            why += "; LALRPOP passes over the character behind `#![..]`, so a blank is to stand there"
+        # (code goes on for long: its arrow alone is shown)
+        raise Wrong(why, token.start, token.start + 2 if token.kind in ("code", "fallible") else token.end)
 
     def span(self, start):
         """From a place to behind the last token that was read."""
@@ -123,7 +129,7 @@ class Reader:
             if token.said[at] == "\\":
                 at += 1
                 if token.said[at] not in ESCAPES:
-                    raise Wrong("there is no escape of this character", token.start + 1 + at)
+                    raise Wrong("there is no escape of this character", token.start + at, token.start + 2 + at)
                 said += ESCAPES[token.said[at]]
             else:
                 said += token.said[at]
@@ -346,7 +352,7 @@ class Reader:
         for kind, variant in (("code", "User"), ("fallible", "Fallible")):
             if self.sees(kind):
                 token = self.take()
-                return {variant: self.text[token.said:token.end].strip()}
+                return {variant: stripped(self.text[token.said:token.end])}
         for kind, variant in (("=>@L", "Lookahead"), ("=>@R", "Lookbehind")):
             if self.takes(kind):
                 return variant

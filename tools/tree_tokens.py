@@ -16,6 +16,11 @@ A token holds its kind, what it says, and where it stands. The kind of a sign or
     end         behind the last token
 
 Places are numbers of characters; the reader of rules makes byte offsets of them.
+
+Where LALRPOP's tokenizer does what one might not think, this one does the same. A block comment may stand in another one, also in code.
+A raw name, `r#NAME`, is a name with its `r#`, and `r#_` is `_`; in code an `r` with `#` behind it, the last letter of `for` too, begins
+such a name or a text `r#".."#`, and nothing else. `=>@` goes on with `L` or `R`. The character behind `#![..]` is passed over, whatever
+it is: `#![x]#[y]` is read as `#![x] [y]`.
 """
 from collections import namedtuple
 
@@ -34,11 +39,16 @@ BLANKS = set("\t\n\v\f\r \x85\xa0\u1680\u2028\u2029\u202f\u205f\u3000") | set(ma
 
 
 class Wrong(Exception):
-    """The text is no grammar: what is wrong, and the place."""
+    """The text is no grammar: what is wrong, and the place, which has no characters where no end is given."""
 
-    def __init__(self, what, at):
+    def __init__(self, what, at, end=None):
         super().__init__(what)
-        self.what, self.at = what, at
+        self.what, self.at, self.end = what, at, at if end is None else end
+
+
+def stripped(text):
+    """A text without the blanks around it."""
+    return text.strip("".join(BLANKS))
 
 
 def begins_name(c):
@@ -54,6 +64,7 @@ class Scanner:
 
     def __init__(self, text, start, end):
         self.text, self.at, self.end = text, start, end
+        self.passed_over = None                             # the place of the last character that was, if it is no blank
 
     def char(self, at):
         """The character at a place, or nothing behind the end."""
@@ -120,6 +131,20 @@ class Scanner:
             raise Wrong("this regular expression has no end", at)
         return found + 1 + count
 
+    def behind_hashes(self, at):
+        """Behind what `r#` begins, a raw text or a raw name; `at` is the place of the `r`."""
+        behind = at + 1 + self.hashes(at + 1)
+        if self.char(behind) == '"':
+            return self.behind_raw(at)
+        if not begins_name(self.char(behind)):
+            raise Wrong("behind `r#` a name or a text was expected", at, behind)
+        return self.behind_word(behind)
+
+    def behind_word(self, at):
+        while at < self.end and goes_on_in_name(self.text[at]):
+            at += 1
+        return at
+
     def behind_quote_in_code(self, at):
         """Behind a character, or behind the quote of a lifetime and one more character."""
         if at + 1 >= self.end:
@@ -142,8 +167,8 @@ class Scanner:
                 at = self.behind_quoted(at, '"', "text")
             elif c == "'":
                 at = self.behind_quote_in_code(at)
-            elif c == "r" and self.char(at + 1 + self.hashes(at + 1)) == '"' and self.char(at + 1) == "#":
-                at = self.behind_raw(at)
+            elif c == "r" and self.char(at + 1) == "#":
+                at = self.behind_hashes(at)
             elif c == "/" and self.char(at + 1) == "/":
                 at = self.behind_line(at)
             elif c == "/" and self.char(at + 1) == "*":
@@ -163,16 +188,14 @@ class Scanner:
         self.at = end
         return Token(kind, said, start, end)
 
-    def word(self, start):
-        end = start
-        while end < self.end and goes_on_in_name(self.text[end]):
-            end += 1
+    def word(self, start, end=None):
+        end = self.behind_word(start) if end is None else end
         said = self.text[start:end]
-        if said == "_":
+        if said in ("_", "r#_"):
             return self.token("_", start, end)
         if said == "use":
             behind = self.behind_code(end)
-            return self.token("use", start, behind, self.text[end:behind].strip())
+            return self.token("use", start, behind, stripped(self.text[end:behind]))
         if said in KEYWORDS:
             return self.token(said, start, end)
         return self.token("call" if self.char(end) == "<" else "name", start, end, said)
@@ -181,8 +204,7 @@ class Scanner:
         """A lifetime or a character: a name and no second quote is a lifetime."""
         end = start + 1
         if begins_name(self.char(end)):
-            while end < self.end and goes_on_in_name(self.text[end]):
-                end += 1
+            end = self.behind_word(end)
             if self.char(end) != "'":
                 return self.token("lifetime", start, end, self.text[start:end])
             return self.token("char", start, end + 1, self.text[start + 1:end])
@@ -195,12 +217,14 @@ class Scanner:
         for sign in ("@L", "@R"):
             if self.text.startswith(sign, behind) and behind + 2 <= self.end:
                 return self.token("=>" + sign, start, behind + 2)
+        if self.char(behind) == "@":
+            raise Wrong("`=>@` is `=>@L` or `=>@R`; code that begins with `@` has a blank before it", start, behind + 1)
         kind = "fallible" if self.char(behind) == "?" else "code"
         behind += kind == "fallible"
         return self.token(kind, start, self.behind_code(behind), behind)
 
     def shebang(self, start):
-        """`#![..]`, on one line."""
+        """`#![..]`, on one line. The character behind it is passed over."""
         at, depth = start + 2, 0
         while at < self.end and self.text[at] != "\n":
             c = self.text[at]
@@ -210,16 +234,18 @@ class Scanner:
             depth += (c == "[") - (c == "]")
             at += 1
             if depth == 0:
-                if c != "]":
-                    break
-                return self.token("shebang", start, at, self.text[start:at])
-        raise Wrong("this attribute has no end on its line", start)
+                found = self.token("shebang", start, at, self.text[start:at])
+                self.passed_over = at if self.char(at) and self.text[at] not in BLANKS else None
+                self.at = min(at + 1, self.end)
+                return found
+        raise Wrong("this attribute has no end on its line", start, start + 3)
 
-    def regex(self, start):
+    def raw(self, start):
+        """A regular expression `r".."`, or a raw name."""
         count = self.hashes(start + 1)
+        end = self.behind_hashes(start)
         if self.char(start + 1 + count) != '"':
-            raise Wrong("a regular expression was expected behind `r#`", start)
-        end = self.behind_raw(start)
+            return self.word(start, end)
         return self.token("regex", start, end, self.text[start + count + 2:end - count - 1])
 
     def next(self):
@@ -229,7 +255,7 @@ class Scanner:
             return Token("end", None, start, start)
         pair = c + self.char(start + 1)
         if c == "r" and pair[1:] in ("#", '"'):
-            return self.regex(start)
+            return self.raw(start)
         if begins_name(c):
             return self.word(start)
         if c == '"':
@@ -244,9 +270,11 @@ class Scanner:
             return self.token("escape", start, end + 1, self.text[start + 1:end])
         if pair == "=>":
             return self.arrow(start)
-        if pair == "#!":
+        if pair == "#!" and self.char(start + 2) == "[":
             return self.shebang(start)
         for sign in SIGNS:
             if pair.startswith(sign):
                 return self.token(sign, start, start + len(sign))
-        raise Wrong("no token begins with %s" % c, start)
+        if c == "\ufeff":
+            raise Wrong("a mark of byte order stands here; save the file without one, as UTF-8", start, start + 1)
+        raise Wrong("no token begins with %s" % (c if c.isprintable() else "the character U+%04X" % ord(c)), start, start + 1)
