@@ -1,6 +1,6 @@
 """Shows people a place in a text: file, line and column, the lines that it is in, and marks under it; a part of tools/tree and tools/lnorm.
 
-    grammar.lalrpop:7:20: what is wrong
+    grammar.lalrpop:7:20: words on what is wrong
     7 |     <l:Sum> "+" <r:Prod> => l + r,
       |                    ^^^^
 

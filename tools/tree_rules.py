@@ -70,6 +70,8 @@ class Reader:
         passed = self.scanner.passed_over
         if passed is not None and passed == token.start - 1:
             why += "; LALRPOP passes over the character behind `#![..]`, so a blank is to stand there"
+        if token.kind == "end":
+            raise Wrong(why, self.behind)
         # (code goes on for long: its arrow alone is shown)
         raise Wrong(why, token.start, token.start + 2 if token.kind in ("code", "fallible") else token.end)
 
@@ -129,7 +131,7 @@ class Reader:
             if token.said[at] == "\\":
                 at += 1
                 if token.said[at] not in ESCAPES:
-                    raise Wrong("there is no escape of this character", token.start + at, token.start + 2 + at)
+                    raise Wrong("there is no such escape; a text has `\\\\`, `\\\"`, `\\n`, `\\r` and `\\t`", token.start + at, token.start + 2 + at)
                 said += ESCAPES[token.said[at]]
             else:
                 said += token.said[at]

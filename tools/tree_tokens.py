@@ -160,7 +160,7 @@ class Scanner:
 
     def behind_code(self, at):
         """The end of code: the first comma, semicolon or closing bracket that stands in no bracket, text or comment."""
-        start, depth = at, 0
+        open_ones = []
         while at < self.end:
             c = self.text[at]
             if c == '"':
@@ -173,13 +173,16 @@ class Scanner:
                 at = self.behind_line(at)
             elif c == "/" and self.char(at + 1) == "*":
                 at = self.behind_block(at)
-            elif depth == 0 and (c in ",;" or c in CLOSING):
+            elif not open_ones and (c in ",;" or c in CLOSING):
                 return at
             else:
-                depth += (c in OPENING) - (c in CLOSING)
+                if c in OPENING:
+                    open_ones.append(at)
+                elif c in CLOSING:
+                    open_ones.pop()
                 at += 1
-        if depth:
-            raise Wrong("a bracket of this code is not closed", start)
+        if open_ones:
+            raise Wrong("this bracket is not closed", open_ones[-1], open_ones[-1] + 1)
         return at
 
     # ---- tokens
