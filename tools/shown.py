@@ -110,7 +110,7 @@ class Text:
             begin = min(start - self.starts[number], len(line)) if number == first else len(line) - len(line.lstrip())
             text, marks = marked(line, begin, min(end - self.starts[number], len(line)))
             found.append(("%*d | %s" % (gutter, number + 1, text)).rstrip())
-            if line.strip() or first == last:
+            if line.strip() or number == first:
                 found.append("%*s | %s" % (gutter, "", marks))
         return found
 
