@@ -12,9 +12,9 @@ ghost use Rattle.lalrpop_norm_tyinfer_table.specs.Inferred.{IsInferred};
 ghost use Rattle.lalrpop_norm_tyinfer_table.specs.Visits.{rule_seen, with_clauses};
 
 mod agreement;
-mod clauses;
 mod rounds;
 mod tokens;
+mod type_sources;
 
 use agreement::check_agreement;
 use lalrpop_norm_faults::NormResult;
