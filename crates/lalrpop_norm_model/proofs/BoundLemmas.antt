@@ -120,6 +120,19 @@ bounds_are_by_side rs r a previous e below scoped =
         ap (λ (b : Bool). if b then Some (own_bound a.side a.level (previous_level r.places a.level) before after) else None) e
         ∙ ap (λ o. Some (own_bound a.side a.level o before after)) below
 
+-- on every side there is no level but its own
+pub bounds_on_every_side : (rs : List WrittenRule) (r : WrittenRule) (a : Leveled) → r.has_levels ≡ true → a.side ≡ every → are_scoped rs r.args a.alternative.parts ≡ true →
+    all_bounds_to r.name (read_all (rule_reader rs r a) a.alternative.parts)
+    ≡ map Some (replicate (count_parts (λ n. bytes_eq n r.name) a.alternative.parts) a.level)
+bounds_on_every_side rs r a e side scoped =
+    parts_bounds rs r a (λ i j. Some (bound_at every a.level a.level i j)) bound 0 0 a.alternative.parts scoped
+    ∙ by_side a.level a.level every (count_parts (λ n. bytes_eq n r.name) a.alternative.parts)
+  where
+    bound : (before after : ℕ) → own_bound_in r a before after ≡ Some (bound_at every a.level a.level before after)
+    bound before after =
+        ap (λ (b : Bool). if b then Some (own_bound a.side a.level (previous_level r.places a.level) before after) else None) e
+        ∙ ap (λ (s : Side). Some (own_bound s a.level (previous_level r.places a.level) before after)) side
+
 -- ---- conditions
 
 true_of : (value : ConditionValue) (c : Condition) (params : List NonterminalString) (args : ClosedSymbols) (o : Option ClosedSymbol) →

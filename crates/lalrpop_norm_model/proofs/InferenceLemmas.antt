@@ -13,7 +13,7 @@ use Rattle.lalrpop_norm_model.specs.TypeTables.{clause_value, IsClosedTable, IsT
 use Rattle.lalrpop_norm_model.specs.TypeRounds.{inferred}
 use Rattle.lalrpop_norm_model.specs.InferenceFaults.{is_undeclared, undeclared, inferred_table, untyped_rules, is_other, clause_disagrees, disagreeing_in, disagreeing}
 use Rattle.lalrpop_norm_model.proofs.SameTypeLemmas.{type_sound, type_same}
-use Rattle.lalrpop_norm_model.proofs.TypeRoundLemmas.{IsFull, one_exactly, one_table}
+use Rattle.lalrpop_norm_model.proofs.TypeRoundLemmas.{end_stuck, IsFull, one_exactly, one_table}
 use Rattle.lalrpop_norm_model.proofs.TypeEndLemmas.{inferred_end}
 use Rattle.lalrpop_norm_model.proofs.TypeFedLemmas.{own_fed}
 use Rattle.lalrpop_norm_theory.proofs.BoolLemmas.{not_false}
@@ -88,7 +88,7 @@ more_made : {B : Type 0} (v : Option B) (y : B) (rest : List B) → In y rest �
 more_made None y rest i = i
 more_made (Some z) y rest i = inr i
 
-made_in : {A B : Type 0} (f : A → Option B) (xs : List A) (x : A) (y : B) → In x xs → f x ≡ Some y → In y (filter_map f xs)
+pub made_in : {A B : Type 0} (f : A → Option B) (xs : List A) (x : A) (y : B) → In x xs → f x ≡ Some y → In y (filter_map f xs)
 made_in f [] x y i e = absurd i
 made_in f (z ∷ xs) x y (inl same) e = let here : f z ≡ Some y = subst (λ a. f a ≡ Some y) same e in rw here (inl refl)
 made_in f (z ∷ xs) x y (inr i) e = more_made (f z) y (filter_map f xs) (made_in f xs x y i e)
@@ -125,16 +125,18 @@ agrees_not_other (Some x) w h = rw (h x refl, type_same x) refl
 pub all_typed : (g : GrammarData) → untyped_rules g ≡ [] → IsFull g (inferred_table g)
 all_typed g e r rule = none_false (inferred_table g r.name.0) (none_passes (λ (q : RuleData). is_none (inferred_table g q.name.0)) (all_rules g) e r rule)
 
-none_untyped : (g : GrammarData) → IsFull g (inferred_table g) → untyped_rules g ≡ []
+pub none_untyped : (g : GrammarData) → IsFull g (inferred_table g) → untyped_rules g ≡ []
 none_untyped g full = all_fail (λ (r : RuleData). is_none (inferred_table g r.name.0)) (all_rules g) (λ r rule. some_none (inferred_table g r.name.0) (full r rule))
 
 -- ---- alternatives that disagree
 
-declared_agrees : (g : GrammarData) → IsDistinct (rule_names g) → IsFull g (inferred_table g) → (r : RuleData) → IsRule g r → (t : TypeData) → r.type_decl ≡ Some t →
+declared_agrees : (g : GrammarData) → IsDistinct (rule_names g) → (r : RuleData) → IsRule g r → (t : TypeData) → r.type_decl ≡ Some t →
     (c : TypeClause) → In c (makes t ∷ []) → (x : ReprData) → clause_value g (inferred_table g) c ≡ Some x → inferred_table g r.name.0 ≡ Some x
-declared_agrees g distinct full r rule t d c (inr i) x e = absurd i
-declared_agrees g distinct full r rule t d c (inl is) x e =
-    let y = what_some (inferred_table g r.name.0) (full r rule) in
+declared_agrees g distinct r rule t d c (inr i) x e = absurd i
+declared_agrees g distinct r rule t d c (inl is) x e =
+    let alone : In c (type_clauses_of (Some t) r.alternatives) = inl is in
+    let listed : In c (type_clauses r) = subst (λ o. In c (type_clauses_of o r.alternatives)) (sym d) alone in
+    let y = what_some (inferred_table g r.name.0) (end_stuck g (inferred g) (inferred_end g) r rule c listed (rw e refl)) in
     let own = own_fed g (inferred g) distinct (inferred_end g) r rule y.0 y.1 in
     let among : In own.0 (makes t ∷ []) = subst (λ o. In own.0 (type_clauses_of o r.alternatives)) d own.1 in
     let same : own.0 ≡ c = only own.0 among ∙ sym is in
@@ -156,13 +158,13 @@ undeclared_agrees g e r rule d c i x h =
     let not : clause_disagrees g r (Some c) ≡ false = subst (λ v. clause_disagrees g r v ≡ false) from.2 fails in
     not_other (clause_value g (inferred_table g) c) (inferred_table g r.name.0) not x h
 
-closed_case : (g : GrammarData) → IsDistinct (rule_names g) → IsFull g (inferred_table g) → disagreeing g ≡ [] → (r : RuleData) → IsRule g r → (d : Option TypeData) → r.type_decl ≡ d →
+closed_case : (g : GrammarData) → IsDistinct (rule_names g) → disagreeing g ≡ [] → (r : RuleData) → IsRule g r → (d : Option TypeData) → r.type_decl ≡ d →
     (c : TypeClause) → In c (type_clauses_of d r.alternatives) → (x : ReprData) → clause_value g (inferred_table g) c ≡ Some x → inferred_table g r.name.0 ≡ Some x
-closed_case g distinct full e r rule (Some t) d c i x h = declared_agrees g distinct full r rule t d c i x h
-closed_case g distinct full e r rule None d c i x h = undeclared_agrees g e r rule d c i x h
+closed_case g distinct e r rule (Some t) d c i x h = declared_agrees g distinct r rule t d c i x h
+closed_case g distinct e r rule None d c i x h = undeclared_agrees g e r rule d c i x h
 
-all_agree : (g : GrammarData) → IsDistinct (rule_names g) → IsFull g (inferred_table g) → disagreeing g ≡ [] → IsClosedTable g (inferred_table g)
-all_agree g distinct full e r rule c i x h = closed_case g distinct full e r rule r.type_decl refl c i x h
+pub all_agree : (g : GrammarData) → IsDistinct (rule_names g) → disagreeing g ≡ [] → IsClosedTable g (inferred_table g)
+all_agree g distinct e r rule c i x h = closed_case g distinct e r rule r.type_decl refl c i x h
 
 clause_case : (g : GrammarData) → IsClosedTable g (inferred_table g) → (r : RuleData) → IsRule g r → r.type_decl ≡ None → (a : AlternativeData) → In a r.alternatives →
     (v : Option TypeClause) → alternative_clause a ≡ v → clause_disagrees g r v ≡ false
@@ -183,7 +185,7 @@ none_disagrees g closed = all_empty (disagreeing_in g) (undeclared g) (λ r i.
 pub inference_exactly : (g : GrammarData) → IsDistinct (rule_names g) → HasOneType g ↔ ((untyped_rules g ≡ []) × (disagreeing g ≡ []))
 inference_exactly g distinct = (
   λ one. let h = (one_exactly g (inferred g) (inferred_end g)).0 one in (none_untyped g h.0, none_disagrees g h.1),
-  λ h. let full = all_typed g h.0 in (one_exactly g (inferred g) (inferred_end g)).1 (full, all_agree g distinct full h.1),
+  λ h. let full = all_typed g h.0 in (one_exactly g (inferred g) (inferred_end g)).1 (full, all_agree g distinct h.1),
 )
 
 -- and the table where the rounds end is then that of the types

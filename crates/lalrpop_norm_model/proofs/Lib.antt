@@ -49,6 +49,7 @@ pub mod TypeFedLemmas
 pub mod InferenceLemmas
 pub mod PatternLemmas
 pub mod TypableLemmas
+pub mod TypeFaultLemmas
 pub mod TokenFaultExamples
 pub mod GrammarLemmas
 pub mod LevelGrammarLemmas

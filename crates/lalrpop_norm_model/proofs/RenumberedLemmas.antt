@@ -148,7 +148,7 @@ pub all_present : {A : Type 0} (xs : List A) → present (map Some xs) ≡ xs
 all_present [] = refl
 all_present (x ∷ xs) = ap (λ ys. x ∷ ys) (all_present xs)
 
-levels_closed : (r : WrittenRule) → levels_of (closed_up r).places ≡ levels_of r.places
+pub levels_closed : (r : WrittenRule) → levels_of (closed_up r).places ≡ levels_of r.places
 levels_closed r = ap (λ xs. rising (map (λ (a : Leveled). a.level) xs)) (all_present (present r.places))
 
 within_closed : (r : WrittenRule) (b : Option ℕ) → level_within (closed_up r) b ≡ level_within r b

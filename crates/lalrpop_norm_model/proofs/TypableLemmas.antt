@@ -29,7 +29,7 @@ not_nil [] x i = absurd i
 not_nil (y ∷ xs) x i = refl
 
 -- a rule with a clause lacks nothing
-lacks_none : (r : RuleData) (c : TypeClause) → In c (type_clauses r) → lacking r ≡ []
+pub lacks_none : (r : RuleData) (c : TypeClause) → In c (type_clauses r) → lacking r ≡ []
 lacks_none r c i = rw (not_nil (type_clauses r) c i) refl
 
 -- Where each rule has a type none lacks what gives one.

@@ -15,6 +15,7 @@ use Rattle.lalrpop_norm_model.specs.Stated.{NoSideIsStated, handed_on}
 use Rattle.lalrpop_norm_theory.specs.Meaning.{HasCounts, HasLevels}
 use Rattle.lalrpop_norm_theory.specs.Met.{meets, rule_meets, expansion, expanded_symbols, BecomesRule, IsKnown, IsResolved}
 use Rattle.lalrpop_norm_theory.specs.Met.{IsResolvedIn}
+use Rattle.lalrpop_norm_tree_parts.specs.Reprs.{ReprData}
 use Rattle.lalrpop_norm_tree.specs.Symbols.{Kind, Part, Parts}
 use Rattle.lalrpop_norm_theory.specs.LoweredTrees.{ProductionTable}
 use Rattle.lalrpop_norm_theory.specs.Tables.{Realizes}
@@ -42,13 +43,14 @@ use Rattle.lalrpop_norm_theory.specs.Leveled.{leveled_symbols, leveled_symbol, I
 use Rattle.lalrpop_norm_theory.specs.Tables.{OneRuleAName, rule_of_symbol}
 use Rattle.lalrpop_norm_theory.specs.Laws.{OneToOne, level_named}
 use Rattle.lalrpop_norm_model.specs.Expanded.{rule_names, interns, IsExpanded, IsTyped}
-use Rattle.lalrpop_norm_model.specs.TypeRelation.{IsRule}
-use Rattle.lalrpop_norm_model.specs.TypeTables.{Table}
+use Rattle.lalrpop_norm_model.specs.TypeRelation.{IsRule, TypeClause, alternative_clause, Has, Makes, IsTotal, IsFunctional}
+use Rattle.lalrpop_norm_model.specs.TypeTables.{Table, IsTable}
+use Rattle.lalrpop_norm_model.specs.TypeRounds.{IsEnd, inferred}
 use Rattle.lalrpop_norm_model.specs.TuplePatterns.{IsTypable}
 use Rattle.lalrpop_norm_model.specs.CheckedTokens.{with_tokens, IsEntered}
 use Rattle.lalrpop_norm_model.specs.EnteredGrammars.{all_entries, entered_grammar}
 use Rattle.lalrpop_norm_model.specs.Entries.{AreEntries}
-use Rattle.lalrpop_norm_model.specs.InferenceFaults.{inference_faults, inferred_table}
+use Rattle.lalrpop_norm_model.specs.InferenceFaults.{lacking, inferred_table, untyped_rules, disagreeing, inference_faults}
 use Rattle.lalrpop_norm_model.specs.LoweringFaults.{lowering_faults}
 use Rattle.lalrpop_norm_model.specs.TokenFaults.{token_faults}
 use Rattle.lalrpop_norm_model.specs.LevelNames.{HasLevelNames, level_origin}
@@ -312,6 +314,42 @@ PlainRulesAreFaithful = (value : ConditionValue) (g : GrammarData) → IsSettled
 -- A grammar of distinct names is typable exactly where no fault of inference is.
 abbrev pub TypableExactly : Type 0
 TypableExactly = (g : GrammarData) → IsDistinct (rule_names g) → IsTypable g ↔ (inference_faults g ≡ [])
+
+-- The rounds of inference end: once there were as many as rules, a further one adds nothing.
+abbrev pub TypeRoundsEnd : Type 0
+TypeRoundsEnd = (g : GrammarData) → IsEnd g (inferred g)
+
+-- The rules without a type where the rounds end are the rules for which no type follows; there is none exactly where each rule
+-- has a type. And where no two rules share a name, a rule for which one follows does not lack what gives one.
+abbrev pub UntypedRulesHaveNoType : Type 0
+UntypedRulesHaveNoType = (g : GrammarData) →
+    ((r : RuleData) → In r (untyped_rules g) ↔ (IsRule g r × ((x : ReprData) → Has g r.name.0 x → ⊥)))
+    × ((untyped_rules g ≡ []) ↔ IsTotal g)
+    × (IsDistinct (rule_names g) → (r : RuleData) → IsRule g r → (x : ReprData) → Has g r.name.0 x → lacking r ≡ [])
+
+-- An alternative of a rule without a declared type makes a type, the rounds give the rule another, and the rule has both.
+pub record IsOfTwoTypes (g : GrammarData) (a : AlternativeData) : Type 0 where
+  pub rule : RuleData
+  pub stands : IsRule g rule
+  pub undeclared : rule.type_decl ≡ None
+  pub among : In a rule.alternatives
+  pub clause : TypeClause
+  pub of_alternative : alternative_clause a ≡ Some clause
+  pub made : ReprData
+  pub makes : Makes g clause made
+  pub given : ReprData
+  pub in_table : inferred_table g rule.name.0 ≡ Some given
+  pub differ : made ≡ given → ⊥
+  pub has_made : Has g rule.name.0 made
+  pub has_given : Has g rule.name.0 given
+
+-- Each alternative that disagrees gives its rule a second type. Where no two rules share a name, none disagrees exactly where no
+-- name has two types; and then the table where the rounds end lists the types that names have, each of them and no other.
+abbrev pub DisagreementsAreTwoTypes : Type 0
+DisagreementsAreTwoTypes = (g : GrammarData) →
+    ((a : AlternativeData) → In a (disagreeing g) → IsOfTwoTypes g a)
+    × (IsDistinct (rule_names g) → ((disagreeing g ≡ []) ↔ IsFunctional g)
+    × (disagreeing g ≡ [] → IsTable g (inferred_table g)))
 
 -- The faults of inference of a grammar with internal tokens are those of its entries, whatever the automaton.
 abbrev pub AutomatonIsUnseen : Type 0

@@ -16,6 +16,7 @@ ghost use Rattle.lalrpop_norm_model.specs.Laws.{MadeSymbolsAreScoped, RoundsAreR
 ghost use Rattle.lalrpop_norm_model.specs.Laws.{TextsInGrammars, PlainRulesAreRead};
 ghost use Rattle.lalrpop_norm_model.specs.Laws.{PlainGrammarsHoldPlainRules, DistinctNamesMeanOneRule, PlainRulesAreFaithful};
 ghost use Rattle.lalrpop_norm_model.specs.Laws.{TypableExactly, AutomatonIsUnseen};
+ghost use Rattle.lalrpop_norm_model.specs.Laws.{TypeRoundsEnd, UntypedRulesHaveNoType, DisagreementsAreTwoTypes};
 ghost use Rattle.lalrpop_norm_model.specs.Laws.{EntriesAreOneList, EnteredAreExpanded, EnteredAreTyped, EntriesDecideTypes};
 
 /// The text of a closed symbol without bounds is the text that its written symbol is displayed with.
@@ -222,6 +223,24 @@ pub fn plain_rules_are_faithful()
 /// exactly one type, and the tuple patterns fit.
 pub fn typable_exactly()
     ensures { TypableExactly }
+{}
+
+/// The rounds of inference end: once there were as many as rules, a further one adds nothing.
+pub fn type_rounds_end()
+    ensures { TypeRoundsEnd }
+{}
+
+/// F49 stands at the rules for which no type follows, and at no others; it stands nowhere exactly where each rule has a type.
+/// Where no two rules share a name, F47 and F48 stand only at rules for which no type follows, too.
+pub fn untyped_rules_have_no_type()
+    ensures { UntypedRulesHaveNoType }
+{}
+
+/// F50 stands at an alternative only where its rule has two types: the one that the rounds give the rule, and the one that the
+/// alternative makes. Where no two rules share a name, it stands nowhere exactly where no name has two types; and then the types
+/// that the rounds give are those that the rules have, each one and no other.
+pub fn disagreements_are_two_types()
+    ensures { DisagreementsAreTwoTypes }
 {}
 
 /// What inference finds wrong with a grammar that has internal tokens depends on their entries and not on their automaton: so it

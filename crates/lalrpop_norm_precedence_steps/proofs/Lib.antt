@@ -1,3 +1,4 @@
 mod FirstLemmas
 pub mod EnabledLemmas
 pub mod ReadingLemmas
+mod LowestLemmas

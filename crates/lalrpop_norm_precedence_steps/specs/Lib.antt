@@ -6,3 +6,4 @@ pub mod Substitutions
 pub mod Steps
 pub mod OtherItems
 pub mod EnabledAlternatives
+pub mod Laws

@@ -6,6 +6,7 @@ pub mod assoc;
 pub mod attributes;
 pub mod enabled;
 pub mod items;
+pub mod laws;
 pub mod levels;
 pub mod occurrences;
 pub mod steps;
