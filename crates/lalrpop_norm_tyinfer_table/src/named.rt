@@ -1,18 +1,16 @@
 //! The terminals that entries will name, where a grammar has no internal tokens yet.
 ghost use Rattle.std.specs.Prelude.{◌≡◌, ◌++◌, IfOk, OnOk, flat_map, is_some, map, option_map};
-ghost use Rattle.lalrpop_norm_tree.specs.Items.{grammar_view, item_view, match_contents_view, match_token_view};
+ghost use Rattle.lalrpop_norm_tree.specs.Items.{grammar_view, match_contents_view, match_token_view};
 ghost use Rattle.lalrpop_norm_model.specs.Entries.{catch_all, catch_all_in, entries_in, match_entries, terminal_named, user_names};
-ghost use Rattle.lalrpop_norm_model.specs.PlainRules.{rule_of_item};
 ghost use Rattle.lalrpop_norm_model.specs.TerminalTypes.{let_in};
-ghost use Rattle.lalrpop_norm_model.specs.Terminals.{terminals_in_rule, terminals_used};
+ghost use Rattle.lalrpop_norm_model.specs.Terminals.{terminals_used};
 ghost use Rattle.lalrpop_norm_model.specs.TokenFaults.{names_mapped_by};
 ghost use Rattle.lalrpop_norm_tyinfer_table.specs.Literals.{used_literal};
 
 use lalrpop_norm_session::match_block::catch_all_of;
 use lalrpop_norm_session::uses::{Use, uses_of};
 use lalrpop_norm_tree::grammar::parse_tree::{
-    Grammar, GrammarItem, MatchContents, MatchItem, MatchMapping, MatchToken, NoMemory,
-    TerminalString,
+    Grammar, MatchContents, MatchItem, MatchMapping, MatchToken, NoMemory, TerminalString,
 };
 use std::alloc::Global;
 
@@ -26,7 +24,7 @@ pub(crate) fn names_to_come(
 {
     let block = grammar.match_token();
     let mut names = block_names(alloc, block)?;
-    add_let_in(alloc, &mut names, block, &grammar.items)?;
+    add_let_in(alloc, &mut names, block, grammar)?;
     Ok(names)
 }
 
@@ -89,15 +87,14 @@ fn add_let_in(
     alloc: Global,
     names: &mut Vec<TerminalString>,
     block: Option<&MatchToken>,
-    items: &[GrammarItem],
+    grammar: &Grammar,
 ) -> Result<(), NoMemory>
     ensures { OnOk result (names.new.items
         ≡ names.old.items
-        ++ flat_map (let_in (catch_all_in (option_map (λ m. match_token_view m.now) block.entry)))
-        (flat_map terminals_in_rule (flat_map rule_of_item (map item_view items.now)))) }
+        ++ flat_map (let_in (catch_all_in (option_map (λ m. match_token_view m.now) block.entry))) (terminals_used (grammar_view grammar.now))) }
 {
     if lets_in(block) {
-        let uses = uses_of(alloc, items)?;
+        let uses = uses_of(alloc, &grammar.items)?;
         return add_literals(names, &uses);
     }
     Ok(())

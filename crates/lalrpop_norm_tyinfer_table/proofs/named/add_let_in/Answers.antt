@@ -1,11 +1,14 @@
-use Rattle.std.proofs.Common.{map, sym, ◌∙◌}
-use Rattle.std.specs.List.{flat_map}
-use Rattle.lalrpop_norm_tree.specs.Items.{item_view}
-use Rattle.lalrpop_norm_model.specs.PlainRules.{rule_of_item}
-use Rattle.lalrpop_norm_model.specs.Terminals.{terminals_in_rule}
-use Rattle.lalrpop_norm_tyinfer_table.proofs.LiteralLemmas.{kept}
+use Rattle.std.proofs.Common.{◌≡◌, ◌++◌, OnOk, subst, sym, ◌∙◌}
+use Rattle.lalrpop_norm_tree.specs.Items.{grammar_view}
+use Rattle.lalrpop_norm_model.specs.Terminals.{terminals_used}
+use Rattle.lalrpop_norm_tyinfer_table.proofs.LiteralLemmas.{kept, literals_let}
 use Rattle.lalrpop_norm_tyinfer_table.proofs.named.add_let_in.Goals as goal
 
 pub returns : goal.returns
-returns c =
-    kept _ (sym c.lets_in.ensures ∙ c.if-lets_in.false) c.args.names.now.items (flat_map terminals_in_rule (flat_map rule_of_item (map item_view c.args.items.now)))
+returns c = kept _ (sym c.lets_in.ensures ∙ c.if-lets_in.false) c.args.names.now.items (terminals_used (grammar_view c.args.grammar.now))
+
+pub returns-then-lets_in : goal.returns-then-lets_in
+returns-then-lets_in c =
+    subst (λ ts. OnOk c.add_literals.result (c.add_literals.new.names.items ≡ c.args.names.now.items ++ ts))
+    (literals_let _ (sym c.lets_in.ensures ∙ c.if-lets_in.true) c.deref-then-lets_in.result.now (grammar_view c.args.grammar.now) (cc (c.deref-then-lets_in.ensures.value, c.deref.ensures.value, c.in_ok-uses.ensures)))
+    c.add_literals.ensures
