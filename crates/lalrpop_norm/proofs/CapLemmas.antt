@@ -1,13 +1,12 @@
 -- F36 in the list of faults.
-use Rattle.std.proofs.Common.{Option, Some, None, ◌≡◌, ◌≤◌, ◌<◌, inl, inr, ℕ, zero, suc, ◌+◌, arith, Bool, true, false, List, [], ◌∷◌, ◌++◌, map, refl, sym, ap, subst, ◌∙◌}
+use Rattle.std.proofs.Common.{Some, ◌≡◌, ◌≤◌, ◌<◌, inl, inr, ℕ, zero, suc, ◌+◌, arith, List, [], ◌∷◌, ◌++◌, map, refl, sym, ap, subst, ◌∙◌}
 use Rattle.std.specs.Prelude.{◌||◌, ◌↔◌, ◌⊎◌, flat_map}
 use Rattle.std.specs.List.{range_with_len}
 use Rattle.std.proofs.lemmas.List.{append_assoc}
 use Rattle.lalrpop_norm_tree_names.specs.declared.names.Span.{Span}
-use Rattle.lalrpop_norm_tree.specs.Symbols.{Kind, Part, Parts, group, ambiguous_id, terminal, nonterminal, call, repeated, chosen, named, tupled, lookahead, lookbehind, error_terminal, at}
+use Rattle.lalrpop_norm_tree.specs.Symbols.{Part, at}
 use Rattle.lalrpop_norm_tree.specs.SymbolTexts.{part_text}
-use Rattle.lalrpop_norm_tree.specs.Items.{AlternativeData, RuleData, GrammarData}
-use Rattle.lalrpop_norm_tree.specs.declared.items.Condition.{Condition}
+use Rattle.lalrpop_norm_tree.specs.Items.{RuleData, GrammarData}
 use Rattle.lalrpop_norm_faults.specs.declared.kind.FaultKind.TheVariants.{RecursionCap, SharedName, ConditionArgument, ConditionPattern, NamedInGroup}
 use Rattle.lalrpop_norm_faults.specs.Faults.{Fault, fault_if, first}
 use Rattle.lalrpop_norm_theory.specs.Laws.{RoundsAreShortestChains}
@@ -20,16 +19,13 @@ use Rattle.lalrpop_norm_model.proofs.LevelLemmas.{in_map, of_map}
 use Rattle.lalrpop_norm_model.specs.Expanded.{rule_names}
 use Rattle.lalrpop_norm_model.specs.Grammars.{ConditionValue}
 use Rattle.lalrpop_norm_model.specs.Laws.{RoundsAreRead}
-use Rattle.lalrpop_norm_model.specs.MadeRules.{span_of, some_name_value, argument_kind, macro_named}
+use Rattle.lalrpop_norm_model.specs.MadeRules.{span_of}
 use Rattle.lalrpop_norm_model.specs.PlainRules.{macros_of, expansion_round}
 use Rattle.lalrpop_norm_model.specs.PlainTables.{IsSettled, closed, flat_meaning, declared}
 use Rattle.lalrpop_norm_model.specs.Scopes.{resolved_grammar}
-use Rattle.lalrpop_norm_model.proofs.ResolvedLemmas.{resolved_once}
 use Rattle.lalrpop_norm_resolve.specs.NameFaults.{resolve_faults}
-use Rattle.lalrpop_norm_resolve.proofs.ResolvedFaults.{faults_gone}
-use Rattle.lalrpop_norm.proofs.ScopedLemmas.{settled}
-use Rattle.lalrpop_norm_conditions.specs.Conditions.{lacks_reading}
-use Rattle.lalrpop_norm_macro_expand_rules.specs.Conditions.{quoted_text, comparison_faults, value_faults, called_faults}
+use Rattle.lalrpop_norm.proofs.OneRuleLemmas.{resolved_settled}
+use Rattle.lalrpop_norm.proofs.UnmadeLemmas.{not_if, none_made}
 use Rattle.lalrpop_norm_macro_expand.specs.Expansion.{met_before, meetings, has_other, shared_names, shared_in, unmade, unmade_in, past_cap, faults_from, expansion_faults, macro_faults}
 use Rattle.lalrpop_norm_macro_expand_rules.specs.Names.{is_declared_name}
 use Rattle.lalrpop_norm.specs.Laws.{CapIsExact, EndsPastLimit, FaultsAreByRound, IsPastLimit}
@@ -52,62 +48,16 @@ not_pattern e = absurd (cc e)
 abbrev cap_at : Span → Fault
 cap_at t = (RecursionCap, t)
 
-not_if : (b : Bool) (f : Fault) (t : Span) → (cap_at t ≡ f → ⊥) → In (cap_at t) (fault_if b f) → ⊥
-not_if true f t unlike (inl e) = unlike e
-not_if true f t unlike (inr i) = i
-not_if false f t unlike i = i
-
 not_shared : (names : List (List ℕ)) (met xs : List Part) (t : Span) → In (cap_at t) (shared_names names met xs) → ⊥
 not_shared names met [] t i = i
 not_shared names met (x ∷ xs) t i =
     elim (in_cases (cap_at t) (fault_if (is_declared_name names (part_text x) || has_other met x) (SharedName, span_of x)) (shared_names names (met ++ x ∷ []) xs) i) [
-      | inl here ↦ not_if (is_declared_name names (part_text x) || has_other met x) (SharedName, span_of x) t (λ e. not_cap (ap (λ (f : Fault). f.0) e)) here
+      | inl here ↦ not_if (is_declared_name names (part_text x) || has_other met x) (SharedName, span_of x) (cap_at t) (λ e. not_cap (ap (λ (f : Fault). f.0) e)) here
       | inr later ↦ not_shared names (met ++ x ∷ []) xs t later
     ]
 
-not_tested : (c : Condition) (o : Option (List ℕ)) (t : Span) → In (cap_at t) (comparison_faults c o) → ⊥
-not_tested c None t (inl e) = not_argument (ap (λ (f : Fault). f.0) e)
-not_tested c None t (inr i) = i
-not_tested c (Some text) t i = not_if (lacks_reading c.op c.rhs) (ConditionPattern, c.span) t (λ e. not_pattern (ap (λ (f : Fault). f.0) e)) i
-
-not_condition : (argument : List ℕ → Option Kind) (o : Option Condition) (t : Span) → In (cap_at t) (value_faults argument o) → ⊥
-not_condition argument None t i = i
-not_condition argument (Some c) t i = not_tested c (quoted_text (argument c.lhs.0)) t i
-
-not_conditions : (argument : List ℕ → Option Kind) (xs : List AlternativeData) (t : Span) →
-    In (cap_at t) (flat_map (λ (a : AlternativeData). value_faults argument a.condition) xs) → ⊥
-not_conditions argument [] t i = i
-not_conditions argument (a ∷ xs) t i =
-    elim (in_cases (cap_at t) (value_faults argument a.condition) (flat_map (λ (b : AlternativeData). value_faults argument b.condition) xs) i) [
-      | inl here ↦ not_condition argument a.condition t here
-      | inr later ↦ not_conditions argument xs t later
-    ]
-
-not_called : (o : Option RuleData) (ps : Parts) (t : Span) → In (cap_at t) (called_faults o ps) → ⊥
-not_called None ps t i = i
-not_called (Some d) ps t i = not_conditions (argument_kind d.args ps) d.alternatives t i
-
-not_made : (macros : List RuleData) (p : Part) (t : Span) → In (cap_at t) (unmade macros p) → ⊥
-not_made macros (at s (group ps)) t i = not_if (some_name_value ps) (NamedInGroup, s) t (λ e. not_group (ap (λ (f : Fault). f.0) e)) i
-not_made macros (at s (call n ps)) t i = not_called (macro_named macros n) ps t i
-not_made macros (at s (repeated op p)) t i = i
-not_made macros (at s (ambiguous_id a)) t i = i
-not_made macros (at s (terminal u)) t i = i
-not_made macros (at s (nonterminal n)) t i = i
-not_made macros (at s (chosen p)) t i = i
-not_made macros (at s (named n p)) t i = i
-not_made macros (at s (tupled ns p)) t i = i
-not_made macros (at s lookahead) t i = i
-not_made macros (at s lookbehind) t i = i
-not_made macros (at s error_terminal) t i = i
-
-none_made : (macros : List RuleData) (ps : List Part) (t : Span) → In (cap_at t) (flat_map (unmade macros) ps) → ⊥
-none_made macros [] t i = i
-none_made macros (p ∷ ps) t i =
-    elim (in_cases (cap_at t) (unmade macros p) (flat_map (unmade macros) ps) i) [
-      | inl here ↦ not_made macros p t here
-      | inr later ↦ none_made macros ps t later
-    ]
+none_unmade : (macros : List RuleData) (ps : List Part) (t : Span) → In (cap_at t) (flat_map (unmade macros) ps) → ⊥
+none_unmade macros ps t i = none_made RecursionCap not_group not_argument not_pattern macros ps t i
 
 -- ---- the cap stands at the last round alone
 
@@ -133,7 +83,7 @@ module _ (value : ConditionValue) (g : GrammarData) where
       elim (in_cases (cap_at t) (shared_in value g k) (unmade_in value g k ++ faults_from value g (suc k) left) i) [
         | inl here ↦ absurd (not_shared (rule_names g) (met_before value g k) (meetings value g k) t here)
         | inr more ↦ elim (in_cases (cap_at t) (unmade_in value g k) (faults_from value g (suc k) left) more) [
-          | inl made ↦ absurd (none_made (macros_of g) (rules_made (expansion_round value g k)) t made)
+          | inl made ↦ absurd (none_unmade (macros_of g) (rules_made (expansion_round value g k)) t made)
           | inr later ↦ to_end (suc k) left t later
         ]
       ]
@@ -234,7 +184,7 @@ module _ (value : ConditionValue) (g : GrammarData) where
   first_from k (suc left) t rest e =
       let last : suc k + left ≡ k + suc left = omega arith in
       let one = head_behind (shared_in value g k) (unmade_in value g k ++ faults_from value g (suc k) left) t rest (not_shared (rule_names g) (met_before value g k) (meetings value g k) t) e in
-      let two = head_behind (unmade_in value g k) (faults_from value g (suc k) left) t rest (none_made (macros_of g) (rules_made (expansion_round value g k)) t) one.1 in
+      let two = head_behind (unmade_in value g k) (faults_from value g (suc k) left) t rest (none_unmade (macros_of g) (rules_made (expansion_round value g k)) t) one.1 in
       let more = first_from (suc k) left t rest two.1 in (
         (λ j low high. elim (at_or_later k j low) [
           | inl here ↦ subst (λ n. shared_in value g n ++ unmade_in value g n ≡ []) here (both_none (shared_in value g k) (unmade_in value g k) one.0 two.0)
@@ -278,7 +228,7 @@ named_cap read chains value g unfaulted limit = (stands, answered)
     same = ap (λ fs. fs ++ expansion_faults value h limit) unfaulted
 
     past : ((s : Span) × In (cap_at s) (expansion_faults value h limit)) ↔ ((x : ClosedSymbol) × IsPastLimit value h limit x)
-    past = stands_past read chains value h (settled h (faults_gone g unfaulted) (resolved_once g)) limit
+    past = stands_past read chains value h (resolved_settled g unfaulted) limit
 
     stands : ((s : Span) × In (cap_at s) (macro_faults value g limit)) ↔ ((x : ClosedSymbol) × IsPastLimit value h limit x)
     stands = (

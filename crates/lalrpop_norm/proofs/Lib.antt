@@ -1,6 +1,9 @@
 mod WordLemmas
 mod MapCompositions
+mod UnmadeLemmas
 mod CapLemmas
+mod SharedLemmas
+mod OneRuleLemmas
 pub mod ShapeTrees
 pub mod PassLemmas
 pub mod ExpandedParts

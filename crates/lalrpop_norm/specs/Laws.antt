@@ -1,26 +1,30 @@
 -- What is proved of the whole way, each statement in one piece. The functions of the module `laws` carry them.
-use Rattle.std.specs.Prelude.{◌≡◌, ◌↔◌, ◌++◌, ◌<◌, ◌∷◌, ℕ, List, [], Some, Bool, false, flat_map}
+use Rattle.std.specs.Prelude.{◌≡◌, ◌↔◌, ◌⊎◌, ◌++◌, ◌<◌, ◌≤◌, ◌∷◌, ℕ, suc, List, [], Some, Bool, false, map, flat_map}
 use Rattle.std.specs.List.{range_with_len}
 use Rattle.lalrpop_norm_tree_names.specs.declared.names.Span.{Span}
-use Rattle.lalrpop_norm_faults.specs.declared.kind.FaultKind.TheVariants.{RecursionCap}
+use Rattle.lalrpop_norm_faults.specs.declared.kind.FaultKind.TheVariants.{RecursionCap, SharedName}
 use Rattle.lalrpop_norm_faults.specs.Faults.{first}
+use Rattle.lalrpop_norm_tree.specs.Symbols.{Part}
+use Rattle.lalrpop_norm_tree.specs.SymbolTexts.{part_text}
 use Rattle.lalrpop_norm_tree.specs.Items.{RuleData, GrammarData}
 use Rattle.lalrpop_norm_tree_parts.specs.Reprs.{ReprData}
 use Rattle.lalrpop_norm_theory.specs.Symbols.{ClosedSymbol, Name, Terminal}
 use Rattle.lalrpop_norm_theory.specs.Met.{rule_meets}
-use Rattle.lalrpop_norm_theory.specs.Rounds.{In, IsDistinct, NewIn}
+use Rattle.lalrpop_norm_theory.specs.Rounds.{In, IsDistinct, Chain, NewIn}
 use Rattle.lalrpop_norm_tree.specs.declared.items.Condition.{Condition}
 use Rattle.lalrpop_norm_conditions.specs.Conditions.{comparison, condition_value}
 use Rattle.lalrpop_norm_model.specs.Features.{Features}
-use Rattle.lalrpop_norm_model.specs.WrittenRules.{written_rules}
+use Rattle.lalrpop_norm_model.specs.WrittenRules.{written_rules, flat_rules}
+use Rattle.lalrpop_norm_model.specs.ClosedTexts.{text_in}
 use Rattle.lalrpop_norm_model.specs.Enabled.{all_places, enabled_grammar}
 use Rattle.lalrpop_norm_model.specs.Levels.{with_levels}
 use Rattle.lalrpop_norm_model.specs.Scopes.{resolved_grammar}
 use Rattle.lalrpop_norm_model.specs.Stated.{HasLevel}
 use Rattle.lalrpop_norm_model.specs.Grammars.{ConditionValue, is_nil, references, roots, value_of}
-use Rattle.lalrpop_norm_model.specs.PlainTables.{IsSettled, flat_meaning, declared}
+use Rattle.lalrpop_norm_model.specs.PlainTables.{IsSettled, IsRuleOf, flat_meaning, declared, closed}
+use Rattle.lalrpop_norm_model.specs.MadeRules.{span_of, made_rules}
 use Rattle.lalrpop_norm_model.specs.LevelRules.{leveled_grammar}
-use Rattle.lalrpop_norm_model.specs.PlainRules.{all_rules, expansion_round, IsEnded}
+use Rattle.lalrpop_norm_model.specs.PlainRules.{all_rules, macros_of, made_symbols, expansion_round, IsEnded}
 use Rattle.lalrpop_norm_model.specs.Renumbered.{prepared_grammar}
 use Rattle.lalrpop_norm_model.specs.Expanded.{rule_names}
 use Rattle.lalrpop_norm_model.specs.TypeTables.{Table}
@@ -28,7 +32,7 @@ use Rattle.lalrpop_norm_model.specs.LoweringFaults.{lowering_faults}
 use Rattle.lalrpop_norm_model.specs.CheckedTokens.{IsEntered}
 use Rattle.lalrpop_norm_resolve.specs.NameFaults.{resolve_faults}
 use Rattle.lalrpop_norm_precedence.specs.PrecedenceFaults.{leveled_faults}
-use Rattle.lalrpop_norm_macro_expand.specs.Expansion.{expansion_faults, macro_faults, past_cap, shared_in, unmade_in}
+use Rattle.lalrpop_norm_macro_expand.specs.Expansion.{expansion_faults, macro_faults, met_before, past_cap, shared_in, unmade_in}
 use Rattle.lalrpop_norm_repr.specs.Lowered.{LoweredGrammar}
 use Rattle.lalrpop_norm_repr.specs.Tables.{TypeTable}
 use Rattle.lalrpop_norm_lower.specs.Lowering.{public_rules_in, start_name}
@@ -97,6 +101,78 @@ CapIsExact = (value : ConditionValue) (g : GrammarData) (limit : ℕ) →
     ↔ ((x : ClosedSymbol) × IsPastLimit value (resolved_grammar g) limit x))
     × ((s : Span) → (first (macro_faults value g limit) ≡ Some (RecursionCap, s))
     ↔ EndsPastLimit value (resolved_grammar g) limit s))
+
+-- ---- shared names
+
+-- x shares its name: its text is one of the names, or that of a symbol that was met before it and is not the same
+abbrev pub SharesName : List Name → List Part → Part → Type 0
+SharesName names before x =
+    In (part_text x) names ⊎ ((y : Part) × In y before × (part_text y ≡ part_text x) × (closed y ≡ closed x → ⊥))
+
+-- Of all that is met in the rounds that may make rules and in the one after them, a symbol at s shares its name with a rule, with
+-- a macro, or with a symbol that was met before it.
+pub record SharesNameAt (value : ConditionValue) (g : GrammarData) (limit : ℕ) (s : Span) : Type 0 where
+  pub before : List Part
+  pub symbol : Part
+  pub later : List Part
+  pub met : met_before value g (suc limit) ≡ before ++ symbol ∷ later
+  pub there : span_of symbol ≡ s
+  pub shared : SharesName (rule_names g) before symbol
+
+-- x is met in these rounds: a chain of at most `limit` + 1 rules leads to it
+abbrev pub IsMetWithin : ConditionValue → GrammarData → ℕ → ClosedSymbol → Type 0
+IsMetWithin value g limit x = (k : ℕ) × (k ≤ limit)
+    × Chain (rule_meets (flat_meaning value g)) (flat_map (rule_meets (flat_meaning value g)) (declared g)) k x
+
+-- a symbol that is met has the name of a rule or macro for its text, or the text of another one that is met
+abbrev pub HasSharedName : ConditionValue → GrammarData → ℕ → Type 0
+HasSharedName value g limit = (x : ClosedSymbol) × IsMetWithin value g limit x
+    × (In (text_in (flat_rules g) x) (rule_names g)
+    ⊎ ((y : ClosedSymbol) × IsMetWithin value g limit y × (text_in (flat_rules g) y ≡ text_in (flat_rules g) x) × (y ≡ x → ⊥)))
+
+-- What an expansion that is refused for F37 at s has done: in the rounds before one of these nothing shared a name, and each new
+-- symbol got its rule; in this one the first symbol that shares its name is at s.
+pub record EndsAtShared (value : ConditionValue) (g : GrammarData) (limit : ℕ) (s : Span) : Type 0 where
+  pub round : ℕ
+  pub within : round ≤ limit
+  pub made : (k : ℕ) → k < round → shared_in value g k ++ unmade_in value g k ≡ []
+  pub told : first (shared_in value g round) ≡ Some (SharedName, s)
+
+-- Shared names. F37 stands at s exactly where a symbol that is met there shares its name. In the expansion of a settled grammar
+-- it stands exactly where two symbols that are met and are not the same have one text, or one that is met has the text of a
+-- rule's or macro's name; so too among the faults of `expand_macros`, where no fault of names stands. There it is what the call
+-- is refused for, at s, exactly where the expansion of the resolved grammar ends so at s.
+abbrev pub SharedNamesStandExactly : Type 0
+SharedNamesStandExactly = (value : ConditionValue) (g : GrammarData) (limit : ℕ) →
+    ((s : Span) → In (SharedName, s) (expansion_faults value g limit) ↔ SharesNameAt value g limit s)
+    × (IsSettled g → ((s : Span) × In (SharedName, s) (expansion_faults value g limit)) ↔ HasSharedName value g limit)
+    × (resolve_faults g ≡ [] → (((s : Span) × In (SharedName, s) (macro_faults value g limit))
+    ↔ HasSharedName value (resolved_grammar g) limit)
+    × ((s : Span) → (first (macro_faults value g limit) ≡ Some (SharedName, s))
+    ↔ EndsAtShared value (resolved_grammar g) limit s))
+
+-- ---- one rule for each symbol
+
+-- Where no fault of names stands, the resolved grammar is settled: its names are resolved, stand once and have a meaning.
+abbrev pub ResolvedGrammarsAreSettled : Type 0
+ResolvedGrammarsAreSettled = (g : GrammarData) → resolve_faults g ≡ [] → IsSettled (resolved_grammar g)
+
+-- The symbols that are made into rules in the first `count` rounds: no two are the same, each symbol is among them that some
+-- chain of rules leads to, and no other, and one rule is made of each, which is the rule of that symbol.
+pub record HasOneRuleEach (value : ConditionValue) (g : GrammarData) (count : ℕ) : Type 0 where
+  pub once : IsDistinct (map closed (made_symbols value g count))
+  pub met : (x : ClosedSymbol) → In x (map closed (made_symbols value g count))
+      ↔ ((k : ℕ) × Chain (rule_meets (flat_meaning value g)) (flat_map (rule_meets (flat_meaning value g)) (declared g)) k x)
+  pub one : (p : Part) → In p (made_symbols value g count) →
+      (r : RuleData) × (made_rules value (macros_of g) p ≡ r ∷ []) × IsRuleOf (flat_meaning value g) p r
+
+-- Where no fault of names stands and no round after the first `limit` has a new symbol in the resolved grammar, each class of
+-- symbols that are the same and are met has one rule there.
+abbrev pub EachClassHasOneRule : Type 0
+EachClassHasOneRule = (value : ConditionValue) (g : GrammarData) (limit : ℕ) → resolve_faults g ≡ [] →
+    IsEnded value (resolved_grammar g) limit → HasOneRuleEach value (resolved_grammar g) limit
+
+-- ---- round by round
 
 -- The faults of an expansion, round by round: of each round that may make rules, what shares a name as it is met, then what no
 -- rule is made of; of the one after them, what shares a name, then that something is new there.

@@ -1,6 +1,7 @@
 //! What is proved of the definitions alone. Each function here is a law: it does nothing, and its contract is a theorem, whose
 //! statement stands in `specs/Laws.antt`, of maps in `specs/Maps.antt`.
 ghost use Rattle.lalrpop_norm.specs.Laws.{CapIsExact, ConditionsHaveOneValue, FaultsAreByRound, LevelsSettleMacros, LoweredTreesAreFaithful, NamesAreOwn, WordsAreEqual};
+ghost use Rattle.lalrpop_norm.specs.Laws.{EachClassHasOneRule, ResolvedGrammarsAreSettled, SharedNamesStandExactly};
 ghost use Rattle.lalrpop_norm.specs.Maps.{PatternsCompose, BoundsCompose};
 
 /// The trees of what a grammar's plain rules are lowered to, once they have their tokens, stand one to one with the written trees,
@@ -42,6 +43,28 @@ pub fn cap_is_exact()
 /// made of; of the round after them what shares a name, then that something is new there (F36).
 pub fn faults_are_by_round()
     ensures { FaultsAreByRound }
+{}
+
+/// Where no fault of names stands in a grammar, the grammar with its names resolved is settled: they are resolved, stand once and
+/// have a meaning. The laws that read an expansion ask for this.
+pub fn resolved_grammars_are_settled()
+    ensures { ResolvedGrammarsAreSettled }
+{}
+
+/// Where no fault of names stands and no round after the limit has a new symbol, exactly one rule is made for each class of same
+/// symbols: of the symbols that are made into rules no two are the same, they are those that some chain of rules leads to, and
+/// one rule is made of each, the rule of that symbol.
+pub fn each_class_has_one_rule()
+    ensures { EachClassHasOneRule }
+{}
+
+/// F37 stands exactly where two symbols that are met and are not the same have one text, or a symbol that is met has the name of a
+/// rule or macro for its text; met, that is, in the rounds that may make rules or the one after them. It stands at the span of
+/// a symbol whose text is declared, or the text of another one that was met before it. And `expand_macros` is refused for F37,
+/// at a span, exactly where in some such round the first symbol to share its name is at that span, in the rounds before it
+/// nothing shares a name, and each new symbol there gets its rule.
+pub fn shared_names_stand_exactly()
+    ensures { SharedNamesStandExactly }
 {}
 
 /// Where the trees of a lowered grammar are faithful, each enabled written rule that is no macro has there the words that it has as

@@ -1,0 +1,70 @@
+-- The faults of new symbols that no rule is made of have three numbers, and no other.
+use Rattle.std.proofs.Common.{Option, Some, None, ◌≡◌, inl, inr, ℕ, Bool, true, false, List, [], ◌∷◌, ap}
+use Rattle.std.specs.Prelude.{flat_map}
+use Rattle.lalrpop_norm_tree_names.specs.declared.names.Span.{Span}
+use Rattle.lalrpop_norm_tree.specs.Symbols.{Kind, Part, Parts, group, ambiguous_id, terminal, nonterminal, call, repeated, chosen, named, tupled, lookahead, lookbehind, error_terminal, at}
+use Rattle.lalrpop_norm_tree.specs.Items.{AlternativeData, RuleData}
+use Rattle.lalrpop_norm_tree.specs.declared.items.Condition.{Condition}
+use Rattle.lalrpop_norm_faults.specs.declared.kind.FaultKind.{FaultKind}
+use Rattle.lalrpop_norm_faults.specs.declared.kind.FaultKind.TheVariants.{ConditionArgument, ConditionPattern, NamedInGroup}
+use Rattle.lalrpop_norm_faults.specs.Faults.{Fault, fault_if}
+use Rattle.lalrpop_norm_theory.specs.Rounds.{In}
+use Rattle.lalrpop_norm_theory.proofs.RoundsLemmas.{in_cases}
+use Rattle.lalrpop_norm_model.specs.MadeRules.{some_name_value, argument_kind, macro_named}
+use Rattle.lalrpop_norm_conditions.specs.Conditions.{lacks_reading}
+use Rattle.lalrpop_norm_macro_expand_rules.specs.Conditions.{quoted_text, comparison_faults, value_faults, called_faults}
+use Rattle.lalrpop_norm_macro_expand.specs.Expansion.{unmade}
+
+-- a fault that may stand is that fault
+pub not_if : (b : Bool) (f g : Fault) → (g ≡ f → ⊥) → In g (fault_if b f) → ⊥
+not_if true f g unlike (inl e) = unlike e
+not_if true f g unlike (inr i) = i
+not_if false f g unlike i = i
+
+module _ (number : FaultKind) (not_group : number ≡ NamedInGroup → ⊥) (not_argument : number ≡ ConditionArgument → ⊥)
+    (not_pattern : number ≡ ConditionPattern → ⊥) where
+  not_tested : (c : Condition) (o : Option (List ℕ)) (t : Span) → In (number, t) (comparison_faults c o) → ⊥
+  not_tested c None t (inl e) = not_argument (ap (λ (f : Fault). f.0) e)
+  not_tested c None t (inr i) = i
+  not_tested c (Some text) t i =
+      not_if (lacks_reading c.op c.rhs) (ConditionPattern, c.span) (number, t) (λ e. not_pattern (ap (λ (f : Fault). f.0) e)) i
+
+  not_condition : (argument : List ℕ → Option Kind) (o : Option Condition) (t : Span) → In (number, t) (value_faults argument o) → ⊥
+  not_condition argument None t i = i
+  not_condition argument (Some c) t i = not_tested c (quoted_text (argument c.lhs.0)) t i
+
+  not_conditions : (argument : List ℕ → Option Kind) (xs : List AlternativeData) (t : Span) →
+      In (number, t) (flat_map (λ (a : AlternativeData). value_faults argument a.condition) xs) → ⊥
+  not_conditions argument [] t i = i
+  not_conditions argument (a ∷ xs) t i =
+      elim (in_cases (number, t) (value_faults argument a.condition) (flat_map (λ (b : AlternativeData). value_faults argument b.condition) xs) i) [
+        | inl here ↦ not_condition argument a.condition t here
+        | inr later ↦ not_conditions argument xs t later
+      ]
+
+  not_called : (o : Option RuleData) (ps : Parts) (t : Span) → In (number, t) (called_faults o ps) → ⊥
+  not_called None ps t i = i
+  not_called (Some d) ps t i = not_conditions (argument_kind d.args ps) d.alternatives t i
+
+  not_made : (macros : List RuleData) (p : Part) (t : Span) → In (number, t) (unmade macros p) → ⊥
+  not_made macros (at s (group ps)) t i =
+      not_if (some_name_value ps) (NamedInGroup, s) (number, t) (λ e. not_group (ap (λ (f : Fault). f.0) e)) i
+  not_made macros (at s (call n ps)) t i = not_called (macro_named macros n) ps t i
+  not_made macros (at s (repeated op p)) t i = i
+  not_made macros (at s (ambiguous_id a)) t i = i
+  not_made macros (at s (terminal u)) t i = i
+  not_made macros (at s (nonterminal n)) t i = i
+  not_made macros (at s (chosen p)) t i = i
+  not_made macros (at s (named n p)) t i = i
+  not_made macros (at s (tupled ns p)) t i = i
+  not_made macros (at s lookahead) t i = i
+  not_made macros (at s lookbehind) t i = i
+  not_made macros (at s error_terminal) t i = i
+
+  pub none_made : (macros : List RuleData) (ps : List Part) (t : Span) → In (number, t) (flat_map (unmade macros) ps) → ⊥
+  none_made macros [] t i = i
+  none_made macros (p ∷ ps) t i =
+      elim (in_cases (number, t) (unmade macros p) (flat_map (unmade macros) ps) i) [
+        | inl here ↦ not_made macros p t here
+        | inr later ↦ none_made macros ps t later
+      ]
