@@ -332,17 +332,19 @@ module _ (value : ConditionValue) (fs : Features) (g : GrammarData) (N : HasLeve
   pub written_scoped : IsScoped ws
   written_scoped = (scoped_as_written fs g).0.0 (names_open ws (subst NamesAreScoped (disabled_are_left_out fs g) N.names))
 
-  written_distinct : IsDistinct (map (λ (w : WrittenRule). w.name) ws)
-  written_distinct =
+  pub leveled_distinct : IsDistinct (map (λ (w : WrittenRule). w.name) rs)
+  leveled_distinct =
       subst IsDistinct
       (sym (names_leveled (all_rules (prepared_grammar fs g)))
-      ∙ ap (map (λ (w : WrittenRule). w.name)) (sym (leveled_rules_are (prepared_grammar fs g)) ∙ disabled_are_left_out fs g)
-      ∙ closed_names ws)
+      ∙ ap (map (λ (w : WrittenRule). w.name)) (sym (leveled_rules_are (prepared_grammar fs g))))
       (distinct (prepared_grammar fs g) N)
     where
       names_leveled : (ds : List RuleData) → map (λ (w : WrittenRule). w.name) (map (as_leveled (prepared_grammar fs g)) ds) ≡ map name_of ds
       names_leveled [] = refl
       names_leveled (d ∷ ds) = ap (λ ns. d.name.0 ∷ ns) (names_leveled ds)
+
+  written_distinct : IsDistinct (map (λ (w : WrittenRule). w.name) ws)
+  written_distinct = subst IsDistinct (ap (map (λ (w : WrittenRule). w.name)) (disabled_are_left_out fs g) ∙ closed_names ws) leveled_distinct
 
   written_resolved : IsResolved M (references ws)
   written_resolved = meanings_are_resolved value ws written_scoped

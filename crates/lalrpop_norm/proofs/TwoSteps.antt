@@ -1,24 +1,28 @@
 -- Between written trees and derivation trees stand the trees of the grammar with levels: first levels become rules, then these are lowered.
-use Rattle.std.proofs.Common.{◌≡◌, ℕ, List, [], ◌++◌, map, Some, refl, sym, ap, ◌∙◌, subst}
+use Rattle.std.proofs.Common.{◌≡◌, inl, inr, ℕ, List, [], ◌++◌, map, Some, None, refl, sym, ap, ◌∙◌, subst}
 use Rattle.std.specs.Prelude.{option_map, slice_get}
 use Rattle.std.proofs.lemmas.Option.{slice_get-map}
 use Rattle.lalrpop_norm_tree.specs.Items.{RuleData, GrammarData}
 use Rattle.lalrpop_norm_theory.specs.Symbols.{Name, ClosedSymbol, ClosedSymbols, reference, call, plus, only}
 use Rattle.lalrpop_norm_theory.specs.Meaning.{Meaning}
-use Rattle.lalrpop_norm_theory.specs.WrittenTrees.{WrittenTree, WrittenTrees, list, no_trees, tree_and, append}
+use Rattle.lalrpop_norm_theory.specs.WrittenTrees.{WrittenTree, WrittenTrees, list, no_trees, tree_and, append, IsTreeOf}
 use Rattle.lalrpop_norm_theory.specs.LoweredTrees.{LoweredTree, LoweredTrees, ProductionTable, written, level_step}
 use Rattle.lalrpop_norm_theory.specs.Clauses.{Clause, clause, clauses}
 use Rattle.lalrpop_norm_theory.specs.Pairs.{Pairs, AllPairs, terminal_pair, error_pair, wrapped_pair, lookahead_pair, lookbehind_pair, group_pair, rule_pair, step_pair, call_pair, star_empty_pair, star_some_pair, plus_one_pair, plus_more_pair, question_some_pair, question_empty_pair, no_pairs, pair_and}
 use Rattle.lalrpop_norm_theory.specs.Rounds.{In, IsDistinct}
+use Rattle.lalrpop_norm_theory.specs.Translations.{lowered_tree}
 use Rattle.lalrpop_norm_theory.specs.Met.{expanded_symbols, IsKnown}
 use Rattle.lalrpop_norm_theory.specs.Tables.{Realizes, Stands, table, rule_of_symbol}
 use Rattle.lalrpop_norm_theory.specs.Leveled.{leveled_symbol}
 use Rattle.lalrpop_norm_theory.specs.Laws.{PairsInTwoSteps}
 use Rattle.lalrpop_norm_theory.proofs.Composed.{levels_two_steps}
+use Rattle.lalrpop_norm_theory.proofs.PairTotal.{pairs_lowered}
+use Rattle.lalrpop_norm_theory.proofs.PairTranslations.{lowered_to}
+use Rattle.lalrpop_norm_theory.proofs.RoundsLemmas.{in_cases}
 use Rattle.lalrpop_norm_theory.proofs.Expansion.{expansion_stands}
 use Rattle.lalrpop_norm_model.specs.Features.{Features}
 use Rattle.lalrpop_norm_model.specs.WrittenRules.{WrittenRule, written_rules, leveled_rules, flat_rules}
-use Rattle.lalrpop_norm_model.specs.Grammars.{ConditionValue, meaning, references}
+use Rattle.lalrpop_norm_model.specs.Grammars.{ConditionValue, meaning, references, roots}
 use Rattle.lalrpop_norm_model.specs.ClosedTexts.{level_names, text_in}
 use Rattle.lalrpop_norm_model.specs.LevelRules.{leveled_grammar}
 use Rattle.lalrpop_norm_model.specs.PlainRules.{all_rules, plain_grammar, plain_rules, IsEnded}
@@ -29,14 +33,16 @@ use Rattle.lalrpop_norm_model.specs.Renumbered.{prepared_grammar, rank_by, IsRen
 use Rattle.lalrpop_norm_model.specs.Expanded.{rule_names}
 use Rattle.lalrpop_norm_model.proofs.LevelLemmas.{in_map}
 use Rattle.lalrpop_norm_model.proofs.ScopeLemmas.{meanings_are_resolved}
-use Rattle.lalrpop_norm_model.proofs.MeaningLemmas.{meaning_has_levels}
+use Rattle.lalrpop_norm_model.proofs.MeaningLemmas.{meaning_has_counts, meaning_has_levels}
+use Rattle.lalrpop_norm_model.proofs.WrittenLemmas.{scoped_by_names}
 use Rattle.lalrpop_norm_model.proofs.RoundReadLemmas.{rounds_are_read}
 use Rattle.lalrpop_norm_model.proofs.PlainReadLemmas.{plain_fit, plain_rules_are_read}
 use Rattle.lalrpop_norm_model.proofs.FaithfulLemmas.{plain_grammars_hold_plain_rules, distinct_names_mean_one_rule}
 use Rattle.lalrpop_norm_model.proofs.RenumberedLemmas.{disabled_only_renumber}
 use Rattle.lalrpop_norm_model.proofs.RenumberedClauses.{clauses_only_renumber}
 use Rattle.lalrpop_norm_model.proofs.StepLemmas.{levels_steps}
-use Rattle.lalrpop_norm.proofs.TreesWritten.{fitting_names, reference_of, declared_resolved, lower, same_references}
+use Rattle.lalrpop_norm.proofs.TreesWritten.{fitting_names, reference_of, declared_resolved, lower, same_references, leveled_distinct}
+use Rattle.lalrpop_norm.proofs.RootSteps.{root_alike, steps_of_alike}
 use Rattle.lalrpop_norm.proofs.RealizedRules.{realizes}
 
 -- ---- numbers
@@ -90,6 +96,20 @@ written_ranked value fs g name =
     pair_ranked (meaning value (written_rules fs g)) (meaning value (leveled_rules (prepared_grammar fs g))) (rank_by (written_rules fs g))
     (disabled_only_renumber value fs g).0 (clauses_only_renumber value fs g) name
 
+-- and a tree by whose ranks a derivation tree pairs pairs with it
+pub ranked_written : (value : ConditionValue) (fs : Features) (g : GrammarData) (name : ClosedSymbol → Name) (x : ClosedSymbol) (t : WrittenTree) (u : LoweredTree) →
+    IsTreeOf (meaning value (written_rules fs g)) t x →
+    Pairs (meaning value (leveled_rules (prepared_grammar fs g))) name x (renumbered (rank_by (written_rules fs g)) t) u →
+    Pairs (meaning value (written_rules fs g)) name x t u
+ranked_written value fs g name x t u tree h =
+    let M : Meaning = meaning value (written_rules fs g) in
+    let N : Meaning = meaning value (leveled_rules (prepared_grammar fs g)) in
+    let levels = meaning_has_levels value (leveled_rules (prepared_grammar fs g)) in
+    let pair = pairs_lowered M name (meaning_has_counts value (written_rules fs g)) (meaning_has_levels value (written_rules fs g)) t x tree in
+    let same : lowered_tree M name t x ≡ u =
+    sym (lowered_to N name levels (written_ranked value fs g name x t (lowered_tree M name t x) pair)) ∙ lowered_to N name levels h in
+    subst (λ (v : LoweredTree). Pairs M name x t v) same pair
+
 -- ---- the grammar with levels
 
 module _ (value : ConditionValue) (fs : Features) (g : GrammarData) (N : HasLevelNames (prepared_grammar fs g))
@@ -126,11 +146,14 @@ module _ (value : ConditionValue) (fs : Features) (g : GrammarData) (N : HasLeve
     realized : Realizes L name P (IsKnown (declared h) met)
     realized = realizes L name [] (declared h) met stands (all_rules (plain_grammar value h n)) (plain_origins L (declared h) n) names rules_same P held
 
-    -- the trees of what is declared pair in two steps
-    pub paired_in_steps : (x : ClosedSymbol) → In x (references (written_rules fs g)) →
+    abbrev InSteps : ClosedSymbol → Type 0
+    InSteps =
         PairsInTwoSteps (meaning value (leveled_rules (prepared_grammar fs g))) L (level_names (leveled_rules (prepared_grammar fs g)))
-        (level_origin value (prepared_grammar fs g)) name P x
-    paired_in_steps x i =
+        (level_origin value (prepared_grammar fs g)) name P
+
+    -- the trees of what is declared pair in two steps
+    declared_in_steps : (x : ClosedSymbol) → In x (references (written_rules fs g)) → InSteps x
+    declared_in_steps x i =
         let rs : List WrittenRule = leveled_rules (prepared_grammar fs g) in
         let j : In x (references rs) = subst (λ (gs : List ClosedSymbol). In x gs) (sym (same_references value fs g N S)) i in
         levels_steps levels_two_steps value (prepared_grammar fs g) N name P (declared h) met realized x (declared_resolved rs x j) (known rs x j)
@@ -144,3 +167,19 @@ module _ (value : ConditionValue) (fs : Features) (g : GrammarData) (N : HasLeve
             subst (λ (gs : List ClosedSymbol). In (leveled_symbol l x) gs) (lower (prepared_grammar fs g) N S) (in_map (leveled_symbol l) x _ j) in
             subst (λ (y : ClosedSymbol). IsKnown (declared h) met (leveled_symbol l y)) (sym e)
             (subst (λ (y : ClosedSymbol). In (leveled_symbol l y) (declared h)) e k)
+
+    -- so do those of a rule taken by itself
+    pub paired_in_steps : (x : ClosedSymbol) → In x (roots (written_rules fs g) ++ references (written_rules fs g)) →
+        PairsInTwoSteps (meaning value (leveled_rules (prepared_grammar fs g))) L (level_names (leveled_rules (prepared_grammar fs g)))
+        (level_origin value (prepared_grammar fs g)) name P x
+    paired_in_steps x i = elim (in_cases x (roots (written_rules fs g)) (references (written_rules fs g)) i) [
+      | inl j ↦ (
+          let rs : List WrittenRule = leveled_rules (prepared_grammar fs g) in
+          let k : In x (roots rs) = subst (λ (gs : List ClosedSymbol). In x gs) (sym (disabled_only_renumber value fs g).2) j in
+          let (m, c, e, listed, alike) = root_alike rs (scoped_by_names (prepared_grammar fs g) N.names) (leveled_distinct value fs g N S) value x k in
+          subst InSteps (sym e)
+          (steps_of_alike (meaning value rs) (level_names rs) L (level_origin value (prepared_grammar fs g)) name P m None c alike
+          (declared_in_steps (reference m c)
+          (subst (λ (gs : List ClosedSymbol). In (reference m c) gs) (same_references value fs g N S) listed))))
+      | inr j ↦ declared_in_steps x j
+    ]
