@@ -58,14 +58,15 @@ module _ (M : Meaning) (l : Name → ℕ → Name) where
   tree_moved n b c A (list ts) h = absurd h
   tree_moved n b c A (node m k ts) (same, parts, at, hs) = (same, parts, sym (A.parts k) ∙ at, hs)
 
-  steps_moved : {n : Name} {b : Option ℕ} {t m : WrittenTree} → Steps M l (reference n b) t m → (c : Option ℕ) → AreAlike n b c →
-      Steps M l (reference n c) t m
-  steps_moved (at_level n k p b parts ts ms own at h) c A =
-      subst (λ (x : Name). Steps M l (reference n c) (node n k ts) (node x p ms)) (sym A.called)
-      (at_level n k p c parts ts ms (sym (A.own k) ∙ own) (clause_moved n b c A p (clause (written n k) parts) at) h)
-  steps_moved (below_level n p b d t m previous at h) c A =
-      subst (λ (x : Name). Steps M l (reference n c) t (node x p (tree_and m no_trees))) (sym A.called)
-      (below_level n p c d t m (sym A.previous ∙ previous) (clause_moved n b c A p (clause level_step (only (reference n d))) at) h)
+  module _ (L : Meaning) where
+    steps_moved : {n : Name} {b : Option ℕ} {t m : WrittenTree} → Steps M L l (reference n b) t m → (c : Option ℕ) → AreAlike n b c →
+        Steps M L l (reference n c) t m
+    steps_moved (at_level n k p b parts ts ms own at h) c A =
+        subst (λ (x : Name). Steps M L l (reference n c) (node n k ts) (node x p ms)) (sym A.called)
+        (at_level n k p c parts ts ms (sym (A.own k) ∙ own) (clause_moved n b c A p (clause (written n k) parts) at) h)
+    steps_moved (below_level n p b d t m previous at h) c A =
+        subst (λ (x : Name). Steps M L l (reference n c) t (node x p (tree_and m no_trees))) (sym A.called)
+        (below_level n p c d t m (sym A.previous ∙ previous) (clause_moved n b c A p (clause level_step (only (reference n d))) at) h)
 
   module _ (name : ClosedSymbol → Name) where
     pairs_moved : {n : Name} {b : Option ℕ} {t : WrittenTree} {u : LoweredTree} → Pairs M (level_named l name) (reference n b) t u →
@@ -96,19 +97,19 @@ module _ (M : Meaning) (l : Name → ℕ → Name) where
     steps_of_alike = record {
       first = record {
         down = λ t h. exactly_moved
-            (λ m. IsTreeOf L m (leveled_symbol l (reference n c)) × Steps M l (reference n c) t m)
-            (λ m. IsTreeOf L m (leveled_symbol l (reference n b)) × Steps M l (reference n b) t m)
-            (λ m q. (subst (λ (x : ClosedSymbol). IsTreeOf L m x) (sym same) q.0, steps_moved q.1 b back))
-            (λ m q. (subst (λ (x : ClosedSymbol). IsTreeOf L m x) same q.0, steps_moved q.1 c A))
+            (λ m. IsTreeOf L m (leveled_symbol l (reference n c)) × Steps M L l (reference n c) t m)
+            (λ m. IsTreeOf L m (leveled_symbol l (reference n b)) × Steps M L l (reference n b) t m)
+            (λ m q. (subst (λ (x : ClosedSymbol). IsTreeOf L m x) (sym same) q.0, steps_moved L q.1 b back))
+            (λ m q. (subst (λ (x : ClosedSymbol). IsTreeOf L m x) same q.0, steps_moved L q.1 c A))
             (S.first.down t (tree_moved n b c A t h));
         up = λ m h. exactly_moved
-            (λ t. IsTreeOf M t (reference n c) × Steps M l (reference n c) t m)
-            (λ t. IsTreeOf M t (reference n b) × Steps M l (reference n b) t m)
-            (λ t q. (tree_moved n c b back t q.0, steps_moved q.1 b back))
-            (λ t q. (tree_moved n b c A t q.0, steps_moved q.1 c A))
+            (λ t. IsTreeOf M t (reference n c) × Steps M L l (reference n c) t m)
+            (λ t. IsTreeOf M t (reference n b) × Steps M L l (reference n b) t m)
+            (λ t q. (tree_moved n c b back t q.0, steps_moved L q.1 b back))
+            (λ t q. (tree_moved n b c A t q.0, steps_moved L q.1 c A))
             (S.first.up m (subst (λ (x : ClosedSymbol). IsTreeOf L m x) same h));
-        same_yields = λ t m s. S.first.same_yields t m (steps_moved s c A);
-        same_alternatives = λ t m s. S.first.same_alternatives t m (steps_moved s c A);
+        same_yields = λ t m s. S.first.same_yields t m (steps_moved L s c A);
+        same_alternatives = λ t m s. S.first.same_alternatives t m (steps_moved L s c A);
       };
       second = subst (λ (x : ClosedSymbol). OneToOne L name P x) (sym same) S.second;
       whole = record {
@@ -128,10 +129,10 @@ module _ (M : Meaning) (l : Name → ℕ → Name) where
         same_alternatives = λ t u p. S.whole.same_alternatives t u (pairs_moved name p c A);
       };
       joined = λ t m u s p. pairs_moved name
-          (S.joined t m u (steps_moved s c A) (subst (λ (x : ClosedSymbol). Pairs L name x m u) same p)) b back;
+          (S.joined t m u (steps_moved L s c A) (subst (λ (x : ClosedSymbol). Pairs L name x m u) same p)) b back;
       parted = λ t u p. (
           let (m, s, q) = S.parted t u (pairs_moved name p c A) in
-          (m, steps_moved s b back, subst (λ (x : ClosedSymbol). Pairs L name x m u) (sym same) q));
+          (m, steps_moved L s b back, subst (λ (x : ClosedSymbol). Pairs L name x m u) (sym same) q));
     }
 
 -- ---- rules taken by themselves

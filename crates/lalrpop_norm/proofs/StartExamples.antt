@@ -1,6 +1,6 @@
 -- A public rule of two levels: both have start symbols, and that of the rule by itself does not lead to the lower level.
 --   pub E = { #[precedence(level="1")] "n", #[precedence(level="2")] #[assoc(side="left")] E "+" E };
-use Rattle.std.proofs.Common.{◌≡◌, ◌↔◌, inl, inr, ℕ, List, [], ◌∷◌, ◌++◌, map, Some, None, refl, sym, ap, ◌∙◌}
+use Rattle.std.proofs.Common.{◌≡◌, ◌↔◌, inl, inr, ℕ, List, [], ◌∷◌, map, Some, None, refl, sym, ap, ◌∙◌}
 use Rattle.std.specs.Prelude.{codes}
 use Rattle.std.specs.Fmt.{digits}
 use Rattle.lalrpop_norm_tree.specs.Items.{RuleData, GrammarData, everywhere}
@@ -12,8 +12,6 @@ use Rattle.lalrpop_norm_repr.specs.Tables.{found}
 use Rattle.lalrpop_norm_lower.specs.Lowering.{public_rules_in, start_name}
 use Rattle.lalrpop_norm_model.specs.Features.{Features}
 use Rattle.lalrpop_norm_model.specs.WrittenRules.{written_rules}
-use Rattle.lalrpop_norm_model.specs.Grammars.{references, roots}
-use Rattle.lalrpop_norm_model.specs.ClosedTexts.{text_in}
 use Rattle.lalrpop_norm_model.specs.PlainRules.{all_rules}
 use Rattle.lalrpop_norm_model.proofs.ExampleWords.{nowhere, rule_name, precedence, assoc, literal, name, symbols, alternative, rule, rules_alone}
 use Rattle.lalrpop_norm.specs.Derivations.{IsWrittenWord, IsWordOf}

@@ -11,8 +11,7 @@ use Rattle.lalrpop_norm_theory.specs.LoweredTrees.{ProductionTable}
 use Rattle.lalrpop_norm_theory.specs.Met.{expanded_symbols, IsKnown}
 use Rattle.lalrpop_norm_theory.specs.Tables.{table}
 use Rattle.lalrpop_norm_theory.specs.Rounds.{In}
-use Rattle.lalrpop_norm_theory.specs.Laws.{OneToOne, PairsInTwoSteps}
-use Rattle.lalrpop_norm_theory.proofs.PairSides.{tree_of}
+use Rattle.lalrpop_norm_theory.specs.Laws.{OneToOne, PairsInTwoSteps, level_named}
 use Rattle.lalrpop_norm_theory.proofs.RoundsLemmas.{in_cases}
 use Rattle.lalrpop_norm_conditions.specs.Conditions.{comparison}
 use Rattle.lalrpop_norm_resolve.specs.NameFaults.{resolve_faults}
@@ -23,21 +22,20 @@ use Rattle.lalrpop_norm_lower.specs.Lowering.{public_rules_in, start_name}
 use Rattle.lalrpop_norm_lower.specs.Shape.{IsLoweringOf}
 use Rattle.lalrpop_norm_model.specs.Features.{Features}
 use Rattle.lalrpop_norm_model.specs.Enabled.{enabled_grammar}
-use Rattle.lalrpop_norm_model.specs.WrittenRules.{WrittenRule, written_rules, leveled_rules, flat_rules}
+use Rattle.lalrpop_norm_model.specs.WrittenRules.{WrittenRule, written_rules, flat_rules}
 use Rattle.lalrpop_norm_model.specs.Grammars.{ConditionValue, meaning, references, roots}
 use Rattle.lalrpop_norm_model.specs.ClosedTexts.{level_names, text_in}
 use Rattle.lalrpop_norm_model.specs.LevelRules.{leveled_grammar}
 use Rattle.lalrpop_norm_model.specs.PlainRules.{rule_of_item, all_rules, plain_grammar, plain_rules, IsEnded}
 use Rattle.lalrpop_norm_model.specs.Origins.{plain_symbols, plain_origins, action_origins}
 use Rattle.lalrpop_norm_model.specs.PlainTables.{IsSettled, flat_meaning, declared, rules_from}
-use Rattle.lalrpop_norm_model.specs.LevelNames.{HasLevelNames, level_origin}
+use Rattle.lalrpop_norm_model.specs.LevelNames.{HasLevelNames, written_origin}
 use Rattle.lalrpop_norm_model.specs.Renumbered.{prepared_grammar}
 use Rattle.lalrpop_norm_model.specs.TerminalTypes.{extern_enum}
 use Rattle.lalrpop_norm_model.specs.CheckedTokens.{IsEnteredWith, IsEntered}
-use Rattle.lalrpop_norm_model.proofs.MeaningLemmas.{meaning_has_levels}
 use Rattle.lalrpop_norm_model.proofs.ResolvedLemmas.{resolved_once}
 use Rattle.lalrpop_norm_model.proofs.PlainReadLemmas.{origins_counted, plain_rules_are_read}
-use Rattle.lalrpop_norm_model.proofs.RenumberedTrees.{trees_only_renumber}
+use Rattle.lalrpop_norm_model.proofs.WrittenLeveled.{names_written}
 use Rattle.lalrpop_norm_model.proofs.FaithfulLemmas.{plain_grammars_hold_plain_rules}
 use Rattle.lalrpop_norm.specs.Derivations.{derivations}
 use Rattle.lalrpop_norm.specs.Faithful.{HasStart, lowered_name, start_of, traced_derivations, written_meaning, written_name, written_symbols}
@@ -48,7 +46,7 @@ use Rattle.lalrpop_norm.proofs.PlainShape.{distinct_listed, free_listed, shape_d
 use Rattle.lalrpop_norm.proofs.StartProductions.{start_listed, start_production, start_derivations, start_written}
 use Rattle.lalrpop_norm.proofs.TreesPublic.{public_rule}
 use Rattle.lalrpop_norm.proofs.PlainTrees.{has_rules, held_trees}
-use Rattle.lalrpop_norm.proofs.TwoSteps.{paired_in_steps, written_ranked, ranked_written}
+use Rattle.lalrpop_norm.proofs.TwoSteps.{paired_in_steps}
 use Rattle.lalrpop_norm.proofs.TreesWritten.{root_of, reference_of, text_written, written_whole, written_fit}
 
 -- the symbol of a rule is the nonterminal of its text
@@ -129,8 +127,7 @@ module _ {value : ConditionValue} {fs : Features} {g : GrammarData} {n : ℕ} {c
 
   -- through the trees of the grammar with levels
   pub lowered_in_steps : (s : ClosedSymbol) → In s (roots ws ++ references ws) →
-      PairsInTwoSteps (meaning value (leveled_rules (prepared_grammar fs g))) (flat_meaning value (leveled_grammar (prepared_grammar fs g)))
-      (level_names (leveled_rules (prepared_grammar fs g))) (level_origin value (prepared_grammar fs g))
+      PairsInTwoSteps M (flat_meaning value (leveled_grammar (prepared_grammar fs g))) (level_names ws) (written_origin value ws)
       (text_in (flat_rules (leveled_grammar (prepared_grammar fs g))))
       (derivations (action_origins (length (public_rules_in (all_rules plain))) (flat_meaning value (leveled_grammar (prepared_grammar fs g)))
       (declared (leveled_grammar (prepared_grammar fs g))) n) l)
@@ -206,16 +203,9 @@ lowered_trees_faithful fs g faults macros level_faults rounds whole names checke
       productions = lowered_productions lowered;
       one_to_one = lowered_trees lowered;
       in_steps = λ s i. record {
-        ranks = trees_only_renumber comparison fs g;
-        levels = lowered_in_steps lowered s i;
-        names = text_written comparison fs g lowered.levels lowered.settled;
-        pairs = λ t u. (
-          (λ h. (
-            tree_of (written_meaning fs g) (written_name fs g) (meaning_has_levels comparison (written_rules fs g)) h,
-            written_ranked comparison fs g (written_name fs g) s t u h,
-          )),
-          (λ h. ranked_written comparison fs g (written_name fs g) s t u h.0 h.1),
-        );
+        steps = lowered_in_steps lowered s i;
+        names = subst (λ (l : Name → ℕ → Name). level_named l (text_in (flat_rules (leveled_grammar (prepared_grammar fs g)))) ≡ text_in (written_rules fs g))
+            (names_written fs g) (text_written comparison fs g lowered.levels lowered.settled);
       };
       starts = λ r i none shown s k of. (
           let (p, j, named) = public_rule comparison fs g lowered.levels lowered.settled rounds r i none shown s k of in

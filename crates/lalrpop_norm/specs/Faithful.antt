@@ -11,21 +11,17 @@ use Rattle.lalrpop_norm_theory.specs.LoweredTrees.{nonterminal_symbol, from_star
 use Rattle.lalrpop_norm_theory.specs.Rounds.{In}
 use Rattle.lalrpop_norm_theory.specs.Clauses.{IsNonterminal, clause_production, clauses}
 use Rattle.lalrpop_norm_theory.specs.Met.{expansion, expanded_symbols, IsKnown}
-use Rattle.lalrpop_norm_theory.specs.LoweredTrees.{LoweredTree}
-use Rattle.lalrpop_norm_theory.specs.Pairs.{Pairs}
-use Rattle.lalrpop_norm_theory.specs.WrittenTrees.{WrittenTree, IsTreeOf}
 use Rattle.lalrpop_norm_theory.specs.Laws.{OneToOne, PairsInTwoSteps, level_named}
 use Rattle.lalrpop_norm_conditions.specs.Conditions.{comparison}
 use Rattle.lalrpop_norm_model.specs.Features.{Features}
 use Rattle.lalrpop_norm_model.specs.Enabled.{enabled_grammar}
 use Rattle.lalrpop_norm_model.specs.Scopes.{resolved_grammar}
-use Rattle.lalrpop_norm_model.specs.WrittenRules.{written_rules, leveled_rules, flat_rules}
+use Rattle.lalrpop_norm_model.specs.WrittenRules.{written_rules, flat_rules}
 use Rattle.lalrpop_norm_model.specs.Grammars.{meaning, references, roots}
 use Rattle.lalrpop_norm_model.specs.ClosedTexts.{level_names, text_in}
-use Rattle.lalrpop_norm_model.specs.LevelNames.{level_origin}
+use Rattle.lalrpop_norm_model.specs.LevelNames.{written_origin}
 use Rattle.lalrpop_norm_model.specs.LevelRules.{leveled_grammar}
 use Rattle.lalrpop_norm_model.specs.PlainTables.{flat_meaning, declared}
-use Rattle.lalrpop_norm_model.specs.Renumbered.{TreesAreRenumbered, prepared_grammar, rank_by, renumbered}
 use Rattle.lalrpop_norm_model.specs.PlainRules.{plain_grammar, all_rules}
 use Rattle.lalrpop_norm_model.specs.Origins.{action_origins}
 use Rattle.lalrpop_norm_model.specs.Lexers.{Lexer}
@@ -57,13 +53,9 @@ module _ (fs : Features) (g : GrammarData) where
   abbrev pub written_name : ClosedSymbol → Name
   written_name = text_in (written_rules fs g)
 
-  -- what trees see of the grammar that the pass on levels gets: the enabled rules, each alternative with its rank for its number
-  abbrev pub ranked_meaning : Meaning
-  ranked_meaning = meaning comparison (leveled_rules (prepared_grammar fs g))
-
-  -- the names that it gives to levels
+  -- the names of its levels
   abbrev pub names_of_levels : Name → ℕ → Name
-  names_of_levels = level_names (leveled_rules (prepared_grammar fs g))
+  names_of_levels = level_names (written_rules fs g)
 
   -- the grammar with levels, each enabled rule and macro in its place; what trees see of it, where no rule has levels; and names
   abbrev pub grammar_with_levels : GrammarData
@@ -116,30 +108,26 @@ module _ (fs : Features) (g : GrammarData) (rounds : ℕ) (l : LoweredGrammar) w
   leveled_derivations =
       derivations (action_origins (length public_rules) (leveled_meaning fs g) (declared (grammar_with_levels fs g)) rounds) l
 
-  -- Of a written symbol, the pairing of its trees is made of steps: taking disabled alternatives out renumbers; then each level
-  -- becomes a rule; then the grammar with levels is lowered. The last two in a row are one to one too, a symbol has the same
-  -- name, and a written tree pairs as written where it pairs so.
+  -- Of a written symbol, the pairing of its trees is made of two steps: each level becomes a rule; then the grammar with levels
+  -- is lowered. Each is one to one, and so are both in a row; and a symbol has the same name.
   pub record IsMadeInSteps (s : ClosedSymbol) : Type 0 where
-    pub ranks : TreesAreRenumbered M (ranked_meaning fs g) (rank_by (written_rules fs g))
-    pub levels : PairsInTwoSteps (ranked_meaning fs g) (leveled_meaning fs g) (names_of_levels fs g)
-        (level_origin comparison (prepared_grammar fs g)) (leveled_name fs g) leveled_derivations s
+    pub steps : PairsInTwoSteps M (leveled_meaning fs g) (names_of_levels fs g)
+        (written_origin comparison (written_rules fs g)) (leveled_name fs g) leveled_derivations s
     pub names : level_named (names_of_levels fs g) (leveled_name fs g) ≡ name
-    pub pairs : (t : WrittenTree) (u : LoweredTree) → Pairs M name s t u
-        ↔ IsTreeOf M t s × Pairs (ranked_meaning fs g) name s (renumbered (rank_by (written_rules fs g)) t) u
 
-  -- A written symbol has a start symbol: the lowered grammar lists it, its one production is the symbol's name, with the origin of
-  -- start symbols, and its words are those of the written symbol.
+  -- A written symbol has a start symbol: the lowered grammar lists it, its one production is the symbol's name, with the origin
+  -- of start symbols, and its words are those of the written symbol.
   pub record HasStart (s : ClosedSymbol) : Type 0 where
     pub listed : found (lowered_name fs g s) l.start_nonterminals ≡ Some (start_of fs g s)
     pub production : traced_derivations (start_of fs g s).0
         ≡ record { origin = from_start; symbols = nonterminal_symbol (lowered_name fs g s).0 ∷ [] } ∷ []
     pub words : (w : List Terminal) → IsWrittenWord M s w ↔ IsWordOf traced_derivations (start_of fs g s).0 w
 
-  -- From each enabled written rule that is no macro, by itself and within each of its levels, the derivation trees of the lowered
-  -- grammar stand one to one with the written ones, with the same terminals and the same alternatives. After so many rounds
-  -- nothing is new. Where the rule is public, it has a start symbol, by itself (that is the highest level's) and within each of its
-  -- levels, with the words that it has there. The start symbol of each public plain rule has that rule as its one production;
-  -- where a public macro may be called, which `validate` refuses, that says it of the rules that its calls make too.
+  -- From each enabled written rule that is no macro, by itself and within each of its levels, the derivation trees of the
+  -- lowered grammar stand one to one with the written ones, with the same terminals and the same alternatives. After so many
+  -- rounds nothing is new. Where the rule is public, it has a start symbol, by itself (that is the highest level's) and within
+  -- each of its levels, with the words that it has there. The start symbol of each public plain rule has that rule as its one
+  -- production; where a public macro may be called, which `validate` refuses, that says it of the rules that its calls make too.
   pub record HasFaithfulTrees : Type 0 where
     pub whole : (expansion M (written_references fs g) rounds).fresh ≡ []
     pub productions : (s : ClosedSymbol) → IsNonterminal s →
