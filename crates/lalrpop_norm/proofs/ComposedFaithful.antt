@@ -174,18 +174,17 @@ module _ (fs : Features) (g : GrammarData) (limit : ℕ) (h : GrammarData) (tabl
 
   -- What is lowered from the plain rules with their tokens is faithful.
   pub lowered_faithful : {R : Type 0} (lexer : Lexer R) → IsChecked lexer (grammar_of_plain_rules fs g limit) h → (l : LoweredGrammar) →
-      IsLoweringOf h (all_rules h) table l → IsClosed l → IsFaithful lexer fs g l
+      IsLoweringOf h (all_rules h) table l → IsClosed l → IsFaithful lexer fs limit g l
   lowered_faithful lexer tokens l shape closed =
       let E : PassesExpansion fs g limit = W.before.before in record {
-        rounds = limit;
         trees =
             lowered_trees_faithful fs g E.resolved (flat fs g E.leveled) (names_free fs g E.leveled) limit (whole fs g limit E)
             own_names h W.before.entries table l shape;
-        plain = h;
+        checked = h;
         tokens = tokens;
-        types = grounded l.types shape.types;
         table = table;
         inferred = W.inferred;
+        types = grounded l.types shape.types;
         shape = shape;
         closed = closed;
       }

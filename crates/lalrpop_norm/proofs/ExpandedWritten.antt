@@ -40,7 +40,7 @@ use Rattle.lalrpop_norm_model.proofs.InferenceLemmas.{both_empty, none_made, in_
 use Rattle.lalrpop_norm_prevalidate.specs.TypeFaults.{some_holds, parameter_holds, bound_holds, clause_holds, kind_holds, pattern_holds, patterns_hold, fields_hold}
 use Rattle.lalrpop_norm_prevalidate.specs.SymbolFaults.{terminal_faults, call_faults, kind_faults, part_faults, parts_faults, beside_faults, list_faults}
 use Rattle.lalrpop_norm_prevalidate.specs.AlternativeFaults.{alternative_faults}
-use Rattle.lalrpop_norm_prevalidate.specs.GrammarFaults.{rule_faults, mapping_faults, match_beside_extern_faults, match_faults, associated_faults, types_faults, conversion_faults, enum_faults, extern_faults, is_known_type, unknown_grammar_faults, parameter_faults, clause_faults, is_match, is_extern, item_faults, items_faults, enum_span, place_in, blocks_in, validate_faults}
+use Rattle.lalrpop_norm_prevalidate.specs.GrammarFaults.{rule_faults, mapping_faults, match_beside_extern_faults, match_faults, associated_faults, types_faults, conversion_faults, enum_faults, extern_faults, is_known_type, unknown_grammar_faults, parameter_faults, clause_faults, is_match, is_extern, item_faults, items_faults, enum_span, surroundings_of, blocks_in, validate_faults}
 use Rattle.lalrpop_norm_prevalidate.specs.Walks.{types_along, items_along}
 use Rattle.lalrpop_norm_prevalidate.proofs.PlaceLemmas.{types_placed, items_placed}
 use Rattle.lalrpop_norm.proofs.ExpandedScopes.{IsOverKind, IsOver, AreOver}
@@ -126,43 +126,43 @@ mutual
 module _ (g : GrammarData) where
   -- an item without faults, whatever stands before it
   abbrev IsFree : ItemData → Type 0
-  IsFree i = (m : Bool) × (e : Bool) × (item_faults (place_in g) (blocks_in g) g.span m e i ≡ [])
+  IsFree i = (m : Bool) × (e : Bool) × (item_faults (surroundings_of g) (blocks_in g) g.span m e i ≡ [])
 
-  item_free : (m e : Bool) (items : List ItemData) → items_along (place_in g) (blocks_in g) g.span m e items ≡ [] → (i : ItemData) → In i items → IsFree i
+  item_free : (m e : Bool) (items : List ItemData) → items_along (surroundings_of g) (blocks_in g) g.span m e items ≡ [] → (i : ItemData) → In i items → IsFree i
   item_free m e [] h i j = absurd j
   item_free m e (k ∷ items) h i (inl same) =
-      (m, e, subst (λ (x : ItemData). item_faults (place_in g) (blocks_in g) g.span m e x ≡ []) (sym same) (both_empty (item_faults (place_in g) (blocks_in g) g.span m e k) _ h).0)
-  item_free m e (k ∷ items) h i (inr j) = item_free (m || is_match k) (e || is_extern k) items (both_empty (item_faults (place_in g) (blocks_in g) g.span m e k) _ h).1 i j
+      (m, e, subst (λ (x : ItemData). item_faults (surroundings_of g) (blocks_in g) g.span m e x ≡ []) (sym same) (both_empty (item_faults (surroundings_of g) (blocks_in g) g.span m e k) _ h).0)
+  item_free m e (k ∷ items) h i (inr j) = item_free (m || is_match k) (e || is_extern k) items (both_empty (item_faults (surroundings_of g) (blocks_in g) g.span m e k) _ h).1 i j
 
-  no_intern : (m e : Bool) (items : List ItemData) → items_along (place_in g) (blocks_in g) g.span m e items ≡ [] → flat_map intern_in items ≡ []
+  no_intern : (m e : Bool) (items : List ItemData) → items_along (surroundings_of g) (blocks_in g) g.span m e items ≡ [] → flat_map intern_in items ≡ []
   unfolding item_faults
   no_intern m e [] h = refl
   no_intern m e (intern_item t ∷ items) h = absurd (cc h)
-  no_intern m e (match_item t ∷ items) h = no_intern _ _ items (both_empty (item_faults (place_in g) (blocks_in g) g.span m e (match_item t)) _ h).1
-  no_intern m e (extern_item t ∷ items) h = no_intern _ _ items (both_empty (item_faults (place_in g) (blocks_in g) g.span m e (extern_item t)) _ h).1
-  no_intern m e (rule_item r ∷ items) h = no_intern _ _ items (both_empty (item_faults (place_in g) (blocks_in g) g.span m e (rule_item r)) _ h).1
-  no_intern m e (use_item u ∷ items) h = no_intern _ _ items (both_empty (item_faults (place_in g) (blocks_in g) g.span m e (use_item u)) _ h).1
+  no_intern m e (match_item t ∷ items) h = no_intern _ _ items (both_empty (item_faults (surroundings_of g) (blocks_in g) g.span m e (match_item t)) _ h).1
+  no_intern m e (extern_item t ∷ items) h = no_intern _ _ items (both_empty (item_faults (surroundings_of g) (blocks_in g) g.span m e (extern_item t)) _ h).1
+  no_intern m e (rule_item r ∷ items) h = no_intern _ _ items (both_empty (item_faults (surroundings_of g) (blocks_in g) g.span m e (rule_item r)) _ h).1
+  no_intern m e (use_item u ∷ items) h = no_intern _ _ items (both_empty (item_faults (surroundings_of g) (blocks_in g) g.span m e (use_item u)) _ h).1
 
   -- after an extern block there is none
-  no_extern : (m : Bool) (items : List ItemData) → items_along (place_in g) (blocks_in g) g.span m true items ≡ [] → externs_of items ≡ []
+  no_extern : (m : Bool) (items : List ItemData) → items_along (surroundings_of g) (blocks_in g) g.span m true items ≡ [] → externs_of items ≡ []
   unfolding item_faults extern_faults
   no_extern m [] h = refl
   no_extern m (extern_item t ∷ items) h = absurd (cc h)
-  no_extern m (match_item t ∷ items) h = no_extern _ items (both_empty (item_faults (place_in g) (blocks_in g) g.span m true (match_item t)) _ h).1
-  no_extern m (intern_item t ∷ items) h = no_extern _ items (both_empty (item_faults (place_in g) (blocks_in g) g.span m true (intern_item t)) _ h).1
-  no_extern m (rule_item r ∷ items) h = no_extern _ items (both_empty (item_faults (place_in g) (blocks_in g) g.span m true (rule_item r)) _ h).1
-  no_extern m (use_item u ∷ items) h = no_extern _ items (both_empty (item_faults (place_in g) (blocks_in g) g.span m true (use_item u)) _ h).1
+  no_extern m (match_item t ∷ items) h = no_extern _ items (both_empty (item_faults (surroundings_of g) (blocks_in g) g.span m true (match_item t)) _ h).1
+  no_extern m (intern_item t ∷ items) h = no_extern _ items (both_empty (item_faults (surroundings_of g) (blocks_in g) g.span m true (intern_item t)) _ h).1
+  no_extern m (rule_item r ∷ items) h = no_extern _ items (both_empty (item_faults (surroundings_of g) (blocks_in g) g.span m true (rule_item r)) _ h).1
+  no_extern m (use_item u ∷ items) h = no_extern _ items (both_empty (item_faults (surroundings_of g) (blocks_in g) g.span m true (use_item u)) _ h).1
 
-  one_extern : (m : Bool) (items : List ItemData) → items_along (place_in g) (blocks_in g) g.span m false items ≡ [] → (t : ExternTokenData) (rest : List ExternTokenData) →
+  one_extern : (m : Bool) (items : List ItemData) → items_along (surroundings_of g) (blocks_in g) g.span m false items ≡ [] → (t : ExternTokenData) (rest : List ExternTokenData) →
       externs_of items ≡ t ∷ rest → rest ≡ []
   one_extern m [] h t rest e = absurd (cc e)
   one_extern m (extern_item u ∷ items) h t rest e =
       let same : externs_of items ≡ rest = cc e in
-      sym same ∙ no_extern _ items (both_empty (item_faults (place_in g) (blocks_in g) g.span m false (extern_item u)) _ h).1
-  one_extern m (match_item u ∷ items) h t rest e = one_extern _ items (both_empty (item_faults (place_in g) (blocks_in g) g.span m false (match_item u)) _ h).1 t rest e
-  one_extern m (intern_item u ∷ items) h t rest e = one_extern _ items (both_empty (item_faults (place_in g) (blocks_in g) g.span m false (intern_item u)) _ h).1 t rest e
-  one_extern m (rule_item r ∷ items) h t rest e = one_extern _ items (both_empty (item_faults (place_in g) (blocks_in g) g.span m false (rule_item r)) _ h).1 t rest e
-  one_extern m (use_item u ∷ items) h t rest e = one_extern _ items (both_empty (item_faults (place_in g) (blocks_in g) g.span m false (use_item u)) _ h).1 t rest e
+      sym same ∙ no_extern _ items (both_empty (item_faults (surroundings_of g) (blocks_in g) g.span m false (extern_item u)) _ h).1
+  one_extern m (match_item u ∷ items) h t rest e = one_extern _ items (both_empty (item_faults (surroundings_of g) (blocks_in g) g.span m false (match_item u)) _ h).1 t rest e
+  one_extern m (intern_item u ∷ items) h t rest e = one_extern _ items (both_empty (item_faults (surroundings_of g) (blocks_in g) g.span m false (intern_item u)) _ h).1 t rest e
+  one_extern m (rule_item r ∷ items) h t rest e = one_extern _ items (both_empty (item_faults (surroundings_of g) (blocks_in g) g.span m false (rule_item r)) _ h).1 t rest e
+  one_extern m (use_item u ∷ items) h t rest e = one_extern _ items (both_empty (item_faults (surroundings_of g) (blocks_in g) g.span m false (use_item u)) _ h).1 t rest e
 
   -- ---- extern blocks
 
@@ -176,18 +176,18 @@ module _ (g : GrammarData) where
 
   -- ---- rules
 
-  rule_free : (r : RuleData) → IsFree (rule_item r) → (some_holds r.type_decl ≡ false) × (flat_map (alternative_faults (place_in g)) r.alternatives ≡ [])
+  rule_free : (r : RuleData) → IsFree (rule_item r) → (some_holds r.type_decl ≡ false) × (flat_map (alternative_faults (surroundings_of g)) r.alternatives ≡ [])
   unfolding item_faults rule_faults
   rule_free r (m, e, h) =
       let one = both_empty (fault_if _ _) _ h in
       let two = both_empty (fault_if (some_holds r.type_decl) _) _ one.1 in
       let three = both_empty _ _ two.1 in
-      let four = both_empty _ (flat_map (alternative_faults (place_in g)) r.alternatives) three.1 in
+      let four = both_empty _ (flat_map (alternative_faults (surroundings_of g)) r.alternatives) three.1 in
       (not_fault (some_holds r.type_decl) _ two.0, four.1)
 
-  symbols_free : (a : AlternativeData) → alternative_faults (place_in g) a ≡ [] → parts_faults (place_in g) a.parts ≡ []
+  symbols_free : (a : AlternativeData) → alternative_faults (surroundings_of g) a ≡ [] → parts_faults (surroundings_of g) a.parts ≡ []
   unfolding alternative_faults
-  symbols_free a h = (both_empty (parts_faults (place_in g) a.parts) (beside_faults a.parts) (both_empty (list_faults (place_in g) a.parts) _ h).0).0
+  symbols_free a h = (both_empty (parts_faults (surroundings_of g) a.parts) (beside_faults a.parts) (both_empty (list_faults (surroundings_of g) a.parts) _ h).0).0
 
 associated_bare : (before : List (List ℕ)) (ts : List AssociatedTypeData) → types_along before ts ≡ [] → (t : TypeData) →
     In t (map (λ (a : AssociatedTypeData). a.type_ref) ts) → holds_symbol t ≡ false
@@ -437,25 +437,25 @@ beside_none (Some s) h = absurd (cc h)
 
 module _ (g : GrammarData) where
   -- after a match block there is none
-  no_match : (e : Bool) (items : List ItemData) → items_along (place_in g) (blocks_in g) g.span true e items ≡ [] → flat_map match_in items ≡ []
+  no_match : (e : Bool) (items : List ItemData) → items_along (surroundings_of g) (blocks_in g) g.span true e items ≡ [] → flat_map match_in items ≡ []
   unfolding item_faults match_faults
   no_match e [] h = refl
   no_match e (match_item m ∷ items) h = absurd (cc h)
-  no_match e (extern_item t ∷ items) h = no_match _ items (both_empty (item_faults (place_in g) (blocks_in g) g.span true e (extern_item t)) _ h).1
-  no_match e (intern_item t ∷ items) h = no_match _ items (both_empty (item_faults (place_in g) (blocks_in g) g.span true e (intern_item t)) _ h).1
-  no_match e (rule_item r ∷ items) h = no_match _ items (both_empty (item_faults (place_in g) (blocks_in g) g.span true e (rule_item r)) _ h).1
-  no_match e (use_item u ∷ items) h = no_match _ items (both_empty (item_faults (place_in g) (blocks_in g) g.span true e (use_item u)) _ h).1
+  no_match e (extern_item t ∷ items) h = no_match _ items (both_empty (item_faults (surroundings_of g) (blocks_in g) g.span true e (extern_item t)) _ h).1
+  no_match e (intern_item t ∷ items) h = no_match _ items (both_empty (item_faults (surroundings_of g) (blocks_in g) g.span true e (intern_item t)) _ h).1
+  no_match e (rule_item r ∷ items) h = no_match _ items (both_empty (item_faults (surroundings_of g) (blocks_in g) g.span true e (rule_item r)) _ h).1
+  no_match e (use_item u ∷ items) h = no_match _ items (both_empty (item_faults (surroundings_of g) (blocks_in g) g.span true e (use_item u)) _ h).1
 
-  one_match : (e : Bool) (items : List ItemData) → items_along (place_in g) (blocks_in g) g.span false e items ≡ [] → length (flat_map match_in items) ≤ 1
+  one_match : (e : Bool) (items : List ItemData) → items_along (surroundings_of g) (blocks_in g) g.span false e items ≡ [] → length (flat_map match_in items) ≤ 1
   unfolding item_faults match_faults
   one_match e [] h = omega arith
   one_match e (match_item m ∷ items) h =
       subst (λ (ms : List MatchTokenData). length (m ∷ ms) ≤ 1)
-      (sym (no_match _ items (both_empty (item_faults (place_in g) (blocks_in g) g.span false e (match_item m)) _ h).1)) (omega arith)
-  one_match e (extern_item t ∷ items) h = one_match _ items (both_empty (item_faults (place_in g) (blocks_in g) g.span false e (extern_item t)) _ h).1
-  one_match e (intern_item t ∷ items) h = one_match _ items (both_empty (item_faults (place_in g) (blocks_in g) g.span false e (intern_item t)) _ h).1
-  one_match e (rule_item r ∷ items) h = one_match _ items (both_empty (item_faults (place_in g) (blocks_in g) g.span false e (rule_item r)) _ h).1
-  one_match e (use_item u ∷ items) h = one_match _ items (both_empty (item_faults (place_in g) (blocks_in g) g.span false e (use_item u)) _ h).1
+      (sym (no_match _ items (both_empty (item_faults (surroundings_of g) (blocks_in g) g.span false e (match_item m)) _ h).1)) (omega arith)
+  one_match e (extern_item t ∷ items) h = one_match _ items (both_empty (item_faults (surroundings_of g) (blocks_in g) g.span false e (extern_item t)) _ h).1
+  one_match e (intern_item t ∷ items) h = one_match _ items (both_empty (item_faults (surroundings_of g) (blocks_in g) g.span false e (intern_item t)) _ h).1
+  one_match e (rule_item r ∷ items) h = one_match _ items (both_empty (item_faults (surroundings_of g) (blocks_in g) g.span false e (rule_item r)) _ h).1
+  one_match e (use_item u ∷ items) h = one_match _ items (both_empty (item_faults (surroundings_of g) (blocks_in g) g.span false e (use_item u)) _ h).1
 
   -- a match block stands beside no enum of the first extern block, and its mappings name no error terminal
   match_free : (m : MatchTokenData) → IsFree g (match_item m) → ((blocks_in g).first_enum ≡ None) × (flat_map (flat_map mapping_faults) m.contents ≡ [])
@@ -475,12 +475,12 @@ module _ (g : GrammarData) where
   terminal_over s Error f = absurd (cc f)
 
   mutual
-    kind_over : (s : Span) (k : Kind) → kind_faults (place_in g) s k ≡ [] → IsOverKind IsPlainTerminal k
+    kind_over : (s : Span) (k : Kind) → kind_faults (surroundings_of g) s k ≡ [] → IsOverKind IsPlainTerminal k
     kind_over s (terminal t) f = terminal_over s t f
-    kind_over s (group ps) f = parts_over ps (both_empty (parts_faults (place_in g) ps) (beside_faults ps) f).0
+    kind_over s (group ps) f = parts_over ps (both_empty (parts_faults (surroundings_of g) ps) (beside_faults ps) f).0
     kind_over s (ambiguous_id a) f = tt
     kind_over s (nonterminal n) f = tt
-    kind_over s (call n ps) f = parts_over ps (both_empty (call_faults s ps) (parts_faults (place_in g) ps) f).1
+    kind_over s (call n ps) f = parts_over ps (both_empty (call_faults s ps) (parts_faults (surroundings_of g) ps) f).1
     kind_over s (repeated op p) f = part_over p f
     kind_over s (chosen p) f = part_over p f
     kind_over s (named n p) f = part_over p f
@@ -489,27 +489,27 @@ module _ (g : GrammarData) where
     kind_over s lookbehind f = tt
     kind_over s error_terminal f = tt
 
-    part_over : (p : Part) → part_faults (place_in g) p ≡ [] → IsOver IsPlainTerminal p
+    part_over : (p : Part) → part_faults (surroundings_of g) p ≡ [] → IsOver IsPlainTerminal p
     part_over (at s k) f = kind_over s k f
 
-    parts_over : (ps : Parts) → parts_faults (place_in g) ps ≡ [] → AreOver IsPlainTerminal ps
+    parts_over : (ps : Parts) → parts_faults (surroundings_of g) ps ≡ [] → AreOver IsPlainTerminal ps
     parts_over no_parts f = tt
     parts_over (part_and p ps) f =
-        let two = both_empty (part_faults (place_in g) p) (parts_faults (place_in g) ps) f in
+        let two = both_empty (part_faults (surroundings_of g) p) (parts_faults (surroundings_of g) ps) f in
         (part_over p two.0, parts_over ps two.1)
 
 -- ---- the grammar
 
 module _ (fs : Features) (g : GrammarData) (f : validate_faults g ≡ []) where
   behind_attributes : flat_map (parameter_faults g.span) g.parameters
-      ++ (flat_map (clause_faults g.span) g.where_clauses ++ items_faults (place_in g) (blocks_in g) g.span g.items) ≡ []
+      ++ (flat_map (clause_faults g.span) g.where_clauses ++ items_faults (surroundings_of g) (blocks_in g) g.span g.items) ≡ []
   behind_attributes = (both_empty (unknown_grammar_faults g.attributes) _ f).1
 
-  behind_parameters : flat_map (clause_faults g.span) g.where_clauses ++ items_faults (place_in g) (blocks_in g) g.span g.items ≡ []
+  behind_parameters : flat_map (clause_faults g.span) g.where_clauses ++ items_faults (surroundings_of g) (blocks_in g) g.span g.items ≡ []
   behind_parameters = (both_empty (flat_map (parameter_faults g.span) g.parameters) _ behind_attributes).1
 
-  items_free : items_along (place_in g) (blocks_in g) g.span false false g.items ≡ []
-  items_free = items_placed (place_in g) (blocks_in g) g.span g.items ∙ (both_empty (flat_map (clause_faults g.span) g.where_clauses) _ behind_parameters).1
+  items_free : items_along (surroundings_of g) (blocks_in g) g.span false false g.items ≡ []
+  items_free = items_placed (surroundings_of g) (blocks_in g) g.span g.items ∙ (both_empty (flat_map (clause_faults g.span) g.where_clauses) _ behind_parameters).1
 
   each_free : (i : ItemData) → In i g.items → IsFree g i
   each_free = item_free g false false g.items items_free
@@ -630,7 +630,7 @@ module _ (fs : Features) (g : GrammarData) (f : validate_faults g ≡ []) where
       let free = rule_free g r (each_free (rule_item r) (rule_item_of g r i)) in
       record {
         bare_type = none_declared r.type_decl free.0;
-        over = λ a j. parts_over g a.parts (symbols_free g a (none_made (alternative_faults (place_in g)) r.alternatives free.1 a j));
+        over = λ a j. parts_over g a.parts (symbols_free g a (none_made (alternative_faults (surroundings_of g)) r.alternatives free.1 a j));
       }
 
   -- the rules of the enabled grammar fit

@@ -28,6 +28,7 @@ pub mod TreesLeveled
 pub mod TreesWritten
 pub mod TreesPublic
 pub mod RealizedRules
+pub mod RootSteps
 pub mod TwoSteps
 pub mod PlainTrees
 pub mod TreesFaithful

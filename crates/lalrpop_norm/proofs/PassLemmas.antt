@@ -44,7 +44,7 @@ use Rattle.lalrpop_norm_lower.specs.Active.{active_item, active_grammar}
 use Rattle.lalrpop_norm_lower.specs.Made.{types_by_name}
 use Rattle.lalrpop_norm_lower.specs.Shape.{IsLoweringOf}
 use Rattle.lalrpop_norm.specs.Faithful.{grammar_with_levels, grammar_of_plain_rules, IsFaithful}
-use Rattle.lalrpop_norm.specs.Normalize.{early_faults, late_faults, plain_findings, IsNormalized}
+use Rattle.lalrpop_norm.specs.Normalize.{early_faults, late_faults, plain_findings}
 use Rattle.lalrpop_norm.specs.Passed.{IsTypedByInference, IsTypedLowering, IsPlain, IsCheckedLowering}
 use Rattle.lalrpop_norm.specs.PlainLaws.{PassesExpansion, PassesLowering}
 use Rattle.lalrpop_norm.proofs.ComposedFaithful.{plain_is_expanded, lowered_faithful}
@@ -248,8 +248,5 @@ passed lexer fs limit g p E same l low = by (subst (λ (x : GrammarData). IsChec
           closed = c.lowered.closed;
         }
 
-pub passed_faithful : {R : Type 0} (lexer : Lexer R) (fs : Features) (limit : ℕ) (g : GrammarData) (l : LoweredGrammar) → IsPassed lexer fs limit g l → IsFaithful lexer fs g l
+pub passed_faithful : {R : Type 0} (lexer : Lexer R) (fs : Features) (limit : ℕ) (g : GrammarData) (l : LoweredGrammar) → IsPassed lexer fs limit g l → IsFaithful lexer fs limit g l
 passed_faithful lexer fs limit g l h = lowered_faithful fs g limit h.checked h.types h.passes lexer h.tokens l h.shape h.closed
-
-pub passed_normalized : {R : Type 0} (lexer : Lexer R) (fs : Features) (limit : ℕ) (g : GrammarData) (l : LoweredGrammar) → IsPassed lexer fs limit g l → IsNormalized lexer fs limit g l
-passed_normalized lexer fs limit g l h = record { checked = h.checked; tokens = h.tokens; types = h.types; inferred = h.passes.inferred; lowering = h.shape }

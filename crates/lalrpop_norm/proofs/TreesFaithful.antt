@@ -11,7 +11,7 @@ use Rattle.lalrpop_norm_theory.specs.LoweredTrees.{ProductionTable}
 use Rattle.lalrpop_norm_theory.specs.Met.{expanded_symbols, IsKnown}
 use Rattle.lalrpop_norm_theory.specs.Tables.{table}
 use Rattle.lalrpop_norm_theory.specs.Rounds.{In}
-use Rattle.lalrpop_norm_theory.specs.Laws.{OneToOne, PairsInTwoSteps}
+use Rattle.lalrpop_norm_theory.specs.Laws.{OneToOne, PairsInTwoSteps, level_named}
 use Rattle.lalrpop_norm_theory.proofs.RoundsLemmas.{in_cases}
 use Rattle.lalrpop_norm_conditions.specs.Conditions.{comparison}
 use Rattle.lalrpop_norm_resolve.specs.NameFaults.{resolve_faults}
@@ -22,23 +22,23 @@ use Rattle.lalrpop_norm_lower.specs.Lowering.{public_rules_in, start_name}
 use Rattle.lalrpop_norm_lower.specs.Shape.{IsLoweringOf}
 use Rattle.lalrpop_norm_model.specs.Features.{Features}
 use Rattle.lalrpop_norm_model.specs.Enabled.{enabled_grammar}
-use Rattle.lalrpop_norm_model.specs.WrittenRules.{WrittenRule, written_rules, leveled_rules, flat_rules}
+use Rattle.lalrpop_norm_model.specs.WrittenRules.{WrittenRule, written_rules, flat_rules}
 use Rattle.lalrpop_norm_model.specs.Grammars.{ConditionValue, meaning, references, roots}
 use Rattle.lalrpop_norm_model.specs.ClosedTexts.{level_names, text_in}
 use Rattle.lalrpop_norm_model.specs.LevelRules.{leveled_grammar}
 use Rattle.lalrpop_norm_model.specs.PlainRules.{rule_of_item, all_rules, plain_grammar, plain_rules, IsEnded}
 use Rattle.lalrpop_norm_model.specs.Origins.{plain_symbols, plain_origins, action_origins}
 use Rattle.lalrpop_norm_model.specs.PlainTables.{IsSettled, flat_meaning, declared, rules_from}
-use Rattle.lalrpop_norm_model.specs.LevelNames.{HasLevelNames, level_origin}
+use Rattle.lalrpop_norm_model.specs.LevelNames.{HasLevelNames, written_origin}
 use Rattle.lalrpop_norm_model.specs.Renumbered.{prepared_grammar}
 use Rattle.lalrpop_norm_model.specs.TerminalTypes.{extern_enum}
 use Rattle.lalrpop_norm_model.specs.CheckedTokens.{IsEnteredWith, IsEntered}
 use Rattle.lalrpop_norm_model.proofs.ResolvedLemmas.{resolved_once}
 use Rattle.lalrpop_norm_model.proofs.PlainReadLemmas.{origins_counted, plain_rules_are_read}
-use Rattle.lalrpop_norm_model.proofs.RenumberedTrees.{trees_only_renumber}
+use Rattle.lalrpop_norm_model.proofs.WrittenLeveled.{names_written}
 use Rattle.lalrpop_norm_model.proofs.FaithfulLemmas.{plain_grammars_hold_plain_rules}
 use Rattle.lalrpop_norm.specs.Derivations.{derivations}
-use Rattle.lalrpop_norm.specs.Faithful.{HasStart, grammar_of_plain_rules, lowered_name, start_of, traced_derivations, written_meaning}
+use Rattle.lalrpop_norm.specs.Faithful.{HasStart, lowered_name, start_of, traced_derivations, written_meaning, written_name, written_symbols}
 use Rattle.lalrpop_norm.specs.Laws.{HasFlatMacros, HasOwnNames, LoweredTreesAreFaithful}
 use Rattle.lalrpop_norm.proofs.ScopedLemmas.{names_once, leveled_scoped, settled, levels_resolved}
 use Rattle.lalrpop_norm.proofs.ShapeTrees.{AreFree}
@@ -46,7 +46,7 @@ use Rattle.lalrpop_norm.proofs.PlainShape.{distinct_listed, free_listed, shape_d
 use Rattle.lalrpop_norm.proofs.StartProductions.{start_listed, start_production, start_derivations, start_written}
 use Rattle.lalrpop_norm.proofs.TreesPublic.{public_rule}
 use Rattle.lalrpop_norm.proofs.PlainTrees.{has_rules, held_trees}
-use Rattle.lalrpop_norm.proofs.TwoSteps.{paired_in_steps, written_ranked}
+use Rattle.lalrpop_norm.proofs.TwoSteps.{paired_in_steps}
 use Rattle.lalrpop_norm.proofs.TreesWritten.{root_of, reference_of, text_written, written_whole, written_fit}
 
 -- the symbol of a rule is the nonterminal of its text
@@ -126,9 +126,8 @@ module _ {value : ConditionValue} {fs : Features} {g : GrammarData} {n : ℕ} {c
   lowered_trees = held_trees value fs g W.levels W.settled n W.whole W.names.once P holds_rules
 
   -- through the trees of the grammar with levels
-  pub lowered_in_steps : (s : ClosedSymbol) → In s (references ws) →
-      PairsInTwoSteps (meaning value (leveled_rules (prepared_grammar fs g))) (flat_meaning value (leveled_grammar (prepared_grammar fs g)))
-      (level_names (leveled_rules (prepared_grammar fs g))) (level_origin value (prepared_grammar fs g))
+  pub lowered_in_steps : (s : ClosedSymbol) → In s (roots ws ++ references ws) →
+      PairsInTwoSteps M (flat_meaning value (leveled_grammar (prepared_grammar fs g))) (level_names ws) (written_origin value ws)
       (text_in (flat_rules (leveled_grammar (prepared_grammar fs g))))
       (derivations (action_origins (length (public_rules_in (all_rules plain))) (flat_meaning value (leveled_grammar (prepared_grammar fs g)))
       (declared (leveled_grammar (prepared_grammar fs g))) n) l)
@@ -173,21 +172,20 @@ module _ (fs : Features) (g : GrammarData) (faults : resolve_faults (enabled_gra
 
 -- ---- start symbols
 
-module _ (fs : Features) (g : GrammarData) (plain : GrammarData) (rounds : ℕ) (l : LoweredGrammar) (s : ClosedSymbol)
-    (known : In s (roots (written_rules fs g) ++ references (written_rules fs g)))
-    (trees : OneToOne (written_meaning fs g) (text_in (written_rules fs g)) (traced_derivations fs g plain rounds l) s) (p : RuleData)
-    (named : p.name.0 ≡ text_in (written_rules fs g) s) where
+module _ (fs : Features) (g : GrammarData) (rounds : ℕ) (l : LoweredGrammar) (s : ClosedSymbol)
+    (known : In s (written_symbols fs g)) (trees : OneToOne (written_meaning fs g) (written_name fs g) (traced_derivations fs g rounds l) s)
+    (p : RuleData) (named : p.name.0 ≡ written_name fs g s) where
   -- what a public plain rule has, the written symbol of its name has
   has_start : found (lowered_name fs g s) l.start_nonterminals ≡ Some (start_of fs g s) →
-      traced_derivations fs g plain rounds l (g.prefix ++ p.name.0) ≡ start_production p ∷ [] → HasStart fs g plain rounds l s
+      traced_derivations fs g rounds l (g.prefix ++ p.name.0) ≡ start_production p ∷ [] → HasStart fs g rounds l s
   has_start listed production = record {
     listed = listed;
     production = subst
-        (λ (m : Name). traced_derivations fs g plain rounds l (g.prefix ++ m) ≡ record { origin = from_start; symbols = nonterminal_symbol m ∷ [] } ∷ [])
+        (λ (m : Name). traced_derivations fs g rounds l (g.prefix ++ m) ≡ record { origin = from_start; symbols = nonterminal_symbol m ∷ [] } ∷ [])
         named production;
-    words = start_written (written_meaning fs g) (text_in (written_rules fs g)) (traced_derivations fs g plain rounds l) s trees
+    words = start_written (written_meaning fs g) (written_name fs g) (traced_derivations fs g rounds l) s trees
         (rule_symbol (written_rules fs g) s known) (start_of fs g s).0 p
-        (subst (λ (m : Name). traced_derivations fs g plain rounds l (g.prefix ++ m) ≡ start_production p ∷ []) named production) named;
+        (subst (λ (m : Name). traced_derivations fs g rounds l (g.prefix ++ m) ≡ start_production p ∷ []) named production) named;
   }
 
 pub lowered_trees_faithful : LoweredTreesAreFaithful
@@ -205,14 +203,13 @@ lowered_trees_faithful fs g faults macros level_faults rounds whole names checke
       productions = lowered_productions lowered;
       one_to_one = lowered_trees lowered;
       in_steps = λ s i. record {
-        ranks = trees_only_renumber comparison fs g;
-        levels = lowered_in_steps lowered s i;
-        names = text_written comparison fs g lowered.levels lowered.settled;
-        pairs = written_ranked comparison fs g (text_in (written_rules fs g)) s;
+        steps = lowered_in_steps lowered s i;
+        names = subst (λ (l : Name → ℕ → Name). level_named l (text_in (flat_rules (leveled_grammar (prepared_grammar fs g)))) ≡ text_in (written_rules fs g))
+            (names_written fs g) (text_written comparison fs g lowered.levels lowered.settled);
       };
       starts = λ r i none shown s k of. (
           let (p, j, named) = public_rule comparison fs g lowered.levels lowered.settled rounds r i none shown s k of in
-          has_start fs g (grammar_of_plain_rules fs g rounds) rounds l s k (lowered_trees lowered s k) p named
+          has_start fs g rounds l s k (lowered_trees lowered s k) p named
           (lowered_listed lowered p j (text_in (written_rules fs g) s) named) (lowered_starts lowered p j));
       plain_starts = lowered_starts lowered;
     }

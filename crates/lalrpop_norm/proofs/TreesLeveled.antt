@@ -1,21 +1,21 @@
 -- What an expansion makes of a grammar, and of its grammar with levels: the same symbols in the same order, each bounded reference as the
 -- name of its level.
-use Rattle.std.proofs.Common.{◌≡◌, ◌≤◌, ◌+◌, inl, inr, ℕ, zero, suc, List, [], ◌∷◌, ◌++◌, length, map, refl, sym, ap, ap₂, ◌∙◌, subst, arith, append-nil}
-use Rattle.std.specs.Prelude.{flat_map, slice_get, Option, Some, None, option_map}
+use Rattle.std.proofs.Common.{◌≡◌, ◌+◌, inl, inr, ℕ, List, [], ◌∷◌, ◌++◌, map, refl, sym, ap, ap₂, ◌∙◌, subst}
+use Rattle.std.specs.Prelude.{flat_map}
 use Rattle.std.proofs.lemmas.List.{map-append}
 use Rattle.lalrpop_norm_theory.specs.Symbols.{Name, ClosedSymbol, ClosedSymbols, terminal, error, reference, call, group, star, plus, question, wrapped, lookahead, lookbehind, no_symbols, symbol_and}
 use Rattle.lalrpop_norm_theory.specs.Meaning.{Meaning, HasCounts, HasLevels}
 use Rattle.lalrpop_norm_theory.specs.LoweredTrees.{Origin}
-use Rattle.lalrpop_norm_theory.specs.Clauses.{Clause, clause_and, clauses, numbered, own_clauses, symbols_of}
+use Rattle.lalrpop_norm_theory.specs.Clauses.{Clause, IsNonterminal, clauses, symbols_of}
 use Rattle.lalrpop_norm_theory.specs.Rounds.{In, rounds, all_rules_made}
 use Rattle.lalrpop_norm_theory.specs.Same.{same_symbol}
 use Rattle.lalrpop_norm_theory.specs.Met.{meets, meets_all, clauses_meet, rule_meets, expansion, expanded_symbols, IsResolvedIn, IsResolved}
-use Rattle.lalrpop_norm_theory.specs.Leveled.{level_reference, leveled_symbol, leveled_symbols, IsLeveled}
+use Rattle.lalrpop_norm_theory.specs.Leveled.{leveled_symbol, leveled_symbols, composed_clause, leveled_clause, IsLeveled}
 use Rattle.lalrpop_norm_theory.specs.Laws.{level_named}
 use Rattle.lalrpop_norm_theory.proofs.RoundsLemmas.{of_flat}
 use Rattle.lalrpop_norm_theory.proofs.SameLemmas.{symbol_test}
 use Rattle.lalrpop_norm_theory.proofs.ResolvedLemmas.{rule_met_resolved}
-use Rattle.lalrpop_norm_theory.proofs.LeveledLemmas.{leveled_parts, own_is_all, enough_numbers, symbol_named, shifted}
+use Rattle.lalrpop_norm_theory.proofs.LeveledLemmas.{leveled_parts, leveled_clauses, symbol_named}
 use Rattle.lalrpop_norm_theory.proofs.ViewedLemmas.{same_view}
 use Rattle.lalrpop_norm_tree.specs.Items.{RuleData}
 use Rattle.lalrpop_norm_model.proofs.RoundReadLemmas.{rounds_viewed, made_viewed, made_within}
@@ -28,54 +28,30 @@ parts_of c = c.parts
 
 -- ---- clauses
 
--- the alternatives of a level's rule are the clauses in their places
-numbered_read : (n : Name) (l : Name → ℕ → Name) (f : ℕ → Option ClosedSymbols) (k left : ℕ) (cs : List Clause) →
-    length cs ≤ left → ((j : ℕ) → f (k + j) ≡ option_map (leveled_parts l) (slice_get cs j)) →
-    map parts_of (numbered n f k left) ≡ map (leveled_parts l) cs
-numbered_read n l f k zero [] b h = refl
-numbered_read n l f k zero (c ∷ cs) b h = absurd (omega arith)
-numbered_read n l f k (suc left) [] b h =
-    let z : k + 0 ≡ k = omega arith in
-    let here = rw z at (h 0) in
-    rw here (numbered_read n l f (suc k) left [] (omega arith) (λ j. rw (← shifted k j) (h (suc j))))
-numbered_read n l f k (suc left) (c ∷ cs) b h =
-    let z : k + 0 ≡ k = omega arith in
-    let here = rw z at (h 0) in
-    rw here
-    (ap (λ r. leveled_parts l c ∷ r) (numbered_read n l f (suc k) left cs (omega arith) (λ j. rw (← shifted k j) (h (suc j)))))
+-- origins are no matter for parts
+parts_composed : (origin : Name → ℕ → Origin) (cs : List Clause) → map parts_of (map (composed_clause origin) cs) ≡ map parts_of cs
+parts_composed origin [] = refl
+parts_composed origin (c ∷ cs) = ap (λ gs. c.parts ∷ gs) (parts_composed origin cs)
 
--- the alternatives of a macro keep their numbers
-calls_read : (n : Name) (l : Name → ℕ → Name) (f h : ℕ → Option ClosedSymbols) (k left : ℕ) →
-    ((j : ℕ) → f j ≡ option_map (leveled_symbols l) (h j)) →
-    map parts_of (numbered n f k left) ≡ map (leveled_parts l) (numbered n h k left)
-calls_read n l f h k zero e = refl
-calls_read n l f h k (suc left) e = rw (e k) (at (h k) (calls_read n l f h (suc k) left e))
-  where
-    at : (r : Option ClosedSymbols) → map parts_of (numbered n f (suc k) left) ≡ map (leveled_parts l) (numbered n h (suc k) left) →
-        map parts_of (clause_and n k (option_map (leveled_symbols l) r) (numbered n f (suc k) left)) ≡
-        map (leveled_parts l) (clause_and n k r (numbered n h (suc k) left))
-    at None ih = ih
-    at (Some parts) ih = ap (λ b. leveled_symbols l parts ∷ b) ih
+parts_leveled : (l : Name → ℕ → Name) (cs : List Clause) → map parts_of (map (leveled_clause l) cs) ≡ map (leveled_parts l) cs
+parts_leveled l [] = refl
+parts_leveled l (c ∷ cs) = ap (λ gs. leveled_parts l c ∷ gs) (parts_leveled l cs)
 
 module _ (M L : Meaning) (l : Name → ℕ → Name) (origin : Name → ℕ → Origin) (declared : List ClosedSymbol)
     (I : IsLeveled M L l origin declared) (C : HasCounts L) (V : HasLevels L) where
-  rule_read : (n : Name) (b : Option ℕ) → In (reference n b) declared →
-      map parts_of (clauses L (reference (level_reference l n b) None)) ≡ map (leveled_parts l) (clauses M (reference n b))
-  rule_read n b r =
-      let own = (λ (j : ℕ). own_is_all M L l origin declared I C V (level_reference l n b) j _ (I.rules n b j r)) in
-      rw (I.flat (level_reference l n b), append-nil (own_clauses L (level_reference l n b) None))
-      (numbered_read (level_reference l n b) l (L.own_parts (level_reference l n b) None) 0 (L.reference_count (level_reference l n b))
-      (clauses M (reference n b)) (enough_numbers M L l origin declared I C V (level_reference l n b) (clauses M (reference n b)) own)
-      (λ j. let z : 0 + j ≡ j = omega arith in rw z (own j)))
+  read_at : (g : ClosedSymbol) → IsNonterminal g → IsResolvedIn declared g →
+      map parts_of (clauses L (leveled_symbol l g)) ≡ map (leveled_parts l) (clauses M g)
+  read_at g n r =
+      sym (parts_composed origin (clauses L (leveled_symbol l g))) ∙ ap (map parts_of) (leveled_clauses M L l origin declared I C V g n r)
+      ∙ parts_leveled l (clauses M g)
 
   -- the rule of a symbol in the grammar with levels is its rule in the written one
   pub leveled_read : (g : ClosedSymbol) → IsResolvedIn declared g → map parts_of (clauses L (leveled_symbol l g)) ≡ map (leveled_parts l) (clauses M g)
   leveled_read (terminal a) r = refl
   leveled_read error r = refl
   leveled_read (wrapped w g) r = refl
-  leveled_read (reference m b) r = rule_read m b r
-  leveled_read (call m args) r =
-      rw (I.macro_counts m) (calls_read m l (L.call_parts m (leveled_symbols l args)) (M.call_parts m args) 0 (M.call_count m) (λ j. I.macros m args j))
+  leveled_read (reference m b) r = read_at (reference m b) tt r
+  leveled_read (call m args) r = read_at (call m args) tt r
   leveled_read (group gs) r = refl
   leveled_read (star x) r = refl
   leveled_read (plus x) r = refl

@@ -1,6 +1,6 @@
 -- The plain rules of a grammar with levels are the rules of the symbols that the expansion of the written grammar makes.
 use Rattle.std.proofs.Common.{◌≡◌, inl, inr, ℕ, ◌<◌, List, [], ◌∷◌, ◌++◌, map, length, Bool, true, false, not, ◌&&◌, ◌||◌, Option, Some, None, refl, sym, ap, ap₂, ◌∙◌, subst, arith}
-use Rattle.std.specs.Prelude.{codes, flat_map, option_map, unwrap_or, if◌then◌else◌}
+use Rattle.std.specs.Prelude.{codes, flat_map, option_map, if◌then◌else◌}
 use Rattle.std.proofs.Math.Path.{fun_ext}
 use Rattle.std.proofs.lemmas.List.{map-append}
 use Rattle.std.proofs.lemmas.List.Elements.{filter-append}
@@ -23,7 +23,7 @@ use Rattle.lalrpop_norm_theory.proofs.TableLemmas.{one_rule_from_distinct}
 use Rattle.lalrpop_norm_model.specs.Features.{Features}
 use Rattle.lalrpop_norm_model.specs.Enabled.{all_places, present}
 use Rattle.lalrpop_norm_model.specs.Scopes.{is_argument}
-use Rattle.lalrpop_norm_model.specs.Levels.{Leveled, has_levels, with_levels, rising, levels_of, greatest, highest_level}
+use Rattle.lalrpop_norm_model.specs.Levels.{Leveled, has_levels, with_levels, levels_of, highest_level}
 use Rattle.lalrpop_norm_model.specs.WrittenRules.{WrittenRule, rule_named, written_rules, leveled_rules, flat_rules}
 use Rattle.lalrpop_norm_model.specs.Grammars.{ConditionValue, is_nil, has_arguments, is_own_level, rule_parts, place_count, previous_bound, meaning, rule_references, references, rule_roots, roots}
 use Rattle.lalrpop_norm_model.specs.Scoped.{is_rule, is_macro_for, is_scoped_kind, is_scoped, are_scoped, NamesAreScoped, IsScoped}
@@ -42,13 +42,14 @@ use Rattle.lalrpop_norm_model.proofs.MeaningLemmas.{meaning_has_counts, meaning_
 use Rattle.lalrpop_norm_model.proofs.LevelRuleLemmas.{name_highest}
 use Rattle.lalrpop_norm_model.proofs.GrammarLemmas.{all_level_rules, of_flat, same_by, found_once, as_leveled, leveled_rules_are, leveled_found}
 use Rattle.lalrpop_norm_model.proofs.LevelGrammarLemmas.{distinct, places_are}
-use Rattle.lalrpop_norm_model.proofs.OriginLemmas.{grammars_are_leveled}
+use Rattle.lalrpop_norm_model.proofs.OriginLemmas.{grammar_leveled}
 use Rattle.lalrpop_norm_model.proofs.MadeReadLemmas.{plain_in, flat_rules_resolved, references_are}
 use Rattle.lalrpop_norm_model.proofs.RoundReadLemmas.{rounds_are_read}
 use Rattle.lalrpop_norm_model.proofs.PlainReadLemmas.{AllFit, plain_fit}
 use Rattle.lalrpop_norm_model.proofs.FaithfulLemmas.{plain_grammars_hold_plain_rules}
-use Rattle.lalrpop_norm_model.proofs.RenumberedLemmas.{disabled_are_left_out, disabled_only_renumber, named_closed, all_present}
+use Rattle.lalrpop_norm_model.proofs.RenumberedLemmas.{disabled_are_left_out, disabled_only_renumber, named_closed}
 use Rattle.lalrpop_norm_model.proofs.RenumberedClauses.{clauses_only_renumber}
+use Rattle.lalrpop_norm_model.proofs.WrittenLeveled.{level_closed}
 use Rattle.lalrpop_norm_model.proofs.PatternLemmas.{no_map}
 use Rattle.lalrpop_norm_theory.proofs.LeveledLemmas.{leveled_parts}
 use Rattle.lalrpop_norm.proofs.TreesLeveled.{parts_of, leveled_read, fresh_leveled, made_leveled, made_resolved, fits_leveled}
@@ -182,22 +183,11 @@ module _ (r : GrammarData) (N : HasLevelNames r) where
 
 -- ---- rules without holes
 
-highest_closed : (w : WrittenRule) → highest_level (closed_up w).places ≡ highest_level w.places
-highest_closed w =
-    ap (λ (xs : List Leveled). unwrap_or (greatest (rising (map (λ (a : Leveled). a.level) xs))) 0) (all_present (present w.places))
-
 closed_names : (ws : List WrittenRule) → map (λ (w : WrittenRule). w.name) (map closed_up ws) ≡ map (λ (w : WrittenRule). w.name) ws
 closed_names [] = refl
 closed_names (w ∷ ws) = ap (λ ns. w.name ∷ ns) (closed_names ws)
 
 module _ (ws : List WrittenRule) where
-  level_closed : (n : Name) (m : ℕ) → level_names (map closed_up ws) n m ≡ level_names ws n m
-  level_closed n m = ap (λ o. named_level o n m) (named_closed ws n) ∙ by (rule_named ws n)
-    where
-      by : (o : Option WrittenRule) → named_level (option_map closed_up o) n m ≡ named_level o n m
-      by None = refl
-      by (Some w) = ap (λ h. level_name n h m) (highest_closed w)
-
   rule_closed : (x : Bool) (o : Option WrittenRule) → (x || is_rule (option_map closed_up o)) ≡ (x || is_rule o)
   rule_closed x None = refl
   rule_closed x (Some w) = refl
@@ -332,19 +322,21 @@ module _ (value : ConditionValue) (fs : Features) (g : GrammarData) (N : HasLeve
   pub written_scoped : IsScoped ws
   written_scoped = (scoped_as_written fs g).0.0 (names_open ws (subst NamesAreScoped (disabled_are_left_out fs g) N.names))
 
-  written_distinct : IsDistinct (map (λ (w : WrittenRule). w.name) ws)
-  written_distinct =
+  leveled_distinct : IsDistinct (map (λ (w : WrittenRule). w.name) rs)
+  leveled_distinct =
       subst IsDistinct
       (sym (names_leveled (all_rules (prepared_grammar fs g)))
-      ∙ ap (map (λ (w : WrittenRule). w.name)) (sym (leveled_rules_are (prepared_grammar fs g)) ∙ disabled_are_left_out fs g)
-      ∙ closed_names ws)
+      ∙ ap (map (λ (w : WrittenRule). w.name)) (sym (leveled_rules_are (prepared_grammar fs g))))
       (distinct (prepared_grammar fs g) N)
     where
       names_leveled : (ds : List RuleData) → map (λ (w : WrittenRule). w.name) (map (as_leveled (prepared_grammar fs g)) ds) ≡ map name_of ds
       names_leveled [] = refl
       names_leveled (d ∷ ds) = ap (λ ns. d.name.0 ∷ ns) (names_leveled ds)
 
-  written_resolved : IsResolved M (references ws)
+  pub written_distinct : IsDistinct (map (λ (w : WrittenRule). w.name) ws)
+  written_distinct = subst IsDistinct (ap (map (λ (w : WrittenRule). w.name)) (disabled_are_left_out fs g) ∙ closed_names ws) leveled_distinct
+
+  pub written_resolved : IsResolved M (references ws)
   written_resolved = meanings_are_resolved value ws written_scoped
 
   once_written : (x y : ClosedSymbol) → In x (references ws) → In y (references ws) → leveled_symbol ln x ≡ leveled_symbol ln y → x ≡ y
@@ -352,14 +344,14 @@ module _ (value : ConditionValue) (fs : Features) (g : GrammarData) (N : HasLeve
       once (prepared_grammar fs g) N x y (subst (λ (gs : List ClosedSymbol). In x gs) (sym same_references) i)
       (subst (λ (gs : List ClosedSymbol). In y gs) (sym same_references) j) e
 
-  lower_written : map (leveled_symbol ln) (references ws) ≡ declared h
+  pub lower_written : map (leveled_symbol ln) (references ws) ≡ declared h
   lower_written = ap (map (leveled_symbol ln)) (sym same_references) ∙ lower (prepared_grammar fs g) N S
 
   read_written : (x : ClosedSymbol) → IsResolvedIn (references ws) x →
       map parts_of (clauses (flat_meaning value h) (leveled_symbol ln x)) ≡ map (leveled_parts ln) (clauses M x)
   read_written x r =
       leveled_read (meaning value rs) (flat_meaning value h) ln (level_origin value (prepared_grammar fs g)) (references rs)
-      (grammars_are_leveled value (prepared_grammar fs g) N) (meaning_has_counts value (flat_rules h)) (meaning_has_levels value (flat_rules h)) x
+      (grammar_leveled value (prepared_grammar fs g) N) (meaning_has_counts value (flat_rules h)) (meaning_has_levels value (flat_rules h)) x
       (subst (λ (gs : List ClosedSymbol). IsResolvedIn gs x) (sym same_references) r)
       ∙ ap (map (leveled_parts ln)) (clauses_only_renumber value fs g x)
       ∙ ranked_parts ln (rank_by ws) (clauses M x)

@@ -3,9 +3,7 @@ use Rattle.std.proofs.Common.{◌≡◌, ℕ, refl, sym, subst, Option}
 use Rattle.lalrpop_norm_theory.specs.Clauses.{symbol_of}
 use Rattle.lalrpop_norm_theory.specs.LoweredTrees.{nonterminal_symbol}
 use Rattle.lalrpop_norm_theory.specs.Symbols.{ClosedSymbol, Name, reference}
-use Rattle.lalrpop_norm_model.specs.ClosedTexts.{text_in}
-use Rattle.lalrpop_norm_model.specs.WrittenRules.{written_rules}
-use Rattle.lalrpop_norm.specs.Faithful.{written_meaning, traced_derivations}
+use Rattle.lalrpop_norm.specs.Faithful.{written_meaning, written_name, traced_derivations}
 use Rattle.lalrpop_norm.specs.Laws.{WordsAreEqual}
 use Rattle.lalrpop_norm.proofs.StartProductions.{written_words}
 
@@ -13,6 +11,6 @@ named : (name : ClosedSymbol → Name) (n : Name) (level : Option ℕ) (s : Clos
 named name n level s e = subst (λ t. symbol_of name t ≡ nonterminal_symbol (name t)) (sym e) refl
 
 pub words_equal : WordsAreEqual
-words_equal fs g plain rounds l trees r s of i =
-    written_words (written_meaning fs g) (text_in (written_rules fs g)) (traced_derivations fs g plain rounds l) s (trees.one_to_one s i)
-    (named (text_in (written_rules fs g)) r.name.0 of.0 s of.1)
+words_equal fs g rounds l trees r s of i =
+    written_words (written_meaning fs g) (written_name fs g) (traced_derivations fs g rounds l) s (trees.one_to_one s i)
+    (named (written_name fs g) r.name.0 of.0 s of.1)

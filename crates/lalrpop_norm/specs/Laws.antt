@@ -14,13 +14,13 @@ use Rattle.lalrpop_norm_theory.specs.Rounds.{In, IsDistinct, Chain, NewIn}
 use Rattle.lalrpop_norm_tree.specs.declared.items.Condition.{Condition}
 use Rattle.lalrpop_norm_conditions.specs.Conditions.{comparison, condition_value}
 use Rattle.lalrpop_norm_model.specs.Features.{Features}
-use Rattle.lalrpop_norm_model.specs.WrittenRules.{written_rules, flat_rules}
+use Rattle.lalrpop_norm_model.specs.WrittenRules.{flat_rules}
 use Rattle.lalrpop_norm_model.specs.ClosedTexts.{text_in}
 use Rattle.lalrpop_norm_model.specs.Enabled.{all_places, enabled_grammar}
 use Rattle.lalrpop_norm_model.specs.Levels.{with_levels}
 use Rattle.lalrpop_norm_model.specs.Scopes.{resolved_grammar}
 use Rattle.lalrpop_norm_model.specs.Stated.{HasLevel}
-use Rattle.lalrpop_norm_model.specs.Grammars.{ConditionValue, is_nil, references, roots, value_of}
+use Rattle.lalrpop_norm_model.specs.Grammars.{ConditionValue, is_nil, value_of}
 use Rattle.lalrpop_norm_model.specs.PlainTables.{IsSettled, IsRuleOf, flat_meaning, declared, closed}
 use Rattle.lalrpop_norm_model.specs.MadeRules.{span_of, made_rules}
 use Rattle.lalrpop_norm_model.specs.LevelRules.{leveled_grammar}
@@ -38,7 +38,8 @@ use Rattle.lalrpop_norm_repr.specs.Tables.{TypeTable}
 use Rattle.lalrpop_norm_lower.specs.Lowering.{public_rules_in, start_name}
 use Rattle.lalrpop_norm_lower.specs.Shape.{IsLoweringOf}
 use Rattle.lalrpop_norm.specs.Derivations.{IsWrittenWord, IsWordOf}
-use Rattle.lalrpop_norm.specs.Faithful.{HasFaithfulTrees, IsSymbolOf, lowered_name, written_meaning, traced_derivations}
+use Rattle.lalrpop_norm.specs.Faithful.{HasFaithfulTrees, IsSymbolOf, lowered_name, written_meaning, written_symbols}
+use Rattle.lalrpop_norm.specs.Faithful.{traced_derivations}
 use Rattle.lalrpop_norm.specs.Faithful.{grammar_with_levels, grammar_of_plain_rules}
 
 -- no macro has two levels
@@ -75,7 +76,7 @@ LoweredTreesAreFaithful =
     HasOwnNames (grammar_of_plain_rules fs g rounds) → (plain : GrammarData) →
     IsEntered (grammar_of_plain_rules fs g rounds) plain →
     (types : TypeTable) (l : LoweredGrammar) → IsLoweringOf plain (all_rules plain) types l →
-    HasFaithfulTrees fs g (grammar_of_plain_rules fs g rounds) rounds l
+    HasFaithfulTrees fs g rounds l
 
 -- the symbol is new in the round after the first `limit`: its shortest chain has one rule more than there are such rounds
 abbrev pub IsPastLimit : ConditionValue → GrammarData → ℕ → ClosedSymbol → Type 0
@@ -186,11 +187,10 @@ FaultsAreByRound = (value : ConditionValue) (g : GrammarData) (limit : ℕ) →
 -- each of its levels: the leaves of its written trees are the leaves of the derivation trees of its nonterminal.
 abbrev pub WordsAreEqual : Type 0
 WordsAreEqual =
-    (fs : Features) (g plain : GrammarData) (rounds : ℕ) (l : LoweredGrammar) → HasFaithfulTrees fs g plain rounds l →
-    (r : RuleData) (s : ClosedSymbol) → IsSymbolOf r s →
-    In s (roots (written_rules fs g) ++ references (written_rules fs g)) →
+    (fs : Features) (g : GrammarData) (rounds : ℕ) (l : LoweredGrammar) → HasFaithfulTrees fs g rounds l →
+    (r : RuleData) (s : ClosedSymbol) → IsSymbolOf r s → In s (written_symbols fs g) →
     (w : List Terminal) → IsWrittenWord (written_meaning fs g) s w
-    ↔ IsWordOf (traced_derivations fs g plain rounds l) (lowered_name fs g s).0 w
+    ↔ IsWordOf (traced_derivations fs g rounds l) (lowered_name fs g s).0 w
 
 -- Where a condition has a value by what its left side is bound to, that is its value in the meaning of a grammar.
 abbrev pub ConditionsHaveOneValue : Type 0

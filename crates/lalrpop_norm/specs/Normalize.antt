@@ -1,24 +1,18 @@
--- What normalization makes of a written grammar, and where it refuses.
+-- Where normalization refuses a written grammar.
 use Rattle.std.specs.Prelude.{ℕ, List, ◌++◌, map}
 use Rattle.lalrpop_norm_tree.specs.Items.{GrammarData}
 use Rattle.lalrpop_norm_faults.specs.Faults.{Fault, Finding, sure}
 use Rattle.lalrpop_norm_conditions.specs.Conditions.{comparison}
 use Rattle.lalrpop_norm_model.specs.Features.{Features}
 use Rattle.lalrpop_norm_model.specs.Enabled.{enabled_grammar}
-use Rattle.lalrpop_norm_model.specs.PlainRules.{all_rules}
 use Rattle.lalrpop_norm_model.specs.Lexers.{Lexer}
 use Rattle.lalrpop_norm_model.specs.LexerFaults.{LexerPlace, StandsAtLexer, token_findings}
-use Rattle.lalrpop_norm_model.specs.CheckedTokens.{IsChecked}
 use Rattle.lalrpop_norm_model.specs.EnteredGrammars.{entered_grammar}
 use Rattle.lalrpop_norm_model.specs.InferenceFaults.{inference_faults, inferred_table}
 use Rattle.lalrpop_norm_model.specs.LoweringFaults.{lowering_faults}
 use Rattle.lalrpop_norm_prevalidate.specs.GrammarFaults.{validate_faults}
 use Rattle.lalrpop_norm_precedence.specs.PrecedenceFaults.{precedence_faults}
 use Rattle.lalrpop_norm_macro_expand.specs.Expansion.{expansion_faults}
-use Rattle.lalrpop_norm_repr.specs.Lowered.{LoweredGrammar}
-use Rattle.lalrpop_norm_repr.specs.Tables.{TypeTable}
-use Rattle.lalrpop_norm_tyinfer.specs.Inferred.{IsInferred}
-use Rattle.lalrpop_norm_lower.specs.Shape.{IsLoweringOf}
 use Rattle.lalrpop_norm.specs.Faithful.{grammar_with_levels, grammar_of_plain_rules}
 
 -- Where the passes up to the expansion refuse a grammar, in their order: what no grammar may look like; of what is enabled,
@@ -45,13 +39,3 @@ normalize_findings fs limit g = map sure (early_faults fs limit g) ++ plain_find
 -- What stands at the one place where a fault may go untold: a refusal of the lexer that is true of the plain rules.
 abbrev pub StandsThere : {R : Type 0} → Lexer R → Features → ℕ → GrammarData → LexerPlace → Fault → Type 0
 StandsThere lexer fs limit g = StandsAtLexer lexer (grammar_of_plain_rules fs g limit)
-
--- What a written grammar is lowered to: the grammar of the plain rules that so many rounds make has its tokens, the rules have
--- the inferred types, and over their table the grammar with its tokens is lowered.
-pub record IsNormalized {R : Type 0} (lexer : Lexer R) (fs : Features) (limit : ℕ) (g : GrammarData)
-    (l : LoweredGrammar) : Type 0 where
-  pub checked : GrammarData
-  pub tokens : IsChecked lexer (grammar_of_plain_rules fs g limit) checked
-  pub types : TypeTable
-  pub inferred : IsInferred checked types
-  pub lowering : IsLoweringOf checked (all_rules checked) types l

@@ -106,4 +106,4 @@ LoweredGrammarsAreFaithful lexer =
     (fs : Features) (g : GrammarData) (limit : ℕ) (checked : GrammarData) (table : TypeTable) (l : LoweredGrammar) →
     IsChecked lexer (grammar_of_plain_rules fs g limit) checked → PassesLowering fs g limit checked table →
     IsLoweringOf checked (all_rules checked) table l → IsClosed l →
-    IsFaithful lexer fs g l
+    IsFaithful lexer fs limit g l

@@ -8,7 +8,7 @@ ghost use Rattle.lalrpop_norm_repr.specs.Closed.{IsClosed};
 ghost use Rattle.lalrpop_norm_model.specs.Expanded.{IsExpanded};
 ghost use Rattle.lalrpop_norm_model.specs.LexerFaults.{StandsAtLexer};
 ghost use Rattle.lalrpop_norm.specs.Faithful.{IsFaithful, grammar_of_plain_rules};
-ghost use Rattle.lalrpop_norm.specs.Normalize.{normalize_findings, plain_findings, early_faults, late_faults, StandsThere, IsNormalized};
+ghost use Rattle.lalrpop_norm.specs.Normalize.{normalize_findings, plain_findings, early_faults, late_faults, StandsThere};
 ghost use Rattle.lalrpop_norm.specs.Passed.{IsPlain, IsCheckedLowering, IsTypedLowering, IsTypedByInference};
 ghost use Rattle.lalrpop_norm.specs.PlainLaws.{PassesExpansion};
 
@@ -41,9 +41,8 @@ pub fn normalize<L: Lexer>(
     // other before it, memory aside.
     ensures refuses { RefusesAmong (StandsThere (L.relations session.now.lexer) (features_view session.now.features) session.now.macro_recursion_limit (written.grammar_view grammar))
         result (normalize_findings (features_view session.now.features) session.now.macro_recursion_limit (written.grammar_view grammar)) }
-    ensures normalized { IfOk result (λ l. IsNormalized (L.relations session.now.lexer) (features_view session.now.features) session.now.macro_recursion_limit (written.grammar_view grammar) (lowered.lowered_grammar_view l)) }
     ensures closed { IfOk result (λ l. IsClosed (lowered.lowered_grammar_view l)) }
-    ensures faithful { IfOk result (λ l. IsFaithful (L.relations session.now.lexer) (features_view session.now.features) (written.grammar_view grammar) (lowered.lowered_grammar_view l)) }
+    ensures faithful { IfOk result (λ l. IsFaithful (L.relations session.now.lexer) (features_view session.now.features) session.now.macro_recursion_limit (written.grammar_view grammar) (lowered.lowered_grammar_view l)) }
 {
     let plain = expand(alloc, session, grammar)?;
     check_and_lower(alloc, session, plain)
@@ -61,8 +60,12 @@ fn expand<L>(
 {
     validate(alloc, &grammar)?;
     let enabled = remove_disabled_decls(session, grammar)?;
+    // From here on no disabled part (the clause of `remove_disabled_decls`; law `lalrpop_norm_model::enabled_are_active`).
     let leveled = expand_precedence(alloc, enabled)?;
+    // From here on no ambiguous identifier (`resolve.resolves`) and no levels (`expand_precedence.expands`), and no name has lost
+    // its meaning to a level's (law `levels_settle_macros`).
     expand_resolved(alloc, leveled, session.macro_recursion_limit)
+    // From here on no macro, condition, group, repeat or lookaround (law `plain_grammars_are_expanded`).
 }
 
 /// Gives plain rules their tokens, infers their types, and lowers them.
@@ -76,6 +79,7 @@ fn check_and_lower<L: Lexer>(
     ensures lowered { IfOk result (λ l. IsCheckedLowering (L.relations session.now.lexer) (features_view session.now.features) (written.grammar_view plain) (lowered.lowered_grammar_view l)) }
 {
     let checked = token_check::validate(alloc, &session.lexer, plain)?;
+    // From here on each terminal that is used has an entry or a conversion (law `plain_grammars_are_typed`).
     type_and_lower(alloc, session, checked)
 }
 
@@ -91,5 +95,6 @@ fn type_and_lower<L>(
     ensures lowered { IfOk result (λ l. IsTypedLowering (features_view session.now.features) (written.grammar_view plain) (lowered.lowered_grammar_view l)) }
 {
     let types = infer_types(alloc, &plain)?;
+    // From here on each nonterminal has one type (`infer_types.inferred`; law `inferred_types_are_total`).
     lower(alloc, session, plain, types)
 }

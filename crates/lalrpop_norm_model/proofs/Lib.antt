@@ -61,6 +61,7 @@ pub mod HandedLemmas
 pub mod RenumberedLemmas
 pub mod RenumberedTrees
 pub mod RenumberedClauses
+pub mod WrittenLeveled
 pub mod RenumberedExamples
 pub mod LateFaultExamples
 pub mod TokenFindingLemmas

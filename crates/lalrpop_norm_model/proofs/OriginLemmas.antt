@@ -5,12 +5,12 @@ use Rattle.std.proofs.lemmas.List.{map-append}
 use Rattle.std.proofs.lemmas.Bool.{false_from_ne_true}
 use Rattle.std.proofs.lemmas.Slice.Eq.{bytes_eq-Decides}
 use Rattle.lalrpop_norm_tree.specs.Items.{RuleData, GrammarData}
-use Rattle.lalrpop_norm_theory.specs.Symbols.{Name, ClosedSymbol, ClosedSymbols, reference}
-use Rattle.lalrpop_norm_theory.specs.LoweredTrees.{written}
+use Rattle.lalrpop_norm_theory.specs.Symbols.{Name, ClosedSymbol, ClosedSymbols, reference, call}
+use Rattle.lalrpop_norm_theory.specs.LoweredTrees.{Origin, written}
 use Rattle.lalrpop_norm_theory.specs.Rounds.{In, IsDistinct}
 use Rattle.lalrpop_norm_theory.specs.Meaning.{Meaning}
 use Rattle.lalrpop_norm_theory.specs.Clauses.{Clause, clauses}
-use Rattle.lalrpop_norm_theory.specs.Leveled.{level_reference}
+use Rattle.lalrpop_norm_theory.specs.Leveled.{level_reference, leveled_symbols, composed_clause, leveled_clause, IsLeveled}
 use Rattle.lalrpop_norm_model.specs.Enabled.{all_places}
 use Rattle.lalrpop_norm_model.specs.Levels.{Leveled, has_levels, with_levels, levels_of}
 use Rattle.lalrpop_norm_model.specs.WrittenRules.{WrittenRule, leveled_rules, flat_rules, rule_named}
@@ -25,6 +25,7 @@ use Rattle.lalrpop_norm_model.proofs.MeaningLemmas.{instance_of}
 use Rattle.lalrpop_norm_model.proofs.GrammarLemmas.{all_level_rules, same_by, distinct_left, leveled_from, flat_from, one_owner}
 use Rattle.lalrpop_norm_model.proofs.LevelGrammarLemmas.{OwnBound, own_rule, has_level_rules, rules_leveled}
 use Rattle.lalrpop_norm_model.proofs.MacroLemmas.{macro_rule, macros_leveled, macro_counts_leveled}
+use Rattle.lalrpop_norm_theory.proofs.LeveledLemmas.{numbered_calls}
 use Rattle.lalrpop_norm_theory.proofs.ListLemmas.{distinct_right}
 
 mapped_twice : {A B C : Type 0} (f : A → B) (h : B → C) (xs : List A) → map h (map f xs) ≡ map (λ x. h (f x)) xs
@@ -100,21 +101,22 @@ module _ (g : GrammarData) (N : HasLevelNames g) (value : ConditionValue) where
   named_is m (reference n b) h = (n, b, refl, (bytes_eq-Decides (level_reference l n b) m).0 h)
   named_is m _ h = absurd (cc h)
 
-  origin_found : (n : Name) (b : Option ℕ) (p : ℕ) (c : Clause) → slice_get (clauses M (reference n b)) p ≡ Some c → In (reference n b) (references rs) →
+  pub origin_found : (other : Name → ℕ → Origin) (X : Meaning) (n : Name) (b : Option ℕ) (p : ℕ) (c : Clause) →
+      slice_get (clauses X (reference n b)) p ≡ Some c → In (reference n b) (references rs) →
       (gs : List ClosedSymbol) → ((x : ClosedSymbol) → In x gs → In x (references rs)) → In (reference n b) gs →
-      origin_among M l gs (level_reference l n b) p ≡ c.origin
-  origin_found n b p c at d [] within i = absurd i
-  origin_found n b p c at d (x ∷ gs) within i =
-      by (is_level_named l (level_reference l n b) x) refl (λ j. origin_found n b p c at d gs (λ y k. within y (inr k)) j) i
+      origin_among other X l gs (level_reference l n b) p ≡ c.origin
+  origin_found other X n b p c at d [] within i = absurd i
+  origin_found other X n b p c at d (x ∷ gs) within i =
+      by (is_level_named l (level_reference l n b) x) refl (λ j. origin_found other X n b p c at d gs (λ y k. within y (inr k)) j) i
     where
       by : (y : Bool) → is_level_named l (level_reference l n b) x ≡ y →
-          (In (reference n b) gs → origin_among M l gs (level_reference l n b) p ≡ c.origin) → In (reference n b) (x ∷ gs) →
-          (if y then clause_origin (level_reference l n b) p (slice_get (clauses M x) p) else origin_among M l gs (level_reference l n b) p) ≡ c.origin
+          (In (reference n b) gs → origin_among other X l gs (level_reference l n b) p ≡ c.origin) → In (reference n b) (x ∷ gs) →
+          (if y then clause_origin (level_reference l n b) p (slice_get (clauses X x) p) else origin_among other X l gs (level_reference l n b) p) ≡ c.origin
       by true e f j =
           let (m, k, is, name) = named_is (level_reference l n b) x e in
           let there : In (reference m k) (references rs) = subst (λ (y : ClosedSymbol). In y (references rs)) is (within x (inl refl)) in
           let same : x ≡ reference n b = is ∙ same_owner m n k b there d name in
-          ap (λ y. clause_origin (level_reference l n b) p (slice_get (clauses M y) p)) same
+          ap (λ y. clause_origin (level_reference l n b) p (slice_get (clauses X y) p)) same
           ∙ ap (clause_origin (level_reference l n b) p) at
       by false e f (inl j) =
           absurd (true≢false (sym ((bytes_eq-Decides (level_reference l n b) (level_reference l n b)).1 refl)
@@ -123,14 +125,15 @@ module _ (g : GrammarData) (N : HasLevelNames g) (value : ConditionValue) where
 
   rule_origin : (n : Name) (b : Option ℕ) (p : ℕ) (c : Clause) → In (reference n b) (references rs) → slice_get (clauses M (reference n b)) p ≡ Some c →
       level_origin value g (level_reference l n b) p ≡ c.origin
-  rule_origin n b p c d at = origin_found n b p c at d (references rs) (λ x i. i) d
+  rule_origin n b p c d at = origin_found written M n b p c at d (references rs) (λ x i. i) d
 
   -- ---- origins of macros
 
-  no_origin : (n : Name) (k : ℕ) (gs : List ClosedSymbol) → ((x : ClosedSymbol) → In x gs → is_level_named l n x ≡ true → ⊥) → origin_among M l gs n k ≡ written n k
-  no_origin n k [] none = refl
-  no_origin n k (x ∷ gs) none =
-      rw (false_from_ne_true (is_level_named l n x) (none x (inl refl))) (no_origin n k gs (λ y i. none y (inr i)))
+  pub no_origin : (other : Name → ℕ → Origin) (X : Meaning) (n : Name) (k : ℕ) (gs : List ClosedSymbol) →
+      ((x : ClosedSymbol) → In x gs → is_level_named l n x ≡ true → ⊥) → origin_among other X l gs n k ≡ other n k
+  no_origin other X n k [] none = refl
+  no_origin other X n k (x ∷ gs) none =
+      rw (false_from_ne_true (is_level_named l n x) (none x (inl refl))) (no_origin other X n k gs (λ y i. none y (inr i)))
 
   macro_apart : (d : RuleData) → In d (all_rules g) → is_nil d.args ≡ false → (x : ClosedSymbol) → In x (references rs) → is_level_named l d.name.0 x ≡ true → ⊥
   macro_apart d i macro x j h =
@@ -140,21 +143,36 @@ module _ (g : GrammarData) (N : HasLevelNames g) (value : ConditionValue) where
       let one : o.owner ≡ d = one_owner (all_rules g) o.owner d o.rule r.rule clashless o.of_owner i o.there r.there (sym o.named ∙ name ∙ sym r.name) in
       true≢false (sym o.owner_plain ∙ ap (λ (e : RuleData). is_nil e.args) one ∙ macro)
 
-  macro_origin : (n : Name) (args : ClosedSymbols) (k : ℕ) (parts : ClosedSymbols) (o : Option WrittenRule) → rule_named rs n ≡ o →
-      instance_parts value rs args k o ≡ Some parts → level_origin value g n k ≡ written n k
-  macro_origin n args k parts None e h = absurd (grind arith)
-  macro_origin n args k parts (Some r) e h =
+  -- no level has the name of a macro that has an instance
+  pub called_apart : (n : Name) (args : ClosedSymbols) (k : ℕ) (parts : ClosedSymbols) (o : Option WrittenRule) → rule_named rs n ≡ o →
+      instance_parts value rs args k o ≡ Some parts → (x : ClosedSymbol) → In x (references rs) → is_level_named l n x ≡ true → ⊥
+  called_apart n args k parts None e h = absurd (grind arith)
+  called_apart n args k parts (Some r) e h =
       let p = instance_of value rs args k r parts h in
       let f = rule_found rs n r e in
       let (d, i, is) = leveled_from g r f.0 in
       let name : d.name.0 ≡ n = ap (λ (w : WrittenRule). w.name) (sym is) ∙ f.1 in
       let macro : not (is_nil d.args) ≡ true = ap (λ (w : WrittenRule). not (is_nil w.args)) (sym is) ∙ p.called in
-      subst (λ (m : Name). level_origin value g m k ≡ written m k) name
-      (no_origin d.name.0 k (references rs) (macro_apart d i (not_nil (is_nil d.args) macro)))
+      subst (λ (m : Name). (x : ClosedSymbol) → In x (references rs) → is_level_named l m x ≡ true → ⊥) name
+      (macro_apart d i (not_nil (is_nil d.args) macro))
     where
       not_nil : (b : Bool) → not b ≡ true → b ≡ false
       not_nil false h = refl
       not_nil true h = absurd (cc h)
+
+  macro_origin : (n : Name) (args : ClosedSymbols) (k : ℕ) (parts : ClosedSymbols) → M.call_parts n args k ≡ Some parts → level_origin value g n k ≡ written n k
+  macro_origin n args k parts h = no_origin written M n k (references rs) (called_apart n args k parts (rule_named rs n) refl h)
+
+  -- a call has the clauses that it has in the written grammar, where a macro's alternatives have those origins
+  pub calls_by : (origin : Name → ℕ → Origin) →
+      ((n : Name) (args : ClosedSymbols) (k : ℕ) (parts : ClosedSymbols) → M.call_parts n args k ≡ Some parts → origin n k ≡ written n k) →
+      (n : Name) (args : ClosedSymbols) →
+      map (composed_clause origin) (clauses (meaning value (flat_rules (leveled_grammar g))) (call n (leveled_symbols l args)))
+      ≡ map (leveled_clause l) (clauses M (call n args))
+  calls_by origin from n args =
+      rw (macro_counts_leveled g N value n)
+      (numbered_calls n l origin ((meaning value (flat_rules (leveled_grammar g))).call_parts n (leveled_symbols l args)) (M.call_parts n args) 0 (M.call_count n)
+      (λ k. macros_leveled g N value n args k) (λ k parts h. from n args k parts h))
 
   -- ---- no rule of the grammar with levels has a level below
 
@@ -164,12 +182,19 @@ module _ (g : GrammarData) (N : HasLevelNames g) (value : ConditionValue) where
       let (d, i, is) = flat_from (leveled_grammar g) s (rule_found (flat_rules (leveled_grammar g)) n s e).0 in
       ap (λ (w : WrittenRule). previous_bound (Some w) None) is
 
-pub grammars_are_leveled : GrammarsAreLeveled
-grammars_are_leveled value g N = record {
+pub grammar_leveled : (value : ConditionValue) (g : GrammarData) → HasLevelNames g →
+    IsLeveled (meaning value (leveled_rules g)) (meaning value (flat_rules (leveled_grammar g)))
+    (level_names (leveled_rules g)) (level_origin value g) (references (leveled_rules g))
+grammar_leveled value g N = record {
   rules = λ n b p d. rules_leveled g N value n b p d;
   flat = λ n. flat_previous g N value n (rule_named (flat_rules (leveled_grammar g)) n) refl;
-  macros = λ n args k. macros_leveled g N value n args k;
-  macro_counts = λ n. macro_counts_leveled g N value n;
+  calls = λ n args. calls_by g N value (level_origin value g) (macro_origin g N value) n args;
   rule_origins = λ n b p c d at. rule_origin g N value n b p c d at;
-  macro_origins = λ n args k parts h. macro_origin g N value n args k parts (rule_named (leveled_rules g) n) refl h;
 }
+
+pub grammars_are_leveled : GrammarsAreLeveled
+grammars_are_leveled value g N = (
+  grammar_leveled value g N,
+  (λ n args k. macros_leveled g N value n args k),
+  (λ n. macro_counts_leveled g N value n),
+)

@@ -10,12 +10,12 @@ use Rattle.lalrpop_norm_model.specs.Laws.{LevelsAreSteps}
 use Rattle.lalrpop_norm_model.proofs.MeaningLemmas.{meaning_has_counts, meaning_has_levels}
 use Rattle.lalrpop_norm_model.proofs.ScopeLemmas.{meaning_is_resolved}
 use Rattle.lalrpop_norm_model.proofs.WrittenLemmas.{scoped_by_names}
-use Rattle.lalrpop_norm_model.proofs.OriginLemmas.{grammars_are_leveled}
+use Rattle.lalrpop_norm_model.proofs.OriginLemmas.{grammar_leveled}
 
 pub levels_steps : LevelsAreTwoSteps → LevelsAreSteps
 levels_steps two value g N name P declared met R x resolved known =
     two (meaning value (leveled_rules g)) (meaning value (flat_rules (leveled_grammar g))) (level_names (leveled_rules g)) (level_origin value g)
-    (references (leveled_rules g)) (meaning_is_resolved (leveled_rules g) scoped value) (grammars_are_leveled value g N)
+    (references (leveled_rules g)) (meaning_is_resolved (leveled_rules g) scoped value) (grammar_leveled value g N)
     (meaning_has_counts value (leveled_rules g)) (meaning_has_levels value (leveled_rules g))
     (meaning_has_counts value (flat_rules (leveled_grammar g))) (meaning_has_levels value (flat_rules (leveled_grammar g)))
     name P declared met R x resolved known

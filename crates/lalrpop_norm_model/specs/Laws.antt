@@ -53,7 +53,7 @@ use Rattle.lalrpop_norm_model.specs.Entries.{AreEntries}
 use Rattle.lalrpop_norm_model.specs.InferenceFaults.{lacking, inferred_table, untyped_rules, disagreeing, inference_faults}
 use Rattle.lalrpop_norm_model.specs.LoweringFaults.{lowering_faults}
 use Rattle.lalrpop_norm_model.specs.TokenFaults.{token_faults}
-use Rattle.lalrpop_norm_model.specs.LevelNames.{HasLevelNames, level_origin}
+use Rattle.lalrpop_norm_model.specs.LevelNames.{HasLevelNames, level_origin, written_origin}
 use Rattle.lalrpop_norm_model.specs.Renumbered.{prepared_grammar, closed_up, rank_in, rank_by, ranked_clause, IsRenumbered}
 use Rattle.lalrpop_norm_model.specs.Renumbered.{TreesAreRenumbered, OneToOneByRank}
 
@@ -199,11 +199,23 @@ LevelRulesAreRead =
     (clauses (meaning value (leveled_rules g)) (reference d.name.0 (Some l)))
 
 -- The grammar with levels is that of the written grammar, as the theory of trees has it: place by place its rules hold the
--- clauses of the levels, macros keep their numbers, and each alternative has its origin.
+-- clauses of the levels, calls have the same clauses, and each alternative has its origin. And macros keep their numbers.
 abbrev pub GrammarsAreLeveled : Type 0
 GrammarsAreLeveled = (value : ConditionValue) (g : GrammarData) → HasLevelNames g →
     IsLeveled (meaning value (leveled_rules g)) (meaning value (flat_rules (leveled_grammar g)))
     (level_names (leveled_rules g)) (level_origin value g) (references (leveled_rules g))
+    × ((n : Name) (args : ClosedSymbols) (k : ℕ) →
+    (meaning value (flat_rules (leveled_grammar g))).call_parts n (leveled_symbols (level_names (leveled_rules g)) args) k
+    ≡ option_map (leveled_symbols (level_names (leveled_rules g))) ((meaning value (leveled_rules g)).call_parts n args k))
+    × ((n : Name) → (meaning value (flat_rules (leveled_grammar g))).call_count n
+    ≡ (meaning value (leveled_rules g)).call_count n)
+
+-- So it is that of the written grammar with its holes, by the written numbers.
+abbrev pub WrittenGrammarsAreLeveled : Type 0
+WrittenGrammarsAreLeveled = (value : ConditionValue) (fs : Features) (g : GrammarData) →
+    HasLevelNames (prepared_grammar fs g) →
+    IsLeveled (meaning value (written_rules fs g)) (meaning value (flat_rules (leveled_grammar (prepared_grammar fs g))))
+    (level_names (written_rules fs g)) (written_origin value (written_rules fs g)) (references (written_rules fs g))
 
 -- Of a grammar whose levels can become rules: with a lowered grammar that realizes the symbols of the grammar with levels, the
 -- trees of each resolved symbol pair in two steps, from bounds to levels and from levels to the lowered grammar.

@@ -1,6 +1,6 @@
 -- When the levels of a grammar can become rules of their own: what must be so of its names. And where what stands in the grammar
 -- with levels comes from.
-use Rattle.std.specs.Prelude.{◌≡◌, ℕ, Bool, false, List, [], ◌∷◌, Option, Some, None, slice_get, bytes_eq}
+use Rattle.std.specs.Prelude.{◌≡◌, ℕ, zero, suc, Bool, false, List, [], ◌∷◌, Option, Some, None, slice_get, bytes_eq}
 use Rattle.std.specs.Prelude.{if◌then◌else◌}
 use Rattle.lalrpop_norm_tree.specs.Items.{RuleData, GrammarData}
 use Rattle.lalrpop_norm_theory.specs.Symbols.{Name, ClosedSymbol, reference}
@@ -13,7 +13,7 @@ use Rattle.lalrpop_norm_model.specs.Enabled.{all_places}
 use Rattle.lalrpop_norm_model.specs.Scopes.{resolved_grammar}
 use Rattle.lalrpop_norm_model.specs.Levels.{with_levels}
 use Rattle.lalrpop_norm_model.specs.Stated.{HasLevel}
-use Rattle.lalrpop_norm_model.specs.WrittenRules.{leveled_rules}
+use Rattle.lalrpop_norm_model.specs.WrittenRules.{WrittenRule, rule_named, leveled_rules}
 use Rattle.lalrpop_norm_model.specs.Grammars.{ConditionValue, is_nil, meaning, references}
 use Rattle.lalrpop_norm_model.specs.Scoped.{NamesAreScoped}
 use Rattle.lalrpop_norm_model.specs.ClosedTexts.{level_names}
@@ -41,13 +41,30 @@ abbrev pub clause_origin : Name → ℕ → Option Clause → Origin
 clause_origin m p None = written m p
 clause_origin m p (Some c) = c.origin
 
--- the origin of alternative p of the rule m: that of clause p of the reference whose level has that name; any other rule keeps
--- its name and numbers
-abbrev pub origin_among : Meaning → (Name → ℕ → Name) → List ClosedSymbol → Name → ℕ → Origin
-origin_among M l [] m p = written m p
-origin_among M l (g ∷ gs) m p =
-    if is_level_named l m g then clause_origin m p (slice_get (clauses M g) p) else origin_among M l gs m p
+-- the origin of alternative p of the rule m: that of clause p of the reference whose level has that name; of any other rule it
+-- is the given one
+abbrev pub origin_among : (Name → ℕ → Origin) → Meaning → (Name → ℕ → Name) → List ClosedSymbol → Name → ℕ → Origin
+origin_among other M l [] m p = other m p
+origin_among other M l (g ∷ gs) m p =
+    if is_level_named l m g then clause_origin m p (slice_get (clauses M g) p) else origin_among other M l gs m p
 
+-- in a grammar all of whose alternatives count: any other rule keeps its name and numbers
 abbrev pub level_origin : ConditionValue → GrammarData → Name → ℕ → Origin
 level_origin value g =
-    origin_among (meaning value (leveled_rules g)) (level_names (leveled_rules g)) (references (leveled_rules g))
+    origin_among written (meaning value (leveled_rules g)) (level_names (leveled_rules g)) (references (leveled_rules g))
+
+-- the place of what is number j of that which is there
+abbrev pub place_in : {A : Type 0} → List (Option A) → ℕ → ℕ
+place_in [] j = j
+place_in (None ∷ ps) j = suc (place_in ps j)
+place_in (Some a ∷ ps) zero = 0
+place_in (Some a ∷ ps) (suc j) = suc (place_in ps j)
+
+abbrev pub place_of : Option WrittenRule → ℕ → ℕ
+place_of None j = j
+place_of (Some r) j = place_in r.places j
+
+-- in written rules: any other rule keeps its name, and number j of it stands at its place
+abbrev pub written_origin : ConditionValue → List WrittenRule → Name → ℕ → Origin
+written_origin value rs =
+    origin_among (λ m j. written m (place_of (rule_named rs m) j)) (meaning value rs) (level_names rs) (references rs)

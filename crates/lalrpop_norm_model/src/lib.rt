@@ -10,7 +10,7 @@ ghost use Rattle.lalrpop_norm_model.specs.Laws.{PlacesAreLeveled, LevelsAreState
 ghost use Rattle.lalrpop_norm_model.specs.Laws.{ScopedAsWritten, EnabledAreActive, ResolvedOnce};
 ghost use Rattle.lalrpop_norm_model.specs.Laws.{LevelRulesAreRead, BoundsAreBySide, ConditionsDecide};
 ghost use Rattle.lalrpop_norm_model.specs.Laws.{DisabledAreLeftOut, RanksCountEnabled, DisabledOnlyRenumber, ClausesOnlyRenumber, TreesOnlyRenumber};
-ghost use Rattle.lalrpop_norm_model.specs.Laws.{GrammarsAreLeveled, LevelsAreSteps, WrittenTreesAreLowered};
+ghost use Rattle.lalrpop_norm_model.specs.Laws.{GrammarsAreLeveled, WrittenGrammarsAreLeveled, LevelsAreSteps, WrittenTreesAreLowered};
 ghost use Rattle.lalrpop_norm_model.specs.Laws.{ArgumentsAreSubstituted, MadeRulesAreRead, RulesAreRead, MetIsRead};
 ghost use Rattle.lalrpop_norm_model.specs.Laws.{MadeSymbolsAreScoped, RoundsAreRead};
 ghost use Rattle.lalrpop_norm_model.specs.Laws.{TextsInGrammars, PlainRulesAreRead};
@@ -142,6 +142,12 @@ pub fn conditions_decide()
 /// has two levels.
 pub fn grammars_are_leveled()
     ensures { GrammarsAreLeveled }
+{}
+
+/// The same of the written grammar, its disabled alternatives being holes: each alternative has its origin there, by the number that
+/// it is written with.
+pub fn written_grammars_are_leveled()
+    ensures { WrittenGrammarsAreLeveled }
 {}
 
 /// With levels as rules in between, the trees of a grammar within bounds pair with those of a grammar lowered from its levels: each

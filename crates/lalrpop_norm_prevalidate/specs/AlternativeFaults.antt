@@ -8,6 +8,7 @@ use Rattle.lalrpop_norm_tree.specs.Symbols.{Kind, named, tupled, at, Parts, no_p
 use Rattle.lalrpop_norm_faults.specs.declared.kind.FaultKind.TheVariants.{AlternativeAttribute, NamedWithoutAction}
 use Rattle.lalrpop_norm_faults.specs.declared.kind.FaultKind.TheVariants.{AnonymousInBraces, WrittenLookaround}
 use Rattle.lalrpop_norm_faults.specs.Faults.{Fault, fault_if}
+use Rattle.lalrpop_norm_prevalidate.specs.declared.prevalidate.Surroundings.{Surroundings}
 use Rattle.lalrpop_norm_session.specs.Braces.{presence, is_in_braces}
 use Rattle.lalrpop_norm_prevalidate.specs.SymbolFaults.{list_faults}
 use Rattle.lalrpop_norm_model.specs.MadeRules.{span_of}

@@ -10,6 +10,7 @@ use Rattle.lalrpop_norm_tree.specs.Symbols.{Kind, group, ambiguous_id, terminal,
 use Rattle.lalrpop_norm_tree.specs.Symbols.{tupled, lookahead, lookbehind, error_terminal, Part, at, Parts, no_parts, part_and}
 use Rattle.lalrpop_norm_faults.specs.declared.kind.FaultKind.TheVariants.{ErrorWithAscent, MacroWithoutArguments, NoLocation}
 use Rattle.lalrpop_norm_faults.specs.declared.kind.FaultKind.TheVariants.{WrittenErrorTerminal, ChosenWithNamed, NameTwice}
+use Rattle.lalrpop_norm_prevalidate.specs.declared.prevalidate.Surroundings.{Surroundings}
 use Rattle.lalrpop_norm_faults.specs.Faults.{Fault, fault_if}
 use Rattle.lalrpop_norm_session.specs.Values.{is_chosen_kind}
 

@@ -4,6 +4,7 @@ use Rattle.lalrpop_norm_tree_names.specs.declared.names.Span.{Span}
 use Rattle.lalrpop_norm_tree_parts.specs.Attributes.{Attributes, no_attributes, attribute_and}
 use Rattle.lalrpop_norm_tree.specs.Items.{AssociatedTypeData, ItemData}
 use Rattle.lalrpop_norm_faults.specs.Faults.{Fault}
+use Rattle.lalrpop_norm_prevalidate.specs.declared.prevalidate.Surroundings.{Surroundings}
 use Rattle.lalrpop_norm_prevalidate.specs.declared.prevalidate.Blocks.{Blocks}
 use Rattle.lalrpop_norm_prevalidate.specs.GrammarFaults.{attribute_name, rule_attribute_faults, associated_faults, is_match, is_extern}
 use Rattle.lalrpop_norm_prevalidate.specs.GrammarFaults.{item_faults}

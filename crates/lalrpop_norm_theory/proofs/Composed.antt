@@ -89,10 +89,10 @@ module _ (M L : Meaning) (l : Name → ℕ → Name) (origin : Name → ℕ → 
   whole_realizes : Realizes M (level_named l name) (recomposed origin P) Whole
   whole_realizes = leveled_realizes M L l origin references I D V B W name P Known R
 
-  joined : (t m : WrittenTree) (u : LoweredTree) → Steps M l g t m → Pairs L name (leveled_symbol l g) m u → Pairs M (level_named l name) g t u
+  joined : (t m : WrittenTree) (u : LoweredTree) → Steps M L l g t m → Pairs L name (leveled_symbol l g) m u → Pairs M (level_named l name) g t u
   joined t m u steps pair =
       let same : written_tree (recomposed origin P) u ≡ t =
-      written_composed L name P origin Known R pair k ∙ unleveled_to M L l origin references I D V steps r in
+      written_composed L name P origin Known R pair k ∙ unleveled_to M L l origin references I D V B steps r in
       let d : IsDerivation (recomposed origin P) u (symbol_of (level_named l name) g) =
       subst (λ s. IsDerivation (recomposed origin P) u s) (sym (symbol_named l name g))
       (derivation_recomposed origin P u _ (derivation_of L name P Known R pair k)) in
@@ -101,17 +101,17 @@ module _ (M L : Meaning) (l : Name → ℕ → Name) (origin : Name → ℕ → 
       rw same at whole
 
   parted : (t : WrittenTree) (u : LoweredTree) → Pairs M (level_named l name) g t u →
-      (m : WrittenTree) × Steps M l g t m × Pairs L name (leveled_symbol l g) m u
+      (m : WrittenTree) × Steps M L l g t m × Pairs L name (leveled_symbol l g) m u
   parted t u h =
-      let steps : Steps M l g t (leveled_tree M l t g) = steps_leveled M l C V t g (tree_of M (level_named l name) V h) in
-      let pair = pairs_lowered L name B W (leveled_tree M l t g) (leveled_symbol l g) (level_tree M L l origin references I D V steps r) in
-      let same : lowered_tree L name (leveled_tree M l t g) (leveled_symbol l g) ≡ u =
+      let steps : Steps M L l g t (leveled_tree M L l t g) = steps_leveled M L l origin references I C V t g (tree_of M (level_named l name) V h) in
+      let pair = pairs_lowered L name B W (leveled_tree M L l t g) (leveled_symbol l g) (level_tree M L l origin references I D V B steps r) in
+      let same : lowered_tree L name (leveled_tree M L l t g) (leveled_symbol l g) ≡ u =
       sym (lowered_to M (level_named l name) V (joined t _ _ steps pair)) ∙ lowered_to M (level_named l name) V h in
-      (leveled_tree M l t g, steps, subst (λ v. Pairs L name (leveled_symbol l g) (leveled_tree M l t g) v) same pair)
+      (leveled_tree M L l t g, steps, subst (λ v. Pairs L name (leveled_symbol l g) (leveled_tree M L l t g) v) same pair)
 
   pub in_two_steps : PairsInTwoSteps M L l origin name P g
   in_two_steps = record {
-    first = steps_one_to_one M L l origin references I D V C g r;
+    first = steps_one_to_one M L l origin references I D V B C g r;
     second = one_to_one L B W name P Known R (leveled_symbol l g) k;
     whole = one_to_one M C V (level_named l name) (recomposed origin P) Whole whole_realizes g (r, k);
     joined = joined;

@@ -13,6 +13,7 @@ use Rattle.lalrpop_norm_theory.specs.Leveled.{level_reference, leveled_symbols, 
 use Rattle.lalrpop_norm_theory.specs.Laws.{PairsInTwoSteps}
 use Rattle.lalrpop_norm_theory.proofs.SameLemmas.{text_sound}
 use Rattle.lalrpop_norm_theory.proofs.TableLemmas.{rules_realize}
+use Rattle.lalrpop_norm_theory.proofs.LeveledLemmas.{numbered_calls}
 use Rattle.lalrpop_norm_theory.proofs.Composed.{levels_two_steps}
 use Rattle.lalrpop_norm_theory.proofs.ExampleGrammar.{none_some, expression, pick, sign, within, number_parts, sum_parts, parts_within, level_below, bound, called_parts, called_counted, grammar, grammar_counts, grammar_levels}
 
@@ -180,10 +181,9 @@ grammar_leveled : IsLeveled grammar leveled level_name origin references
 grammar_leveled = record {
   rules = λ n b p r. by_reference RulesAt high_rules high_rules low_rules n b r p;
   flat = λ n. refl;
-  macros = λ n args k. called_leveled (bytes_eq n pick) args k;
-  macro_counts = λ n. refl;
+  calls = λ n args. numbered_calls n level_name origin (λ k. called_parts (bytes_eq n pick) (leveled_symbols level_name args) k)
+      (λ k. called_parts (bytes_eq n pick) args k) 0 2 (λ k. called_leveled (bytes_eq n pick) args k) (λ k parts e. called_origin n args k parts e);
   rule_origins = λ n b p c r e. by_reference OriginsAt high_origins high_origins low_origins n b r p c e;
-  macro_origins = λ n args k parts e. called_origin n args k parts e;
 }
 
 -- the names of the grammar with levels are the names of its rules

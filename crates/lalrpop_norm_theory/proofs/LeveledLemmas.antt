@@ -9,17 +9,11 @@ use Rattle.lalrpop_norm_theory.specs.Clauses.{Clause, clause, clause_and, clause
 use Rattle.lalrpop_norm_theory.specs.Rounds.{In}
 use Rattle.lalrpop_norm_theory.specs.Met.{IsResolvedIn, AreResolvedIn, IsResolved}
 use Rattle.lalrpop_norm_theory.specs.Tables.{AllKnown, Realizes}
-use Rattle.lalrpop_norm_theory.specs.Leveled.{level_reference, leveled_symbol, leveled_symbols, IsLeveled, composed, recomposed_production, recomposed}
+use Rattle.lalrpop_norm_theory.specs.Leveled.{level_reference, leveled_symbol, leveled_symbols, IsLeveled, composed, composed_clause, leveled_clause, recomposed_production, recomposed}
 use Rattle.lalrpop_norm_theory.specs.Laws.{level_named}
 use Rattle.lalrpop_norm_theory.proofs.TableLemmas.{nonterminal_of}
 use Rattle.lalrpop_norm_theory.proofs.ResolvedLemmas.{clause_resolved}
-
--- a clause with its origin in the written grammar, and a clause with its parts in the grammar with levels
-abbrev composed_clause : (Name → ℕ → Origin) → Clause → Clause
-composed_clause origin c = clause (composed origin c.origin) c.parts
-
-abbrev leveled_clause : (Name → ℕ → Name) → Clause → Clause
-leveled_clause l c = clause c.origin (leveled_symbols l c.parts)
+use Rattle.lalrpop_norm_theory.proofs.CallLemmas.{mapped_at}
 
 abbrev pub leveled_parts : (Name → ℕ → Name) → Clause → ClosedSymbols
 leveled_parts l c = leveled_symbols l c.parts
@@ -46,8 +40,8 @@ numbered_clauses n l origin f k (suc left) (c ∷ cs) b h o =
     (ap (λ r. leveled_clause l c ∷ r)
     (numbered_clauses n l origin f (suc k) left cs (omega arith) (λ j. rw (← shifted k j) (h (suc j))) (λ j d e. rw (← shifted k j) (o (suc j) d e))))
 
--- the alternatives of a macro keep their numbers
-numbered_calls : (n : Name) (l : Name → ℕ → Name) (origin : Name → ℕ → Origin) (f h : ℕ → Option ClosedSymbols) (k left : ℕ) →
+-- where the alternatives of a macro keep their numbers, a call has the same clauses
+pub numbered_calls : (n : Name) (l : Name → ℕ → Name) (origin : Name → ℕ → Origin) (f h : ℕ → Option ClosedSymbols) (k left : ℕ) →
     ((j : ℕ) → f j ≡ option_map (leveled_symbols l) (h j)) → ((j : ℕ) (parts : ClosedSymbols) → h j ≡ Some parts → origin n j ≡ written n j) →
     map (composed_clause origin) (numbered n f k left) ≡ map (leveled_clause l) (numbered n h k left)
 numbered_calls n l origin f h k zero e o = refl
@@ -63,7 +57,7 @@ numbered_calls n l origin f h k (suc left) e o = rw (e k) (at (h k) refl (number
 module _ (M L : Meaning) (l : Name → ℕ → Name) (origin : Name → ℕ → Origin) (declared : List ClosedSymbol)
     (I : IsLeveled M L l origin declared) (C : HasCounts L) (V : HasLevels L) where
   -- a rule without levels has all its alternatives on its one level
-  pub own_is_all : (n : Name) (k : ℕ) (o : Option ClosedSymbols) → L.reference_parts n None k ≡ o → L.own_parts n None k ≡ o
+  own_is_all : (n : Name) (k : ℕ) (o : Option ClosedSymbols) → L.reference_parts n None k ≡ o → L.own_parts n None k ≡ o
   own_is_all n k (Some parts) e = elim (V.split n None k parts e) [
     | inl own ↦ own
     | inr r ↦ let flat = I.flat n in absurd (let below = r.2 in none_some (sym flat ∙ below))
@@ -77,7 +71,7 @@ module _ (M L : Meaning) (l : Name → ℕ → Name) (origin : Name → ℕ → 
       at None q = q
       at (Some parts) q = let some = V.own n None k parts q in absurd (let both : None ≡ Some parts = sym e ∙ some in grind arith)
 
-  pub enough_numbers : (n : Name) (cs : List Clause) → ((j : ℕ) → L.own_parts n None j ≡ option_map (leveled_parts l) (slice_get cs j)) →
+  enough_numbers : (n : Name) (cs : List Clause) → ((j : ℕ) → L.own_parts n None j ≡ option_map (leveled_parts l) (slice_get cs j)) →
       length cs ≤ L.reference_count n
   enough_numbers n cs h = elim (slice_get_cases cs (L.reference_count n)).1 [
     | inl r ↦
@@ -98,15 +92,13 @@ module _ (M L : Meaning) (l : Name → ℕ → Name) (origin : Name → ℕ → 
       (λ j c e. let z : 0 + j ≡ j = omega arith in rw z (I.rule_origins n b j c r e)))
 
   -- the rule of a symbol in the grammar with levels is its rule in the written one
-  leveled_clauses : (g : ClosedSymbol) → IsNonterminal g → IsResolvedIn declared g →
+  pub leveled_clauses : (g : ClosedSymbol) → IsNonterminal g → IsResolvedIn declared g →
       map (composed_clause origin) (clauses L (leveled_symbol l g)) ≡ map (leveled_clause l) (clauses M g)
   leveled_clauses (terminal a) n r = absurd n
   leveled_clauses error n r = absurd n
   leveled_clauses (wrapped w g) n r = absurd n
   leveled_clauses (reference m b) n r = rule_clauses m b r
-  leveled_clauses (call m args) n r =
-      rw (I.macro_counts m) (numbered_calls m l origin (L.call_parts m (leveled_symbols l args)) (M.call_parts m args) 0 (M.call_count m)
-      (λ j. I.macros m args j) (λ j parts e. I.macro_origins m args j parts e))
+  leveled_clauses (call m args) n r = I.calls m args
   leveled_clauses (group gs) n r = refl
   leveled_clauses (star x) n r = refl
   leveled_clauses (plus x) n r = refl
@@ -157,10 +149,6 @@ leveled_productions : (l : Name → ℕ → Name) (name : ClosedSymbol → Name)
 leveled_productions l name [] = refl
 leveled_productions l name (c ∷ cs) =
     ap₂ (λ ss r. record { origin = c.origin; symbols = ss } ∷ r) (sym (symbols_named l name c.parts)) (leveled_productions l name cs)
-
-mapped_at : {A B : Type 0} (f : A → B) (o : Option A) (y : B) → option_map f o ≡ Some y → (x : A) × (o ≡ Some x) × (f x ≡ y)
-mapped_at f None y e = absurd (grind arith)
-mapped_at f (Some x) y e = (x, refl, cc e)
 
 module _ (M L : Meaning) (l : Name → ℕ → Name) (origin : Name → ℕ → Origin) (declared : List ClosedSymbol)
     (I : IsLeveled M L l origin declared) (D : IsResolved M declared) (W : HasLevels M) (C : HasCounts L) (V : HasLevels L)

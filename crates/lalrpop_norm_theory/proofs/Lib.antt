@@ -14,6 +14,7 @@ pub mod ViewedLemmas
 pub mod TableLemmas
 pub mod ResolvedLemmas
 pub mod Expansion
+pub mod CallLemmas
 pub mod LeveledTrees
 pub mod StepLemmas
 pub mod LeveledLemmas

@@ -93,7 +93,7 @@ split_at (x ∷ xs) ys (suc p) c h = elim (split_at xs ys p c h) [
   | inr r ↦ inr (r.0, (let a : p ≡ length xs + r.0 = r.1 in omega arith), r.2)
 ]
 
-abbrev origin_in : Option Clause → Origin
+abbrev pub origin_in : Option Clause → Origin
 origin_in None = from_lookahead
 origin_in (Some c) = c.origin
 

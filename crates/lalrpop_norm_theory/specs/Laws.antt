@@ -71,10 +71,10 @@ RulesRealize =
 -- the written trees of g and the trees of the grammar with levels stand one to one, with the same words and alternatives
 pub record StepsAreOneToOne (M L : Meaning) (l : Name → ℕ → Name) (origin : Name → ℕ →
     Origin) (g : ClosedSymbol) : Type 0 where
-  pub down : (t : WrittenTree) → IsTreeOf M t g → ExactlyOne (λ m. IsTreeOf L m (leveled_symbol l g) × Steps M l g t m)
-  pub up : (m : WrittenTree) → IsTreeOf L m (leveled_symbol l g) → ExactlyOne (λ t. IsTreeOf M t g × Steps M l g t m)
-  pub same_yields : (t m : WrittenTree) → Steps M l g t m → yield t ≡ yield m
-  pub same_alternatives : (t m : WrittenTree) → Steps M l g t m → alternatives t ≡ written_alternatives origin m
+  pub down : (t : WrittenTree) → IsTreeOf M t g → ExactlyOne (λ m. IsTreeOf L m (leveled_symbol l g) × Steps M L l g t m)
+  pub up : (m : WrittenTree) → IsTreeOf L m (leveled_symbol l g) → ExactlyOne (λ t. IsTreeOf M t g × Steps M L l g t m)
+  pub same_yields : (t m : WrittenTree) → Steps M L l g t m → yield t ≡ yield m
+  pub same_alternatives : (t m : WrittenTree) → Steps M L l g t m → alternatives t ≡ written_alternatives origin m
 
 -- a closed symbol under the name that its symbol has in the grammar with levels
 abbrev pub level_named : (Name → ℕ → Name) → (ClosedSymbol → Name) → ClosedSymbol → Name
@@ -87,10 +87,10 @@ pub record PairsInTwoSteps (M L : Meaning) (l : Name → ℕ → Name) (origin :
   pub first : StepsAreOneToOne M L l origin g
   pub second : OneToOne L name P (leveled_symbol l g)
   pub whole : OneToOne M (level_named l name) (recomposed origin P) g
-  pub joined : (t m : WrittenTree) (u : LoweredTree) → Steps M l g t m → Pairs L name (leveled_symbol l g) m u →
+  pub joined : (t m : WrittenTree) (u : LoweredTree) → Steps M L l g t m → Pairs L name (leveled_symbol l g) m u →
       Pairs M (level_named l name) g t u
   pub parted : (t : WrittenTree) (u : LoweredTree) → Pairs M (level_named l name) g t u →
-      (m : WrittenTree) × Steps M l g t m × Pairs L name (leveled_symbol l g) m u
+      (m : WrittenTree) × Steps M L l g t m × Pairs L name (leveled_symbol l g) m u
 
 -- For resolved symbols that are known in the grammar with levels, the pairing is made of two steps.
 abbrev pub LevelsAreTwoSteps : Type 0

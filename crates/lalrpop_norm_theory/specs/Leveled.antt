@@ -4,7 +4,7 @@ use Rattle.lalrpop_norm_theory.specs.Symbols.{Name, ClosedSymbol, ClosedSymbols,
 use Rattle.lalrpop_norm_theory.specs.Symbols.{plus, question, wrapped, lookahead, lookbehind, no_symbols, symbol_and}
 use Rattle.lalrpop_norm_theory.specs.Meaning.{Meaning}
 use Rattle.lalrpop_norm_theory.specs.LoweredTrees.{Origin, Production, ProductionTable, written}
-use Rattle.lalrpop_norm_theory.specs.Clauses.{Clause, clauses}
+use Rattle.lalrpop_norm_theory.specs.Clauses.{Clause, clause, clauses}
 use Rattle.lalrpop_norm_theory.specs.Rounds.{In}
 
 -- the name of a level's rule; a rule without a bound keeps its name
@@ -31,27 +31,31 @@ abbrev mutual
   leveled_symbols l no_symbols = no_symbols
   leveled_symbols l (symbol_and g gs) = symbol_and (leveled_symbol l g) (leveled_symbols l gs)
 
--- L is the grammar with levels of M: place p of the rule of a declared level is its p-th clause, no rule has levels, macros
--- keep their numbers, and each alternative has its origin in M.
+-- the origin in the written grammar of what has an origin in the grammar with levels
+abbrev pub composed : (Name → ℕ → Origin) → Origin → Origin
+composed origin (written n p) = origin n p
+composed origin o = o
+
+-- a clause with its origin in the written grammar, and a clause with the names of levels in its parts
+abbrev pub composed_clause : (Name → ℕ → Origin) → Clause → Clause
+composed_clause origin c = clause (composed origin c.origin) c.parts
+
+abbrev pub leveled_clause : (Name → ℕ → Name) → Clause → Clause
+leveled_clause l c = clause c.origin (leveled_symbols l c.parts)
+
+-- L is the grammar with levels of M: place p of the rule of a declared level is its p-th clause, no rule has levels, a call has
+-- the same clauses in their order, and each alternative has its origin in M.
 pub record IsLeveled (M L : Meaning) (l : Name → ℕ → Name) (origin : Name → ℕ →
     Origin) (declared : List ClosedSymbol) : Type 0 where
   pub rules : (n : Name) (b : Option ℕ) (p : ℕ) → In (reference n b) declared →
       L.reference_parts (level_reference l n b) None p
       ≡ option_map (λ c. leveled_symbols l c.parts) (slice_get (clauses M (reference n b)) p)
   pub flat : (n : Name) → L.previous n None ≡ None
-  pub macros : (n : Name) (args : ClosedSymbols) (k : ℕ) →
-      L.call_parts n (leveled_symbols l args) k ≡ option_map (leveled_symbols l) (M.call_parts n args k)
-  pub macro_counts : (n : Name) → L.call_count n ≡ M.call_count n
+  pub calls : (n : Name) (args : ClosedSymbols) →
+      map (composed_clause origin) (clauses L (call n (leveled_symbols l args)))
+      ≡ map (leveled_clause l) (clauses M (call n args))
   pub rule_origins : (n : Name) (b : Option ℕ) (p : ℕ) (c : Clause) → In (reference n b) declared →
       slice_get (clauses M (reference n b)) p ≡ Some c → origin (level_reference l n b) p ≡ c.origin
-  pub macro_origins : (n : Name) (args : ClosedSymbols) (k : ℕ) (parts : ClosedSymbols) →
-      M.call_parts n args k ≡ Some parts →
-      origin n k ≡ written n k
-
--- the origin in the written grammar of what has an origin in the grammar with levels
-abbrev pub composed : (Name → ℕ → Origin) → Origin → Origin
-composed origin (written n p) = origin n p
-composed origin o = o
 
 -- a production with its origin in the written grammar
 abbrev pub recomposed_production : (Name → ℕ → Origin) → Production → Production

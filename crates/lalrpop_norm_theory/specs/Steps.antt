@@ -7,49 +7,52 @@ use Rattle.lalrpop_norm_theory.specs.Meaning.{Meaning}
 use Rattle.lalrpop_norm_theory.specs.WrittenTrees.{WrittenTree, WrittenTrees, leaf, nothing, list, node, no_trees, tree_and}
 use Rattle.lalrpop_norm_theory.specs.WrittenTrees.{IsNonempty, IsAtMostOne}
 use Rattle.lalrpop_norm_theory.specs.LoweredTrees.{Origin, written, level_step, written_of}
-use Rattle.lalrpop_norm_theory.specs.Clauses.{clause, clauses, own_clauses}
+use Rattle.lalrpop_norm_theory.specs.Clauses.{Clause, clause, clauses, own_clauses}
 use Rattle.lalrpop_norm_theory.specs.Translations.{made_by, lowered_place}
-use Rattle.lalrpop_norm_theory.specs.Leveled.{level_reference}
+use Rattle.lalrpop_norm_theory.specs.Leveled.{level_reference, leveled_symbols}
 
--- Steps M l g t m: the written tree t of g and the tree m of the grammar with levels are one. A node of a rule has the
--- place of its clause in its level's rule, below a step for each level that the bound lies above it; all else is kept.
+-- Steps M L l g t m: the written tree t of g and the tree m of the grammar with levels, L, are one. A node of a rule has the
+-- place of its clause in its level's rule, below a step for each level that the bound lies above it. A node of a macro has the
+-- number that its clause has in the same call there; all else is kept.
 mutual
-  pub data Steps (M : Meaning) (l : Name → ℕ → Name) : ClosedSymbol → WrittenTree → WrittenTree → Type 0 where
-    terminal_kept : (a : Terminal) → Steps M l (terminal a) (leaf a) (leaf a)
-    error_kept : Steps M l error (leaf error_terminal) (leaf error_terminal)
-    wrapped_kept : (w : Wrapper) (g : ClosedSymbol) (t m : WrittenTree) → Steps M l g t m → Steps M l (wrapped w g) t m
-    lookahead_kept : Steps M l lookahead nothing nothing
-    lookbehind_kept : Steps M l lookbehind nothing nothing
-    group_kept : (gs : ClosedSymbols) (ts ms : WrittenTrees) → AllSteps M l gs ts ms →
-        Steps M l (group gs) (list ts) (list ms)
-    star_kept : (x : ClosedSymbol) (ts ms : WrittenTrees) → EachSteps M l x ts ms → Steps M l (star x) (list ts) (list ms)
-    plus_kept : (x : ClosedSymbol) (ts ms : WrittenTrees) → IsNonempty ts → EachSteps M l x ts ms →
-        Steps M l (plus x) (list ts) (list ms)
-    question_kept : (x : ClosedSymbol) (ts ms : WrittenTrees) → IsAtMostOne ts → EachSteps M l x ts ms →
-        Steps M l (question x) (list ts) (list ms)
-    call_kept : (n : Name) (k : ℕ) (args parts : ClosedSymbols) (ts ms : WrittenTrees) →
+  pub data Steps (M L : Meaning) (l : Name → ℕ → Name) : ClosedSymbol → WrittenTree → WrittenTree → Type 0 where
+    terminal_kept : (a : Terminal) → Steps M L l (terminal a) (leaf a) (leaf a)
+    error_kept : Steps M L l error (leaf error_terminal) (leaf error_terminal)
+    wrapped_kept : (w : Wrapper) (g : ClosedSymbol) (t m : WrittenTree) → Steps M L l g t m → Steps M L l (wrapped w g) t m
+    lookahead_kept : Steps M L l lookahead nothing nothing
+    lookbehind_kept : Steps M L l lookbehind nothing nothing
+    group_kept : (gs : ClosedSymbols) (ts ms : WrittenTrees) → AllSteps M L l gs ts ms →
+        Steps M L l (group gs) (list ts) (list ms)
+    star_kept : (x : ClosedSymbol) (ts ms : WrittenTrees) → EachSteps M L l x ts ms → Steps M L l (star x) (list ts) (list ms)
+    plus_kept : (x : ClosedSymbol) (ts ms : WrittenTrees) → IsNonempty ts → EachSteps M L l x ts ms →
+        Steps M L l (plus x) (list ts) (list ms)
+    question_kept : (x : ClosedSymbol) (ts ms : WrittenTrees) → IsAtMostOne ts → EachSteps M L l x ts ms →
+        Steps M L l (question x) (list ts) (list ms)
+    call_kept : (n : Name) (k j p : ℕ) (args parts : ClosedSymbols) (ts ms : WrittenTrees) →
         M.call_parts n args k ≡ Some parts →
-        AllSteps M l parts ts ms → Steps M l (call n args) (node n k ts) (node n k ms)
+        slice_get (clauses M (call n args)) p ≡ Some (clause (written n k) parts) →
+        slice_get (clauses L (call n (leveled_symbols l args))) p ≡ Some (clause (written n j) (leveled_symbols l parts)) →
+        AllSteps M L l parts ts ms → Steps M L l (call n args) (node n k ts) (node n j ms)
     at_level : (n : Name) (k p : ℕ) (b : Option ℕ) (parts : ClosedSymbols) (ts ms : WrittenTrees) →
         M.own_parts n b k ≡ Some parts →
         slice_get (clauses M (reference n b)) p ≡ Some (clause (written n k) parts) →
-        AllSteps M l parts ts ms → Steps M l (reference n b) (node n k ts) (node (level_reference l n b) p ms)
+        AllSteps M L l parts ts ms → Steps M L l (reference n b) (node n k ts) (node (level_reference l n b) p ms)
     below_level : (n : Name) (p : ℕ) (b c : Option ℕ) (t m : WrittenTree) → M.previous n b ≡ Some c →
         slice_get (clauses M (reference n b)) p ≡ Some (clause level_step (only (reference n c))) →
-        Steps M l (reference n c) t m → Steps M l (reference n b) t (node (level_reference l n b) p (tree_and m no_trees))
+        Steps M L l (reference n c) t m → Steps M L l (reference n b) t (node (level_reference l n b) p (tree_and m no_trees))
 
   -- one by one, symbol by symbol
-  pub data AllSteps (M : Meaning) (l : Name → ℕ → Name) : ClosedSymbols → WrittenTrees → WrittenTrees → Type 0 where
-    all_done : AllSteps M l no_symbols no_trees no_trees
+  pub data AllSteps (M L : Meaning) (l : Name → ℕ → Name) : ClosedSymbols → WrittenTrees → WrittenTrees → Type 0 where
+    all_done : AllSteps M L l no_symbols no_trees no_trees
     all_and : (g : ClosedSymbol) (gs : ClosedSymbols) (t : WrittenTree) (ts : WrittenTrees)
         (m : WrittenTree) (ms : WrittenTrees) →
-        Steps M l g t m → AllSteps M l gs ts ms → AllSteps M l (symbol_and g gs) (tree_and t ts) (tree_and m ms)
+        Steps M L l g t m → AllSteps M L l gs ts ms → AllSteps M L l (symbol_and g gs) (tree_and t ts) (tree_and m ms)
 
   -- one by one, all of one symbol
-  pub data EachSteps (M : Meaning) (l : Name → ℕ → Name) : ClosedSymbol → WrittenTrees → WrittenTrees → Type 0 where
-    each_done : (x : ClosedSymbol) → EachSteps M l x no_trees no_trees
+  pub data EachSteps (M L : Meaning) (l : Name → ℕ → Name) : ClosedSymbol → WrittenTrees → WrittenTrees → Type 0 where
+    each_done : (x : ClosedSymbol) → EachSteps M L l x no_trees no_trees
     each_and : (x : ClosedSymbol) (t : WrittenTree) (ts : WrittenTrees) (m : WrittenTree) (ms : WrittenTrees) →
-        Steps M l x t m → EachSteps M l x ts ms → EachSteps M l x (tree_and t ts) (tree_and m ms)
+        Steps M L l x t m → EachSteps M L l x ts ms → EachSteps M L l x (tree_and t ts) (tree_and m ms)
 
 -- back, by the origins: the written tree of a tree of the grammar with levels
 abbrev mutual
@@ -96,22 +99,33 @@ tree_through_levels M l n k children (suc depth) b =
     own_level M l n k children b (M.own_parts n b k)
     (step_level M l n b (M.previous n b) (λ c. tree_through_levels M l n k children depth c))
 
+-- the number of the written alternative of an origin, and of a clause
+abbrev pub origin_number : Origin → ℕ
+origin_number (written n k) = k
+origin_number _ = 0
+
+abbrev pub clause_number : Option Clause → ℕ
+clause_number None = 0
+clause_number (Some c) = origin_number c.origin
+
 -- the tree in the grammar with levels of a written tree of a closed symbol
 abbrev mutual
-  pub leveled_tree : Meaning → (Name → ℕ → Name) → WrittenTree → ClosedSymbol → WrittenTree
-  leveled_tree M l t (wrapped w g) = leveled_tree M l t g
-  leveled_tree M l (list ts) (group gs) = list (leveled_all M l ts gs)
-  leveled_tree M l (list ts) (star x) = list (leveled_each M l ts x)
-  leveled_tree M l (list ts) (plus x) = list (leveled_each M l ts x)
-  leveled_tree M l (list ts) (question x) = list (leveled_each M l ts x)
-  leveled_tree M l (node n k ts) (reference m b) = tree_through_levels M l m k (λ gs. leveled_all M l ts gs) (M.depth m b) b
-  leveled_tree M l (node n k ts) (call m args) = node m k (leveled_all M l ts (unwrap_or (M.call_parts m args k) no_symbols))
-  leveled_tree M l t _ = t
+  pub leveled_tree : Meaning → Meaning → (Name → ℕ → Name) → WrittenTree → ClosedSymbol → WrittenTree
+  leveled_tree M L l t (wrapped w g) = leveled_tree M L l t g
+  leveled_tree M L l (list ts) (group gs) = list (leveled_all M L l ts gs)
+  leveled_tree M L l (list ts) (star x) = list (leveled_each M L l ts x)
+  leveled_tree M L l (list ts) (plus x) = list (leveled_each M L l ts x)
+  leveled_tree M L l (list ts) (question x) = list (leveled_each M L l ts x)
+  leveled_tree M L l (node n k ts) (reference m b) = tree_through_levels M l m k (λ gs. leveled_all M L l ts gs) (M.depth m b) b
+  leveled_tree M L l (node n k ts) (call m args) =
+      node m (clause_number (slice_get (clauses L (call m (leveled_symbols l args))) (lowered_place (M.call_parts m args) 0 k)))
+      (leveled_all M L l ts (unwrap_or (M.call_parts m args k) no_symbols))
+  leveled_tree M L l t _ = t
 
-  pub leveled_all : Meaning → (Name → ℕ → Name) → WrittenTrees → ClosedSymbols → WrittenTrees
-  leveled_all M l (tree_and t ts) (symbol_and g gs) = tree_and (leveled_tree M l t g) (leveled_all M l ts gs)
-  leveled_all M l _ _ = no_trees
+  pub leveled_all : Meaning → Meaning → (Name → ℕ → Name) → WrittenTrees → ClosedSymbols → WrittenTrees
+  leveled_all M L l (tree_and t ts) (symbol_and g gs) = tree_and (leveled_tree M L l t g) (leveled_all M L l ts gs)
+  leveled_all M L l _ _ = no_trees
 
-  pub leveled_each : Meaning → (Name → ℕ → Name) → WrittenTrees → ClosedSymbol → WrittenTrees
-  leveled_each M l no_trees x = no_trees
-  leveled_each M l (tree_and t ts) x = tree_and (leveled_tree M l t x) (leveled_each M l ts x)
+  pub leveled_each : Meaning → Meaning → (Name → ℕ → Name) → WrittenTrees → ClosedSymbol → WrittenTrees
+  leveled_each M L l no_trees x = no_trees
+  leveled_each M L l (tree_and t ts) x = tree_and (leveled_tree M L l t x) (leveled_each M L l ts x)

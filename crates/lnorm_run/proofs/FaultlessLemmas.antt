@@ -9,8 +9,8 @@ use Rattle.lalrpop_norm_model.specs.TerminalTypes.{extern_enum}
 use Rattle.lalrpop_norm_lexer.specs.CheckOnly.{of_regex}
 use Rattle.lalrpop_norm_lexer.proofs.CheckedLemmas.{none_refused_of_checked}
 use Rattle.lalrpop_norm_repr.specs.Lowered.{LoweredGrammar}
-use Rattle.lalrpop_norm.specs.Faithful.{grammar_of_plain_rules}
-use Rattle.lalrpop_norm.specs.Normalize.{early_faults, late_faults, plain_findings, IsNormalized}
+use Rattle.lalrpop_norm.specs.Faithful.{grammar_of_plain_rules, IsFaithful}
+use Rattle.lalrpop_norm.specs.Normalize.{early_faults, late_faults, plain_findings}
 use Rattle.lalrpop_norm_model.specs.EnteredGrammars.{entered_grammar}
 use Rattle.lalrpop_norm_faults.proofs.FaultLemmas.{left_none, right_none}
 use Rattle.lnorm_run.specs.Settings.{Settings}
@@ -50,12 +50,12 @@ tokens_with None g nowhere h =
     (none_sure (StandsAtLexer of_regex g) (entry_faults g)) (none_at (StandsAtLexer of_regex g) (input_faults g) (nowhere refl)) h
 
 pub no_fault_stands : (s : Settings) (g : GrammarData) (l : LoweredGrammar) → sure_ones (findings_of s g) ≡ [] →
-    IsNormalized of_regex s.features s.limit g l → (f : Fault) → StandsAmong (StandsAtPlace s g) (findings_of s g) f → ⊥
-no_fault_stands s g l h n =
+    IsFaithful of_regex s.features s.limit g l → (f : Fault) → StandsAmong (StandsAtPlace s g) (findings_of s g) f → ⊥
+no_fault_stands s g l h faithful =
     let plain = grammar_of_plain_rules s.features g s.limit in
     let at = StandsAtPlace s g in
     none_of_two at (map sure (early_faults s.features s.limit g)) (plain_findings plain)
     (none_sure at (early_faults s.features s.limit g))
     (none_of_two at (token_findings plain) (map sure (late_faults (entered_grammar plain)))
-    (tokens_with (extern_enum plain) plain (λ none f r. none_refused_of_checked plain n.checked f none n.tokens r))
+    (tokens_with (extern_enum plain) plain (λ none f r. none_refused_of_checked plain faithful.checked f none faithful.tokens r))
     (none_sure at (late_faults (entered_grammar plain)))) h

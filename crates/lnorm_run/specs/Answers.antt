@@ -13,7 +13,7 @@ use Rattle.lalrpop_norm_json_shapes.specs.Shapes as shape
 use Rattle.lalrpop_norm_json_shapes.specs.Shapes.{is}
 use Rattle.lnorm_run.specs.Settings.{Settings}
 use Rattle.lalrpop_norm.specs.Faithful.{IsFaithful}
-use Rattle.lalrpop_norm.specs.Normalize.{normalize_findings, StandsThere, IsNormalized}
+use Rattle.lalrpop_norm.specs.Normalize.{normalize_findings, StandsThere}
 use Rattle.lalrpop_norm_repr.specs.Closed.{IsClosed}
 use Rattle.lalrpop_norm_repr.specs.Lowered.{LoweredGrammar}
 use Rattle.lnorm_run.specs.Lines.{lines}
@@ -41,11 +41,10 @@ abbrev pub StandsAtPlace : Settings → GrammarData → LexerPlace → Fault →
 StandsAtPlace s g = StandsThere of_regex s.features s.limit g
 
 -- The lowered grammar is one that the tree has under the settings: no fault of the tree stands; it is what the tree is lowered to
--- by its definition; it is faithful to the tree; and nothing in it is left open. Its tokens are those of the program's lexer.
+-- by its definition, and faithful to it; and nothing in it is left open. Its tokens are those of the program's lexer.
 pub record IsLowered (s : Settings) (g : GrammarData) (l : LoweredGrammar) : Type 0 where
   pub faultless : (f : Fault) → StandsAmong (StandsAtPlace s g) (findings_of s g) f → ⊥
-  pub normalized : IsNormalized of_regex s.features s.limit g l
-  pub faithful : IsFaithful of_regex s.features g l
+  pub faithful : IsFaithful of_regex s.features s.limit g l
   pub closed : IsClosed l
 
 -- the input is the form of a tree, and the text is the lines of a lowered grammar that this tree has

@@ -4,7 +4,7 @@ use Rattle.lalrpop_norm_tree.specs.Items as written
 use Rattle.lalrpop_norm_session.specs.Sessions.{features_view}
 use Rattle.lalrpop_norm_repr.specs.Lowered as lowered
 use Rattle.lalrpop_norm.specs.Passed.{IsPlain}
-use Rattle.lalrpop_norm.proofs.PassLemmas.{sure_exit, told_behind, plain_is_plain, refused_alike, passed, passed_normalized, passed_faithful}
+use Rattle.lalrpop_norm.proofs.PassLemmas.{sure_exit, told_behind, plain_is_plain, refused_alike, passed, passed_faithful}
 use Rattle.lalrpop_norm.proofs.passes.normalize.Goals as goal
 
 pub returns-in_err-plain-clause-refuses : goal.returns-in_err-plain-clause-refuses
@@ -21,16 +21,6 @@ pub returns-clause-refuses : goal.returns-clause-refuses
 returns-clause-refuses g c =
     told_behind _ c.check_and_lower.result _ _ c.in_ok-plain.ensures.refuses
     (refused_alike _ (written.grammar_view c.in_ok-plain.plain) _ c.in_ok-plain.ensures.plain c.check_and_lower.result c.check_and_lower.ensures.refuses)
-
-pub returns-clause-normalized : goal.returns-clause-normalized
-returns-clause-normalized g c =
-    let fs = features_view c.args.session.now.features in
-    let limit = c.args.session.now.macro_recursion_limit in
-    let tree = written.grammar_view c.args.grammar in
-    IfOk-weaker c.check_and_lower.result _ _
-    (λ l h. passed_normalized _ fs limit tree (lowered.lowered_grammar_view l)
-    (passed _ fs limit tree (written.grammar_view c.in_ok-plain.plain) c.in_ok-plain.ensures.passes c.in_ok-plain.ensures.plain (lowered.lowered_grammar_view l) h))
-    c.check_and_lower.ensures.lowered
 
 pub returns-clause-closed : goal.returns-clause-closed
 returns-clause-closed g c = IfOk-weaker c.check_and_lower.result _ _ (λ l h. h.lowered.closed) c.check_and_lower.ensures.lowered

@@ -22,8 +22,7 @@ returns-in-Ok-clause-ok c = IfOk-weaker c.text_of-text.result _ _
       form = rw c.deref.ensures.value at c.in_ok-tree.ensures.ok;
       lowered = lowered_view c.in-Ok.lowered;
       lowers = record {
-        faultless = no_fault_stands (settings_view c.args.session.now) (grammar_view c.in_ok-tree.tree) (lowered_view c.in-Ok.lowered) c.in-Ok.ensures.refuses c.in-Ok.ensures.normalized;
-        normalized = c.in-Ok.ensures.normalized;
+        faultless = no_fault_stands (settings_view c.args.session.now) (grammar_view c.in_ok-tree.tree) (lowered_view c.in-Ok.lowered) c.in-Ok.ensures.refuses c.in-Ok.ensures.faithful;
         faithful = c.in-Ok.ensures.faithful;
         closed = c.in-Ok.ensures.closed;
       };
