@@ -18,7 +18,7 @@ use Rattle.lalrpop_norm_tree_names.specs.declared.names.TerminalLiteral.TheVaria
 use Rattle.lalrpop_norm_tree_names.specs.declared.names.TerminalString.{TerminalString}
 use Rattle.lalrpop_norm_tree_names.specs.declared.names.TerminalString.TheVariants.{Literal, Bare, Error}
 use Rattle.lalrpop_norm_repr.specs.Tables.{found, found_terminal, same_terminal}
-use Rattle.lalrpop_norm_repr.proofs.TableLemmas.{terminals_same}
+use Rattle.lalrpop_norm_tree.proofs.TerminalLemmas.{terminals_same}
 use Rattle.lalrpop_norm_lower.specs.Conversions.{terminal_cmp, sorted_terminals}
 use Rattle.lalrpop_norm_lower.specs.Lowering.{sorted_onto, with_entry}
 use Rattle.lalrpop_norm_lower.specs.Shape.{name_cmp, IsNameTable, IsTerminalTable}
