@@ -15,7 +15,7 @@ use lalrpop_norm_tree::grammar::parse_tree::{
 };
 use std::alloc::Global;
 
-#[tactic(auto, using(lalrpop_norm_json_shapes::proofs::Refusals::no_pair, lalrpop_norm_json_shapes::proofs::Refusals::and_false))]
+#[tactic(auto, using(lalrpop_norm_json_shapes::proofs::Refusals::no_pair, json_document::proofs::Keyed::and_no))]
 pub(super) fn span(value: Value<'_, '_>) -> Result<Span, TreeError>
     ensures ok { IfOk result (λ s. view value.entry ≡ span_form s) }
     ensures err { IsErrOf result TreeError.NotATree → is shape.span (view value.entry) ≡ false }
