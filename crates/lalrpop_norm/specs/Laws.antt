@@ -9,6 +9,8 @@ use Rattle.lalrpop_norm_tree.specs.SymbolTexts.{part_text}
 use Rattle.lalrpop_norm_tree.specs.Items.{RuleData, GrammarData}
 use Rattle.lalrpop_norm_tree_parts.specs.Reprs.{ReprData}
 use Rattle.lalrpop_norm_theory.specs.Symbols.{ClosedSymbol, Name, Terminal}
+use Rattle.lalrpop_norm_theory.specs.Laws.{OneToOne}
+use Rattle.lalrpop_norm_theory.specs.LoweredTrees.{Origin}
 use Rattle.lalrpop_norm_theory.specs.Met.{rule_meets}
 use Rattle.lalrpop_norm_theory.specs.Rounds.{In, IsDistinct, Chain, NewIn}
 use Rattle.lalrpop_norm_tree.specs.declared.items.Condition.{Condition}
@@ -37,9 +39,8 @@ use Rattle.lalrpop_norm_repr.specs.Lowered.{LoweredGrammar}
 use Rattle.lalrpop_norm_repr.specs.Tables.{TypeTable}
 use Rattle.lalrpop_norm_lower.specs.Lowering.{public_rules_in, start_name}
 use Rattle.lalrpop_norm_lower.specs.Shape.{IsLoweringOf}
-use Rattle.lalrpop_norm.specs.Derivations.{IsWrittenWord, IsWordOf}
-use Rattle.lalrpop_norm.specs.Faithful.{HasFaithfulTrees, IsSymbolOf, lowered_name, written_meaning, written_symbols}
-use Rattle.lalrpop_norm.specs.Faithful.{traced_derivations}
+use Rattle.lalrpop_norm.specs.Derivations.{IsWrittenWord, IsWordOf, derivations}
+use Rattle.lalrpop_norm.specs.Faithful.{HasFaithfulTrees, IsSymbolOf, written_meaning, written_name}
 use Rattle.lalrpop_norm.specs.Faithful.{grammar_with_levels, grammar_of_plain_rules}
 
 -- no macro has two levels
@@ -183,14 +184,14 @@ FaultsAreByRound = (value : ConditionValue) (g : GrammarData) (limit : ℕ) →
     ≡ flat_map (λ (k : ℕ). shared_in value g k ++ unmade_in value g k) (range_with_len 0 limit)
     ++ (shared_in value g limit ++ past_cap (expansion_round value g limit).fresh)
 
--- Where trees are faithful, each enabled written rule that is no macro has in both languages the same words, by itself and within
--- each of its levels: the leaves of its written trees are the leaves of the derivation trees of its nonterminal.
+-- Where the trees of a written rule, by itself or within a level, stand one to one with derivation trees, whatever the origins of
+-- their alternatives, it has in both languages the same words: the leaves of its written trees are the leaves of the derivation
+-- trees of its nonterminal.
 abbrev pub WordsAreEqual : Type 0
 WordsAreEqual =
-    (fs : Features) (g : GrammarData) (rounds : ℕ) (l : LoweredGrammar) → HasFaithfulTrees fs g rounds l →
-    (r : RuleData) (s : ClosedSymbol) → IsSymbolOf r s → In s (written_symbols fs g) →
-    (w : List Terminal) → IsWrittenWord (written_meaning fs g) s w
-    ↔ IsWordOf (traced_derivations fs g rounds l) (lowered_name fs g s).0 w
+    (fs : Features) (g : GrammarData) (l : LoweredGrammar) (origins : List Origin) (r : RuleData) (s : ClosedSymbol) → IsSymbolOf r s →
+    OneToOne (written_meaning fs g) (written_name fs g) (derivations origins l) s →
+    (w : List Terminal) → IsWrittenWord (written_meaning fs g) s w ↔ IsWordOf (derivations origins l) (written_name fs g s) w
 
 -- Where a condition has a value by what its left side is bound to, that is its value in the meaning of a grammar.
 abbrev pub ConditionsHaveOneValue : Type 0

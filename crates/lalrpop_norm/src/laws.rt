@@ -67,8 +67,8 @@ pub fn shared_names_stand_exactly()
     ensures { SharedNamesStandExactly }
 {}
 
-/// Where the trees of a lowered grammar are faithful, each enabled written rule that is no macro has there the words that it has as
-/// written, by itself and within each of its levels.
+/// Where the trees of a written rule, by itself or within a level, stand one to one with derivation trees of a lowered grammar, as
+/// faithful trees do, it has there the words that it has as written, whatever the origins of alternatives.
 pub fn words_are_equal()
     ensures { WordsAreEqual }
 {}

@@ -237,7 +237,8 @@ pub fn type_rounds_end()
 {}
 
 /// F49 stands at the rules for which no type follows, and at no others; it stands nowhere exactly where each rule has a type.
-/// Where no two rules share a name, F47 and F48 stand only at rules for which no type follows, too.
+/// Where no two rules share a name, F47 and F48 are only of rules for which no type follows, too: F48 stands at the first alternative
+/// of one.
 pub fn untyped_rules_have_no_type()
     ensures { UntypedRulesHaveNoType }
 {}

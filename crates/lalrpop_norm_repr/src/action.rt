@@ -85,7 +85,7 @@ pub struct InlineActionFnDefn {
 }
 
 /// An action that answers the location of the next token, or of the end of the last one.
-#[derive(Clone, Debug, PartialEq, Eq, Drop)]
+#[derive(Clone, PartialEq, Eq, Drop)]
 pub enum LookaroundActionFnDefn {
     /// Of `@L`: where the next token begins.
     Lookahead,

@@ -15,10 +15,10 @@ use Rattle.lalrpop_norm_tree_parts.specs.BoundTexts.{bound_parameter_text, bound
 use Rattle.std.proofs.Output.{has_written_append}
 use Rattle.lalrpop_norm_tree_names.specs.declared.names.TypeParameter.{TypeParameter}
 use Rattle.lalrpop_norm_tree_parts.specs.declared.path.Path.{Path}
-use Rattle.lalrpop_norm_tree_parts.specs.Paths.{path_view}
-use Rattle.lalrpop_norm_tree_parts.specs.TypeTexts.{angled, forall_text, path_text}
+use Rattle.lalrpop_norm_tree_parts.specs.Paths.{PathData, path_view}
+use Rattle.lalrpop_norm_tree_parts.specs.TypeTexts.{angled, forall_text, path_text, signature_text}
 use Rattle.lalrpop_norm_tree_names.specs.Texts.{joined}
-use Rattle.lalrpop_norm_tree_parts.specs.KnownTexts.{texts_after, joined_known, angled_known, bounds_known}
+use Rattle.lalrpop_norm_tree_parts.specs.KnownTexts.{texts_after, joined_known, angled_known, bounds_known, signature_known}
 
 -- ---- texts that may be open
 
@@ -121,3 +121,8 @@ module _ {X : Type 0} (text : X → List ℕ) (separator : List ℕ) where
 pub angled_known-all : {X : Type 0} (text : X → List ℕ) (xs : List X) → angled_known (map (λ x. Some (text x)) xs) ≡ Some (angled (map text xs))
 angled_known-all text [] = refl
 angled_known-all text (x ∷ xs) = rw (joined_known-all text (codes ", ") (x ∷ xs))
+
+-- where each parameter has a text, the signature with those texts
+pub signature_known-all : {X : Type 0} (text : X → List ℕ) (fs : List TypeParameter) (p : PathData) (xs : List X)
+    → signature_known fs p (map (λ x. Some (text x)) xs) ≡ Some (signature_text fs p (map text xs))
+signature_known-all text fs p xs = rw (joined_known-all text (codes ", ") xs)

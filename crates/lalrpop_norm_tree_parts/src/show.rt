@@ -1,4 +1,5 @@
-//! The texts of lists. They are taken as the `Vec` that a type holds: a text of a recursive type may then be made of them.
+//! The texts of lists, and of a result. They are taken as the `Vec` and the `Option` that a type holds: a text of a recursive type may then be
+//! made of them.
 ghost use Rattle.std.specs.Prelude.{Some, map, option_map, codes};
 ghost use Rattle.std.specs.Fmt.{DisplaysOnOk, ◌++?◌};
 ghost use Rattle.lalrpop_norm_tree_parts.specs.KnownTexts.{joined_known, angled_known, bounds_known, returned_known};
@@ -66,8 +67,8 @@ pub(crate) fn show_bounds<T: fmt::Display, W: fmt::Write>(
     show_joined(items, " + ", f)
 }
 
-/// ` -> R`, where there is a result.
-pub(crate) fn show_return<T: fmt::Display, W: fmt::Write>(
+/// Writes ` -> R`, where there is a result. The only error is the formatter's.
+pub fn show_return<T: fmt::Display, W: fmt::Write>(
     ret: &Option<T>,
     f: &mut fmt::Formatter<W>,
 ) -> fmt::Result

@@ -25,7 +25,7 @@ impl fmt::Debug for ActionFnDefn {
         match &self.kind {
             ActionFnDefnKind::User(action) => show_user(action, &self.ret_type, f),
             ActionFnDefnKind::Inline(action) => show_inline(action, f),
-            ActionFnDefnKind::Lookaround(action) => show_lookaround(action, f),
+            ActionFnDefnKind::Lookaround(action) => fmt::Debug::fmt(action, f),
         }
     }
 }
@@ -72,15 +72,14 @@ fn show_inline<W: fmt::Write>(action: &InlineActionFnDefn, f: &mut fmt::Formatte
     f.write_str(") }")
 }
 
-fn show_lookaround<W: fmt::Write>(
-    action: &LookaroundActionFnDefn,
-    f: &mut fmt::Formatter<W>,
-) -> fmt::Result
-    ensures { WritesOnOk W.write_str_gives f.old result (lookaround_text action.now) f.new }
-{
-    match action {
-        LookaroundActionFnDefn::Lookahead => f.write_str("Lookahead"),
-        LookaroundActionFnDefn::Lookbehind => f.write_str("Lookbehind"),
+impl fmt::Debug for LookaroundActionFnDefn {
+    ghost debug_output = { λ l. Some (lookaround_text l) };
+
+    fn fmt<W: fmt::Write>(&self, f: &mut fmt::Formatter<W>) -> fmt::Result {
+        match self {
+            LookaroundActionFnDefn::Lookahead => f.write_str("Lookahead"),
+            LookaroundActionFnDefn::Lookbehind => f.write_str("Lookbehind"),
+        }
     }
 }
 

@@ -22,49 +22,41 @@ use lalrpop_norm_tree_parts::names::copy::{copy_texts, copy_type_parameters};
 use std::alloc::{AllocError, Global};
 use std::collections::BTreeMap;
 
-impl Clone for Grammar {
-    ghost is_clone = { λ g h. lowered_grammar_view h ≡ lowered_grammar_view g };
-
-    fn clone(&self) -> Result<Grammar, AllocError> {
-        match copy(self) {
-            Ok(copy) => Ok(copy),
-            Err(_) => Err(AllocError),
-        }
+impl Grammar {
+    /// A copy. The only error is want of memory.
+    pub fn clone(&self) -> Result<Grammar, NoMemory>
+        ensures { IfOk result (λ g. lowered_grammar_view g ≡ lowered_grammar_view self.now) }
+    {
+        let alloc = *self.uses.allocator();
+        let head = copy_head(self)?;
+        let texts = copy_both_texts(self)?;
+        let signature = copy_signature(alloc, self)?;
+        let tokens = copy_tokens(alloc, self)?;
+        let rules = copy_rules(self)?;
+        let types = self.types.clone()?;
+        let (prefix, algorithm) = head;
+        let (uses, module_attributes) = texts;
+        let (type_parameters, parameters, where_clauses) = signature;
+        let (intern_token, terminals, conversions) = tokens;
+        let (start_nonterminals, action_fn_defns, nonterminals) = rules;
+        Ok(Grammar {
+            prefix,
+            algorithm,
+            uses_error_recovery: self.uses_error_recovery,
+            start_nonterminals,
+            uses,
+            type_parameters,
+            parameters,
+            where_clauses,
+            intern_token,
+            action_fn_defns,
+            terminals,
+            nonterminals,
+            conversions,
+            types,
+            module_attributes,
+        })
     }
-}
-
-fn copy(grammar: &Grammar) -> Result<Grammar, NoMemory>
-    ensures { IfOk result (λ g. lowered_grammar_view g ≡ lowered_grammar_view grammar.now) }
-{
-    let alloc = *grammar.uses.allocator();
-    let head = copy_head(grammar)?;
-    let texts = copy_both_texts(grammar)?;
-    let signature = copy_signature(alloc, grammar)?;
-    let tokens = copy_tokens(alloc, grammar)?;
-    let rules = copy_rules(grammar)?;
-    let types = grammar.types.clone()?;
-    let (prefix, algorithm) = head;
-    let (uses, module_attributes) = texts;
-    let (type_parameters, parameters, where_clauses) = signature;
-    let (intern_token, terminals, conversions) = tokens;
-    let (start_nonterminals, action_fn_defns, nonterminals) = rules;
-    Ok(Grammar {
-        prefix,
-        algorithm,
-        uses_error_recovery: grammar.uses_error_recovery,
-        start_nonterminals,
-        uses,
-        type_parameters,
-        parameters,
-        where_clauses,
-        intern_token,
-        action_fn_defns,
-        terminals,
-        nonterminals,
-        conversions,
-        types,
-        module_attributes,
-    })
 }
 
 fn copy_head(grammar: &Grammar) -> Result<(String, Algorithm), NoMemory>

@@ -1,21 +1,19 @@
 //! The texts of written types.
-ghost use Rattle.std.specs.Prelude.{Some, codes, option_map, ◌++◌};
+ghost use Rattle.std.specs.Prelude.{Some, codes, ◌++◌};
 ghost use Rattle.std.specs.Fmt.{WritesOnOk};
 ghost use Rattle.lalrpop_norm_tree_parts.specs.Paths.{path_view};
-ghost use Rattle.lalrpop_norm_tree.specs.Types.{type_view, types_view, maybe_of};
+ghost use Rattle.lalrpop_norm_tree.specs.Types.{type_view, types_view};
 ghost use Rattle.lalrpop_norm_tree.specs.Symbols.{kind_view};
-ghost use Rattle.lalrpop_norm_tree_names.specs.Texts.{joined};
 ghost use Rattle.lalrpop_norm_tree.specs.SymbolTexts.{kind_text};
-ghost use Rattle.lalrpop_norm_tree_parts.specs.TypeTexts.{angled, path_text, signature_text};
-ghost use Rattle.lalrpop_norm_tree.specs.WrittenTypeTexts.{type_text, type_texts, returned_text};
+ghost use Rattle.lalrpop_norm_tree_parts.specs.TypeTexts.{angled, path_text};
+ghost use Rattle.lalrpop_norm_tree.specs.WrittenTypeTexts.{type_text, type_texts};
 
 use super::TypeRef;
 use crate::symbol::SymbolKind;
-use lalrpop_norm_tree_parts::names::TypeParameter;
 use lalrpop_norm_tree_parts::names::show::show_reference;
 use lalrpop_norm_tree_parts::path::Path;
-use lalrpop_norm_tree_parts::path::show::show_forall_path;
-use lalrpop_norm_tree_parts::show::{show_angled, show_between};
+use lalrpop_norm_tree_parts::path::show::show_signature;
+use lalrpop_norm_tree_parts::show::{show_angled, show_between, show_return};
 use std::fmt;
 
 impl fmt::Display for TypeRef {
@@ -24,7 +22,7 @@ impl fmt::Display for TypeRef {
     #[cycle(show)]
     fn fmt<W: fmt::Write>(&self, f: &mut fmt::Formatter<W>) -> fmt::Result {
         match self {
-            TypeRef::Tuple(types) => show_types(types, f),
+            TypeRef::Tuple(types) => show_between(types, f),
             TypeRef::Slice(inner) => {
                 f.write_str("[")?;
                 fmt::Display::fmt(&**inner, f)?;
@@ -59,15 +57,6 @@ impl fmt::Display for TypeRef {
     }
 }
 
-/// `(A, B)`.
-#[cycle(show)]
-fn show_types<W: fmt::Write>(types: &Vec<TypeRef>, f: &mut fmt::Formatter<W>) -> fmt::Result
-    ensures { WritesOnOk W.write_str_gives f.old result
-        (codes "(" ++ joined (codes ", ") (type_texts (types_view types.now.items)) ++ codes ")") f.new }
-{
-    show_between(types, f)
-}
-
 /// The path, and the types between angle brackets, where there are any.
 #[cycle(show)]
 fn show_applied<W: fmt::Write>(
@@ -79,31 +68,7 @@ fn show_applied<W: fmt::Write>(
         (path_text (path_view path.now) ++ angled (type_texts (types_view types.now.items))) f.new }
 {
     fmt::Display::fmt(path, f)?;
-    show_arguments(types, f)
-}
-
-/// `<A, B>`, where there is a type.
-#[cycle(show)]
-fn show_arguments<W: fmt::Write>(types: &Vec<TypeRef>, f: &mut fmt::Formatter<W>) -> fmt::Result
-    ensures { WritesOnOk W.write_str_gives f.old result (angled (type_texts (types_view types.now.items))) f.new }
-{
     show_angled(types, f)
-}
-
-/// A function type up to its result.
-#[cycle(show)]
-fn show_signature<W: fmt::Write>(
-    forall: &Vec<TypeParameter>,
-    path: &Path,
-    parameters: &Vec<TypeRef>,
-    f: &mut fmt::Formatter<W>,
-) -> fmt::Result
-    ensures { WritesOnOk W.write_str_gives f.old result
-        (signature_text forall.now.items (path_view path.now) (type_texts (types_view parameters.now.items))) f.new }
-{
-    f.write_str("dyn ")?;
-    show_forall_path(forall, path, f)?;
-    show_types(parameters, f)
 }
 
 /// The symbol between backquotes.
@@ -114,19 +79,4 @@ fn show_quoted<W: fmt::Write>(symbol: &SymbolKind, f: &mut fmt::Formatter<W>) ->
     f.write_str("`")?;
     fmt::Display::fmt(symbol, f)?;
     f.write_str("`")
-}
-
-/// ` -> R`, where there is a result.
-#[cycle(show)]
-fn show_return<W: fmt::Write>(ret: &Option<Box<TypeRef>>, f: &mut fmt::Formatter<W>) -> fmt::Result
-    ensures { WritesOnOk W.write_str_gives f.old result
-        (returned_text (maybe_of (option_map (λ b. type_view b.value) ret.now))) f.new }
-{
-    match ret {
-        None => Ok(()),
-        Some(inner) => {
-            f.write_str(" -> ")?;
-            fmt::Display::fmt(&**inner, f)
-        }
-    }
 }

@@ -1,20 +1,17 @@
 //! The texts of lowered types and where clauses.
-ghost use Rattle.std.specs.Prelude.{Some, codes, ◌++◌, option_map};
+ghost use Rattle.std.specs.Prelude.{Some, codes, ◌++◌};
 ghost use Rattle.std.specs.Fmt.{WritesOnOk};
 ghost use Rattle.lalrpop_norm_tree_parts.specs.Bounds.{bound_view};
 ghost use Rattle.lalrpop_norm_tree_parts.specs.LoweredTexts.{binder_text, lowered_bound_text, lowered_clause_text};
-ghost use Rattle.lalrpop_norm_tree_parts.specs.Reprs.{repr_view, applied_view, reprs_view, maybe_repr_of, lowered_where_clause_view};
-ghost use Rattle.lalrpop_norm_tree_names.specs.Texts.{joined};
-ghost use Rattle.lalrpop_norm_tree_parts.specs.TypeTexts.{repr_text, repr_texts, applied_text, angled, reference_text, return_text, signature_text};
-ghost use Rattle.lalrpop_norm_tree_parts.specs.Paths.{path_view};
+ghost use Rattle.lalrpop_norm_tree_parts.specs.Reprs.{repr_view, applied_view, lowered_where_clause_view};
+ghost use Rattle.lalrpop_norm_tree_parts.specs.TypeTexts.{repr_text, applied_text, reference_text};
 
 use super::{NominalTypeRepr, TypeRepr, WhereClause};
 use crate::bound::TypeBound;
 use crate::names::show::{show_binder, show_reference};
 use crate::names::{Lifetime, TypeParameter};
-use crate::path::Path;
-use crate::path::show::show_forall_path;
-use crate::show::{show_angled, show_between};
+use crate::path::show::show_signature;
+use crate::show::{show_angled, show_between, show_return};
 use shared_text::Atom;
 use std::fmt;
 
@@ -24,7 +21,7 @@ impl fmt::Display for TypeRepr {
     #[cycle(show)]
     fn fmt<W: fmt::Write>(&self, f: &mut fmt::Formatter<W>) -> fmt::Result {
         match self {
-            TypeRepr::Tuple(types) => show_types(types, f),
+            TypeRepr::Tuple(types) => show_between(types, f),
             TypeRepr::Slice(inner) => show_slice(&**inner, f),
             TypeRepr::Nominal(nominal) => fmt::Display::fmt(nominal, f),
             TypeRepr::Associated { type_parameter, id } => {
@@ -56,17 +53,8 @@ impl fmt::Display for NominalTypeRepr {
     #[cycle(show)]
     fn fmt<W: fmt::Write>(&self, f: &mut fmt::Formatter<W>) -> fmt::Result {
         fmt::Display::fmt(&self.path, f)?;
-        show_arguments(&self.types, f)
+        show_angled(&self.types, f)
     }
-}
-
-/// `(A, B)`.
-#[cycle(show)]
-fn show_types<W: fmt::Write>(types: &Vec<TypeRepr>, f: &mut fmt::Formatter<W>) -> fmt::Result
-    ensures { WritesOnOk W.write_str_gives f.old result
-        (codes "(" ++ joined (codes ", ") (repr_texts (reprs_view types.now.items)) ++ codes ")") f.new }
-{
-    show_between(types, f)
 }
 
 /// `[T]`.
@@ -108,22 +96,6 @@ fn show_trait_object<W: fmt::Write>(
     fmt::Display::fmt(nominal, f)
 }
 
-/// A function type up to its return type.
-#[cycle(show)]
-fn show_signature<W: fmt::Write>(
-    forall: &Vec<TypeParameter>,
-    path: &Path,
-    parameters: &Vec<TypeRepr>,
-    f: &mut fmt::Formatter<W>,
-) -> fmt::Result
-    ensures { WritesOnOk W.write_str_gives f.old result
-        (signature_text forall.now.items (path_view path.now) (repr_texts (reprs_view parameters.now.items))) f.new }
-{
-    f.write_str("dyn ")?;
-    show_forall_path(forall, path, f)?;
-    show_types(parameters, f)
-}
-
 /// `T::Id`.
 fn show_associated<W: fmt::Write>(
     type_parameter: &Atom,
@@ -136,28 +108,6 @@ fn show_associated<W: fmt::Write>(
     fmt::Display::fmt(type_parameter, f)?;
     f.write_str("::")?;
     fmt::Display::fmt(id, f)
-}
-
-/// `<A, B>`, where there is a type.
-#[cycle(show)]
-fn show_arguments<W: fmt::Write>(types: &Vec<TypeRepr>, f: &mut fmt::Formatter<W>) -> fmt::Result
-    ensures { WritesOnOk W.write_str_gives f.old result (angled (repr_texts (reprs_view types.now.items))) f.new }
-{
-    show_angled(types, f)
-}
-
-#[cycle(show)]
-fn show_return<W: fmt::Write>(ret: &Option<Box<TypeRepr>>, f: &mut fmt::Formatter<W>) -> fmt::Result
-    ensures { WritesOnOk W.write_str_gives f.old result
-        (return_text (maybe_repr_of (option_map (λ b. repr_view b.value) ret.now))) f.new }
-{
-    match ret {
-        None => Ok(()),
-        Some(inner) => {
-            f.write_str(" -> ")?;
-            fmt::Display::fmt(&**inner, f)
-        }
-    }
 }
 
 impl fmt::Debug for TypeRepr {

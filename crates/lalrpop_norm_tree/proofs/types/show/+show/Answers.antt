@@ -1,21 +1,13 @@
-use Rattle.std.proofs.Common.{refl, ap, codes}
-use Rattle.std.proofs.Output.{has_written_append, has_written_of_eq}
-use Rattle.lalrpop_norm_tree_parts.proofs.KnownTextLemmas.{joined_known-all, angled_known-all}
-use Rattle.lalrpop_norm_tree_parts.proofs.WrittenLemmas.{then_last}
-use Rattle.lalrpop_norm_tree.specs.Types.{type_view}
-use Rattle.lalrpop_norm_tree.proofs.WrittenTextLemmas.{texts_of_types, view_slice, view_reference, view_object, view_function}
+use Rattle.std.proofs.Common.{refl, ap}
+use Rattle.std.proofs.Output.{has_written_append, has_written_of_eq, displays_on_ok_of_eq}
+use Rattle.lalrpop_norm_tree_parts.proofs.KnownTextLemmas.{written_then}
+use Rattle.lalrpop_norm_tree.proofs.WrittenTextLemmas.{view_slice, view_reference, view_object, tuple_printed, applied_printed, function_written}
 use Rattle.lalrpop_norm_tree.specs.WrittenTypeTexts.{type_text}
 use Rattle.lalrpop_norm_tree.proofs.types.show.+show.Goals as goal
 
-pub show_types-returns : goal.show_types-returns
-show_types-returns g t c =
-    let types = c.args.types.now.items in
-    rw (joined_known-all (λ u. type_text (type_view u)) (codes ", ") types, texts_of_types types) at c.show_between.ensures
-
-pub show_arguments-returns : goal.show_arguments-returns
-show_arguments-returns g t c =
-    let types = c.args.types.now.items in
-    rw (angled_known-all (λ u. type_text (type_view u)) types, texts_of_types types) at c.show_angled.ensures
+pub TypeRefDisplay::fmt-returns-in-Tuple-clause-writes : goal.TypeRefDisplay::fmt-returns-in-Tuple-clause-writes
+TypeRefDisplay::fmt-returns-in-Tuple-clause-writes g t c =
+    displays_on_ok_of_eq g.W.Write.write_str_gives _ _ _ _ _ (tuple_printed c.args.self.now c.in-Tuple.types c.in-Tuple.is) c.show_between.ensures
 
 pub TypeRefDisplay::fmt-returns-in_ok-fmt-in-Slice-clause-writes :
     goal.TypeRefDisplay::fmt-returns-in_ok-fmt-in-Slice-clause-writes
@@ -48,11 +40,12 @@ TypeRefDisplay::fmt-returns-in_ok-write_str-in-TraitObject-clause-writes g t c =
 pub TypeRefDisplay::fmt-returns-in_ok-show_signature-in-Fn-clause-writes :
     goal.TypeRefDisplay::fmt-returns-in_ok-show_signature-in-Fn-clause-writes
 TypeRefDisplay::fmt-returns-in_ok-show_signature-in-Fn-clause-writes g t c =
-    λ plain ok.
-    let first = c.in_ok-show_signature-in-Fn.ensures plain refl in
-    let last = c.show_return.ensures first.plain ok in
-    has_written_of_eq _ _ _ _ _ (ap type_text (view_function c.args.self.now c.in-Fn.forall.items c.in-Fn.forall c.in-Fn.path c.in-Fn.parameters c.in-Fn.ret c.in-Fn.is refl))
-    (has_written_append _ _ _ _ _ _ first last)
+    function_written g.W.Write.write_str_gives _ _ _ _ c.args.self.now c.in-Fn.forall c.in-Fn.path c.in-Fn.parameters c.in-Fn.ret c.in-Fn.is
+    c.in_ok-show_signature-in-Fn.ensures c.show_return.ensures
 
 pub show_applied-returns : goal.show_applied-returns
-show_applied-returns g t c = then_last g.W.Write.write_str_gives _ _ _ _ _ _ c.in_ok-fmt.ensures.writes c.show_arguments.ensures
+show_applied-returns g t c =
+    let took = g.W.Write.write_str_gives in
+    let r = c.show_angled.result in
+    displays_on_ok_of_eq took c.args.f.now c.show_angled.new.f r _ _ (applied_printed c.args.path.now c.args.types.now)
+    (written_then took c.args.f.now _ c.show_angled.new.f r _ _ c.in_ok-fmt.ensures.writes c.show_angled.ensures)

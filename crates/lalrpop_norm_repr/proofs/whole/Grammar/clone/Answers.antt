@@ -1,5 +1,5 @@
 use Rattle.lalrpop_norm_repr.proofs.SameGrammars.{same_grammars}
-use Rattle.lalrpop_norm_repr.proofs.whole.copy.copy.Goals as goal
+use Rattle.lalrpop_norm_repr.proofs.whole.Grammar.clone.Goals as goal
 
 pub returns : goal.returns
 returns c =
