@@ -5,6 +5,7 @@
 pub mod answer;
 mod asks;
 mod call;
+mod cut;
 mod cuts;
 mod library_call;
 mod outcome;
