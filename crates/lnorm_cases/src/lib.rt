@@ -5,6 +5,7 @@
 pub mod answer;
 mod asks;
 mod call;
+mod copies;
 mod cuts;
 mod library_call;
 mod outcome;
@@ -15,3 +16,4 @@ pub mod script;
 mod scripted;
 pub mod scripted_lexer;
 mod shown;
+mod without_memory;
