@@ -19,6 +19,7 @@ import re
 import sys
 
 sys.dont_write_bytecode = True
+from wanted_cuts import cut_faults, cut_reads, cut_writes
 from wanted_forms import (WRAPPERS, Refused, Unknown, argument, attributes, canonical, clause_lines, intern, lowered_clauses,
                           names_text, one, pattern, place, signature, terminal, tree_text, type_text, visibility)
 from wanted_patterns import is_found, is_pattern
@@ -747,8 +748,11 @@ def answer(data, name, call, *words):
     with open(file, "rb") as opened:
         content = opened.read()
     try:
-        if call in ("cut_reads", "cut_writes", "cut_faults", "values", "copies"):
+        if call in ("values", "copies"):
             raise Unknown
+        cuts = {"cut_reads": cut_reads, "cut_writes": cut_writes, "cut_faults": cut_faults}
+        if call in cuts:
+            return cuts[call](lines_of, content, words)
         readers = {"read_twice": readings, "beginnings": beginnings, "cut_trees": cut_trees, "parts": listed_parts, "library": counts_of}
         if call in readers:
             return readers[call](content)

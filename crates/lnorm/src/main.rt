@@ -25,7 +25,7 @@ fn status(rt: &HostRuntime) -> u8
             &mut rt.stdout(),
             &mut rt.stderr(),
         ),
-        Err(error) => report(alloc, halt_of_words(&error), &mut rt.stderr()),
+        Err(error) => report(halt_of_words(&error), &mut rt.stderr()),
     }
 }
 

@@ -8,11 +8,11 @@ pub(crate) enum Call {
     Lnorm,
     /// The library's call, as README.md shows it.
     Library,
-    /// Runs of it whose reads fail in turn.
+    /// Runs of it of which each read fails in turn.
     CutReads,
-    /// Runs of it whose writes fail in turn.
+    /// Runs of it of which each write fails in turn.
     CutWrites,
-    /// A run of it whose line on standard error can't be written.
+    /// Runs of it whose line on standard error ends at each byte in turn.
     CutFaults,
     /// Runs of it on each proper beginning of the text.
     CutTrees,

@@ -6,6 +6,7 @@ pub mod answer;
 mod asks;
 mod call;
 mod copies;
+mod cut;
 mod cuts;
 mod library_call;
 mod outcome;

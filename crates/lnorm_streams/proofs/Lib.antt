@@ -1,1 +1,3 @@
+pub mod FrontLemmas
+pub mod LineLemmas
 pub mod OneWrite

@@ -1,2 +1,3 @@
+pub mod Sources
 pub mod Streams
 pub mod Told

@@ -20,6 +20,10 @@ fault_line fault span message =
     code_of fault ++ (codes " " ++ (decimal span.0
     ++ (codes ".." ++ (decimal span.1 ++ (codes ": " ++ (message ++ codes "\n"))))))
 
+-- a span in it, with what stands before the message
+abbrev pub span_text : Span → List ℕ
+span_text span = (decimal span.0 ++ codes "..") ++ (decimal span.1 ++ codes ": ")
+
 unfoldable pub usage_line : List ℕ
 usage_line = codes "lnorm: usage: lnorm [--limit N] [--feature F]...\n"
 

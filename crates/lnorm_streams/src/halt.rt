@@ -1,12 +1,14 @@
 //! Why a run ends without its text, and what users are told then.
 ghost use Rattle.std.specs.IoError.{error_kind};
-ghost use Rattle.std.specs.Prelude.{◌≡◌, ◌≢◌, string_bytes, IfOk};
-ghost use Rattle.lnorm_streams.specs.Streams.{WritesFront, fault_line, usage_line, no_tree_line, memory_line, stream_line};
+ghost use Rattle.std.specs.Io.KnownBytes.{Appends};
+ghost use Rattle.std.specs.Prelude.{◌≡◌, ◌≢◌, ◌++◌, IsTrue, codes, decimal, string_bytes};
+ghost use Rattle.lnorm_streams.specs.Streams.{WritesFront, fault_line, span_text, usage_line, no_tree_line, memory_line, stream_line};
 ghost use Rattle.lnorm_streams.specs.Told.{status_of, LineOf};
 
-use crate::streams::write_whole;
+use crate::streams::{write_both, write_whole};
+use itoa::Buffer;
 use lalrpop_norm_faults::{NormError, NormFailure};
-use std::alloc::{AllocError, Global};
+use lalrpop_norm_tree_names::names::Span;
 use std::io::{self, ErrorKind, Write};
 
 /// Why a run ends without its text.
@@ -35,16 +37,14 @@ pub fn halt_of_words(error: &io::Error) -> Halt
     }
 }
 
-/// Writes the line of a halt, or a beginning of it, and answers its status.
-pub fn report<E: Write>(alloc: Global, halt: Halt, faults: &mut E) -> u8
+/// Writes the line of a halt, or a beginning of it, and answers its status. It takes no memory.
+pub fn report<E: Write>(halt: Halt, faults: &mut E) -> u8
     ensures status { result ≡ status_of halt }
     ensures line { LineOf halt (E.contents faults.old) (E.contents faults.new) }
 {
     match halt {
         Halt::Failed(NormFailure::Refused(error)) => {
-            if let Ok(line) = line(alloc, &error) {
-                say(faults, line.as_str());
-            }
+            say_fault(faults, &error);
             1
         }
         Halt::NotATree => {
@@ -77,13 +77,38 @@ fn say<E: Write>(faults: &mut E, text: &str)
     let _whole = write_whole(faults, text.as_bytes());
 }
 
-fn line(alloc: Global, error: &NormError) -> Result<String, AllocError>
-    ensures { IfOk result (λ s. string_bytes s
-        ≡ fault_line error.now.fault error.now.span (string_bytes error.now.message)) }
+/// Writes the line of a fault, or a beginning of it, piece by piece.
+fn say_fault<E: Write>(faults: &mut E, error: &NormError)
+    ensures { WritesFront (E.contents faults.old) (E.contents faults.new)
+        (fault_line error.now.fault error.now.span (string_bytes error.now.message)) }
 {
-    let code = error.fault.code();
-    let message = error.message.as_str();
-    format!(in alloc; "{code} {}..{}: {message}\n", error.span.0, error.span.1)
+    let _whole = write_site(faults, error.fault.code(), error.span)
+        && write_both(faults, error.message.as_str(), "\n");
+}
+
+/// Writes what stands before a fault's message: its number and its span. Says whether all was written; else a beginning was.
+fn write_site<E: Write>(faults: &mut E, code: &str, span: Span) -> bool
+    ensures front { WritesFront (E.contents faults.old) (E.contents faults.new) ((code.now ++ codes " ") ++ span_text span) }
+    ensures whole { IsTrue result → Appends (E.contents faults.old) (E.contents faults.new) ((code.now ++ codes " ") ++ span_text span) }
+{
+    write_both(faults, code, " ") && write_span(faults, span)
+}
+
+/// The same of a span.
+fn write_span<E: Write>(faults: &mut E, span: Span) -> bool
+    ensures front { WritesFront (E.contents faults.old) (E.contents faults.new) (span_text span) }
+    ensures whole { IsTrue result → Appends (E.contents faults.old) (E.contents faults.new) (span_text span) }
+{
+    write_number(faults, span.0, "..") && write_number(faults, span.1, ": ")
+}
+
+/// The same of a number and a text behind it.
+fn write_number<E: Write>(faults: &mut E, number: usize, behind: &str) -> bool
+    ensures front { WritesFront (E.contents faults.old) (E.contents faults.new) (decimal number ++ behind.now) }
+    ensures whole { IsTrue result → Appends (E.contents faults.old) (E.contents faults.new) (decimal number ++ behind.now) }
+{
+    let mut digits = Buffer::new();
+    write_both(faults, digits.format(number), behind)
 }
 
 #[tactic(auto, unfolding(crate::specs::Streams::usage_line))]
