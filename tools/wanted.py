@@ -7,6 +7,7 @@
 DATA is the folder of the trees, SCRIPT and OUTPUT are a crate's stdin and stdout. Where this script can't tell the answer it
 prints `?`, and compares nothing. It knows the printed forms, which texts are trees, what the passes make of a grammar that they
 take, and what they refuse one for, but for F56. It counts the lines of which it tells nothing: those are to be written by hand.
+tools/check_tools compares with it what is recorded of the program in tools/runs.
 
 The passes are written here a second time, briefly, after the published source of lalrpop 0.23.1; the order of faults, and what
 differs from that source, after docs/use/FAULTS.md and docs/language/DEFINITIONS.md. Which patterns are told stands in
