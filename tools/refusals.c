@@ -2,14 +2,14 @@
    malloc, or one of realloc for more than the block has; the programs of this repository call no other of the kind.
 
    The variable REFUSALS has four numbers, FIRST LAST LARGE STREAM: the growths from the FIRST to the LAST are refused, counted from 1
-   behind the first one of LARGE bytes, if LARGE is not 0. The bytes that the FIRST and the one behind it ask for go to STREAM. */
+   behind the first one of LARGE bytes, if LARGE is not 0. How many bytes the FIRST one asks for is written to STREAM. */
 #include <errno.h>
 #include <malloc.h>
 #include <stdlib.h>
 #include <unistd.h>
 
 void *__libc_malloc(size_t), *__libc_realloc(void *, size_t);
-static size_t first, last, large, growths, told;
+static size_t first, last, large, growths;
 static int stream = -1;
 
 __attribute__((constructor)) static void begin(void) {
@@ -27,7 +27,7 @@ static int counts(size_t size) {
 
 __attribute__((noinline)) int is_refused(size_t size) { /* a debugger can stop here */
     if (!counts(size) || ++growths < first) return 0;
-    if (told < 2) told += write(stream, &size, sizeof size) > 0;
+    if (growths == first && write(stream, &size, sizeof size) < 0) abort();
     errno = ENOMEM;
     return growths <= last;
 }
