@@ -24,8 +24,8 @@ from wanted_cuts import cut_faults, cut_reads, cut_writes
 from wanted_forms import (WRAPPERS, Refused, Unknown, argument, attributes, canonical, clause_lines, intern, lowered_clauses,
                           names_text, one, pattern, place, signature, terminal, tree_text, type_text, visibility)
 from wanted_patterns import is_found, is_pattern
-from wanted_shapes import beginnings, debug_tree, listed_parts, readings, tree_of
-from wanted_tokens import (KNOWN_ATTRIBUTES, CheckOnly, Scripted, blocks_of, check_tokens, extern_enum, is_expanded, item_parts,
+from wanted_shapes import beginnings, cut_trees, debug_tree, listed_parts, readings, tree_of
+from wanted_tokens import (KNOWN_ATTRIBUTES, CheckOnly, NoMemory, Scripted, blocks_of, check_tokens, extern_enum, is_expanded, item_parts,
                            named_terminals, terminals_used)
 from wanted_types import LOOKAROUNDS, Types, sources, text_of
 from wanted_written import braces, check_levels, check_written, first_of, first_pair
@@ -655,14 +655,14 @@ def every_kind(tree):
     return [one(s["kind"]) for r in rules_of(tree) for a in r["alternatives"] for s in symbols_under(a["expr"]["symbols"])]
 
 
-def normalized(tree, features, limit):
+def normalized(tree, features, limit, lexer=None):
     check_written(tree)
     remove_disabled(tree, features)
     resolve(tree)
     expand_levels(tree)
     resolve(tree)
     expand_macros(tree, limit)
-    check_tokens(tree, CheckOnly())
+    check_tokens(tree, lexer or CheckOnly())
     return Lowered(tree)
 
 
@@ -704,15 +704,18 @@ def counts_of(data):
 
 PASSES = ("read", "validate", "check_globals", "remove_disabled_decls", "resolve", "expand_levels", "expand_precedence",
           "expand_macros", "token_check")
-LAST = ("token_check_scripted", "infer_types", "normalize", "lowered_copy", "copy", "lower", "is_typed", "ask", "texts")
+LAST = ("token_check_scripted", "infer_types", "normalize", "lowered_copy", "copy", "lower", "is_typed", "ask", "texts",
+        "normalize_scripted", "without_memory")
 
 
 def passes_answer(data, call, words):
-    whole, words = words[:1] == ("whole",), words[1:] if words[:1] == ("whole",) else words
+    whole, words = words[:1] == ("whole",), words[1:] if words[:1] in (("whole",), ("twice",)) else words
     *first, last = call.split(",")
     if not set(first) <= set(PASSES) or last not in PASSES + LAST:
         return "no such call\n"
-    lexer = Scripted(words) if last == "token_check_scripted" else CheckOnly()
+    if last == "without_memory":
+        raise Unknown
+    lexer = Scripted(words) if last in ("token_check_scripted", "normalize_scripted") else CheckOnly()
     features, limit = settings(() if isinstance(lexer, Scripted) else words)
     tree = tree_of(data)
     if tree is None:
@@ -721,9 +724,9 @@ def passes_answer(data, call, words):
         run_pass(one_pass, tree, features, limit)
     if whole and last in LAST[1:4] + ("lower",):
         raise Unknown
-    if last in ("normalize", "lowered_copy"):
-        lowered = normalized(tree, features, limit)
-        return lowered.text() if last == "normalize" else lowered.copied()
+    if last in ("normalize", "normalize_scripted", "lowered_copy"):
+        lowered = normalized(tree, features, limit, lexer)
+        return lowered.copied() if last == "lowered_copy" else lowered.text()
     if last == "lower":
         resolve(tree)
         return lowered_alone(tree, features)
@@ -746,23 +749,32 @@ def answer(data, name, call, *words):
     with open(file, "rb") as opened:
         content = opened.read()
     try:
-        if call == "values":
+        if call in ("values", "copies"):
             raise Unknown
         cuts = {"cut_reads": cut_reads, "cut_writes": cut_writes, "cut_faults": cut_faults}
         if call in cuts:
             return cuts[call](lines_of, content, words)
-        readers = {"read_twice": readings, "beginnings": beginnings, "parts": listed_parts, "library": counts_of}
+        readers = {"read_twice": readings, "beginnings": beginnings, "cut_trees": cut_trees, "parts": listed_parts, "library": counts_of}
         if call in readers:
             return readers[call](content)
-        return lines_of(content, words) if call == "lnorm" else passes_answer(content, call, words)
-    except NotExpanded:
-        return "not expanded\n"
-    except Usage:
-        return "usage\n"
-    except Refused as fault:
-        return str(fault) + "\n"
+        return lines_of(content, words) if call == "lnorm" else by_passes(content, call, words)
     except Unknown:
         return "?\n"
+
+
+def by_passes(content, call, words):
+    """What passes answer, or why they answer nothing; twice where that is asked."""
+    try:
+        told = passes_answer(content, call, words)
+    except NotExpanded:
+        told = "not expanded\n"
+    except Usage:
+        return "usage\n"
+    except NoMemory:
+        told = "memory\n"
+    except Refused as fault:
+        told = str(fault) + "\n"
+    return told * (2 if words[:1] == ("twice",) else 1)
 
 
 def answers_of(text):

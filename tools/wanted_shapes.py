@@ -190,6 +190,11 @@ def beginnings(data):
     return "beginnings: %d of %d alike, %d read\n" % (len(data), len(data), read)
 
 
+def cut_trees(data):
+    """On how many of its beginnings `lnorm` tells that they are no tree."""
+    return "beginnings: %d of %d are no tree\n" % (sum(tree_of(data[:end]) is None for end in range(len(data))), len(data))
+
+
 def item_parts_of(data):
     """The parts of the items of the list under `items`, and how many keys there are; where they are none that are read, a
     `ValueError`, a `TypeError` or a `KeyError`."""

@@ -176,8 +176,15 @@ def terminals_used(tree):
 
 # ---- lexers
 
+class NoMemory(Exception):
+    """The lexer has none for what it is asked."""
+
+
 class CheckOnly:
     """Refuses what is no pattern."""
+
+    def find_room(self, text):
+        """There is always memory for the regex of a text."""
 
     def read(self, text):
         """Whether the text is a pattern."""
@@ -191,19 +198,26 @@ class CheckOnly:
 
 
 class Scripted:
-    """Refuses what its lists name: texts that are no patterns, texts whose regexes have a feature, ambiguous pairs of indexes."""
+    """Refuses what its lists name: texts that are no patterns, texts whose regexes have a feature, ambiguous pairs of indexes; it has
+    no memory for some texts, and none for an automaton of too many regexes."""
 
     def __init__(self, words):
-        self.bad, self.features, self.pairs = [], [], []
+        self.bad, self.features, self.pairs, self.unread, self.largest = [], [], [], [], 2**64
         if len(words) % 2:
             raise Unknown
         for option, value in zip(words[::2], words[1::2]):
             if option == "--ambiguous" and re.fullmatch("[0-9]+,[0-9]+", value):
                 self.pairs.append(tuple(map(int, value.split(","))))
-            elif option in ("--bad", "--feature-of"):
-                (self.bad if option == "--bad" else self.features).append(value)
+            elif option in ("--bad", "--feature-of", "--unread"):
+                {"--bad": self.bad, "--feature-of": self.features, "--unread": self.unread}[option].append(value)
+            elif option == "--largest" and re.fullmatch("[0-9]+", value):
+                self.largest = int(value)
             else:
                 raise Unknown
+
+    def find_room(self, text):
+        if text in self.unread:
+            raise NoMemory
 
     def read(self, text):
         return text not in self.bad
@@ -219,6 +233,8 @@ class Scripted:
         return None
 
     def code(self, precedences):
+        if len(precedences) > self.largest:
+            raise NoMemory
         return precedences
 
 
@@ -239,6 +255,7 @@ def read_entries(entries, lexer):
     """Reads the regular expressions in order, and asks for an automaton."""
     literals = [e["match_literal"] for e in entries.found]
     for value in literals:
+        lexer.find_room(one(value)[1])
         if one(value)[0] == "Regex" and not lexer.read(one(value)[1]):
             raise Refused("F42 " + place(entries.places[literal_key(value)]))
     refusal = lexer.refusal(literals)

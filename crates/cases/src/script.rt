@@ -3,6 +3,9 @@ use lnorm_cases::answer::push_answer;
 use lnorm_cases::script::{is_case, words_of};
 use std::{fs, io};
 
+/// Room for a word that says why a call has no answer, so that there is some where all further memory is refused.
+const ROOM: usize = 16;
+
 /// The answers to the lines of a script, each under its line.
 pub fn answers(rt: &HostRuntime, script: &str) -> io::Result<String> {
     let mut text = String::new(rt.alloc());
@@ -17,6 +20,7 @@ pub fn answers(rt: &HostRuntime, script: &str) -> io::Result<String> {
 fn push_case(rt: &HostRuntime, text: &mut String, line: &str) -> io::Result<()> {
     let alloc = rt.alloc();
     write!(text, "== {line}\n")?;
+    text.reserve(ROOM)?;
     let words = words_of(alloc, line)?;
     match words.as_slice() {
         [name, call, words @ ..] => match tree_bytes(rt, name) {

@@ -122,5 +122,9 @@ fn in_order(alloc: Global, entries: BTreeSet<MatchEntry>) -> Result<Vec<MatchEnt
     ensures entries { IfOk result (λ es. es.items ≡ entries.keys) }
     ensures rising { IfOk result (λ es. IsStrictlySortedBy entry_cmp es.items) }
 {
-    Ok(entries.into_iter().collect(alloc)?)
+    let mut ordered = Vec::with_capacity(alloc, entries.len())?;
+    for entry in entries {
+        ordered.push(entry)?;
+    }
+    Ok(ordered)
 }

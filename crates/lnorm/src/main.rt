@@ -17,8 +17,7 @@ fn status(rt: &HostRuntime) -> u8
     ensures { result ≤ 4 }
 {
     let alloc = rt.alloc();
-    keep_large_blocks(alloc);
-    match words_of_call(rt) {
+    match prepared(rt) {
         Ok(words) => run(
             alloc,
             &words,
@@ -30,16 +29,26 @@ fn status(rt: &HostRuntime) -> u8
     }
 }
 
+/// The words of the call, once large blocks are kept.
+fn prepared(rt: &HostRuntime) -> io::Result<Vec<String>> {
+    keep_large_blocks(rt.alloc())?;
+    words_of_call(rt)
+}
+
 /// Takes a block of 31 MiB and lets it go, untouched. The C library's `malloc` hands a large block that is let go back to the system,
 /// and takes new pages for the next one; by this it keeps those up to the size of this one, and uses them again.
-fn keep_large_blocks(alloc: Global) {
-    let _block: Result<Vec<u8>, AllocError> = Vec::with_capacity(alloc, 31 << 20);
+fn keep_large_blocks(alloc: Global) -> Result<(), AllocError> {
+    let _block: Vec<u8> = Vec::with_capacity(alloc, 31 << 20)?;
+    Ok(())
 }
 
 /// The words of the call, without the program's name.
 fn words_of_call(rt: &HostRuntime) -> io::Result<Vec<String>> {
     let mut args = env::args(rt)?;
     let _program = args.next();
-    let words = args.collect(rt.alloc())?;
+    let mut words = Vec::new(rt.alloc());
+    for word in args {
+        words.push(word)?;
+    }
     Ok(words)
 }

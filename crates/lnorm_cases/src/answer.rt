@@ -1,12 +1,13 @@
 //! The answer to a call.
 use crate::asks::push_no_feature;
 use crate::call::{Call, Last, Pass, call_of};
+use crate::copies::push_copies;
 use crate::cuts::{push_cut_faults, push_cut_reads, push_cut_writes};
 use crate::library_call::push_counts_of;
 use crate::outcome::{Layout, push_outcome};
 use crate::readings::parts::push_parts;
 use crate::readings::twice::{push_beginnings, push_read_twice};
-use crate::runs::push_run;
+use crate::runs::{push_cut_trees, push_run};
 use crate::scripted::scripted_session;
 use lalrpop_norm::normalize::Session;
 use lalrpop_norm_lexer::lexer::Lexer;
@@ -43,13 +44,12 @@ fn push_called(
         Call::CutReads => push_cut_reads(alloc, text, words, bytes),
         Call::CutWrites => push_cut_writes(alloc, text, words, bytes),
         Call::CutFaults => push_cut_faults(alloc, text, words, bytes),
+        Call::CutTrees => push_cut_trees(alloc, text, words, bytes),
         Call::ReadTwice => push_read_twice(alloc, text, bytes),
         Call::Beginnings => push_beginnings(alloc, text, bytes),
         Call::Parts => push_parts(alloc, text, bytes),
-        Call::Values => match push_made(alloc, text) {
-            Ok(()) => Ok(()),
-            Err(_) => text.push_str("memory\n"),
-        },
+        Call::Values => push_or_memory(text, |text| push_made(alloc, text)),
+        Call::Copies => push_or_memory(text, |text| push_copies(alloc, text)),
         Call::Passes(passes, last) => push_passes(alloc, text, passes, *last, words, bytes),
     }
 }
@@ -70,7 +70,23 @@ fn push_passes(
         [first, words @ ..] if first.as_str() == "told" => {
             push_passed(alloc, text, passes, last, Layout::Told, words, bytes)
         }
+        [first, words @ ..] if first.as_str() == "twice" => {
+            push_passed(alloc, text, passes, last, Layout::Twice, words, bytes)
+        }
         _ => push_passed(alloc, text, passes, last, Layout::Lines, words, bytes),
+    }
+}
+
+/// What is pushed, and a line where there was no memory for it.
+fn push_or_memory<F: FnOnce(&mut String) -> Result<(), NoMemory>>(
+    text: &mut String,
+    push: F,
+) -> Result<(), AllocError>
+    requires { F.IsAlwaysCallable push }
+{
+    match push(text) {
+        Ok(()) => Ok(()),
+        Err(_) => text.push_str("memory\n"),
     }
 }
 
@@ -91,7 +107,7 @@ fn push_passed(
     bytes: &[u8],
 ) -> Result<(), AllocError> {
     match last {
-        Last::TokenCheckScripted => {
+        Last::TokenCheckScripted | Last::NormalizeScripted => {
             let session = scripted_session(alloc, words);
             push_in_session(alloc, text, session, layout, passes, last, bytes)
         }
@@ -112,8 +128,24 @@ fn push_in_session<L: Lexer + Drop>(
     bytes: &[u8],
 ) -> Result<(), AllocError> {
     match session {
-        Ok(session) => push_outcome(alloc, text, &session, layout, passes, last, bytes),
+        Ok(session) => match layout {
+            Layout::Twice => push_twice(alloc, text, &session, passes, last, bytes),
+            _ => push_outcome(alloc, text, &session, layout, passes, last, bytes),
+        },
         Err(WordsError::Usage) => text.push_str("usage\n"),
         Err(WordsError::Memory) => text.push_str("memory\n"),
     }
+}
+
+/// The outcome, and that of the same in the same session again.
+fn push_twice<L: Lexer>(
+    alloc: Global,
+    text: &mut String,
+    session: &Session<L>,
+    passes: &[Pass],
+    last: Last,
+    bytes: &[u8],
+) -> Result<(), AllocError> {
+    push_outcome(alloc, text, session, Layout::Twice, passes, last, bytes)?;
+    push_outcome(alloc, text, session, Layout::Twice, passes, last, bytes)
 }

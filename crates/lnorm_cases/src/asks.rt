@@ -32,7 +32,7 @@ pub(crate) fn push_asked<L>(
     Ok(())
 }
 
-fn push_first_blocks(text: &mut String, tree: &Grammar) -> Result<(), AllocError> {
+pub(crate) fn push_first_blocks(text: &mut String, tree: &Grammar) -> Result<(), AllocError> {
     if let Some(block) = tree.match_token() {
         text.push_str("first match")?;
         push_span_line(text, block.span)?;
@@ -52,7 +52,7 @@ fn push_first_blocks(text: &mut String, tree: &Grammar) -> Result<(), AllocError
 }
 
 /// ` on` or ` off`, and the first argument of each that is `key = "value"`.
-fn push_asked_attributes<L>(
+pub(crate) fn push_asked_attributes<L>(
     text: &mut String,
     session: &Session<L>,
     attributes: &[Attribute],
@@ -100,7 +100,7 @@ fn push_asked_item<L>(
     Ok(())
 }
 
-fn push_asked_extern(text: &mut String, block: &ExternToken) -> Result<(), AllocError> {
+pub(crate) fn push_asked_extern(text: &mut String, block: &ExternToken) -> Result<(), AllocError> {
     text.push_str("extern")?;
     push_associated_type(text, "Location", block.associated_type("Location"))?;
     push_associated_type(text, "Error", block.associated_type("Error"))?;
@@ -259,7 +259,7 @@ fn push_anonymous(text: &mut String, anonymous: &[(usize, &Symbol)]) -> Result<(
     Ok(())
 }
 
-fn push_presence(text: &mut String, action: &ActionKind) -> Result<(), AllocError> {
+pub(crate) fn push_presence(text: &mut String, action: &ActionKind) -> Result<(), AllocError> {
     match action {
         ActionKind::User(code) => push_braces(text, code.as_str()),
         ActionKind::Fallible(code) => push_braces(text, code.as_str()),

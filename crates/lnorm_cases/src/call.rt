@@ -14,6 +14,8 @@ pub(crate) enum Call {
     CutWrites,
     /// Runs of it whose line on standard error ends at each byte in turn.
     CutFaults,
+    /// Runs of it on each proper beginning of the text.
+    CutTrees,
     /// What two readers of JSON make of the text, and of damaged ones.
     ReadTwice,
     /// What they make of its beginnings.
@@ -22,6 +24,8 @@ pub(crate) enum Call {
     Parts,
     /// Values that no tree holds.
     Values,
+    /// Copies of parts that no copy of a tree makes by themselves.
+    Copies,
     /// Passes one after another, and what is asked for the tree then.
     Passes(Vec<Pass>, Last),
 }
@@ -69,6 +73,8 @@ pub(crate) enum Last {
     Pass(Pass),
     /// The pass on tokens, with the lexer that the words describe.
     TokenCheckScripted,
+    /// `normalize` with that lexer.
+    NormalizeScripted,
     /// `infer_types`: the table of types.
     InferTypes,
     /// `is_typed`: whether `lower` takes that table.
@@ -85,6 +91,8 @@ pub(crate) enum Last {
     Texts,
     /// The copy of the lowered grammar.
     LoweredCopy,
+    /// What calls answer that take no memory.
+    WithoutMemory,
 }
 
 /// The call of that name: one of `lnorm`, or passes with `,` between each two. None where a part of it has no meaning.
@@ -95,7 +103,9 @@ pub(crate) fn call_of(alloc: Global, name: &str) -> Result<Option<Call>, AllocEr
         "cut_reads" => Ok(Some(Call::CutReads)),
         "cut_writes" => Ok(Some(Call::CutWrites)),
         "cut_faults" => Ok(Some(Call::CutFaults)),
+        "cut_trees" => Ok(Some(Call::CutTrees)),
         "values" => Ok(Some(Call::Values)),
+        "copies" => Ok(Some(Call::Copies)),
         "read_twice" => Ok(Some(Call::ReadTwice)),
         "beginnings" => Ok(Some(Call::Beginnings)),
         "parts" => Ok(Some(Call::Parts)),
@@ -124,6 +134,7 @@ fn passes_of(alloc: Global, name: &str) -> Result<Option<Call>, AllocError> {
 fn last_of(name: &str) -> Option<Last> {
     match name {
         "token_check_scripted" => Some(Last::TokenCheckScripted),
+        "normalize_scripted" => Some(Last::NormalizeScripted),
         "infer_types" => Some(Last::InferTypes),
         "is_typed" => Some(Last::IsTyped),
         "lower" => Some(Last::Lower),
@@ -138,6 +149,7 @@ fn look_of(name: &str) -> Option<Last> {
         "copy" => Some(Last::Copy),
         "ask" => Some(Last::Ask),
         "texts" => Some(Last::Texts),
+        "without_memory" => Some(Last::WithoutMemory),
         _ => match pass_of(name) {
             Some(pass) => Some(Last::Pass(pass)),
             None => None,

@@ -5,6 +5,7 @@
 pub mod answer;
 mod asks;
 mod call;
+mod copies;
 mod cut;
 mod cuts;
 mod library_call;
@@ -16,3 +17,4 @@ pub mod script;
 mod scripted;
 pub mod scripted_lexer;
 mod shown;
+mod without_memory;

@@ -3,6 +3,7 @@ use crate::asks::push_asked;
 use crate::call::{Last, Pass};
 use crate::passes::{Stopped, lowered, normalized, tree_after, tree_after_all, typed};
 use crate::shown::{ended, push_or};
+use crate::without_memory::push_without_memory;
 use lalrpop_norm::grammar::repr;
 use lalrpop_norm::normalize::lower::is_typed;
 use lalrpop_norm::normalize::{NormFailure, Session};
@@ -27,6 +28,8 @@ pub(crate) enum Layout {
     Whole,
     /// In lines, a fault with its message.
     Told,
+    /// In lines, and those of a second call in the same session.
+    Twice,
 }
 
 /// What the passes come to on the tree that the bytes are, in that form.
@@ -108,7 +111,11 @@ fn push_last<L: Lexer>(
         Last::InferTypes => push_typed(alloc, text, layout, tree),
         Last::IsTyped => push_is_typed(alloc, text, session, layout, tree),
         Last::Lower => push_normalized(text, layout, lowered(alloc, session, tree)),
-        Last::Normalize => push_normalized(text, layout, normalized(alloc, session, tree)),
+        Last::Normalize | Last::NormalizeScripted => push_normalized(
+            text,
+            layout,
+            normalized(alloc, session, tree),
+        ),
         Last::LoweredCopy => push_copied(alloc, text, layout, normalized(alloc, session, tree)),
         Last::Copy => {
             let done = push_copy(text, layout, &tree);
@@ -122,6 +129,7 @@ fn push_last<L: Lexer>(
             let done = push_texts_or_memory(alloc, text, &tree);
             ended(tree, done)
         }
+        Last::WithoutMemory => push_typed_without_memory(text, session, typed(alloc, tree)),
     }
 }
 
@@ -151,7 +159,7 @@ fn push_tree_after(
 
 fn push_tree_as(text: &mut String, layout: Layout, tree: &Grammar) -> Result<(), AllocError> {
     match layout {
-        Layout::Lines | Layout::Told => push_tree(text, tree),
+        Layout::Lines | Layout::Told | Layout::Twice => push_tree(text, tree),
         Layout::Whole => push_whole_tree(text, tree),
     }
 }
@@ -175,7 +183,7 @@ fn push_types_as(
 ) -> Result<(), AllocError> {
     let (tree, types) = typed;
     match layout {
-        Layout::Lines | Layout::Told => push_types(text, tree, types),
+        Layout::Lines | Layout::Told | Layout::Twice => push_types(text, tree, types),
         Layout::Whole => push_whole_types(text, types),
     }
 }
@@ -207,6 +215,18 @@ fn push_is_typed_line<L>(
     write!(text, "typed: {is_typed}\n")
 }
 
+/// What calls answer that take no memory, of the tree with its names resolved and of the types of its rules.
+fn push_typed_without_memory<L>(
+    text: &mut String,
+    session: &Session<L>,
+    typed: Result<(Grammar, Types), Stopped>,
+) -> Result<(), AllocError> {
+    match typed {
+        Ok((tree, types)) => push_without_memory(text, session, tree, types),
+        Err(stopped) => push_stopped(text, Layout::Lines, stopped),
+    }
+}
+
 fn push_normalized(
     text: &mut String,
     layout: Layout,
@@ -223,7 +243,7 @@ fn push_lowered_as(
     lowered: &repr::Grammar,
 ) -> Result<(), AllocError> {
     match layout {
-        Layout::Lines | Layout::Told => push_lowered(text, lowered),
+        Layout::Lines | Layout::Told | Layout::Twice => push_lowered(text, lowered),
         Layout::Whole => push_whole_lowered(text, lowered),
     }
 }
@@ -286,7 +306,7 @@ fn push_failure(
 ) -> Result<(), AllocError> {
     match layout {
         Layout::Told => push_told(text, failure),
-        Layout::Lines | Layout::Whole => push_place(text, failure),
+        Layout::Lines | Layout::Whole | Layout::Twice => push_place(text, failure),
     }
 }
 

@@ -16,6 +16,35 @@ pub(crate) fn push_run(
     push_ended(text, status, &output, &faults)
 }
 
+/// On how many of the beginnings of the bytes, all of them left out, a run tells that they are no tree.
+pub(crate) fn push_cut_trees(
+    alloc: Global,
+    text: &mut String,
+    words: &[String],
+    bytes: &[u8],
+) -> Result<(), AllocError> {
+    let count = bytes.len();
+    let mut told = 0usize;
+    for end in 0..bytes.len() {
+        if is_told_as_no_tree(alloc, words, &bytes[..end]) {
+            told += 1;
+        }
+    }
+    write!(text, "beginnings: {told} of {count} are no tree\n")
+}
+
+/// Whether a run ends with status 2 and its line, and writes nothing else.
+fn is_told_as_no_tree(alloc: Global, words: &[String], bytes: &[u8]) -> bool {
+    let mut input = bytes;
+    let mut output = Vec::new(alloc);
+    let mut faults = Vec::new(alloc);
+    let status = run(alloc, words, &mut input, &mut output, &mut faults);
+    match str::from_utf8(&faults) {
+        Ok("lnorm: not a tree\n") => status == 2 && output.is_empty(),
+        _ => false,
+    }
+}
+
 fn push_ended(
     text: &mut String,
     status: u8,

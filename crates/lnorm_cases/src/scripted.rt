@@ -10,7 +10,8 @@ use std::alloc::Global;
 
 /// A session without features and with the limit 200, whose lexer refuses what the words name: `--bad TEXT` is no pattern, the
 /// regex of a literal of the text of `--feature-of TEXT`, quoted or not, has a feature, the indexes of `--ambiguous I,J` are
-/// ambiguous. Errors: `Usage` where they are no such pairs; `Memory`.
+/// ambiguous; it has no memory for the regex of a literal of the text of `--unread TEXT`, nor for an automaton of more regexes than
+/// `--largest N` says. Errors: `Usage` where they are no such pairs; `Memory`.
 pub(crate) fn scripted_session(
     alloc: Global,
     words: &[String],
@@ -27,6 +28,8 @@ fn scripted_of(alloc: Global, words: &[String]) -> Result<Scripted, WordsError> 
         bad: Vec::new(alloc),
         features: Vec::new(alloc),
         ambiguous: Vec::new(alloc),
+        unread: Vec::new(alloc),
+        largest: usize::MAX,
     };
     let done = add_words(alloc, &mut lexer, words);
     kept(lexer, done)
@@ -52,10 +55,18 @@ fn add_pair(
     word: &str,
 ) -> Result<(), WordsError> {
     match option {
-        "--bad" => known(add_bad(alloc, &mut lexer.bad, word)),
+        "--bad" => known(add_text(alloc, &mut lexer.bad, word)),
         "--feature-of" => known(add_features(alloc, &mut lexer.features, word)),
         "--ambiguous" => match pair_of(word) {
             Some(pair) => Ok(lexer.ambiguous.push(pair)?),
+            None => Err(WordsError::Usage),
+        },
+        "--unread" => known(add_text(alloc, &mut lexer.unread, word)),
+        "--largest" => match index_of(word) {
+            Some(largest) => {
+                lexer.largest = largest;
+                Ok(())
+            }
             None => Err(WordsError::Usage),
         },
         _ => Err(WordsError::Usage),
@@ -70,8 +81,8 @@ fn known(done: Result<(), NoMemory>) -> Result<(), WordsError> {
     }
 }
 
-fn add_bad(alloc: Global, bad: &mut Vec<Atom>, word: &str) -> Result<(), NoMemory> {
-    Ok(bad.push(atom(alloc, word)?)?)
+fn add_text(alloc: Global, texts: &mut Vec<Atom>, word: &str) -> Result<(), NoMemory> {
+    Ok(texts.push(atom(alloc, word)?)?)
 }
 
 /// The literal of the text, quoted and as a pattern.

@@ -8,7 +8,7 @@ use lalrpop_norm_lexer::lexer::{
 use lalrpop_norm_tree::grammar::parse_tree::{Atom, Dfa, NoMemory, TerminalLiteral};
 use std::alloc::Global;
 
-/// Refuses what its lists name. Its regexes are the literals, and an automaton's code is the list of precedences.
+/// Refuses what its lists name, and has no memory where they say so. Its regexes are the literals, and an automaton's code is the list of precedences.
 #[derive(Drop)]
 pub struct Scripted {
     /// The texts that are no patterns.
@@ -17,6 +17,10 @@ pub struct Scripted {
     pub features: Vec<Feature>,
     /// Ambiguous pairs of indexes.
     pub ambiguous: Vec<Pair>,
+    /// The texts for whose regexes there is no memory.
+    pub unread: Vec<Atom>,
+    /// How many regexes an automaton has at most that there is memory for.
+    pub largest: usize,
 }
 
 /// A literal whose regex has a feature.
@@ -45,10 +49,16 @@ impl Lexer for Scripted {
     ghost relations = { of_lists };
 
     fn parse_literal(&self, alloc: Global, text: &str) -> Result<TerminalLiteral, NoMemory> {
+        if is_listed(&self.unread, text) {
+            return Err(NoMemory);
+        }
         Ok(TerminalLiteral::Quoted(Atom::new(alloc, text)?))
     }
 
     fn parse_regex(&self, alloc: Global, text: &str) -> Result<TerminalLiteral, RegexError> {
+        if is_listed(&self.unread, text) {
+            return Err(RegexError::Memory);
+        }
         for bad in &self.bad {
             if bad.as_str() == text {
                 return Err(RegexError::Refused {
@@ -78,6 +88,9 @@ impl Lexer for Scripted {
                     match1: pair.second,
                 });
             }
+        }
+        if regexes.len() > self.largest {
+            return Err(DfaConstructionError::Memory);
         }
         let mut code = Vec::new(alloc);
         for precedence in precedences {
@@ -117,4 +130,13 @@ fn is_same(one: &TerminalLiteral, other: &TerminalLiteral) -> bool
     ensures { result ≡ same_literal one.now other.now }
 {
     one == other
+}
+
+fn is_listed(texts: &[Atom], text: &str) -> bool {
+    for listed in texts {
+        if listed.as_str() == text {
+            return true;
+        }
+    }
+    false
 }

@@ -7,6 +7,6 @@ use Rattle.lalrpop_norm_token_check.proofs.token_check.in_order.Goals as goal
 
 pub returns-clause-rising : goal.returns-clause-rising
 returns-clause-rising c =
-    let same : c.in_ok-collect.field-0.items ≡ c.args.entries.keys = search rules in
-    let sorted = subst (λ cmp. IsStrictlySortedBy cmp c.args.entries.keys) entry_order c.into_iter.ensures.into_iter_gives.4 in
+    let same : c.loop-entry.ordered.items ≡ c.args.entries.keys = search rules in
+    let sorted = subst (λ cmp. IsStrictlySortedBy cmp c.args.entries.keys) entry_order c.into_iter-entry-iterator.ensures.into_iter_gives.4 in
     subst (λ (es : List MatchEntry). IsStrictlySortedBy entry_cmp es) (sym same) sorted
