@@ -7,4 +7,3 @@ pub mod Number
 pub mod Nodes
 pub mod Kept
 pub mod Parted
-pub mod InParts

@@ -1,0 +1,34 @@
+use Rattle.std.proofs.Common.{◌≡◌, ◌∷◌, ◌<◌, length, Some, sym, subst, arith}
+use Rattle.json.specs.Token.{Token}
+use Rattle.json.specs.Json.{after_end_array}
+use Rattle.json_document.specs.Parted.{IsItem, IsList, AreItems}
+use Rattle.json_document.proofs.Lists.{no_item, one_more, all_items}
+use Rattle.json_document.proofs.parted.list.Goals as goal
+
+pub loop-alloc-init : goal.loop-alloc-init
+loop-alloc-init g c =
+    let s = c.next.new.self in
+    let n = c.in_ok-inner.inner in
+    (subst (λ xs. AreItems g.K.TakeItem.data_of n s s xs) (sym c.in-Ok.ensures.items) (no_item g.K.TakeItem.data_of n s), omega arith)
+
+pub loop-alloc-preserved : goal.loop-alloc-preserved
+loop-alloc-preserved g c =
+    let l = c.loop-alloc in
+    let n = c.in_ok-inner.inner in
+    let s = c.next.new.self in
+    let rest = c.take_item.new.reader in
+    let x = c.in_ok-read.read in
+    let going : c.take_end_array.new.self ≡ l.reader = grind arith in
+    let here = subst (λ m. IsItem g.K.TakeItem.data_of n m rest x) going c.in_ok-read.ensures.item in
+    let less : length rest < length l.reader = subst (λ m. length rest < length m) going c.in_ok-read.ensures.shorter in
+    (subst (λ xs. AreItems g.K.TakeItem.data_of n s rest xs) (sym c.in-Ok-push.ensures.items) (one_more g.K.TakeItem.data_of n s l.reader rest l.items.items x l.invariant.0 here), omega (arith, l.invariant.1))
+
+pub returns-clause-list : goal.returns-clause-list
+returns-clause-list g c =
+    let l = c.loop-alloc in
+    let n = c.in_ok-inner.inner in
+    let less : n < c.args.depth = grind arith in
+    let begun : c.args.reader.now ≡ Token.begin_array ∷ c.next.new.self = grind arith in
+    let ended : after_end_array l.reader ≡ Some c.take_end_array.new.self = grind arith in
+    subst (λ xs. IsList g.K.TakeItem.data_of c.args.depth c.args.reader.now c.take_end_array.new.self xs) (sym c.shrink_to_fit.ensures.items)
+    (all_items g.K.TakeItem.data_of n c.args.depth c.args.reader.now c.next.new.self l.reader c.take_end_array.new.self l.items.items less begun l.invariant.0 ended)
