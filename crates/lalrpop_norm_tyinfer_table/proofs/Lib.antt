@@ -12,3 +12,4 @@ mod SameLemmas
 pub mod TokenLemmas
 pub mod ValueLemmas
 pub mod VisitLemmas
+mod WrittenSymbols
