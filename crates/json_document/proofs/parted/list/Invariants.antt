@@ -1,9 +1,0 @@
-use Rattle.std.proofs.Common.{◌≤◌, length}
-use Rattle.json_document.specs.Parted.{AreItems}
-use Rattle.json_document.proofs.parted.list.Given as goal
-
-abbrev pub invariant-loop-alloc : goal.invariant-loop-alloc
-invariant-loop-alloc g l = AreItems g.K.TakeItem.data_of l.inner l.initial.reader l.reader l.items.items × (length l.reader ≤ length l.initial.reader)
-
-abbrev pub decreases-loop-alloc : goal.decreases-loop-alloc
-decreases-loop-alloc g l = length l.reader
