@@ -12,7 +12,7 @@ ghost use Rattle.json_document.specs.Parted.{IsItem, IsList, IsParted, IsObject}
 use crate::keep::{add_three, close, keep_known, push};
 use crate::readers::NotParted;
 use json::{Node, Reader, Token};
-use std::alloc::{AllocError, Global};
+use std::alloc::Global;
 
 /// How the item that comes next is taken from a text.
 pub(crate) trait TakeItem<T> {
@@ -64,23 +64,11 @@ fn list<'a, T: Drop, K: TakeItem<T>>(
             Err(_) => return Err(NotParted::Memory),
         }
     }
-    match fitted(alloc, items) {
-        Ok(items) => Ok(items),
-        Err(_) => Err(NotParted::Memory),
+    items.shrink_to_fit();
+    if items.capacity() > items.len() {
+        return Err(NotParted::Memory);
     }
-}
-
-/// These items, in no more room than they take.
-fn fitted<T: Drop>(alloc: Global, items: Vec<T>) -> Result<Vec<T>, AllocError>
-    ensures { IfOk result (λ xs. xs.items ≡ items.items) }
-{
-    if items.capacity() == items.len() {
-        return Ok(items);
-    }
-    let mut roomy = items;
-    let mut fitted = Vec::with_capacity(alloc, roomy.len())?;
-    fitted.append(&mut roomy)?;
-    Ok(fitted)
+    Ok(items)
 }
 
 /// The member of that key, whose value is a list: its items. Of the list the nodes get the brackets.

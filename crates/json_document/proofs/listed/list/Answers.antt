@@ -7,15 +7,15 @@ use Rattle.json_document.proofs.Beginnings.{items_begin, item_begins, items_go_o
 use Rattle.json_document.proofs.Lists.{no_item, one_more, all_items}
 use Rattle.json_document.proofs.listed.list.Goals as goal
 
-pub loop-reader-init : goal.loop-reader-init
-loop-reader-init g c =
+pub loop-alloc-init : goal.loop-alloc-init
+loop-alloc-init g c =
     let s = c.next.new.self in
     let n = c.in-Some.inner in
     (subst (λ xs. AreItems g.K.TakeItem.data_of n s s xs) (sym c.in-Ok.ensures.items) (no_item g.K.TakeItem.data_of n s), omega arith, λ b. b)
 
-pub loop-reader-preserved : goal.loop-reader-preserved
-loop-reader-preserved g c =
-    let l = c.loop-reader in
+pub loop-alloc-preserved : goal.loop-alloc-preserved
+loop-alloc-preserved g c =
+    let l = c.loop-alloc in
     let n = c.in-Some.inner in
     let s = c.next.new.self in
     let rest = c.take_item.new.reader in
@@ -31,7 +31,7 @@ loop-reader-preserved g c =
 
 pub returns-in_err-read-clause-other : goal.returns-in_err-read-clause-other
 returns-in_err-read-clause-other g c h b =
-    let l = c.loop-reader in
+    let l = c.loop-alloc in
     let n = c.in-Some.inner in
     let low : c.args.depth ≤ suc n = grind arith in
     let begun : c.args.reader.now ≡ Token.begin_array ∷ c.next.new.self = grind arith in
@@ -41,12 +41,12 @@ returns-in_err-read-clause-other g c h b =
     let here = subst (λ m. BeginsValue g.K.TakeItem.can_take n m) (sym going) (item_begins g.K.TakeItem.can_take n l.reader more items) in
     c.in_err-read.ensures.other (search rules) here
 
-pub returns-in-Ok-fitted-clause-list : goal.returns-in-Ok-fitted-clause-list
-returns-in-Ok-fitted-clause-list g c =
-    let l = c.loop-reader in
+pub returns-clause-list : goal.returns-clause-list
+returns-clause-list g c =
+    let l = c.loop-alloc in
     let n = c.in-Some.inner in
     let less : n < c.args.depth = grind arith in
     let begun : c.args.reader.now ≡ Token.begin_array ∷ c.next.new.self = grind arith in
     let ended : after_end_array l.reader ≡ Some c.take_end_array.new.self = grind arith in
-    subst (λ xs. IsList g.K.TakeItem.data_of c.args.depth c.args.reader.now c.take_end_array.new.self xs) (sym c.in-Ok-fitted.ensures)
+    subst (λ xs. IsList g.K.TakeItem.data_of c.args.depth c.args.reader.now c.take_end_array.new.self xs) (sym c.shrink_to_fit.ensures.items)
     (all_items g.K.TakeItem.data_of n c.args.depth c.args.reader.now c.next.new.self l.reader c.take_end_array.new.self l.items.items less begun l.invariant.0 ended)
