@@ -24,7 +24,7 @@ abbrev pub IsApart : List ℕ → List (List ℕ × Held) → Type 0
 IsApart k [] = ⊤
 IsApart k (r ∷ rows) = (k ≢ r.0) × IsApart k rows
 
-pub another : (k l : List ℕ) → k ≢ l → bytes_eq k l ≡ false
+another : (k l : List ℕ) → k ≢ l → bytes_eq k l ≡ false
 another k l other = at (bytes_eq k l) refl
   where
     at : (b : Bool) → bytes_eq k l ≡ b → bytes_eq k l ≡ false

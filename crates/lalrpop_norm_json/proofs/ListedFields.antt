@@ -1,14 +1,11 @@
 -- Structs of which the value of one field is put as a list.
-use Rattle.std.proofs.Common.{◌≡◌, ◌≢◌, ℕ, List, [], ◌∷◌, map, Bool, false, ◌&&◌, Option, Some, None, cond, refl, sym, ap, ◌∙◌}
-use Rattle.std.specs.Option.{option_map_or}
+use Rattle.std.proofs.Common.{◌≡◌, ℕ, List, [], ◌∷◌, map, Bool, false, ◌&&◌, refl, ap, ◌∙◌}
 use Rattle.std.specs.Prelude.{codes}
 use Rattle.std.specs.Str.{bytes_eq}
 use Rattle.serde_json.specs.Data.{Data, null, boolean, number, string, array, object, Members, no_members, member}
 use Rattle.serde_json.specs.View.{items_of}
 use Rattle.json_document.specs.Fields.{are_keys, has_fields}
 use Rattle.json_document.specs.Parted.{with_value, with_list}
-use Rattle.lalrpop_norm_json.proofs.CaseLemmas.{another}
-use Rattle.lalrpop_norm_json.specs.InParts.{name_of_parts}
 use Rattle.lalrpop_norm_json_shapes.proofs.Refusals.{no_fields}
 use Rattle.lalrpop_norm_json_shapes.specs.Shapes.{Slot, fits, struct, is, rule, grammar_item}
 
@@ -34,11 +31,3 @@ no_listed_fields rows k ds v e = no_fields rows (with_list k ds v) (same_fields 
 pub nonterminal_refused : (key name : List ℕ) (ds : List Data) (v : Data) → key ≡ codes "Nonterminal" → name ≡ codes "alternatives" → is rule (with_list (codes "alternatives") ds v) ≡ false
     → is grammar_item (object (member key (with_list name ds v) no_members)) ≡ false
 nonterminal_refused key name ds v k n e = rw (k, n) e
-
--- ---- the name of a list of parts
-
-pub no_parts : (key : List ℕ) → key ≢ codes "Nonterminal" → name_of_parts key ≡ None
-no_parts key other = ap (λ b. cond b (Some (codes "alternatives")) None) (another key (codes "Nonterminal") other)
-
-pub their_name : (key name : List ℕ) → name_of_parts key ≡ Some name → key ≡ codes "Nonterminal" → name ≡ codes "alternatives"
-their_name key name e k = ap (λ o. option_map_or (λ s. s) o name) (sym (ap name_of_parts (sym k) ∙ e))
