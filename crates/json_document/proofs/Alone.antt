@@ -1,9 +1,9 @@
 -- Values that are kept by themselves, whatever comes behind them.
-use Rattle.std.proofs.Common.{◌≡◌, ℕ, ◌-◌, ◌≤◌, take, List, [], ◌++◌, append_assoc, append-nil, map, length, drop, get_or, true, Option, Some, None, option_map, sym, ap, ◌∙◌, subst, arith}
-use Rattle.std.proofs.lemmas.List.{length-map, length-append, length-drop, append_cancel_right, drop-append-le, take_all}
+use Rattle.std.proofs.Common.{◌≡◌, ℕ, ◌-◌, ◌≤◌, take, List, [], ◌++◌, append_assoc, append-nil, map, length, drop, get_or, Bool as Truth, true, false, Option, Some, None, Result, Ok, Err, option_map, sym, ap, ◌∙◌, subst, arith}
+use Rattle.std.proofs.lemmas.List.{length-map, length-append, length-drop, drop-map, append_cancel_right, drop-append-le, take_all}
 use Rattle.std.proofs.Math.Seq.{drop-append_seam}
 use Rattle.std.specs.List.{list_all}
-use Rattle.std.specs.Prelude.{IfSome}
+use Rattle.std.specs.Prelude.{IfOk}
 use Rattle.json.specs.Token.{Token}
 use Rattle.json.specs.Json.{Json, value, skip_value}
 use Rattle.json.specs.Tree.{json_tokens}
@@ -13,9 +13,11 @@ use Rattle.json.specs.declared.tape.Node.TheVariants.{Object, EndObject, Array, 
 use Rattle.json.proofs.Nesting.{value-depth}
 use Rattle.json.proofs.Printed.Trees.{value-json_tokens}
 use Rattle.json.proofs.Unique.Spelling.{value-json_tokens_back}
+use Rattle.json_document.specs.InParts.{BeginsValue, has_any_data}
 use Rattle.json_document.specs.Kept.{IsKept, IsKeptAlone, node_end}
 use Rattle.json_document.specs.Limits.{in_range}
 use Rattle.json_document.specs.Tokens.{data_at}
+use Rattle.json_document.proofs.Beginnings.{out_of_range}
 use Rattle.json_document.proofs.Reading.{data_at_reads}
 use Rattle.json_document.proofs.Taken.{taken}
 
@@ -49,8 +51,10 @@ module _ (mt rest more : List Token) where
   relink Null i p h = tt
 
 module _ (d : ℕ) (old new : List Node) (ts rest : List Token) where
-  pub known : IsKept (map node_token old ++ ts) old new rest → skip_value d ts ≡ Some rest → list_all in_range (drop (length old) (map node_token new)) ≡ true → IsKeptAlone d old new ts rest
-  known k s range =
+  -- the value that was kept
+  last_kept : IsKept (map node_token old ++ ts) old new rest → skip_value d ts ≡ Some rest
+      → (j : Json) × (value d ts ≡ Some (j, rest)) × (ts ≡ json_tokens j ++ rest) × (map node_token new ≡ map node_token old ++ json_tokens j) × (drop (length old) (map node_token new) ≡ json_tokens j)
+  last_kept k s =
       let v = skipped (value d ts) rest s in
       let j = v.0 in
       let back = value-json_tokens_back d ts rest j v.1 in
@@ -59,19 +63,29 @@ module _ (d : ℕ) (old new : List Node) (ts rest : List Token) where
       (k.tokens ∙ ap (λ us. map node_token old ++ us) back ∙ sym (append_assoc (map node_token old) (json_tokens j) rest)) in
       let mine : drop (length old) (map node_token new) ≡ json_tokens j =
       ap (λ n. drop n (map node_token new)) (sym (length-map old node_token)) ∙ ap (drop (length (map node_token old))) kept ∙ drop-append_seam (map node_token old) (json_tokens j) in
-      let means = taken j [] (ap (list_all in_range) (append-nil (json_tokens j) ∙ sym mine) ∙ range) in
+      (j, v.1, back, kept, mine)
+
+  pub known : IsKept (map node_token old ++ ts) old new rest → skip_value d ts ≡ Some rest → list_all in_range (drop (length old) (map node_token new)) ≡ true → IsKeptAlone d old new ts rest
+  known k s range =
+      let v = last_kept k s in
+      let j = v.0 in
+      let means = taken j [] (ap (list_all in_range) (append-nil (json_tokens j) ∙ sym v.4) ∙ range) in
       record {
         value = j;
         means = means.0.0;
         is = means.0.1;
         level = value-depth d ts rest j v.1;
-        read = back;
-        kept = kept;
+        read = v.2;
+        kept = v.3;
         stay = k.stay;
         linked = λ more i from below. relink (map node_token new) rest more (get_or new i Null) i
             (subst (λ all. LinkAt all i (get_or new i Null)) (sym k.tokens) (k.linked i from below))
             (omega (arith, k.inside i from below, length-map new node_token));
       }
+
+  -- one with a number out of range is not known
+  pub unknown : IsKept (map node_token old ++ ts) old new rest → skip_value d ts ≡ Some rest → list_all in_range (drop (length old) (map node_token new)) ≡ false → BeginsValue has_any_data d ts → ⊥
+  unknown k s range = let v = last_kept k s in out_of_range d ts rest v.0 v.2 (ap (list_all in_range) (sym v.4) ∙ range)
 
 module _ (d : ℕ) (new : List Node) (ts rest : List Token) (k : IsKeptAlone d [] new ts rest) where
   pub alone_linked : Linked (map node_token new) 0 new
@@ -85,9 +99,15 @@ module _ (d : ℕ) (new : List Node) (ts rest : List Token) (k : IsKeptAlone d [
 pub alone : (d : ℕ) (old new ns : List Node) (ts rest : List Token) → old ≡ [] → ns ≡ new → IsKeptAlone d old new ts rest → IsKeptAlone d [] ns ts rest
 alone d old new ns ts rest e f k = subst (λ xs. IsKeptAlone d [] xs ts rest) (sym f) (subst (λ xs. IsKeptAlone d xs new ts rest) e k)
 
-pub some_also : {X : Type 0} (o : Option X) (P Q : X → Type 0) → ((x : X) → P x → Q x) → IfSome o P → IfSome o Q
-some_also None P Q f h = tt
-some_also (Some x) P Q f h = f x h
+pub ok_also : {X E : Type 0} (r : Result X E) (P Q : X → Type 0) → ((x : X) → P x → Q x) → IfOk r P → IfOk r Q
+ok_also (Err e) P Q f h = tt
+ok_also (Ok x) P Q f h = f x h
 
 pub behind : {X : Type 0} (xs : List X) (n : ℕ) → take (length xs - n) (drop n xs) ≡ drop n xs
 behind xs n = take_all (length xs - n) (drop n xs) (omega (arith, length-drop n xs))
+
+-- the new nodes, of those that are kept, are in range or not, as was asked
+pub in_range_behind : (old new ns : List Node) (n : ℕ) (b : Truth) → n ≡ length old → ns ≡ new → b ≡ list_all in_range (map node_token (take (length ns - n) (drop n ns))) → list_all in_range (drop (length old) (map node_token new)) ≡ b
+in_range_behind old new ns n b from same asked =
+    ap (λ m. list_all in_range (drop m (map node_token new))) (sym from) ∙ ap (λ xs. list_all in_range (drop n (map node_token xs))) (sym same)
+    ∙ ap (list_all in_range) (drop-map node_token n ns) ∙ ap (λ xs. list_all in_range (map node_token xs)) (sym (behind ns n)) ∙ sym asked

@@ -23,7 +23,7 @@ some_of o a e = ap is_some e
 -- ---- the numbers of a value that is read are in range
 
 mutual
-  passed : (j : json.Json) (rest : List Token) (x : Data) → of_json j ≡ Some x → list_all in_range (json_tokens j ++ rest) ≡ list_all in_range rest
+  pub passed : (j : json.Json) (rest : List Token) (x : Data) → of_json j ≡ Some x → list_all in_range (json_tokens j ++ rest) ≡ list_all in_range rest
   passed json.null rest x e = refl
   passed (json.boolean b) rest x e = refl
   passed (json.number s) rest x e = let m = mapped number (number_of s) x e in rw (some_of (number_of s) m.0 m.1) refl

@@ -1,9 +1,10 @@
 -- Members of which one value is put in place of another.
-use Rattle.std.proofs.Common.{◌≡◌, ℕ, List, Bool, true, false, not, Option, Some, None, option_map, is_some, cond, Less, Equal, Greater, refl, sym, ap, ◌∙◌}
+use Rattle.std.proofs.Common.{◌≡◌, ℕ, List, Bool, true, false, not, Option, Some, None, Result, Err, option_map, is_some, cond, Less, Equal, Greater, refl, sym, ap, ◌∙◌, subst}
 use Rattle.std.proofs.lemmas.Slice.Eq.{bytes_eq-Decides}
 use Rattle.std.specs.declared.cmp.Ordering.{Ordering}
 use Rattle.std.specs.Ordering.{match_ordering}
-use Rattle.std.specs.Prelude.{bytes_eq}
+use Rattle.std.specs.Option.{ok_or}
+use Rattle.std.specs.Prelude.{IfOk, bytes_eq}
 use Rattle.serde_json.specs.Data.{Data, Members, no_members, member, put}
 use Rattle.json_document.specs.Parted.{with_value}
 use Rattle.json_document.proofs.Keyed.{itself}
@@ -49,3 +50,12 @@ that_key k l e = (bytes_eq-Decides k l).0 (is_true (bytes_eq k l) e)
 pub none_held : {X Y : Type 0} (f : X → Y) (o : Option X) → is_some o ≡ false → option_map f o ≡ None
 none_held f None e = refl
 none_held f (Some x) e = absurd (cc)
+
+-- of an option that is answered, or else an error
+pub given : {X E : Type 0} (o : Option X) (r : Result X E) (e : E) (P : X → Type 0) → r ≡ ok_or o e → ((x : X) → o ≡ Some x → P x) → IfOk r P
+given None r e P is f = subst (λ s. IfOk s P) (sym is) tt
+given (Some x) r e P is f = subst (λ s. IfOk s P) (sym is) (f x refl)
+
+pub not_given : {X E : Type 0} (o : Option X) (r : Result X E) (e f : E) → r ≡ ok_or o e → r ≡ Err f → o ≡ None
+not_given None r e f is err = refl
+not_given (Some x) r e f is err = absurd (cc)

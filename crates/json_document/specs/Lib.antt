@@ -7,3 +7,4 @@ pub mod Number
 pub mod Nodes
 pub mod Kept
 pub mod Parted
+pub mod InParts

@@ -5,11 +5,13 @@ ghost use Rattle.json.specs.Json.{skip_value};
 ghost use Rattle.json.specs.Lex.{tokens};
 ghost use Rattle.json.specs.Reads.{skip_items, skip_members};
 ghost use Rattle.json.specs.Tape.{node_token};
-ghost use Rattle.json_document.specs.Kept.{IsKept};
+ghost use Rattle.json_document.specs.InParts.{BeginsValue, has_any_data};
+ghost use Rattle.json_document.specs.Kept.{IsKept, IsKeptAlone};
 ghost use Rattle.json_document.specs.Limits.{leveled};
 
-use crate::document::OpenError;
+use crate::document::{OpenError, are_in_range};
 use crate::nodes::Nodes;
+use crate::readers::NotParted;
 use json::{Node, Reader, Scratch, Token};
 
 /// How deep arrays and objects nest at most in what `serde_json` reads.
@@ -23,6 +25,19 @@ pub(crate) fn push<'a>(nodes: &mut Vec<Node<'a>>, node: Node<'a>) -> Result<(), 
         Ok(_) => Ok(()),
         Err(_) => Err(OpenError::Memory),
     }
+}
+
+pub(crate) fn add_three<'a>(
+    nodes: &mut Vec<Node<'a>>,
+    first: Node<'a>,
+    second: Node<'a>,
+    third: Node<'a>,
+) -> Result<(), OpenError>
+    ensures { OnOk result (nodes.new.items ≡ (nodes.old.items ++ first.entry ∷ []) ++ second.entry ∷ third.entry ∷ []) }
+{
+    push(nodes, first)?;
+    push(nodes, second)?;
+    push(nodes, third)
 }
 
 /// Keeps the node that closes, and puts the place behind it into the one that opens.
@@ -121,6 +136,28 @@ fn keep_members<'a>(
     }
     let after = nodes.len() + 1;
     close(nodes, at, Node::EndObject, Node::Object(after))
+}
+
+/// Keeps the nodes of the value that comes next, where its numbers are in range.
+pub(crate) fn keep_known<'a>(
+    reader: &mut Reader<'a>,
+    nodes: &mut Vec<Node<'a>>,
+    depth: usize,
+) -> Result<(), NotParted>
+    ensures known { OnOk result (IsKeptAlone depth nodes.old.items nodes.new.items reader.old reader.new) }
+    ensures shorter { OnOk result (length reader.new < length reader.old) }
+    ensures other { IsErrOf result NotParted.OtherForm → BeginsValue has_any_data depth reader.old → ⊥ }
+{
+    let from = nodes.len();
+    match keep_value(reader, nodes, depth) {
+        Ok(_) => if are_in_range(&nodes[from..]) {
+            Ok(())
+        } else {
+            Err(NotParted::OtherForm)
+        },
+        Err(OpenError::NotJson) => Err(NotParted::OtherForm),
+        Err(OpenError::Memory) => Err(NotParted::Memory),
+    }
 }
 
 /// The nodes of a text that is one value, of no more levels than `serde_json` reads. They go into `buffer`, which is emptied first.

@@ -9,13 +9,16 @@
 mod document;
 mod fields;
 mod keep;
+mod listed;
 mod nodes;
 mod number;
 mod parted;
+mod readers;
 mod types;
 mod value;
 
 pub use document::OpenError;
 pub use json::Scratch;
-pub use parted::{ReadItem, ReadMember, open_parted};
+pub use parted::open_parted;
+pub use readers::{NotParted, ReadItem, ReadMember};
 pub use types::{Document, Items, Members, Value};

@@ -11,7 +11,7 @@ ghost use Rattle.json_document.specs.View.{document_view};
 
 mod value;
 
-use json_document::{Document, OpenError, Scratch};
+use json_document::{Document, NotParted, OpenError, Scratch};
 use std::alloc::Global;
 pub use value::{
     Case, TreeError, case_of, counted_items, eight_fields, five_fields, four_fields, items,
@@ -37,5 +37,21 @@ pub fn document_of<'a>(
         Ok(document) => Ok(document),
         Err(OpenError::NotJson) => Err(TreeError::NotATree),
         Err(OpenError::Memory) => Err(TreeError::Memory),
+    }
+}
+
+/// What is said of an item or a part that was not read by itself.
+impl From<TreeError> for NotParted {
+    ghost use Rattle.std.specs.Prelude.{◌≡◌, ◌↔◌};
+    ghost use Rattle.json_document.specs.declared.readers.NotParted.TheVariants.{OtherForm};
+    ghost use Rattle.lalrpop_norm_json_shapes.specs.declared.value.TreeError.TheVariants.{NotATree};
+
+    ghost from_gives = { λ e n. (n ≡ OtherForm) ↔ (e ≡ NotATree) };
+
+    fn from(error: TreeError) -> NotParted {
+        match error {
+            TreeError::NotATree => NotParted::OtherForm,
+            TreeError::Memory => NotParted::Memory,
+        }
     }
 }

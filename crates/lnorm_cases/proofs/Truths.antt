@@ -1,17 +1,12 @@
 -- Truth values of JSON.
-use Rattle.std.proofs.Common.{◌≡◌, Bool, Option, Some, None}
-use Rattle.std.specs.Prelude.{IfSome}
+use Rattle.std.proofs.Common.{◌≡◌, Bool, Some}
 use Rattle.serde_json.specs.Data.{Data, null, boolean, number, string, array, object}
 use Rattle.serde_json.specs.Find.{as_bool}
 
-is_boolean : (d : Data) (b : Bool) → Some b ≡ as_bool d → Some (boolean b) ≡ Some d
+pub is_boolean : (d : Data) (b : Bool) → Some b ≡ as_bool d → Some (boolean b) ≡ Some d
 is_boolean null b e = absurd (cc)
 is_boolean (boolean c) b e = cc
 is_boolean (number n) b e = absurd (cc)
 is_boolean (string s) b e = absurd (cc)
 is_boolean (array ds) b e = absurd (cc)
 is_boolean (object ms) b e = absurd (cc)
-
-pub truth_of : (o : Option Bool) (d : Data) → o ≡ as_bool d → IfSome o (λ b. Some (boolean b) ≡ Some d)
-truth_of None d e = tt
-truth_of (Some b) d e = is_boolean d b e

@@ -1,5 +1,5 @@
 //! Items and grammars.
-ghost use Rattle.std.specs.Prelude.{◌≡◌, List, codes, map, Some, IfOk, IfSome, IsErrOf, false};
+ghost use Rattle.std.specs.Prelude.{◌≡◌, List, codes, map, Some, IfOk, IsErrOf, false};
 ghost use Rattle.serde_json.specs.Data.{Data};
 ghost use Rattle.json_document.specs.Parted.{all_data, with_list};
 ghost use Rattle.json_document.specs.View.{view};
@@ -14,7 +14,7 @@ use super::names::{span, string};
 use super::parts::{list, pushed};
 use super::rules::{alternative, rule, rule_of};
 use super::tokens::{extern_token, match_token};
-use json_document::{ReadItem, ReadMember, Value};
+use json_document::{NotParted, ReadItem, ReadMember, Value};
 use lalrpop_norm_json_shapes::{Case, TreeError, case_of, counted_items, eight_fields};
 use lalrpop_norm_tree::grammar::parse_tree::{Alternative, Grammar, GrammarItem};
 use std::alloc::Global;
@@ -64,26 +64,34 @@ impl ReadItem<Alternative> for Items {
     ghost use Rattle.std.specs.Prelude.{Some};
     ghost use Rattle.lalrpop_norm_tree.specs.Items.{alternative_view};
     ghost use Rattle.lalrpop_norm_json.specs.ItemForms.{alternative_form};
+    ghost use Rattle.lalrpop_norm_json_shapes.specs.Shapes as shape;
+    ghost use Rattle.lalrpop_norm_json_shapes.specs.Shapes.{is};
 
     ghost data_of = { λ a. Some (alternative_form (alternative_view a)) };
 
-    fn read_item(alloc: Global, value: Value<'_, '_>) -> Option<Alternative> {
-        match alternative(alloc, value) {
-            Ok(alternative) => Some(alternative),
-            Err(_) => None,
-        }
+    ghost can_read = { is shape.alternative };
+
+    fn read_item(alloc: Global, value: Value<'_, '_>) -> Result<Alternative, NotParted> {
+        Ok(alternative(alloc, value)?)
     }
 }
 
 impl ReadMember<GrammarItem, Alternative> for Items {
-    ghost use Rattle.std.specs.Prelude.{◌≡◌, List, IfSome, Some};
+    ghost use Rattle.std.specs.Prelude.{◌≡◌, List, IfOk, IsErrOf, Some, false};
     ghost use Rattle.serde_json.specs.Data.{Data, object, member, no_members};
     ghost use Rattle.json_document.specs.Parted.{all_data, with_list};
     ghost use Rattle.json_document.specs.View.{view};
     ghost use Rattle.lalrpop_norm_tree.specs.Items.{alternative_view, item_view};
+    ghost use Rattle.lalrpop_norm_json.specs.InParts.{name_of_parts};
     ghost use Rattle.lalrpop_norm_json.specs.ItemForms.{alternative_form, item_form};
+    ghost use Rattle.lalrpop_norm_json_shapes.specs.Shapes as shape;
+    ghost use Rattle.lalrpop_norm_json_shapes.specs.Shapes.{is};
 
     ghost whole_of = { λ i. item_form (item_view i) };
+
+    ghost can_read_whole = { is shape.grammar_item };
+
+    ghost parts_under = { name_of_parts };
 
     fn parts_of(key: &str) -> Option<&'static str> {
         match key {
@@ -92,11 +100,12 @@ impl ReadMember<GrammarItem, Alternative> for Items {
         }
     }
 
-    fn read_member(alloc: Global, key: &str, value: Value<'_, '_>) -> Option<GrammarItem> {
-        match item_of(alloc, Case::Of(key, value)) {
-            Ok(item) => Some(item),
-            Err(_) => None,
-        }
+    fn read_member(
+        alloc: Global,
+        key: &str,
+        value: Value<'_, '_>,
+    ) -> Result<GrammarItem, NotParted> {
+        Ok(item_of(alloc, Case::Of(key, value))?)
     }
 
     fn read_parted(
@@ -105,26 +114,30 @@ impl ReadMember<GrammarItem, Alternative> for Items {
         value: Value<'_, '_>,
         name: &str,
         parts: Vec<Alternative>,
-    ) -> Option<GrammarItem>
-        ensures { IfSome result (λ x. (ds : List Data) → all_data (λ a. Some (alternative_form (alternative_view a))) parts.items ≡ Some ds
+    ) -> Result<GrammarItem, NotParted>
+        ensures ok { IfOk result (λ x. (ds : List Data) → all_data (λ a. Some (alternative_form (alternative_view a))) parts.items ≡ Some ds
             → item_form (item_view x) ≡ Some (object (member key.now (with_list name.now ds (view value.entry)) no_members))) }
+        ensures other { IsErrOf result NotParted.OtherForm → name_of_parts key.now ≡ Some name.now
+            → (ds : List Data) → all_data (λ a. Some (alternative_form (alternative_view a))) parts.items ≡ Some ds
+            → is shape.grammar_item (object (member key.now (with_list name.now ds (view value.entry)) no_members)) ≡ false }
     {
         let ("Nonterminal", "alternatives") = (key, name) else {
-            return None;
+            return Err(NotParted::OtherForm);
         };
         let rule = rule_of(alloc, value, parts)?;
-        Some(GrammarItem::Nonterminal(rule))
+        Ok(GrammarItem::Nonterminal(rule))
     }
 }
 
 /// The grammar whose form the value is, but for its items, and the value that holds these.
-#[tactic(auto, using(lalrpop_norm_json_shapes::proofs::Refusals::refusals))]
+#[tactic(auto, using(lalrpop_norm_json_shapes::proofs::Refusals::refusals, crate::proofs::ListedFields::no_listed_fields))]
 fn without_items<'t, 'a>(
     alloc: Global,
     value: Value<'t, 'a>,
 ) -> Result<(Grammar, Value<'t, 'a>), TreeError>
     ensures ok { IfOk result (λ p. view value.entry ≡ grammar_fields (grammar_view p.0) (view p.1)) }
     ensures err { IsErrOf result TreeError.NotATree → is shape.grammar (view value.entry) ≡ false }
+    ensures listed { IsErrOf result TreeError.NotATree → (ds : List Data) → is shape.grammar (with_list (codes "items") ds (view value.entry)) ≡ false }
 {
     let (listed, held, module_attributes, parameters, prefix, at, type_parameters, where_clauses) =
         eight_fields(
@@ -170,16 +183,17 @@ pub fn grammar(alloc: Global, value: Value<'_, '_>) -> Result<Grammar, TreeError
 }
 
 /// The grammar of these items whose form is the value with them.
-pub fn grammar_of(alloc: Global, value: Value<'_, '_>, items: Vec<GrammarItem>) -> Option<Grammar>
-    ensures { IfSome result (λ g. (ds : List Data) → all_data (λ i. item_form (item_view i)) items.items ≡ Some ds
+pub fn grammar_of(
+    alloc: Global,
+    value: Value<'_, '_>,
+    items: Vec<GrammarItem>,
+) -> Result<Grammar, TreeError>
+    ensures ok { IfOk result (λ g. (ds : List Data) → all_data (λ i. item_form (item_view i)) items.items ≡ Some ds
         → grammar_form (grammar_view g) ≡ Some (with_list (codes "items") ds (view value.entry))) }
+    ensures err { IsErrOf result TreeError.NotATree → (ds : List Data) → is shape.grammar (with_list (codes "items") ds (view value.entry)) ≡ false }
 {
-    match without_items(alloc, value) {
-        Ok((grammar, _)) => {
-            let mut whole = grammar;
-            whole.items = items;
-            Some(whole)
-        }
-        Err(_) => None,
-    }
+    let (grammar, _) = without_items(alloc, value)?;
+    let mut whole = grammar;
+    whole.items = items;
+    Ok(whole)
 }

@@ -1,5 +1,5 @@
 //! Rules and their alternatives.
-ghost use Rattle.std.specs.Prelude.{◌≡◌, List, codes, Some, IfOk, IfSome, IsErrOf, false};
+ghost use Rattle.std.specs.Prelude.{◌≡◌, List, codes, Some, IfOk, IsErrOf, false};
 ghost use Rattle.serde_json.specs.Data.{Data};
 ghost use Rattle.json_document.specs.Parted.{all_data, with_list};
 ghost use Rattle.json_document.specs.View.{view};
@@ -141,13 +141,14 @@ fn visibility(alloc: Global, value: Value<'_, '_>) -> Result<Visibility, TreeErr
 }
 
 /// The rule whose form the value is, but for its alternatives, and the value that holds these.
-#[tactic(auto, using(lalrpop_norm_json_shapes::proofs::Refusals::refusals))]
+#[tactic(auto, using(lalrpop_norm_json_shapes::proofs::Refusals::refusals, crate::proofs::ListedFields::no_listed_fields))]
 fn without_alternatives<'t, 'a>(
     alloc: Global,
     value: Value<'t, 'a>,
 ) -> Result<(NonterminalData, Value<'t, 'a>), TreeError>
     ensures ok { IfOk result (λ p. view value.entry ≡ rule_fields (rule_view p.0) (view p.1)) }
     ensures err { IsErrOf result TreeError.NotATree → is shape.rule (view value.entry) ≡ false }
+    ensures listed { IsErrOf result TreeError.NotATree → (ds : List Data) → is shape.rule (with_list (codes "alternatives") ds (view value.entry)) ≡ false }
 {
     let (held, args, listed, name, at, type_decl, seen) = seven_fields(
         value,
@@ -192,16 +193,13 @@ pub(super) fn rule_of(
     alloc: Global,
     value: Value<'_, '_>,
     alternatives: Vec<Alternative>,
-) -> Option<NonterminalData>
-    ensures { IfSome result (λ n. (ds : List Data) → all_data (λ a. Some (alternative_form (alternative_view a))) alternatives.items ≡ Some ds
+) -> Result<NonterminalData, TreeError>
+    ensures ok { IfOk result (λ n. (ds : List Data) → all_data (λ a. Some (alternative_form (alternative_view a))) alternatives.items ≡ Some ds
         → rule_form (rule_view n) ≡ with_list (codes "alternatives") ds (view value.entry)) }
+    ensures err { IsErrOf result TreeError.NotATree → (ds : List Data) → is shape.rule (with_list (codes "alternatives") ds (view value.entry)) ≡ false }
 {
-    match without_alternatives(alloc, value) {
-        Ok((rule, _)) => {
-            let mut whole = rule;
-            whole.alternatives = alternatives;
-            Some(whole)
-        }
-        Err(_) => None,
-    }
+    let (rule, _) = without_alternatives(alloc, value)?;
+    let mut whole = rule;
+    whole.alternatives = alternatives;
+    Ok(whole)
 }

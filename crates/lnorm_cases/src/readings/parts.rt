@@ -1,7 +1,7 @@
 //! The items of a list, read one after another, and the parts of an item.
 ghost use Rattle.serde_json.specs.Data.{Data};
 
-use json_document::{Document, ReadItem, ReadMember, Scratch, Value, open_parted};
+use json_document::{Document, NotParted, ReadItem, ReadMember, Scratch, Value, open_parted};
 use std::alloc::{AllocError, Global};
 
 /// An item: an object with a truth value under `one`, or with an object under `all` that has a list of them under `of` alone.
@@ -17,25 +17,35 @@ enum Flags {
 struct Truths;
 
 impl ReadItem<bool> for Truths {
-    ghost use Rattle.std.specs.Prelude.{Some};
+    ghost use Rattle.std.specs.Prelude.{Some, is_some};
     ghost use Rattle.serde_json.specs.Data.{boolean};
+    ghost use Rattle.serde_json.specs.Find.{as_bool};
 
     ghost data_of = { λ b. Some (boolean b) };
 
-    #[tactic(auto, using(crate::proofs::Truths::truth_of))]
-    fn read_item(_: Global, value: Value<'_, '_>) -> Option<bool> {
-        value.as_bool()
+    ghost can_read = { λ d. is_some (as_bool d) };
+
+    #[tactic(auto, using(crate::proofs::Truths::is_boolean))]
+    fn read_item(_: Global, value: Value<'_, '_>) -> Result<bool, NotParted> {
+        match value.as_bool() {
+            Some(truth) => Ok(truth),
+            None => Err(NotParted::OtherForm),
+        }
     }
 }
 
 impl ReadMember<Flags, bool> for Truths {
-    ghost use Rattle.std.specs.Prelude.{◌≡◌, List, IfSome, Some};
+    ghost use Rattle.std.specs.Prelude.{◌≡◌, List, IfOk, IsErrOf, Some, false};
     ghost use Rattle.serde_json.specs.Data.{Data, boolean, object, member, no_members};
     ghost use Rattle.json_document.specs.Parted.{all_data, with_list};
     ghost use Rattle.json_document.specs.View.{view};
-    ghost use Rattle.lnorm_cases.specs.Flags.{flags_data};
+    ghost use Rattle.lnorm_cases.specs.Flags.{flags_data, has_flags, name_of_flags};
 
     ghost whole_of = { flags_data };
+
+    ghost can_read_whole = { has_flags };
+
+    ghost parts_under = { name_of_flags };
 
     fn parts_of(key: &str) -> Option<&'static str> {
         match key {
@@ -44,13 +54,14 @@ impl ReadMember<Flags, bool> for Truths {
         }
     }
 
-    fn read_member(_: Global, key: &str, value: Value<'_, '_>) -> Option<Flags> {
+    #[tactic(auto, using(crate::proofs::Truths::is_boolean))]
+    fn read_member(_: Global, key: &str, value: Value<'_, '_>) -> Result<Flags, NotParted> {
         match key {
             "one" => match value.as_bool() {
-                Some(truth) => Some(Flags::One(truth)),
-                None => None,
+                Some(truth) => Ok(Flags::One(truth)),
+                None => Err(NotParted::OtherForm),
             },
-            _ => None,
+            _ => Err(NotParted::OtherForm),
         }
     }
 
@@ -60,19 +71,22 @@ impl ReadMember<Flags, bool> for Truths {
         value: Value<'_, '_>,
         name: &str,
         parts: Vec<bool>,
-    ) -> Option<Flags>
-        ensures { IfSome result (λ x. (ds : List Data) → all_data (λ b. Some (boolean b)) parts.items ≡ Some ds
+    ) -> Result<Flags, NotParted>
+        ensures ok { IfOk result (λ x. (ds : List Data) → all_data (λ b. Some (boolean b)) parts.items ≡ Some ds
             → flags_data x ≡ Some (object (member key.now (with_list name.now ds (view value.entry)) no_members))) }
+        ensures other { IsErrOf result NotParted.OtherForm → name_of_flags key.now ≡ Some name.now
+            → (ds : List Data) → all_data (λ b. Some (boolean b)) parts.items ≡ Some ds
+            → has_flags (object (member key.now (with_list name.now ds (view value.entry)) no_members)) ≡ false }
     {
         let ("all", "of") = (key, name) else {
-            return None;
+            return Err(NotParted::OtherForm);
         };
         match value.only_member() {
             Some((only, _)) => match only {
-                "of" => Some(Flags::All(parts)),
-                _ => None,
+                "of" => Ok(Flags::All(parts)),
+                _ => Err(NotParted::OtherForm),
             },
-            None => None,
+            None => Err(NotParted::OtherForm),
         }
     }
 }
@@ -84,11 +98,12 @@ pub fn push_parts(alloc: Global, text: &mut String, bytes: &[u8]) -> Result<(), 
     };
     let mut scratch = Scratch::new(alloc);
     match open_parted::<Flags, bool, Truths>(alloc, written, &mut scratch, "items") {
-        Some((document, items)) => {
+        Ok((document, items)) => {
             push_items(text, &items)?;
             push_keys(text, &document)
         }
-        None => text.push_str("no parts\n"),
+        Err(NotParted::OtherForm) => text.push_str("no parts\n"),
+        Err(NotParted::Memory) => Err(AllocError),
     }
 }
 

@@ -2,13 +2,13 @@ use Rattle.std.proofs.Common.{◌≡◌, ◌<◌, ◌+◌, [], ◌∷◌, ◌++�
 use Rattle.json.specs.Token.{begin_object}
 use Rattle.json.specs.declared.tape.Node.TheVariants.{Object, EndObject}
 use Rattle.json_document.proofs.Parting.{parted_object}
-use Rattle.json_document.proofs.parted.object.Goals as goal
+use Rattle.json_document.proofs.listed.object.Goals as goal
 
 pub returns-in-Ok-close-clause-read : goal.returns-in-Ok-close-clause-read
 returns-in-Ok-close-clause-read g c =
     let m = c.in_ok-parts.ensures.parted in
     let ns = c.members.new.nodes.items in
-    let inner = c.in_ok-inner.inner in
+    let inner = c.in-Some.inner in
     let less : inner < c.args.depth = grind arith in
     let count : c.len-after.result ≡ length ns = grind arith in
     let all : c.close.new.nodes.items ≡ slice_set (ns ++ EndObject ∷ []) 0 (Object (length ns + 1)) =
