@@ -1,6 +1,6 @@
 //! Documents of which one list is handed out item by item, as they are read, and of an item one list likewise.
-ghost use Rattle.std.specs.Prelude.{◌≡◌, ℕ, ◌<◌, ◌≤◌, List, Option, length, Some, None, IfOk, IsErrOf, OnOk, false};
-ghost use Rattle.serde_json.specs.Data.{Data, object, member, no_members};
+ghost use Rattle.std.specs.Prelude.{◌≡◌, ◌<◌, ◌≤◌, List, length, Some, None, IfOk, IsErrOf, OnOk, false};
+ghost use Rattle.serde_json.specs.Data.{Data, object, member};
 ghost use Rattle.serde_json.specs.Read.{read};
 ghost use Rattle.json_document.specs.InParts.{has_data, is_held, is_item, is_in_parts, BeginsValue};
 ghost use Rattle.json_document.specs.Parted.{IsItem, IsHeld, all_data, with_list};
