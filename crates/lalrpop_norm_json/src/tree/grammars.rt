@@ -72,7 +72,11 @@ impl ReadItem<Alternative> for Items {
     ghost can_read = { is shape.alternative };
 
     fn read_item(alloc: Global, value: Value<'_, '_>) -> Result<Alternative, NotParted> {
-        Ok(alternative(alloc, value)?)
+        // (`?` would move the alternative once more)
+        match alternative(alloc, value) {
+            Ok(alternative) => Ok(alternative),
+            Err(error) => Err(NotParted::from(error)),
+        }
     }
 }
 
@@ -124,8 +128,11 @@ impl ReadMember<GrammarItem, Alternative> for Items {
         let ("Nonterminal", "alternatives") = (key, name) else {
             return Err(NotParted::OtherForm);
         };
-        let rule = rule_of(alloc, value, parts)?;
-        Ok(GrammarItem::Nonterminal(rule))
+        // (`?` would move the rule once more)
+        match rule_of(alloc, value, parts) {
+            Ok(rule) => Ok(GrammarItem::Nonterminal(rule)),
+            Err(error) => Err(NotParted::from(error)),
+        }
     }
 }
 

@@ -198,8 +198,13 @@ pub(super) fn rule_of(
         → rule_form (rule_view n) ≡ with_list (codes "alternatives") ds (view value.entry)) }
     ensures err { IsErrOf result TreeError.NotATree → (ds : List Data) → is shape.rule (with_list (codes "alternatives") ds (view value.entry)) ≡ false }
 {
-    let (rule, _) = without_alternatives(alloc, value)?;
-    let mut whole = rule;
-    whole.alternatives = alternatives;
-    Ok(whole)
+    // (`?` would move the rule once more)
+    match without_alternatives(alloc, value) {
+        Ok((rule, _)) => {
+            let mut whole = rule;
+            whole.alternatives = alternatives;
+            Ok(whole)
+        }
+        Err(error) => Err(error),
+    }
 }
