@@ -1,0 +1,17 @@
+-- Names and their numbers.
+use Rattle.std.specs.Prelude.{◌≡◌, ℕ, List, Option, bytes_eq}
+use Rattle.std.specs.List.{position}
+use Rattle.std.specs.HashMap.{get}
+use Rattle.lalrpop_norm_names.specs.declared.table.Names.{Names}
+
+-- the first place at which a name stands in a list of names, counted from 0
+abbrev pub first_place : List (List ℕ) → List ℕ → Option ℕ
+first_place names name = position (λ stands. bytes_eq stands name) names
+
+-- the number that a name has in a table
+abbrev pub number_in_table : Names → List ℕ → Option ℕ
+number_in_table table name = get bytes_eq table.numbers name
+
+-- each name has the first place at which it stands in the list as its number, and one that does not stand there has none
+abbrev pub IsNumbering : List (List ℕ) → Names → Type 0
+IsNumbering names table = (name : List ℕ) → number_in_table table name ≡ first_place names name
