@@ -99,7 +99,8 @@ module _ (ps : List TypeParameter) (before after : TypeTable) (ss : List Seen) (
       ∙ (ap (λ b. b || typed_at stops k) (eqb_other place k apart)
       ∙ (w.tells k r here ∙ ap is_some (sym (t.others r.0.name.0 (λ e. apart (one_place (names_seen ss) s.0.name.0 place k distinct (name_at ss place s there) (name_at ss k r here ∙ ap Some e)))))))
 
-  given_watches : Watches ps after ss stops_after
+  -- seen through, as its numbers are the same
+  abbrev given_watches : Watches ps after ss stops_after
   given_watches = record {
     number = w.number;
     numbers = w.numbers;

@@ -231,24 +231,26 @@ module _ (w given out after : Stops) (number : ℕ) (taken : List Stop) (ready :
     | inl r ↦
         let l = s.listed q e in
         let below : AreTypedBelow out l.0.need.now.numbers.items l.0.next = λ j o less here.
-            out_typed o ∙ grows o (s.earlier j o (subst (λ k. j < k) l.3 less) (subst (λ (x : Need). slice_get x.numbers.items j ≡ Some o) l.2 here)) in
+        out_typed o ∙ grows o (s.earlier j o (subst (λ k. j < k) l.3 less) (subst (λ (x : Need). slice_get x.numbers.items j ≡ Some o) l.2 here)) in
         elim (m.moved l.0 (stopped_where q l.0 r.1 l.1) below) [
           | inl stop ↦ inl (subst (StopsAt after) l.2 stop)
           | inr all ↦
-              inr (subst (λ (x : Need). AreTyped after x.numbers.items) l.2 (λ j o here. sym (out_typed o) ∙ all.0 j o here),
-              inr (subst (λ (x : Need). In x.rule ready) l.2 all.1))
+              inr (
+                subst (λ (x : Need). AreTyped after x.numbers.items) l.2 (λ j o here. sym (out_typed o) ∙ all.0 j o here),
+                inr (subst (λ (x : Need). In x.rule ready) l.2 all.1),
+              )
         ]
     | inr r ↦ inl (record {
-        place = s.place;
-        number = Some q;
-        here = s.here ∙ ap Some e;
-        untyped = still q r.1 (subst (λ o. is_typed w o ≡ false) e s.untyped);
-        earlier = λ j o less here. grows o (s.earlier j o less here);
-        listed = λ p is.
-            let l = s.listed q e in
-            let one : q ≡ p = cc is in
-            (l.0, subst (λ k. In l.0 (stopped_at after k)) one (listed_still q r.1 l.0 l.1), l.2, l.3);
-      })
+      place = s.place;
+      number = Some q;
+      here = s.here ∙ ap Some e;
+      untyped = still q r.1 (subst (λ o. is_typed w o ≡ false) e s.untyped);
+      earlier = λ j o less here. grows o (s.earlier j o less here);
+      listed = λ p is.
+          let l = s.listed q e in
+          let one : q ≡ p = cc is in
+          (l.0, subst (λ k. In l.0 (stopped_at after k)) one (listed_still q r.1 l.0 l.1), l.2, l.3);
+    })
   ]
 
   gives_settled : (n : Need) → Settled w n → StopsAt after n ⊎ (AreTyped after n.numbers.items × (AreTyped w n.numbers.items ⊎ In n.rule ready))

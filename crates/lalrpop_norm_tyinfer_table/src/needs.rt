@@ -226,7 +226,14 @@ fn needs_by(
 {
     let mut needs = Vec::with_capacity(alloc, rules.len())?;
     for rule in 0..rules.len() {
-        add_needs(&mut needs, alloc, parameters, names, &rules[rule].clauses, rule)?;
+        add_needs(
+            &mut needs,
+            alloc,
+            parameters,
+            names,
+            &rules[rule].clauses,
+            rule,
+        )?;
     }
     Ok(needs)
 }

@@ -69,7 +69,10 @@ fn is_type_parameter(parameters: &[TypeParameter], name: &Atom) -> bool
 }
 
 /// The associated type that a path is: its type parameter, and its name.
-pub(crate) fn associated<'a>(parameters: &[TypeParameter], path: &'a Path) -> Option<(&'a Atom, &'a Atom)>
+pub(crate) fn associated<'a>(
+    parameters: &[TypeParameter],
+    path: &'a Path,
+) -> Option<(&'a Atom, &'a Atom)>
     ensures { option_map (λ a. (a.0.now, a.1.now)) result ≡ associated_in parameters.now (path_view path.now).ids }
 {
     match path.ids.as_slice() {

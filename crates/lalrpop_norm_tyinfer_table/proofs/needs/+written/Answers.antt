@@ -1,4 +1,4 @@
-use Rattle.std.proofs.Common.{List, ℕ, map, arith}
+use Rattle.std.proofs.Common.{List, map, arith}
 use Rattle.std.specs.Prelude.{option_map}
 use Rattle.std.proofs.lemmas.List.{map-append}
 use Rattle.lalrpop_norm_tree.specs.declared.types.TypeRef.{TypeRef}

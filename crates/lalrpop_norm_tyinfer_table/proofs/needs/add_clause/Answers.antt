@@ -1,5 +1,4 @@
 use Rattle.std.proofs.Common.{Bor, ◌≡◌, ◌++◌, ℕ, List, map, sym, subst}
-use Rattle.std.specs.List.{flat_map}
 use Rattle.std.specs.Prelude.{OnOk}
 use Rattle.lalrpop_norm_tree.specs.declared.symbol.Symbol.{Symbol}
 use Rattle.lalrpop_norm_tree.specs.Symbols.{kind_view}

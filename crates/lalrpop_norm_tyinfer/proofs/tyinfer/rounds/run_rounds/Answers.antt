@@ -13,7 +13,7 @@ pub of-requires : goal.of-requires
 of-requires c =
     let have = c.in_ok-needs.ensures in
     let fit : (n : Need) → In n c.in_ok-needs.needs.items → Fits (length c.args.rules.now) n = λ n h.
-        subst (λ k. Fits k n) (length-map c.args.rules.now rule_seen) (need_fits have.number c.args.parameters.now (map rule_seen c.args.rules.now) c.in_ok-needs.needs.items have.numbers have.needs_are n h) in
+    subst (λ k. Fits k n) (length-map c.args.rules.now rule_seen) (need_fits have.number c.args.parameters.now (map rule_seen c.args.rules.now) c.in_ok-needs.needs.items have.numbers have.needs_are n h) in
     rw c.deref.ensures.value fit
 
 pub rounds_from-requires-clause-watches : goal.rounds_from-requires-clause-watches
