@@ -10,7 +10,7 @@ use Rattle.lalrpop_norm_theory.proofs.ListLemmas.{in_one}
 use Rattle.lalrpop_norm_theory.proofs.RoundsLemmas.{in_left, in_right, in_cases}
 use Rattle.lalrpop_norm_model.specs.TypeRelation.{TypeClause}
 use Rattle.lalrpop_norm_tyinfer_table.specs.declared.needs.Need.{Need}
-use Rattle.lalrpop_norm_tyinfer_table.specs.Needs.{needed_in, names_seen, AreNumbers, IsNeedOf, AddsNeeds, AreNeeds}
+use Rattle.lalrpop_norm_tyinfer_table.specs.Needs.{needed_in, names_seen, AreRuleNumbers, IsNeedOf, AddsNeeds, AreNeeds}
 use Rattle.lalrpop_norm_tyinfer_table.specs.Stops.{Fits}
 use Rattle.lalrpop_norm_tyinfer_table.specs.Visits.{Seen}
 use Rattle.lalrpop_norm_tyinfer_table.proofs.StopLemmas.{in_at}
@@ -74,13 +74,13 @@ added_both f old mid new xs ys (Err x) one two = two
 
 -- ---- numbers
 
-pub numbers_none : (f : List ℕ → Option ℕ) → ((n : List ℕ) → f n ≡ None) → AreNumbers f []
+pub numbers_none : (f : List ℕ → Option ℕ) → ((n : List ℕ) → f n ≡ None) → AreRuleNumbers f []
 numbers_none f none = record {
   right = λ n k is. let clash = sym (none n) ∙ is in absurd cc;
   all = λ n _ no. absurd no;
 }
 
-module _ (f h : List ℕ → Option ℕ) (names : List (List ℕ)) (m : List ℕ) (k : ℕ) (last : k ≡ length names) (a : AreNumbers f names) (here : h m ≡ Some k)
+module _ (f h : List ℕ → Option ℕ) (names : List (List ℕ)) (m : List ℕ) (k : ℕ) (last : k ≡ length names) (a : AreRuleNumbers f names) (here : h m ≡ Some k)
     (others : (n : List ℕ) → bytes_eq m n ≡ false → h n ≡ f n) where
   right_case : (n : List ℕ) (j : ℕ) → h n ≡ Some j → (b : Bool) → bytes_eq m n ≡ b → slice_get (names ++ m ∷ []) j ≡ Some n
   right_case n j is true e =
@@ -100,7 +100,7 @@ module _ (f h : List ℕ → Option ℕ) (names : List (List ℕ)) (m : List ℕ
   ]
 
   -- one more name, with its place
-  pub numbers_more : AreNumbers h (names ++ m ∷ [])
+  pub numbers_more : AreRuleNumbers h (names ++ m ∷ [])
   numbers_more = record {
     right = λ n j is. right_case n j is (bytes_eq m n) refl;
     all = λ n none i. all_case n none i (bytes_eq m n) refl;
@@ -156,7 +156,7 @@ needs_more f ps ss s old new rule last a adds = record {
 }
 
 -- the numbers are those of rules
-pub need_fits : (f : List ℕ → Option ℕ) (ps : List TypeParameter) (ss : List Seen) (needs : List Need) → AreNumbers f (names_seen ss) → AreNeeds f ps ss needs → (n : Need) → In n needs → Fits (length ss) n
+pub need_fits : (f : List ℕ → Option ℕ) (ps : List TypeParameter) (ss : List Seen) (needs : List Need) → AreRuleNumbers f (names_seen ss) → AreNeeds f ps ss needs → (n : Need) → In n needs → Fits (length ss) n
 need_fits f ps ss needs numbers a n h =
     let w = a.only n h in record {
       rule = w.0;

@@ -15,8 +15,8 @@ use Rattle.lalrpop_norm_tyinfer_table.specs.declared.needs.Need.{Need}
 use Rattle.lalrpop_norm_tyinfer_table.specs.declared.stops.Stops.{Stops}
 use Rattle.lalrpop_norm_tyinfer_table.specs.declared.waiting.Waiting.{Waiting}
 use Rattle.lalrpop_norm_tyinfer_table.specs.Clauses.{clause_in, first_in}
-use Rattle.lalrpop_norm_tyinfer_table.specs.Needs.{needed_in, names_seen, AreNumbers, IsNeedOf, AreNeeds}
-use Rattle.lalrpop_norm_tyinfer_table.specs.Stops.{typed_at, is_typed, AreTyped, StopsAt, Gives, Begins}
+use Rattle.lalrpop_norm_tyinfer_table.specs.Needs.{needed_in, names_seen, AreRuleNumbers, IsNeedOf, AreNeeds}
+use Rattle.lalrpop_norm_tyinfer_table.specs.Stops.{typed_at, is_typed, AreTyped, StopsAt, GivesType, BeginsUntyped}
 use Rattle.lalrpop_norm_tyinfer_table.specs.TableValues.{type_by_name}
 use Rattle.lalrpop_norm_tyinfer_table.specs.Visits.{Seen, TakesType, Passes}
 use Rattle.lalrpop_norm_tyinfer_table.specs.Waiting.{has, TakesLeast, IsQuiet, Waits, Wakes, Watches, VisitsOne}
@@ -88,7 +88,7 @@ module _ (ps : List TypeParameter) (tt : TypeTable) (ss : List Seen) (stops : St
 -- ---- a rule takes a type
 
 module _ (ps : List TypeParameter) (before after : TypeTable) (ss : List Seen) (stops stops_after : Stops) (place : ℕ) (s : Seen) (v : Option ReprData) (ready : List ℕ)
-    (w : Watches ps before ss stops) (distinct : IsDistinct (names_seen ss)) (there : slice_get ss place ≡ Some s) (t : TakesType before after s.0.name.0 v true) (g : Gives stops stops_after place ready) where
+    (w : Watches ps before ss stops) (distinct : IsDistinct (names_seen ss)) (there : slice_get ss place ≡ Some s) (t : TakesType before after s.0.name.0 v true) (g : GivesType stops stops_after place ready) where
   tells_case : (k : ℕ) (r : Seen) → slice_get ss k ≡ Some r → (place ≡ k) ⊎ (place ≡ k → ⊥) → typed_at stops_after k ≡ is_some (type_by_name after r.0.name.0)
   tells_case k r here (inl e) =
       let same : s ≡ r = let one = sym there ∙ (ap (slice_get ss) e ∙ here) in cc in
@@ -336,7 +336,7 @@ steps_still ps before after s place stops now next t = record {
 }
 
 pub steps_taken : {T E : Type 0} (ps : List TypeParameter) (before after : TypeTable) (s : Seen) (place : ℕ) (stops stops_after : Stops) (now now_after next next_after : Waiting) (ready : List ℕ) →
-    (r : Result T E) → TakesType before after s.0.name.0 (first_in ps before s.1) true → Gives stops stops_after place ready → OnOk r (Wakes ready place now now_after next next_after) →
+    (r : Result T E) → TakesType before after s.0.name.0 (first_in ps before s.1) true → GivesType stops stops_after place ready → OnOk r (Wakes ready place now now_after next next_after) →
     OnOk r (VisitsOne ps before after s place stops stops_after now now_after next next_after)
 steps_taken ps before after s place stops stops_after now now_after next next_after ready (Ok x) t g w = record {
   added = true;
@@ -358,8 +358,8 @@ all_wait ps tt ss now count long all only = record {
 }
 
 -- at first no name has a type
-pub begins_watching : (f : List ℕ → Option ℕ) (ps : List TypeParameter) (tt : TypeTable) (ss : List Seen) (needs : List Need) (stops : Stops) → AreNumbers f (names_seen ss) → AreNeeds f ps ss needs →
-    Begins stops (length ss) needs → ((n : List ℕ) → type_by_name tt n ≡ None) → Watches ps tt ss stops
+pub begins_watching : (f : List ℕ → Option ℕ) (ps : List TypeParameter) (tt : TypeTable) (ss : List Seen) (needs : List Need) (stops : Stops) → AreRuleNumbers f (names_seen ss) → AreNeeds f ps ss needs →
+    BeginsUntyped stops (length ss) needs → ((n : List ℕ) → type_by_name tt n ≡ None) → Watches ps tt ss stops
 begins_watching f ps tt ss needs stops numbers are b none = record {
   number = f;
   numbers = numbers;

@@ -9,7 +9,7 @@ use Rattle.lalrpop_norm_theory.proofs.RoundsLemmas.{in_left, in_right, in_cases}
 use Rattle.lalrpop_norm_tyinfer_table.specs.declared.needs.Need.{Need}
 use Rattle.lalrpop_norm_tyinfer_table.specs.declared.stops.Stop.{Stop}
 use Rattle.lalrpop_norm_tyinfer_table.specs.declared.stops.Stops.{Stops}
-use Rattle.lalrpop_norm_tyinfer_table.specs.Stops.{typed_at, is_typed, stopped_at, AreTypedFrom, AreTypedBelow, AreTyped, IsFirstUntyped, StopsAt, Settled, Fits, IsStops, PutsUnder, TakesOut, Puts, Seeks, MovesOn, Gives, Begins}
+use Rattle.lalrpop_norm_tyinfer_table.specs.Stops.{typed_at, is_typed, stopped_at, AreTypedFrom, AreTypedBelow, AreTyped, IsFirstUntyped, StopsAt, Settled, Fits, IsStops, PutsUnder, TakesOut, Puts, Seeks, MovesOn, GivesType, BeginsUntyped}
 
 pub in_at : {X : Type 0} (xs : List X) (i : ℕ) (x : X) → slice_get xs i ≡ Some x → In x xs
 in_at [] i x e = absurd (cc e)
@@ -260,7 +260,7 @@ module _ (w given out after : Stops) (number : ℕ) (taken : List Stop) (ready :
   out_count : length out.typed.items ≡ length w.typed.items
   out_count = ap (λ (v : Vec Bool Global). length v.items) t.typed ∙ (ap length typed ∙ length-set w.typed.items number true)
 
-  pub gives : Gives w after number ready
+  pub gives : GivesType w after number ready
   gives = record {
     stops = m.stops;
     count = count_same out after m.typed ∙ out_count;
@@ -291,7 +291,7 @@ module _ (w given out : Stops) (number : ℕ) (taken : List Stop) (st : IsStops 
 -- ---- at first
 
 pub begins_empty : (w : Stops) (count : ℕ) → length w.stopped.items ≡ length w.typed.items → length w.typed.items ≡ count → ((q : ℕ) → typed_at w q ≡ false) →
-    ((q : ℕ) → stopped_at w q ≡ []) → Begins w count []
+    ((q : ℕ) → stopped_at w q ≡ []) → BeginsUntyped w count []
 begins_empty w count lists long none empty = record {
   stops = record { lists = lists; fits = λ q e h. absurd (subst (λ xs. In e xs) (empty q) h) };
   count = long;
@@ -307,8 +307,8 @@ settled_stays : (w after : Stops) (n : Need) → after.typed ≡ w.typed → ((q
 settled_stays w after n same kept (inl s) = inl (stays w after n same kept s)
 settled_stays w after n same kept (inr all) = inr (λ j o here. same_at w after same o ∙ all j o here)
 
-pub begins_more : (w after : Stops) (count : ℕ) (ns : List Need) (n : Need) (stop : Stop) (all : Bool) → Begins w count ns → stop.need.now ≡ n → stop.next ≡ 0 → Seeks w after stop all →
-    Begins after count (ns ++ n ∷ [])
+pub begins_more : (w after : Stops) (count : ℕ) (ns : List Need) (n : Need) (stop : Stop) (all : Bool) → BeginsUntyped w count ns → stop.need.now ≡ n → stop.next ≡ 0 → Seeks w after stop all →
+    BeginsUntyped after count (ns ++ n ∷ [])
 begins_more w after count ns n stop all b of at s = record {
   stops = s.stops;
   count = count_same w after s.typed ∙ b.count;

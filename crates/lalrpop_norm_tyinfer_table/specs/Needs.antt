@@ -49,15 +49,15 @@ needed_in ps locates = []
 -- ---- numbers
 
 -- the number that a name has
-abbrev pub number_in : RuleNames → List ℕ → Option ℕ
-number_in d n = get (slice_cmp nat_cmp) d.places n
+abbrev pub rule_number : RuleNames → List ℕ → Option ℕ
+rule_number d n = get (slice_cmp nat_cmp) d.places n
 
 -- the names of rules
 abbrev pub names_seen : List Seen → List (List ℕ)
 names_seen ss = map (λ s. s.0.name.0) ss
 
 -- a name of a rule has the place of one such rule, and no other name has a number
-pub record AreNumbers (number : List ℕ → Option ℕ) (names : List (List ℕ)) : Type 0 where
+pub record AreRuleNumbers (number : List ℕ → Option ℕ) (names : List (List ℕ)) : Type 0 where
   pub right : (n : List ℕ) (k : ℕ) → number n ≡ Some k → slice_get names k ≡ Some n
   pub all : (n : List ℕ) → number n ≡ None → In n names → ⊥
 
@@ -80,5 +80,5 @@ pub record AreNeeds (number : List ℕ → Option ℕ) (ps : List TypeParameter)
 -- the same by some numbers of theirs
 pub record HaveNeeds (ps : List TypeParameter) (ss : List Seen) (needs : List Need) : Type 0 where
   pub number : List ℕ → Option ℕ
-  pub numbers : AreNumbers number (names_seen ss)
+  pub numbers : AreRuleNumbers number (names_seen ss)
   pub needs_are : AreNeeds number ps ss needs

@@ -99,7 +99,7 @@ pub record MovesOn (w after : Stops) (stopped : List Stop) (ready : List ℕ) : 
   pub within : (k : ℕ) → In k ready → k < length w.typed.items
 
 -- a number takes a type: each clause that stopped there stops at a later name, or its rule is ready
-pub record Gives (w after : Stops) (number : ℕ) (ready : List ℕ) : Type 0 where
+pub record GivesType (w after : Stops) (number : ℕ) (ready : List ℕ) : Type 0 where
   pub stops : IsStops after
   pub count : length after.typed.items ≡ length w.typed.items
   pub typed : (q : ℕ) → typed_at after q ≡ ((number == q) || typed_at w q)
@@ -108,7 +108,7 @@ pub record Gives (w after : Stops) (number : ℕ) (ready : List ℕ) : Type 0 wh
   pub within : (k : ℕ) → In k ready → k < length w.typed.items
 
 -- no number has a type, and the clauses are settled
-pub record Begins (w : Stops) (numbers : ℕ) (needs : List Need) : Type 0 where
+pub record BeginsUntyped (w : Stops) (numbers : ℕ) (needs : List Need) : Type 0 where
   pub stops : IsStops w
   pub count : length w.typed.items ≡ numbers
   pub none : (q : ℕ) → typed_at w q ≡ false

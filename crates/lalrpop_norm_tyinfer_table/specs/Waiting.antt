@@ -11,8 +11,8 @@ use Rattle.lalrpop_norm_tyinfer_table.specs.declared.needs.Need.{Need}
 use Rattle.lalrpop_norm_tyinfer_table.specs.declared.stops.Stops.{Stops}
 use Rattle.lalrpop_norm_tyinfer_table.specs.declared.waiting.Waiting.{Waiting}
 use Rattle.lalrpop_norm_tyinfer_table.specs.Clauses.{first_in}
-use Rattle.lalrpop_norm_tyinfer_table.specs.Needs.{names_seen, AreNumbers, IsNeedOf}
-use Rattle.lalrpop_norm_tyinfer_table.specs.Stops.{typed_at, Settled, IsStops, Gives}
+use Rattle.lalrpop_norm_tyinfer_table.specs.Needs.{names_seen, AreRuleNumbers, IsNeedOf}
+use Rattle.lalrpop_norm_tyinfer_table.specs.Stops.{typed_at, Settled, IsStops, GivesType}
 use Rattle.lalrpop_norm_tyinfer_table.specs.TableValues.{type_by_name}
 use Rattle.lalrpop_norm_tyinfer_table.specs.Visits.{Seen, TakesType}
 
@@ -53,7 +53,7 @@ pub record Wakes (places : List ℕ) (place : ℕ) (now now_after next next_afte
 -- They know which rules have types, and where each clause stopped.
 pub record Watches (ps : List TypeParameter) (tt : TypeTable) (ss : List Seen) (stops : Stops) : Type 0 where
   pub number : List ℕ → Option ℕ
-  pub numbers : AreNumbers number (names_seen ss)
+  pub numbers : AreRuleNumbers number (names_seen ss)
   pub sound : IsStops stops
   pub count : length stops.typed.items ≡ length ss
   pub tells : (k : ℕ) (s : Seen) → slice_get ss k ≡ Some s → typed_at stops k ≡ is_some (type_by_name tt s.0.name.0)
@@ -67,7 +67,7 @@ pub record VisitsOne (ps : List TypeParameter) (before after : TypeTable) (s : S
   pub added : Bool
   pub takes : TakesType before after s.0.name.0 (first_in ps before s.1) added
   pub ready : List ℕ
-  pub gives : added ≡ true → Gives stops stops_after place ready
+  pub gives : added ≡ true → GivesType stops stops_after place ready
   pub still : added ≡ false → stops_after ≡ stops
   pub none : added ≡ false → ready ≡ []
   pub wakes : Wakes ready place now now_after next next_after

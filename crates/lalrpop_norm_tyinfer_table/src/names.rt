@@ -1,6 +1,6 @@
 //! The numbers of rules, by their names.
 ghost use Rattle.std.specs.Prelude.{◌≡◌, Some, false, ℕ, List, IfOk, OnOk, bytes_eq, map};
-ghost use Rattle.lalrpop_norm_tyinfer_table.specs.Needs.{names_seen, number_in, AreNumbers};
+ghost use Rattle.lalrpop_norm_tyinfer_table.specs.Needs.{names_seen, rule_number, AreRuleNumbers};
 ghost use Rattle.lalrpop_norm_tyinfer_table.specs.Visits.{rule_seen};
 
 use crate::rules::PlainRule;
@@ -17,15 +17,15 @@ pub struct RuleNames {
 impl RuleNames {
     /// The number of the rule of that name, if there is one; of several the last.
     pub fn number(&self, name: &Atom) -> Option<usize>
-        ensures { result ≡ number_in self.now name.now }
+        ensures { result ≡ rule_number self.now name.now }
     {
         self.places.get(name).copied()
     }
 
     /// Gives a name its number.
     fn put(&mut self, name: &Atom, number: usize) -> Result<(), NoMemory>
-        ensures here { OnOk result (number_in self.new name.now ≡ Some number) }
-        ensures others { OnOk result ((n : List ℕ) → bytes_eq name.now n ≡ false → number_in self.new n ≡ number_in self.old n) }
+        ensures here { OnOk result (rule_number self.new name.now ≡ Some number) }
+        ensures others { OnOk result ((n : List ℕ) → bytes_eq name.now n ≡ false → rule_number self.new n ≡ rule_number self.old n) }
     {
         self.places.insert(name.clone()?, number)?;
         Ok(())
@@ -33,7 +33,7 @@ impl RuleNames {
 
     /// Those of some rules.
     pub fn of(alloc: Global, rules: &[PlainRule]) -> Result<RuleNames, NoMemory>
-        ensures { IfOk result (λ d. AreNumbers (number_in d) (names_seen (map rule_seen rules.now))) }
+        ensures { IfOk result (λ d. AreRuleNumbers (rule_number d) (names_seen (map rule_seen rules.now))) }
     {
         let mut names = RuleNames {
             places: BTreeMap::new(alloc),

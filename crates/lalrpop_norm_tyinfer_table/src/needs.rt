@@ -6,7 +6,7 @@ ghost use Rattle.lalrpop_norm_tree_parts.specs.Paths.{path_view};
 ghost use Rattle.lalrpop_norm_model.specs.Expanded.{names_in, names_in_kind};
 ghost use Rattle.lalrpop_norm_model.specs.TypeRelation.{associated_in};
 ghost use Rattle.lalrpop_norm_tyinfer_table.specs.Clauses.{clause_view};
-ghost use Rattle.lalrpop_norm_tyinfer_table.specs.Needs.{needed_in, needed_type, needed_types, needed_return, needed_path, number_in, AddsNeeds, IsNeedOf, AreNeeds, HaveNeeds};
+ghost use Rattle.lalrpop_norm_tyinfer_table.specs.Needs.{needed_in, needed_type, needed_types, needed_return, needed_path, rule_number, AddsNeeds, IsNeedOf, AreNeeds, HaveNeeds};
 ghost use Rattle.lalrpop_norm_tyinfer_table.specs.Visits.{rule_seen};
 
 use crate::names::RuleNames;
@@ -34,7 +34,7 @@ fn add_kind(
     names: &RuleNames,
     kind: &SymbolKind,
 ) -> Result<(), NoMemory>
-    ensures { OnOk result (numbers.new.items ≡ numbers.old.items ++ map (number_in names.now) (names_in_kind (kind_view kind.now))) }
+    ensures { OnOk result (numbers.new.items ≡ numbers.old.items ++ map (rule_number names.now) (names_in_kind (kind_view kind.now))) }
 {
     match kind {
         SymbolKind::Nonterminal(name) => {
@@ -61,7 +61,7 @@ fn add_symbol(
     names: &RuleNames,
     symbol: &Symbol,
 ) -> Result<(), NoMemory>
-    ensures { OnOk result (numbers.new.items ≡ numbers.old.items ++ map (number_in names.now) (names_in (symbol_view symbol.now))) }
+    ensures { OnOk result (numbers.new.items ≡ numbers.old.items ++ map (rule_number names.now) (names_in (symbol_view symbol.now))) }
 {
     add_kind(numbers, names, &symbol.kind)
 }
@@ -74,7 +74,7 @@ fn add_type(
     names: &RuleNames,
     written: &TypeRef,
 ) -> Result<(), NoMemory>
-    ensures { OnOk result (numbers.new.items ≡ numbers.old.items ++ map (number_in names.now) (needed_type parameters.now (type_view written.now))) }
+    ensures { OnOk result (numbers.new.items ≡ numbers.old.items ++ map (rule_number names.now) (needed_type parameters.now (type_view written.now))) }
 {
     match written {
         TypeRef::Tuple(inner) => add_types(numbers, parameters, names, inner),
@@ -115,7 +115,7 @@ fn add_path(
     inner: &[TypeRef],
 ) -> Result<(), NoMemory>
     ensures { OnOk result (numbers.new.items ≡ numbers.old.items
-        ++ map (number_in names.now) (needed_path (associated_in parameters.now (path_view path.now).ids) (needed_types parameters.now (types_view inner.now)))) }
+        ++ map (rule_number names.now) (needed_path (associated_in parameters.now (path_view path.now).ids) (needed_types parameters.now (types_view inner.now)))) }
 {
     match associated(parameters, path) {
         Some(_) => Ok(()),
@@ -130,7 +130,7 @@ fn add_types(
     names: &RuleNames,
     written: &[TypeRef],
 ) -> Result<(), NoMemory>
-    ensures { OnOk result (numbers.new.items ≡ numbers.old.items ++ map (number_in names.now) (needed_types parameters.now (types_view written.now))) }
+    ensures { OnOk result (numbers.new.items ≡ numbers.old.items ++ map (rule_number names.now) (needed_types parameters.now (types_view written.now))) }
 {
     for inner in written {
         add_type(numbers, parameters, names, inner)?;
@@ -146,7 +146,7 @@ fn add_return(
     ret: &Option<Box<TypeRef>>,
 ) -> Result<(), NoMemory>
     ensures { OnOk result (numbers.new.items ≡ numbers.old.items
-        ++ map (number_in names.now) (needed_return parameters.now (maybe_of (option_map (λ b. type_view b.value) ret.now)))) }
+        ++ map (rule_number names.now) (needed_return parameters.now (maybe_of (option_map (λ b. type_view b.value) ret.now)))) }
 {
     match ret {
         None => Ok(()),
@@ -159,7 +159,7 @@ fn add_sources(
     names: &RuleNames,
     sources: &[(usize, &Symbol)],
 ) -> Result<(), NoMemory>
-    ensures { OnOk result (numbers.new.items ≡ numbers.old.items ++ map (number_in names.now) (flat_map names_in_kind (map (λ t. kind_view t.1.now.kind) sources.now))) }
+    ensures { OnOk result (numbers.new.items ≡ numbers.old.items ++ map (rule_number names.now) (flat_map names_in_kind (map (λ t. kind_view t.1.now.kind) sources.now))) }
 {
     for source in sources {
         add_kind(numbers, names, &source.1.kind)?;
@@ -174,7 +174,7 @@ fn add_clause(
     names: &RuleNames,
     clause: &TypeSource,
 ) -> Result<(), NoMemory>
-    ensures { OnOk result (numbers.new.items ≡ numbers.old.items ++ map (number_in names.now) (needed_in parameters.now (clause_view clause.now))) }
+    ensures { OnOk result (numbers.new.items ≡ numbers.old.items ++ map (rule_number names.now) (needed_in parameters.now (clause_view clause.now))) }
 {
     match clause {
         TypeSource::Declared(written) => add_type(numbers, parameters, names, written),
@@ -191,7 +191,7 @@ fn need_of(
     clause: &TypeSource,
     rule: usize,
 ) -> Result<Need, NoMemory>
-    ensures { IfOk result (IsNeedOf (number_in names.now) parameters.now (clause_view clause.now) rule) }
+    ensures { IfOk result (IsNeedOf (rule_number names.now) parameters.now (clause_view clause.now) rule) }
 {
     let mut numbers = Vec::new(alloc);
     add_clause(&mut numbers, parameters, names, clause)?;
@@ -207,7 +207,7 @@ fn add_needs(
     clauses: &[TypeSource],
     rule: usize,
 ) -> Result<(), NoMemory>
-    ensures { OnOk result (AddsNeeds (number_in names.now) parameters.now needs.old.items needs.new.items (map clause_view clauses.now) rule) }
+    ensures { OnOk result (AddsNeeds (rule_number names.now) parameters.now needs.old.items needs.new.items (map clause_view clauses.now) rule) }
 {
     for clause in clauses {
         needs.push(need_of(alloc, parameters, names, clause, rule)?)?;
@@ -222,7 +222,7 @@ fn needs_by(
     names: &RuleNames,
     rules: &[PlainRule],
 ) -> Result<Vec<Need>, NoMemory>
-    ensures { IfOk result (λ ns. AreNeeds (number_in names.now) parameters.now (map rule_seen rules.now) ns.items) }
+    ensures { IfOk result (λ ns. AreNeeds (rule_number names.now) parameters.now (map rule_seen rules.now) ns.items) }
 {
     let mut needs = Vec::with_capacity(alloc, rules.len())?;
     for rule in 0..rules.len() {

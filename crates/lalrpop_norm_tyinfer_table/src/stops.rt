@@ -3,7 +3,7 @@ ghost use Rattle.std.specs.Prelude.{◌≡◌, ◌<◌, ◌≤◌, ◌==◌, ◌
 ghost use Rattle.lalrpop_norm_theory.specs.Rounds.{In};
 ghost use Rattle.lalrpop_norm_tyinfer_table.specs.declared.needs.Need.{Need};
 ghost use Rattle.lalrpop_norm_tyinfer_table.specs.declared.stops.Stop.{Stop};
-ghost use Rattle.lalrpop_norm_tyinfer_table.specs.Stops.{typed_at, is_typed, AreTypedFrom, IsFirstUntyped, IsStops, Fits, Seeks, Puts, PutsUnder, TakesOut, MovesOn, Gives, Begins};
+ghost use Rattle.lalrpop_norm_tyinfer_table.specs.Stops.{typed_at, is_typed, AreTypedFrom, IsFirstUntyped, IsStops, Fits, Seeks, Puts, PutsUnder, TakesOut, MovesOn, GivesType, BeginsUntyped};
 
 use crate::needs::Need;
 use lalrpop_norm_tree::grammar::parse_tree::NoMemory;
@@ -29,7 +29,7 @@ pub struct Stops<'n> {
 impl<'n> Stops<'n> {
     /// Of so many numbers, none of which has a type, with no clause.
     fn new(alloc: Global, count: usize) -> Result<Stops<'n>, NoMemory>
-        ensures { IfOk result (λ w. Begins w count []) }
+        ensures { IfOk result (λ w. BeginsUntyped w count []) }
     {
         let mut typed = Vec::with_capacity(alloc, count)?;
         let mut stopped = Vec::with_capacity(alloc, count)?;
@@ -43,7 +43,7 @@ impl<'n> Stops<'n> {
     /// Of so many numbers, none of which has a type: each clause stops at its first name, if it has one.
     pub fn of(alloc: Global, needs: &'n [Need], count: usize) -> Result<Stops<'n>, NoMemory>
         requires { (n : Need) → In n needs.now → Fits count n }
-        ensures { IfOk result (λ w. Begins w count needs.now) }
+        ensures { IfOk result (λ w. BeginsUntyped w count needs.now) }
     {
         let mut stops = Stops::new(alloc, count)?;
         for need in needs {
@@ -126,7 +126,7 @@ impl<'n> Stops<'n> {
     pub fn give_type(&mut self, alloc: Global, number: usize) -> Result<Vec<usize>, NoMemory>
         requires stops { IsStops self.old }
         requires within { number < length self.old.typed.items }
-        ensures { IfOk result (λ ready. Gives self.old self.new number ready.items) }
+        ensures { IfOk result (λ ready. GivesType self.old self.new number ready.items) }
     {
         self.typed[number] = true;
         let stopped = self.take(alloc, number);

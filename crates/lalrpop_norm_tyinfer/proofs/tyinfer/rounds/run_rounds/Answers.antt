@@ -3,7 +3,7 @@ use Rattle.std.proofs.lemmas.List.{length-map}
 use Rattle.lalrpop_norm_repr.specs.Tables.{type_table}
 use Rattle.lalrpop_norm_theory.specs.Rounds.{In}
 use Rattle.lalrpop_norm_tyinfer_table.specs.declared.needs.Need.{Need}
-use Rattle.lalrpop_norm_tyinfer_table.specs.Stops.{Fits, Begins}
+use Rattle.lalrpop_norm_tyinfer_table.specs.Stops.{Fits, BeginsUntyped}
 use Rattle.lalrpop_norm_tyinfer_table.specs.Visits.{rule_seen}
 use Rattle.lalrpop_norm_tyinfer_table.proofs.NeedLemmas.{need_fits}
 use Rattle.lalrpop_norm_tyinfer_table.proofs.RoundLemmas.{begins_watching}
@@ -21,4 +21,4 @@ rounds_from-requires-clause-watches c =
     let have = c.in_ok-needs.ensures in
     let begun = rw c.deref.ensures.value at c.in_ok-stops.ensures in
     begins_watching have.number c.args.parameters.now (type_table c.args.types.now) (map rule_seen c.args.rules.now) c.in_ok-needs.needs.items c.in_ok-stops.stops have.numbers have.needs_are
-    (subst (λ k. Begins c.in_ok-stops.stops k c.in_ok-needs.needs.items) (sym (length-map c.args.rules.now rule_seen)) begun) c.requires.untyped
+    (subst (λ k. BeginsUntyped c.in_ok-stops.stops k c.in_ok-needs.needs.items) (sym (length-map c.args.rules.now rule_seen)) begun) c.requires.untyped

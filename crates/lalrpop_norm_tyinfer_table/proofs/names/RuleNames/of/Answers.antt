@@ -4,7 +4,7 @@ use Rattle.std.specs.Cmp.Lexicographic.{slice_cmp}
 use Rattle.std.specs.Map.{lookup}
 use Rattle.std.proofs.lemmas.List.{map-append, length-map, length-take-le, take_all}
 use Rattle.lalrpop_norm_tyinfer_table.specs.declared.names.RuleNames.{RuleNames}
-use Rattle.lalrpop_norm_tyinfer_table.specs.Needs.{names_seen, number_in, AreNumbers}
+use Rattle.lalrpop_norm_tyinfer_table.specs.Needs.{names_seen, rule_number, AreRuleNumbers}
 use Rattle.lalrpop_norm_tyinfer_table.specs.Visits.{Seen, rule_seen}
 use Rattle.lalrpop_norm_tyinfer_table.proofs.NeedLemmas.{numbers_none, numbers_more, mapped_more}
 use Rattle.lalrpop_norm_tyinfer_table.proofs.names.RuleNames.«of».Goals as goal
@@ -12,7 +12,7 @@ use Rattle.lalrpop_norm_tyinfer_table.proofs.names.RuleNames.«of».Goals as goa
 pub loop-place-init : goal.loop-place-init
 loop-place-init c =
     let empty : RuleNames = record { places = c.new.result } in
-    numbers_none (number_in empty) (λ n. ap (λ (es : List (List ℕ × ℕ)). lookup (is_at (slice_cmp nat_cmp n)) es) c.new.ensures.empty)
+    numbers_none (rule_number empty) (λ n. ap (λ (es : List (List ℕ × ℕ)). lookup (is_at (slice_cmp nat_cmp n)) es) c.new.ensures.empty)
 
 pub loop-place-preserved : goal.loop-place-preserved
 loop-place-preserved c =
@@ -25,8 +25,8 @@ loop-place-preserved c =
     ap names_seen (mapped_more rule_seen rules i rule (omega arith) c.index-rules-place.is) ∙ map-append (λ (s : Seen). s.0.name.0) before (rule_seen rule ∷ []) in
     let here = rw (← c.index-rules-place.is) at c.in_ok-put.ensures.here in
     let others = rw (← c.index-rules-place.is) at c.in_ok-put.ensures.others in
-    subst (AreNumbers (number_in c.put.new.self)) (sym more)
-    (numbers_more (number_in c.loop-place.names) (number_in c.put.new.self) (names_seen before) rule.data.now.name.0 i last c.loop-place.invariant here others)
+    subst (AreRuleNumbers (rule_number c.put.new.self)) (sym more)
+    (numbers_more (rule_number c.loop-place.names) (rule_number c.put.new.self) (names_seen before) rule.data.now.name.0 i last c.loop-place.invariant here others)
 
 pub returns : goal.returns
 returns c = rw (take_all c.loop-place.place c.args.rules.now (omega arith)) at c.loop-place.invariant
