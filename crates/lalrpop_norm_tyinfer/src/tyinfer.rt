@@ -60,7 +60,8 @@ fn infer(alloc: Global, grammar: &Grammar, rules: &[PlainRule]) -> NormResult<Ty
 
 /// The table where the rounds end.
 fn filled_table(alloc: Global, grammar: &Grammar, rules: &[PlainRule]) -> Result<Types, NoMemory>
-    requires { map rule_seen rules.now ≡ map with_clauses (all_rules (grammar_view grammar.now)) }
+    requires seen { map rule_seen rules.now ≡ map with_clauses (all_rules (grammar_view grammar.now)) }
+    requires distinct { IsDistinct (rule_names (grammar_view grammar.now)) }
     ensures { IfOk result (λ t. HasAllRows (grammar_view grammar.now) (type_table t)) }
 {
     let mut types = token_types(alloc, grammar)?;

@@ -27,6 +27,7 @@ use Rattle.lalrpop_norm_model.proofs.TypableLemmas.{typable_exactly}
 use Rattle.lalrpop_norm_tyinfer_table.specs.declared.rules.PlainRule.{PlainRule}
 use Rattle.lalrpop_norm_tyinfer_table.specs.Filled.{HasAllRows, table_faults}
 use Rattle.lalrpop_norm_tyinfer_table.specs.Inferred.{IsInferred}
+use Rattle.lalrpop_norm_tyinfer_table.specs.Needs.{names_seen}
 use Rattle.lalrpop_norm_tyinfer_table.specs.TableFaults.{lacking_seen, untyped_in, disagrees_in, other_in, others_in}
 use Rattle.lalrpop_norm_tyinfer_table.specs.TableValues.{named_by, type_by_name}
 use Rattle.lalrpop_norm_tyinfer_table.specs.TokenTypes.{base_table, AddsTerminals}
@@ -52,6 +53,17 @@ filled g before types ss n added ends same long names terminals =
       tokens = (kept_read g g.type_parameters before types read ends.rest).tokens;
       terminals_in_order = terminals;
     }
+
+-- at first no name has a type
+pub none_typed : (g : GrammarData) (before : TypeTable) → AddsTerminals (base_table g) before (rows_with (extern_enum g) g) → (n : List ℕ) → type_by_name before n ≡ None
+none_typed g before added n = ap (found (named_by n)) (added_names g before added)
+
+names_with : (rs : List RuleData) → names_seen (map with_clauses rs) ≡ map (λ (r : RuleData). r.name.0) rs
+names_with [] = refl
+names_with (r ∷ rs) = ap (λ ns. r.name.0 ∷ ns) (names_with rs)
+
+pub names_distinct : (g : GrammarData) (ss : List Seen) → ss ≡ map with_clauses (all_rules g) → IsDistinct (rule_names g) → IsDistinct (names_seen ss)
+names_distinct g ss same distinct = subst (λ (ns : List (List ℕ)). IsDistinct ns) (sym (ap names_seen same ∙ names_with (all_rules g))) distinct
 
 first_of_pairs : (rs : List RuleData) → map (λ (s : Seen). s.0) (map with_clauses rs) ≡ rs
 first_of_pairs [] = refl

@@ -1,14 +1,15 @@
 pub mod ClauseLemmas
-mod DependentLemmas
 pub mod FilledLemmas
 mod LiteralLemmas
 pub mod LoopLemmas
 mod LoweredViews
-mod MentionLemmas
 mod MisfitLemmas
+pub mod NeedLemmas
+mod NeededLemmas
 mod ReadLemmas
 pub mod RoundLemmas
 mod SameLemmas
+mod StopLemmas
 pub mod TokenLemmas
 pub mod ValueLemmas
 pub mod VisitLemmas

@@ -1,23 +1,40 @@
 -- A round in which only the rules that wait are visited is a round.
-use Rattle.std.proofs.Common.{◌≡◌, ◌≤◌, ◌<◌, ◌+◌, ◌-◌, inl, inr, ℕ, zero, suc, Bool, true, false, List, [], ◌∷◌, ◌++◌, Option, Some, None, length, take, slice_get, refl, sym, ap, subst, ◌∙◌, if◌then◌else◌, arith}
-use Rattle.std.specs.Prelude.{is_some, Result, Ok, Err, OnOk}
+use Rattle.std.proofs.Common.{◌≡◌, ◌≤◌, ◌<◌, ◌+◌, ◌-◌, ◌⊎◌, ◌==◌, ◌||◌, inl, inr, ℕ, zero, suc, Bool, true, false, List, [], ◌∷◌, ◌++◌, Option, Some, None, length, take, slice_get, refl, sym, ap, subst, ◌∙◌, if◌then◌else◌, arith}
+use Rattle.std.specs.Prelude.{is_some, option_map, Result, Ok, Err, OnOk}
 use Rattle.std.proofs.lemmas.Bool.{both_ways, false_from_ne_true}
 use Rattle.std.proofs.lemmas.Bool.Decides.{eqb_tells, leb_tells}
 use Rattle.std.proofs.lemmas.List.{take_more, take_all}
-use Rattle.std.proofs.lemmas.Option.{slice_get_cases, slice_get_within, get_or_from_slice_get}
+use Rattle.std.proofs.lemmas.Option.{slice_get-map, slice_get_cases, slice_get_within, get_or_from_slice_get}
 use Rattle.lalrpop_norm_tree_names.specs.declared.names.TypeParameter.{TypeParameter}
 use Rattle.lalrpop_norm_tree_parts.specs.Reprs.{ReprData}
-use Rattle.lalrpop_norm_theory.specs.Rounds.{In}
+use Rattle.lalrpop_norm_theory.specs.Rounds.{In, IsDistinct}
 use Rattle.lalrpop_norm_theory.proofs.RoundsLemmas.{in_left, in_right, in_cases}
 use Rattle.lalrpop_norm_repr.specs.Tables.{TypeTable}
-use Rattle.lalrpop_norm_tyinfer_table.specs.declared.dependents.Dependents.{Dependents}
+use Rattle.lalrpop_norm_model.specs.TypeRelation.{TypeClause}
+use Rattle.lalrpop_norm_tyinfer_table.specs.declared.needs.Need.{Need}
+use Rattle.lalrpop_norm_tyinfer_table.specs.declared.stops.Stops.{Stops}
 use Rattle.lalrpop_norm_tyinfer_table.specs.declared.waiting.Waiting.{Waiting}
-use Rattle.lalrpop_norm_tyinfer_table.specs.Clauses.{first_in}
+use Rattle.lalrpop_norm_tyinfer_table.specs.Clauses.{clause_in, first_in}
+use Rattle.lalrpop_norm_tyinfer_table.specs.Needs.{needed_in, names_seen, AreRuleNumbers, IsNeedOf, AreNeeds}
+use Rattle.lalrpop_norm_tyinfer_table.specs.Stops.{typed_at, is_typed, AreTyped, StopsAt, GivesType, BeginsUntyped}
 use Rattle.lalrpop_norm_tyinfer_table.specs.TableValues.{type_by_name}
 use Rattle.lalrpop_norm_tyinfer_table.specs.Visits.{Seen, TakesType, Passes}
-use Rattle.lalrpop_norm_tyinfer_table.specs.Waiting.{mentioned, has, TakesLeast, places_of, Covers, IsQuiet, Waits, Wakes, VisitsOne}
-use Rattle.lalrpop_norm_tyinfer_table.proofs.MentionLemmas.{first_same}
+use Rattle.lalrpop_norm_tyinfer_table.specs.Waiting.{has, TakesLeast, IsQuiet, Waits, Wakes, Watches, VisitsOne}
+use Rattle.lalrpop_norm_tyinfer_table.proofs.NeedLemmas.{at_of, of_mapped_at, one_place}
+use Rattle.lalrpop_norm_tyinfer_table.proofs.NeededLemmas.{clause_same, clause_lacks, none_of, none_from}
+use Rattle.lalrpop_norm_tyinfer_table.proofs.StopLemmas.{in_at}
 use Rattle.lalrpop_norm_tyinfer_table.proofs.VisitLemmas.{taken_kept, taken_none, passes_more}
+
+-- ---- places
+
+same_or_not : (i j : ℕ) → (i ≡ j) ⊎ (i ≡ j → ⊥)
+same_or_not i j = elim (eqb_tells i j) [ inl w ↦ inl w.1 | inr w ↦ inr w.1 ]
+
+eqb_same : (i : ℕ) → (i == i) ≡ true
+eqb_same i = elim (eqb_tells i i) [ inl w ↦ w.0 | inr w ↦ absurd (w.1 refl) ]
+
+eqb_other : (i j : ℕ) → (i ≡ j → ⊥) → (i == j) ≡ false
+eqb_other i j apart = elim (eqb_tells i j) [ inl w ↦ absurd (apart w.1) | inr w ↦ w.0 ]
 
 -- ---- quiet rules
 
@@ -26,17 +43,92 @@ kept_none : (before after : TypeTable) (n : List ℕ) (v : Option ReprData) (a :
 kept_none before after n v a t m none None e = refl
 kept_none before after n v a t m none (Some x) e = let clash : None ≡ Some x = sym none ∙ t.kept m x e in absurd cc
 
--- where another name takes a type
-still_quiet : (ps : List TypeParameter) (before after : TypeTable) (n : List ℕ) (v : Option ReprData) (a : Bool) → TakesType before after n v a → (s : Seen) → IsQuiet ps before s →
-    (In n (mentioned s.1) → ⊥) → IsQuiet ps after s
-still_quiet ps before after n v a t s quiet apart = λ none.
-    let untyped = kept_none before after n v a t s.0.name.0 none (type_by_name before s.0.name.0) refl in
-    first_same ps before after t.rest s.1 (λ m here. t.others m (λ e. apart (subst (λ k. In k (mentioned s.1)) e here))) ∙ quiet untyped
+-- ---- what stops know
 
-quiet_on : (ps : List TypeParameter) (before after : TypeTable) (n : List ℕ) (v : Option ReprData) (a : Bool) → TakesType before after n v a → (s : Seen) → IsQuiet ps before s →
-    (a ≡ true → In n (mentioned s.1) → ⊥) → IsQuiet ps after s
-quiet_on ps before after n v true t s quiet apart = still_quiet ps before after n v true t s quiet (apart refl)
-quiet_on ps before after n v false t s quiet apart = subst (λ tt. IsQuiet ps tt s) (sym (t.still refl)) quiet
+kept_is : (before after : TypeTable) (n : List ℕ) (v : Option ReprData) (a : Bool) → TakesType before after n v a → (m : List ℕ) (o : Option ReprData) → type_by_name before m ≡ o →
+    is_some o ≡ true → type_by_name after m ≡ type_by_name before m
+kept_is before after n v a t m None e some = absurd cc
+kept_is before after n v a t m (Some x) e some = t.kept m x e ∙ sym e
+
+not_some : {A : Type 0} (o : Option A) → is_some o ≡ false → o ≡ None
+not_some None e = refl
+not_some (Some x) e = absurd cc
+
+name_at : (ss : List Seen) (k : ℕ) (s : Seen) → slice_get ss k ≡ Some s → slice_get (names_seen ss) k ≡ Some s.0.name.0
+name_at ss k s here = slice_get-map (λ (q : Seen). q.0.name.0) ss k ∙ ap (option_map (λ (q : Seen). q.0.name.0)) here
+
+name_in : (ss : List Seen) (k : ℕ) (s : Seen) → slice_get ss k ≡ Some s → In s.0.name.0 (names_seen ss)
+name_in ss k s here = in_at (names_seen ss) k s.0.name.0 (name_at ss k s here)
+
+module _ (ps : List TypeParameter) (tt : TypeTable) (ss : List Seen) (stops : Stops) (w : Watches ps tt ss stops) where
+  -- a name has a type where they say so, and no other
+  typed_is : (n : List ℕ) (o : Option ℕ) → w.number n ≡ o → is_typed stops o ≡ is_some (type_by_name tt n)
+  typed_is n None e = ap is_some (sym (w.only n e))
+  typed_is n (Some k) e =
+      let s = of_mapped_at (λ (q : Seen). q.0.name.0) ss k n (w.numbers.right n k e) in
+      w.tells k s.0 s.1 ∙ ap (λ m. is_some (type_by_name tt m)) s.2
+
+  need_at : (c : TypeClause) (k : ℕ) (n : Need) → IsNeedOf w.number ps c k n → (j : ℕ) (m : List ℕ) → slice_get (needed_in ps c) j ≡ Some m → slice_get n.numbers.items j ≡ Some (w.number m)
+  need_at c k n is j m here =
+      ap (λ os. slice_get os j) is.numbers_are ∙ (slice_get-map w.number (needed_in ps c) j ∙ ap (option_map w.number) here)
+
+  -- a clause that stopped makes nothing
+  stopped_none : (c : TypeClause) (k : ℕ) (n : Need) → IsNeedOf w.number ps c k n → StopsAt stops n → clause_in ps tt c ≡ None
+  stopped_none c k n is s =
+      let m = of_mapped_at w.number (needed_in ps c) s.place s.number (ap (λ os. slice_get os s.place) (sym is.numbers_are) ∙ s.here) in
+      let untyped : is_some (type_by_name tt m.0) ≡ false = sym (typed_is m.0 (w.number m.0) refl) ∙ (ap (is_typed stops) m.2 ∙ s.untyped) in
+      clause_lacks ps tt m.0 (not_some (type_by_name tt m.0) untyped) c (in_at (needed_in ps c) s.place m.0 m.1)
+
+  -- of one that has all its types each name has one
+  typed_name : (c : TypeClause) (k : ℕ) (n : Need) → IsNeedOf w.number ps c k n → AreTyped stops n.numbers.items → (m : List ℕ) → In m (needed_in ps c) → is_some (type_by_name tt m) ≡ true
+  typed_name c k n is all m i =
+      let j = at_of (needed_in ps c) m i in
+      sym (typed_is m (w.number m) refl) ∙ all j.0 (w.number m) (need_at c k n is j.0 m j.1)
+
+-- ---- a rule takes a type
+
+module _ (ps : List TypeParameter) (before after : TypeTable) (ss : List Seen) (stops stops_after : Stops) (place : ℕ) (s : Seen) (v : Option ReprData) (ready : List ℕ)
+    (w : Watches ps before ss stops) (distinct : IsDistinct (names_seen ss)) (there : slice_get ss place ≡ Some s) (t : TakesType before after s.0.name.0 v true) (g : GivesType stops stops_after place ready) where
+  tells_case : (k : ℕ) (r : Seen) → slice_get ss k ≡ Some r → (place ≡ k) ⊎ (place ≡ k → ⊥) → typed_at stops_after k ≡ is_some (type_by_name after r.0.name.0)
+  tells_case k r here (inl e) =
+      let same : s ≡ r = let one = sym there ∙ (ap (slice_get ss) e ∙ here) in cc in
+      ap (typed_at stops_after) (sym e)
+      ∙ (g.typed place ∙ (ap (λ b. b || typed_at stops place) (eqb_same place) ∙ sym (subst (λ (q : Seen). is_some (type_by_name after q.0.name.0) ≡ true) same (t.told refl))))
+  tells_case k r here (inr apart) =
+      g.typed k
+      ∙ (ap (λ b. b || typed_at stops k) (eqb_other place k apart)
+      ∙ (w.tells k r here ∙ ap is_some (sym (t.others r.0.name.0 (λ e. apart (one_place (names_seen ss) s.0.name.0 place k distinct (name_at ss place s there) (name_at ss k r here ∙ ap Some e)))))))
+
+  -- seen through, as its numbers are the same
+  abbrev given_watches : Watches ps after ss stops_after
+  given_watches = record {
+    number = w.number;
+    numbers = w.numbers;
+    sound = g.stops;
+    count = g.count ∙ w.count;
+    tells = λ k r here. tells_case k r here (same_or_not place k);
+    only = λ n none. t.others n (λ e. w.numbers.all n none (subst (λ m. In m (names_seen ss)) (sym e) (name_in ss place s there))) ∙ w.only n none;
+    settled = λ k r c here i.
+        let x = w.settled k r c here i in
+        (x.0, x.1, elim (g.settled x.0 x.2) [ inl stop ↦ inl stop | inr all ↦ inr all.0 ]);
+  }
+
+  made_none : (k : ℕ) (r : Seen) (c : TypeClause) → (In k ready → ⊥) → first_in ps before r.1 ≡ None → In c r.1 → (n : Need) → IsNeedOf w.number ps c k n →
+      StopsAt stops_after n ⊎ (AreTyped stops_after n.numbers.items × (AreTyped stops n.numbers.items ⊎ In n.rule ready)) → clause_in ps after c ≡ None
+  made_none k r c late none i n is (inl stop) = stopped_none ps after ss stops_after given_watches c k n is stop
+  made_none k r c late none i n is (inr all) = elim all.1 [
+    | inl had ↦
+        clause_same ps before after t.rest c (λ m here. kept_is before after s.0.name.0 v true t m (type_by_name before m) refl (typed_name ps before ss stops w c k n is had m here))
+        ∙ none_of ps before r.1 c none i
+    | inr woken ↦ absurd (late (subst (λ q. In q ready) is.rule_is woken))
+  ]
+
+  given_quiet : (k : ℕ) (r : Seen) → slice_get ss k ≡ Some r → IsQuiet ps before r → (In k ready → ⊥) → IsQuiet ps after r
+  given_quiet k r here quiet late = λ none.
+      let untyped = kept_none before after s.0.name.0 v true t r.0.name.0 none (type_by_name before r.0.name.0) refl in
+      none_from ps after r.1 (λ c i.
+      let x = w.settled k r c here i in
+      made_none k r c late (quiet untyped) i x.0 x.1 (g.settled x.0 x.2))
 
 -- the rule that was visited
 visited_quiet : (ps : List TypeParameter) (before after : TypeTable) (s : Seen) (a : Bool) → TakesType before after s.0.name.0 (first_in ps before s.1) a → IsQuiet ps after s
@@ -128,25 +220,43 @@ rest_false now left place t k lt h = elim (eqb_tells place k) [
 -- ---- a round
 
 -- the rules before a place are visited, and those that are not quiet wait
-pub record Midway (ps : List TypeParameter) (before tt : TypeTable) (ss : List Seen) (from : ℕ) (now next : Waiting) : Type 0 where
+pub record Midway (ps : List TypeParameter) (before tt : TypeTable) (ss : List Seen) (stops : Stops) (from : ℕ) (now next : Waiting) : Type 0 where
   pub passes : Passes ps before tt (take from ss)
+  pub watches : Watches ps tt ss stops
   pub behind : (k : ℕ) (s : Seen) → slice_get ss k ≡ Some s → from ≤ k → has now k ≡ false → IsQuiet ps tt s
   pub earlier : (k : ℕ) (s : Seen) → slice_get ss k ≡ Some s → k < from → has next k ≡ false → IsQuiet ps tt s
   pub ahead : (k : ℕ) → has now k ≡ true → from ≤ k
   pub within_now : (k : ℕ) → has now k ≡ true → k < length ss
   pub within_next : (k : ℕ) → has next k ≡ true → k < length ss
 
-woken : (a : Bool) (xs : List ℕ) (k : ℕ) → a ≡ true → In k xs → In k (if a then xs else [])
-woken true xs k e h = h
-woken false xs k e h = absurd cc
+module _ (ps : List TypeParameter) (before after : TypeTable) (ss : List Seen) (place : ℕ) (s : Seen) (stops stops_after : Stops) (now now_after next next_after : Waiting)
+    (w : Watches ps before ss stops) (distinct : IsDistinct (names_seen ss)) (there : slice_get ss place ≡ Some s) (st : VisitsOne ps before after s place stops stops_after now now_after next next_after) where
+  watches_case : (b : Bool) → st.added ≡ b → Watches ps after ss stops_after
+  watches_case true e =
+      given_watches ps before after ss stops stops_after place s (first_in ps before s.1) st.ready w distinct there (subst (TakesType before after s.0.name.0 (first_in ps before s.1)) e st.takes) (st.gives e)
+  watches_case false e = subst (Watches ps after ss) (sym (st.still e)) (subst (λ u. Watches ps u ss stops) (sym (st.takes.still e)) w)
 
-of_woken : (a : Bool) (xs : List ℕ) (k : ℕ) → In k (if a then xs else []) → In k xs
-of_woken true xs k h = h
-of_woken false xs k h = absurd h
+  quiet_case_on : (b : Bool) → st.added ≡ b → (k : ℕ) (r : Seen) → slice_get ss k ≡ Some r → IsQuiet ps before r → (In k st.ready → ⊥) → IsQuiet ps after r
+  quiet_case_on true e =
+      given_quiet ps before after ss stops stops_after place s (first_in ps before s.1) st.ready w distinct there (subst (TakesType before after s.0.name.0 (first_in ps before s.1)) e st.takes) (st.gives e)
+  quiet_case_on false e = λ k r here quiet late. subst (λ u. IsQuiet ps u r) (sym (st.takes.still e)) quiet
 
-module _ (d : Dependents) (ps : List TypeParameter) (before mid after : TypeTable) (ss : List Seen) (from place : ℕ) (s : Seen) (now left now_after next next_after : Waiting)
-    (covers : Covers d ss) (m : Midway ps before mid ss from now next) (t : TakesLeast now left place) (there : slice_get ss place ≡ Some s)
-    (st : VisitsOne d ps mid after s place left now_after next next_after) where
+  within_case : (b : Bool) → st.added ≡ b → (k : ℕ) → In k st.ready → k < length ss
+  within_case true e k h = subst (λ c. k < c) w.count ((st.gives e).within k h)
+  within_case false e k h = absurd (subst (In k) (st.none e) h)
+
+  pub visited_watches : Watches ps after ss stops_after
+  visited_watches = watches_case st.added refl
+
+  quiet_on : (k : ℕ) (r : Seen) → slice_get ss k ≡ Some r → IsQuiet ps before r → (In k st.ready → ⊥) → IsQuiet ps after r
+  quiet_on = quiet_case_on st.added refl
+
+  ready_within : (k : ℕ) → In k st.ready → k < length ss
+  ready_within = within_case st.added refl
+
+module _ (ps : List TypeParameter) (before mid after : TypeTable) (ss : List Seen) (from place : ℕ) (s : Seen) (stops stops_after : Stops) (now left now_after next next_after : Waiting)
+    (distinct : IsDistinct (names_seen ss)) (m : Midway ps before mid ss stops from now next) (t : TakesLeast now left place) (there : slice_get ss place ≡ Some s)
+    (st : VisitsOne ps mid after s place stops stops_after left now_after next next_after) where
   high : from ≤ place
   high = m.ahead place t.there
 
@@ -162,8 +272,8 @@ module _ (d : Dependents) (ps : List TypeParameter) (before mid after : TypeTabl
       let lt : place < k = omega arith in
       let le : from ≤ k = let h = high in omega arith in
       let out_left : has left k ≡ false = false_from_ne_true _ (λ h. both_ways (has now_after k) out (st.wakes.kept_now k h)) in
-      quiet_on ps mid after s.0.name.0 (first_in ps mid s.1) st.added st.takes r (m.behind k r here le (rest_false now left place t k lt out_left))
-      (λ e mentions. both_ways (has now_after k) out (st.wakes.behind k (woken st.added _ k e (covers.all k r s.0.name.0 here mentions)) lt))
+      quiet_on ps mid after ss place s stops stops_after left now_after next next_after m.watches distinct there st k r here (m.behind k r here le (rest_false now left place t k lt out_left))
+      (λ woken. both_ways (has now_after k) out (st.wakes.behind k woken lt))
 
   quiet_before : (k : ℕ) (r : Seen) → slice_get ss k ≡ Some r → k < place → has next k ≡ false → IsQuiet ps mid r
   quiet_before k r here lt out = elim (leb_tells from k) [ inl w ↦ before_place k r here w.1 lt | inr w ↦ m.earlier k r here w.1 out ]
@@ -178,14 +288,15 @@ module _ (d : Dependents) (ps : List TypeParameter) (before mid after : TypeTabl
         let less : k < place = omega arith in
         let le : k ≤ place = omega arith in
         let out_next : has next k ≡ false = false_from_ne_true _ (λ h. both_ways (has next_after k) out (st.wakes.kept_next k h)) in
-        quiet_on ps mid after s.0.name.0 (first_in ps mid s.1) st.added st.takes r (quiet_before k r here less out_next)
-        (λ e mentions. both_ways (has next_after k) out (st.wakes.before k (woken st.added _ k e (covers.all k r s.0.name.0 here mentions)) le))
+        quiet_on ps mid after ss place s stops stops_after left now_after next next_after m.watches distinct there st k r here (quiet_before k r here less out_next)
+        (λ woken. both_ways (has next_after k) out (st.wakes.before k woken le))
   ]
 
   -- the rule at the least place is visited
-  pub midway_next : Midway ps before after ss (place + 1) now_after next_after
+  pub midway_next : Midway ps before after ss stops_after (place + 1) now_after next_after
   midway_next = record {
     passes = passes_here;
+    watches = visited_watches ps mid after ss place s stops stops_after left now_after next next_after m.watches distinct there st;
     behind = behind_here;
     earlier = earlier_here;
     ahead = λ k h. elim (st.wakes.only_now k h) [
@@ -194,33 +305,49 @@ module _ (d : Dependents) (ps : List TypeParameter) (before mid after : TypeTabl
     ];
     within_now = λ k h. elim (st.wakes.only_now k h) [
       | inl g ↦ m.within_now k (rest_true now left place t k g).0
-      | inr w ↦ covers.within k s.0.name.0 (of_woken st.added _ k w.1)
+      | inr w ↦ ready_within ps mid after ss place s stops stops_after left now_after next next_after m.watches distinct there st k w.1
     ];
     within_next = λ k h. elim (st.wakes.only_next k h) [
       | inl g ↦ m.within_next k g
-      | inr i ↦ covers.within k s.0.name.0 (of_woken st.added _ k i)
+      | inr i ↦ ready_within ps mid after ss place s stops stops_after left now_after next next_after m.watches distinct there st k i
     ];
   }
 
 -- no rule waits any more: those that are left out to the end are quiet
-pub midway_passes : (ps : List TypeParameter) (before tt : TypeTable) (ss : List Seen) (from : ℕ) (now next : Waiting) → Midway ps before tt ss from now next →
+pub midway_passes : (ps : List TypeParameter) (before tt : TypeTable) (ss : List Seen) (stops : Stops) (from : ℕ) (now next : Waiting) → Midway ps before tt ss stops from now next →
     ((k : ℕ) → has now k ≡ false) → Passes ps before tt ss
-midway_passes ps before tt ss from now next m none =
+midway_passes ps before tt ss stops from now next m none =
     let all : take (from + length ss) ss ≡ ss = take_all (from + length ss) ss (omega arith) in
     subst (λ rs. Passes ps before tt rs) all
     (skipped ps before tt ss from m.passes (length ss) (λ k s here low _. m.behind k s here low (none k)))
 
 -- ---- the visit of a rule that waits
 
-pub steps_still : (d : Dependents) (ps : List TypeParameter) (before after : TypeTable) (s : Seen) (place : ℕ) (now next : Waiting) →
-    TakesType before after s.0.name.0 (first_in ps before s.1) false → VisitsOne d ps before after s place now now next next
-steps_still d ps before after s place now next t = record { added = false; takes = t; wakes = wakes_none place now next }
+pub steps_still : (ps : List TypeParameter) (before after : TypeTable) (s : Seen) (place : ℕ) (stops : Stops) (now next : Waiting) →
+    TakesType before after s.0.name.0 (first_in ps before s.1) false → VisitsOne ps before after s place stops stops now now next next
+steps_still ps before after s place stops now next t = record {
+  added = false;
+  takes = t;
+  ready = [];
+  gives = λ no. absurd cc;
+  still = λ _. refl;
+  none = λ _. refl;
+  wakes = wakes_none place now next;
+}
 
-pub steps_taken : {T E : Type 0} (d : Dependents) (ps : List TypeParameter) (before after : TypeTable) (s : Seen) (place : ℕ) (now now_after next next_after : Waiting) →
-    (r : Result T E) → TakesType before after s.0.name.0 (first_in ps before s.1) true → OnOk r (Wakes (places_of d s.0.name.0) place now now_after next next_after) →
-    OnOk r (VisitsOne d ps before after s place now now_after next next_after)
-steps_taken d ps before after s place now now_after next next_after (Ok x) t w = record { added = true; takes = t; wakes = w }
-steps_taken d ps before after s place now now_after next next_after (Err e) t w = w
+pub steps_taken : {T E : Type 0} (ps : List TypeParameter) (before after : TypeTable) (s : Seen) (place : ℕ) (stops stops_after : Stops) (now now_after next next_after : Waiting) (ready : List ℕ) →
+    (r : Result T E) → TakesType before after s.0.name.0 (first_in ps before s.1) true → GivesType stops stops_after place ready → OnOk r (Wakes ready place now now_after next next_after) →
+    OnOk r (VisitsOne ps before after s place stops stops_after now now_after next next_after)
+steps_taken ps before after s place stops stops_after now now_after next next_after ready (Ok x) t g w = record {
+  added = true;
+  takes = t;
+  ready = ready;
+  gives = λ _. g;
+  still = λ no. absurd cc;
+  none = λ no. absurd cc;
+  wakes = w;
+}
+steps_taken ps before after s place stops stops_after now now_after next next_after ready (Err e) t g w = w
 
 -- in the first round all rules are visited
 pub all_wait : (ps : List TypeParameter) (tt : TypeTable) (ss : List Seen) (now : Waiting) (count : ℕ) → count ≡ length ss → ((k : ℕ) → k < count → has now k ≡ true) →
@@ -228,4 +355,17 @@ pub all_wait : (ps : List TypeParameter) (tt : TypeTable) (ss : List Seen) (now 
 all_wait ps tt ss now count long all only = record {
   quiet = λ k s here out. let lt = slice_get_within ss k s here in absurd (both_ways (has now k) out (all k (omega arith)));
   within = λ k h. let lt = only k h in omega arith;
+}
+
+-- at first no name has a type
+pub begins_watching : (f : List ℕ → Option ℕ) (ps : List TypeParameter) (tt : TypeTable) (ss : List Seen) (needs : List Need) (stops : Stops) → AreRuleNumbers f (names_seen ss) → AreNeeds f ps ss needs →
+    BeginsUntyped stops (length ss) needs → ((n : List ℕ) → type_by_name tt n ≡ None) → Watches ps tt ss stops
+begins_watching f ps tt ss needs stops numbers are b none = record {
+  number = f;
+  numbers = numbers;
+  sound = b.stops;
+  count = b.count;
+  tells = λ k s here. b.none k ∙ ap is_some (sym (none s.0.name.0));
+  only = λ n _. none n;
+  settled = λ k s c here i. let x = are.all k s c here i in (x.0, x.2, b.settled x.0 x.1);
 }

@@ -1,5 +1,5 @@
--- The symbols of a function type.
-use Rattle.std.proofs.Common.{◌≡◌, Option, Some, None, Box, Vec, Global, option_map, sym, ap, ◌∙◌}
+-- The names that a function type is made of.
+use Rattle.std.proofs.Common.{◌≡◌, List, Option, Some, None, Box, Vec, Global, option_map, sym, ap, ◌∙◌}
 use Rattle.lalrpop_norm_tree.specs.declared.types.TypeRef.{TypeRef}
 use Rattle.lalrpop_norm_tree.specs.declared.types.TypeRef.TheVariants.{Fn}
 use Rattle.lalrpop_norm_tree.specs.declared.types.TypeRef.TheOpen.{TypeRef-F}
@@ -9,14 +9,14 @@ use Rattle.lalrpop_norm_tree.specs.Types.{TypeData, function, maybe_of, type_ste
 use Rattle.lalrpop_norm_tree_names.specs.declared.names.TypeParameter.{TypeParameter}
 use Rattle.lalrpop_norm_tree_parts.specs.declared.path.Path.{Path}
 use Rattle.lalrpop_norm_tree_parts.specs.Paths.{path_view}
-use Rattle.lalrpop_norm_model.specs.Expanded.{symbols_in}
+use Rattle.lalrpop_norm_tyinfer_table.specs.Needs.{needed_type}
 
-symbols_of_function : (fs : Vec TypeParameter Global) (p : Path) (ts : Vec TypeRef Global) (r : Option (Box TypeRef Global))
-    → symbols_in (type_view (Fn fs p ts r)) ≡ symbols_in (function fs.items (path_view p) (types_view ts.items) (maybe_of (option_map (λ b. type_view b.value) r)))
-symbols_of_function fs p ts None = ap symbols_in (ap type_view (sym (rolls-Fn fs p ts None)) ∙ fold-roll-TypeRef TypeData type_step (TypeRef-F.Fn fs p _ None))
-symbols_of_function fs p ts (Some b) = ap symbols_in (ap type_view (sym (rolls-Fn fs p ts (Some b))) ∙ fold-roll-TypeRef TypeData type_step (TypeRef-F.Fn fs p _ (Some b)))
+needs_of_function : (ps : List TypeParameter) (fs : Vec TypeParameter Global) (p : Path) (ts : Vec TypeRef Global) (r : Option (Box TypeRef Global))
+    → needed_type ps (type_view (Fn fs p ts r)) ≡ needed_type ps (function fs.items (path_view p) (types_view ts.items) (maybe_of (option_map (λ b. type_view b.value) r)))
+needs_of_function ps fs p ts None = ap (needed_type ps) (ap type_view (sym (rolls-Fn fs p ts None)) ∙ fold-roll-TypeRef TypeData type_step (TypeRef-F.Fn fs p _ None))
+needs_of_function ps fs p ts (Some b) = ap (needed_type ps) (ap type_view (sym (rolls-Fn fs p ts (Some b))) ∙ fold-roll-TypeRef TypeData type_step (TypeRef-F.Fn fs p _ (Some b)))
 
 -- a function type has those of its parts
-pub function_symbols : (t : TypeRef) (fs : Vec TypeParameter Global) (p : Path) (ts : Vec TypeRef Global) (r : Option (Box TypeRef Global))
-    → t ≡ Fn fs p ts r → symbols_in (type_view t) ≡ symbols_in (function fs.items (path_view p) (types_view ts.items) (maybe_of (option_map (λ b. type_view b.value) r)))
-function_symbols t fs p ts r e = rw e (symbols_of_function fs p ts r)
+pub function_needs : (ps : List TypeParameter) (t : TypeRef) (fs : Vec TypeParameter Global) (p : Path) (ts : Vec TypeRef Global) (r : Option (Box TypeRef Global))
+    → t ≡ Fn fs p ts r → needed_type ps (type_view t) ≡ needed_type ps (function fs.items (path_view p) (types_view ts.items) (maybe_of (option_map (λ b. type_view b.value) r)))
+function_needs ps t fs p ts r e = rw e (needs_of_function ps fs p ts r)

@@ -2,7 +2,9 @@ pub mod Clauses
 pub mod Filled
 pub mod Inferred
 pub mod Literals
+pub mod Needs
 pub mod SameApplied
+pub mod Stops
 pub mod TableFaults
 pub mod TableValues
 pub mod TokenTypes

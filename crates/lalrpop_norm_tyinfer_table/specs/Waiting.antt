@@ -1,19 +1,18 @@
 -- Which rules are visited in a round: those that may take a type there.
-use Rattle.std.specs.Prelude.{◌≡◌, ◌<◌, ◌≤◌, ◌⊎◌, ◌==◌, ℕ, Bool, true, false, List, [], ◌∷◌}
-use Rattle.std.specs.Prelude.{◌++◌, length, flat_map, bytes_eq, Some, None, slice_get, option_map, unwrap_or}
-use Rattle.std.specs.Prelude.{if◌then◌else◌}
+use Rattle.std.specs.Prelude.{◌≡◌, ◌<◌, ◌≤◌, ◌⊎◌, ◌==◌, ℕ, Bool, true, false, List, [], length, Option, Some, None}
+use Rattle.std.specs.Prelude.{is_some, slice_get, if◌then◌else◌}
 use Rattle.std.specs.Ordering.{nat_cmp}
-use Rattle.std.specs.Cmp.Lexicographic.{slice_cmp}
-use Rattle.std.specs.BTreeMap.{get}
 use Rattle.std.specs.BTreeSet.{contains}
 use Rattle.lalrpop_norm_tree_names.specs.declared.names.TypeParameter.{TypeParameter}
 use Rattle.lalrpop_norm_theory.specs.Rounds.{In}
 use Rattle.lalrpop_norm_repr.specs.Tables.{TypeTable}
-use Rattle.lalrpop_norm_model.specs.Expanded.{names_in_kind, symbols_in}
-use Rattle.lalrpop_norm_model.specs.TypeRelation.{TypeClause, makes, locates}
-use Rattle.lalrpop_norm_tyinfer_table.specs.declared.dependents.Dependents.{Dependents}
+use Rattle.lalrpop_norm_model.specs.TypeRelation.{TypeClause}
+use Rattle.lalrpop_norm_tyinfer_table.specs.declared.needs.Need.{Need}
+use Rattle.lalrpop_norm_tyinfer_table.specs.declared.stops.Stops.{Stops}
 use Rattle.lalrpop_norm_tyinfer_table.specs.declared.waiting.Waiting.{Waiting}
 use Rattle.lalrpop_norm_tyinfer_table.specs.Clauses.{first_in}
+use Rattle.lalrpop_norm_tyinfer_table.specs.Needs.{names_seen, AreRuleNumbers, IsNeedOf}
+use Rattle.lalrpop_norm_tyinfer_table.specs.Stops.{typed_at, Settled, IsStops, GivesType}
 use Rattle.lalrpop_norm_tyinfer_table.specs.TableValues.{type_by_name}
 use Rattle.lalrpop_norm_tyinfer_table.specs.Visits.{Seen, TakesType}
 
@@ -28,33 +27,6 @@ pub record TakesLeast (before after : Waiting) (place : ℕ) : Type 0 where
   pub there : has before place ≡ true
   pub least : (k : ℕ) → has before k ≡ true → place ≤ k
   pub rest : (k : ℕ) → has after k ≡ (if place == k then false else has before k)
-
--- ---- the rules that mention a name
-
--- the names that a clause mentions: of the names of a table, what the clause makes of it rests on these alone
-abbrev pub mentioned_in : TypeClause → List (List ℕ)
-mentioned_in (makes t) = flat_map names_in_kind (symbols_in t)
-mentioned_in locates = []
-
-abbrev pub mentioned : List TypeClause → List (List ℕ)
-mentioned cs = flat_map mentioned_in cs
-
--- the places that are kept under a name
-abbrev pub places_of : Dependents → List ℕ → List ℕ
-places_of d n = unwrap_or (option_map (λ v. v.items) (get (slice_cmp nat_cmp) d.places n)) []
-
--- the place once for each of the names that is this one
-abbrev pub marks : ℕ → List ℕ → List (List ℕ) → List ℕ
-marks place n names = flat_map (λ m. if bytes_eq m n then place ∷ [] else []) names
-
--- the place is put last under each of the names
-abbrev pub Notes : Dependents → Dependents → List (List ℕ) → ℕ → Type 0
-Notes before after names place = (n : List ℕ) → places_of after n ≡ places_of before n ++ marks place n names
-
--- each of the rules is kept under each name that it mentions, and what is kept are places of rules
-pub record Covers (d : Dependents) (ss : List Seen) : Type 0 where
-  pub all : (k : ℕ) (s : Seen) (n : List ℕ) → slice_get ss k ≡ Some s → In n (mentioned s.1) → In k (places_of d n)
-  pub within : (k : ℕ) (n : List ℕ) → In k (places_of d n) → k < length ss
 
 -- ---- rules that wait for a visit
 
@@ -76,9 +48,26 @@ pub record Wakes (places : List ℕ) (place : ℕ) (now now_after next next_afte
   pub only_now : (k : ℕ) → has now_after k ≡ true → (has now k ≡ true) ⊎ ((place < k) × In k places)
   pub only_next : (k : ℕ) → has next_after k ≡ true → (has next k ≡ true) ⊎ In k places
 
--- the rule at the place is visited, and where it takes a type those that mention its name wait
-pub record VisitsOne (d : Dependents) (ps : List TypeParameter) (before after : TypeTable) (s : Seen)
-    (place : ℕ) (now now_after next next_after : Waiting) : Type 0 where
+-- ---- what stops know
+
+-- They know which rules have types, and where each clause stopped.
+pub record Watches (ps : List TypeParameter) (tt : TypeTable) (ss : List Seen) (stops : Stops) : Type 0 where
+  pub number : List ℕ → Option ℕ
+  pub numbers : AreRuleNumbers number (names_seen ss)
+  pub sound : IsStops stops
+  pub count : length stops.typed.items ≡ length ss
+  pub tells : (k : ℕ) (s : Seen) → slice_get ss k ≡ Some s → typed_at stops k ≡ is_some (type_by_name tt s.0.name.0)
+  pub only : (n : List ℕ) → number n ≡ None → type_by_name tt n ≡ None
+  pub settled : (k : ℕ) (s : Seen) (c : TypeClause) → slice_get ss k ≡ Some s → In c s.1 →
+      (n : Need) × IsNeedOf number ps c k n × Settled stops n
+
+-- The rule at the place is visited. Where it takes a type, the rules of the clauses that have all types now wait.
+pub record VisitsOne (ps : List TypeParameter) (before after : TypeTable) (s : Seen) (place : ℕ) (stops stops_after : Stops)
+    (now now_after next next_after : Waiting) : Type 0 where
   pub added : Bool
   pub takes : TakesType before after s.0.name.0 (first_in ps before s.1) added
-  pub wakes : Wakes (if added then places_of d s.0.name.0 else []) place now now_after next next_after
+  pub ready : List ℕ
+  pub gives : added ≡ true → GivesType stops stops_after place ready
+  pub still : added ≡ false → stops_after ≡ stops
+  pub none : added ≡ false → ready ≡ []
+  pub wakes : Wakes ready place now now_after next next_after

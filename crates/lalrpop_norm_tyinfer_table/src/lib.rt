@@ -1,12 +1,14 @@
 //! Type inference up to the table: what the parts of a grammar mean by a table of types, and what a table shows of its rules.
 #![tactic(auto)]
 
-pub mod dependents;
 pub mod grounded;
 mod named;
+pub mod names;
+pub mod needs;
 pub mod patterns;
 pub mod rules;
 pub mod same;
+pub mod stops;
 pub mod tokens;
 pub mod type_sources;
 pub mod values;

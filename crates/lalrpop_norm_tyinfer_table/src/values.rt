@@ -69,7 +69,10 @@ fn is_type_parameter(parameters: &[TypeParameter], name: &Atom) -> bool
 }
 
 /// The associated type that a path is: its type parameter, and its name.
-fn associated<'a>(parameters: &[TypeParameter], path: &'a Path) -> Option<(&'a Atom, &'a Atom)>
+pub(crate) fn associated<'a>(
+    parameters: &[TypeParameter],
+    path: &'a Path,
+) -> Option<(&'a Atom, &'a Atom)>
     ensures { option_map (λ a. (a.0.now, a.1.now)) result ≡ associated_in parameters.now (path_view path.now).ids }
 {
     match path.ids.as_slice() {
@@ -258,7 +261,7 @@ fn object_value(
 }
 
 /// `T::Id`.
-fn associated_type(parameter: &Atom, id: &Atom) -> Result<TypeRepr, NoMemory>
+pub(crate) fn associated_type(parameter: &Atom, id: &Atom) -> Result<TypeRepr, NoMemory>
     ensures { IfOk result (λ r. repr_view r ≡ lowered.associated parameter.now id.now) }
 {
     Ok(TypeRepr::Associated {

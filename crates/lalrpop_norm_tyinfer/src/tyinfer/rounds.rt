@@ -1,17 +1,22 @@
 //! Rounds in which rules take their types.
-ghost use Rattle.std.specs.Prelude.{◌≡◌, [], ◌∷◌, None, Some, IfOk, OnOk, length, map};
+ghost use Rattle.std.specs.Prelude.{◌≡◌, ◌<◌, [], ◌∷◌, ℕ, List, None, Some, IfOk, OnOk, length, map};
+ghost use Rattle.lalrpop_norm_theory.specs.Rounds.{IsDistinct};
 ghost use Rattle.lalrpop_norm_tree_names.specs.declared.names.NonterminalString.{NonterminalString};
 ghost use Rattle.lalrpop_norm_tree_parts.specs.Reprs.{repr_view};
 ghost use Rattle.lalrpop_norm_repr.specs.Tables.{type_table, type_of};
 ghost use Rattle.lalrpop_norm_tyinfer_table.specs.Clauses.{clause_view, first_in};
+ghost use Rattle.lalrpop_norm_tyinfer_table.specs.Needs.{names_seen};
+ghost use Rattle.lalrpop_norm_tyinfer_table.specs.Stops.{IsStops};
+ghost use Rattle.lalrpop_norm_tyinfer_table.specs.TableValues.{type_by_name};
 ghost use Rattle.lalrpop_norm_tyinfer_table.specs.Visits.{rule_seen, EndsRounds, Passes, TakesType};
-ghost use Rattle.lalrpop_norm_tyinfer_table.specs.Waiting.{Covers, VisitsOne, Waits, Wakes};
+ghost use Rattle.lalrpop_norm_tyinfer_table.specs.Waiting.{VisitsOne, Waits, Wakes, Watches};
 
 use crate::tyinfer::type_sources::first_value;
 use lalrpop_norm_repr::grammar::repr::{TypeRepr, Types};
 use lalrpop_norm_tree::grammar::parse_tree::{NoMemory, NonterminalString, TypeParameter};
-use lalrpop_norm_tyinfer_table::dependents::Dependents;
+use lalrpop_norm_tyinfer_table::needs::needs_of;
 use lalrpop_norm_tyinfer_table::rules::PlainRule;
+use lalrpop_norm_tyinfer_table::stops::Stops;
 use lalrpop_norm_tyinfer_table::waiting::Waiting;
 use std::alloc::Global;
 
@@ -93,22 +98,25 @@ fn wake_one(
     next.add(other)
 }
 
-/// Visits the rule at a place, and lets those wait that a type of its name may change.
+/// Visits the rule at a place. Where it takes a type, the rules of the clauses that have all types now wait.
 fn step(
     alloc: Global,
     parameters: &[TypeParameter],
     types: &mut Types,
-    dependents: &Dependents,
+    stops: &mut Stops,
     rule: &PlainRule,
     place: usize,
     now: &mut Waiting,
     next: &mut Waiting,
 ) -> Result<(), NoMemory>
-    ensures { OnOk result (VisitsOne dependents.now parameters.now (type_table types.old) (type_table types.new) (rule_seen rule.now) place now.old now.new next.old next.new) }
+    requires sound { IsStops stops.old }
+    requires within { place < length stops.old.typed.items }
+    ensures { OnOk result (VisitsOne parameters.now (type_table types.old) (type_table types.new) (rule_seen rule.now) place stops.old stops.new now.old now.new next.old next.new) }
 {
     let took = visit(alloc, parameters, types, rule)?;
     if took {
-        return wake(dependents.places(&rule.data.name), place, now, next);
+        let ready = stops.give_type(alloc, place)?;
+        return wake(&ready, place, now, next);
     }
     Ok(())
 }
@@ -120,13 +128,15 @@ fn round(
     parameters: &[TypeParameter],
     types: &mut Types,
     rules: &[PlainRule],
-    dependents: &Dependents,
+    stops: &mut Stops,
     now: &mut Waiting,
 ) -> Result<Waiting, NoMemory>
-    requires covers { Covers dependents.now (map rule_seen rules.now) }
+    requires distinct { IsDistinct (names_seen (map rule_seen rules.now)) }
+    requires watches { Watches parameters.now (type_table types.old) (map rule_seen rules.now) stops.old }
     requires waits { Waits parameters.now (type_table types.old) (map rule_seen rules.now) now.old }
     ensures passes { IfOk result (λ next. Passes parameters.now (type_table types.old) (type_table types.new) (map rule_seen rules.now)) }
     ensures waits { IfOk result (λ next. Waits parameters.now (type_table types.new) (map rule_seen rules.now) next) }
+    ensures watches { IfOk result (λ next. Watches parameters.now (type_table types.new) (map rule_seen rules.now) stops.new) }
 {
     let mut next = Waiting::new(alloc);
     // No code reads it: the invariant and the measure of the loop speak of it.
@@ -136,7 +146,7 @@ fn round(
             alloc,
             parameters,
             types,
-            dependents,
+            stops,
             &rules[place],
             place,
             now,
@@ -148,22 +158,40 @@ fn round(
 }
 
 /// Rounds until no rule waits for a visit. As many as there are rules are enough.
+fn rounds_from(
+    alloc: Global,
+    parameters: &[TypeParameter],
+    types: &mut Types,
+    rules: &[PlainRule],
+    stops: &mut Stops,
+) -> Result<(), NoMemory>
+    requires distinct { IsDistinct (names_seen (map rule_seen rules.now)) }
+    requires watches { Watches parameters.now (type_table types.old) (map rule_seen rules.now) stops.old }
+    ensures { OnOk result (EndsRounds parameters.now (type_table types.old) (type_table types.new) (map rule_seen rules.now) (length rules.now)) }
+{
+    let mut now = Waiting::below(alloc, rules.len())?;
+    // No code reads `count`: the invariant speaks of it.
+    for count in 0..rules.len() {
+        now = round(alloc, parameters, types, rules, stops, &mut now)?;
+        if now.is_empty() {
+            return Ok(());
+        }
+    }
+    Ok(())
+}
+
+/// The rounds of rules of a table in which no name has a type yet.
 pub(crate) fn run_rounds(
     alloc: Global,
     parameters: &[TypeParameter],
     types: &mut Types,
     rules: &[PlainRule],
 ) -> Result<(), NoMemory>
+    requires distinct { IsDistinct (names_seen (map rule_seen rules.now)) }
+    requires untyped { (n : List ℕ) → type_by_name (type_table types.old) n ≡ None }
     ensures { OnOk result (EndsRounds parameters.now (type_table types.old) (type_table types.new) (map rule_seen rules.now) (length rules.now)) }
 {
-    let dependents = Dependents::of(alloc, rules)?;
-    let mut now = Waiting::below(alloc, rules.len())?;
-    // No code reads `count`: the invariant speaks of it.
-    for count in 0..rules.len() {
-        now = round(alloc, parameters, types, rules, &dependents, &mut now)?;
-        if now.is_empty() {
-            return Ok(());
-        }
-    }
-    Ok(())
+    let needs = needs_of(alloc, parameters, rules)?;
+    let mut stops = Stops::of(alloc, &needs, rules.len())?;
+    rounds_from(alloc, parameters, types, rules, &mut stops)
 }

@@ -1,29 +1,24 @@
-use Rattle.std.proofs.Common.{◌≡◌, length, suc, sym, add-one, arith}
+use Rattle.std.proofs.Common.{◌≡◌, ℕ, length, map, sym, subst}
 use Rattle.std.proofs.lemmas.List.{length-map}
+use Rattle.lalrpop_norm_repr.specs.Tables.{type_table}
+use Rattle.lalrpop_norm_theory.specs.Rounds.{In}
+use Rattle.lalrpop_norm_tyinfer_table.specs.declared.needs.Need.{Need}
+use Rattle.lalrpop_norm_tyinfer_table.specs.Stops.{Fits, BeginsUntyped}
 use Rattle.lalrpop_norm_tyinfer_table.specs.Visits.{rule_seen}
-use Rattle.lalrpop_norm_tyinfer_table.proofs.RoundLemmas.{all_wait}
-use Rattle.lalrpop_norm_tyinfer_table.proofs.VisitLemmas.{ends_none, ends_more, ends_quiet}
+use Rattle.lalrpop_norm_tyinfer_table.proofs.NeedLemmas.{need_fits}
+use Rattle.lalrpop_norm_tyinfer_table.proofs.RoundLemmas.{begins_watching}
 use Rattle.lalrpop_norm_tyinfer.proofs.tyinfer.rounds.run_rounds.Goals as goal
 
-pub loop-count-init : goal.loop-count-init
-loop-count-init c = record {
-  ends = ends_none _ _ _;
-  waits = all_wait _ _ _ _ (length c.args.rules.now) (sym (length-map c.args.rules.now rule_seen)) c.in_ok-now.ensures.all c.in_ok-now.ensures.only;
-}
+pub of-requires : goal.of-requires
+of-requires c =
+    let have = c.in_ok-needs.ensures in
+    let fit : (n : Need) → In n c.in_ok-needs.needs.items → Fits (length c.args.rules.now) n = λ n h.
+    subst (λ k. Fits k n) (length-map c.args.rules.now rule_seen) (need_fits have.number c.args.parameters.now (map rule_seen c.args.rules.now) c.in_ok-needs.needs.items have.numbers have.needs_are n h) in
+    rw c.deref.ensures.value fit
 
-pub loop-count-preserved : goal.loop-count-preserved
-loop-count-preserved c = record {
-  ends = rw add-one (ends_more _ _ _ _ _ _ c.loop-count.invariant.ends c.in_ok-now-2.ensures.passes);
-  waits = c.in_ok-now-2.ensures.waits;
-}
-
-pub returns-then-is_empty : goal.returns-then-is_empty
-returns-then-is_empty c =
-    let none = rw c.if-is_empty.true at c.is_empty.ensures.none in
-    ends_quiet _ _ _ _ (suc c.loop-count.count) _ (ends_more _ _ _ _ _ _ c.loop-count.invariant.ends c.in_ok-now-2.ensures.passes)
-    (λ k s here. c.in_ok-now-2.ensures.waits.quiet k s here (none k)) (omega arith)
-
-pub returns : goal.returns
-returns c =
-    let all : c.loop-count.count ≡ length c.args.rules.now = omega arith in
-    rw all at c.loop-count.invariant.ends
+pub rounds_from-requires-clause-watches : goal.rounds_from-requires-clause-watches
+rounds_from-requires-clause-watches c =
+    let have = c.in_ok-needs.ensures in
+    let begun = rw c.deref.ensures.value at c.in_ok-stops.ensures in
+    begins_watching have.number c.args.parameters.now (type_table c.args.types.now) (map rule_seen c.args.rules.now) c.in_ok-needs.needs.items c.in_ok-stops.stops have.numbers have.needs_are
+    (subst (λ k. BeginsUntyped c.in_ok-stops.stops k c.in_ok-needs.needs.items) (sym (length-map c.args.rules.now rule_seen)) begun) c.requires.untyped

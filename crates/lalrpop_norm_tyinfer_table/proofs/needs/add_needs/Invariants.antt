@@ -1,0 +1,7 @@
+use Rattle.std.proofs.Common.{take, map}
+use Rattle.lalrpop_norm_tyinfer_table.specs.Clauses.{clause_view}
+use Rattle.lalrpop_norm_tyinfer_table.specs.Needs.{rule_number, AddsNeeds}
+use Rattle.lalrpop_norm_tyinfer_table.proofs.needs.add_needs.Given as goal
+
+abbrev pub invariant-loop-clause : goal.invariant-loop-clause
+invariant-loop-clause l = AddsNeeds (rule_number l.names) l.parameters l.initial.needs.items l.needs.items (map clause_view (take l.clause-index l.clauses)) l.rule
