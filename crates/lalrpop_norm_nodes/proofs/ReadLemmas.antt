@@ -1,5 +1,5 @@
 -- What is put in the place of a symbol, and what it meets.
-use Rattle.std.proofs.Common.{◌≡◌, ℕ, List, [], ◌∷◌, ◌++◌, Bool, Option, Some, None, map, option_map, option_and_then, slice_get, refl, sym, ap, ap₂, ◌∙◌, subst}
+use Rattle.std.proofs.Common.{◌≡◌, ℕ, List, [], ◌∷◌, ◌++◌, Bool, Option, Some, None, map, option_map, refl, sym, ap, ap₂, ◌∙◌, subst}
 use Rattle.lalrpop_norm_tree_names.specs.declared.names.Span.{Span}
 use Rattle.lalrpop_norm_tree.specs.declared.symbol.Symbol.{Symbol}
 use Rattle.lalrpop_norm_tree.specs.Symbols.{Kind, Part, Parts, no_parts, part_and, at, group, ambiguous_id, terminal, nonterminal, call, repeated, chosen, named, tupled, lookahead, lookbehind, error_terminal, kind_view, symbol_view}
@@ -25,7 +25,7 @@ use Rattle.lalrpop_norm_nodes.specs.Given.{given_to, shown_for, IsGiven, AreGive
 use Rattle.lalrpop_norm_nodes.specs.declared.table.Table.{Table}
 use Rattle.lalrpop_norm_nodes.proofs.MeetLemmas.{kind_text_unplaced, split_at, meets_both, refused_later, standing_met}
 use Rattle.lalrpop_norm_nodes.specs.Wholes.{Whole, one_symbol, kind_at, StandsFor}
-use Rattle.lalrpop_norm_nodes.specs.Tables.{wholes_in, own_at, own_text_in, is_declared_in, seen_in, IsNodeTable, TableMeets, refused_in}
+use Rattle.lalrpop_norm_nodes.specs.Tables.{wholes_in, own_at, is_declared_in, seen_in, IsNodeTable, TableMeets, refused_in}
 use Rattle.lalrpop_norm_nodes.specs.Filled.{inside_replaced}
 use Rattle.lalrpop_norm_nodes.specs.Readings.{topped, topped_kind}
 use Rattle.lalrpop_norm_nodes.proofs.GivenLemmas.{inside_text, shown_text}
