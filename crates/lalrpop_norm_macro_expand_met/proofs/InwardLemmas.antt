@@ -58,7 +58,7 @@ module _ (names : List ℕ → Bool) where
   found : (seen : List Part) (x : Part) → was_met names seen x ≡ true → Found seen x
   found seen x h = found_by seen x (first_with_text (part_text x) seen) refl h
 
-  met_by : (seen : List Part) (x : Part) → Found seen x → was_met names seen x ≡ true
+  pub met_by : (seen : List Part) (x : Part) → Found seen x → was_met names seen x ≡ true
   met_by seen x f =
       ap (λ (o : Option Part). is_some o && not (names (part_text x) || differs o x)) f.is_first ∙ ap not f.free
 
@@ -72,7 +72,7 @@ module _ (names : List ℕ → Bool) where
       let f = found seen x h in
       met_by (seen ++ more) x (record { one = f.one; is_first = first_stays (part_text x) seen more f.one f.is_first; free = f.free })
 
-  all_stay : (seen more xs : List Part) → were_met names seen xs ≡ true → were_met names (seen ++ more) xs ≡ true
+  pub all_stay : (seen more xs : List Part) → were_met names seen xs ≡ true → were_met names (seen ++ more) xs ≡ true
   all_stay seen more [] h = refl
   all_stay seen more (x ∷ xs) h =
       let p = and_parts _ _ h in
@@ -140,7 +140,7 @@ module _ (names : List ℕ → Bool) where
 
   -- ---- symbols that are the same
 
-  same_met : (seen : List Part) (x y : Part) → closed x ≡ closed y → was_met names seen x ≡ true → was_met names seen y ≡ true
+  pub same_met : (seen : List Part) (x y : Part) → closed x ≡ closed y → was_met names seen x ≡ true → was_met names seen y ≡ true
   same_met seen x y e h =
       let f = found seen x h in
       let texts : part_text x ≡ part_text y = closed_text_same x y e in

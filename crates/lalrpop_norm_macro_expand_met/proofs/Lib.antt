@@ -1,8 +1,8 @@
-mod ApartLemmas
+pub mod ApartLemmas
 mod ContentLemmas
 pub mod IndexLemmas
 pub mod InwardLemmas
 pub mod MeetingLemmas
-mod SameLemmas
+pub mod SameLemmas
 pub mod SamenessLemmas
 pub mod SymbolLemmas

@@ -10,7 +10,7 @@ as_list : (ss : List Symbol) → all_unplaced (parts_view ss) ≡ parts_of (each
 as_list [] = refl
 as_list (s ∷ ss) = ap (λ ps. part_and (unplaced (symbol_view s)) ps) (as_list ss)
 
-parts_apart : (xs ys : List Part) → parts_of xs ≡ parts_of ys → xs ≡ ys
+pub parts_apart : (xs ys : List Part) → parts_of xs ≡ parts_of ys → xs ≡ ys
 parts_apart [] [] e = refl
 parts_apart [] (y ∷ ys) e = cc
 parts_apart (x ∷ xs) [] e = cc
@@ -35,7 +35,7 @@ same_at a b i d e same h k =
     let f : Symbol → Part = λ s. unplaced (symbol_view s) in
     sym (get_or-map f a i d (f d) h) ∙ ap (λ l. get_or l i (f d)) same ∙ get_or-map f b i e (f d) k
 
-patterns_apart : (xs ys : List ArgumentPattern) → argument_patterns_of xs ≡ argument_patterns_of ys → xs ≡ ys
+pub patterns_apart : (xs ys : List ArgumentPattern) → argument_patterns_of xs ≡ argument_patterns_of ys → xs ≡ ys
 patterns_apart [] [] e = refl
 patterns_apart [] (y ∷ ys) e = cc
 patterns_apart (x ∷ xs) [] e = cc

@@ -11,9 +11,9 @@ use Rattle.lalrpop_norm_theory.proofs.RoundsLemmas.{in_left, in_right, in_cases}
 use Rattle.lalrpop_norm_model.specs.TypeRelation.{TypeClause}
 use Rattle.lalrpop_norm_tyinfer_table.specs.declared.needs.Need.{Need}
 use Rattle.lalrpop_norm_tyinfer_table.specs.Needs.{needed_in, names_seen, AreRuleNumbers, IsNeedOf, AddsNeeds, AreNeeds}
-use Rattle.lalrpop_norm_tyinfer_table.specs.Stops.{Fits}
+use Rattle.lalrpop_norm_tyinfer_table.specs.Stops.{NeedsBelow}
 use Rattle.lalrpop_norm_tyinfer_table.specs.Visits.{Seen}
-use Rattle.lalrpop_norm_tyinfer_table.proofs.StopLemmas.{in_at}
+use Rattle.lalrpop_norm_model.proofs.LevelLemmas.{at_in}
 
 -- ---- elements of lists
 
@@ -47,15 +47,12 @@ of_mapped_at f [] j y e = absurd (cc e)
 of_mapped_at f (x ∷ xs) zero y e = (x, refl, cc)
 of_mapped_at f (x ∷ xs) (suc j) y e = of_mapped_at f xs j y e
 
-distinct_from : {X : Type 0} (x : X) (xs : List X) (j : ℕ) → (In x xs → ⊥) → slice_get xs j ≡ Some x → ⊥
-distinct_from x xs j apart e = apart (in_at xs j x e)
-
 -- in a list of distinct things each stands at one place
 pub one_place : {X : Type 0} (xs : List X) (x : X) (i j : ℕ) → IsDistinct xs → slice_get xs i ≡ Some x → slice_get xs j ≡ Some x → i ≡ j
 one_place [] x i j d e h = absurd (cc e)
 one_place (y ∷ xs) x zero zero d e h = refl
-one_place {X} (y ∷ xs) x zero (suc j) d e h = let same : y ≡ x = cc in absurd (d.0 (subst (λ (z : X). In z xs) (sym same) (in_at xs j x h)))
-one_place {X} (y ∷ xs) x (suc i) zero d e h = let same : y ≡ x = cc in absurd (d.0 (subst (λ (z : X). In z xs) (sym same) (in_at xs i x e)))
+one_place {X} (y ∷ xs) x zero (suc j) d e h = let same : y ≡ x = cc in absurd (d.0 (subst (λ (z : X). In z xs) (sym same) (at_in xs j x h)))
+one_place {X} (y ∷ xs) x (suc i) zero d e h = let same : y ≡ x = cc in absurd (d.0 (subst (λ (z : X). In z xs) (sym same) (at_in xs i x e)))
 one_place (y ∷ xs) x (suc i) (suc j) d e h = ap suc (one_place xs x i j d.1 e h)
 
 -- ---- loops
@@ -156,7 +153,7 @@ needs_more f ps ss s old new rule last a adds = record {
 }
 
 -- the numbers are those of rules
-pub need_fits : (f : List ℕ → Option ℕ) (ps : List TypeParameter) (ss : List Seen) (needs : List Need) → AreRuleNumbers f (names_seen ss) → AreNeeds f ps ss needs → (n : Need) → In n needs → Fits (length ss) n
+pub need_fits : (f : List ℕ → Option ℕ) (ps : List TypeParameter) (ss : List Seen) (needs : List Need) → AreRuleNumbers f (names_seen ss) → AreNeeds f ps ss needs → (n : Need) → In n needs → NeedsBelow (length ss) n
 need_fits f ps ss needs numbers a n h =
     let w = a.only n h in record {
       rule = w.0;

@@ -22,7 +22,7 @@ use Rattle.lalrpop_norm_tyinfer_table.specs.Visits.{Seen, TakesType, Passes}
 use Rattle.lalrpop_norm_tyinfer_table.specs.Waiting.{has, TakesLeast, IsQuiet, Waits, Wakes, Watches, VisitsOne}
 use Rattle.lalrpop_norm_tyinfer_table.proofs.NeedLemmas.{at_of, of_mapped_at, one_place}
 use Rattle.lalrpop_norm_tyinfer_table.proofs.NeededLemmas.{clause_same, clause_lacks, none_of, none_from}
-use Rattle.lalrpop_norm_tyinfer_table.proofs.StopLemmas.{in_at}
+use Rattle.lalrpop_norm_model.proofs.LevelLemmas.{at_in}
 use Rattle.lalrpop_norm_tyinfer_table.proofs.VisitLemmas.{taken_kept, taken_none, passes_more}
 
 -- ---- places
@@ -58,7 +58,7 @@ name_at : (ss : List Seen) (k : ℕ) (s : Seen) → slice_get ss k ≡ Some s �
 name_at ss k s here = slice_get-map (λ (q : Seen). q.0.name.0) ss k ∙ ap (option_map (λ (q : Seen). q.0.name.0)) here
 
 name_in : (ss : List Seen) (k : ℕ) (s : Seen) → slice_get ss k ≡ Some s → In s.0.name.0 (names_seen ss)
-name_in ss k s here = in_at (names_seen ss) k s.0.name.0 (name_at ss k s here)
+name_in ss k s here = at_in (names_seen ss) k s.0.name.0 (name_at ss k s here)
 
 module _ (ps : List TypeParameter) (tt : TypeTable) (ss : List Seen) (stops : Stops) (w : Watches ps tt ss stops) where
   -- a name has a type where they say so, and no other
@@ -77,7 +77,7 @@ module _ (ps : List TypeParameter) (tt : TypeTable) (ss : List Seen) (stops : St
   stopped_none c k n is s =
       let m = of_mapped_at w.number (needed_in ps c) s.place s.number (ap (λ os. slice_get os s.place) (sym is.numbers_are) ∙ s.here) in
       let untyped : is_some (type_by_name tt m.0) ≡ false = sym (typed_is m.0 (w.number m.0) refl) ∙ (ap (is_typed stops) m.2 ∙ s.untyped) in
-      clause_lacks ps tt m.0 (not_some (type_by_name tt m.0) untyped) c (in_at (needed_in ps c) s.place m.0 m.1)
+      clause_lacks ps tt m.0 (not_some (type_by_name tt m.0) untyped) c (at_in (needed_in ps c) s.place m.0 m.1)
 
   -- of one that has all its types each name has one
   typed_name : (c : TypeClause) (k : ℕ) (n : Need) → IsNeedOf w.number ps c k n → AreTyped stops n.numbers.items → (m : List ℕ) → In m (needed_in ps c) → is_some (type_by_name tt m) ≡ true

@@ -4,17 +4,14 @@ use Rattle.std.proofs.lemmas.Bool.Decides.{eqb_tells, leb_tells}
 use Rattle.std.proofs.lemmas.List.{get_or-set_same, get_or-set_other, length-set}
 use Rattle.std.proofs.lemmas.Option.{slice_get_read}
 use Rattle.lalrpop_norm_theory.specs.Rounds.{In}
+use Rattle.lalrpop_norm_theory.proofs.BoolLemmas.{or_right}
 use Rattle.lalrpop_norm_theory.proofs.ListLemmas.{in_one}
 use Rattle.lalrpop_norm_theory.proofs.RoundsLemmas.{in_left, in_right, in_cases}
+use Rattle.lalrpop_norm_model.proofs.LevelLemmas.{at_in}
 use Rattle.lalrpop_norm_tyinfer_table.specs.declared.needs.Need.{Need}
 use Rattle.lalrpop_norm_tyinfer_table.specs.declared.stops.Stop.{Stop}
 use Rattle.lalrpop_norm_tyinfer_table.specs.declared.stops.Stops.{Stops}
-use Rattle.lalrpop_norm_tyinfer_table.specs.Stops.{typed_at, is_typed, stopped_at, AreTypedFrom, AreTypedBelow, AreTyped, IsFirstUntyped, StopsAt, Settled, Fits, IsStops, PutsUnder, TakesOut, Puts, Seeks, MovesOn, GivesType, BeginsUntyped}
-
-pub in_at : {X : Type 0} (xs : List X) (i : ℕ) (x : X) → slice_get xs i ≡ Some x → In x xs
-in_at [] i x e = absurd (cc e)
-in_at (y ∷ xs) zero x e = inl (cc)
-in_at (y ∷ xs) (suc i) x e = inr (in_at xs i x e)
+use Rattle.lalrpop_norm_tyinfer_table.specs.Stops.{typed_at, is_typed, stopped_at, AreTypedFrom, AreTypedBelow, AreTyped, IsFirstUntyped, StopsAt, Settled, NeedsBelow, IsStops, PutsUnder, TakesOut, Puts, Seeks, MovesOn, GivesType, BeginsUntyped}
 
 pub on_ok : {T E : Type 0} (r : Result T E) {P Q : Type 0} → OnOk r P → (P → Q) → OnOk r Q
 on_ok (Ok x) p f = f p
@@ -25,7 +22,7 @@ if_ok (Ok x) p f = f x p
 if_ok (Err e) p f = p
 
 pub in_read : {X : Type 0} (xs : List X) (i : ℕ) (x : X) → i < length xs → x ≡ get_or xs i x → In x xs
-in_read xs i x lt is = in_at xs i x (slice_get_read xs (length xs) i x refl lt is)
+in_read xs i x lt is = at_in xs i x (slice_get_read xs (length xs) i x refl lt is)
 
 -- ---- the same types
 
@@ -36,8 +33,8 @@ same_at w after same (Some q) = ap (λ (v : Vec Bool Global). get_or v.items q f
 count_same : (w after : Stops) → after.typed ≡ w.typed → length after.typed.items ≡ length w.typed.items
 count_same w after same = ap (λ (v : Vec Bool Global). length v.items) same
 
-pub fits_still : (w after : Stops) (x : Stop) → after.typed ≡ w.typed → Fits (length w.typed.items) x.need.now → Fits (length after.typed.items) x.need.now
-fits_still w after x same fit = subst (λ c. Fits c x.need.now) (sym (count_same w after same)) fit
+pub fits_still : (w after : Stops) (x : Stop) → after.typed ≡ w.typed → NeedsBelow (length w.typed.items) x.need.now → NeedsBelow (length after.typed.items) x.need.now
+fits_still w after x same fit = subst (λ c. NeedsBelow c x.need.now) (sym (count_same w after same)) fit
 
 -- a clause that stopped is found where lists only grow
 stays : (w after : Stops) (n : Need) → after.typed ≡ w.typed → ((q : ℕ) (e : Stop) → In e (stopped_at w q) → In e (stopped_at after q)) → StopsAt w n → StopsAt after n
@@ -58,22 +55,22 @@ kept_under w after number stop p q e h = elim (eqb_tells number q) [
   | inr s ↦ rw (p.others q s.1) h
 ]
 
-fits_under : (w after : Stops) (number : ℕ) (stop : Stop) → IsStops w → Fits (length w.typed.items) stop.need.now → PutsUnder w after number stop →
-    (q : ℕ) (e : Stop) → In e (stopped_at after q) → Fits (length w.typed.items) e.need.now
+fits_under : (w after : Stops) (number : ℕ) (stop : Stop) → IsStops w → NeedsBelow (length w.typed.items) stop.need.now → PutsUnder w after number stop →
+    (q : ℕ) (e : Stop) → In e (stopped_at after q) → NeedsBelow (length w.typed.items) e.need.now
 fits_under w after number stop st fit p q e h = elim (eqb_tells number q) [
   | inl s ↦ elim (in_cases e (stopped_at w number) (stop ∷ []) (subst (λ xs. In e xs) p.here (subst (λ k. In e (stopped_at after k)) (sym s.1) h))) [
     | inl i ↦ st.fits number e i
-    | inr i ↦ subst (λ (x : Stop). Fits (length w.typed.items) x.need.now) (sym (in_one e stop i)) fit
+    | inr i ↦ subst (λ (x : Stop). NeedsBelow (length w.typed.items) x.need.now) (sym (in_one e stop i)) fit
   ]
   | inr s ↦ st.fits q e (subst (λ xs. In e xs) (p.others q s.1) h)
 ]
 
-pub put_some : (w after : Stops) (n : Need) (place number : ℕ) (stop : Stop) → IsStops w → Fits (length w.typed.items) n → PutsUnder w after number stop →
+pub put_some : (w after : Stops) (n : Need) (place number : ℕ) (stop : Stop) → IsStops w → NeedsBelow (length w.typed.items) n → PutsUnder w after number stop →
     stop.need.now ≡ n → stop.next ≡ place → slice_get n.numbers.items place ≡ Some (Some number) → Puts w after n place
 put_some w after n place number stop st fit p of at here = record {
   stops = record {
     lists = p.lists ∙ (st.lists ∙ sym (count_same w after p.typed));
-    fits = λ q e h. subst (λ c. Fits c e.need.now) (sym (count_same w after p.typed)) (fits_under w after number stop st (subst (Fits (length w.typed.items)) (sym of) fit) p q e h);
+    fits = λ q e h. subst (λ c. NeedsBelow c e.need.now) (sym (count_same w after p.typed)) (fits_under w after number stop st (subst (NeedsBelow (length w.typed.items)) (sym of) fit) p q e h);
   };
   typed = p.typed;
   kept = kept_under w after number stop p;
@@ -108,30 +105,12 @@ seeks_stop w after stop place first p = record {
   };
 }
 
-pub seeks_end : (w : Stops) (stop : Stop) → IsStops w → AreTypedFrom w stop.need.now.numbers.items stop.next → Seeks w w stop true
-seeks_end w stop st from = record {
-  stops = st;
-  typed = refl;
-  kept = λ q e h. h;
-  ready = λ _. from;
-  stopped = λ no. absurd cc;
-}
-
 -- ---- clauses go on, one after another
-
-pub moves_none : (w : Stops) → IsStops w → MovesOn w w [] []
-moves_none w st = record {
-  stops = st;
-  typed = refl;
-  kept = λ q e h. h;
-  moved = λ e no. absurd no;
-  within = λ k no. absurd no;
-}
 
 all_typed : (w : Stops) (os : List (Option ℕ)) (from : ℕ) → AreTypedBelow w os from → AreTypedFrom w os from → AreTyped w os
 all_typed w os from below above j o here = elim (leb_tells from j) [ inl s ↦ above j o s.1 here | inr s ↦ let low = s.1 in below j o (omega arith) here ]
 
-module _ (w mid after : Stops) (xs : List Stop) (ready : List ℕ) (x : Stop) (all : Bool) (m : MovesOn w mid xs ready) (s : Seeks mid after x all) (fit : Fits (length w.typed.items) x.need.now) where
+module _ (w mid after : Stops) (xs : List Stop) (ready : List ℕ) (x : Stop) (all : Bool) (m : MovesOn w mid xs ready) (s : Seeks mid after x all) (fit : NeedsBelow (length w.typed.items) x.need.now) where
   same_types : after.typed ≡ w.typed
   same_types = s.typed ∙ m.typed
 
@@ -190,9 +169,6 @@ given_at xs number q lt = elim (eqb_tells number q) [
   | inr s ↦ rw s.0 (get_or-set_other xs number q true false (λ e. s.1 (sym e)))
 ]
 
-or_right : (a b : Bool) → b ≡ true → (a || b) ≡ true
-or_right true b e = refl
-or_right false b e = e
 
 module _ (w given out after : Stops) (number : ℕ) (taken : List Stop) (ready : List ℕ) (st : IsStops w) (lt : number < length w.typed.items)
     (typed : given.typed.items ≡ set w.typed.items number true) (same : given.stopped ≡ w.stopped) (t : TakesOut given out number taken) (m : MovesOn out after taken ready) where
@@ -273,10 +249,10 @@ module _ (w given out : Stops) (number : ℕ) (taken : List Stop) (st : IsStops 
   left_count : length out.typed.items ≡ length w.typed.items
   left_count = ap (λ (v : Vec Bool Global). length v.items) t.typed ∙ (ap length typed ∙ length-set w.typed.items number true)
 
-  given_lists : (q : ℕ) (e : Stop) → In e (stopped_at given q) → Fits (length out.typed.items) e.need.now
-  given_lists q e h = subst (λ c. Fits c e.need.now) (sym left_count) (st.fits q e (subst (λ (v : Vec (Vec Stop Global) Global). In e (stopped_at (record given { stopped = v }) q)) same h))
+  given_lists : (q : ℕ) (e : Stop) → In e (stopped_at given q) → NeedsBelow (length out.typed.items) e.need.now
+  given_lists q e h = subst (λ c. NeedsBelow c e.need.now) (sym left_count) (st.fits q e (subst (λ (v : Vec (Vec Stop Global) Global). In e (stopped_at (record given { stopped = v }) q)) same h))
 
-  pub taken_fit : (e : Stop) → In e taken → Fits (length out.typed.items) e.need.now
+  pub taken_fit : (e : Stop) → In e taken → NeedsBelow (length out.typed.items) e.need.now
   taken_fit e h = given_lists number e (subst (λ xs. In e xs) t.taken h)
 
   pub left_stops : IsStops out

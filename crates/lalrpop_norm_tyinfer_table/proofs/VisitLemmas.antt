@@ -169,12 +169,6 @@ rounds_are g (suc k) = ap (λ rows. visits_seen g rows (map with_clauses (all_ru
 
 -- ---- loops over rules
 
-pub seen_more : (rs : List PlainRule) (i : ℕ) (r : PlainRule) → i < length rs → r ≡ get_or rs i r →
-    map rule_seen (take (i + 1) rs) ≡ map rule_seen (take i rs) ++ rule_seen r ∷ []
-seen_more rs i r lt is =
-    ap (map rule_seen) (take_more rs i r lt)
-    ∙ (map-append rule_seen (take i rs) (get_or rs i r ∷ []) ∙ ap (λ q. map rule_seen (take i rs) ++ rule_seen q ∷ []) (sym is))
-
 -- ---- names with the same text
 
 pub same_name : (a b : NonterminalString) → a.0 ≡ b.0 → a ≡ b

@@ -51,13 +51,13 @@ abbrev pub Settled : Stops → Need → Type 0
 Settled w n = StopsAt w n ⊎ AreTyped w n.numbers.items
 
 -- a clause of a rule below the count, of which all numbers are below it too
-pub record Fits (count : ℕ) (n : Need) : Type 0 where
+pub record NeedsBelow (count : ℕ) (n : Need) : Type 0 where
   pub rule : n.rule < count
   pub numbers : (q : ℕ) → In (Some q) n.numbers.items → q < count
 
 pub record IsStops (w : Stops) : Type 0 where
   pub lists : length w.stopped.items ≡ length w.typed.items
-  pub fits : (q : ℕ) (e : Stop) → In e (stopped_at w q) → Fits (length w.typed.items) e.need.now
+  pub fits : (q : ℕ) (e : Stop) → In e (stopped_at w q) → NeedsBelow (length w.typed.items) e.need.now
 
 -- one more clause stands in the list of a number, last
 pub record PutsUnder (w after : Stops) (number : ℕ) (stop : Stop) : Type 0 where

@@ -3,7 +3,7 @@ ghost use Rattle.std.specs.Prelude.{◌≡◌, ◌<◌, ◌≤◌, ◌==◌, ◌
 ghost use Rattle.lalrpop_norm_theory.specs.Rounds.{In};
 ghost use Rattle.lalrpop_norm_tyinfer_table.specs.declared.needs.Need.{Need};
 ghost use Rattle.lalrpop_norm_tyinfer_table.specs.declared.stops.Stop.{Stop};
-ghost use Rattle.lalrpop_norm_tyinfer_table.specs.Stops.{typed_at, is_typed, AreTypedFrom, IsFirstUntyped, IsStops, Fits, Seeks, Puts, PutsUnder, TakesOut, MovesOn, GivesType, BeginsUntyped};
+ghost use Rattle.lalrpop_norm_tyinfer_table.specs.Stops.{typed_at, is_typed, AreTypedFrom, IsFirstUntyped, IsStops, NeedsBelow, Seeks, Puts, PutsUnder, TakesOut, MovesOn, GivesType, BeginsUntyped};
 
 use crate::needs::Need;
 use lalrpop_norm_tree::grammar::parse_tree::NoMemory;
@@ -42,7 +42,7 @@ impl<'n> Stops<'n> {
 
     /// Of so many numbers, none of which has a type: each clause stops at its first name, if it has one.
     pub fn of(alloc: Global, needs: &'n [Need], count: usize) -> Result<Stops<'n>, NoMemory>
-        requires { (n : Need) → In n needs.now → Fits count n }
+        requires { (n : Need) → In n needs.now → NeedsBelow count n }
         ensures { IfOk result (λ w. BeginsUntyped w count needs.now) }
     {
         let mut stops = Stops::new(alloc, count)?;
@@ -81,7 +81,7 @@ impl<'n> Stops<'n> {
     /// Puts a clause where its first name from a place on that has no type is; whether there is none.
     fn seek(&mut self, stop: Stop<'n>) -> Result<bool, NoMemory>
         requires stops { IsStops self.old }
-        requires fits { Fits (length self.old.typed.items) stop.need.now }
+        requires fits { NeedsBelow (length self.old.typed.items) stop.need.now }
         ensures { IfOk result (λ all. Seeks self.old self.new stop.entry all) }
     {
         match self.first_untyped(&stop.need.numbers, stop.next) {
@@ -96,7 +96,7 @@ impl<'n> Stops<'n> {
     /// Puts a clause into the list of its number at a place, if there is one.
     fn put(&mut self, need: &'n Need, place: usize) -> Result<(), NoMemory>
         requires stops { IsStops self.old }
-        requires fits { Fits (length self.old.typed.items) need.now }
+        requires fits { NeedsBelow (length self.old.typed.items) need.now }
         requires within { place < length need.now.numbers.items }
         ensures { OnOk result (Puts self.old self.new need.now place) }
     {
@@ -136,7 +136,7 @@ impl<'n> Stops<'n> {
     /// Lets clauses go on from where they stopped. The rules of those that have all their types.
     fn move_on(&mut self, alloc: Global, stopped: &[Stop<'n>]) -> Result<Vec<usize>, NoMemory>
         requires stops { IsStops self.old }
-        requires fits { (e : Stop) → In e stopped.now → Fits (length self.old.typed.items) e.need.now }
+        requires fits { (e : Stop) → In e stopped.now → NeedsBelow (length self.old.typed.items) e.need.now }
         ensures { IfOk result (λ ready. MovesOn self.old self.new stopped.now ready.items) }
     {
         let mut ready = Vec::new(alloc);

@@ -3,7 +3,7 @@ use Rattle.std.proofs.lemmas.List.{length-map}
 use Rattle.lalrpop_norm_repr.specs.Tables.{type_table}
 use Rattle.lalrpop_norm_theory.specs.Rounds.{In}
 use Rattle.lalrpop_norm_tyinfer_table.specs.declared.needs.Need.{Need}
-use Rattle.lalrpop_norm_tyinfer_table.specs.Stops.{Fits, BeginsUntyped}
+use Rattle.lalrpop_norm_tyinfer_table.specs.Stops.{NeedsBelow, BeginsUntyped}
 use Rattle.lalrpop_norm_tyinfer_table.specs.Visits.{rule_seen}
 use Rattle.lalrpop_norm_tyinfer_table.proofs.NeedLemmas.{need_fits}
 use Rattle.lalrpop_norm_tyinfer_table.proofs.RoundLemmas.{begins_watching}
@@ -12,8 +12,8 @@ use Rattle.lalrpop_norm_tyinfer.proofs.tyinfer.rounds.run_rounds.Goals as goal
 pub of-requires : goal.of-requires
 of-requires c =
     let have = c.in_ok-needs.ensures in
-    let fit : (n : Need) → In n c.in_ok-needs.needs.items → Fits (length c.args.rules.now) n = λ n h.
-    subst (λ k. Fits k n) (length-map c.args.rules.now rule_seen) (need_fits have.number c.args.parameters.now (map rule_seen c.args.rules.now) c.in_ok-needs.needs.items have.numbers have.needs_are n h) in
+    let fit : (n : Need) → In n c.in_ok-needs.needs.items → NeedsBelow (length c.args.rules.now) n = λ n h.
+    subst (λ k. NeedsBelow k n) (length-map c.args.rules.now rule_seen) (need_fits have.number c.args.parameters.now (map rule_seen c.args.rules.now) c.in_ok-needs.needs.items have.numbers have.needs_are n h) in
     rw c.deref.ensures.value fit
 
 pub rounds_from-requires-clause-watches : goal.rounds_from-requires-clause-watches

@@ -1,12 +1,12 @@
 use Rattle.std.proofs.Common.{◌≡◌, Some, None, slice_get, refl, sym, ap, ◌∙◌, arith}
 use Rattle.std.proofs.lemmas.Option.{slice_get-get_or}
-use Rattle.lalrpop_norm_tyinfer_table.proofs.StopLemmas.{in_at}
+use Rattle.lalrpop_norm_model.proofs.LevelLemmas.{at_in}
 use Rattle.lalrpop_norm_tyinfer_table.proofs.stops.Stops.first_untyped.Goals as goal
 
 pub is_typed-requires : goal.is_typed-requires
 is_typed-requires c =
     let here : slice_get c.args.numbers.now c.loop-place.place ≡ Some (Some c.in-Some.number) = slice_get-get_or c.args.numbers.now c.loop-place.place None (omega arith) ∙ ap Some c.in-Some.is in
-    c.requires c.in-Some.number (in_at c.args.numbers.now c.loop-place.place (Some c.in-Some.number) here)
+    c.requires c.in-Some.number (at_in c.args.numbers.now c.loop-place.place (Some c.in-Some.number) here)
 
 pub returns-then-not-is_typed : goal.returns-then-not-is_typed
 returns-then-not-is_typed c = record {

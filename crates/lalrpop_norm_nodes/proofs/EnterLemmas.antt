@@ -1,0 +1,119 @@
+-- A symbol that is entered: it stands already, or it is new.
+use Rattle.std.proofs.Common.{◌≡◌, ℕ, Bool, true, false, List, [], ◌∷◌, ◌++◌, map, Option, Some, None, Result, is_some, refl, sym, ap, ◌∙◌, subst, append-nil}
+use Rattle.std.specs.Prelude.{not, ◌||◌}
+use Rattle.std.specs.List.{flat_map}
+use Rattle.std.proofs.lemmas.Bool.{and_parts, and_from}
+use Rattle.std.proofs.lemmas.List.{map-append}
+use Rattle.std.specs.Result.{IsErrAnd}
+use Rattle.lalrpop_norm_faults.specs.declared.failure.NormFailure.{NormFailure}
+use Rattle.lalrpop_norm_faults.specs.Faults.{Fault, fault_if, IsFirst, Refuses}
+use Rattle.lalrpop_norm_macro_expand_met.proofs.MeetingLemmas.{err_refuses}
+use Rattle.lalrpop_norm_faults.specs.declared.kind.FaultKind.TheVariants.{SharedName}
+use Rattle.lalrpop_norm_tree_names.specs.declared.names.Span.{Span}
+use Rattle.lalrpop_norm_tree.specs.Symbols.{Kind, Part, at}
+use Rattle.lalrpop_norm_model.specs.PlainRules.{same_apart_from_spans}
+use Rattle.lalrpop_norm_macro_expand_met.specs.Apart.{nowhere, unplaced_kind, unplaced}
+use Rattle.lalrpop_norm_macro_expand_met.specs.Meeting.{first_with_text, joined_by, after, differs, were_met}
+use Rattle.lalrpop_norm_macro_expand_met.proofs.ApartLemmas.{unplaced_same}
+use Rattle.lalrpop_norm_macro_expand_met.proofs.InwardLemmas.{quiet, same_met}
+use Rattle.lalrpop_norm_nodes.specs.declared.node.Node.{Node}
+use Rattle.lalrpop_norm_nodes.specs.Wholes.{Whole, one_symbol, built, Fits, StandsFor, IsNew, Grows, wholes}
+use Rattle.lalrpop_norm_nodes.specs.declared.node.Nodes.{Nodes}
+use Rattle.lalrpop_norm_nodes.specs.declared.table.Table.{Table}
+use Rattle.lalrpop_norm_nodes.specs.Tables.{wholes_in, own_at, own_in, own_text_in, inner_of, IsBare, IsNodeTable, TableMeets, seen_in, is_declared_in, refused_in}
+use Rattle.lalrpop_norm_nodes.proofs.MeetLemmas.{were_right}
+use Rattle.lalrpop_norm_nodes.proofs.WholeLemmas.{met_split, bare_built, Made, one_made, Standing, seen_stands}
+
+-- ---- a symbol that stands already
+
+pub stands_met : (t : Table) (w : Whole) (i : ℕ) (x : List ℕ) (s : Span) → IsNodeTable t → StandsFor (wholes_in t) i w → own_text_in w ≡ Some x →
+    (refused_in t (own_at s w) ≡ []) × TableMeets t t (own_at s w)
+stands_met t w i x s h e some =
+    let m = one_made w x some in
+    let all : were_met (is_declared_in t) (seen_in t) (inner_of w ++ own_in w) ≡ true =
+    ap (were_met (is_declared_in t) (seen_in t)) (sym (met_split w)) ∙ h.met i w e in
+    let own_met : were_met (is_declared_in t) (seen_in t) (own_in w) ≡ true = were_right (is_declared_in t) (seen_in t) (inner_of w) (own_in w) all in
+    let bare : were_met (is_declared_in t) (seen_in t) (at nowhere m.kind ∷ []) ≡ true = ap (were_met (is_declared_in t) (seen_in t)) (sym (m.at_place nowhere)) ∙ own_met in
+    let here : were_met (is_declared_in t) (seen_in t) (at s m.kind ∷ []) ≡ true =
+    and_from _ _ (same_met (is_declared_in t) (seen_in t) (at nowhere m.kind) (at s m.kind) refl (and_parts _ _ bare).0) refl in
+    let still = quiet (is_declared_in t) (seen_in t) (at s m.kind ∷ []) here in (
+      ap (refused_in t) (m.at_place s) ∙ still.0,
+      record {
+        seen = ap (map unplaced) (sym (ap (after (seen_in t)) (m.at_place s) ∙ still.1));
+        names = refl;
+        grows = ([], sym (append-nil (wholes_in t)));
+        table = h;
+      },
+    )
+
+-- ---- a symbol that is new
+
+module _ (t : Table) (w : Whole) (x : List ℕ) (h : IsNodeTable t) (some : own_text_in w ≡ Some x) (bare : IsBare w) (new : IsNew (wholes_in t) w) where
+  m : Made w x
+  m = one_made w x some
+
+  -- none that was met is the same
+  another : (y : Part) → first_with_text x (seen_in t) ≡ Some y → (s : Span) → same_apart_from_spans y (at s m.kind) ≡ false
+  another y e s = by (same_apart_from_spans y (at s m.kind)) refl (seen_stands x (wholes_in t) y e)
+    where
+      flat : unplaced_kind m.kind ≡ m.kind
+      flat = subst IsBare m.is bare
+
+      by : (b : Bool) → same_apart_from_spans y (at s m.kind) ≡ b → Standing (wholes_in t) y → b ≡ false
+      by false f g = refl
+      by true f g =
+          let same : unplaced y ≡ at nowhere (unplaced_kind m.kind) = unplaced_same y (at s m.kind) f in
+          let there : at nowhere (unplaced_kind g.kind) ≡ at nowhere (unplaced_kind m.kind) = ap unplaced (sym g.is) ∙ same in
+          let kinds : unplaced_kind g.kind ≡ unplaced_kind m.kind = cc there in
+          let one : g.kind ≡ m.kind = sym (t_bare g) ∙ kinds ∙ flat in
+          absurd (new g.number (g.stands ∙ ap (λ (k : Kind). Some (one_symbol k)) one ∙ ap Some (sym m.is)))
+        where
+          t_bare : (g : Standing (wholes_in t) y) → unplaced_kind g.kind ≡ g.kind
+          t_bare g = h.bare g.number (one_symbol g.kind) g.stands
+
+  differ : (o : Option Part) (s : Span) → first_with_text x (seen_in t) ≡ o → differs o (at s m.kind) ≡ is_some o
+  differ None s e = refl
+  differ (Some y) s e = ap not (another y e s)
+
+  -- it is refused where its text is taken
+  pub clash_is : (s : Span) → refused_in t (own_at s w) ≡ fault_if (is_declared_in t x || is_some (first_with_text x (seen_in t))) (SharedName, s)
+  clash_is s =
+      ap (refused_in t) (m.at_place s)
+      ∙ ap (λ (u : List ℕ). fault_if (is_declared_in t u || differs (first_with_text u (seen_in t)) (at s m.kind)) (SharedName, s) ++ []) (sym m.text)
+      ∙ append-nil _
+      ∙ ap (λ (b : Bool). fault_if (is_declared_in t x || b) (SharedName, s)) (differ (first_with_text x (seen_in t)) s refl)
+
+  -- where it is not, it is one more
+  pub one_more : (s : Span) → first_with_text x (seen_in t) ≡ None → map unplaced (seen_in t ++ own_in w) ≡ map unplaced (after (seen_in t) (own_at s w))
+  one_more s first =
+      ap (λ (xs : List Part). map unplaced (seen_in t ++ xs)) (m.at_place nowhere)
+      ∙ map-append unplaced (seen_in t) (at nowhere m.kind ∷ [])
+      ∙ sym (map-append unplaced (seen_in t) (at s m.kind ∷ []))
+      ∙ ap (map unplaced) (sym joined)
+    where
+      joined : after (seen_in t) (own_at s w) ≡ seen_in t ++ at s m.kind ∷ []
+      joined =
+          ap (after (seen_in t)) (m.at_place s)
+          ∙ ap (λ (u : List ℕ). joined_by (first_with_text u (seen_in t)) (seen_in t) (at s m.kind)) (sym m.text)
+          ∙ ap (λ (o : Option Part). joined_by o (seen_in t) (at s m.kind)) first
+
+pub free_none : {A : Type 0} (b : Bool) (o : Option A) (f : Fault) → fault_if (b || is_some o) f ≡ [] → o ≡ None
+free_none b None f e = refl
+free_none true (Some x) f e = absurd (cc e)
+free_none false (Some x) f e = absurd (cc e)
+
+-- a new symbol is put, once its text is made
+pub made_meets : (a b d : Table) (n : Node) (x : List ℕ) (s : Span) → IsNodeTable a → Fits (wholes_in a) n → IsNew (wholes_in a) (built (wholes_in a) n) →
+    own_text_in (built (wholes_in a) n) ≡ Some x → first_with_text x (seen_in a) ≡ None → b.nodes ≡ a.nodes → b.names ≡ a.names → d.names ≡ b.names → IsNodeTable d →
+    seen_in d ≡ seen_in b ++ own_in (built (wholes_in b) n) → Grows (wholes_in b) (wholes_in d) → TableMeets a d (own_at s (built (wholes_in a) n))
+made_meets a b d n x s h fit new some first nodes names more table seen grows = record {
+  seen =
+      ap (map unplaced) (seen ∙ ap (λ (ns : Nodes). flat_map own_in (wholes ns) ++ own_in (built (wholes ns) n)) nodes)
+      ∙ one_more a (built (wholes_in a) n) x h some (bare_built (wholes_in a) h.bare n fit) new s first;
+  names = more ∙ names;
+  grows = subst (λ (ns : Nodes). Grows (wholes ns) (wholes_in d)) nodes grows;
+  table = table;
+}
+
+pub err_same : {T : Type 0} (r : Result T NormFailure) (e : NormFailure) (fs gs : List Fault) → gs ≡ fs → IsErrAnd r (λ x. x ≡ e) → IsFirst fs e → Refuses r gs
+err_same r e fs gs same from h = err_refuses r e gs from (subst (λ (hs : List Fault). IsFirst hs e) (sym same) h)

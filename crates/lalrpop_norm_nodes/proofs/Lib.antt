@@ -1,0 +1,13 @@
+pub mod EnterLemmas
+pub mod GivenLemmas
+pub mod InPlace
+pub mod InsideReads
+pub mod MeetLemmas
+pub mod NodeTests
+pub mod NumberLemmas
+pub mod ReadLemmas
+pub mod RowItems
+pub mod RowLemmas
+pub mod RowReads
+pub mod TableLemmas
+pub mod WholeLemmas

@@ -1,0 +1,54 @@
+-- What reading a symbol gives: its node, and what is put in its place.
+use Rattle.std.specs.Prelude.{◌≡◌, ℕ, List, map, if◌then◌else◌}
+use Rattle.lalrpop_norm_tree.specs.declared.symbol.RepeatOp.{RepeatOp}
+use Rattle.lalrpop_norm_tree.specs.declared.symbol.RepeatOp.TheVariants.{Star, Plus, Question}
+use Rattle.lalrpop_norm_nodes.specs.declared.node.Node.TheVariants as node
+use Rattle.lalrpop_norm_nodes.specs.declared.node.Unary.TheVariants as unary
+use Rattle.lalrpop_norm_nodes.specs.declared.node.NamedUnary.TheVariants as named_unary
+use Rattle.lalrpop_norm_tree.specs.declared.symbol.Name.{Name}
+use Rattle.lalrpop_norm_tree.specs.Symbols.{one_name, Kind, Part, group, ambiguous_id, terminal, nonterminal, call, repeated, chosen, named}
+use Rattle.lalrpop_norm_tree.specs.Symbols.{tupled, lookahead, lookbehind, error_terminal, at}
+use Rattle.lalrpop_norm_tree.specs.SymbolTexts.{kind_text}
+use Rattle.lalrpop_norm_macro_expand_met.specs.Apart.{unplaced, unplaced_kind}
+use Rattle.lalrpop_norm_nodes.specs.declared.node.Node.{Node}
+use Rattle.lalrpop_norm_nodes.specs.declared.given.Environment.{Environment}
+use Rattle.lalrpop_norm_nodes.specs.Wholes.{Whole, one_symbol, one_pattern, Fits, built}
+use Rattle.lalrpop_norm_nodes.specs.Given.{read_whole}
+
+-- the node stands for that symbol, spans aside
+abbrev pub IsNodeFor : List Whole → Node → Kind → Type 0
+IsNodeFor ws n k = Fits ws n × (built ws n ≡ one_symbol (unplaced_kind k))
+
+-- a symbol, its parts replaced, itself replaced
+abbrev pub topped_kind : Kind → Kind
+topped_kind (group ps) = nonterminal (kind_text (group ps))
+topped_kind (call n ps) = nonterminal (kind_text (call n ps))
+topped_kind (repeated op p) = nonterminal (kind_text (repeated op p))
+topped_kind lookahead = nonterminal (kind_text lookahead)
+topped_kind lookbehind = nonterminal (kind_text lookbehind)
+topped_kind (chosen p) = chosen p
+topped_kind (named n p) = named n p
+topped_kind (tupled ns p) = tupled ns p
+topped_kind (ambiguous_id a) = ambiguous_id a
+topped_kind (terminal t) = terminal t
+topped_kind (nonterminal n) = nonterminal n
+topped_kind error_terminal = error_terminal
+
+abbrev pub topped : Part → Part
+topped (at s k) = at s (topped_kind k)
+
+-- symbols read one after another, spans aside
+abbrev pub bare_wholes : List Whole → Environment → List Part → List Part
+bare_wholes ws e ps = map (λ p. unplaced (read_whole ws e p)) ps
+
+-- the node of a name that is a pattern
+abbrev pub IsNameNode : Node → Name → Type 0
+IsNameNode n a = (ws : List Whole) → Fits ws n × (built ws n ≡ one_pattern (one_name a))
+
+abbrev pub repeat_node : RepeatOp → ℕ → Node
+repeat_node Star n = node.Unary unary.Star n
+repeat_node Plus n = node.Unary unary.Plus n
+repeat_node Question n = node.Unary unary.Question n
+
+abbrev pub named_node : Name → ℕ → Node
+named_node a n = node.NamedUnary (if a.mutable then named_unary.NamedMut else named_unary.Named) a.name n

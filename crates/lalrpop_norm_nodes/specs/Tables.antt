@@ -1,0 +1,88 @@
+-- What a table of nodes has met, and what is met in it.
+use Rattle.std.specs.Prelude.{◌≡◌, ⊤, ℕ, Bool, true, List, [], map, length, Option, None, is_some, flat_map, nat_eq}
+use Rattle.std.specs.Cmp.Lexicographic.{pointwise}
+use Rattle.std.specs.HashMap.{get}
+use Rattle.lalrpop_norm_tree_names.specs.declared.names.Span.{Span}
+use Rattle.lalrpop_norm_tree.specs.Symbols.{Part, at, parts_of}
+use Rattle.lalrpop_norm_faults.specs.Faults.{Fault}
+use Rattle.lalrpop_norm_model.specs.PlainRules.{met, all_met}
+use Rattle.lalrpop_norm_macro_expand_met.specs.Apart.{nowhere, unplaced_kind, unplaced}
+use Rattle.lalrpop_norm_macro_expand_met.specs.Meeting.{met_inside, own, own_text, first_with_text, after, clash_faults, were_met, has_key}
+use Rattle.lalrpop_norm_nodes.specs.declared.table.Table.{Table}
+use Rattle.lalrpop_norm_nodes.specs.Wholes.{Whole, one_symbol, symbols, one_pattern, patterns, wholes, texts_of, AreNodes, StandsFor, Grows}
+
+-- what the numbers of a table stand for
+abbrev pub wholes_in : Table → List Whole
+wholes_in t = wholes t.nodes
+
+-- whether a text is a declared name
+abbrev pub is_declared_in : Table → List ℕ → Bool
+is_declared_in t = has_key t.names
+
+-- the symbol itself at a place, if it is made into a rule, and its text
+abbrev pub own_at : Span → Whole → List Part
+own_at s (one_symbol k) = own s k
+own_at s (symbols ps) = []
+own_at s (one_pattern p) = []
+own_at s (patterns ps) = []
+
+abbrev pub own_in : Whole → List Part
+own_in w = own_at nowhere w
+
+abbrev pub own_text_in : Whole → Option (List ℕ)
+own_text_in (one_symbol k) = own_text (at nowhere k)
+own_text_in (symbols ps) = None
+own_text_in (one_pattern p) = None
+own_text_in (patterns ps) = None
+
+-- the symbols that were met and are made into rules, spans aside, in the order of meeting
+abbrev pub seen_in : Table → List Part
+seen_in t = flat_map own_in (wholes_in t)
+
+-- what it meets
+abbrev pub met_of : Whole → List Part
+met_of (one_symbol k) = met (at nowhere k)
+met_of (symbols ps) = all_met (parts_of ps)
+met_of (one_pattern p) = []
+met_of (patterns ps) = []
+
+-- its spans are off
+abbrev pub IsBare : Whole → Type 0
+IsBare (one_symbol k) = unplaced_kind k ≡ k
+IsBare (symbols ps) = map unplaced ps ≡ ps
+IsBare (one_pattern p) = ⊤
+IsBare (patterns ps) = ⊤
+
+abbrev pub text_noted : Table → List ℕ → Option ℕ
+text_noted t x = get (pointwise nat_eq) t.places x
+
+-- what is inside it meets
+abbrev pub inner_of : Whole → List Part
+inner_of (one_symbol k) = met_inside k
+inner_of (symbols ps) = all_met (parts_of ps)
+inner_of (one_pattern p) = []
+inner_of (patterns ps) = []
+
+-- The nodes stand for symbols without spans, each with its text if it is made into a rule; all that they meet was met; and a text
+-- leads to a node just where a symbol of it was met.
+pub record IsNodeTable (t : Table) : Type 0 where
+  pub nodes : AreNodes t.nodes
+  pub texts : texts_of t.nodes ≡ map own_text_in (wholes_in t)
+  pub bare : (i : ℕ) (w : Whole) → StandsFor (wholes_in t) i w → IsBare w
+  pub met : (i : ℕ) (w : Whole) → StandsFor (wholes_in t) i w → were_met (is_declared_in t) (seen_in t) (met_of w) ≡ true
+  pub places : (x : List ℕ) → is_some (text_noted t x) ≡ is_some (first_with_text x (seen_in t))
+
+-- as many texts were made as symbols are made into rules
+abbrev pub IsCounted : Table → Type 0
+IsCounted t = t.made.count ≡ length (seen_in t)
+
+-- the symbols were met
+pub record TableMeets (before later : Table) (xs : List Part) : Type 0 where
+  pub seen : map unplaced (seen_in later) ≡ map unplaced (after (seen_in before) xs)
+  pub names : later.names ≡ before.names
+  pub grows : Grows (wholes_in before) (wholes_in later)
+  pub table : IsNodeTable later
+
+-- what is refused where they are met
+abbrev pub refused_in : Table → List Part → List Fault
+refused_in t xs = clash_faults (is_declared_in t) (seen_in t) xs

@@ -1,0 +1,11 @@
+//! A table of numbered nodes, one for each class of symbols that are the same apart from spans: the symbols that an expansion met.
+#![tactic(auto)]
+
+pub mod given;
+pub mod hashing;
+pub mod laws;
+pub mod node;
+mod patterns;
+pub mod read;
+pub mod table;
+pub mod texts;

@@ -1,0 +1,134 @@
+//! Nodes, and the rows that number them.
+ghost use Rattle.std.specs.Prelude.{◌≡◌, ◌++◌, ◌∷◌, [], OnOk, IfOk, IfSome, IfNone};
+ghost use Rattle.lalrpop_norm_nodes.specs.Wholes.{wholes, texts_of, Fits, built, AreNodes, StandsFor, IsNew};
+
+use crate::hashing::NodeHashBuilder;
+use indexmap::IndexMap;
+use lalrpop_norm_tree::grammar::parse_tree::{Atom, NoMemory, TerminalString};
+use std::alloc::Global;
+
+/// What has neither a name nor parts.
+#[derive(Clone, Copy, PartialEq, Eq, Hash)]
+pub enum Leaf {
+    /// No symbols.
+    NoSymbols,
+    /// No patterns.
+    NoPatterns,
+    /// `@L`.
+    Lookahead,
+    /// `@R`.
+    Lookbehind,
+    /// `!`.
+    Error,
+}
+
+/// What a name by itself is.
+#[derive(Clone, Copy, PartialEq, Eq, Hash)]
+pub enum NamedLeaf {
+    /// A rule. An identifier counts as the name of one.
+    Rule,
+    /// The pattern `x`.
+    Pattern,
+    /// The pattern `mut x`.
+    MutPattern,
+}
+
+/// What has one part and no name.
+#[derive(Clone, Copy, PartialEq, Eq, Hash)]
+pub enum Unary {
+    /// `(X Y)`, a group of symbols in a row.
+    Group,
+    /// `X*`.
+    Star,
+    /// `X+`.
+    Plus,
+    /// `X?`.
+    Question,
+    /// `<X>`.
+    Chosen,
+    /// `(x, y)`, the pattern of patterns in a row.
+    Several,
+}
+
+/// What has a name and one part.
+#[derive(Clone, Copy, PartialEq, Eq, Hash)]
+pub enum NamedUnary {
+    /// `M<X, Y>`, a call of a macro with symbols in a row.
+    Call,
+    /// `<x:X>`.
+    Named,
+    /// `<mut x:X>`.
+    NamedMut,
+}
+
+/// What has two parts.
+#[derive(Clone, Copy, PartialEq, Eq, Hash)]
+pub enum Binary {
+    /// Symbols in a row, and one more.
+    Symbols,
+    /// Patterns in a row, and one more.
+    Patterns,
+    /// `<(x, y):X>`: patterns in a row, and a symbol.
+    Tuple,
+}
+
+/// A symbol, a pattern, or several of them in a row: its case, its name, and the numbers of its parts.
+#[derive(PartialEq, Eq, Hash, Drop)]
+pub enum Node {
+    /// Without a name or parts.
+    Leaf(Leaf),
+    /// A name alone.
+    NamedLeaf(NamedLeaf, Atom),
+    /// A terminal.
+    Terminal(TerminalString),
+    /// With one part.
+    Unary(Unary, usize),
+    /// With a name and one part.
+    NamedUnary(NamedUnary, Atom, usize),
+    /// With two parts.
+    Binary(Binary, usize, usize),
+}
+
+/// The nodes in the order of their numbers, each with its text if it is made into a rule.
+#[derive(Drop)]
+pub struct Nodes {
+    pub(crate) rows: IndexMap<Node, Option<Atom>, NodeHashBuilder>,
+}
+
+impl Nodes {
+    /// No nodes yet, to be found by these hashes.
+    pub(crate) fn new(alloc: Global, hash_builder: NodeHashBuilder) -> Nodes
+        ensures nodes { AreNodes result }
+        ensures wholes { wholes result ≡ [] }
+        ensures texts { texts_of result ≡ [] }
+    {
+        Nodes {
+            rows: IndexMap::with_hasher(alloc, hash_builder),
+        }
+    }
+
+    /// The number of a node, if it has one.
+    pub(crate) fn find(&self, node: &Node) -> Option<usize>
+        requires nodes { AreNodes self.now }
+        requires fits { Fits (wholes self.now) node.now }
+        ensures found { IfSome result (λ i. StandsFor (wholes self.now) i (built (wholes self.now) node.now)) }
+        ensures new { IfNone result (IsNew (wholes self.now) (built (wholes self.now) node.now)) }
+    {
+        self.rows.get_index_of(node)
+    }
+
+    /// Puts a new node last, with its text if it is made into a rule: its number.
+    pub(crate) fn put(&mut self, node: Node, text: Option<Atom>) -> Result<usize, NoMemory>
+        requires nodes { AreNodes self.old }
+        requires fits { Fits (wholes self.old) node }
+        requires new { IsNew (wholes self.old) (built (wholes self.old) node) }
+        ensures nodes { OnOk result (AreNodes self.new) }
+        ensures wholes { OnOk result (wholes self.new ≡ wholes self.old ++ built (wholes self.old) node ∷ []) }
+        ensures number { IfOk result (λ i. StandsFor (wholes self.new) i (built (wholes self.old) node)) }
+        ensures texts { OnOk result (texts_of self.new ≡ texts_of self.old ++ text ∷ []) }
+    {
+        let number = self.rows.len();
+        self.rows.insert(node, text)?;
+        Ok(number)
+    }
+}

@@ -1,0 +1,316 @@
+//! Symbols read in an environment of numbers, and replaced where they stand.
+ghost use Rattle.std.specs.Prelude.{◌≡◌, true, None, Some, IfOk, OnOk, is_some, map, option_and_then, option_map, slice_get};
+ghost use Rattle.lalrpop_norm_tree.specs.Symbols.{at, group, call, nonterminal, kind_view, symbol_view, parts_view, expr_view, macro_view};
+ghost use Rattle.lalrpop_norm_faults.specs.Faults.{Refuses};
+ghost use Rattle.lalrpop_norm_model.specs.PlainRules.{met, all_met};
+ghost use Rattle.lalrpop_norm_model.specs.Replaced.{all_replaced};
+ghost use Rattle.lalrpop_norm_macro_expand_met.specs.Apart.{nowhere, unplaced_kind};
+ghost use Rattle.lalrpop_norm_macro_expand_met.specs.Meeting.{met_inside, own_text};
+ghost use Rattle.lalrpop_norm_nodes.specs.Filled.{all_filled};
+ghost use Rattle.lalrpop_norm_nodes.specs.Given.{given_to, whole_for, shown_for, AreGiven, read_whole, kind_whole, read_shown, kind_shown};
+ghost use Rattle.lalrpop_norm_nodes.specs.Readings.{IsNodeFor, repeat_node, named_node, topped, bare_wholes};
+ghost use Rattle.lalrpop_norm_nodes.specs.Wholes.{one_symbol, symbols, Fits, built, StandsFor};
+ghost use Rattle.lalrpop_norm_nodes.specs.Tables.{wholes_in, own_at, own_text_in, IsNodeTable, IsCounted, TableMeets, refused_in};
+
+use crate::given::{Environment, Given, given_to};
+use crate::node::{Binary, Leaf, NamedLeaf, NamedUnary, Node, Unary};
+use crate::patterns::enter_patterns;
+use crate::table::Table;
+use lalrpop_norm_faults::NormResult;
+use lalrpop_norm_tree::grammar::parse_tree::{
+    Atom, ExprSymbol, MacroSymbol, Name, NoMemory, NonterminalString, RepeatOp, RepeatSymbol,
+    Symbol, SymbolKind,
+};
+use std::alloc::Global;
+
+/// Whether a symbol is made into a rule.
+fn is_made(kind: &SymbolKind) -> bool
+    ensures { result ≡ is_some (own_text (at nowhere (kind_view kind.now))) }
+{
+    match kind {
+        SymbolKind::Expr(_)
+        | SymbolKind::Macro(_)
+        | SymbolKind::Repeat(_)
+        | SymbolKind::Lookahead
+        | SymbolKind::Lookbehind => true,
+        SymbolKind::AmbiguousId(_)
+        | SymbolKind::Terminal(_)
+        | SymbolKind::Nonterminal(_)
+        | SymbolKind::Choose(_)
+        | SymbolKind::Name(_, _)
+        | SymbolKind::Tuple(_, _)
+        | SymbolKind::Error => false,
+    }
+}
+
+/// Puts what is given in the place of an argument's name.
+fn put_given(given: &Given, symbol: &mut Symbol) -> Result<usize, NoMemory>
+    ensures value { OnOk result (symbol_view symbol.new ≡ at symbol.old.span (kind_view given.now.symbol.kind)) }
+    ensures number { IfOk result (λ i. i ≡ given.now.number) }
+{
+    symbol.kind = given.symbol.kind.clone()?;
+    Ok(given.number)
+}
+
+/// Puts the nonterminal of that text in the place of a symbol.
+fn put_name(name: Atom, symbol: &mut Symbol)
+    ensures { symbol_view symbol.new ≡ at symbol.old.span (nonterminal name) }
+{
+    symbol.kind = SymbolKind::Nonterminal(NonterminalString(name));
+}
+
+/// Enters a symbol that is made into a rule, its parts replaced, and puts the nonterminal of its text in its place.
+fn make_symbol(
+    alloc: Global,
+    node: Node,
+    symbol: &mut Symbol,
+    table: &mut Table,
+) -> NormResult<usize>
+    requires table { IsNodeTable table.old }
+    requires counted { IsCounted table.old }
+    requires fits { Fits (wholes_in table.old) node }
+    requires text { own_text_in (built (wholes_in table.old) node) ≡ own_text (symbol_view symbol.old) }
+    requires made { is_some (own_text (symbol_view symbol.old)) ≡ true }
+    ensures refuses { Refuses result (refused_in table.old (own_at symbol.old.span (built (wholes_in table.old) node))) }
+    ensures meets { OnOk result (TableMeets table.old table.new (own_at symbol.old.span (built (wholes_in table.old) node))) }
+    ensures counted { OnOk result (IsCounted table.new) }
+    ensures value { OnOk result (symbol_view symbol.new ≡ topped (symbol_view symbol.old)) }
+    ensures number { IfOk result (λ i. StandsFor (wholes_in table.new) i (built (wholes_in table.old) node)) }
+{
+    let number = table.enter_made(alloc, node, symbol)?;
+    match table.text_of(number) {
+        Some(name) => {
+            let name = name.clone()?;
+            put_name(name, symbol);
+            Ok(number)
+        }
+        None => Ok(number),
+    }
+}
+
+/// Enters a symbol, its parts replaced, and replaces it.
+fn enter_symbol(
+    alloc: Global,
+    node: Node,
+    symbol: &mut Symbol,
+    table: &mut Table,
+) -> NormResult<usize>
+    requires table { IsNodeTable table.old }
+    requires counted { IsCounted table.old }
+    requires fits { Fits (wholes_in table.old) node }
+    requires text { own_text_in (built (wholes_in table.old) node) ≡ own_text (symbol_view symbol.old) }
+    ensures refuses { Refuses result (refused_in table.old (own_at symbol.old.span (built (wholes_in table.old) node))) }
+    ensures meets { OnOk result (TableMeets table.old table.new (own_at symbol.old.span (built (wholes_in table.old) node))) }
+    ensures counted { OnOk result (IsCounted table.new) }
+    ensures value { OnOk result (symbol_view symbol.new ≡ topped (symbol_view symbol.old)) }
+    ensures number { IfOk result (λ i. StandsFor (wholes_in table.new) i (built (wholes_in table.old) node)) }
+{
+    if is_made(&symbol.kind) {
+        return make_symbol(alloc, node, symbol, table);
+    }
+    let number = table.enter(node)?;
+    Ok(number)
+}
+
+fn repeat_node(op: RepeatOp, number: usize) -> Node
+    ensures { result ≡ repeat_node op number }
+{
+    match op {
+        RepeatOp::Star => Node::Unary(Unary::Star, number),
+        RepeatOp::Plus => Node::Unary(Unary::Plus, number),
+        RepeatOp::Question => Node::Unary(Unary::Question, number),
+    }
+}
+
+fn named_node(name: &Name, number: usize) -> Result<Node, NoMemory>
+    ensures { IfOk result (λ n. n ≡ named_node name.now number) }
+{
+    if name.mutable {
+        return Ok(Node::NamedUnary(NamedUnary::NamedMut, name.name.clone()?, number));
+    }
+    Ok(Node::NamedUnary(NamedUnary::Named, name.name.clone()?, number))
+}
+
+/// Reads a symbol where the names of arguments stand for what is given: its number. What is made into a rule in it is met, and the
+/// nonterminal of its text put in its place; a name that is an argument's makes room for what is given for it. A text that is taken
+/// is refused at the symbol that has it (F37).
+#[cycle(read)]
+pub fn read_symbol(
+    alloc: Global,
+    environment: &Environment,
+    symbol: &mut Symbol,
+    table: &mut Table,
+) -> NormResult<usize>
+    requires table { IsNodeTable table.old }
+    requires counted { IsCounted table.old }
+    requires given { AreGiven (wholes_in table.old) environment.now }
+    ensures refuses { Refuses result (refused_in table.old (met (read_whole (wholes_in table.old) environment.now (symbol_view symbol.old)))) }
+    ensures meets { OnOk result (TableMeets table.old table.new (met (read_whole (wholes_in table.old) environment.now (symbol_view symbol.old)))) }
+    ensures counted { OnOk result (IsCounted table.new) }
+    ensures value { OnOk result (symbol_view symbol.new ≡ read_shown environment.now (symbol_view symbol.old)) }
+    ensures number { IfOk result (λ i. StandsFor (wholes_in table.new) i (one_symbol (unplaced_kind (kind_whole (wholes_in table.old) environment.now (kind_view symbol.old.kind))))) }
+{
+    if let Some(given) = given_to(environment, &symbol.kind) {
+        let number = put_given(given, symbol)?;
+        return Ok(number);
+    }
+    let node = node_of(alloc, environment, &mut symbol.kind, table)?;
+    enter_symbol(alloc, node, symbol, table)
+}
+
+#[cycle(read)]
+fn read_boxed(
+    alloc: Global,
+    environment: &Environment,
+    symbol: &mut Box<Symbol>,
+    table: &mut Table,
+) -> NormResult<usize>
+    requires table { IsNodeTable table.old }
+    requires counted { IsCounted table.old }
+    requires given { AreGiven (wholes_in table.old) environment.now }
+    ensures refuses { Refuses result (refused_in table.old (met (read_whole (wholes_in table.old) environment.now (symbol_view symbol.old.value)))) }
+    ensures meets { OnOk result (TableMeets table.old table.new (met (read_whole (wholes_in table.old) environment.now (symbol_view symbol.old.value)))) }
+    ensures counted { OnOk result (IsCounted table.new) }
+    ensures value { OnOk result (symbol_view symbol.new.value ≡ read_shown environment.now (symbol_view symbol.old.value)) }
+    ensures number { IfOk result (λ i. StandsFor (wholes_in table.new) i (one_symbol (unplaced_kind (kind_whole (wholes_in table.old) environment.now (kind_view symbol.old.value.kind))))) }
+{
+    let number = read_symbol(alloc, environment, symbol, table)?;
+    Ok(number)
+}
+
+/// Reads what is inside a symbol that is no argument's name: its node.
+#[cycle(read)]
+fn node_of(
+    alloc: Global,
+    environment: &Environment,
+    kind: &mut SymbolKind,
+    table: &mut Table,
+) -> NormResult<Node>
+    requires table { IsNodeTable table.old }
+    requires counted { IsCounted table.old }
+    requires given { AreGiven (wholes_in table.old) environment.now }
+    requires unbound { given_to environment.now (kind_view kind.old) ≡ None }
+    ensures refuses { Refuses result (refused_in table.old (met_inside (kind_whole (wholes_in table.old) environment.now (kind_view kind.old)))) }
+    ensures meets { OnOk result (TableMeets table.old table.new (met_inside (kind_whole (wholes_in table.old) environment.now (kind_view kind.old)))) }
+    ensures counted { OnOk result (IsCounted table.new) }
+    ensures value { OnOk result (kind_view kind.new ≡ kind_shown environment.now (kind_view kind.old)) }
+    ensures node { IfOk result (λ n. IsNodeFor (wholes_in table.new) n (kind_whole (wholes_in table.old) environment.now (kind_view kind.old))) }
+{
+    match kind {
+        SymbolKind::Nonterminal(name) => Ok(Node::NamedLeaf(NamedLeaf::Rule, name.0.clone()?)),
+        SymbolKind::AmbiguousId(id) => Ok(Node::NamedLeaf(NamedLeaf::Rule, id.clone()?)),
+        SymbolKind::Terminal(terminal) => Ok(Node::Terminal(terminal.clone()?)),
+        SymbolKind::Lookahead => Ok(Node::Leaf(Leaf::Lookahead)),
+        SymbolKind::Lookbehind => Ok(Node::Leaf(Leaf::Lookbehind)),
+        SymbolKind::Error => Ok(Node::Leaf(Leaf::Error)),
+        SymbolKind::Choose(inner) => {
+            let number = read_boxed(alloc, environment, inner, table)?;
+            Ok(Node::Unary(Unary::Chosen, number))
+        }
+        SymbolKind::Name(name, inner) => {
+            let number = read_boxed(alloc, environment, inner, table)?;
+            Ok(named_node(name, number)?)
+        }
+        SymbolKind::Tuple(tuple, inner) => {
+            let number = read_boxed(alloc, environment, inner, table)?;
+            let row = enter_patterns(&tuple.tuples, table)?;
+            Ok(Node::Binary(Binary::Tuple, row, number))
+        }
+        SymbolKind::Repeat(repeat) => {
+            let number = read_repeated(alloc, environment, repeat, table)?;
+            Ok(repeat_node(repeat.op, number))
+        }
+        SymbolKind::Expr(expr) => read_group(alloc, environment, expr, table),
+        SymbolKind::Macro(instance) => read_call(alloc, environment, instance, table),
+    }
+}
+
+/// Reads what is repeated.
+#[cycle(read)]
+fn read_repeated(
+    alloc: Global,
+    environment: &Environment,
+    repeat: &mut Box<RepeatSymbol>,
+    table: &mut Table,
+) -> NormResult<usize>
+    requires table { IsNodeTable table.old }
+    requires counted { IsCounted table.old }
+    requires given { AreGiven (wholes_in table.old) environment.now }
+    ensures refuses { Refuses result (refused_in table.old (met (read_whole (wholes_in table.old) environment.now (symbol_view repeat.old.value.symbol)))) }
+    ensures meets { OnOk result (TableMeets table.old table.new (met (read_whole (wholes_in table.old) environment.now (symbol_view repeat.old.value.symbol)))) }
+    ensures counted { OnOk result (IsCounted table.new) }
+    ensures op { OnOk result (repeat.new.value.op ≡ repeat.old.value.op) }
+    ensures value { OnOk result (symbol_view repeat.new.value.symbol ≡ read_shown environment.now (symbol_view repeat.old.value.symbol)) }
+    ensures number { IfOk result (λ i. StandsFor (wholes_in table.new) i (one_symbol (unplaced_kind (kind_whole (wholes_in table.old) environment.now (kind_view repeat.old.value.symbol.kind))))) }
+{
+    let number = read_symbol(alloc, environment, &mut repeat.symbol, table)?;
+    Ok(number)
+}
+
+/// Reads a group: its node.
+#[cycle(read)]
+fn read_group(
+    alloc: Global,
+    environment: &Environment,
+    expr: &mut ExprSymbol,
+    table: &mut Table,
+) -> NormResult<Node>
+    requires table { IsNodeTable table.old }
+    requires counted { IsCounted table.old }
+    requires given { AreGiven (wholes_in table.old) environment.now }
+    ensures refuses { Refuses result (refused_in table.old (all_met (all_filled (whole_for (wholes_in table.old) environment.now) (expr_view expr.old)))) }
+    ensures meets { OnOk result (TableMeets table.old table.new (all_met (all_filled (whole_for (wholes_in table.old) environment.now) (expr_view expr.old)))) }
+    ensures counted { OnOk result (IsCounted table.new) }
+    ensures value { OnOk result (expr_view expr.new ≡ all_replaced (all_filled (shown_for environment.now) (expr_view expr.old))) }
+    ensures node { IfOk result (λ n. IsNodeFor (wholes_in table.new) n (group (all_filled (whole_for (wholes_in table.old) environment.now) (expr_view expr.old)))) }
+{
+    let row = read_row(alloc, environment, &mut expr.symbols, table)?;
+    Ok(Node::Unary(Unary::Group, row))
+}
+
+/// Reads a macro call: its node.
+#[cycle(read)]
+fn read_call(
+    alloc: Global,
+    environment: &Environment,
+    instance: &mut MacroSymbol,
+    table: &mut Table,
+) -> NormResult<Node>
+    requires table { IsNodeTable table.old }
+    requires counted { IsCounted table.old }
+    requires given { AreGiven (wholes_in table.old) environment.now }
+    ensures refuses { Refuses result (refused_in table.old (all_met (all_filled (whole_for (wholes_in table.old) environment.now) (macro_view instance.old).1))) }
+    ensures meets { OnOk result (TableMeets table.old table.new (all_met (all_filled (whole_for (wholes_in table.old) environment.now) (macro_view instance.old).1))) }
+    ensures counted { OnOk result (IsCounted table.new) }
+    ensures value { OnOk result (macro_view instance.new ≡ ((macro_view instance.old).0, all_replaced (all_filled (shown_for environment.now) (macro_view instance.old).1))) }
+    ensures node { IfOk result (λ n. IsNodeFor (wholes_in table.new) n (call (macro_view instance.old).0 (all_filled (whole_for (wholes_in table.old) environment.now) (macro_view instance.old).1))) }
+{
+    let name = instance.name.0.clone()?;
+    let row = read_row(alloc, environment, &mut instance.args, table)?;
+    Ok(Node::NamedUnary(NamedUnary::Call, name, row))
+}
+
+/// Reads symbols in a row, one after another: the number of the row.
+#[cycle(read)]
+pub fn read_row(
+    alloc: Global,
+    environment: &Environment,
+    several: &mut [Symbol],
+    table: &mut Table,
+) -> NormResult<usize>
+    requires table { IsNodeTable table.old }
+    requires counted { IsCounted table.old }
+    requires given { AreGiven (wholes_in table.old) environment.now }
+    ensures refuses { Refuses result (refused_in table.old (all_met (all_filled (whole_for (wholes_in table.old) environment.now) (parts_view several.old)))) }
+    ensures meets { OnOk result (TableMeets table.old table.new (all_met (all_filled (whole_for (wholes_in table.old) environment.now) (parts_view several.old)))) }
+    ensures counted { OnOk result (IsCounted table.new) }
+    ensures value { OnOk result (parts_view several.new ≡ all_replaced (all_filled (shown_for environment.now) (parts_view several.old))) }
+    ensures number { IfOk result (λ i. StandsFor (wholes_in table.new) i (symbols (bare_wholes (wholes_in table.old) environment.now (map symbol_view several.old)))) }
+{
+    let mut row = table.enter(Node::Leaf(Leaf::NoSymbols))?;
+    for i in 0..several.len() {
+        let number = read_symbol(alloc, environment, &mut several[i], table)?;
+        row = table.enter(Node::Binary(Binary::Symbols, row, number))?;
+    }
+    Ok(row)
+}

@@ -1,0 +1,174 @@
+//! The nodes of the symbols that were met, and their texts.
+ghost use Rattle.std.specs.Prelude.{◌≡◌, ◌+◌, ◌++◌, ◌∷◌, ◌||◌, [], false, None, Some, IfOk, OnOk, is_some, length, option_map, option_and_then, slice_get};
+ghost use Rattle.lalrpop_norm_tree.specs.Symbols.{symbol_view};
+ghost use Rattle.lalrpop_norm_tree.specs.SymbolTexts.{part_text};
+ghost use Rattle.lalrpop_norm_faults.specs.Faults.{Refuses, IsFirst, fault_if};
+ghost use Rattle.lalrpop_norm_faults.specs.declared.kind.FaultKind.TheVariants.{SharedName};
+ghost use Rattle.lalrpop_norm_macro_expand_met.specs.Meeting.{first_with_text};
+ghost use Rattle.lalrpop_norm_nodes.specs.Wholes.{Fits, built, StandsFor, IsNew, Grows};
+ghost use Rattle.lalrpop_norm_nodes.specs.Tables.{wholes_in, seen_in, own_at, own_in, own_text_in, is_declared_in, IsNodeTable, IsCounted, TableMeets, refused_in};
+
+use crate::hashing::NodeHashBuilder;
+use crate::node::{Node, Nodes};
+use crate::texts::{Counter, make_text};
+use lalrpop_norm_faults::{FaultKind, NormFailure, NormResult, refusal};
+use lalrpop_norm_tree::grammar::parse_tree::{Atom, NoMemory, Span, Symbol};
+use std::alloc::Global;
+use std::collections::{BTreeSet, HashMap};
+
+/// The symbols that were met, as numbered nodes. A number stands for the same as long as the table is there.
+#[derive(Drop)]
+pub struct Table {
+    /// The names that the grammar declares.
+    names: BTreeSet<Atom>,
+    nodes: Nodes,
+    /// The number of the node of each text.
+    places: HashMap<Atom, usize, NodeHashBuilder>,
+    /// How many texts were made.
+    made: Counter,
+}
+
+fn shared_name(alloc: Global, name: &Atom, span: Span) -> NormFailure
+    ensures { IsFirst ((SharedName, span) ∷ []) result }
+{
+    refusal(
+        FaultKind::SharedName,
+        span,
+        format!(in alloc;
+            "a rule would be made for `{name}`, and something else has that name already: rename the one or the other"
+        ),
+    )
+}
+
+impl Table {
+    /// A table for a grammar that declares these names: no symbol was met yet.
+    pub fn new(alloc: Global, names: BTreeSet<Atom>, hash_builder: NodeHashBuilder) -> Table
+        ensures table { IsNodeTable result }
+        ensures counted { IsCounted result }
+        ensures seen { seen_in result ≡ [] }
+        ensures names { result.names ≡ names }
+    {
+        Table {
+            names,
+            nodes: Nodes::new(alloc, hash_builder),
+            places: HashMap::with_hasher(alloc, hash_builder),
+            made: Counter::new(),
+        }
+    }
+
+    /// How many texts were made: as many as there are symbols that are made into rules.
+    pub fn text_count(&self) -> usize
+        requires { IsCounted self.now }
+        ensures { result ≡ length (seen_in self.now) }
+    {
+        self.made.count()
+    }
+
+    /// Whether a text is a declared name, or that of a symbol that was met.
+    fn is_taken(&self, name: &Atom) -> bool
+        requires { IsNodeTable self.now }
+        ensures { result ≡ (is_declared_in self.now name.now || is_some (first_with_text name.now (seen_in self.now))) }
+    {
+        self.names.contains(name) || self.places.contains_key(name)
+    }
+
+    /// The text of a node, if it is made into a rule.
+    pub fn text_of(&self, number: usize) -> Option<&Atom>
+        requires { IsNodeTable self.now }
+        ensures { option_map (λ t. t.now) result ≡ option_and_then own_text_in (slice_get (wholes_in self.now) number) }
+    {
+        match self.nodes.rows.get_index(number) {
+            Some((_, text)) => text.as_ref(),
+            None => None,
+        }
+    }
+
+    /// Puts a new node last that is made into no rule.
+    fn put(&mut self, node: Node) -> Result<usize, NoMemory>
+        requires table { IsNodeTable self.old }
+        requires fits { Fits (wholes_in self.old) node }
+        requires new { IsNew (wholes_in self.old) (built (wholes_in self.old) node) }
+        requires plain { own_text_in (built (wholes_in self.old) node) ≡ None }
+        ensures meets { OnOk result (TableMeets self.old self.new []) }
+        ensures counted { OnOk result (self.new.made ≡ self.old.made) }
+        ensures number { IfOk result (λ i. StandsFor (wholes_in self.new) i (built (wholes_in self.old) node)) }
+    {
+        self.nodes.put(node, None)
+    }
+
+    /// The number of a node that is made into no rule.
+    pub fn enter(&mut self, node: Node) -> Result<usize, NoMemory>
+        requires table { IsNodeTable self.old }
+        requires fits { Fits (wholes_in self.old) node }
+        requires plain { own_text_in (built (wholes_in self.old) node) ≡ None }
+        ensures meets { OnOk result (TableMeets self.old self.new []) }
+        ensures counted { OnOk result (self.new.made ≡ self.old.made) }
+        ensures number { IfOk result (λ i. StandsFor (wholes_in self.new) i (built (wholes_in self.old) node)) }
+    {
+        match self.nodes.find(&node) {
+            Some(number) => Ok(number),
+            None => self.put(node),
+        }
+    }
+
+    /// Puts a new node last that is made into a rule of that text.
+    fn put_made(&mut self, node: Node, name: Atom) -> Result<usize, NoMemory>
+        requires table { IsNodeTable self.old }
+        requires fits { Fits (wholes_in self.old) node }
+        requires new { IsNew (wholes_in self.old) (built (wholes_in self.old) node) }
+        requires made { own_text_in (built (wholes_in self.old) node) ≡ Some name }
+        requires first { first_with_text name (seen_in self.old) ≡ None }
+        requires free { is_declared_in self.old name ≡ false }
+        ensures table { OnOk result (IsNodeTable self.new) }
+        ensures seen { OnOk result (seen_in self.new ≡ seen_in self.old ++ own_in (built (wholes_in self.old) node)) }
+        ensures names { OnOk result (self.new.names ≡ self.old.names) }
+        ensures grows { OnOk result (Grows (wholes_in self.old) (wholes_in self.new)) }
+        ensures counted { OnOk result (self.new.made ≡ self.old.made) }
+        ensures number { IfOk result (λ i. StandsFor (wholes_in self.new) i (built (wholes_in self.old) node)) }
+    {
+        let key = name.clone()?;
+        let number = self.nodes.put(node, Some(name))?;
+        self.places.insert(key, number)?;
+        Ok(number)
+    }
+
+    /// The text of a new node, if nothing else has it.
+    fn free_text(&mut self, alloc: Global, symbol: &Symbol) -> NormResult<Atom>
+        requires table { IsNodeTable self.old }
+        requires counted { IsCounted self.old }
+        ensures refuses { Refuses result (fault_if (is_declared_in self.old (part_text (symbol_view symbol.now)) || is_some (first_with_text (part_text (symbol_view symbol.now)) (seen_in self.old))) (SharedName, symbol.now.span)) }
+        ensures text { IfOk result (λ n. n ≡ part_text (symbol_view symbol.now)) }
+        ensures counted { OnOk result (self.new.made.count ≡ self.old.made.count + 1) }
+        ensures names { OnOk result (self.new.names ≡ self.old.names) }
+        ensures nodes { OnOk result (self.new.nodes ≡ self.old.nodes) }
+        ensures places { OnOk result (self.new.places ≡ self.old.places) }
+    {
+        // `len` is called for its clause that it is small, which the proof cites.
+        let _nodes = self.nodes.rows.len();
+        let name = make_text(alloc, symbol, &mut self.made)?;
+        if self.is_taken(&name) {
+            return Err(shared_name(alloc, &name, symbol.span));
+        }
+        Ok(name)
+    }
+
+    /// The number of a node that is made into a rule: that of a symbol, the parts of which are replaced.
+    pub fn enter_made(&mut self, alloc: Global, node: Node, symbol: &Symbol) -> NormResult<usize>
+        requires table { IsNodeTable self.old }
+        requires counted { IsCounted self.old }
+        requires fits { Fits (wholes_in self.old) node }
+        requires made { own_text_in (built (wholes_in self.old) node) ≡ Some (part_text (symbol_view symbol.now)) }
+        ensures refuses { Refuses result (refused_in self.old (own_at symbol.now.span (built (wholes_in self.old) node))) }
+        ensures meets { OnOk result (TableMeets self.old self.new (own_at symbol.now.span (built (wholes_in self.old) node))) }
+        ensures counted { OnOk result (IsCounted self.new) }
+        ensures number { IfOk result (λ i. StandsFor (wholes_in self.new) i (built (wholes_in self.old) node)) }
+    {
+        match self.nodes.find(&node) {
+            Some(number) => Ok(number),
+            None => {
+                let name = self.free_text(alloc, symbol)?;
+                Ok(self.put_made(node, name)?)
+            }
+        }
+    }
+}
