@@ -8,7 +8,8 @@ use lalrpop_norm_lexer::lexer::{
 use lalrpop_norm_tree::grammar::parse_tree::{Atom, Dfa, NoMemory, TerminalLiteral};
 use std::alloc::Global;
 
-/// Refuses what its lists name, and has no memory where they say so. Its regexes are the literals, and an automaton's code is the list of precedences.
+/// Refuses what its lists name, and has no memory where they say so. Its regexes are the literals, and an automaton's code is the
+/// list of precedences.
 #[derive(Drop)]
 pub struct Scripted {
     /// The texts that are no patterns.
