@@ -17,7 +17,7 @@ use Rattle.lalrpop_norm_faults.specs.Faults.{Fault, fault_if}
 use Rattle.lalrpop_norm_model.specs.Scopes.{Definition, a_rule, a_macro, a_terminal, Global, definition_of, an_argument, global_sense, is_argument, sense_of, resolved_alternative, resolved_item}
 use Rattle.lalrpop_norm_resolve.specs.declared.resolve.Def.{Def}
 use Rattle.lalrpop_norm_resolve.specs.NameFaults.{repeated_faults, repeated_argument_faults, alternative_name_faults, item_name_faults}
-use Rattle.lalrpop_norm_resolve.specs.NameTables.{sense_seen, def_of, NameRow, found_def, sense_in, with_def, all_rows, row_faults, rows_faults, items_globals, names_faults, item_faults_in, resolved_item_in}
+use Rattle.lalrpop_norm_resolve.specs.NameTables.{sense_seen, def_of, NameRow, found_def, sense_beside, with_def, all_rows, row_faults, rows_faults, items_globals, names_faults, item_faults_in, resolved_item_in}
 use Rattle.lalrpop_norm_theory.proofs.SameLemmas.{text_turned}
 use Rattle.lalrpop_norm_faults.proofs.FaultLemmas.{none_ahead}
 
@@ -143,8 +143,7 @@ seen_as (Some (a_macro n)) = refl
 seen_as (Some a_terminal) = refl
 
 -- a table without repeated names gives each name its meaning
-pub sense_said : (m : BTreeMap Atom Def) (ds : List Global) (args : List NonterminalString) → m.entries ≡ all_rows [] ds → repeated_faults [] ds ≡ [] → sense_in m args ≡ sense_of ds args
-unfolding sense_in
+pub sense_said : (m : BTreeMap Atom Def) (ds : List Global) (args : List NonterminalString) → m.entries ≡ all_rows [] ds → repeated_faults [] ds ≡ [] → sense_beside m (is_argument args) ≡ sense_of ds args
 sense_said m ds args e none =
     fun_ext (λ q. ap (λ o. cond (is_argument args q) (Some an_argument) o)
     (ap (λ rows. sense_seen (found_def q rows)) e ∙ ap (λ o. sense_seen o) (all_said [] [] ds none (λ n. refl) q) ∙ seen_as (definition_of ds q)))

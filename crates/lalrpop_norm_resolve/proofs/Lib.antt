@@ -3,3 +3,4 @@ pub mod TableLemmas
 pub mod GlobalLemmas
 pub mod ResolvedFaults
 pub mod NewNameLemmas
+pub mod ArgumentLemmas

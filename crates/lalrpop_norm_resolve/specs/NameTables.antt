@@ -1,12 +1,12 @@
 -- Global definitions as the code keeps them: a table by name, to which one after the other is added.
-use Rattle.std.specs.Prelude.{ℕ, List, [], ◌∷◌, ◌++◌, map, flat_map, Option, Some, None, option_map, is_some}
+use Rattle.std.specs.Prelude.{ℕ, Bool, List, [], ◌∷◌, ◌++◌, map, flat_map, Option, Some, None, option_map, is_some}
 use Rattle.std.specs.Prelude.{bytes_eq, if◌then◌else◌}
 use Rattle.std.specs.Ordering.{nat_cmp}
 use Rattle.std.specs.Cmp.Lexicographic.{slice_cmp}
 use Rattle.std.specs.BTreeMap.{BTreeMap, insert_entry}
+use Rattle.std.specs.BTreeSet.{BTreeSet, contains}
 use Rattle.lalrpop_norm_tree_names.specs.declared.names.Span.{Span}
 use Rattle.shared_text.specs.declared.atom.Atom.{Atom}
-use Rattle.lalrpop_norm_tree_names.specs.declared.names.NonterminalString.{NonterminalString}
 use Rattle.lalrpop_norm_tree.specs.Items.{RuleData, ConversionData, ItemData, match_item, extern_item, intern_item, rule_item}
 use Rattle.lalrpop_norm_tree.specs.Items.{use_item}
 use Rattle.lalrpop_norm_faults.specs.declared.kind.FaultKind.TheVariants.{NameDeclaredTwice}
@@ -41,9 +41,13 @@ abbrev pub found_def : List ℕ → List NameRow → Option Def
 found_def name [] = None
 found_def name (r ∷ rs) = if bytes_eq name r.0 then Some r.1 else found_def name rs
 
--- what a name means by the table and the arguments
-unfoldable pub sense_in : BTreeMap Atom Def → List NonterminalString → List ℕ → Option Sense
-sense_in m args name = if is_argument args name then Some an_argument else sense_seen (found_def name m.entries)
+-- what a name means by the table, and by what says of a name whether it is an argument's
+abbrev pub sense_beside : BTreeMap Atom Def → (List ℕ → Bool) → List ℕ → Option Sense
+sense_beside m is_own name = if is_own name then Some an_argument else sense_seen (found_def name m.entries)
+
+-- what a name means by the table and the names of the arguments
+unfoldable pub sense_in : BTreeMap Atom Def → BTreeSet Atom → List ℕ → Option Sense
+sense_in m own = sense_beside m (contains (slice_cmp nat_cmp) own)
 
 -- a table with one more row, in the order of the names
 unfoldable pub with_def : List NameRow → List ℕ → Def → List NameRow
@@ -77,10 +81,10 @@ names_faults is = repeated_faults [] (items_globals is) ++ flat_map (item_name_f
 
 abbrev pub rule_faults_in : BTreeMap Atom Def → RuleData → List Fault
 rule_faults_in m r =
-    repeated_argument_faults r.span r.args ++ flat_map (alternative_name_faults (sense_in m r.args)) r.alternatives
+    repeated_argument_faults r.span r.args ++ flat_map (alternative_name_faults (sense_beside m (is_argument r.args))) r.alternatives
 
 abbrev pub resolved_rule_in : BTreeMap Atom Def → RuleData → RuleData
-resolved_rule_in m r = record r { alternatives = map (resolved_alternative (sense_in m r.args)) r.alternatives }
+resolved_rule_in m r = record r { alternatives = map (resolved_alternative (sense_beside m (is_argument r.args))) r.alternatives }
 
 unfoldable pub item_faults_in : BTreeMap Atom Def → ItemData → List Fault
 item_faults_in m (rule_item r) = rule_faults_in m r

@@ -1,42 +1,54 @@
 //! Names in rules.
-ghost use Rattle.std.specs.Prelude.{◌≡◌, [], ◌∷◌, OnOk, map, flat_map, is_some};
+ghost use Rattle.std.specs.Prelude.{◌≡◌, ℕ, List, [], ◌∷◌, IfOk, OnOk, map, flat_map, is_some};
+ghost use Rattle.std.specs.BTreeSet.{contains};
+ghost use Rattle.std.specs.Ordering.{nat_cmp};
+ghost use Rattle.std.specs.Cmp.Lexicographic.{slice_cmp};
 ghost use Rattle.lalrpop_norm_tree.specs.Items.{alternative_view, rule_view};
-ghost use Rattle.lalrpop_norm_faults.specs.Faults.{IsFirst, Refuses};
-ghost use Rattle.lalrpop_norm_model.specs.Scopes.{resolved_alternative};
+ghost use Rattle.lalrpop_norm_faults.specs.Faults.{IsFirst, Refuses, RefusesOr};
+ghost use Rattle.lalrpop_norm_model.specs.Scopes.{is_argument, resolved_alternative};
 ghost use Rattle.lalrpop_norm_resolve.specs.NameFaults.{has_repeated_argument, repeated_argument_faults, tested_faults, condition_faults, alternative_name_faults};
 ghost use Rattle.lalrpop_norm_resolve.specs.NameTables.{sense_seen, sense_in, rule_faults_in, resolved_rule_in};
 
 use super::Def;
-use super::symbols::{def, is_argument, resolve_each, unknown};
+use super::symbols::{def, resolve_each, unknown};
 use lalrpop_norm_faults::{FaultKind, NormFailure, NormResult, refusal};
 use lalrpop_norm_tree::grammar::parse_tree::{
-    Alternative, Atom, Condition, NonterminalData, NonterminalString, Span,
+    Alternative, Atom, Condition, NoMemory, NonterminalData, NonterminalString, Span,
 };
 use std::alloc::Global;
-use std::collections::BTreeMap;
+use std::collections::{BTreeMap, BTreeSet};
 
-/// The first argument that is named again.
-fn repeated(args: &[NonterminalString]) -> Option<&NonterminalString>
-    ensures { is_some result ≡ has_repeated_argument args.now }
+/// The names of arguments, and the first argument that is named again.
+fn read_arguments(
+    alloc: Global,
+    args: &[NonterminalString],
+) -> Result<(BTreeSet<Atom>, Option<&NonterminalString>), NoMemory>
+    ensures names { IfOk result (λ r. (name : List ℕ) → contains (slice_cmp nat_cmp) r.0 name ≡ is_argument args.now name) }
+    ensures again { IfOk result (λ r. is_some r.1 ≡ has_repeated_argument args.now) }
 {
-    for (i, arg) in args.iter().enumerate() {
-        if is_argument(&arg.0, &args[i + 1..]) {
-            return Some(arg);
+    let mut names = BTreeSet::new(alloc);
+    let mut again = None;
+    for i in (0..args.len()).rev() {
+        if !names.insert(args[i].0.again())? {
+            again = Some(&args[i]);
         }
     }
-    None
+    Ok((names, again))
 }
 
-fn check_args(alloc: Global, span: Span, args: &[NonterminalString]) -> NormResult<()>
-    ensures { Refuses result (repeated_argument_faults span args.now) }
+/// The names of a rule's arguments, which no two have alike.
+fn names_of(alloc: Global, span: Span, args: &[NonterminalString]) -> NormResult<BTreeSet<Atom>>
+    ensures { RefusesOr result (repeated_argument_faults span args.now)
+        (λ names. (name : List ℕ) → contains (slice_cmp nat_cmp) names name ≡ is_argument args.now name) }
 {
-    match repeated(args) {
+    let (names, again) = read_arguments(alloc, args)?;
+    match again {
         Some(arg) => Err(refusal(
             FaultKind::ArgumentTwice,
             span,
             format!(in alloc; "two arguments of this macro are named `{arg}`: rename one of them"),
         )),
-        None => Ok(()),
+        None => Ok(names),
     }
 }
 
@@ -67,7 +79,7 @@ fn check_tested(alloc: Global, span: Span, name: &Atom, def: Option<Def>) -> Nor
 fn check_condition(
     alloc: Global,
     globals: &BTreeMap<Atom, Def>,
-    args: &[NonterminalString],
+    args: &BTreeSet<Atom>,
     condition: &Option<Condition>,
 ) -> NormResult<()>
     ensures { Refuses result (condition_faults (sense_in globals.now args.now) condition.now) }
@@ -85,7 +97,7 @@ fn check_condition(
 fn resolve_alternative(
     alloc: Global,
     globals: &BTreeMap<Atom, Def>,
-    args: &[NonterminalString],
+    args: &BTreeSet<Atom>,
     alternative: &mut Alternative,
 ) -> NormResult<()>
     ensures refuses { Refuses result (alternative_name_faults (sense_in globals.now args.now) (alternative_view alternative.old)) }
@@ -99,7 +111,7 @@ fn resolve_alternative(
 fn resolve_alternatives(
     alloc: Global,
     globals: &BTreeMap<Atom, Def>,
-    args: &[NonterminalString],
+    args: &BTreeSet<Atom>,
     alternatives: &mut [Alternative],
 ) -> NormResult<()>
     ensures refuses { Refuses result (flat_map (alternative_name_faults (sense_in globals.now args.now)) (map alternative_view alternatives.old)) }
@@ -120,7 +132,7 @@ pub(crate) fn resolve_rule(
     ensures refuses { Refuses result (rule_faults_in globals.now (rule_view rule.old)) }
     ensures resolves { OnOk result (rule_view rule.new ≡ resolved_rule_in globals.now (rule_view rule.old)) }
 {
-    check_args(alloc, rule.span, &rule.args)?;
-    resolve_alternatives(alloc, globals, &rule.args, &mut rule.alternatives)?;
+    let args = names_of(alloc, rule.span, &rule.args)?;
+    resolve_alternatives(alloc, globals, &args, &mut rule.alternatives)?;
     Ok(())
 }

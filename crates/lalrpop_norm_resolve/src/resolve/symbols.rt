@@ -2,7 +2,7 @@
 ghost use Rattle.std.specs.Prelude.{◌≡◌, [], ◌∷◌, OnOk};
 ghost use Rattle.lalrpop_norm_tree.specs.Symbols.{kind_view, symbol_view, repeat_view, parts_view};
 ghost use Rattle.lalrpop_norm_faults.specs.Faults.{IsFirst, Refuses, RefusesOr};
-ghost use Rattle.lalrpop_norm_model.specs.Scopes.{is_argument, by_sense, resolved_kind, resolved_part, resolved_parts};
+ghost use Rattle.lalrpop_norm_model.specs.Scopes.{by_sense, resolved_kind, resolved_part, resolved_parts};
 ghost use Rattle.lalrpop_norm_resolve.specs.NameFaults.{id_faults, nonterminal_faults, macro_name_faults, parts_count, kind_name_faults, part_name_faults, parts_name_faults};
 ghost use Rattle.lalrpop_norm_resolve.specs.NameTables.{found_def, sense_seen, sense_in};
 
@@ -12,18 +12,7 @@ use lalrpop_norm_tree::grammar::parse_tree::{
     Atom, NonterminalString, RepeatSymbol, Span, Symbol, SymbolKind, TerminalString,
 };
 use std::alloc::Global;
-use std::collections::BTreeMap;
-
-pub(crate) fn is_argument(name: &Atom, args: &[NonterminalString]) -> bool
-    ensures { result ≡ is_argument args.now name.now }
-{
-    for arg in args {
-        if &arg.0 == name {
-            return true;
-        }
-    }
-    false
-}
+use std::collections::{BTreeMap, BTreeSet};
 
 pub(crate) fn global(globals: &BTreeMap<Atom, Def>, name: &Atom) -> Option<Def>
     ensures { result ≡ found_def name.now globals.now.entries }
@@ -33,14 +22,10 @@ pub(crate) fn global(globals: &BTreeMap<Atom, Def>, name: &Atom) -> Option<Def>
 
 /// What the name means in a rule with these arguments.
 #[tactic(auto, unfolding(crate::specs::NameTables::sense_in))]
-pub(crate) fn def(
-    globals: &BTreeMap<Atom, Def>,
-    args: &[NonterminalString],
-    name: &Atom,
-) -> Option<Def>
+pub(crate) fn def(globals: &BTreeMap<Atom, Def>, args: &BTreeSet<Atom>, name: &Atom) -> Option<Def>
     ensures { sense_seen result ≡ sense_in globals.now args.now name.now }
 {
-    if is_argument(name, args) {
+    if args.contains(name) {
         return Some(Def::MacroArg);
     }
     global(globals, name)
@@ -169,7 +154,7 @@ fn check_macro(
 fn identified(
     alloc: Global,
     globals: &BTreeMap<Atom, Def>,
-    args: &[NonterminalString],
+    args: &BTreeSet<Atom>,
     span: Span,
     id: &Atom,
 ) -> NormResult<SymbolKind>
@@ -185,7 +170,7 @@ fn identified(
 fn check_call(
     alloc: Global,
     globals: &BTreeMap<Atom, Def>,
-    args: &[NonterminalString],
+    args: &BTreeSet<Atom>,
     span: Span,
     name: &Atom,
     inner: &[Symbol],
@@ -199,7 +184,7 @@ fn check_call(
 pub(crate) fn resolve_each(
     alloc: Global,
     globals: &BTreeMap<Atom, Def>,
-    args: &[NonterminalString],
+    args: &BTreeSet<Atom>,
     symbols: &mut [Symbol],
 ) -> NormResult<()>
     ensures refuses { Refuses result (parts_name_faults (sense_in globals.now args.now) (parts_view symbols.old)) }
@@ -215,7 +200,7 @@ pub(crate) fn resolve_each(
 fn resolve_symbol(
     alloc: Global,
     globals: &BTreeMap<Atom, Def>,
-    args: &[NonterminalString],
+    args: &BTreeSet<Atom>,
     symbol: &mut Symbol,
 ) -> NormResult<()>
     ensures refuses { Refuses result (part_name_faults (sense_in globals.now args.now) (symbol_view symbol.old)) }
@@ -228,7 +213,7 @@ fn resolve_symbol(
 fn resolve_kind(
     alloc: Global,
     globals: &BTreeMap<Atom, Def>,
-    args: &[NonterminalString],
+    args: &BTreeSet<Atom>,
     span: Span,
     kind: &mut SymbolKind,
 ) -> NormResult<()>
@@ -267,7 +252,7 @@ fn resolve_kind(
 fn resolve_boxed(
     alloc: Global,
     globals: &BTreeMap<Atom, Def>,
-    args: &[NonterminalString],
+    args: &BTreeSet<Atom>,
     symbol: &mut Box<Symbol>,
 ) -> NormResult<()>
     ensures refuses { Refuses result (part_name_faults (sense_in globals.now args.now) (symbol_view symbol.old.value)) }
@@ -280,7 +265,7 @@ fn resolve_boxed(
 fn resolve_repeat(
     alloc: Global,
     globals: &BTreeMap<Atom, Def>,
-    args: &[NonterminalString],
+    args: &BTreeSet<Atom>,
     repeat: &mut Box<RepeatSymbol>,
 ) -> NormResult<()>
     ensures refuses { Refuses result (part_name_faults (sense_in globals.now args.now) (repeat_view repeat.old.value).1) }
