@@ -10,4 +10,6 @@ pub mod RowItems
 pub mod RowLemmas
 pub mod RowReads
 pub mod TableLemmas
+pub mod WaitLemmas
+pub mod WaitReads
 pub mod WholeLemmas
