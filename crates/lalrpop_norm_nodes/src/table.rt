@@ -5,7 +5,7 @@ ghost use Rattle.lalrpop_norm_tree.specs.SymbolTexts.{part_text};
 ghost use Rattle.lalrpop_norm_faults.specs.Faults.{Refuses, IsFirst, fault_if};
 ghost use Rattle.lalrpop_norm_faults.specs.declared.kind.FaultKind.TheVariants.{SharedName};
 ghost use Rattle.lalrpop_norm_macro_expand_met.specs.Meeting.{first_with_text};
-ghost use Rattle.lalrpop_norm_nodes.specs.Wholes.{Fits, built, StandsFor, IsNew, Grows};
+ghost use Rattle.lalrpop_norm_nodes.specs.Wholes.{Fits, built, StandsFor, IsNew, Grows, nodes_of};
 ghost use Rattle.lalrpop_norm_nodes.specs.Tables.{wholes_in, seen_in, own_at, own_in, own_text_in, is_declared_in, IsNodeTable, IsCounted, TableMeets, refused_in, waiting_in, AreNumbered};
 ghost use Rattle.lalrpop_norm_nodes.specs.Waits.{LeavesWaiting};
 
@@ -87,6 +87,16 @@ impl Table {
         ensures { result ≡ (is_declared_in self.now name.now || is_some (first_with_text name.now (seen_in self.now))) }
     {
         self.names.contains(name) || self.places.contains_key(name)
+    }
+
+    /// The node of a number.
+    pub(crate) fn node(&self, number: usize) -> Option<&Node>
+        ensures { option_map (λ n. n.now) result ≡ slice_get (nodes_of self.now.nodes) number }
+    {
+        match self.nodes.rows.get_index(number) {
+            Some((node, _)) => Some(node),
+            None => None,
+        }
     }
 
     /// The text of a node, if it is made into a rule.
