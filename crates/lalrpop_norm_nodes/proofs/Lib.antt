@@ -3,6 +3,7 @@ pub mod GivenLemmas
 pub mod InPlace
 pub mod InsideReads
 pub mod MeetLemmas
+pub mod NodePartLemmas
 pub mod NodeTests
 pub mod NumberLemmas
 pub mod ReadLemmas
@@ -12,4 +13,5 @@ pub mod RowReads
 pub mod TableLemmas
 pub mod WaitLemmas
 pub mod WaitReads
+pub mod WaitStands
 pub mod WholeLemmas

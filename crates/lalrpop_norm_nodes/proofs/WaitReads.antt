@@ -84,6 +84,6 @@ shown_met_one_by_one f (p ∷ ps) =
     map-append parts_replaced (met (filled f p)) (all_met (all_filled f (parts_of ps)))
     ∙ ap (λ qs. map parts_replaced (met (filled f p)) ++ qs) (shown_met_one_by_one f ps)
 
-pub partly_waits : (m : Part → List Part) (vs : List Part) (i : ℕ) (w : Part) → i < length vs → w ≡ get_or vs i w → (a b c : Table) →
+pub partly_waits : {D : Type 0} (m : D → List Part) (vs : List D) (i : ℕ) (w : D) → i < length vs → w ≡ get_or vs i w → (a b c : Table) →
     LeavesWaiting a b (flat_map m (take i vs)) → LeavesWaiting b c (m w) → LeavesWaiting a c (flat_map m (take (i + 1) vs))
 partly_waits m vs i w l e a b c h k = rw (met_more m vs i w l e) (waits_both a b c _ _ h k)
