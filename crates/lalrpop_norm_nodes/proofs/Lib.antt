@@ -1,4 +1,5 @@
 pub mod EnterLemmas
+pub mod FirstMet
 pub mod GivenLemmas
 pub mod InPlace
 pub mod InsideReads
@@ -7,10 +8,15 @@ pub mod NodePartLemmas
 pub mod NodeTests
 pub mod NumberLemmas
 pub mod ReadLemmas
+pub mod ReplacedSources
 pub mod RowItems
 pub mod RowLemmas
 pub mod RowReads
+pub mod ShallowConditions
+pub mod ShallowKinds
+pub mod ShallowRules
 pub mod TableLemmas
+pub mod TwiceLemmas
 pub mod WaitLemmas
 pub mod WaitReads
 pub mod WaitStands
