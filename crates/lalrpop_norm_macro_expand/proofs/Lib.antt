@@ -1,6 +1,4 @@
-mod BackLemmas
 pub mod DistinctLemmas
 mod FreshLemmas
-mod KeptLemmas
-mod ReadLemmas
+mod PendingLemmas
 mod RoundLemmas

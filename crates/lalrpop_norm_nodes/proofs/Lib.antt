@@ -14,6 +14,7 @@ pub mod RowLemmas
 pub mod RowReads
 pub mod ShallowConditions
 pub mod ShallowKinds
+pub mod ShallowRounds
 pub mod ShallowRules
 pub mod TableLemmas
 pub mod TwiceLemmas
