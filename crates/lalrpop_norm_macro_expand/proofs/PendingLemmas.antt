@@ -32,7 +32,7 @@ use Rattle.lalrpop_norm_nodes.proofs.ShallowMeetings.{MeetAlike, alike_none, ali
 use Rattle.lalrpop_norm_nodes.proofs.ShallowReadings.{copied, shown_in_each, met_in_each, each_read, call_copies, call_read, call_alike, repeat_read, repeat_alike, group_alike, location_alike}
 use Rattle.lalrpop_norm_nodes.proofs.ShallowRules.{argument_replaced, argument_unplaced, group_replaced}
 use Rattle.lalrpop_norm_macro_expand_rules.specs.Conditions.{quoted_text, comparison_faults, value_faults, instance_faults, called_faults}
-use Rattle.lalrpop_norm_macro_expand_rules.specs.Pending.{PendingData, finished_rule, open_rule, met_in_pending, shown_in_pending, pending_read, read_filled}
+use Rattle.lalrpop_norm_macro_expand_rules.specs.Pending.{PendingData, finished_rule, unread_rule, met_in_pending, shown_in_pending, pending_read, read_filled}
 use Rattle.lalrpop_norm_macro_expand.specs.Expansion.{unmade}
 use Rattle.lalrpop_norm_macro_expand.specs.Making.{kept_of, instance_shape, call_pending, hole, hole_name, repeat_pending, pending_of}
 use Rattle.lalrpop_norm_macro_expand_rules.proofs.MacroLemmas.{named_so}
@@ -116,7 +116,7 @@ module _ (names : List ℕ → Bool) (start : List Part) where
   call_met s n ps name (Some d) were =
       let shown = argument_kind d.args (all_replaced ps) in
       let whole = argument_kind d.args (all_unplaced ps) in
-      one_alike (open_rule (instance_shape name s d (all_replaced ps)) whole shown) (instance_rule comparison s d ps)
+      one_alike (unread_rule (instance_shape name s d (all_replaced ps)) whole shown) (instance_rule comparison s d ps)
       (rw (kept_copies s d.args (all_replaced ps) d.alternatives)
       (call_alike names start comparison s d ps shown (argument_replaced d.args ps) whole (argument_unplaced d.args ps) were))
 
