@@ -86,7 +86,7 @@ fn read_round(
     read_pending(alloc, pending, done, table)
 }
 
-fn counts(table: &Table, rounds_made: u16) -> Counts
+fn counted(table: &Table, rounds_made: u16) -> Counts
     requires { IsCounted table.now }
     ensures instances { result.instances ≡ length (seen_in table.now) }
     ensures rounds { result.rounds ≡ rounds_made + 1 }
@@ -119,7 +119,7 @@ fn expand_rounds(alloc: Global, grammar: Grammar, limit: u16) -> NormResult<(Gra
         let waiting = table.take_waiting(alloc);
         if waiting.is_empty() {
             grammar.items = done;
-            return Ok((grammar, counts(&table, limit - left)));
+            return Ok((grammar, counted(&table, limit - left)));
         }
         if left == 0 {
             return Err(past_cap(alloc, &waiting));
