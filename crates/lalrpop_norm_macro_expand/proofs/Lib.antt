@@ -1,6 +1,8 @@
 mod BackLemmas
-pub mod DistinctLemmas
 mod FreshLemmas
 mod KeptLemmas
 mod ReadLemmas
 mod RoundLemmas
+pub mod DistinctLemmas
+pub mod ShallowExpansion
+pub mod ShallowUnmade

@@ -1,9 +1,10 @@
 mod ConditionLemmas
 mod InPlace
 mod InstanceLemmas
-pub mod MacroLemmas
-pub mod NameLemmas
 mod ReplaceLemmas
 mod ReplacedSources
 mod SourceLemmas
+pub mod MacroLemmas
+pub mod NameLemmas
+pub mod ShallowFaults
 pub mod TwiceLemmas
