@@ -56,7 +56,7 @@ partly_more v f cur vs i x y l k e at new =
     ∙ ap (λ ws. ws ++ drop (i + 1) vs) (sym done)
 
 module _ {D : Type 0} (m : D → List Part) (vs : List D) (i : ℕ) (w : D) (l : i < length vs) (e : w ≡ get_or vs i w) where
-  met_more : flat_map m (take (i + 1) vs) ≡ flat_map m (take i vs) ++ m w
+  pub met_more : flat_map m (take (i + 1) vs) ≡ flat_map m (take i vs) ++ m w
   met_more =
       rw (take_more vs i w l, flat_map-append m (take i vs) (get_or vs i w ∷ []), ← e)
       (ap (λ ps. flat_map m (take i vs) ++ ps) (append-nil _))

@@ -4,6 +4,7 @@ pub mod GivenLemmas
 pub mod InPlace
 pub mod InsideReads
 pub mod MeetLemmas
+pub mod NodePartLemmas
 pub mod NodeTests
 pub mod NumberLemmas
 pub mod ReadLemmas
@@ -19,4 +20,7 @@ pub mod ShallowRounds
 pub mod ShallowRules
 pub mod TableLemmas
 pub mod TwiceLemmas
+pub mod WaitLemmas
+pub mod WaitReads
+pub mod WaitStands
 pub mod WholeLemmas

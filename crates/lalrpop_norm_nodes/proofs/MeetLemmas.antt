@@ -161,3 +161,8 @@ standing_met t i k s h e =
         table = h;
       },
     )
+
+-- ---- nothing is met
+
+pub meets_nothing : (t : Table) → IsNodeTable t → TableMeets t t []
+meets_nothing t h = record { seen = refl; names = refl; grows = ([], sym (append-nil (wholes_in t))); table = h }

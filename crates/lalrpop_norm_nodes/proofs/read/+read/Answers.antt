@@ -23,6 +23,11 @@ use Rattle.lalrpop_norm_nodes.specs.Filled.{filled}
 use Rattle.lalrpop_norm_nodes.proofs.GivenLemmas.{all_given_stay, wholes_stay}
 use Rattle.lalrpop_norm_nodes.proofs.InPlace.{still, partly_more, partly_met, partly_quiet, partly_exit}
 use Rattle.lalrpop_norm_nodes.proofs.RowItems.{stands_later, is_kind, are_symbols}
+use Rattle.lalrpop_norm_macro_expand_met.specs.Meeting.{met_itself}
+use Rattle.lalrpop_norm_nodes.specs.Filled.{filled_kind}
+use Rattle.lalrpop_norm_nodes.specs.Waits.{parts_replaced, shown_met, LeavesWaiting}
+use Rattle.lalrpop_norm_nodes.proofs.WaitLemmas.{waits_nothing, waits_plain, waits_row}
+use Rattle.lalrpop_norm_nodes.proofs.WaitReads.{bound_waits, read_waits, kept_waits, shown_met_one_by_one, partly_waits}
 use Rattle.lalrpop_norm_nodes.proofs.read.+read.Goals as goal
 
 pub read_symbol-returns-in-Some-clause-refuses : goal.read_symbol-returns-in-Some-clause-refuses
@@ -166,6 +171,7 @@ read_row-loop-i-init t c =
       refuses = search rules;
       meets = r.meets;
       counted = counted_row a z c.requires.counted r.counted r.meets;
+      waits = waits_plain a z r.meets r.waiting;
       given = all_given_stay (wholes_in a) (wholes_in z) c.args.environment.now r.meets.grows c.requires.given;
       row = r.number;
     }
@@ -196,6 +202,7 @@ read_row-loop-i-preserved t c =
           (ap (λ (f : List ℕ → Option Kind). refused_in b (met (filled f (symbol_view x)))) (sym stay) ∙ n.refuses);
       meets = partly_met m vs c.loop-i.i (symbol_view x) here same a b z v.meets (meets_row b d z _ reads r.meets);
       counted = counted_row d z n.counted r.counted r.meets;
+      waits = partly_waits (shown_met e) vs c.loop-i.i (symbol_view x) here same a b z v.waits (waits_row b d z _ n.waits r.meets r.waiting);
       given = all_given_stay (wholes_in a) (wholes_in z) e (partly_met m vs c.loop-i.i (symbol_view x) here same a b z v.meets (meets_row b d z _ reads r.meets)).grows c.requires.given;
       row = row_more (wholes_in b) (wholes_in d) (wholes_in z) c.loop-i.row c.in_ok-number.number c.in_ok-row-2.row
           (λ p. unplaced (read_whole (wholes_in a) e p)) vs c.loop-i.i (symbol_view x) _ here same v.row n.meets.grows n.number
@@ -228,3 +235,32 @@ read_row-returns-clause-refuses t c =
     let long : length vs ≤ c.loop-i.i = omega (arith, length-map c.args.several.now symbol_view) in
     ap (refused_in c.args.table.now) (met_one_by_one f vs ∙ ap (λ ws. flat_map (λ (p : Part). met (filled f p)) ws) (sym (take_all c.loop-i.i vs long)))
     ∙ c.loop-i.invariant.refuses
+
+pub read_symbol-returns-in-Some-clause-waits : goal.read_symbol-returns-in-Some-clause-waits
+read_symbol-returns-in-Some-clause-waits t c =
+    bound_waits c.args.table.now c.args.environment.now c.args.symbol.now c.in-Some.given.now c.requires.given
+    (sym c.given_to.ensures ∙ ap (option_map (λ g. g.now)) c.in-Some.is)
+
+pub read_symbol-returns-clause-waits : goal.read_symbol-returns-clause-waits
+read_symbol-returns-clause-waits t c =
+    let s = c.args.symbol.now in
+    on_ok_more c.enter_symbol.result _ _
+    (λ g. read_waits c.args.table.now c.node_of.new.table c.enter_symbol.new.table c.args.environment.now s c.in_ok-node.ensures.waits
+        (subst (λ (p : Part). LeavesWaiting c.node_of.new.table c.enter_symbol.new.table (met_itself p))
+            (symbol_seen s.span c.node_of.new.kind ∙ ap (at s.span) c.in_ok-node.ensures.value) g))
+    c.enter_symbol.ensures.waits
+
+pub node_of-returns-in_ok-row-in-Tuple-clause-waits : goal.node_of-returns-in_ok-row-in-Tuple-clause-waits
+node_of-returns-in_ok-row-in-Tuple-clause-waits t c =
+    let a = c.args.table.now in
+    let e = c.args.environment.now in
+    subst (λ (k : Kind). LeavesWaiting a c.enter_patterns.new.table (map parts_replaced (met_inside (filled_kind (shown_for e) k))))
+    (sym (ap kind_view c.in-Tuple.is ∙ tupled_seen c.in-Tuple.tuple c.in-Tuple.inner))
+    (waits_row a c.read_boxed-in-Tuple.new.table c.enter_patterns.new.table _ c.in_ok-number-in-Tuple.ensures.waits c.in_ok-row-in-Tuple.ensures.meets c.in_ok-row-in-Tuple.ensures.waiting)
+
+pub read_row-returns-clause-waits : goal.read_row-returns-clause-waits
+read_row-returns-clause-waits t c =
+    let vs = map symbol_view c.args.several.now in
+    let long : length vs ≤ c.loop-i.i = omega (arith, length-map c.args.several.now symbol_view) in
+    let h = c.loop-i.invariant.waits in
+    rw (shown_met_one_by_one (shown_for c.args.environment.now) vs) (rw (take_all c.loop-i.i vs long) at h)
