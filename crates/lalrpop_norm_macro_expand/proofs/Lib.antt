@@ -4,5 +4,3 @@ mod KeptLemmas
 mod ReadLemmas
 mod RoundLemmas
 pub mod DistinctLemmas
-pub mod ShallowExpansion
-pub mod ShallowUnmade

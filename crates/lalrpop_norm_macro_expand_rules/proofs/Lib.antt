@@ -6,5 +6,4 @@ mod ReplacedSources
 mod SourceLemmas
 pub mod MacroLemmas
 pub mod NameLemmas
-pub mod ShallowFaults
 pub mod TwiceLemmas
