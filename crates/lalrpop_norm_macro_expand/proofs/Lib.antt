@@ -1,6 +1,4 @@
-mod BackLemmas
-mod FreshLemmas
-mod KeptLemmas
-mod ReadLemmas
-mod RoundLemmas
 pub mod DistinctLemmas
+mod FreshLemmas
+mod PendingLemmas
+mod RoundLemmas

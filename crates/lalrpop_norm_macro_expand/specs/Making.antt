@@ -16,7 +16,7 @@ use Rattle.lalrpop_norm_macro_expand_met.specs.Apart.{nowhere}
 use Rattle.lalrpop_norm_nodes.specs.declared.table.Waiting.{Waiting}
 use Rattle.lalrpop_norm_nodes.specs.NodeParts.{call_parts, repeated_kind}
 use Rattle.lalrpop_norm_nodes.specs.Wholes.{Whole, kind_at}
-use Rattle.lalrpop_norm_macro_expand_rules.specs.Pending.{PendingData, finished_rule, open_rule}
+use Rattle.lalrpop_norm_macro_expand_rules.specs.Pending.{PendingData, finished_rule, unread_rule}
 use Rattle.lalrpop_norm_macro_expand_rules.specs.Rules.{named_rule}
 
 -- ---- macro calls
@@ -46,7 +46,7 @@ instance_shape name s d args = record {
 abbrev pub call_pending : List ℕ → Span → Option RuleData → Parts → Parts → List PendingData
 call_pending name s None whole shown = []
 call_pending name s (Some d) whole shown =
-    open_rule (instance_shape name s d shown) (argument_kind d.args whole) (argument_kind d.args shown) ∷ []
+    unread_rule (instance_shape name s d shown) (argument_kind d.args whole) (argument_kind d.args shown) ∷ []
 
 -- ---- repeats
 
@@ -64,7 +64,7 @@ repeat_shape name s op p over =
 
 abbrev pub repeat_pending : List ℕ → Span → RepeatOp → Kind → Part → PendingData
 repeat_pending name s op whole (at t k) =
-    open_rule (repeat_shape name s op (at t k) (at t (nonterminal hole_name))) (argument_kind hole (only_part (at nowhere whole)))
+    unread_rule (repeat_shape name s op (at t k) (at t (nonterminal hole_name))) (argument_kind hole (only_part (at nowhere whole)))
     (argument_kind hole (only_part (at t k)))
 
 -- ---- symbols that wait

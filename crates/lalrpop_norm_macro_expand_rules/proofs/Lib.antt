@@ -1,9 +1,7 @@
 mod ConditionLemmas
-mod InPlace
 mod InstanceLemmas
-mod ReplaceLemmas
-mod ReplacedSources
-mod SourceLemmas
 pub mod MacroLemmas
 pub mod NameLemmas
-pub mod TwiceLemmas
+mod PendingLemmas
+mod SourceLemmas
+mod UnboundLemmas

@@ -11,7 +11,7 @@ use Rattle.lalrpop_norm_nodes.specs.Given.{given_for, IsGiven}
 use Rattle.lalrpop_norm_nodes.specs.Waits.{parts_replaced}
 use Rattle.lalrpop_norm_nodes.specs.Wholes.{Whole, kind_at}
 use Rattle.lalrpop_norm_macro_expand_rules.specs.declared.pending.Pending.{Pending}
-use Rattle.lalrpop_norm_macro_expand_rules.specs.declared.pending.Pending.TheVariants.{Finished, Open}
+use Rattle.lalrpop_norm_macro_expand_rules.specs.declared.pending.Pending.TheVariants.{Finished, Unread}
 
 -- ---- alternatives that are read where names stand for what is given
 
@@ -32,19 +32,19 @@ read_filled f a = record a { parts = all_replaced (all_filled f a.parts) }
 -- into rules replaced
 pub data PendingData : Type 0 where
   finished_rule : RuleData → PendingData
-  open_rule : RuleData → (List ℕ → Option Kind) → (List ℕ → Option Kind) → PendingData
+  unread_rule : RuleData → (List ℕ → Option Kind) → (List ℕ → Option Kind) → PendingData
 
 abbrev pub met_in_pending : PendingData → List Part
 met_in_pending (finished_rule r) = []
-met_in_pending (open_rule r whole shown) = flat_map (met_filled whole) r.alternatives
+met_in_pending (unread_rule r whole shown) = flat_map (met_filled whole) r.alternatives
 
 abbrev pub shown_in_pending : PendingData → List Part
 shown_in_pending (finished_rule r) = []
-shown_in_pending (open_rule r whole shown) = flat_map (shown_filled shown) r.alternatives
+shown_in_pending (unread_rule r whole shown) = flat_map (shown_filled shown) r.alternatives
 
 abbrev pub pending_read : PendingData → ItemData
 pending_read (finished_rule r) = rule_item r
-pending_read (open_rule r whole shown) = rule_item (record r { alternatives = map (read_filled shown) r.alternatives })
+pending_read (unread_rule r whole shown) = rule_item (record r { alternatives = map (read_filled shown) r.alternatives })
 
 -- what a name is bound to
 abbrev pub whole_of : List Whole → List NonterminalString → List Given → List ℕ → Option Kind
@@ -55,12 +55,12 @@ shown_of names given n = option_map (λ g. kind_view g.symbol.kind) (given_for n
 
 abbrev pub pending_view : List Whole → Pending → PendingData
 pending_view ws (Finished r) = finished_rule (rule_view r)
-pending_view ws (Open o) = open_rule (rule_view o.rule) (whole_of ws o.names.items o.given.items) (shown_of o.names.items o.given.items)
+pending_view ws (Unread o) = unread_rule (rule_view o.rule) (whole_of ws o.names.items o.given.items) (shown_of o.names.items o.given.items)
 
 -- what is given stands for symbols
 abbrev pub IsReadable : List Whole → Pending → Type 0
 IsReadable ws (Finished r) = ⊤
-IsReadable ws (Open o) = (n : List ℕ) (g : Given) → given_for o.names.items o.given.items n ≡ Some g → IsGiven ws g
+IsReadable ws (Unread o) = (n : List ℕ) (g : Given) → given_for o.names.items o.given.items n ≡ Some g → IsGiven ws g
 
 abbrev pub AreReadable : List Whole → List Pending → Type 0
 AreReadable ws [] = ⊤

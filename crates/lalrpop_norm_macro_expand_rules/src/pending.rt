@@ -4,7 +4,7 @@ ghost use Rattle.lalrpop_norm_tree.specs.Items.{item_view, rule_item, rule_view}
 ghost use Rattle.lalrpop_norm_faults.specs.Faults.{Refuses};
 ghost use Rattle.lalrpop_norm_nodes.specs.Tables.{wholes_in, IsNodeTable, IsCounted, TableMeets, refused_in};
 ghost use Rattle.lalrpop_norm_nodes.specs.Waits.{LeavesWaiting};
-ghost use Rattle.lalrpop_norm_macro_expand_rules.specs.declared.pending.Pending.TheVariants.{Open};
+ghost use Rattle.lalrpop_norm_macro_expand_rules.specs.declared.pending.Pending.TheVariants.{Unread};
 ghost use Rattle.lalrpop_norm_macro_expand_rules.specs.Pending.{met_in_pending, shown_in_pending, pending_read, pending_view, IsReadable, AreReadable};
 
 use crate::reading::read_alternatives;
@@ -16,7 +16,7 @@ use std::alloc::Global;
 
 /// A rule in which names stand for what is given.
 #[derive(Drop)]
-pub struct OpenRule {
+pub struct UnreadRule {
     /// The rule, its symbols as they are written.
     pub rule: NonterminalData,
     /// The names.
@@ -31,22 +31,22 @@ pub enum Pending {
     /// What is made into rules in it was met, and is replaced.
     Finished(NonterminalData),
     /// It is still to be read.
-    Open(OpenRule),
+    Unread(UnreadRule),
 }
 
-fn read_open(alloc: Global, open: OpenRule, table: &mut Table) -> NormResult<NonterminalData>
+fn read_unread(alloc: Global, unread: UnreadRule, table: &mut Table) -> NormResult<NonterminalData>
     requires table { IsNodeTable table.old }
     requires counted { IsCounted table.old }
-    requires readable { IsReadable (wholes_in table.old) (Open open) }
-    ensures refuses { Refuses result (refused_in table.old (met_in_pending (pending_view (wholes_in table.old) (Open open)))) }
-    ensures meets { OnOk result (TableMeets table.old table.new (met_in_pending (pending_view (wholes_in table.old) (Open open)))) }
+    requires readable { IsReadable (wholes_in table.old) (Unread unread) }
+    ensures refuses { Refuses result (refused_in table.old (met_in_pending (pending_view (wholes_in table.old) (Unread unread)))) }
+    ensures meets { OnOk result (TableMeets table.old table.new (met_in_pending (pending_view (wholes_in table.old) (Unread unread)))) }
     ensures counted { OnOk result (IsCounted table.new) }
-    ensures waits { OnOk result (LeavesWaiting table.old table.new (shown_in_pending (pending_view (wholes_in table.old) (Open open)))) }
-    ensures value { IfOk result (λ r. rule_item (rule_view r) ≡ pending_read (pending_view (wholes_in table.old) (Open open))) }
+    ensures waits { OnOk result (LeavesWaiting table.old table.new (shown_in_pending (pending_view (wholes_in table.old) (Unread unread)))) }
+    ensures value { IfOk result (λ r. rule_item (rule_view r) ≡ pending_read (pending_view (wholes_in table.old) (Unread unread))) }
 {
-    let names = open.names;
-    let given = open.given;
-    let mut rule = open.rule;
+    let names = unread.names;
+    let given = unread.given;
+    let mut rule = unread.rule;
     let environment = Environment {
         names: &names,
         given: &given,
@@ -68,7 +68,7 @@ fn read_rule(alloc: Global, pending: Pending, table: &mut Table) -> NormResult<N
 {
     match pending {
         Pending::Finished(rule) => Ok(rule),
-        Pending::Open(open) => read_open(alloc, open, table),
+        Pending::Unread(unread) => read_unread(alloc, unread, table),
     }
 }
 

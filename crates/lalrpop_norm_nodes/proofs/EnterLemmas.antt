@@ -166,6 +166,6 @@ made_waits a f b d n p some first nodes same seen kept more waiting =
     waits_new a d p (at nowhere m.kind) first
     (waiting ∙ ap (λ (v : Vec Waiting Global). map (λ (w : Waiting). symbol_view w.symbol) v.items ++ p ∷ []) (kept ∙ same))
     (ap (λ (ns : Nodes). flat_map own_in (wholes ns)) more ∙ seen
-        ∙ ap (λ (ns : Nodes). flat_map own_in (wholes ns) ++ own_in (built (wholes ns) n)) nodes
-        ∙ ap (λ (xs : List Part). seen_in a ++ xs) (m.at_place nowhere))
+    ∙ ap (λ (ns : Nodes). flat_map own_in (wholes ns) ++ own_in (built (wholes ns) n)) nodes
+    ∙ ap (λ (xs : List Part). seen_in a ++ xs) (m.at_place nowhere))
     (sym m.text)

@@ -52,6 +52,7 @@ fresh_both ts (x ∷ xs) ys = by (has_text (part_text x) ts) (fresh_both ts xs y
   where
     more : List (List ℕ)
     more = ts ++ part_text x ∷ []
+
     by : (b : Bool)
         → fresh_after ts (xs ++ ys) ≡ fresh_after ts xs ++ fresh_after (ts ++ map part_text (fresh_after ts xs)) ys
         → fresh_after more (xs ++ ys) ≡ fresh_after more xs ++ fresh_after (more ++ map part_text (fresh_after more xs)) ys

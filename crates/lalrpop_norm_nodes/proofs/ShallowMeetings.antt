@@ -141,23 +141,6 @@ module _ (names : List ℕ → Bool) (start : List Part) where
   pub alike_none : MeetAlike [] [] []
   alike_none = alike_met [] [] refl refl
 
-  -- symbols in which no argument is bound
-  pub alike_same : (xs : List Part) → MeetAlike (map parts_replaced xs) xs xs
-  alike_same xs = record { met = λ seen k. refl; clashes = λ seen k. refl; waits = λ ts k. fresh_parts ts xs }
-    where
-      fresh_parts : (ts : List (List ℕ)) (ys : List Part) → fresh_after ts (map parts_replaced ys) ≡ map parts_replaced (fresh_after ts ys)
-      fresh_parts ts [] = refl
-      fresh_parts ts (y ∷ ys) =
-          ap (λ (t : List ℕ). cond (has_text t ts) (fresh_after ts (map parts_replaced ys)) (parts_replaced y ∷ fresh_after (ts ++ t ∷ []) (map parts_replaced ys))) (parts_text y)
-          ∙ by (has_text (part_text y) ts) (fresh_parts ts ys) (fresh_parts (ts ++ part_text y ∷ []) ys)
-        where
-          by : (b : Bool) → fresh_after ts (map parts_replaced ys) ≡ map parts_replaced (fresh_after ts ys) →
-              fresh_after (ts ++ part_text y ∷ []) (map parts_replaced ys) ≡ map parts_replaced (fresh_after (ts ++ part_text y ∷ []) ys) →
-              cond b (fresh_after ts (map parts_replaced ys)) (parts_replaced y ∷ fresh_after (ts ++ part_text y ∷ []) (map parts_replaced ys))
-              ≡ map parts_replaced (cond b (fresh_after ts ys) (y ∷ fresh_after (ts ++ part_text y ∷ []) ys))
-          by true e f = e
-          by false e f = ap (λ (zs : List Part). parts_replaced y ∷ zs) f
-
   -- one symbol in three forms
   pub alike_one : (x y z : Part) → x ≡ parts_replaced z → unplaced y ≡ unplaced z → span_of y ≡ span_of z → MeetAlike (x ∷ []) (y ∷ []) (z ∷ [])
   alike_one x y z shown same spans = record {

@@ -85,8 +85,8 @@ repeat_bound s Star sp n k f e =
     ap (λ o. coded s no_parts (codes "alloc::vec![]") ∷ coded s (only_part (with_name s (codes "v") (at s (repeated Plus (at sp (or_name n o)))))) (codes "v") ∷ []) e
 repeat_bound s Plus sp n k f e =
     ap (λ o. coded s (only_part (at sp (or_name n o))) (codes "alloc::vec![<>]")
-        ∷ coded s (part_and (with_name s (codes "v") (at s (repeated Plus (at sp (or_name n o))))) (only_part (with_name s (codes "e") (at sp (or_name n o)))))
-        (codes "{ let mut v = v; v.push(e); v }") ∷ []) e
+    ∷ coded s (part_and (with_name s (codes "v") (at s (repeated Plus (at sp (or_name n o))))) (only_part (with_name s (codes "e") (at sp (or_name n o)))))
+    (codes "{ let mut v = v; v.push(e); v }") ∷ []) e
 repeat_bound s Question sp n k f e =
     ap (λ o. coded s (only_part (at sp (or_name n o))) (codes "Some(<>)") ∷ coded s no_parts (codes "None") ∷ []) e
 

@@ -60,6 +60,7 @@ fresh_both ts (x ∷ xs) ys = by (has_text (part_text x) ts) (fresh_both ts xs y
   where
     more : List (List ℕ)
     more = ts ++ part_text x ∷ []
+
     by : (b : Bool)
         → fresh_after ts (xs ++ ys) ≡ fresh_after ts xs ++ fresh_after (ts ++ map part_text (fresh_after ts xs)) ys
         → fresh_after more (xs ++ ys) ≡ fresh_after more xs ++ fresh_after (more ++ map part_text (fresh_after more xs)) ys
@@ -90,6 +91,7 @@ waits_both a b c xs ys h k = record {
   where
     ts : List (List ℕ)
     ts = map part_text (seen_in a)
+
     firsts : first_met (seen_in a) xs ++ first_met (seen_in b) ys ≡ first_met (seen_in a) (xs ++ ys)
     firsts =
         ap₂ (λ (ps qs : List Part). ps ++ qs) (first_fresh (seen_in a) xs)

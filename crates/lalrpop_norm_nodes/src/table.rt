@@ -196,7 +196,12 @@ impl Table {
     }
 
     /// Puts the nonterminal of its text in the place of a symbol, which waits for the rule of its node.
-    fn put_waiting(&mut self, number: usize, name: Atom, symbol: &mut Symbol) -> Result<(), NoMemory>
+    fn put_waiting(
+        &mut self,
+        number: usize,
+        name: Atom,
+        symbol: &mut Symbol,
+    ) -> Result<(), NoMemory>
         requires table { IsNodeTable self.old }
         requires text { option_and_then own_text_in (slice_get (wholes_in self.old) number) ≡ Some (part_text (symbol_view symbol.old)) }
         ensures table { OnOk result (IsNodeTable self.new) }
@@ -252,7 +257,12 @@ impl Table {
 
     /// The number of a node that is made into a rule: that of a symbol, the parts of which are replaced. The nonterminal of its text is
     /// put in its place, and a symbol that is new waits for its rule.
-    pub fn enter_made(&mut self, alloc: Global, node: Node, symbol: &mut Symbol) -> NormResult<usize>
+    pub fn enter_made(
+        &mut self,
+        alloc: Global,
+        node: Node,
+        symbol: &mut Symbol,
+    ) -> NormResult<usize>
         requires table { IsNodeTable self.old }
         requires counted { IsCounted self.old }
         requires fits { Fits (wholes_in self.old) node }

@@ -11,8 +11,8 @@ ghost use Rattle.lalrpop_norm_nodes.specs.Tables.{wholes_in, IsNodeTable};
 ghost use Rattle.lalrpop_norm_nodes.specs.Wholes.{kind_at};
 ghost use Rattle.lalrpop_norm_macro_expand_rules.specs.Conditions.{called_faults, instance_faults};
 ghost use Rattle.lalrpop_norm_macro_expand_rules.specs.Macros.{macros_in, AreByName};
-ghost use Rattle.lalrpop_norm_macro_expand_rules.specs.Pending.{open_rule, pending_view, IsReadable, AreReadable};
-ghost use Rattle.lalrpop_norm_macro_expand_rules.specs.declared.pending.Pending.TheVariants.{Open};
+ghost use Rattle.lalrpop_norm_macro_expand_rules.specs.Pending.{unread_rule, pending_view, IsReadable, AreReadable};
+ghost use Rattle.lalrpop_norm_macro_expand_rules.specs.declared.pending.Pending.TheVariants.{Unread};
 ghost use Rattle.lalrpop_norm_macro_expand.specs.Expansion.{unmade};
 ghost use Rattle.lalrpop_norm_macro_expand.specs.Making.{instance_shape, call_pending, repeat_pending, pending_of, pending_for};
 
@@ -21,7 +21,7 @@ use super::repeats::{hole_name, repeat_rule};
 use lalrpop_norm_faults::{FaultKind, NormResult, refusal};
 use lalrpop_norm_macro_expand_rules::groups::{group_rule, location_rule};
 use lalrpop_norm_macro_expand_rules::macros::Macros;
-use lalrpop_norm_macro_expand_rules::pending::{OpenRule, Pending};
+use lalrpop_norm_macro_expand_rules::pending::{Pending, UnreadRule};
 use lalrpop_norm_macro_expand_rules::rules::Head;
 use lalrpop_norm_nodes::given::Given;
 use lalrpop_norm_nodes::parts::{given_by_call, repeated_number};
@@ -61,12 +61,12 @@ fn repeat_of(
     number: usize,
     head: Head,
     repeat: &mut RepeatSymbol,
-) -> Result<OpenRule, NoMemory>
+) -> Result<UnreadRule, NoMemory>
     requires table { IsNodeTable table.now }
     requires shallow { IsShallow (wholes_in table.now) number (repeated repeat.old.op (symbol_view repeat.old.symbol)) }
-    ensures pending { IfOk result (λ o. pending_view (wholes_in table.now) (Open o)
+    ensures pending { IfOk result (λ o. pending_view (wholes_in table.now) (Unread o)
         ≡ repeat_pending head.name head.span repeat.old.op (repeated_kind (kind_at (wholes_in table.now) number)) (symbol_view repeat.old.symbol)) }
-    ensures readable { IfOk result (λ o. IsReadable (wholes_in table.now) (Open o)) }
+    ensures readable { IfOk result (λ o. IsReadable (wholes_in table.now) (Unread o)) }
 {
     let number = repeated_number(table, number);
     let nothing = Symbol::new(head.span, SymbolKind::Error);
@@ -74,7 +74,7 @@ fn repeat_of(
     let rule = repeat_rule(alloc, head, repeat.op, &symbol)?;
     let names = vec![in alloc; hole_name(alloc)?]?;
     let given = vec![in alloc; Given { number, symbol }]?;
-    Ok(OpenRule { rule, names, given })
+    Ok(UnreadRule { rule, names, given })
 }
 
 /// The rule of a call of a macro with these arguments.
@@ -87,20 +87,20 @@ fn instance_of(
     head: Head,
     definition: &NonterminalData,
     arguments: Vec<Symbol>,
-) -> NormResult<OpenRule>
+) -> NormResult<UnreadRule>
     requires table { IsNodeTable table.now }
     requires shallow { IsShallow (wholes_in table.now) number (call definition.now.name.0 (parts_view arguments.items)) }
     ensures refuses { Refuses result (instance_faults (rule_view definition.now) (parts_view arguments.items)) }
-    ensures pending { IfOk result (λ o. pending_view (wholes_in table.now) (Open o)
-        ≡ open_rule (instance_shape head.name head.span (rule_view definition.now) (parts_view arguments.items))
+    ensures pending { IfOk result (λ o. pending_view (wholes_in table.now) (Unread o)
+        ≡ unread_rule (instance_shape head.name head.span (rule_view definition.now) (parts_view arguments.items))
         (argument_kind definition.now.args.items (call_parts (kind_at (wholes_in table.now) number)))
         (argument_kind definition.now.args.items (parts_view arguments.items))) }
-    ensures readable { IfOk result (λ o. IsReadable (wholes_in table.now) (Open o)) }
+    ensures readable { IfOk result (λ o. IsReadable (wholes_in table.now) (Unread o)) }
 {
     let rule = instance_rule(alloc, head, definition, &arguments)?;
     let given = given_by_call(alloc, table, number, arguments)?;
     let names = definition.args.clone()?;
-    Ok(OpenRule { rule, names, given })
+    Ok(UnreadRule { rule, names, given })
 }
 
 /// The rule of a macro call, if there is a macro of that name; it takes the arguments.
@@ -123,8 +123,8 @@ fn called_of(
     match macros.find(&instance.name) {
         Some(definition) => {
             let arguments = mem::replace(&mut instance.args, Vec::new(alloc));
-            let open = instance_of(alloc, table, number, head, definition, arguments)?;
-            Ok(Some(Pending::Open(open)))
+            let unread = instance_of(alloc, table, number, head, definition, arguments)?;
+            Ok(Some(Pending::Unread(unread)))
         }
         None => Ok(None),
     }
@@ -155,8 +155,8 @@ fn rule_of(
         SymbolKind::Expr(expr) => Ok(Some(Pending::Finished(group_of(alloc, head, expr)?))),
         SymbolKind::Macro(instance) => called_of(alloc, macros, table, number, head, instance),
         SymbolKind::Repeat(repeat) => {
-            let open = repeat_of(alloc, table, number, head, repeat)?;
-            Ok(Some(Pending::Open(open)))
+            let unread = repeat_of(alloc, table, number, head, repeat)?;
+            Ok(Some(Pending::Unread(unread)))
         }
         SymbolKind::Lookahead => {
             let rule = location_rule(alloc, head, ActionKind::Lookahead)?;

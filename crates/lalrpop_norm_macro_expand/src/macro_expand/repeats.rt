@@ -59,11 +59,7 @@ fn repeated(alloc: Global, span: Span, op: RepeatOp, symbol: &Symbol) -> Result<
 
 // ---- rules
 
-fn star_alternatives(
-    alloc: Global,
-    span: Span,
-    over: &Symbol,
-) -> Result<Vec<Alternative>, NoMemory>
+fn star_alternatives(alloc: Global, span: Span, over: &Symbol) -> Result<Vec<Alternative>, NoMemory>
     ensures { IfOk result (λ v. map alternative_view v.items ≡ (star_rule span (symbol_view over.now)).alternatives) }
 {
     let plus = repeated(alloc, span, RepeatOp::Plus, over)?;
@@ -86,13 +82,7 @@ fn star_rule(
     let of_vector = holding(alloc, Path::vec(alloc)?, inner)?;
     let alternatives = star_alternatives(alloc, head.span, over)?;
     let inline = inline_at(alloc, head.span)?;
-    Ok(private_rule(
-        alloc,
-        head,
-        inline,
-        Some(of_vector),
-        alternatives,
-    ))
+    Ok(private_rule(alloc, head, inline, Some(of_vector), alternatives))
 }
 
 /// `X`, in a row of its own.
@@ -114,11 +104,7 @@ fn one_more(alloc: Global, span: Span, over: &Symbol) -> Result<Vec<Symbol>, NoM
     Ok(vec![in alloc; before, last]?)
 }
 
-fn plus_alternatives(
-    alloc: Global,
-    span: Span,
-    over: &Symbol,
-) -> Result<Vec<Alternative>, NoMemory>
+fn plus_alternatives(alloc: Global, span: Span, over: &Symbol) -> Result<Vec<Alternative>, NoMemory>
     ensures { IfOk result (λ v. map alternative_view v.items ≡ (plus_rule span (symbol_view over.now)).alternatives) }
 {
     let first = alone(alloc, over)?;
@@ -140,13 +126,7 @@ fn plus_rule(
 {
     let of_vector = holding(alloc, Path::vec(alloc)?, inner)?;
     let alternatives = plus_alternatives(alloc, head.span, over)?;
-    Ok(private_rule(
-        alloc,
-        head,
-        Vec::new(alloc),
-        Some(of_vector),
-        alternatives,
-    ))
+    Ok(private_rule(alloc, head, Vec::new(alloc), Some(of_vector), alternatives))
 }
 
 fn question_alternatives(
@@ -175,13 +155,7 @@ fn question_rule(
     let of_option = holding(alloc, Path::option(alloc)?, inner)?;
     let alternatives = question_alternatives(alloc, head.span, over)?;
     let inline = inline_at(alloc, head.span)?;
-    Ok(private_rule(
-        alloc,
-        head,
-        inline,
-        Some(of_option),
-        alternatives,
-    ))
+    Ok(private_rule(alloc, head, inline, Some(of_option), alternatives))
 }
 
 /// The rule of a repeat of a symbol, in which a name stands for that symbol.

@@ -246,8 +246,8 @@ read_symbol-returns-clause-waits t c =
     let s = c.args.symbol.now in
     on_ok_more c.enter_symbol.result _ _
     (λ g. read_waits c.args.table.now c.node_of.new.table c.enter_symbol.new.table c.args.environment.now s c.in_ok-node.ensures.waits
-        (subst (λ (p : Part). LeavesWaiting c.node_of.new.table c.enter_symbol.new.table (met_itself p))
-            (symbol_seen s.span c.node_of.new.kind ∙ ap (at s.span) c.in_ok-node.ensures.value) g))
+    (subst (λ (p : Part). LeavesWaiting c.node_of.new.table c.enter_symbol.new.table (met_itself p))
+    (symbol_seen s.span c.node_of.new.kind ∙ ap (at s.span) c.in_ok-node.ensures.value) g))
     c.enter_symbol.ensures.waits
 
 pub node_of-returns-in_ok-row-in-Tuple-clause-waits : goal.node_of-returns-in_ok-row-in-Tuple-clause-waits

@@ -26,7 +26,7 @@ returns-clause-meets c =
     let w = c.in_ok-put_waiting.ensures in
     meets_waiting c.args.self.now c.put_made.new.self c.put_waiting.new.self _
     (made_meets c.args.self.now c.free_text.new.self c.put_made.new.self c.args.node (part_text (symbol_view c.args.symbol.now)) c.args.symbol.now.span
-        c.requires.table c.requires.fits c.requires.new c.requires.made (free_none _ _ _ f.refuses) f.nodes f.names p.names p.table p.seen p.grows)
+    c.requires.table c.requires.fits c.requires.new c.requires.made (free_none _ _ _ f.refuses) f.nodes f.names p.names p.table p.seen p.grows)
     w.table w.nodes w.names
 
 pub returns-clause-waits : goal.returns-clause-waits
