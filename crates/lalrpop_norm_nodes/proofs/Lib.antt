@@ -14,6 +14,8 @@ pub mod RowLemmas
 pub mod RowReads
 pub mod ShallowConditions
 pub mod ShallowKinds
+pub mod ShallowMeetings
+pub mod ShallowReadings
 pub mod ShallowRounds
 pub mod ShallowRules
 pub mod TableLemmas

@@ -21,7 +21,7 @@ use Rattle.lalrpop_norm_macro_expand_met.proofs.IndexLemmas.{first_more, first_a
 use Rattle.lalrpop_norm_nodes.specs.Waits.{parts_replaced, first_met}
 use Rattle.lalrpop_norm_nodes.proofs.FirstMet.{has_text, fresh_after, text_is_seen, after_fresh, first_fresh}
 use Rattle.lalrpop_norm_nodes.proofs.MeetLemmas.{text_unplaced, first_bare, after_same, clash_same, were_left, were_right}
-use Rattle.lalrpop_norm_nodes.proofs.ShallowMeetings.{Keeps, HaveTexts, MeetAlike, alike_none, alike_both}
+use Rattle.lalrpop_norm_nodes.proofs.ShallowMeetings.{HaveTexts, MeetAlike}
 
 -- ---- symbols that are seen, with their spans and without
 
@@ -51,22 +51,6 @@ module _ (names : List ℕ → Bool) (seen start shown whole deep : List Part) (
       ∙ ap (λ (ts : List (List ℕ)). fresh_after ts shown) (same_bare_texts seen start same)
       ∙ alike.waits (map part_text start) (seen_has_text names start)
       ∙ ap (map parts_replaced) (sym (first_fresh start deep))
-
--- ---- lists of lists
-
-abbrev pub Pairwise : {A B : Type 0} → (A → B → Type 0) → List A → List B → Type 0
-Pairwise R [] [] = Unit
-Pairwise R [] (y ∷ ys) = ⊥
-Pairwise R (x ∷ xs) [] = ⊥
-Pairwise R (x ∷ xs) (y ∷ ys) = R x y × Pairwise R xs ys
-
-pub each_alike : {A B : Type 0} (names : List ℕ → Bool) (start : List Part) (shown whole : A → List Part) (deep : B → List Part) (qs : List A) (ps : List B) →
-    Pairwise (λ q p. MeetAlike names start (shown q) (whole q) (deep p)) qs ps → MeetAlike names start (flat_map shown qs) (flat_map whole qs) (flat_map deep ps)
-each_alike names start shown whole deep [] [] h = alike_none names start
-each_alike names start shown whole deep [] (p ∷ ps) h = absurd h
-each_alike names start shown whole deep (q ∷ qs) [] h = absurd h
-each_alike names start shown whole deep (q ∷ qs) (p ∷ ps) h =
-    alike_both names start (shown q) (whole q) (deep p) _ _ _ h.0 (each_alike names start shown whole deep qs ps h.1)
 
 -- ---- where all of these were met, so was what each meets
 

@@ -1,5 +1,5 @@
 -- What a table of nodes has met, and what is met in it.
-use Rattle.std.specs.Prelude.{◌≡◌, ⊤, ℕ, Bool, true, List, [], map, length, Option, None, is_some, option_and_then, slice_get, flat_map, nat_eq}
+use Rattle.std.specs.Prelude.{◌≡◌, ⊤, ℕ, Bool, true, List, [], map, length, Option, Some, None, is_some, option_and_then, slice_get, flat_map, nat_eq}
 use Rattle.std.specs.Cmp.Lexicographic.{pointwise}
 use Rattle.std.specs.HashMap.{get}
 use Rattle.lalrpop_norm_tree_names.specs.declared.names.Span.{Span}
