@@ -1,8 +1,10 @@
 pub mod EnterLemmas
+pub mod FirstMet
 pub mod GivenLemmas
 pub mod InPlace
 pub mod InsideReads
 pub mod MeetLemmas
+pub mod NodePartLemmas
 pub mod NodeTests
 pub mod NumberLemmas
 pub mod ReadLemmas
@@ -11,5 +13,6 @@ pub mod RowLemmas
 pub mod RowReads
 pub mod TableLemmas
 pub mod WaitLemmas
+pub mod WaitNumbers
 pub mod WaitReads
 pub mod WholeLemmas

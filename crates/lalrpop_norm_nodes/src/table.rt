@@ -1,12 +1,12 @@
 //! The nodes of the symbols that were met, and their texts.
-ghost use Rattle.std.specs.Prelude.{◌≡◌, ◌+◌, ◌++◌, ◌∷◌, ◌||◌, [], false, None, Some, IfOk, OnOk, is_some, length, option_map, option_and_then, slice_get};
+ghost use Rattle.std.specs.Prelude.{◌≡◌, ◌+◌, ◌++◌, ◌∷◌, ◌||◌, [], false, None, Some, IfOk, OnOk, is_some, length, map, option_map, option_and_then, slice_get};
 ghost use Rattle.lalrpop_norm_tree.specs.Symbols.{at, nonterminal, symbol_view};
 ghost use Rattle.lalrpop_norm_tree.specs.SymbolTexts.{part_text};
 ghost use Rattle.lalrpop_norm_faults.specs.Faults.{Refuses, IsFirst, fault_if};
 ghost use Rattle.lalrpop_norm_faults.specs.declared.kind.FaultKind.TheVariants.{SharedName};
 ghost use Rattle.lalrpop_norm_macro_expand_met.specs.Meeting.{first_with_text};
-ghost use Rattle.lalrpop_norm_nodes.specs.Wholes.{Fits, built, StandsFor, IsNew, Grows};
-ghost use Rattle.lalrpop_norm_nodes.specs.Tables.{wholes_in, seen_in, own_at, own_in, own_text_in, is_declared_in, IsNodeTable, IsCounted, TableMeets, refused_in, waiting_in, AreNumbered};
+ghost use Rattle.lalrpop_norm_nodes.specs.Wholes.{Fits, built, part_at, StandsFor, IsNew, Grows, nodes_of};
+ghost use Rattle.lalrpop_norm_nodes.specs.Tables.{wholes_in, seen_in, own_at, own_in, own_text_in, is_declared_in, IsNodeTable, IsCounted, TableMeets, refused_in, waiting_in, numbered_in, AreNumbered};
 ghost use Rattle.lalrpop_norm_nodes.specs.Waits.{LeavesWaiting};
 
 use crate::hashing::NodeHashBuilder;
@@ -62,6 +62,7 @@ impl Table {
         ensures counted { IsCounted result }
         ensures seen { seen_in result ≡ [] }
         ensures waiting { waiting_in result ≡ [] }
+        ensures numbers { numbered_in result ≡ [] }
         ensures names { result.names ≡ names }
     {
         Table {
@@ -87,6 +88,16 @@ impl Table {
         ensures { result ≡ (is_declared_in self.now name.now || is_some (first_with_text name.now (seen_in self.now))) }
     {
         self.names.contains(name) || self.places.contains_key(name)
+    }
+
+    /// The node of a number.
+    pub(crate) fn node(&self, number: usize) -> Option<&Node>
+        ensures { option_map (λ n. n.now) result ≡ slice_get (nodes_of self.now.nodes) number }
+    {
+        match self.nodes.rows.get_index(number) {
+            Some((node, _)) => Some(node),
+            None => None,
+        }
     }
 
     /// The text of a node, if it is made into a rule.
@@ -186,7 +197,12 @@ impl Table {
     }
 
     /// Puts the nonterminal of its text in the place of a symbol, which waits for the rule of its node.
-    fn put_waiting(&mut self, number: usize, name: Atom, symbol: &mut Symbol) -> Result<(), NoMemory>
+    fn put_waiting(
+        &mut self,
+        number: usize,
+        name: Atom,
+        symbol: &mut Symbol,
+    ) -> Result<(), NoMemory>
         requires table { IsNodeTable self.old }
         requires text { option_and_then own_text_in (slice_get (wholes_in self.old) number) ≡ Some (part_text (symbol_view symbol.old)) }
         ensures table { OnOk result (IsNodeTable self.new) }
@@ -194,6 +210,7 @@ impl Table {
         ensures nodes { OnOk result (self.new.nodes ≡ self.old.nodes) }
         ensures counted { OnOk result (self.new.made ≡ self.old.made) }
         ensures waiting { OnOk result (waiting_in self.new ≡ waiting_in self.old ++ symbol_view symbol.old ∷ []) }
+        ensures numbers { OnOk result (numbered_in self.new ≡ numbered_in self.old ++ part_at (wholes_in self.old) number ∷ []) }
         ensures value { OnOk result (symbol_view symbol.new ≡ at symbol.old.span (nonterminal name)) }
     {
         let named = Symbol {
@@ -209,7 +226,9 @@ impl Table {
     pub fn take_waiting(&mut self, alloc: Global) -> Vec<Waiting>
         requires { IsNodeTable self.old }
         ensures waiting { result ≡ self.old.waiting }
+        ensures numbers { map (λ w. part_at (wholes_in self.new) w.number) result.items ≡ numbered_in self.old }
         ensures none { waiting_in self.new ≡ [] }
+        ensures none_numbered { numbered_in self.new ≡ [] }
         ensures nodes { self.new.nodes ≡ self.old.nodes }
         ensures names { self.new.names ≡ self.old.names }
         ensures counted { self.new.made ≡ self.old.made }
@@ -242,7 +261,12 @@ impl Table {
 
     /// The number of a node that is made into a rule: that of a symbol, the parts of which are replaced. The nonterminal of its text is
     /// put in its place, and a symbol that is new waits for its rule.
-    pub fn enter_made(&mut self, alloc: Global, node: Node, symbol: &mut Symbol) -> NormResult<usize>
+    pub fn enter_made(
+        &mut self,
+        alloc: Global,
+        node: Node,
+        symbol: &mut Symbol,
+    ) -> NormResult<usize>
         requires table { IsNodeTable self.old }
         requires counted { IsCounted self.old }
         requires fits { Fits (wholes_in self.old) node }

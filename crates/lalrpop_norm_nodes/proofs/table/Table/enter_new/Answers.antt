@@ -26,7 +26,7 @@ returns-clause-meets c =
     let w = c.in_ok-put_waiting.ensures in
     meets_waiting c.args.self.now c.put_made.new.self c.put_waiting.new.self _
     (made_meets c.args.self.now c.free_text.new.self c.put_made.new.self c.args.node (part_text (symbol_view c.args.symbol.now)) c.args.symbol.now.span
-        c.requires.table c.requires.fits c.requires.new c.requires.made (free_none _ _ _ f.refuses) f.nodes f.names p.names p.table p.seen p.grows)
+    c.requires.table c.requires.fits c.requires.new c.requires.made (free_none _ _ _ f.refuses) f.nodes f.names p.names p.table p.seen p.grows)
     w.table w.nodes w.names
 
 pub returns-clause-waits : goal.returns-clause-waits
@@ -34,5 +34,5 @@ returns-clause-waits c =
     let f = c.in_ok-name.ensures in
     let p = c.in_ok-number.ensures in
     let w = c.in_ok-put_waiting.ensures in
-    made_waits c.args.self.now c.free_text.new.self c.put_made.new.self c.put_waiting.new.self c.args.node (symbol_view c.args.symbol.now)
-    c.requires.made (free_none _ _ _ f.refuses) f.nodes f.waiting p.seen p.waiting w.nodes w.waiting
+    made_waits c.args.self.now c.free_text.new.self c.put_made.new.self c.put_waiting.new.self c.args.node (symbol_view c.args.symbol.now) c.in_ok-number.number
+    c.requires.table c.requires.made (free_none _ _ _ f.refuses) f.nodes f.waiting p.seen p.waiting p.grows p.number w.nodes w.waiting w.numbers
