@@ -140,8 +140,8 @@ pub fn expand_macros(alloc: Global, grammar: Grammar, limit: u16) -> NormResult<
     ensures whole { IfOk result (λ made. IsEnded comparison (resolved_grammar (grammar_view grammar)) limit) }
     ensures plain { IfOk result (λ made. grammar_view made ≡ plain_grammar comparison (resolved_grammar (grammar_view grammar)) limit) }
 {
-    let resolved = resolve(alloc, grammar)?;
-    expand_resolved(alloc, resolved, limit)
+    let (made, _counts) = expand_macros_counted(alloc, grammar, limit)?;
+    Ok(made)
 }
 
 /// Expands as `expand_macros` does, and counts: how many rules were added, how many rounds were read, and how many texts of symbols
