@@ -1,4 +1,4 @@
-use Rattle.std.proofs.Common.{◌<◌, map, length, get_or, arith}
+use Rattle.std.proofs.Common.{rules, ◌<◌, map, length, get_or, arith}
 use Rattle.std.proofs.lemmas.List.{length-map, get_or_default}
 use Rattle.lalrpop_norm_tree.specs.Items.{item_view}
 use Rattle.lalrpop_norm_nodes.proofs.InPlace.{still, partly_more, partly_met, partly_quiet, partly_exit}
