@@ -12,7 +12,7 @@ use Rattle.lalrpop_norm_nodes.proofs.MeetLemmas.{grows_both, meets_both, refused
 use Rattle.lalrpop_norm_nodes.proofs.WaitLemmas.{waits_both, waits_nothing}
 use Rattle.lalrpop_norm_macro_expand_rules.specs.declared.pending.Pending.{Pending}
 use Rattle.lalrpop_norm_macro_expand_rules.specs.Pending.{PendingData, met_in_pending, shown_in_pending, pending_read, pending_view, IsReadable, AreReadable}
-use Rattle.lalrpop_norm_macro_expand_rules.proofs.PendingLemmas.{view_stays}
+use Rattle.lalrpop_norm_macro_expand_rules.proofs.PendingLemmas.{view_stays, readable_stays}
 use Rattle.lalrpop_norm_macro_expand_rules.proofs.pending.read_pending.Goals as goal
 
 no_items : {A : Type 0} (xs : List A) → length xs ≡ 0 → xs ≡ []
@@ -32,6 +32,16 @@ loop-rule-init c =
       waits = rw whole (λ d h. h);
       value = rw whole refl;
     }
+
+pub read_one-requires-clause-readable : goal.read_one-requires-clause-readable
+read_one-requires-clause-readable c =
+    let a = c.args.table.now in
+    let v = c.loop-rule.invariant in
+    let p : Pending = c.in-Some.rule in
+    let rest : List Pending = c.next.new.self.rest.items in
+    let split : c.loop-rule.rule-iterator.rest.items ≡ p ∷ rest = c.in-Some.ensures.steps.0 in
+    let ready : IsReadable (wholes_in a) p × AreReadable (wholes_in a) rest = rw split at v.readable in
+    readable_stays (wholes_in a) (wholes_in c.loop-rule.table) p v.grows ready.0
 
 pub returns-in_err-read_one-clause-refuses : goal.returns-in_err-read_one-clause-refuses
 returns-in_err-read_one-clause-refuses c =
