@@ -1,5 +1,5 @@
 -- A symbol that is entered: it stands already, or it is new.
-use Rattle.std.proofs.Common.{◌≡◌, ℕ, Bool, true, false, List, [], ◌∷◌, ◌++◌, map, Option, Some, None, Result, is_some, refl, sym, ap, ◌∙◌, subst, append-nil}
+use Rattle.std.proofs.Common.{◌≡◌, ℕ, Bool, true, false, List, [], ◌∷◌, ◌++◌, map, Option, Some, None, Result, is_some, refl, sym, ap, ap₂, ◌∙◌, subst, append-nil, Vec, Global, slice_get, option_and_then}
 use Rattle.std.specs.Prelude.{not, ◌||◌}
 use Rattle.std.specs.List.{flat_map}
 use Rattle.std.proofs.lemmas.Bool.{and_parts, and_from}
@@ -10,19 +10,25 @@ use Rattle.lalrpop_norm_faults.specs.Faults.{Fault, fault_if, IsFirst, Refuses}
 use Rattle.lalrpop_norm_macro_expand_met.proofs.MeetingLemmas.{err_refuses}
 use Rattle.lalrpop_norm_faults.specs.declared.kind.FaultKind.TheVariants.{SharedName}
 use Rattle.lalrpop_norm_tree_names.specs.declared.names.Span.{Span}
-use Rattle.lalrpop_norm_tree.specs.Symbols.{Kind, Part, at}
+use Rattle.lalrpop_norm_tree.specs.Symbols.{Kind, Part, at, symbol_view}
 use Rattle.lalrpop_norm_model.specs.PlainRules.{same_apart_from_spans}
 use Rattle.lalrpop_norm_macro_expand_met.specs.Apart.{nowhere, unplaced_kind, unplaced}
 use Rattle.lalrpop_norm_macro_expand_met.specs.Meeting.{first_with_text, joined_by, after, differs, were_met}
 use Rattle.lalrpop_norm_macro_expand_met.proofs.ApartLemmas.{unplaced_same}
 use Rattle.lalrpop_norm_macro_expand_met.proofs.InwardLemmas.{quiet, same_met}
 use Rattle.lalrpop_norm_nodes.specs.declared.node.Node.{Node}
-use Rattle.lalrpop_norm_nodes.specs.Wholes.{Whole, one_symbol, built, Fits, StandsFor, IsNew, Grows, wholes}
+use Rattle.lalrpop_norm_nodes.specs.Wholes.{Whole, one_symbol, as_kind, part_at, built, Fits, StandsFor, IsNew, Grows, wholes}
 use Rattle.lalrpop_norm_nodes.specs.declared.node.Nodes.{Nodes}
 use Rattle.lalrpop_norm_nodes.specs.declared.table.Table.{Table}
 use Rattle.lalrpop_norm_nodes.specs.Tables.{wholes_in, own_at, own_in, own_text_in, inner_of, IsBare, IsNodeTable, TableMeets, seen_in, is_declared_in, refused_in}
 use Rattle.lalrpop_norm_nodes.proofs.MeetLemmas.{were_right}
 use Rattle.lalrpop_norm_nodes.proofs.WholeLemmas.{met_split, bare_built, Made, one_made, Standing, seen_stands}
+use Rattle.lalrpop_norm_nodes.specs.declared.table.Waiting.{Waiting}
+use Rattle.lalrpop_norm_nodes.specs.Tables.{waiting_in, numbered_in}
+use Rattle.lalrpop_norm_nodes.specs.Waits.{LeavesWaiting}
+use Rattle.lalrpop_norm_nodes.proofs.WaitLemmas.{waits_seen, waits_new}
+use Rattle.lalrpop_norm_nodes.proofs.WaitNumbers.{numbers_stay}
+use Rattle.lalrpop_norm_tree.specs.SymbolTexts.{part_text, kind_text}
 
 -- ---- a symbol that stands already
 
@@ -117,3 +123,65 @@ made_meets a b d n x s h fit new some first nodes names more table seen grows = 
 
 pub err_same : {T : Type 0} (r : Result T NormFailure) (e : NormFailure) (fs gs : List Fault) → gs ≡ fs → IsErrAnd r (λ x. x ≡ e) → IsFirst fs e → Refuses r gs
 err_same r e fs gs same from h = err_refuses r e gs from (subst (λ (hs : List Fault). IsFirst hs e) (sym same) h)
+
+-- ---- and waits
+
+pub meets_waiting : (a b d : Table) (xs : List Part) → TableMeets a b xs → IsNodeTable d → d.nodes ≡ b.nodes → d.names ≡ b.names → TableMeets a d xs
+meets_waiting a b d xs h table nodes names = record {
+  seen = ap (λ (ns : Nodes). map unplaced (flat_map own_in (wholes ns))) nodes ∙ h.seen;
+  names = names ∙ h.names;
+  grows = subst (λ (ns : Nodes). Grows (wholes_in a) (wholes ns)) (sym nodes) h.grows;
+  table = table;
+}
+
+-- the number of a node that is made into a rule has its text
+pub numbered_by : (a f : Table) (ws : List Whole) (i : ℕ) (n : Node) (t : List ℕ) → f.nodes ≡ a.nodes → StandsFor ws i (built (wholes_in f) n) →
+    own_text_in (built (wholes_in a) n) ≡ Some t → option_and_then own_text_in (slice_get ws i) ≡ Some t
+numbered_by a f ws i n t nodes stands some =
+    ap (option_and_then own_text_in) stands ∙ ap (λ (ns : Nodes). own_text_in (built (wholes ns) n)) nodes ∙ some
+
+-- the first symbol of the text of one that stands
+seen_first : (t : Table) (w : Whole) (i : ℕ) (x : List ℕ) → IsNodeTable t → StandsFor (wholes_in t) i w → own_text_in w ≡ Some x →
+    (y : Part) × (first_with_text x (seen_in t) ≡ Some y)
+seen_first t w i x h e some =
+    let m = one_made w x some in
+    let all : were_met (is_declared_in t) (seen_in t) (inner_of w ++ own_in w) ≡ true =
+    ap (were_met (is_declared_in t) (seen_in t)) (sym (met_split w)) ∙ h.met i w e in
+    let own_met : were_met (is_declared_in t) (seen_in t) (own_in w) ≡ true = were_right (is_declared_in t) (seen_in t) (inner_of w) (own_in w) all in
+    let bare : were_met (is_declared_in t) (seen_in t) (at nowhere m.kind ∷ []) ≡ true = ap (were_met (is_declared_in t) (seen_in t)) (sym (m.at_place nowhere)) ∙ own_met in
+    let here : is_some (first_with_text (kind_text m.kind) (seen_in t)) ≡ true = (and_parts _ _ (and_parts _ _ bare).0).0 in
+    some_of (first_with_text x (seen_in t)) (ap (λ (u : List ℕ). is_some (first_with_text u (seen_in t))) m.text ∙ here)
+  where
+    some_of : (o : Option Part) → is_some o ≡ true → (y : Part) × (o ≡ Some y)
+    some_of None f = absurd (cc f)
+    some_of (Some y) f = (y, refl)
+
+pub stands_waits : (t : Table) (w : Whole) (i : ℕ) (p : Part) → IsNodeTable t → StandsFor (wholes_in t) i w → own_text_in w ≡ Some (part_text p) → LeavesWaiting t t (p ∷ [])
+stands_waits t w i p h e some = let y = seen_first t w i (part_text p) h e some in waits_seen t p y.0 y.1
+
+-- where a node was put of a text that is new, and its symbol waits
+pub made_waits : (a f b d : Table) (n : Node) (p : Part) (i : ℕ) → IsNodeTable a → own_text_in (built (wholes_in a) n) ≡ Some (part_text p) →
+    first_with_text (part_text p) (seen_in a) ≡ None → f.nodes ≡ a.nodes → f.waiting ≡ a.waiting →
+    seen_in b ≡ seen_in f ++ own_in (built (wholes_in f) n) → b.waiting ≡ f.waiting → Grows (wholes_in f) (wholes_in b) → StandsFor (wholes_in b) i (built (wholes_in f) n) →
+    d.nodes ≡ b.nodes → waiting_in d ≡ waiting_in b ++ p ∷ [] → numbered_in d ≡ numbered_in b ++ part_at (wholes_in b) i ∷ [] → LeavesWaiting a d (p ∷ [])
+made_waits a f b d n p i table some first nodes same seen kept grows stands more waiting numbered =
+    waits_new a d p (at nowhere m.kind) first
+    (waiting ∙ ap (λ (v : Vec Waiting Global). map (λ (w : Waiting). symbol_view w.symbol) v.items ++ p ∷ []) (kept ∙ same))
+    (ap (λ (ns : Nodes). flat_map own_in (wholes ns)) more ∙ seen
+    ∙ ap (λ (ns : Nodes). flat_map own_in (wholes ns) ++ own_in (built (wholes ns) n)) nodes
+    ∙ ap (λ (xs : List Part). seen_in a ++ xs) (m.at_place nowhere))
+    (numbered ∙ ap₂ (λ (ps : List Part) (q : Part). ps ++ q ∷ []) stay here)
+    (sym m.text)
+  where
+    m : Made (built (wholes_in a) n) (part_text p)
+    m = one_made (built (wholes_in a) n) (part_text p) some
+
+    stay : numbered_in b ≡ numbered_in a
+    stay =
+        ap (λ (v : Vec Waiting Global). map (λ (w : Waiting). part_at (wholes_in b) w.number) v.items) (kept ∙ same)
+        ∙ numbers_stay (wholes_in a) (wholes_in b) a.waiting.items (subst (λ (ns : Nodes). Grows (wholes ns) (wholes_in b)) nodes grows) table.waiting
+
+    here : part_at (wholes_in b) i ≡ at nowhere m.kind
+    here =
+        ap (λ (o : Option Whole). at nowhere (as_kind o)) stands
+        ∙ ap (λ (v : Whole). at nowhere (as_kind (Some v))) (ap (λ (ns : Nodes). built (wholes ns) n) nodes ∙ m.is)

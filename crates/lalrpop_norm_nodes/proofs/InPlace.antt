@@ -15,7 +15,7 @@ use Rattle.lalrpop_norm_nodes.specs.Tables.{is_declared_in, seen_in, TableMeets,
 use Rattle.lalrpop_norm_nodes.proofs.MeetLemmas.{meets_both, refused_later}
 
 -- the exit by `?` where the first of what is met is refused
-exit_first : {T : Type 0} (a : Table) (xs ys : List Part) (r : Result T NormFailure) (e : NormFailure) →
+pub exit_first : {T : Type 0} (a : Table) (xs ys : List Part) (r : Result T NormFailure) (e : NormFailure) →
     IsErrAnd r (λ x. x ≡ e) → IsFirst (refused_in a xs) e → Refuses r (refused_in a (xs ++ ys))
 exit_first a xs ys r e from first =
     exit_at r e (refused_in a xs) (clash_faults (is_declared_in a) (after (seen_in a) xs) ys) (refused_in a (xs ++ ys)) from first
@@ -56,7 +56,7 @@ partly_more v f cur vs i x y l k e at new =
     ∙ ap (λ ws. ws ++ drop (i + 1) vs) (sym done)
 
 module _ {D : Type 0} (m : D → List Part) (vs : List D) (i : ℕ) (w : D) (l : i < length vs) (e : w ≡ get_or vs i w) where
-  met_more : flat_map m (take (i + 1) vs) ≡ flat_map m (take i vs) ++ m w
+  pub met_more : flat_map m (take (i + 1) vs) ≡ flat_map m (take i vs) ++ m w
   met_more =
       rw (take_more vs i w l, flat_map-append m (take i vs) (get_or vs i w ∷ []), ← e)
       (ap (λ ps. flat_map m (take i vs) ++ ps) (append-nil _))

@@ -1,12 +1,12 @@
 -- A table with one more node.
-use Rattle.std.proofs.Common.{◌≡◌, ℕ, Bool, true, false, cond, List, [], ◌∷◌, ◌++◌, map, length, Option, Some, None, option_map, option_and_then, slice_get, Result, Ok, Err, bytes_eq, nat_eq, is_some, ◌≤◌, arith, refl, sym, ap, ap₂, ◌∙◌, subst, append-nil}
+use Rattle.std.proofs.Common.{◌≡◌, ℕ, Bool, true, false, cond, List, [], ◌∷◌, ◌++◌, map, length, Option, Some, None, option_map, option_and_then, slice_get, Result, Ok, Err, bytes_eq, nat_eq, is_some, ◌≤◌, arith, refl, sym, ap, ap₂, ◌∙◌, subst, append-nil, Vec, Global}
 use Rattle.std.specs.Prelude.{not, ◌||◌, OnOk}
 use Rattle.std.specs.List.{flat_map}
 use Rattle.std.proofs.lemmas.Bool.{and_from}
 use Rattle.std.proofs.lemmas.List.{map-append, length-append, length-map}
 use Rattle.std.proofs.lemmas.Option.{slice_get-map}
-use Rattle.lalrpop_norm_tree.specs.Symbols.{Kind, Part, group, ambiguous_id, terminal, nonterminal, call, repeated, chosen, named, tupled, lookahead, lookbehind, error_terminal, at}
-use Rattle.lalrpop_norm_tree.specs.SymbolTexts.{part_text}
+use Rattle.lalrpop_norm_tree.specs.Symbols.{Kind, Part, group, ambiguous_id, terminal, nonterminal, call, repeated, chosen, named, tupled, lookahead, lookbehind, error_terminal, at, symbol_view}
+use Rattle.lalrpop_norm_tree.specs.SymbolTexts.{part_text, kind_text}
 use Rattle.lalrpop_norm_model.specs.PlainRules.{same_apart_from_spans}
 use Rattle.lalrpop_norm_theory.proofs.BoolLemmas.{both_false}
 use Rattle.lalrpop_norm_macro_expand_met.specs.Apart.{nowhere, unplaced}
@@ -15,12 +15,14 @@ use Rattle.lalrpop_norm_macro_expand_met.proofs.SamenessLemmas.{closed_same}
 use Rattle.lalrpop_norm_macro_expand_met.proofs.InwardLemmas.{met_by, all_stay, were_both}
 use Rattle.lalrpop_norm_macro_expand_met.proofs.IndexLemmas.{first_at}
 use Rattle.lalrpop_norm_nodes.specs.declared.node.Node.{Node}
-use Rattle.lalrpop_norm_nodes.specs.Wholes.{Whole, one_symbol, symbols, one_pattern, patterns, built, Fits, StandsFor, texts_of, AreNodes}
+use Rattle.lalrpop_norm_nodes.specs.Wholes.{Whole, one_symbol, symbols, one_pattern, patterns, built, Fits, StandsFor, texts_of, AreNodes, Grows}
 use Rattle.lalrpop_norm_nodes.specs.declared.table.Table.{Table}
 use Rattle.lalrpop_norm_nodes.specs.Tables.{wholes_in, own_in, own_text_in, met_of, inner_of, IsBare, IsNodeTable, TableMeets, seen_in, is_declared_in, text_noted}
 use Rattle.std.specs.HashMap.{get}
 use Rattle.std.specs.Cmp.Lexicographic.{pointwise}
-use Rattle.lalrpop_norm_nodes.proofs.RowLemmas.{Behind, before, last, slice_behind}
+use Rattle.lalrpop_norm_nodes.specs.declared.table.Waiting.{Waiting}
+use Rattle.lalrpop_norm_nodes.specs.Tables.{IsNumbered}
+use Rattle.lalrpop_norm_nodes.proofs.RowLemmas.{Behind, before, last, slice_behind, slice_kept}
 use Rattle.lalrpop_norm_nodes.proofs.WholeLemmas.{met_split, inner_met, bare_built, seen_more, none_made, Made, one_made}
 
 -- ---- a table with one more node
@@ -44,6 +46,14 @@ noted_more true i g (Some y) h = refl
 noted_more false i g None h = h
 noted_more false i g (Some y) h = h
 
+-- a symbol that waits keeps its number
+numbered_stays : (ws vs : List Whole) (w : Waiting) → Grows ws vs → IsNumbered ws w → IsNumbered vs w
+numbered_stays ws vs w (more, e) h = by (slice_get ws w.number) refl h
+  where
+    by : (o : Option Whole) → slice_get ws w.number ≡ o → option_and_then own_text_in o ≡ Some (part_text (symbol_view w.symbol)) → IsNumbered vs w
+    by None f k = absurd (cc k)
+    by (Some x) f k = ap (λ (us : List Whole). option_and_then own_text_in (slice_get us w.number)) e ∙ ap (option_and_then own_text_in) (slice_kept ws more w.number x f) ∙ k
+
 module _ (a b : Table) (n : Node) (h : IsNodeTable a) (fit : Fits (wholes_in a) n) (nm : b.names ≡ a.names) (nodes : AreNodes b.nodes)
     (ws : wholes_in b ≡ wholes_in a ++ built (wholes_in a) n ∷ []) where
   abbrev added : Whole
@@ -61,12 +71,17 @@ module _ (a b : Table) (n : Node) (h : IsNodeTable a) (fit : Fits (wholes_in a) 
       e ∙ ap₂ (λ (ts : List (Option (List ℕ))) (u : Option (List ℕ)). ts ++ u ∷ []) h.texts (sym k)
       ∙ sym (map-append own_text_in (wholes_in a) (added ∷ [])) ∙ ap (map own_text_in) (sym ws)
 
+  waiting_kept : b.waiting ≡ a.waiting → (i : ℕ) (w : Waiting) → slice_get b.waiting.items i ≡ Some w → IsNumbered (wholes_in b) w
+  waiting_kept same i w e =
+      numbered_stays (wholes_in a) (wholes_in b) w (added ∷ [], ws)
+      (h.waiting i w (ap (λ (v : Vec Waiting Global). slice_get v.items i) (sym same) ∙ e))
+
   seen_is : seen_in b ≡ seen_in a ++ own_in added
   seen_is = ap (flat_map own_in) ws ∙ seen_more (wholes_in a) added
 
   -- made into no rule
-  pub plain_table : b.places ≡ a.places → texts_of b.nodes ≡ texts_of a.nodes ++ None ∷ [] → own_text_in added ≡ None → TableMeets a b []
-  plain_table pl tx plain = record {
+  pub plain_table : b.waiting ≡ a.waiting → b.places ≡ a.places → texts_of b.nodes ≡ texts_of a.nodes ++ None ∷ [] → own_text_in added ≡ None → TableMeets a b []
+  plain_table wt pl tx plain = record {
     seen = ap (map unplaced) same;
     names = nm;
     grows = (added ∷ [], ws);
@@ -76,6 +91,7 @@ module _ (a b : Table) (n : Node) (h : IsNodeTable a) (fit : Fits (wholes_in a) 
       bare = bare_more;
       met = λ i v e. ap₂ (λ (ns : List ℕ → Bool) (ss : List Part). were_met ns ss (met_of v)) (ap has_key nm) same ∙ by i v (slice_behind (wholes_in a) added i v (subst (λ (vs : List Whole). StandsFor vs i v) ws e));
       places = λ x. ap (λ p. is_some (get (pointwise nat_eq) p x)) pl ∙ h.places x ∙ ap (λ (ss : List Part). is_some (first_with_text x ss)) (sym same);
+      waiting = waiting_kept wt;
     };
   }
     where
@@ -90,10 +106,10 @@ module _ (a b : Table) (n : Node) (h : IsNodeTable a) (fit : Fits (wholes_in a) 
           ∙ inner_met (is_declared_in a) (wholes_in a) (seen_in a) h.met n fit
 
   -- made into a rule of that text
-  pub made_table : (t : List ℕ) (i : ℕ) → own_text_in added ≡ Some t → texts_of b.nodes ≡ texts_of a.nodes ++ Some t ∷ [] →
+  pub made_table : b.waiting ≡ a.waiting → (t : List ℕ) (i : ℕ) → own_text_in added ≡ Some t → texts_of b.nodes ≡ texts_of a.nodes ++ Some t ∷ [] →
       first_with_text t (seen_in a) ≡ None → is_declared_in a t ≡ false →
       ((x : List ℕ) → text_noted b x ≡ cond (bytes_eq t x) (Some i) (text_noted a x)) → IsNodeTable b
-  made_table t i some tx first free pl = record {
+  made_table wt t i some tx first free pl = record {
     nodes = nodes;
     texts = texts_more (Some t) tx some;
     bare = bare_more;
@@ -102,6 +118,7 @@ module _ (a b : Table) (n : Node) (h : IsNodeTable a) (fit : Fits (wholes_in a) 
         ap is_some (pl y) ∙ noted_more (bytes_eq t y) i (text_noted a y) (first_with_text y (seen_in a)) (h.places y)
         ∙ ap (λ (u : List ℕ). is_some (first_with_text y (seen_in a)) || bytes_eq u y) m.text
         ∙ sym (ap (λ (ss : List Part). is_some (first_with_text y ss)) seen_now ∙ first_or y (seen_in a) x);
+    waiting = waiting_kept wt;
   }
     where
       m : Made added t
@@ -128,6 +145,37 @@ module _ (a b : Table) (n : Node) (h : IsNodeTable a) (fit : Fits (wholes_in a) 
           ∙ were_both (is_declared_in a) (seen_in a ++ x ∷ []) (inner_of added) (x ∷ [])
           (all_stay (is_declared_in a) (seen_in a) (x ∷ []) (inner_of added) (inner_met (is_declared_in a) (wholes_in a) (seen_in a) h.met n fit))
           (and_from _ _ here refl)
+
+-- ---- a symbol that waits
+
+pub waiting_more : (a : Table) (v : Vec Waiting Global) (w : Waiting) → IsNodeTable a → v.items ≡ a.waiting.items ++ w ∷ [] → IsNumbered (wholes_in a) w →
+    let b : Table = record { names = a.names; nodes = a.nodes; places = a.places; made = a.made; waiting = v } in IsNodeTable b
+waiting_more a v w h more numbered = record {
+  nodes = h.nodes;
+  texts = h.texts;
+  bare = h.bare;
+  met = h.met;
+  places = h.places;
+  waiting = λ i x e. by i x (slice_behind a.waiting.items w i x (ap (λ (xs : List Waiting). slice_get xs i) (sym more) ∙ e));
+}
+  where
+    by : (i : ℕ) (x : Waiting) → Behind a.waiting.items w i x → IsNumbered (wholes_in a) x
+    by i x (before k) = h.waiting i x k
+    by i x (last k l) = subst (λ (y : Waiting). IsNumbered (wholes_in a) y) (sym l) numbered
+
+pub waiting_none : (a : Table) (v : Vec Waiting Global) → IsNodeTable a → v.items ≡ [] →
+    let b : Table = record { names = a.names; nodes = a.nodes; places = a.places; made = a.made; waiting = v } in IsNodeTable b
+waiting_none a v h none = record {
+  nodes = h.nodes;
+  texts = h.texts;
+  bare = h.bare;
+  met = h.met;
+  places = h.places;
+  waiting = λ i w e. absurd (nothing i w (ap (λ (xs : List Waiting). slice_get xs i) (sym none) ∙ e));
+}
+  where
+    nothing : (i : ℕ) (w : Waiting) → slice_get [] i ≡ Some w → ⊥
+    nothing i w e = cc e
 
 -- ---- no more symbols than nodes
 

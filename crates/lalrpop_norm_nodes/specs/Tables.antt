@@ -1,15 +1,17 @@
 -- What a table of nodes has met, and what is met in it.
-use Rattle.std.specs.Prelude.{◌≡◌, ⊤, ℕ, Bool, true, List, [], map, length, Option, None, is_some, flat_map, nat_eq}
+use Rattle.std.specs.Prelude.{◌≡◌, ⊤, ℕ, Bool, true, List, [], map, length, Option, Some, None, is_some, option_and_then, slice_get, flat_map, nat_eq}
 use Rattle.std.specs.Cmp.Lexicographic.{pointwise}
 use Rattle.std.specs.HashMap.{get}
 use Rattle.lalrpop_norm_tree_names.specs.declared.names.Span.{Span}
-use Rattle.lalrpop_norm_tree.specs.Symbols.{Part, at, parts_of}
+use Rattle.lalrpop_norm_tree.specs.Symbols.{Part, at, parts_of, symbol_view}
+use Rattle.lalrpop_norm_tree.specs.SymbolTexts.{part_text}
 use Rattle.lalrpop_norm_faults.specs.Faults.{Fault}
 use Rattle.lalrpop_norm_model.specs.PlainRules.{met, all_met}
 use Rattle.lalrpop_norm_macro_expand_met.specs.Apart.{nowhere, unplaced_kind, unplaced}
 use Rattle.lalrpop_norm_macro_expand_met.specs.Meeting.{met_inside, own, own_text, first_with_text, after, clash_faults, were_met, has_key}
 use Rattle.lalrpop_norm_nodes.specs.declared.table.Table.{Table}
-use Rattle.lalrpop_norm_nodes.specs.Wholes.{Whole, one_symbol, symbols, one_pattern, patterns, wholes, texts_of, AreNodes, StandsFor, Grows}
+use Rattle.lalrpop_norm_nodes.specs.declared.table.Waiting.{Waiting}
+use Rattle.lalrpop_norm_nodes.specs.Wholes.{Whole, one_symbol, symbols, one_pattern, patterns, part_at, wholes, texts_of, AreNodes, StandsFor, Grows}
 
 -- what the numbers of a table stand for
 abbrev pub wholes_in : Table → List Whole
@@ -63,14 +65,30 @@ inner_of (symbols ps) = all_met (parts_of ps)
 inner_of (one_pattern p) = []
 inner_of (patterns ps) = []
 
+-- the symbols that wait, in the order of meeting
+abbrev pub waiting_in : Table → List Part
+waiting_in t = map (λ w. symbol_view w.symbol) t.waiting.items
+
+-- what their numbers stand for
+abbrev pub numbered_in : Table → List Part
+numbered_in t = map (λ w. part_at (wholes_in t) w.number) t.waiting.items
+
+-- its number has its text
+abbrev pub IsNumbered : List Whole → Waiting → Type 0
+IsNumbered ws w = option_and_then own_text_in (slice_get ws w.number) ≡ Some (part_text (symbol_view w.symbol))
+
+abbrev pub AreNumbered : List Whole → List Waiting → Type 0
+AreNumbered ws xs = (i : ℕ) (w : Waiting) → slice_get xs i ≡ Some w → IsNumbered ws w
+
 -- The nodes stand for symbols without spans, each with its text if it is made into a rule; all that they meet was met; and a text
--- leads to a node just where a symbol of it was met.
+-- leads to a node just where a symbol of it was met. Each symbol that waits has the number of its text.
 pub record IsNodeTable (t : Table) : Type 0 where
   pub nodes : AreNodes t.nodes
   pub texts : texts_of t.nodes ≡ map own_text_in (wholes_in t)
   pub bare : (i : ℕ) (w : Whole) → StandsFor (wholes_in t) i w → IsBare w
   pub met : (i : ℕ) (w : Whole) → StandsFor (wholes_in t) i w → were_met (is_declared_in t) (seen_in t) (met_of w) ≡ true
   pub places : (x : List ℕ) → is_some (text_noted t x) ≡ is_some (first_with_text x (seen_in t))
+  pub waiting : AreNumbered (wholes_in t) t.waiting.items
 
 -- as many texts were made as symbols are made into rules
 abbrev pub IsCounted : Table → Type 0

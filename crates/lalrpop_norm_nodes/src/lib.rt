@@ -5,6 +5,7 @@ pub mod given;
 pub mod hashing;
 pub mod laws;
 pub mod node;
+pub mod parts;
 mod patterns;
 pub mod read;
 pub mod table;

@@ -24,6 +24,7 @@ fn enter_pattern(pattern: &ArgPattern, table: &mut Table) -> Result<usize, NoMem
     requires { IsNodeTable table.old }
     ensures meets { OnOk result (TableMeets table.old table.new []) }
     ensures counted { OnOk result (table.new.made ≡ table.old.made) }
+    ensures waiting { OnOk result (table.new.waiting ≡ table.old.waiting) }
     ensures number { IfOk result (λ i. StandsFor (wholes_in table.new) i (one_pattern (argument_pattern_view pattern.now))) }
 {
     match pattern {
@@ -41,6 +42,7 @@ pub(crate) fn enter_patterns(several: &[ArgPattern], table: &mut Table) -> Resul
     requires { IsNodeTable table.old }
     ensures meets { OnOk result (TableMeets table.old table.new []) }
     ensures counted { OnOk result (table.new.made ≡ table.old.made) }
+    ensures waiting { OnOk result (table.new.waiting ≡ table.old.waiting) }
     ensures number { IfOk result (λ i. StandsFor (wholes_in table.new) i (patterns (map argument_pattern_view several.now))) }
 {
     let mut row = table.enter(Node::Leaf(Leaf::NoPatterns))?;

@@ -5,10 +5,11 @@ ghost use Rattle.lalrpop_norm_faults.specs.Faults.{Refuses};
 ghost use Rattle.lalrpop_norm_model.specs.PlainRules.{met, all_met};
 ghost use Rattle.lalrpop_norm_model.specs.Replaced.{all_replaced};
 ghost use Rattle.lalrpop_norm_macro_expand_met.specs.Apart.{nowhere, unplaced_kind};
-ghost use Rattle.lalrpop_norm_macro_expand_met.specs.Meeting.{met_inside, own_text};
-ghost use Rattle.lalrpop_norm_nodes.specs.Filled.{all_filled};
+ghost use Rattle.lalrpop_norm_macro_expand_met.specs.Meeting.{met_inside, met_itself, own_text};
+ghost use Rattle.lalrpop_norm_nodes.specs.Filled.{all_filled, filled_kind};
 ghost use Rattle.lalrpop_norm_nodes.specs.Given.{given_to, whole_for, shown_for, AreGiven, read_whole, kind_whole, read_shown, kind_shown};
 ghost use Rattle.lalrpop_norm_nodes.specs.Readings.{IsNodeFor, repeat_node, named_node, topped, bare_wholes};
+ghost use Rattle.lalrpop_norm_nodes.specs.Waits.{parts_replaced, shown_met, LeavesWaiting};
 ghost use Rattle.lalrpop_norm_nodes.specs.Wholes.{one_symbol, symbols, Fits, built, StandsFor};
 ghost use Rattle.lalrpop_norm_nodes.specs.Tables.{wholes_in, own_at, own_text_in, IsNodeTable, IsCounted, TableMeets, refused_in};
 
@@ -52,13 +53,6 @@ fn put_given(given: &Given, symbol: &mut Symbol) -> Result<usize, NoMemory>
     Ok(given.number)
 }
 
-/// Puts the nonterminal of that text in the place of a symbol.
-fn put_name(name: Atom, symbol: &mut Symbol)
-    ensures { symbol_view symbol.new ≡ at symbol.old.span (nonterminal name) }
-{
-    symbol.kind = SymbolKind::Nonterminal(NonterminalString(name));
-}
-
 /// Enters a symbol that is made into a rule, its parts replaced, and puts the nonterminal of its text in its place.
 fn make_symbol(
     alloc: Global,
@@ -74,18 +68,11 @@ fn make_symbol(
     ensures refuses { Refuses result (refused_in table.old (own_at symbol.old.span (built (wholes_in table.old) node))) }
     ensures meets { OnOk result (TableMeets table.old table.new (own_at symbol.old.span (built (wholes_in table.old) node))) }
     ensures counted { OnOk result (IsCounted table.new) }
+    ensures waits { OnOk result (LeavesWaiting table.old table.new (met_itself (symbol_view symbol.old))) }
     ensures value { OnOk result (symbol_view symbol.new ≡ topped (symbol_view symbol.old)) }
     ensures number { IfOk result (λ i. StandsFor (wholes_in table.new) i (built (wholes_in table.old) node)) }
 {
-    let number = table.enter_made(alloc, node, symbol)?;
-    match table.text_of(number) {
-        Some(name) => {
-            let name = name.clone()?;
-            put_name(name, symbol);
-            Ok(number)
-        }
-        None => Ok(number),
-    }
+    table.enter_made(alloc, node, symbol)
 }
 
 /// Enters a symbol, its parts replaced, and replaces it.
@@ -102,6 +89,7 @@ fn enter_symbol(
     ensures refuses { Refuses result (refused_in table.old (own_at symbol.old.span (built (wholes_in table.old) node))) }
     ensures meets { OnOk result (TableMeets table.old table.new (own_at symbol.old.span (built (wholes_in table.old) node))) }
     ensures counted { OnOk result (IsCounted table.new) }
+    ensures waits { OnOk result (LeavesWaiting table.old table.new (met_itself (symbol_view symbol.old))) }
     ensures value { OnOk result (symbol_view symbol.new ≡ topped (symbol_view symbol.old)) }
     ensures number { IfOk result (λ i. StandsFor (wholes_in table.new) i (built (wholes_in table.old) node)) }
 {
@@ -147,6 +135,7 @@ pub fn read_symbol(
     ensures refuses { Refuses result (refused_in table.old (met (read_whole (wholes_in table.old) environment.now (symbol_view symbol.old)))) }
     ensures meets { OnOk result (TableMeets table.old table.new (met (read_whole (wholes_in table.old) environment.now (symbol_view symbol.old)))) }
     ensures counted { OnOk result (IsCounted table.new) }
+    ensures waits { OnOk result (LeavesWaiting table.old table.new (shown_met environment.now (symbol_view symbol.old))) }
     ensures value { OnOk result (symbol_view symbol.new ≡ read_shown environment.now (symbol_view symbol.old)) }
     ensures number { IfOk result (λ i. StandsFor (wholes_in table.new) i (one_symbol (unplaced_kind (kind_whole (wholes_in table.old) environment.now (kind_view symbol.old.kind))))) }
 {
@@ -171,6 +160,7 @@ fn read_boxed(
     ensures refuses { Refuses result (refused_in table.old (met (read_whole (wholes_in table.old) environment.now (symbol_view symbol.old.value)))) }
     ensures meets { OnOk result (TableMeets table.old table.new (met (read_whole (wholes_in table.old) environment.now (symbol_view symbol.old.value)))) }
     ensures counted { OnOk result (IsCounted table.new) }
+    ensures waits { OnOk result (LeavesWaiting table.old table.new (shown_met environment.now (symbol_view symbol.old.value))) }
     ensures value { OnOk result (symbol_view symbol.new.value ≡ read_shown environment.now (symbol_view symbol.old.value)) }
     ensures number { IfOk result (λ i. StandsFor (wholes_in table.new) i (one_symbol (unplaced_kind (kind_whole (wholes_in table.old) environment.now (kind_view symbol.old.value.kind))))) }
 {
@@ -193,6 +183,7 @@ fn node_of(
     ensures refuses { Refuses result (refused_in table.old (met_inside (kind_whole (wholes_in table.old) environment.now (kind_view kind.old)))) }
     ensures meets { OnOk result (TableMeets table.old table.new (met_inside (kind_whole (wholes_in table.old) environment.now (kind_view kind.old)))) }
     ensures counted { OnOk result (IsCounted table.new) }
+    ensures waits { OnOk result (LeavesWaiting table.old table.new (map parts_replaced (met_inside (filled_kind (shown_for environment.now) (kind_view kind.old))))) }
     ensures value { OnOk result (kind_view kind.new ≡ kind_shown environment.now (kind_view kind.old)) }
     ensures node { IfOk result (λ n. IsNodeFor (wholes_in table.new) n (kind_whole (wholes_in table.old) environment.now (kind_view kind.old))) }
 {
@@ -240,6 +231,7 @@ fn read_repeated(
     ensures meets { OnOk result (TableMeets table.old table.new (met (read_whole (wholes_in table.old) environment.now (symbol_view repeat.old.value.symbol)))) }
     ensures counted { OnOk result (IsCounted table.new) }
     ensures op { OnOk result (repeat.new.value.op ≡ repeat.old.value.op) }
+    ensures waits { OnOk result (LeavesWaiting table.old table.new (shown_met environment.now (symbol_view repeat.old.value.symbol))) }
     ensures value { OnOk result (symbol_view repeat.new.value.symbol ≡ read_shown environment.now (symbol_view repeat.old.value.symbol)) }
     ensures number { IfOk result (λ i. StandsFor (wholes_in table.new) i (one_symbol (unplaced_kind (kind_whole (wholes_in table.old) environment.now (kind_view repeat.old.value.symbol.kind))))) }
 {
@@ -261,6 +253,7 @@ fn read_group(
     ensures refuses { Refuses result (refused_in table.old (all_met (all_filled (whole_for (wholes_in table.old) environment.now) (expr_view expr.old)))) }
     ensures meets { OnOk result (TableMeets table.old table.new (all_met (all_filled (whole_for (wholes_in table.old) environment.now) (expr_view expr.old)))) }
     ensures counted { OnOk result (IsCounted table.new) }
+    ensures waits { OnOk result (LeavesWaiting table.old table.new (map parts_replaced (all_met (all_filled (shown_for environment.now) (expr_view expr.old))))) }
     ensures value { OnOk result (expr_view expr.new ≡ all_replaced (all_filled (shown_for environment.now) (expr_view expr.old))) }
     ensures node { IfOk result (λ n. IsNodeFor (wholes_in table.new) n (group (all_filled (whole_for (wholes_in table.old) environment.now) (expr_view expr.old)))) }
 {
@@ -282,6 +275,7 @@ fn read_call(
     ensures refuses { Refuses result (refused_in table.old (all_met (all_filled (whole_for (wholes_in table.old) environment.now) (macro_view instance.old).1))) }
     ensures meets { OnOk result (TableMeets table.old table.new (all_met (all_filled (whole_for (wholes_in table.old) environment.now) (macro_view instance.old).1))) }
     ensures counted { OnOk result (IsCounted table.new) }
+    ensures waits { OnOk result (LeavesWaiting table.old table.new (map parts_replaced (all_met (all_filled (shown_for environment.now) (macro_view instance.old).1)))) }
     ensures value { OnOk result (macro_view instance.new ≡ ((macro_view instance.old).0, all_replaced (all_filled (shown_for environment.now) (macro_view instance.old).1))) }
     ensures node { IfOk result (λ n. IsNodeFor (wholes_in table.new) n (call (macro_view instance.old).0 (all_filled (whole_for (wholes_in table.old) environment.now) (macro_view instance.old).1))) }
 {
@@ -304,6 +298,7 @@ pub fn read_row(
     ensures refuses { Refuses result (refused_in table.old (all_met (all_filled (whole_for (wholes_in table.old) environment.now) (parts_view several.old)))) }
     ensures meets { OnOk result (TableMeets table.old table.new (all_met (all_filled (whole_for (wholes_in table.old) environment.now) (parts_view several.old)))) }
     ensures counted { OnOk result (IsCounted table.new) }
+    ensures waits { OnOk result (LeavesWaiting table.old table.new (map parts_replaced (all_met (all_filled (shown_for environment.now) (parts_view several.old))))) }
     ensures value { OnOk result (parts_view several.new ≡ all_replaced (all_filled (shown_for environment.now) (parts_view several.old))) }
     ensures number { IfOk result (λ i. StandsFor (wholes_in table.new) i (symbols (bare_wholes (wholes_in table.old) environment.now (map symbol_view several.old)))) }
 {

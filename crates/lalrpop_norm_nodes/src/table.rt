@@ -1,20 +1,33 @@
 //! The nodes of the symbols that were met, and their texts.
-ghost use Rattle.std.specs.Prelude.{◌≡◌, ◌+◌, ◌++◌, ◌∷◌, ◌||◌, [], false, None, Some, IfOk, OnOk, is_some, length, option_map, option_and_then, slice_get};
-ghost use Rattle.lalrpop_norm_tree.specs.Symbols.{symbol_view};
+ghost use Rattle.std.specs.Prelude.{◌≡◌, ◌+◌, ◌++◌, ◌∷◌, ◌||◌, [], false, None, Some, IfOk, OnOk, is_some, length, map, option_map, option_and_then, slice_get};
+ghost use Rattle.lalrpop_norm_tree.specs.Symbols.{at, nonterminal, symbol_view};
 ghost use Rattle.lalrpop_norm_tree.specs.SymbolTexts.{part_text};
 ghost use Rattle.lalrpop_norm_faults.specs.Faults.{Refuses, IsFirst, fault_if};
 ghost use Rattle.lalrpop_norm_faults.specs.declared.kind.FaultKind.TheVariants.{SharedName};
 ghost use Rattle.lalrpop_norm_macro_expand_met.specs.Meeting.{first_with_text};
-ghost use Rattle.lalrpop_norm_nodes.specs.Wholes.{Fits, built, StandsFor, IsNew, Grows};
-ghost use Rattle.lalrpop_norm_nodes.specs.Tables.{wholes_in, seen_in, own_at, own_in, own_text_in, is_declared_in, IsNodeTable, IsCounted, TableMeets, refused_in};
+ghost use Rattle.lalrpop_norm_nodes.specs.Wholes.{Fits, built, part_at, StandsFor, IsNew, Grows, nodes_of};
+ghost use Rattle.lalrpop_norm_nodes.specs.Tables.{wholes_in, seen_in, own_at, own_in, own_text_in, is_declared_in, IsNodeTable, IsCounted, TableMeets, refused_in, waiting_in, numbered_in, AreNumbered};
+ghost use Rattle.lalrpop_norm_nodes.specs.Waits.{LeavesWaiting};
 
 use crate::hashing::NodeHashBuilder;
 use crate::node::{Node, Nodes};
 use crate::texts::{Counter, make_text};
 use lalrpop_norm_faults::{FaultKind, NormFailure, NormResult, refusal};
-use lalrpop_norm_tree::grammar::parse_tree::{Atom, NoMemory, Span, Symbol};
+use lalrpop_norm_tree::grammar::parse_tree::{
+    Atom, NoMemory, NonterminalString, Span, Symbol, SymbolKind,
+};
 use std::alloc::Global;
 use std::collections::{BTreeSet, HashMap};
+use std::mem;
+
+/// A symbol that waits for the rule that it is made into, where it was first met.
+#[derive(Drop)]
+pub struct Waiting {
+    /// The number of its node.
+    pub number: usize,
+    /// The symbol, its parts replaced.
+    pub symbol: Symbol,
+}
 
 /// The symbols that were met, as numbered nodes. A number stands for the same as long as the table is there.
 #[derive(Drop)]
@@ -26,6 +39,8 @@ pub struct Table {
     places: HashMap<Atom, usize, NodeHashBuilder>,
     /// How many texts were made.
     made: Counter,
+    /// The symbols that wait for their rules, in the order of meeting.
+    waiting: Vec<Waiting>,
 }
 
 fn shared_name(alloc: Global, name: &Atom, span: Span) -> NormFailure
@@ -46,6 +61,8 @@ impl Table {
         ensures table { IsNodeTable result }
         ensures counted { IsCounted result }
         ensures seen { seen_in result ≡ [] }
+        ensures waiting { waiting_in result ≡ [] }
+        ensures numbers { numbered_in result ≡ [] }
         ensures names { result.names ≡ names }
     {
         Table {
@@ -53,6 +70,7 @@ impl Table {
             nodes: Nodes::new(alloc, hash_builder),
             places: HashMap::with_hasher(alloc, hash_builder),
             made: Counter::new(),
+            waiting: Vec::new(alloc),
         }
     }
 
@@ -70,6 +88,16 @@ impl Table {
         ensures { result ≡ (is_declared_in self.now name.now || is_some (first_with_text name.now (seen_in self.now))) }
     {
         self.names.contains(name) || self.places.contains_key(name)
+    }
+
+    /// The node of a number.
+    pub(crate) fn node(&self, number: usize) -> Option<&Node>
+        ensures { option_map (λ n. n.now) result ≡ slice_get (nodes_of self.now.nodes) number }
+    {
+        match self.nodes.rows.get_index(number) {
+            Some((node, _)) => Some(node),
+            None => None,
+        }
     }
 
     /// The text of a node, if it is made into a rule.
@@ -91,6 +119,7 @@ impl Table {
         requires plain { own_text_in (built (wholes_in self.old) node) ≡ None }
         ensures meets { OnOk result (TableMeets self.old self.new []) }
         ensures counted { OnOk result (self.new.made ≡ self.old.made) }
+        ensures waiting { OnOk result (self.new.waiting ≡ self.old.waiting) }
         ensures number { IfOk result (λ i. StandsFor (wholes_in self.new) i (built (wholes_in self.old) node)) }
     {
         self.nodes.put(node, None)
@@ -103,6 +132,7 @@ impl Table {
         requires plain { own_text_in (built (wholes_in self.old) node) ≡ None }
         ensures meets { OnOk result (TableMeets self.old self.new []) }
         ensures counted { OnOk result (self.new.made ≡ self.old.made) }
+        ensures waiting { OnOk result (self.new.waiting ≡ self.old.waiting) }
         ensures number { IfOk result (λ i. StandsFor (wholes_in self.new) i (built (wholes_in self.old) node)) }
     {
         match self.nodes.find(&node) {
@@ -124,6 +154,7 @@ impl Table {
         ensures names { OnOk result (self.new.names ≡ self.old.names) }
         ensures grows { OnOk result (Grows (wholes_in self.old) (wholes_in self.new)) }
         ensures counted { OnOk result (self.new.made ≡ self.old.made) }
+        ensures waiting { OnOk result (self.new.waiting ≡ self.old.waiting) }
         ensures number { IfOk result (λ i. StandsFor (wholes_in self.new) i (built (wholes_in self.old) node)) }
     {
         let key = name.clone()?;
@@ -142,6 +173,7 @@ impl Table {
         ensures names { OnOk result (self.new.names ≡ self.old.names) }
         ensures nodes { OnOk result (self.new.nodes ≡ self.old.nodes) }
         ensures places { OnOk result (self.new.places ≡ self.old.places) }
+        ensures waiting { OnOk result (self.new.waiting ≡ self.old.waiting) }
     {
         // `len` is called for its clause that it is small, which the proof cites.
         let _nodes = self.nodes.rows.len();
@@ -152,23 +184,106 @@ impl Table {
         Ok(name)
     }
 
-    /// The number of a node that is made into a rule: that of a symbol, the parts of which are replaced.
-    pub fn enter_made(&mut self, alloc: Global, node: Node, symbol: &Symbol) -> NormResult<usize>
+    /// Puts the nonterminal of a node's text in the place of a symbol of that text.
+    fn put_name(&self, number: usize, symbol: &mut Symbol) -> Result<(), NoMemory>
+        requires table { IsNodeTable self.now }
+        requires text { option_and_then own_text_in (slice_get (wholes_in self.now) number) ≡ Some (part_text (symbol_view symbol.old)) }
+        ensures { OnOk result (symbol_view symbol.new ≡ at symbol.old.span (nonterminal (part_text (symbol_view symbol.old)))) }
+    {
+        if let Some(name) = self.text_of(number) {
+            symbol.kind = SymbolKind::Nonterminal(NonterminalString(name.clone()?));
+        }
+        Ok(())
+    }
+
+    /// Puts the nonterminal of its text in the place of a symbol, which waits for the rule of its node.
+    fn put_waiting(
+        &mut self,
+        number: usize,
+        name: Atom,
+        symbol: &mut Symbol,
+    ) -> Result<(), NoMemory>
+        requires table { IsNodeTable self.old }
+        requires text { option_and_then own_text_in (slice_get (wholes_in self.old) number) ≡ Some (part_text (symbol_view symbol.old)) }
+        ensures table { OnOk result (IsNodeTable self.new) }
+        ensures names { OnOk result (self.new.names ≡ self.old.names) }
+        ensures nodes { OnOk result (self.new.nodes ≡ self.old.nodes) }
+        ensures counted { OnOk result (self.new.made ≡ self.old.made) }
+        ensures waiting { OnOk result (waiting_in self.new ≡ waiting_in self.old ++ symbol_view symbol.old ∷ []) }
+        ensures numbers { OnOk result (numbered_in self.new ≡ numbered_in self.old ++ part_at (wholes_in self.old) number ∷ []) }
+        ensures value { OnOk result (symbol_view symbol.new ≡ at symbol.old.span (nonterminal name)) }
+    {
+        let named = Symbol {
+            span: symbol.span,
+            kind: SymbolKind::Nonterminal(NonterminalString(name)),
+        };
+        let symbol = mem::replace(symbol, named);
+        self.waiting.push(Waiting { number, symbol })?;
+        Ok(())
+    }
+
+    /// The symbols that wait, which wait no longer.
+    pub fn take_waiting(&mut self, alloc: Global) -> Vec<Waiting>
+        requires { IsNodeTable self.old }
+        ensures waiting { result ≡ self.old.waiting }
+        ensures numbers { map (λ w. part_at (wholes_in self.new) w.number) result.items ≡ numbered_in self.old }
+        ensures none { waiting_in self.new ≡ [] }
+        ensures none_numbered { numbered_in self.new ≡ [] }
+        ensures nodes { self.new.nodes ≡ self.old.nodes }
+        ensures names { self.new.names ≡ self.old.names }
+        ensures counted { self.new.made ≡ self.old.made }
+        ensures table { IsNodeTable self.new }
+        ensures numbered { AreNumbered (wholes_in self.new) result.items }
+    {
+        mem::replace(&mut self.waiting, Vec::new(alloc))
+    }
+
+    /// Puts a new node last that is made into a rule: that of a symbol, the parts of which are replaced, which waits.
+    fn enter_new(&mut self, alloc: Global, node: Node, symbol: &mut Symbol) -> NormResult<usize>
         requires table { IsNodeTable self.old }
         requires counted { IsCounted self.old }
         requires fits { Fits (wholes_in self.old) node }
-        requires made { own_text_in (built (wholes_in self.old) node) ≡ Some (part_text (symbol_view symbol.now)) }
-        ensures refuses { Refuses result (refused_in self.old (own_at symbol.now.span (built (wholes_in self.old) node))) }
-        ensures meets { OnOk result (TableMeets self.old self.new (own_at symbol.now.span (built (wholes_in self.old) node))) }
+        requires new { IsNew (wholes_in self.old) (built (wholes_in self.old) node) }
+        requires made { own_text_in (built (wholes_in self.old) node) ≡ Some (part_text (symbol_view symbol.old)) }
+        ensures refuses { Refuses result (refused_in self.old (own_at symbol.old.span (built (wholes_in self.old) node))) }
+        ensures meets { OnOk result (TableMeets self.old self.new (own_at symbol.old.span (built (wholes_in self.old) node))) }
         ensures counted { OnOk result (IsCounted self.new) }
+        ensures waits { OnOk result (LeavesWaiting self.old self.new (symbol_view symbol.old ∷ [])) }
+        ensures value { OnOk result (symbol_view symbol.new ≡ at symbol.old.span (nonterminal (part_text (symbol_view symbol.old)))) }
+        ensures number { IfOk result (λ i. StandsFor (wholes_in self.new) i (built (wholes_in self.old) node)) }
+    {
+        let name = self.free_text(alloc, symbol)?;
+        let key = name.clone()?;
+        let number = self.put_made(node, key)?;
+        self.put_waiting(number, name, symbol)?;
+        Ok(number)
+    }
+
+    /// The number of a node that is made into a rule: that of a symbol, the parts of which are replaced. The nonterminal of its text is
+    /// put in its place, and a symbol that is new waits for its rule.
+    pub fn enter_made(
+        &mut self,
+        alloc: Global,
+        node: Node,
+        symbol: &mut Symbol,
+    ) -> NormResult<usize>
+        requires table { IsNodeTable self.old }
+        requires counted { IsCounted self.old }
+        requires fits { Fits (wholes_in self.old) node }
+        requires made { own_text_in (built (wholes_in self.old) node) ≡ Some (part_text (symbol_view symbol.old)) }
+        ensures refuses { Refuses result (refused_in self.old (own_at symbol.old.span (built (wholes_in self.old) node))) }
+        ensures meets { OnOk result (TableMeets self.old self.new (own_at symbol.old.span (built (wholes_in self.old) node))) }
+        ensures counted { OnOk result (IsCounted self.new) }
+        ensures waits { OnOk result (LeavesWaiting self.old self.new (symbol_view symbol.old ∷ [])) }
+        ensures value { OnOk result (symbol_view symbol.new ≡ at symbol.old.span (nonterminal (part_text (symbol_view symbol.old)))) }
         ensures number { IfOk result (λ i. StandsFor (wholes_in self.new) i (built (wholes_in self.old) node)) }
     {
         match self.nodes.find(&node) {
-            Some(number) => Ok(number),
-            None => {
-                let name = self.free_text(alloc, symbol)?;
-                Ok(self.put_made(node, name)?)
+            Some(number) => {
+                self.put_name(number, symbol)?;
+                Ok(number)
             }
+            None => self.enter_new(alloc, node, symbol),
         }
     }
 }

@@ -23,6 +23,7 @@ enter_patterns-loop-pattern-preserved t c =
       meets = meets_both c.args.table.now c.enter_pattern.new.table c.enter-in-loop-pattern.new.self [] []
           (meets_both c.args.table.now c.loop-pattern.table c.enter_pattern.new.table [] [] v.meets n.meets) r.meets;
       counted = r.counted ∙ n.counted ∙ v.counted;
+      waiting = r.waiting ∙ n.waiting ∙ v.waiting;
       row = patterns_more (wholes_in c.loop-pattern.table) (wholes_in c.enter_pattern.new.table) (wholes_in c.enter-in-loop-pattern.new.self)
           c.loop-pattern.row c.in_ok-number.number c.in_ok-row-2.row c.args.several.now c.loop-pattern.pattern-index c.pattern-item.result
           c.loop-pattern-test.true c.pattern-item.is v.row n.meets.grows n.number r.number;

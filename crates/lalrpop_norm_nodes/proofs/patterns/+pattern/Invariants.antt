@@ -8,5 +8,6 @@ abbrev pub invariant-enter_patterns-loop-pattern : goal.invariant-enter_patterns
 invariant-enter_patterns-loop-pattern l = record {
   meets : TableMeets l.fn.table l.table [];
   counted : l.table.made ≡ l.fn.table.made;
+  waiting : l.table.waiting ≡ l.fn.table.waiting;
   row : StandsFor (wholes_in l.table) l.row (patterns (map argument_pattern_view (take l.pattern-index l.several)));
 }

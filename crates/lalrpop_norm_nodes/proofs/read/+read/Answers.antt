@@ -1,6 +1,6 @@
-use Rattle.std.proofs.Common.{rules, refl, ap, sym, subst, ◌∙◌, option_map, slice_get, List, Some, map, ℕ, ◌<◌, ◌≤◌, ◌++◌, Option, append-nil, length, get_or, arith, drop}
-use Rattle.lalrpop_norm_tree.specs.Symbols.{Part, at, kind_view, Kind, argument_pattern_view, symbol_view, Call, parts_view, parts_of}
-use Rattle.lalrpop_norm_tree.proofs.SymbolViews.{symbol_seen}
+use Rattle.std.proofs.Common.{◌≡◌, rules, refl, ap, sym, subst, ◌∙◌, option_map, slice_get, List, Some, map, ℕ, ◌<◌, ◌≤◌, ◌++◌, Option, append-nil, length, get_or, arith, drop}
+use Rattle.lalrpop_norm_tree.specs.Symbols.{Part, at, ambiguous_id, nonterminal, terminal, lookahead, lookbehind, error_terminal, kind_view, Kind, argument_pattern_view, symbol_view, Call, parts_view, parts_of}
+use Rattle.lalrpop_norm_tree.proofs.SymbolViews.{symbol_seen, ambiguous_seen, nonterminal_seen, terminal_seen}
 use Rattle.lalrpop_norm_faults.proofs.FaultLemmas.{exit_at}
 use Rattle.lalrpop_norm_macro_expand_met.specs.Meeting.{met_inside, own, own_text, after, clash_faults}
 use Rattle.lalrpop_norm_nodes.specs.Readings.{topped, bare_wholes}
@@ -12,7 +12,7 @@ use Rattle.lalrpop_norm_nodes.specs.Tables.{wholes_in, own_at, own_text_in, is_d
 use Rattle.lalrpop_norm_nodes.specs.Wholes.{Whole, patterns, symbols}
 use Rattle.lalrpop_norm_nodes.proofs.ReadLemmas.{bound_met, bound_value, bound_number, read_at, read_meets, read_refused, text_kept, value_kept}
 use Rattle.lalrpop_norm_tree.specs.declared.symbol.ArgPattern.{ArgPattern}
-use Rattle.lalrpop_norm_nodes.proofs.InsideReads.{tupled_seen, tuple_for, group_is, group_for, call_is, call_for}
+use Rattle.lalrpop_norm_nodes.proofs.InsideReads.{tupled_seen, tuple_for, group_is, group_for, call_is, call_for, lookahead_seen, lookbehind_seen, error_seen}
 use Rattle.lalrpop_norm_nodes.proofs.RowReads.{meets_row, met_one_by_one, shown_one_by_one, first_same, counted_row, row_more}
 use Rattle.lalrpop_norm_tree.specs.declared.symbol.Symbol.{Symbol}
 use Rattle.lalrpop_norm_tree.specs.declared.symbol.SymbolKind.TheViews.{out-ExprSymbol, out-MacroSymbol}
@@ -23,6 +23,11 @@ use Rattle.lalrpop_norm_nodes.specs.Filled.{filled}
 use Rattle.lalrpop_norm_nodes.proofs.GivenLemmas.{all_given_stay, wholes_stay}
 use Rattle.lalrpop_norm_nodes.proofs.InPlace.{still, partly_more, partly_met, partly_quiet, partly_exit}
 use Rattle.lalrpop_norm_nodes.proofs.RowItems.{stands_later, is_kind, are_symbols}
+use Rattle.lalrpop_norm_macro_expand_met.specs.Meeting.{met_itself}
+use Rattle.lalrpop_norm_nodes.specs.Filled.{filled_kind}
+use Rattle.lalrpop_norm_nodes.specs.Waits.{parts_replaced, shown_met, LeavesWaiting}
+use Rattle.lalrpop_norm_nodes.proofs.WaitLemmas.{waits_plain, waits_row}
+use Rattle.lalrpop_norm_nodes.proofs.WaitReads.{bound_waits, read_waits, leaf_waits, free_inside, shown_met_one_by_one, partly_waits}
 use Rattle.lalrpop_norm_nodes.proofs.read.+read.Goals as goal
 
 pub read_symbol-returns-in-Some-clause-refuses : goal.read_symbol-returns-in-Some-clause-refuses
@@ -166,6 +171,7 @@ read_row-loop-i-init t c =
       refuses = search rules;
       meets = r.meets;
       counted = counted_row a z c.requires.counted r.counted r.meets;
+      waits = waits_plain a z c.requires.table r.meets r.waiting;
       given = all_given_stay (wholes_in a) (wholes_in z) c.args.environment.now r.meets.grows c.requires.given;
       row = r.number;
     }
@@ -196,6 +202,7 @@ read_row-loop-i-preserved t c =
           (ap (λ (f : List ℕ → Option Kind). refused_in b (met (filled f (symbol_view x)))) (sym stay) ∙ n.refuses);
       meets = partly_met m vs c.loop-i.i (symbol_view x) here same a b z v.meets (meets_row b d z _ reads r.meets);
       counted = counted_row d z n.counted r.counted r.meets;
+      waits = partly_waits (shown_met e) vs c.loop-i.i (symbol_view x) here same a b z v.waits (waits_row b d z _ n.waits n.meets.table r.meets r.waiting);
       given = all_given_stay (wholes_in a) (wholes_in z) e (partly_met m vs c.loop-i.i (symbol_view x) here same a b z v.meets (meets_row b d z _ reads r.meets)).grows c.requires.given;
       row = row_more (wholes_in b) (wholes_in d) (wholes_in z) c.loop-i.row c.in_ok-number.number c.in_ok-row-2.row
           (λ p. unplaced (read_whole (wholes_in a) e p)) vs c.loop-i.i (symbol_view x) _ here same v.row n.meets.grows n.number
@@ -228,3 +235,62 @@ read_row-returns-clause-refuses t c =
     let long : length vs ≤ c.loop-i.i = omega (arith, length-map c.args.several.now symbol_view) in
     ap (refused_in c.args.table.now) (met_one_by_one f vs ∙ ap (λ ws. flat_map (λ (p : Part). met (filled f p)) ws) (sym (take_all c.loop-i.i vs long)))
     ∙ c.loop-i.invariant.refuses
+
+pub read_symbol-returns-in-Some-clause-waits : goal.read_symbol-returns-in-Some-clause-waits
+read_symbol-returns-in-Some-clause-waits t c =
+    bound_waits c.args.table.now c.args.environment.now c.args.symbol.now c.in-Some.given.now c.requires.given
+    (sym c.given_to.ensures ∙ ap (option_map (λ g. g.now)) c.in-Some.is)
+
+pub read_symbol-returns-clause-waits : goal.read_symbol-returns-clause-waits
+read_symbol-returns-clause-waits t c =
+    let s = c.args.symbol.now in
+    on_ok_more c.enter_symbol.result _ _
+    (λ g. read_waits c.args.table.now c.node_of.new.table c.enter_symbol.new.table c.args.environment.now s c.in_ok-node.ensures.waits
+    (subst (λ (p : Part). LeavesWaiting c.node_of.new.table c.enter_symbol.new.table (met_itself p))
+    (symbol_seen s.span c.node_of.new.kind ∙ ap (at s.span) c.in_ok-node.ensures.value) g))
+    c.enter_symbol.ensures.waits
+
+pub node_of-returns-in_ok-row-in-Tuple-clause-waits : goal.node_of-returns-in_ok-row-in-Tuple-clause-waits
+node_of-returns-in_ok-row-in-Tuple-clause-waits t c =
+    let a = c.args.table.now in
+    let e = c.args.environment.now in
+    subst (λ (k : Kind). LeavesWaiting a c.enter_patterns.new.table (map parts_replaced (met_inside (filled_kind (shown_for e) k))))
+    (sym (ap kind_view c.in-Tuple.is ∙ tupled_seen c.in-Tuple.tuple c.in-Tuple.inner))
+    (waits_row a c.read_boxed-in-Tuple.new.table c.enter_patterns.new.table _ c.in_ok-number-in-Tuple.ensures.waits c.in_ok-number-in-Tuple.ensures.meets.table
+    c.in_ok-row-in-Tuple.ensures.meets c.in_ok-row-in-Tuple.ensures.waiting)
+
+pub read_row-returns-clause-waits : goal.read_row-returns-clause-waits
+read_row-returns-clause-waits t c =
+    let vs = map symbol_view c.args.several.now in
+    let long : length vs ≤ c.loop-i.i = omega (arith, length-map c.args.several.now symbol_view) in
+    let h = c.loop-i.invariant.waits in
+    rw (shown_met_one_by_one (shown_for c.args.environment.now) vs) (rw (take_all c.loop-i.i vs long) at h)
+
+pub node_of-returns-in_ok-clone-in-Nonterminal-clause-waits : goal.node_of-returns-in_ok-clone-in-Nonterminal-clause-waits
+node_of-returns-in_ok-clone-in-Nonterminal-clause-waits t c =
+    let k = kind_view c.args.kind.now in
+    let n = c.in-Nonterminal.name in
+    let is : k ≡ nonterminal n.0 = ap kind_view c.in-Nonterminal.is ∙ nonterminal_seen n in
+    leaf_waits c.args.table.now c.args.environment.now k (nonterminal n.0) is (free_inside c.args.environment.now k n.0 c.requires.unbound is)
+
+pub node_of-returns-in_ok-clone-in-AmbiguousId-clause-waits : goal.node_of-returns-in_ok-clone-in-AmbiguousId-clause-waits
+node_of-returns-in_ok-clone-in-AmbiguousId-clause-waits t c =
+    leaf_waits c.args.table.now c.args.environment.now (kind_view c.args.kind.now) (ambiguous_id c.in-AmbiguousId.id)
+    (ap kind_view c.in-AmbiguousId.is ∙ ambiguous_seen c.in-AmbiguousId.id) refl
+
+pub node_of-returns-in_ok-clone-in-Terminal-clause-waits : goal.node_of-returns-in_ok-clone-in-Terminal-clause-waits
+node_of-returns-in_ok-clone-in-Terminal-clause-waits t c =
+    leaf_waits c.args.table.now c.args.environment.now (kind_view c.args.kind.now) (terminal c.in-Terminal.terminal)
+    (ap kind_view c.in-Terminal.is ∙ terminal_seen c.in-Terminal.terminal) refl
+
+pub node_of-returns-in-Lookahead-clause-waits : goal.node_of-returns-in-Lookahead-clause-waits
+node_of-returns-in-Lookahead-clause-waits t c =
+    leaf_waits c.args.table.now c.args.environment.now (kind_view c.args.kind.now) lookahead (ap kind_view c.in-Lookahead.is ∙ lookahead_seen) refl
+
+pub node_of-returns-in-Lookbehind-clause-waits : goal.node_of-returns-in-Lookbehind-clause-waits
+node_of-returns-in-Lookbehind-clause-waits t c =
+    leaf_waits c.args.table.now c.args.environment.now (kind_view c.args.kind.now) lookbehind (ap kind_view c.in-Lookbehind.is ∙ lookbehind_seen) refl
+
+pub node_of-returns-in-Error-clause-waits : goal.node_of-returns-in-Error-clause-waits
+node_of-returns-in-Error-clause-waits t c =
+    leaf_waits c.args.table.now c.args.environment.now (kind_view c.args.kind.now) error_terminal (ap kind_view c.in-Error.is ∙ error_seen) refl
