@@ -1,7 +1,9 @@
+use Rattle.std.proofs.Common.{sym, subst}
 use Rattle.lalrpop_norm_tree.specs.Symbols.{symbol_view}
 use Rattle.lalrpop_norm_tree.specs.SymbolTexts.{part_text}
 use Rattle.lalrpop_norm_nodes.specs.Tables.{wholes_in}
-use Rattle.lalrpop_norm_nodes.specs.Wholes.{built}
+use Rattle.lalrpop_norm_nodes.specs.Wholes.{built, wholes, IsNew}
+use Rattle.lalrpop_norm_nodes.specs.declared.node.Nodes.{Nodes}
 use Rattle.lalrpop_norm_nodes.proofs.EnterLemmas.{clash_is, err_same, made_meets, free_none, meets_waiting, numbered_by, made_waits}
 use Rattle.lalrpop_norm_nodes.proofs.WholeLemmas.{bare_built}
 use Rattle.lalrpop_norm_nodes.proofs.table.Table.enter_new.Goals as goal
@@ -36,3 +38,6 @@ returns-clause-waits c =
     let w = c.in_ok-put_waiting.ensures in
     made_waits c.args.self.now c.free_text.new.self c.put_made.new.self c.put_waiting.new.self c.args.node (symbol_view c.args.symbol.now) c.in_ok-number.number
     c.requires.table c.requires.made (free_none _ _ _ f.refuses) f.nodes f.waiting p.seen p.waiting p.grows p.number w.nodes w.waiting w.numbers
+
+pub put_made-requires-clause-new : goal.put_made-requires-clause-new
+put_made-requires-clause-new c = subst (λ (ns : Nodes). IsNew (wholes ns) (built (wholes ns) c.args.node)) (sym c.in_ok-name.ensures.nodes) c.requires.new

@@ -1,0 +1,16 @@
+use Rattle.std.proofs.Common.{Some, map, sym, ap, ◌∙◌}
+use Rattle.std.proofs.lemmas.Result.{IfOk-weaker}
+use Rattle.std.proofs.lemmas.Simd.{map-map}
+use Rattle.lalrpop_norm_tree.specs.Symbols.{Kind}
+use Rattle.lalrpop_norm_model.specs.MadeRules.{kind_of}
+use Rattle.lalrpop_norm_nodes.specs.Tables.{wholes_in}
+use Rattle.lalrpop_norm_nodes.specs.Wholes.{one_symbol, symbols_at}
+use Rattle.lalrpop_norm_nodes.proofs.parts.given_by_call.Goals as goal
+
+pub returns-clause-numbers : goal.returns-clause-numbers
+returns-clause-numbers c =
+    let row = c.arguments_row-row in
+    IfOk-weaker c.given_in_row.result _ _
+    (λ gs h. h ∙ sym (map-map (λ (k : Kind). Some (one_symbol k)) kind_of (symbols_at (wholes_in c.args.table.now) row.result))
+    ∙ ap (map (λ (k : Kind). Some (one_symbol k))) row.ensures.kinds)
+    c.given_in_row.ensures.numbers
