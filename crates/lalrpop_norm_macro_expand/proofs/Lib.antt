@@ -1,6 +1,6 @@
-mod BackLemmas
+mod BoundLemmas
 pub mod DistinctLemmas
 mod FreshLemmas
-mod KeptLemmas
-mod ReadLemmas
+mod PendingLemmas
 mod RoundLemmas
+mod WaitingLists

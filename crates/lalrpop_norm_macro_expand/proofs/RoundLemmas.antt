@@ -1,45 +1,47 @@
--- The state of the code as a round begins, and the rounds of the definition.
-use Rattle.std.proofs.Common.{◌≡◌, ℕ, zero, suc, ◌+◌, ◌≤◌, List, [], ◌∷◌, ◌++◌, Bool, true, false, cond, length, map, drop, reverse, refl, sym, ap, ap₂, ◌∙◌, subst, arith, append-nil, append_assoc}
+-- The state of the code once a round was read, and the rounds of the definition.
+use Rattle.std.proofs.Common.{◌≡◌, ◌⊎◌, inl, inr, ℕ, zero, suc, ◌+◌, ◌<◌, ◌≤◌, List, [], ◌∷◌, ◌++◌, Bool, true, false, cond, length, map, drop, reverse, Some, Vec, Global, refl, sym, ap, ap₂, ◌∙◌, subst, arith, append-nil, append_assoc}
 use Rattle.std.specs.Prelude.{not, filter, flat_map}
-use Rattle.std.proofs.lemmas.List.{map-append, length-append, drop_at}
+use Rattle.std.proofs.Math.Seq.{drop-append_seam}
+use Rattle.std.proofs.lemmas.List.{map-append, length-append, length-map, length-reverse}
 use Rattle.std.proofs.lemmas.Grind.{flat_map-append}
-use Rattle.lalrpop_norm_tree.specs.Symbols.{Part}
+use Rattle.lalrpop_norm_tree.specs.Symbols.{Kind, Part, at, symbol_view}
+use Rattle.lalrpop_norm_tree.specs.SymbolTexts.{part_text}
 use Rattle.lalrpop_norm_tree.specs.Items.{RuleData, ItemData, GrammarData, match_item, extern_item, intern_item, rule_item, use_item}
 use Rattle.lalrpop_norm_faults.specs.declared.failure.NormFailure.{NormFailure}
 use Rattle.lalrpop_norm_faults.specs.Faults.{Fault, first, IsFault, IsFirst}
 use Rattle.lalrpop_norm_faults.proofs.FaultLemmas.{first_of_more}
-use Rattle.lalrpop_norm_theory.specs.Rounds.{Round, fresh_of}
+use Rattle.lalrpop_norm_theory.specs.Rounds.{In, Round, fresh_of}
+use Rattle.lalrpop_norm_theory.proofs.RoundsLemmas.{fresh_listed, of_reverse}
+use Rattle.lalrpop_norm_theory.proofs.ListLemmas.{map_reverse}
 use Rattle.lalrpop_norm_model.specs.Grammars.{is_nil}
 use Rattle.lalrpop_norm_model.specs.MadeRules.{made_rules}
 use Rattle.lalrpop_norm_model.specs.Expanded.{rule_names}
-use Rattle.lalrpop_norm_model.specs.PlainRules.{met_in_rule, met_by_made, rule_of_item, macros_of, same_apart_from_spans, expansion_round, made_symbols, made_in, IsEnded, plain_item, plain_grammar, replaced_rule}
-use Rattle.lalrpop_norm_macro_expand_met.specs.declared.expander.Expander.{Expander}
-use Rattle.lalrpop_norm_macro_expand_rules.specs.Names.{is_declared_name}
-use Rattle.lalrpop_norm_macro_expand.specs.Expansion.{shared_names, meetings, met_before, shared_in, unmade, unmade_in, past_cap, faults_from, expansion_faults}
-use Rattle.lalrpop_norm_macro_expand.specs.Making.{rules_to_read}
-use Rattle.lalrpop_norm_macro_expand_rules.specs.Items.{replaced_item, met_in_item, without_macro, macro_in}
+use Rattle.lalrpop_norm_model.specs.PlainRules.{met, met_in_rule, met_by_made, rule_of_item, rules_without_arguments, macros_of, same_apart_from_spans, expansion_round, made_symbols, made_in, IsEnded, plain_item, plain_grammar, replaced_rule}
 use Rattle.lalrpop_norm_conditions.specs.Conditions.{comparison}
-use Rattle.lalrpop_norm_macro_expand_met.specs.Meeting.{after, clash_faults, were_met_inside, seen_of, has_key, is_taken_by, Meets, refused_by}
+use Rattle.lalrpop_norm_macro_expand_met.specs.Apart.{unplaced}
+use Rattle.lalrpop_norm_macro_expand_met.specs.Meeting.{inside, met_inside, own, first_with_text, after, clash_faults, were_met, has_key}
+use Rattle.lalrpop_norm_macro_expand_met.proofs.InwardLemmas.{met_then}
+use Rattle.lalrpop_norm_nodes.specs.declared.node.Nodes.{Nodes}
+use Rattle.lalrpop_norm_nodes.specs.declared.table.Table.{Table}
+use Rattle.lalrpop_norm_nodes.specs.declared.table.Waiting.{Waiting}
+use Rattle.lalrpop_norm_nodes.specs.NodeParts.{AreWaiting}
+use Rattle.lalrpop_norm_nodes.specs.Wholes.{wholes}
+use Rattle.lalrpop_norm_nodes.specs.Tables.{wholes_in, own_in, seen_in, waiting_in, is_declared_in, AreNumbered, IsNodeTable, TableMeets, refused_in}
+use Rattle.lalrpop_norm_nodes.specs.Waits.{parts_replaced, first_met, LeavesWaiting}
+use Rattle.lalrpop_norm_nodes.proofs.MeetLemmas.{split_at, were_left}
+use Rattle.lalrpop_norm_nodes.proofs.ShallowMeetings.{MeetAlike, alike_none, alike_one, alike_both}
+use Rattle.lalrpop_norm_nodes.proofs.ShallowRounds.{round_refused, round_seen, round_waits, IsInward, inward_each, rule_inward, first_of_text}
+use Rattle.lalrpop_norm_nodes.proofs.WaitStands.{with_number, with_whole, waiting_are}
+use Rattle.lalrpop_norm_macro_expand_rules.specs.Names.{is_declared_name}
+use Rattle.lalrpop_norm_macro_expand_rules.specs.Items.{replaced_item, met_in_item, shown_in_item, without_macro, macro_in}
+use Rattle.lalrpop_norm_macro_expand_rules.specs.Pending.{PendingData, met_in_pending, shown_in_pending, pending_read}
+use Rattle.lalrpop_norm_macro_expand.specs.Expansion.{shared_names, meetings, met_before, shared_in, unmade, unmade_in, past_cap, faults_from, expansion_faults}
+use Rattle.lalrpop_norm_macro_expand.specs.Making.{pending_of, pending_for}
 use Rattle.lalrpop_norm_macro_expand.proofs.FreshLemmas.{Tells, after_fresh, first_same, quiet_same, tells_after}
-use Rattle.lalrpop_norm_macro_expand.proofs.ReadLemmas.{ReadsAs, reads_same, new_reads, read_replaced}
-
--- ---- rules
-
-rules_met : (rs : List RuleData) → flat_map met_in_item (map rule_item rs) ≡ flat_map met_in_rule rs
-rules_met [] = refl
-rules_met (r ∷ rs) = ap (λ ps. met_in_rule r ++ ps) (rules_met rs)
+use Rattle.lalrpop_norm_macro_expand.proofs.PendingLemmas.{pending_by, pending_are_read, rules_read, all_unmade}
 
 abbrev replaced_rules : List RuleData → List ItemData
 replaced_rules rs = map (λ r. rule_item (replaced_rule r)) rs
-
-rules_replaced : (rs : List RuleData) → map replaced_item (map rule_item rs) ≡ replaced_rules rs
-rules_replaced [] = refl
-rules_replaced (r ∷ rs) = ap (λ is. rule_item (replaced_rule r) ∷ is) (rules_replaced rs)
-
-made_each_met : (make : Part → List RuleData) (xs : List Part) →
-    flat_map met_in_rule (flat_map make xs) ≡ flat_map (λ p. flat_map met_in_rule (make p)) xs
-made_each_met make [] = refl
-made_each_met make (x ∷ xs) = flat_map-append met_in_rule (make x) (flat_map make xs) ∙ ap (λ ps. flat_map met_in_rule (make x) ++ ps) (made_each_met make xs)
 
 -- ---- the items of a grammar, without macros
 
@@ -84,151 +86,308 @@ macros_are (extern_item t ∷ is) = macros_are is
 macros_are (intern_item t ∷ is) = macros_are is
 macros_are (use_item u ∷ is) = macros_are is
 
+-- ---- symbols that are met with all that is in them
+
+alike_same : (names : List ℕ → Bool) (start xs : List Part) → MeetAlike names start (map parts_replaced xs) xs xs
+alike_same names start [] = alike_none names start
+alike_same names start (x ∷ xs) =
+    alike_both names start (parts_replaced x ∷ []) (x ∷ []) (x ∷ []) _ _ _ (alike_one names start (parts_replaced x) x x refl refl refl) (alike_same names start xs)
+
+shown_items : (is : List ItemData) → flat_map shown_in_item is ≡ map parts_replaced (flat_map met_in_item is)
+shown_items [] = refl
+shown_items (i ∷ is) =
+    ap (λ ps. map parts_replaced (met_in_item i) ++ ps) (shown_items is) ∙ sym (map-append parts_replaced (met_in_item i) (flat_map met_in_item is))
+
+pub grammar_alike : (names : List ℕ → Bool) (g : GrammarData) →
+    MeetAlike names [] (flat_map shown_in_item (flat_map without_macro g.items)) (flat_map met_in_item (flat_map without_macro g.items)) (meetings comparison g 0)
+grammar_alike names g = rw (shown_items (flat_map without_macro g.items), others_met g.items) (alike_same names [] (meetings comparison g 0))
+
 -- ---- rounds
 
--- round k + 1 begins, with the symbols met, the items read and those to be read; so many rounds may still make rules
-pub record AtRound (g : GrammarData) (limit left k : ℕ) (seen : List Part) (done pending : List ItemData) : Type 0 where
-  pub rest : expansion_faults comparison g limit ≡ faults_from comparison g k left
-  pub kept : seen ≡ (expansion_round comparison g k).seen
-  pub tells : Tells seen (met_before comparison g k)
-  pub reads : ReadsAs (is_declared_name (rule_names g)) seen (flat_map met_in_item pending) (meetings comparison g k)
-  pub items : done ++ map replaced_item pending ≡ (plain_grammar comparison g k).items
+abbrev start_of : GrammarData → ℕ → List Part
+start_of g k = (expansion_round comparison g k).seen
+
+-- what still stands once round k + 1 was read
+abbrev pub faults_after : GrammarData → ℕ → ℕ → List Fault
+faults_after g k zero = past_cap (expansion_round comparison g k).fresh
+faults_after g k (suc left) = unmade_in comparison g k ++ faults_from comparison g (suc k) left
+
+faults_begin : (g : GrammarData) (k left : ℕ) → faults_from comparison g k left ≡ shared_in comparison g k ++ faults_after g k left
+faults_begin g k zero = refl
+faults_begin g k (suc left) = refl
 
 module _ (g : GrammarData) where
   abbrev make : Part → List RuleData
   make = made_rules comparison (macros_of g)
 
-  abbrev read_as : Part → List RuleData
-  read_as = rules_to_read (macros_of g)
-
   abbrev round : ℕ → Round Part
   round k = expansion_round comparison g k
+
+  abbrev declared : List ℕ → Bool
+  declared = is_declared_name (rule_names g)
 
   fresh_is : (k : ℕ) → (round k).fresh ≡ fresh_of same_apart_from_spans (round k).seen (meetings comparison g k)
   fresh_is zero = refl
   fresh_is (suc k) = refl
 
-  pub first_round : (limit : ℕ) → AtRound g limit limit 0 [] [] (flat_map without_macro g.items)
-  first_round limit = record {
-    rest = refl;
-    kept = refl;
-    tells = λ z. refl;
-    reads = reads_same (is_declared_name (rule_names g)) [] _ _ (others_met g.items);
-    items = others_plain g.items ∙ sym (append-nil (flat_map plain_item g.items));
-  }
+  -- each symbol that is met comes behind what is inside it
+  inward : (names : List ℕ → Bool) (seen : List Part) (k : ℕ) → IsInward names seen (meetings comparison g k)
+  inward names seen zero = inward_each names seen met_in_rule (rules_without_arguments g) (λ r. rule_inward names seen r)
+  inward names seen (suc k) =
+      inward_each names seen (met_by_made comparison (macros_of g)) (reverse (round k).fresh)
+      (λ p. inward_each names seen met_in_rule (make p) (λ r. rule_inward names seen r))
 
-  faults_begin : (k left : ℕ) → (more : List Fault) × (faults_from comparison g k left ≡ shared_in comparison g k ++ more)
-  faults_begin k zero = (past_cap (round k).fresh, refl)
-  faults_begin k (suc left) = (unmade_in comparison g k ++ faults_from comparison g (suc k) left, refl)
+  -- what was seen before round k + 1, spans aside
+  pub record Before (k : ℕ) (seen : List Part) : Type 0 where
+    pub kept : map unplaced seen ≡ map unplaced (round k).seen
+    pub tells : Tells (round k).seen (met_before comparison g k)
 
-  module _ (limit left k : ℕ) (e : Expander) (done pending : List ItemData) (names : is_taken_by e ≡ is_declared_name (rule_names g))
-      (h : AtRound g limit left k (seen_of e) done pending) where
-    refused_same : refused_by e (flat_map met_in_item pending) ≡ refused_by e (meetings comparison g k)
+  -- round k + 1 was read, and these wait
+  pub record AtRound (limit left k : ℕ) (seen waiting : List Part) (done : List ItemData) : Type 0 where
+    pub rest : expansion_faults comparison g limit ≡ faults_after g k left
+    pub before : Before (suc k) seen
+    pub waits : waiting ≡ map parts_replaced (round k).fresh
+    pub first_ones : (p : Part) → In p (round k).fresh → first_with_text (part_text p) (round (suc k)).seen ≡ Some p
+    pub inside_met : (p : Part) → In p (round k).fresh → were_met declared (round (suc k)).seen (inside p) ≡ true
+    pub items : done ≡ (plain_grammar comparison g k).items
+    pub earlier : (j : ℕ) → j < k → IsEnded comparison g j → ⊥
+
+  -- ---- a round is read
+
+  module _ (k : ℕ) (a : Table) (shown whole : List Part) (names : is_declared_in a ≡ declared) (h : Before k (seen_in a))
+      (alike : MeetAlike declared (round k).seen shown whole (meetings comparison g k)) where
+    refused_same : refused_in a whole ≡ clash_faults declared (round k).seen (meetings comparison g k)
     refused_same =
-        ap (λ n. clash_faults n (seen_of e) (flat_map met_in_item pending)) names
-        ∙ h.reads.clashes
-        ∙ sym (ap (λ n. clash_faults n (seen_of e) (meetings comparison g k)) names)
+        ap (λ n. clash_faults n (seen_in a) whole) names
+        ∙ round_refused declared (seen_in a) (round k).seen shown whole (meetings comparison g k) h.kept alike
 
-    first_shared : first (refused_by e (flat_map met_in_item pending)) ≡ first (shared_in comparison g k)
+    first_shared : first (refused_in a whole) ≡ first (shared_in comparison g k)
     first_shared =
-        ap first refused_same
-        ∙ first_same (is_taken_by e) (rule_names g) names (seen_of e) (met_before comparison g k) (meetings comparison g k) h.tells
+        ap first refused_same ∙ first_same declared (rule_names g) refl (round k).seen (met_before comparison g k) (meetings comparison g k) h.tells
 
-    -- F37 in the round
-    pub shared_refused : (f : NormFailure) → IsFirst (refused_by e (flat_map met_in_item pending)) f → IsFirst (expansion_faults comparison g limit) f
-    shared_refused f i =
-        let (more, begin) = faults_begin k left in
+    -- F37
+    pub shared_first : (left : ℕ) (f : NormFailure) → IsFirst (refused_in a whole) f → IsFirst (faults_from comparison g k left) f
+    shared_first left f i =
         let here : IsFirst (shared_in comparison g k) f = subst (λ o. IsFault o f) first_shared i in
-        subst (λ (fs : List Fault). IsFirst fs f) (sym (h.rest ∙ begin)) (first_of_more (shared_in comparison g k) more f here)
+        subst (λ (fs : List Fault). IsFirst fs f) (sym (faults_begin g k left)) (first_of_more (shared_in comparison g k) (faults_after g k left) f here)
 
-    module _ (f : Expander) (m : Meets e f (flat_map met_in_item pending)) (quiet : refused_by e (flat_map met_in_item pending) ≡ []) where
-      quiet_here : refused_by e (meetings comparison g k) ≡ []
+    module _ (b : Table) (m : TableMeets a b whole) (quiet : refused_in a whole ≡ []) where
+      quiet_here : clash_faults declared (round k).seen (meetings comparison g k) ≡ []
       quiet_here = sym refused_same ∙ quiet
 
       shared_none : shared_in comparison g k ≡ []
-      shared_none = quiet_same (is_taken_by e) (rule_names g) names (seen_of e) (met_before comparison g k) (meetings comparison g k) h.tells quiet_here
+      shared_none = quiet_same declared (rule_names g) refl (round k).seen (met_before comparison g k) (meetings comparison g k) h.tells quiet_here
 
-      all_seen : seen_of f ≡ after (seen_of e) (meetings comparison g k)
-      all_seen = m.seen ∙ h.reads.met
+      pub left_over : (left : ℕ) → faults_from comparison g k left ≡ faults_after g k left
+      left_over left = faults_begin g k left ∙ ap (λ fs. fs ++ faults_after g k left) shared_none
 
-      -- the symbols met are those of before and the new ones
-      pub kept_next : seen_of f ≡ (round k).seen ++ (round k).fresh
-      kept_next =
-          all_seen
-          ∙ after_fresh (is_taken_by e) (seen_of e) (meetings comparison g k) quiet_here
-          ∙ ap (λ s. s ++ fresh_of same_apart_from_spans s (meetings comparison g k)) h.kept
-          ∙ ap (λ fs. (round k).seen ++ fs) (sym (fresh_is k))
+      all_seen : after (round k).seen (meetings comparison g k) ≡ (round k).seen ++ (round k).fresh
+      all_seen = after_fresh declared (round k).seen (meetings comparison g k) quiet_here ∙ ap (λ fs. (round k).seen ++ fs) (sym (fresh_is k))
 
-      tells_next : Tells (seen_of f) (met_before comparison g (suc k))
-      tells_next =
-          subst (λ (s : List Part). Tells s (met_before comparison g (suc k))) (sym all_seen)
-          (tells_after (is_taken_by e) (rule_names g) names (seen_of e) (met_before comparison g k) (meetings comparison g k) h.tells quiet_here)
+      pub before_next : Before (suc k) (seen_in b)
+      before_next = record {
+        kept = m.seen ∙ round_seen declared (seen_in a) (round k).seen shown whole (meetings comparison g k) h.kept alike ∙ ap (map unplaced) all_seen;
+        tells =
+            subst (λ (s : List Part). Tells s (met_before comparison g (suc k))) all_seen
+            (tells_after declared (rule_names g) refl (round k).seen (met_before comparison g k) (meetings comparison g k) h.tells quiet_here);
+      }
 
-      -- those past the place where the round began are new
-      pub new_ones : (from : ℕ) → from ≡ length (seen_of e) → drop from (seen_of f) ≡ (round k).fresh
-      new_ones from here =
-          ap (drop from) kept_next ∙ drop_at (round k).seen (round k).fresh from (sym (here ∙ ap length h.kept))
+      firsts : first_met (round k).seen (meetings comparison g k) ≡ (round k).fresh
+      firsts = ap (drop (length (round k).seen)) all_seen ∙ drop-append_seam (round k).seen (round k).fresh
 
-      pub grown : length (seen_of e) ≤ length (seen_of f)
-      grown = omega (arith, ap length kept_next, ap length h.kept, length-append (round k).seen (round k).fresh)
+      pub waits_next : waiting_in a ≡ [] → LeavesWaiting a b shown → waiting_in b ≡ map parts_replaced (round k).fresh
+      waits_next none l =
+          l.waiting ∙ ap (λ ps. ps ++ first_met (seen_in a) shown) none
+          ∙ round_waits declared (seen_in a) (round k).seen shown whole (meetings comparison g k) h.kept alike
+          ∙ ap (map parts_replaced) firsts
 
-      -- F36
-      pub cap_refused : (from : ℕ) (x : NormFailure) → from ≡ length (seen_of e) → left ≡ 0 → IsFirst (past_cap (drop from (seen_of f))) x →
-          IsFirst (expansion_faults comparison g limit) x
-      cap_refused from x here end i =
-          let all : expansion_faults comparison g limit ≡ past_cap (drop from (seen_of f)) =
-          h.rest ∙ ap (faults_from comparison g k) end ∙ ap (λ fs. fs ++ past_cap (round k).fresh) shared_none ∙ ap past_cap (sym (new_ones from here)) in
-          subst (λ (fs : List Fault). IsFirst fs x) (sym all) i
+      pub first_ones_next : (p : Part) → In p (round k).fresh → first_with_text (part_text p) (round (suc k)).seen ≡ Some p
+      first_ones_next p i =
+          ap (first_with_text (part_text p)) (sym all_seen)
+          ∙ first_of_text (round k).seen (meetings comparison g k) p (subst (λ (ps : List Part). In p ps) (sym firsts) i)
 
-      left_over : (from less : ℕ) → from ≡ length (seen_of e) → left ≡ suc less →
-          expansion_faults comparison g limit ≡ flat_map (unmade (macros_of g)) (reverse (drop from (seen_of f))) ++ faults_from comparison g (suc k) less
-      left_over from less here more =
-          h.rest
-          ∙ ap (faults_from comparison g k) more
-          ∙ ap (λ fs. fs ++ (unmade_in comparison g k ++ faults_from comparison g (suc k) less)) shared_none
-          ∙ ap (λ xs. flat_map (unmade (macros_of g)) (reverse xs) ++ faults_from comparison g (suc k) less) (sym (new_ones from here))
+      inside_of : (p : Part) → were_met declared (round (suc k)).seen (met p) ≡ true → were_met declared (round (suc k)).seen (inside p) ≡ true
+      inside_of (at s j) w = were_left declared (round (suc k)).seen (met_inside j) (own s j) (ap (were_met declared (round (suc k)).seen) (sym (split_at s j)) ∙ w)
 
-      -- F35
-      pub unmade_refused : (from less : ℕ) (x : NormFailure) → from ≡ length (seen_of e) → left ≡ suc less →
-          IsFirst (flat_map (unmade (macros_of g)) (reverse (drop from (seen_of f)))) x → IsFirst (expansion_faults comparison g limit) x
-      unmade_refused from less x here more i =
-          subst (λ (fs : List Fault). IsFirst fs x) (sym (left_over from less here more)) (first_of_more _ (faults_from comparison g (suc k) less) x i)
+      pub inside_met_next : (p : Part) → In p (round k).fresh → were_met declared (round (suc k)).seen (inside p) ≡ true
+      inside_met_next p i =
+          let listed : In p (meetings comparison g k) =
+          fresh_listed same_apart_from_spans (round k).seen (meetings comparison g k) p (subst (λ (ps : List Part). In p ps) (fresh_is k) i) in
+          let all : were_met declared (round (suc k)).seen (meetings comparison g k) ≡ true =
+          subst (λ (s : List Part). were_met declared s (meetings comparison g k) ≡ true) all_seen
+          (met_then declared (round k).seen (meetings comparison g k) quiet_here) in
+          inside_of p (inward declared (round (suc k)).seen k p listed all)
 
-      pub next_round : (from less : ℕ) (later rules : List ItemData) → from ≡ length (seen_of e) → left ≡ suc less →
-          later ≡ done ++ map replaced_item pending → flat_map (unmade (macros_of g)) (reverse (drop from (seen_of f))) ≡ [] →
-          rules ≡ map rule_item (flat_map read_as (reverse (drop from (seen_of f)))) → AtRound g limit less (suc k) (seen_of f) later rules
-      next_round from less later rules here more moved unmade_none are =
-          let new_rules : List RuleData = flat_map (make) (reverse (round k).fresh) in
-          record {
-            rest = left_over from less here more ∙ ap (λ fs. fs ++ faults_from comparison g (suc k) less) unmade_none;
-            kept = kept_next;
-            tells = tells_next;
-            reads = record {
-              met = ap (after (seen_of f)) read ∙ reading.met;
-              clashes = ap (clash_faults (is_declared_name (rule_names g)) (seen_of f)) read ∙ reading.clashes;
-            };
-            items =
-                ap₂ ◌++◌ (moved ∙ h.items) (ap (map replaced_item) rules_are ∙ rules_replaced (flat_map read_as (reverse (round k).fresh)) ∙ read_replaced (macros_of g) (reverse (round k).fresh))
-                ∙ append_assoc (flat_map plain_item g.items) (replaced_rules (made_in comparison g k)) (replaced_rules new_rules)
-                ∙ ap (λ rs. flat_map plain_item g.items ++ rs)
-                (sym (map-append (λ r. rule_item (replaced_rule r)) (made_in comparison g k) new_rules)
-                ∙ ap replaced_rules (sym (flat_map-append (make) (made_symbols comparison g k) (reverse (round k).fresh))));
-          }
-        where
-          rules_are : rules ≡ map rule_item (flat_map read_as (reverse (round k).fresh))
-          rules_are = are ∙ ap (λ xs. map rule_item (flat_map read_as (reverse xs))) (new_ones from here)
+      pub at_round : (limit left : ℕ) (done : List ItemData) → waiting_in a ≡ [] → LeavesWaiting a b shown →
+          expansion_faults comparison g limit ≡ faults_from comparison g k left → done ≡ (plain_grammar comparison g k).items →
+          ((j : ℕ) → j < k → IsEnded comparison g j → ⊥) → AtRound limit left k (seen_in b) (waiting_in b) done
+      at_round limit left done none l rest items earlier = record {
+        rest = rest ∙ left_over left;
+        before = before_next;
+        waits = waits_next none l;
+        first_ones = first_ones_next;
+        inside_met = inside_met_next;
+        items = items;
+        earlier = earlier;
+      }
 
-          read : flat_map met_in_item rules ≡ flat_map (λ p. flat_map met_in_rule (read_as p)) (reverse (round k).fresh)
-          read = ap (flat_map met_in_item) rules_are ∙ rules_met (flat_map read_as (reverse (round k).fresh)) ∙ made_each_met read_as (reverse (round k).fresh)
+  -- ---- round 1
 
-          names_now : is_taken_by f ≡ is_declared_name (rule_names g)
-          names_now = ap has_key m.names ∙ names
+  pub none_before : (seen : List Part) → seen ≡ [] → Before 0 seen
+  none_before seen e = record { kept = ap (map unplaced) e; tells = λ z. refl }
 
-          reading : ReadsAs (is_declared_name (rule_names g)) (seen_of f) (flat_map (λ p. flat_map met_in_rule (read_as p)) (reverse (round k).fresh))
-              (flat_map (λ p. flat_map met_in_rule (make p)) (reverse (round k).fresh))
-          reading =
-              new_reads (is_declared_name (rule_names g)) (macros_of g) (seen_of f) (round k).seen (round k).fresh kept_next
-              (subst (λ n. were_met_inside n (seen_of f) (seen_of f) ≡ true) names_now m.indexed.inward)
+  pub grammar_items : (done : List ItemData) → done ≡ [] ++ map replaced_item (flat_map without_macro g.items) → done ≡ (plain_grammar comparison g 0).items
+  grammar_items done e = e ∙ others_plain g.items ∙ sym (append-nil (flat_map plain_item g.items))
+
+  pub none_earlier : (j : ℕ) → j < 0 → IsEnded comparison g j → ⊥
+  none_earlier j l e = absurd (omega arith)
+
+  -- ---- from one round to the next
+
+  -- the rules that the symbols that wait are made into
+  abbrev pub next_pending : ℕ → List PendingData
+  next_pending k = flat_map (pending_by (macros_of g)) (reverse (round k).fresh)
+
+  pub next_alike : (limit left k : ℕ) (seen waiting : List Part) (done : List ItemData) → AtRound limit left k seen waiting done →
+      MeetAlike declared (round (suc k)).seen (flat_map shown_in_pending (next_pending k)) (flat_map met_in_pending (next_pending k)) (meetings comparison g (suc k))
+  next_alike limit left k seen waiting done h =
+      rules_read declared (round (suc k)).seen (macros_of g) (reverse (round k).fresh) (λ p i. h.inside_met p (of_reverse p (round k).fresh i))
+
+  pub next_items : (limit left k : ℕ) (seen waiting : List Part) (done later : List ItemData) → AtRound limit left k seen waiting done →
+      later ≡ done ++ map pending_read (next_pending k) → later ≡ (plain_grammar comparison g (suc k)).items
+  next_items limit left k seen waiting done later h e =
+      let new_rules : List RuleData = flat_map make (reverse (round k).fresh) in
+      e ∙ ap₂ ◌++◌ h.items (pending_are_read (macros_of g) (reverse (round k).fresh))
+      ∙ append_assoc (flat_map plain_item g.items) (replaced_rules (made_in comparison g k)) (replaced_rules new_rules)
+      ∙ ap (λ rs. flat_map plain_item g.items ++ rs)
+      (sym (map-append (λ r. rule_item (replaced_rule r)) (made_in comparison g k) new_rules)
+      ∙ ap replaced_rules (sym (flat_map-append make (made_symbols comparison g k) (reverse (round k).fresh))))
+
+  -- what waits, by its numbers
+  pub record IsMaking (t : Table) (k : ℕ) (xs : List Waiting) : Type 0 where
+    pub waiting : AreWaiting (wholes_in t) xs
+    pub pending : flat_map (pending_for (wholes_in t) (macros_of g)) (reverse xs) ≡ next_pending k
+    pub unmade : flat_map (λ w. unmade (macros_of g) (symbol_view w.symbol)) (reverse xs) ≡ unmade_in comparison g k
+
+  mapped : {A B C : Type 0} (f : A → B) (h : B → List C) (xs : List A) → flat_map (λ x. h (f x)) xs ≡ flat_map h (map f xs)
+  mapped f h [] = refl
+  mapped f h (x ∷ xs) = ap (λ ys. h (f x) ++ ys) (mapped f h xs)
+
+  pub is_making : (t : Table) (limit left k : ℕ) (seen : List Part) (done : List ItemData) (xs : List Waiting) → IsNodeTable t → map unplaced (seen_in t) ≡ map unplaced seen →
+      AtRound limit left k seen (map (λ w. symbol_view w.symbol) xs) done → AreNumbered (wholes_in t) xs → IsMaking t k xs
+  is_making t limit left k seen done xs table same h numbered =
+      let are = waiting_are t table (round (suc k)).seen (same ∙ h.before.kept) xs (round k).fresh h.waits numbered h.first_ones in
+      let number = with_number t table (round (suc k)).seen (same ∙ h.before.kept) in
+      let whole = with_whole t table (round (suc k)).seen (same ∙ h.before.kept) in
+      let make_of : Kind × Part → List PendingData = λ x. pending_of (macros_of g) x.0 x.1 in
+      let view : Waiting → Part = λ w. symbol_view w.symbol in
+      record {
+        waiting = are.0;
+        pending =
+            mapped number make_of (reverse xs)
+            ∙ ap (flat_map make_of) (map_reverse number xs ∙ ap reverse are.1 ∙ sym (map_reverse whole (round k).fresh))
+            ∙ sym (mapped whole make_of (reverse (round k).fresh));
+        unmade =
+            mapped view (unmade (macros_of g)) (reverse xs)
+            ∙ ap (flat_map (unmade (macros_of g))) (map_reverse view xs ∙ ap reverse h.waits ∙ sym (map_reverse parts_replaced (round k).fresh))
+            ∙ all_unmade (macros_of g) (reverse (round k).fresh);
+      }
+
+  -- a round that has new symbols has not ended
+  pub earlier_next : (limit left k : ℕ) (seen waiting : List Part) (done : List ItemData) → AtRound limit left k seen waiting done → (waiting ≡ [] → ⊥) →
+      (j : ℕ) → j < suc k → IsEnded comparison g j → ⊥
+  earlier_next limit left k seen waiting done h some j l e = by (eq_cases j k)
+    where
+      eq_cases : (j n : ℕ) → (j ≡ n) ⊎ (j ≡ n → ⊥)
+      eq_cases j n = grind arith
+
+      by : (j ≡ k) ⊎ (j ≡ k → ⊥) → ⊥
+      by (inl same) = some (h.waits ∙ ap (λ i. map parts_replaced (round i).fresh) (sym same) ∙ ap (map parts_replaced) e)
+      by (inr other) = h.earlier j (omega arith) e
+
+  -- ---- the code's rounds
+
+  -- round 1
+  module _ (a b : Table) (others : List ItemData) (e : others ≡ flat_map without_macro g.items) (names : is_declared_in a ≡ declared) (seen : seen_in a ≡ []) where
+    first_alike : MeetAlike declared [] (flat_map shown_in_item others) (flat_map met_in_item others) (meetings comparison g 0)
+    first_alike = rw e (grammar_alike declared g)
+
+    pub first_refused : (limit : ℕ) (f : NormFailure) → IsFirst (refused_in a (flat_map met_in_item others)) f → IsFirst (expansion_faults comparison g limit) f
+    first_refused limit f i = shared_first 0 a (flat_map shown_in_item others) (flat_map met_in_item others) names (none_before (seen_in a) seen) first_alike limit f i
+
+    pub first_round : (limit : ℕ) (done : List ItemData) → waiting_in a ≡ [] → TableMeets a b (flat_map met_in_item others) → refused_in a (flat_map met_in_item others) ≡ [] →
+        LeavesWaiting a b (flat_map shown_in_item others) → done ≡ [] ++ map replaced_item others → AtRound limit limit 0 (seen_in b) (waiting_in b) done
+    first_round limit done none m quiet l moved =
+        at_round 0 a (flat_map shown_in_item others) (flat_map met_in_item others) names (none_before (seen_in a) seen) first_alike b m quiet limit limit done none l refl
+        (grammar_items done (moved ∙ ap (map replaced_item) e)) none_earlier
+
+  -- the others: those that wait are made into rules, which are read
+  module _ (limit left less k : ℕ) (a b : Table) (old : List Part) (xs : List Waiting) (done : List ItemData) (more : left ≡ suc less)
+      (h : AtRound limit left k old (map (λ w. symbol_view w.symbol) xs) done) (making : IsMaking a k xs) (names : is_declared_in a ≡ declared) (seen : seen_in a ≡ old) where
+    abbrev made : List PendingData
+    made = flat_map (pending_for (wholes_in a) (macros_of g)) (reverse xs)
+
+    abbrev unmade_here : List Fault
+    unmade_here = flat_map (λ w. unmade (macros_of g) (symbol_view w.symbol)) (reverse xs)
+
+    before_here : Before (suc k) (seen_in a)
+    before_here = subst (Before (suc k)) (sym seen) h.before
+
+    alike_here : MeetAlike declared (round (suc k)).seen (flat_map shown_in_pending made) (flat_map met_in_pending made) (meetings comparison g (suc k))
+    alike_here = rw making.pending (next_alike limit left k old (map (λ w. symbol_view w.symbol) xs) done h)
+
+    faults_left : expansion_faults comparison g limit ≡ unmade_here ++ faults_from comparison g (suc k) less
+    faults_left = h.rest ∙ ap (faults_after g k) more ∙ ap (λ fs. fs ++ faults_from comparison g (suc k) less) (sym making.unmade)
+
+    first_joined : (us vs ws : List Fault) (f : NormFailure) → IsFirst (us ++ vs) f → (IsFirst vs f → IsFirst ws f) → IsFirst (us ++ ws) f
+    first_joined [] vs ws f i later = later i
+    first_joined (u ∷ us) vs ws f i later = i
+
+    -- F33, F34, F35, and F37 of the next round
+    pub round_refused_so : (f : NormFailure) → IsFirst (unmade_here ++ refused_in a (flat_map met_in_pending made)) f → IsFirst (expansion_faults comparison g limit) f
+    round_refused_so f i =
+        subst (λ (fs : List Fault). IsFirst fs f) (sym faults_left)
+        (first_joined unmade_here (refused_in a (flat_map met_in_pending made)) (faults_from comparison g (suc k) less) f i
+        (shared_first (suc k) a (flat_map shown_in_pending made) (flat_map met_in_pending made) names before_here alike_here less f))
+
+    both_none : (us vs : List Fault) → us ++ vs ≡ [] → (us ≡ []) × (vs ≡ [])
+    both_none [] vs e = (refl, e)
+    both_none (u ∷ us) vs e = absurd (cc e)
+
+    pub round_next : (later : List ItemData) → waiting_in a ≡ [] → (map (λ w. symbol_view w.symbol) xs ≡ [] → ⊥) → TableMeets a b (flat_map met_in_pending made) →
+        unmade_here ++ refused_in a (flat_map met_in_pending made) ≡ [] → LeavesWaiting a b (flat_map shown_in_pending made) → later ≡ done ++ map pending_read made →
+        AtRound limit less (suc k) (seen_in b) (waiting_in b) later
+    round_next later none some m quiet l moved =
+        let quiets = both_none unmade_here (refused_in a (flat_map met_in_pending made)) quiet in
+        at_round (suc k) a (flat_map shown_in_pending made) (flat_map met_in_pending made) names before_here alike_here b m quiets.1 limit less later none l
+        (faults_left ∙ ap (λ fs. fs ++ faults_from comparison g (suc k) less) quiets.0)
+        (next_items limit left k old (map (λ w. symbol_view w.symbol) xs) done later h (moved ∙ ap (λ qs. done ++ map pending_read qs) making.pending))
+        (earlier_next limit left k old (map (λ w. symbol_view w.symbol) xs) done h some)
+
+  -- the symbols that waited, once they are taken out of the table
+  pub record Taken (limit left k : ℕ) (a : Table) (xs : List Waiting) (done : List ItemData) : Type 0 where
+    pub round : AtRound limit left k (seen_in a) (map (λ w. symbol_view w.symbol) xs) done
+    pub making : IsMaking a k xs
+
+  pub taken : (limit left k : ℕ) (z a : Table) (xs : Vec Waiting Global) (done : List ItemData) → AtRound limit left k (seen_in z) (waiting_in z) done → a.nodes ≡ z.nodes →
+      xs ≡ z.waiting → IsNodeTable a → AreNumbered (wholes_in a) xs.items → Taken limit left k a xs.items done
+  taken limit left k z a xs done h nodes same table numbered =
+      let round : AtRound limit left k (seen_in a) (map (λ w. symbol_view w.symbol) xs.items) done =
+      subst (λ (v : Vec Waiting Global). AtRound limit left k (seen_in a) (map (λ w. symbol_view w.symbol) v.items) done) (sym same)
+      (subst (λ (ns : Nodes). AtRound limit left k (flat_map own_in (wholes ns)) (waiting_in z) done) (sym nodes) h) in
+      record { round = round; making = is_making a limit left k (seen_in a) done xs.items table refl round numbered }
+
+  -- ---- F36
+
+  past_cap_replaced : (xs : List Part) → past_cap (map parts_replaced xs) ≡ past_cap xs
+  past_cap_replaced [] = refl
+  past_cap_replaced (at s i ∷ []) = refl
+  past_cap_replaced (x ∷ y ∷ xs) = past_cap_replaced (y ∷ xs)
+
+  pub cap_refused : (limit left k : ℕ) (seen waiting : List Part) (done : List ItemData) → AtRound limit left k seen waiting done → left ≡ 0 →
+      expansion_faults comparison g limit ≡ past_cap waiting
+  cap_refused limit left k seen waiting done h e =
+      h.rest ∙ ap (faults_after g k) e ∙ sym (past_cap_replaced (round k).fresh) ∙ ap past_cap (sym h.waits)
 
   -- ---- the last round
 
@@ -254,29 +413,44 @@ module _ (g : GrammarData) where
       (quiet_end (suc k) left (next_none k h)
       (ap (λ xs. shared_names (rule_names g) (met_before comparison g (suc k)) (flat_map (met_by_made comparison (macros_of g)) (reverse xs))) h)))
 
-  pub record IsDone (limit : ℕ) (made : List ItemData) : Type 0 where
+  faults_end : (k left : ℕ) → (round k).fresh ≡ [] → faults_after g k left ≡ []
+  faults_end k zero h = ap past_cap h
+  faults_end k (suc left) h =
+      ap₂ ◌++◌ (ap (λ xs. flat_map (unmade (macros_of g)) (reverse xs)) h)
+      (quiet_end (suc k) left (next_none k h)
+      (ap (λ xs. shared_names (rule_names g) (met_before comparison g (suc k)) (flat_map (met_by_made comparison (macros_of g)) (reverse xs))) h))
+
+  made_long : (k : ℕ) → length (made_symbols comparison g k) ≡ length (round k).seen
+  made_long zero = refl
+  made_long (suc k) =
+      length-append (made_symbols comparison g k) (reverse (round k).fresh)
+      ∙ ap₂ ◌+◌ (made_long k) (length-reverse (round k).fresh)
+      ∙ sym (length-append (round k).seen (round k).fresh)
+
+  pub record IsDone (limit k : ℕ) (seen : List Part) (made : List ItemData) : Type 0 where
     pub faultless : expansion_faults comparison g limit ≡ []
     pub whole : IsEnded comparison g limit
     pub items : made ≡ (plain_grammar comparison g limit).items
+    pub ended : IsEnded comparison g k
+    pub long : length seen ≡ length (made_symbols comparison g limit)
 
   -- a round with nothing new is the last
-  pub last_round : (limit left k : ℕ) (e : Expander) (done pending : List ItemData) (names : is_taken_by e ≡ is_declared_name (rule_names g)) →
-      AtRound g limit left k (seen_of e) done pending → (f : Expander) → Meets e f (flat_map met_in_item pending) →
-      refused_by e (flat_map met_in_item pending) ≡ [] → limit ≡ k + left → length (seen_of f) ≡ length (seen_of e) →
-      (later : List ItemData) → later ≡ done ++ map replaced_item pending → IsDone limit later
-  last_round limit left k e done pending names h f m quiet sum same later moved = record {
-    faultless = h.rest ∙ quiet_end k left nothing (shared_none limit left k e done pending names h f m quiet);
+  pub last_round : (limit left k : ℕ) (seen waiting : List Part) (done : List ItemData) → AtRound limit left k seen waiting done → waiting ≡ [] → limit ≡ k + left →
+      IsDone limit k seen done
+  last_round limit left k seen waiting done h none sum = record {
+    faultless = h.rest ∙ faults_end k left nothing;
     whole = fresh_stays k left limit sum nothing;
-    items =
-        moved ∙ h.items
-        ∙ ap (λ ps. flat_map plain_item g.items ++ replaced_rules (flat_map (make) ps)) (sym (made_stays k left limit sum nothing));
+    items = h.items ∙ ap (λ ps. flat_map plain_item g.items ++ replaced_rules (flat_map make ps)) (sym (made_stays k left limit sum nothing));
+    ended = nothing;
+    long =
+        sym (length-map seen unplaced) ∙ ap length h.before.kept ∙ length-map (round (suc k)).seen unplaced
+        ∙ ap (λ xs. length ((round k).seen ++ xs)) nothing ∙ ap length (append-nil (round k).seen)
+        ∙ sym (made_long k) ∙ ap length (sym (made_stays k left limit sum nothing));
   }
     where
-      no_more : (xs ys : List Part) → length (xs ++ ys) ≡ length xs → ys ≡ []
-      no_more xs [] e = refl
-      no_more xs (y ∷ ys) e = absurd (omega (arith, length-append xs (y ∷ ys)))
+      no_more : (xs : List Part) → map parts_replaced xs ≡ [] → xs ≡ []
+      no_more [] e = refl
+      no_more (x ∷ xs) e = absurd (cc e)
 
       nothing : (round k).fresh ≡ []
-      nothing =
-          no_more (round k).seen (round k).fresh
-          (ap length (sym (kept_next limit left k e done pending names h f m quiet)) ∙ same ∙ ap length h.kept)
+      nothing = no_more (round k).fresh (sym h.waits ∙ none)

@@ -1,3 +1,4 @@
+pub mod Counts
 pub mod Expansion
 pub mod Laws
 pub mod Making

@@ -1,34 +1,89 @@
--- What the code makes of the symbols that were met: its own words, of which no public clause speaks.
-use Rattle.std.specs.Prelude.{List, [], ◌∷◌, if◌then◌else◌}
+-- What the code makes of the symbols that wait: its own words, of which no public clause speaks.
+use Rattle.std.specs.Prelude.{ℕ, List, [], ◌∷◌, flat_map, option_map, Option, Some, None, codes, if◌then◌else◌}
 use Rattle.lalrpop_norm_tree_names.specs.declared.names.NonterminalString.{NonterminalString}
 use Rattle.lalrpop_norm_tree_names.specs.declared.names.Span.{Span}
-use Rattle.lalrpop_norm_tree.specs.Symbols.{Part, Parts, at, group, ambiguous_id, terminal, nonterminal, call, repeated, chosen}
-use Rattle.lalrpop_norm_tree.specs.Symbols.{named, tupled, lookahead, lookbehind, error_terminal}
-use Rattle.lalrpop_norm_tree.specs.Items.{AlternativeData, RuleData}
+use Rattle.lalrpop_norm_tree.specs.declared.symbol.RepeatOp.{RepeatOp}
+use Rattle.lalrpop_norm_tree.specs.Symbols.{Kind, Part, Parts, at, group, ambiguous_id, terminal, nonterminal, call, repeated, chosen}
+use Rattle.lalrpop_norm_tree.specs.Symbols.{named, tupled, lookahead, lookbehind, error_terminal, symbol_view}
+use Rattle.lalrpop_norm_tree.specs.SymbolTexts.{kind_text}
+use Rattle.lalrpop_norm_tree.specs.Items.{AlternativeData, RuleData, lookahead_code, lookbehind_code}
 use Rattle.lalrpop_norm_conditions.specs.Conditions.{comparison}
 use Rattle.lalrpop_norm_model.specs.Grammars.{is_true}
-use Rattle.lalrpop_norm_model.specs.MadeRules.{flat_reader, argument_kind, group_rule, instance_alternative, made_rules}
+use Rattle.lalrpop_norm_model.specs.MadeRules.{flat_reader, argument_kind, only_part, macro_named, type_substituted}
+use Rattle.lalrpop_norm_model.specs.MadeRules.{group_rule, location_rule, repeat_rule, instance_alternative}
 use Rattle.lalrpop_norm_model.specs.Reading.{read_all}
-use Rattle.lalrpop_norm_model.specs.PlainRules.{replaced_rule}
+use Rattle.lalrpop_norm_macro_expand_met.specs.Apart.{nowhere}
+use Rattle.lalrpop_norm_nodes.specs.declared.table.Waiting.{Waiting}
+use Rattle.lalrpop_norm_nodes.specs.NodeParts.{call_parts, repeated_kind}
+use Rattle.lalrpop_norm_nodes.specs.Wholes.{Whole, kind_at}
+use Rattle.lalrpop_norm_macro_expand_rules.specs.Pending.{PendingData, finished_rule, unread_rule}
+use Rattle.lalrpop_norm_macro_expand_rules.specs.Rules.{named_rule}
 
--- The rules of a symbol as the next round reads them. In the rule of a group the symbols are replaced already: each of them was
--- met before the group was.
-abbrev pub rules_to_read : List RuleData → Part → List RuleData
-rules_to_read macros (at s (group ps)) = replaced_rule (group_rule s ps) ∷ []
-rules_to_read macros (at s (call n ps)) = made_rules comparison macros (at s (call n ps))
-rules_to_read macros (at s (repeated op p)) = made_rules comparison macros (at s (repeated op p))
-rules_to_read macros (at s lookahead) = made_rules comparison macros (at s lookahead)
-rules_to_read macros (at s lookbehind) = made_rules comparison macros (at s lookbehind)
-rules_to_read macros (at s (ambiguous_id a)) = []
-rules_to_read macros (at s (terminal t)) = []
-rules_to_read macros (at s (nonterminal n)) = []
-rules_to_read macros (at s (chosen p)) = []
-rules_to_read macros (at s (named n p)) = []
-rules_to_read macros (at s (tupled ns p)) = []
-rules_to_read macros (at s error_terminal) = []
+-- ---- macro calls
 
--- an alternative of a macro in a call's rule, if its condition is true or absent
+-- an alternative of a macro as the rule of a call has it, its arguments not yet given
+abbrev pub copied_alternative : Span → AlternativeData → AlternativeData
+copied_alternative s a = instance_alternative s (λ n. None) a
+
+-- the same, if its condition is true or absent
 abbrev pub kept_of : Span → List NonterminalString → Parts → AlternativeData → List AlternativeData
 kept_of s params args a =
-    if is_true comparison params (read_all flat_reader args) a.condition
-    then instance_alternative s (argument_kind params args) a ∷ [] else []
+    if is_true comparison params (read_all flat_reader args) a.condition then copied_alternative s a ∷ [] else []
+
+-- the rule of a call of that name with these arguments, before its alternatives are read
+abbrev pub instance_shape : List ℕ → Span → RuleData → Parts → RuleData
+instance_shape name s d args = record {
+  visibility = d.visibility;
+  name = record { 0 = name };
+  attributes = d.attributes;
+  span = s;
+  args = [];
+  type_decl = option_map (type_substituted (argument_kind d.args args)) d.type_decl;
+  alternatives = flat_map (kept_of s d.args args) d.alternatives;
+}
+
+-- where the arguments are the second ones once they are replaced
+abbrev pub call_pending : List ℕ → Span → Option RuleData → Parts → Parts → List PendingData
+call_pending name s None whole shown = []
+call_pending name s (Some d) whole shown =
+    unread_rule (instance_shape name s d shown) (argument_kind d.args whole) (argument_kind d.args shown) ∷ []
+
+-- ---- repeats
+
+-- the name that stands for what is repeated
+abbrev pub hole_name : List ℕ
+hole_name = codes "X"
+
+abbrev pub hole : List NonterminalString
+hole = (record { 0 = hole_name }) ∷ []
+
+-- the rule of a repeat of that name, its alternatives over the second symbol
+abbrev pub repeat_shape : List ℕ → Span → RepeatOp → Part → Part → RuleData
+repeat_shape name s op p over =
+    named_rule name s (repeat_rule s op p).attributes (repeat_rule s op p).type_decl (repeat_rule s op over).alternatives
+
+abbrev pub repeat_pending : List ℕ → Span → RepeatOp → Kind → Part → PendingData
+repeat_pending name s op whole (at t k) =
+    unread_rule (repeat_shape name s op (at t k) (at t (nonterminal hole_name))) (argument_kind hole (only_part (at nowhere whole)))
+    (argument_kind hole (only_part (at t k)))
+
+-- ---- symbols that wait
+
+-- The rules that a symbol is made into, where it is the first symbol spans aside, and the second one once its parts are replaced. In
+-- the rule of a group they are replaced: each of them was met before the group was.
+abbrev pub pending_of : List RuleData → Kind → Part → List PendingData
+pending_of macros whole (at s (group ps)) = finished_rule (group_rule s ps) ∷ []
+pending_of macros whole (at s (call n ps)) = call_pending (kind_text (call n ps)) s (macro_named macros n) (call_parts whole) ps
+pending_of macros whole (at s (repeated op p)) = repeat_pending (kind_text (repeated op p)) s op (repeated_kind whole) p ∷ []
+pending_of macros whole (at s lookahead) = finished_rule (location_rule s lookahead lookahead_code) ∷ []
+pending_of macros whole (at s lookbehind) = finished_rule (location_rule s lookbehind lookbehind_code) ∷ []
+pending_of macros whole (at s (ambiguous_id a)) = []
+pending_of macros whole (at s (terminal t)) = []
+pending_of macros whole (at s (nonterminal n)) = []
+pending_of macros whole (at s (chosen p)) = []
+pending_of macros whole (at s (named n p)) = []
+pending_of macros whole (at s (tupled ns p)) = []
+pending_of macros whole (at s error_terminal) = []
+
+abbrev pub pending_for : List Whole → List RuleData → Waiting → List PendingData
+pending_for ws macros w = pending_of macros (kind_at ws w.number) (symbol_view w.symbol)

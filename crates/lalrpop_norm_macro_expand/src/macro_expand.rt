@@ -3,61 +3,56 @@
 //! Round 1 reads the rules of the grammar, each later one the rules that the round before made. To read a rule is to meet
 //! the symbols in it, inner ones before outer ones, and to put in the place of each that is made into a rule the
 //! nonterminal of its text. Symbols that are the same apart from spans are made into one rule, where they were first met.
-ghost use Rattle.std.specs.Prelude.{◌≡◌, ◌<◌, ◌≤◌, IfOk, map, drop, length, reverse, flat_map};
-ghost use Rattle.lalrpop_norm_tree.specs.Items.{item_view, rule_item, grammar_view};
+ghost use Rattle.std.specs.Prelude.{◌≡◌, ◌<◌, ◌+◌, ◌++◌, IfOk, OnOk, map, length, reverse, flat_map};
+ghost use Rattle.lalrpop_norm_tree.specs.Symbols.{symbol_view};
+ghost use Rattle.lalrpop_norm_tree.specs.Items.{item_view, grammar_view};
 ghost use Rattle.lalrpop_norm_faults.specs.Faults.{Refuses, IsFirst};
 ghost use Rattle.lalrpop_norm_conditions.specs.Conditions.{comparison};
 ghost use Rattle.lalrpop_norm_model.specs.PlainRules.{IsEnded, plain_grammar};
 ghost use Rattle.lalrpop_norm_model.specs.Scopes.{resolved_grammar};
-ghost use Rattle.lalrpop_norm_macro_expand.specs.Expansion.{unmade, past_cap, expansion_faults, macro_faults};
-ghost use Rattle.lalrpop_norm_macro_expand.specs.Making.{rules_to_read};
+ghost use Rattle.lalrpop_norm_nodes.specs.NodeParts.{AreWaiting};
+ghost use Rattle.lalrpop_norm_nodes.specs.Tables.{wholes_in, seen_in, IsNodeTable, IsCounted, TableMeets, refused_in};
+ghost use Rattle.lalrpop_norm_nodes.specs.Waits.{LeavesWaiting};
 ghost use Rattle.lalrpop_norm_macro_expand_rules.specs.Macros.{macros_in, AreByName};
-ghost use Rattle.lalrpop_norm_macro_expand_met.specs.Meeting.{seen_of, AreNamed};
+ghost use Rattle.lalrpop_norm_macro_expand_rules.specs.Pending.{met_in_pending, shown_in_pending, pending_read};
+ghost use Rattle.lalrpop_norm_macro_expand.specs.Counts.{AreCounts};
+ghost use Rattle.lalrpop_norm_macro_expand.specs.Expansion.{unmade, past_cap, expansion_faults, macro_faults};
+ghost use Rattle.lalrpop_norm_macro_expand.specs.Making.{pending_for};
 
 mod instance;
 mod make;
 mod repeats;
 
-use self::make::add_rule;
+use self::make::make_rules;
 use lalrpop_norm_faults::{FaultKind, NormFailure, NormResult, refusal};
-use lalrpop_norm_macro_expand_met::expander::Expander;
 use lalrpop_norm_macro_expand_rules::items::read_items;
 use lalrpop_norm_macro_expand_rules::macros::{Macros, without_macros};
 use lalrpop_norm_macro_expand_rules::names::declared_names;
+use lalrpop_norm_macro_expand_rules::pending::read_pending;
+use lalrpop_norm_nodes::hashing::NodeHashBuilder;
+use lalrpop_norm_nodes::table::{Table, Waiting};
 use lalrpop_norm_resolve::resolve::resolve;
 use lalrpop_norm_tree::grammar::parse_tree::{Grammar, GrammarItem};
 use std::alloc::Global;
 use std::mem;
 
-/// The rules of the symbols from that place on, that of the last one first.
-fn make_rules(
-    alloc: Global,
-    macros: &Macros,
-    expander: &Expander,
-    from: usize,
-) -> NormResult<Vec<GrammarItem>>
-    requires macros { AreByName macros.now }
-    requires named { AreNamed expander.now.met.items }
-    requires from { from ≤ length expander.now.met.items }
-    ensures refuses { Refuses result (flat_map (unmade (macros_in macros.now)) (reverse (drop from (seen_of expander.now)))) }
-    ensures rules { IfOk result (λ rs. map item_view rs.items
-        ≡ map rule_item (flat_map (rules_to_read (macros_in macros.now)) (reverse (drop from (seen_of expander.now))))) }
-{
-    let mut rules = Vec::new(alloc);
-    let mut i = expander.met.len();
-    while i > from {
-        i -= 1;
-        add_rule(alloc, macros, &expander.met[i], &mut rules)?;
-    }
-    Ok(rules)
+/// How much an expansion did.
+#[derive(Clone, Copy, Debug, PartialEq, Eq)]
+pub struct Counts {
+    /// How many rules were added: one for each symbol that is made into a rule.
+    pub instances: usize,
+    /// How many rounds read rules, that of the grammar's own rules with them: up to the first that met no new symbol.
+    pub rounds: usize,
+    /// How many texts of symbols were made.
+    pub texts: usize,
 }
 
 /// The refusal of what is new past the cap, at the symbol met last.
-fn past_cap(alloc: Global, expander: &Expander, from: usize) -> NormFailure
-    requires { from < length expander.now.met.items }
-    ensures { IsFirst (past_cap (drop from (seen_of expander.now))) result }
+fn past_cap(alloc: Global, waiting: &[Waiting]) -> NormFailure
+    requires { 0 < length waiting.now }
+    ensures { IsFirst (past_cap (map (λ w. symbol_view w.symbol) waiting.now)) result }
 {
-    let last = &expander.met[expander.met.len() - 1].symbol;
+    let last = &waiting[waiting.len() - 1].symbol;
     refusal(
         FaultKind::RecursionCap,
         last.span,
@@ -65,6 +60,73 @@ fn past_cap(alloc: Global, expander: &Expander, from: usize) -> NormFailure
             "`{last}` is past the limit of rounds: end the macro that calls itself with ever larger arguments, or raise the limit"
         ),
     )
+}
+
+/// Makes the rules of the symbols that wait, and reads them behind those of the rounds before.
+fn read_round(
+    alloc: Global,
+    macros: &Macros,
+    waiting: Vec<Waiting>,
+    done: &mut Vec<GrammarItem>,
+    table: &mut Table,
+) -> NormResult<()>
+    requires macros { AreByName macros.now }
+    requires table { IsNodeTable table.old }
+    requires counted { IsCounted table.old }
+    requires waiting { AreWaiting (wholes_in table.old) waiting.items }
+    ensures refuses { Refuses result (flat_map (λ w. unmade (macros_in macros.now) (symbol_view w.symbol)) (reverse waiting.items)
+        ++ refused_in table.old (flat_map met_in_pending (flat_map (pending_for (wholes_in table.old) (macros_in macros.now)) (reverse waiting.items)))) }
+    ensures meets { OnOk result (TableMeets table.old table.new (flat_map met_in_pending (flat_map (pending_for (wholes_in table.old) (macros_in macros.now)) (reverse waiting.items)))) }
+    ensures counted { OnOk result (IsCounted table.new) }
+    ensures waits { OnOk result (LeavesWaiting table.old table.new (flat_map shown_in_pending (flat_map (pending_for (wholes_in table.old) (macros_in macros.now)) (reverse waiting.items)))) }
+    ensures value { OnOk result (map item_view done.new.items ≡ map item_view done.old.items
+        ++ map pending_read (flat_map (pending_for (wholes_in table.old) (macros_in macros.now)) (reverse waiting.items))) }
+{
+    let pending = make_rules(alloc, macros, table, waiting)?;
+    read_pending(alloc, pending, done, table)
+}
+
+fn counted(table: &Table, rounds_made: u16) -> Counts
+    requires { IsCounted table.now }
+    ensures instances { result.instances ≡ length (seen_in table.now) }
+    ensures rounds { result.rounds ≡ rounds_made + 1 }
+    ensures texts { result.texts ≡ result.instances }
+{
+    Counts {
+        instances: table.text_count(),
+        rounds: usize::from(rounds_made) + 1,
+        texts: table.text_count(),
+    }
+}
+
+/// The rounds of an expansion: what `expand_resolved` answers, and how much was done.
+fn expand_rounds(alloc: Global, grammar: Grammar, limit: u16) -> NormResult<(Grammar, Counts)>
+    ensures refuses { Refuses result (expansion_faults comparison (grammar_view grammar) limit) }
+    ensures whole { IfOk result (λ made. IsEnded comparison (grammar_view grammar) limit) }
+    ensures plain { IfOk result (λ made. grammar_view made.0 ≡ plain_grammar comparison (grammar_view grammar) limit) }
+    ensures counts { IfOk result (λ made. AreCounts comparison (grammar_view grammar) limit made.1) }
+{
+    let names = declared_names(alloc, &grammar.items)?;
+    let mut table = Table::new(alloc, names, NodeHashBuilder::new());
+    let mut grammar = grammar;
+    let items = mem::replace(&mut grammar.items, Vec::new(alloc));
+    let (others, macros) = without_macros(alloc, items)?;
+    let mut done = Vec::new(alloc);
+    read_items(alloc, others, &mut done, &mut table)?;
+    let mut left = limit;
+    // The label is the loop's name in the proof, where its invariant and its measure stand.
+    'rounds: loop {
+        let waiting = table.take_waiting(alloc);
+        if waiting.is_empty() {
+            grammar.items = done;
+            return Ok((grammar, counted(&table, limit - left)));
+        }
+        if left == 0 {
+            return Err(past_cap(alloc, &waiting));
+        }
+        read_round(alloc, &macros, waiting, &mut done, &mut table)?;
+        left -= 1;
+    }
 }
 
 /// Resolves the names of a grammar (`resolve`), and makes its macro calls, groups, repeats and lookarounds into rules
@@ -78,8 +140,28 @@ pub fn expand_macros(alloc: Global, grammar: Grammar, limit: u16) -> NormResult<
     ensures whole { IfOk result (λ made. IsEnded comparison (resolved_grammar (grammar_view grammar)) limit) }
     ensures plain { IfOk result (λ made. grammar_view made ≡ plain_grammar comparison (resolved_grammar (grammar_view grammar)) limit) }
 {
+    let (made, _counts) = expand_macros_counted(alloc, grammar, limit)?;
+    Ok(made)
+}
+
+/// Expands as `expand_macros` does, and counts: how many rules were added, how many rounds were read, and how many texts of symbols
+/// were made.
+///
+/// Errors: as of `expand_macros`.
+pub fn expand_macros_counted(
+    alloc: Global,
+    grammar: Grammar,
+    limit: u16,
+) -> NormResult<(Grammar, Counts)>
+    // Ok exactly where no fault stands, and a refusal names the first one, memory aside.
+    ensures refuses { Refuses result (macro_faults comparison (grammar_view grammar) limit) }
+    // No round after the first `limit` has a new symbol.
+    ensures whole { IfOk result (λ made. IsEnded comparison (resolved_grammar (grammar_view grammar)) limit) }
+    ensures plain { IfOk result (λ made. grammar_view made.0 ≡ plain_grammar comparison (resolved_grammar (grammar_view grammar)) limit) }
+    ensures counts { IfOk result (λ made. AreCounts comparison (resolved_grammar (grammar_view grammar)) limit made.1) }
+{
     let resolved = resolve(alloc, grammar)?;
-    expand_resolved(alloc, resolved, limit)
+    expand_rounds(alloc, resolved, limit)
 }
 
 /// Makes the macro calls, groups, repeats and lookarounds of a grammar whose names are resolved into rules: the answer holds the
@@ -99,28 +181,6 @@ pub fn expand_resolved(alloc: Global, grammar: Grammar, limit: u16) -> NormResul
     ensures whole { IfOk result (λ made. IsEnded comparison (grammar_view grammar) limit) }
     ensures plain { IfOk result (λ made. grammar_view made ≡ plain_grammar comparison (grammar_view grammar) limit) }
 {
-    let names = declared_names(alloc, &grammar.items)?;
-    let mut expander = Expander::new(alloc, names);
-    let mut grammar = grammar;
-    let items = mem::replace(&mut grammar.items, Vec::new(alloc));
-    let (others, macros) = without_macros(alloc, items)?;
-    let mut pending = others;
-    let mut done = Vec::new(alloc);
-    let mut from = 0;
-    let mut left = limit;
-    // The label is the loop's name in the proof, where its invariant and its measure stand.
-    'rounds: loop {
-        read_items(alloc, pending, &mut done, &mut expander)?;
-        let met = expander.met.len();
-        if met == from {
-            grammar.items = done;
-            return Ok(grammar);
-        }
-        if left == 0 {
-            return Err(past_cap(alloc, &expander, from));
-        }
-        pending = make_rules(alloc, &macros, &expander, from)?;
-        from = met;
-        left -= 1;
-    }
+    let (made, _counts) = expand_rounds(alloc, grammar, limit)?;
+    Ok(made)
 }

@@ -1,9 +1,7 @@
 mod ConditionLemmas
-mod InPlace
 mod InstanceLemmas
 pub mod MacroLemmas
 pub mod NameLemmas
-mod ReplaceLemmas
-mod ReplacedSources
+mod PendingLemmas
 mod SourceLemmas
-pub mod TwiceLemmas
+mod UnboundLemmas

@@ -1,14 +1,11 @@
 -- The items of a round, read one by one: the code's own words, of which no public clause speaks.
-use Rattle.std.specs.Prelude.{List, [], ◌∷◌, if◌then◌else◌}
+use Rattle.std.specs.Prelude.{List, [], ◌∷◌, map, if◌then◌else◌}
 use Rattle.lalrpop_norm_tree.specs.Symbols.{Part}
-use Rattle.lalrpop_norm_tree.specs.Items.{AlternativeData, RuleData, ItemData, match_item, extern_item, intern_item, rule_item}
+use Rattle.lalrpop_norm_tree.specs.Items.{RuleData, ItemData, match_item, extern_item, intern_item, rule_item}
 use Rattle.lalrpop_norm_tree.specs.Items.{use_item}
 use Rattle.lalrpop_norm_model.specs.Grammars.{is_nil}
-use Rattle.lalrpop_norm_model.specs.PlainRules.{all_met, met_in_rule, replaced_rule}
-
--- what is met in an alternative
-abbrev pub met_in_alternative : AlternativeData → List Part
-met_in_alternative a = all_met a.parts
+use Rattle.lalrpop_norm_model.specs.PlainRules.{met_in_rule, replaced_rule}
+use Rattle.lalrpop_norm_nodes.specs.Waits.{parts_replaced}
 
 -- an item with its symbols replaced, and what is met in it
 abbrev pub replaced_item : ItemData → ItemData
@@ -24,6 +21,10 @@ met_in_item (match_item m) = []
 met_in_item (extern_item t) = []
 met_in_item (intern_item t) = []
 met_in_item (use_item u) = []
+
+-- the same with the parts of each symbol replaced
+abbrev pub shown_in_item : ItemData → List Part
+shown_in_item i = map parts_replaced (met_in_item i)
 
 -- an item without macros, and the macro that it is
 abbrev pub without_macro : ItemData → List ItemData

@@ -1,5 +1,5 @@
-//! Alternatives and types of a macro with the arguments of a call substituted.
-ghost use Rattle.std.specs.Prelude.{◌≡◌, IfOk, option_map};
+//! Alternatives of a macro, and its type with the arguments of a call substituted.
+ghost use Rattle.std.specs.Prelude.{◌≡◌, None, IfOk, option_map};
 ghost use Rattle.lalrpop_norm_tree.specs.Symbols.{parts_view};
 ghost use Rattle.lalrpop_norm_tree.specs.Types.{type_view};
 ghost use Rattle.lalrpop_norm_tree.specs.Items.{alternative_view};
@@ -7,21 +7,27 @@ ghost use Rattle.lalrpop_norm_model.specs.MadeRules.{argument_kind, type_substit
 
 use crate::substituted::{Bindings, all_substituted, type_substituted};
 use lalrpop_norm_tree::grammar::copy::copy_action;
-use lalrpop_norm_tree::grammar::parse_tree::{Alternative, ExprSymbol, NoMemory, Span, TypeRef};
+use lalrpop_norm_tree::grammar::parse_tree::{
+    Alternative, ExprSymbol, NoMemory, NonterminalString, Span, Symbol, TypeRef,
+};
 use lalrpop_norm_tree_parts::attribute::copy::copy_attributes;
 use std::alloc::Global;
 
-/// An alternative at the call's span, with the arguments substituted and without its condition.
-pub fn instance_alternative(
+/// An alternative at the call's span, as it is written but for its condition. An identifier is a name from there on.
+pub fn copied_alternative(
     alloc: Global,
-    bindings: &Bindings,
     span: Span,
     alternative: &Alternative,
 ) -> Result<Alternative, NoMemory>
-    ensures { IfOk result (λ a. alternative_view a
-        ≡ instance_alternative span (argument_kind bindings.now.names.now (parts_view bindings.now.symbols.now)) (alternative_view alternative.now)) }
+    ensures { IfOk result (λ a. alternative_view a ≡ instance_alternative span (λ n. None) (alternative_view alternative.now)) }
 {
-    let symbols = all_substituted(alloc, bindings, &alternative.expr.symbols)?;
+    let names: Vec<NonterminalString> = Vec::new(alloc);
+    let nothing: Vec<Symbol> = Vec::new(alloc);
+    let unbound = Bindings {
+        names: &names,
+        symbols: &nothing,
+    };
+    let symbols = all_substituted(alloc, &unbound, &alternative.expr.symbols)?;
     let action = copy_action(&alternative.action)?;
     let attributes = copy_attributes(&alternative.attributes)?;
     Ok(Alternative {

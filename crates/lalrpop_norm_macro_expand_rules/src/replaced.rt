@@ -1,8 +1,8 @@
 //! What stands in the place of symbols.
 ghost use Rattle.std.specs.Prelude.{◌≡◌, IfOk};
-ghost use Rattle.lalrpop_norm_tree.specs.Symbols.{named, tupled, kind_view, symbol_view, parts_view, tuple_view};
+ghost use Rattle.lalrpop_norm_tree.specs.Symbols.{named, tupled, kind_view, symbol_view, tuple_view};
 ghost use Rattle.lalrpop_norm_tree.specs.SymbolTexts.{kind_text};
-ghost use Rattle.lalrpop_norm_model.specs.Replaced.{replaced, replaced_kind, all_replaced};
+ghost use Rattle.lalrpop_norm_model.specs.Replaced.{replaced, replaced_kind};
 
 use lalrpop_norm_tree::grammar::parse_tree::{
     Atom, Name, NoMemory, NonterminalString, Symbol, SymbolKind, Tuple,
@@ -72,15 +72,4 @@ fn replaced(alloc: Global, symbol: &Symbol) -> Result<Symbol, NoMemory>
 {
     let kind = replaced_kind(alloc, &symbol.kind)?;
     Ok(Symbol::new(symbol.span, kind))
-}
-
-/// The symbols, each replaced.
-pub(crate) fn all_replaced(alloc: Global, symbols: &[Symbol]) -> Result<Vec<Symbol>, NoMemory>
-    ensures { IfOk result (λ ss. parts_view ss.items ≡ all_replaced (parts_view symbols.now)) }
-{
-    let mut all = Vec::with_capacity(alloc, symbols.len())?;
-    for symbol in symbols {
-        all.push(replaced(alloc, symbol)?)?;
-    }
-    Ok(all)
 }

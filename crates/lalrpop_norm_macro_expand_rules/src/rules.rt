@@ -4,15 +4,23 @@ ghost use Rattle.lalrpop_norm_tree_parts.specs.Attributes.{attributes_view};
 ghost use Rattle.lalrpop_norm_tree.specs.Symbols.{repeated, kind_view, symbol_view, parts_view};
 ghost use Rattle.lalrpop_norm_tree.specs.Types.{type_view};
 ghost use Rattle.lalrpop_norm_tree.specs.Items.{alternative_view, rule_view};
-ghost use Rattle.lalrpop_norm_model.specs.MadeRules.{inline_at, coded, private_rule};
-ghost use Rattle.lalrpop_norm_macro_expand_met.specs.Meeting.{IsNamed};
+ghost use Rattle.lalrpop_norm_model.specs.MadeRules.{inline_at, coded};
+ghost use Rattle.lalrpop_norm_macro_expand_rules.specs.Rules.{named_rule};
 
-use lalrpop_norm_macro_expand_met::expander::Met;
 use lalrpop_norm_tree::grammar::parse_tree::{
     ActionKind, Alternative, Atom, Attribute, AttributeArg, ExprSymbol, NoMemory, NonterminalData,
     NonterminalString, RepeatOp, RepeatSymbol, Span, Symbol, SymbolKind, TypeRef, Visibility,
 };
 use std::alloc::Global;
+
+/// The head of a rule that is made.
+#[derive(Drop)]
+pub struct Head {
+    /// Its name, the text of its symbol.
+    pub name: Atom,
+    /// Where its symbol was first met.
+    pub span: Span,
+}
 
 /// The attribute `inline`, at that place.
 pub fn inline_at(alloc: Global, span: Span) -> Result<Vec<Attribute>, NoMemory>
@@ -45,28 +53,26 @@ pub fn coded(
     })
 }
 
-/// The private rule of a symbol.
+/// A private rule.
 pub fn private_rule(
     alloc: Global,
-    met: &Met,
+    head: Head,
     attributes: Vec<Attribute>,
     type_decl: Option<TypeRef>,
     alternatives: Vec<Alternative>,
-) -> Result<NonterminalData, NoMemory>
-    requires { IsNamed met.now }
-    ensures { IfOk result (λ r. rule_view r ≡ private_rule met.now.symbol.span (kind_view met.now.symbol.kind) (attributes_view attributes.items)
-        (option_map type_view type_decl) (map alternative_view alternatives.items)) }
+) -> NonterminalData
+    ensures { rule_view result ≡ named_rule head.name head.span (attributes_view attributes.items)
+        (option_map type_view type_decl) (map alternative_view alternatives.items) }
 {
-    let name = NonterminalString(met.name.clone()?);
-    Ok(NonterminalData {
+    NonterminalData {
         visibility: Visibility::Priv,
-        name,
+        name: NonterminalString(head.name),
         attributes,
-        span: met.symbol.span,
+        span: head.span,
         args: Vec::new(alloc),
         type_decl,
         alternatives,
-    })
+    }
 }
 
 /// A repeat of that symbol.

@@ -15,7 +15,7 @@ use Rattle.lalrpop_norm_nodes.proofs.RowLemmas.{symbol_stays, is_kind_stays}
 
 -- ---- numbers keep what they stand for
 
-given_stays : (ws vs : List Whole) (g : Given) → Grows ws vs → IsGiven ws g → IsGiven vs g
+pub given_stays : (ws vs : List Whole) (g : Given) → Grows ws vs → IsGiven ws g → IsGiven vs g
 given_stays ws vs g (more, e) h = subst (λ (us : List Whole). IsGiven us g) (sym e) (record {
   stands = is_kind_stays ws more g.number h.stands;
   replaced = h.replaced;
@@ -25,7 +25,7 @@ given_stays ws vs g (more, e) h = subst (λ (us : List Whole). IsGiven us g) (sy
 pub all_given_stay : (ws vs : List Whole) (e : Environment) → Grows ws vs → AreGiven ws e → AreGiven vs e
 all_given_stay ws vs e grows h n g f = given_stays ws vs g grows (h n g f)
 
-whole_stays : (ws vs : List Whole) (o : Option Given) → Grows ws vs → ((g : Given) → o ≡ Some g → IsGiven ws g) →
+pub whole_stays : (ws vs : List Whole) (o : Option Given) → Grows ws vs → ((g : Given) → o ≡ Some g → IsGiven ws g) →
     option_map (λ g. kind_at vs g.number) o ≡ option_map (λ g. kind_at ws g.number) o
 whole_stays ws vs None grows h = refl
 whole_stays ws vs (Some g) (more, e) h =

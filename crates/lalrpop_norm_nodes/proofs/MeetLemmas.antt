@@ -31,7 +31,7 @@ text_unplaced p = closed_text_same (unplaced p) p (part_closed 0 0 0 0 p)
 pub kind_text_unplaced : (k : Kind) → kind_text (unplaced_kind k) ≡ kind_text k
 kind_text_unplaced k = text_unplaced (at nowhere k)
 
-first_bare : (t : List ℕ) (seen : List Part) → first_with_text t (map unplaced seen) ≡ option_map unplaced (first_with_text t seen)
+pub first_bare : (t : List ℕ) (seen : List Part) → first_with_text t (map unplaced seen) ≡ option_map unplaced (first_with_text t seen)
 first_bare t [] = refl
 first_bare t (p ∷ seen) =
     ap (λ (u : List ℕ). cond (bytes_eq u t) (Some (unplaced p)) (first_with_text t (map unplaced seen))) (text_unplaced p)
@@ -134,7 +134,7 @@ split_at s lookahead = refl
 split_at s lookbehind = refl
 split_at s error_terminal = refl
 
-were_left : (names : List ℕ → Bool) (seen xs ys : List Part) → were_met names seen (xs ++ ys) ≡ true → were_met names seen xs ≡ true
+pub were_left : (names : List ℕ → Bool) (seen xs ys : List Part) → were_met names seen (xs ++ ys) ≡ true → were_met names seen xs ≡ true
 were_left names seen [] ys h = refl
 were_left names seen (x ∷ xs) ys h = and_from _ _ (and_parts _ _ h).0 (were_left names seen xs ys (and_parts _ _ h).1)
 
@@ -161,3 +161,8 @@ standing_met t i k s h e =
         table = h;
       },
     )
+
+-- ---- nothing is met
+
+pub meets_nothing : (t : Table) → IsNodeTable t → TableMeets t t []
+meets_nothing t h = record { seen = refl; names = refl; grows = ([], sym (append-nil (wholes_in t))); table = h }

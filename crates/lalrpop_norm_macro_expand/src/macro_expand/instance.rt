@@ -1,18 +1,16 @@
-//! The rules of macro calls: those alternatives of the macro whose conditions hold, with the arguments substituted.
+//! The rules of macro calls: those alternatives of the macro whose conditions hold, in which the macro's names stand for the arguments.
 ghost use Rattle.std.specs.Prelude.{◌≡◌, ◌++◌, OnOk, map, flat_map};
-ghost use Rattle.lalrpop_norm_tree.specs.Symbols.{call, kind_view, parts_view};
+ghost use Rattle.lalrpop_norm_tree.specs.Symbols.{parts_view};
 ghost use Rattle.lalrpop_norm_tree.specs.Items.{AlternativeData, alternative_view, rule_view};
 ghost use Rattle.lalrpop_norm_faults.specs.Faults.{Refuses, RefusesOr};
-ghost use Rattle.lalrpop_norm_conditions.specs.Conditions.{comparison};
-ghost use Rattle.lalrpop_norm_model.specs.MadeRules.{argument_kind, instance_rule};
+ghost use Rattle.lalrpop_norm_model.specs.MadeRules.{argument_kind};
 ghost use Rattle.lalrpop_norm_macro_expand_rules.specs.Conditions.{value_faults, instance_faults};
-ghost use Rattle.lalrpop_norm_macro_expand.specs.Making.{kept_of};
-ghost use Rattle.lalrpop_norm_macro_expand_met.specs.Meeting.{IsNamed};
+ghost use Rattle.lalrpop_norm_macro_expand.specs.Making.{kept_of, instance_shape};
 
 use lalrpop_norm_faults::NormResult;
-use lalrpop_norm_macro_expand_met::expander::Met;
-use lalrpop_norm_macro_expand_rules::alternatives::{instance_alternative, instance_type};
+use lalrpop_norm_macro_expand_rules::alternatives::{copied_alternative, instance_type};
 use lalrpop_norm_macro_expand_rules::conditions::is_kept;
+use lalrpop_norm_macro_expand_rules::rules::Head;
 use lalrpop_norm_macro_expand_rules::substituted::Bindings;
 use lalrpop_norm_tree::grammar::parse_tree::{
     Alternative, NonterminalData, NonterminalString, Span, Symbol,
@@ -33,7 +31,7 @@ fn add_alternative(
         ≡ map alternative_view kept.old.items ++ kept_of span bindings.now.names.now (parts_view bindings.now.symbols.now) (alternative_view alternative.now)) }
 {
     if is_kept(alloc, bindings, &alternative.condition)? {
-        kept.push(instance_alternative(alloc, bindings, span, alternative)?)?;
+        kept.push(copied_alternative(alloc, span, alternative)?)?;
     }
     Ok(())
 }
@@ -55,21 +53,19 @@ fn instance_alternatives(
     Ok(kept)
 }
 
-/// The rule of a call of a macro.
+/// The rule of a call of a macro with these arguments, in which the macro's names stand for them.
 ///
 /// Errors: at the first alternative whose condition has no value F33 (`ConditionArgument`) or F34 (`ConditionPattern`); `Memory`.
 pub(super) fn instance_rule(
     alloc: Global,
-    met: &Met,
+    head: Head,
     definition: &NonterminalData,
     arguments: &[Symbol],
 ) -> NormResult<NonterminalData>
-    requires named { IsNamed met.now }
-    requires kind { kind_view met.now.symbol.kind ≡ call definition.now.name.0 (parts_view arguments.now) }
     ensures { RefusesOr result (instance_faults (rule_view definition.now) (parts_view arguments.now))
-        (λ r. rule_view r ≡ instance_rule comparison met.now.symbol.span (rule_view definition.now) (parts_view arguments.now)) }
+        (λ r. rule_view r ≡ instance_shape head.name head.span (rule_view definition.now) (parts_view arguments.now)) }
 {
-    let span = met.symbol.span;
+    let span = head.span;
     let bindings = Bindings {
         names: &definition.args,
         symbols: arguments,
@@ -78,7 +74,7 @@ pub(super) fn instance_rule(
     let type_decl = instance_type(alloc, &bindings, &definition.type_decl)?;
     Ok(NonterminalData {
         visibility: definition.visibility.clone()?,
-        name: NonterminalString(met.name.clone()?),
+        name: NonterminalString(head.name),
         attributes: copy_attributes(&definition.attributes)?,
         span,
         args: Vec::new(alloc),

@@ -1,104 +1,170 @@
 //! The rules that symbols are made into.
-ghost use Rattle.std.specs.Prelude.{◌≡◌, ◌++◌, ◌∷◌, [], OnOk, map};
-ghost use Rattle.lalrpop_norm_tree.specs.Symbols.{call, kind_view, parts_view};
-ghost use Rattle.lalrpop_norm_tree.specs.Items.{rule_view, item_view, rule_item};
-ghost use Rattle.lalrpop_norm_faults.specs.Faults.{Refuses};
-ghost use Rattle.lalrpop_norm_model.specs.MadeRules.{macro_named, instance_of};
-ghost use Rattle.lalrpop_norm_conditions.specs.Conditions.{comparison};
-ghost use Rattle.lalrpop_norm_macro_expand_rules.specs.Conditions.{called_faults};
-ghost use Rattle.lalrpop_norm_macro_expand.specs.Expansion.{unmade};
+ghost use Rattle.std.specs.Prelude.{◌≡◌, ◌++◌, IfOk, IfSome, OnOk, map, flat_map, reverse, option_map, option_to_list};
+ghost use Rattle.lalrpop_norm_tree.specs.Symbols.{at, group, call, repeated, kind_view, parts_view, expr_view, macro_view, symbol_view};
+ghost use Rattle.lalrpop_norm_tree.specs.SymbolTexts.{kind_text};
+ghost use Rattle.lalrpop_norm_tree.specs.Items.{rule_view};
+ghost use Rattle.lalrpop_norm_faults.specs.Faults.{Refuses, RefusesOr, fault_if};
+ghost use Rattle.lalrpop_norm_faults.specs.declared.kind.FaultKind.TheVariants.{NamedInGroup};
+ghost use Rattle.lalrpop_norm_model.specs.MadeRules.{argument_kind, macro_named, group_rule, some_name_value};
+ghost use Rattle.lalrpop_norm_nodes.specs.NodeParts.{call_parts, repeated_kind, IsShallow, IsWaiting, AreWaiting};
+ghost use Rattle.lalrpop_norm_nodes.specs.Tables.{wholes_in, IsNodeTable};
+ghost use Rattle.lalrpop_norm_nodes.specs.Wholes.{kind_at};
+ghost use Rattle.lalrpop_norm_macro_expand_rules.specs.Conditions.{called_faults, instance_faults};
 ghost use Rattle.lalrpop_norm_macro_expand_rules.specs.Macros.{macros_in, AreByName};
-ghost use Rattle.lalrpop_norm_macro_expand.specs.Making.{rules_to_read};
-ghost use Rattle.lalrpop_norm_macro_expand_met.specs.Meeting.{met_view, IsNamed};
+ghost use Rattle.lalrpop_norm_macro_expand_rules.specs.Pending.{unread_rule, pending_view, IsReadable, AreReadable};
+ghost use Rattle.lalrpop_norm_macro_expand_rules.specs.declared.pending.Pending.TheVariants.{Unread};
+ghost use Rattle.lalrpop_norm_macro_expand.specs.Expansion.{unmade};
+ghost use Rattle.lalrpop_norm_macro_expand.specs.Making.{instance_shape, call_pending, repeat_pending, pending_of, pending_for};
 
 use super::instance::instance_rule;
-use super::repeats::repeat_rule;
+use super::repeats::{hole_name, repeat_rule};
 use lalrpop_norm_faults::{FaultKind, NormResult, refusal};
-use lalrpop_norm_macro_expand_met::expander::Met;
 use lalrpop_norm_macro_expand_rules::groups::{group_rule, location_rule};
 use lalrpop_norm_macro_expand_rules::macros::Macros;
+use lalrpop_norm_macro_expand_rules::pending::{Pending, UnreadRule};
+use lalrpop_norm_macro_expand_rules::rules::Head;
+use lalrpop_norm_nodes::given::Given;
+use lalrpop_norm_nodes::parts::{given_by_call, repeated_number};
+use lalrpop_norm_nodes::table::{Table, Waiting};
 use lalrpop_norm_session::norm_util::has_name_value;
 use lalrpop_norm_tree::grammar::parse_tree::{
-    ActionKind, GrammarItem, NoMemory, NonterminalData, NonterminalString, Symbol, SymbolKind,
+    ActionKind, ExprSymbol, MacroSymbol, NoMemory, NonterminalData, RepeatSymbol, Symbol,
+    SymbolKind,
 };
 use std::alloc::Global;
+use std::mem;
 
-fn add(items: &mut Vec<GrammarItem>, rule: NonterminalData) -> Result<(), NoMemory>
-    ensures { OnOk result (map item_view items.new.items ≡ map item_view items.old.items ++ rule_item (rule_view rule) ∷ []) }
+/// The rule of a group, which takes its symbols.
+fn group_of(alloc: Global, head: Head, expr: &mut ExprSymbol) -> NormResult<NonterminalData>
+    requires { head.name ≡ kind_text (group (expr_view expr.old)) }
+    ensures { RefusesOr result (fault_if (some_name_value (expr_view expr.old)) (NamedInGroup, head.span))
+        (λ r. rule_view r ≡ group_rule head.span (expr_view expr.old)) }
 {
-    items.push(GrammarItem::Nonterminal(rule))?;
-    Ok(())
+    if has_name_value(&expr.symbols) {
+        return Err(refusal(
+            FaultKind::NamedInGroup,
+            head.span,
+            format!(in alloc;
+                "a symbol in the group `{}` has a name: leave it out, or write a rule with code for the group",
+                head.name
+            ),
+        ));
+    }
+    let symbols = mem::replace(&mut expr.symbols, Vec::new(alloc));
+    Ok(group_rule(alloc, head, symbols)?)
 }
 
-/// Adds the rule of a macro call, if there is a macro of that name.
-fn add_instance(
+/// The rule of a repeat, which takes what is repeated.
+fn repeat_of(
+    alloc: Global,
+    table: &Table,
+    number: usize,
+    head: Head,
+    repeat: &mut RepeatSymbol,
+) -> Result<UnreadRule, NoMemory>
+    requires table { IsNodeTable table.now }
+    requires shallow { IsShallow (wholes_in table.now) number (repeated repeat.old.op (symbol_view repeat.old.symbol)) }
+    ensures pending { IfOk result (λ o. pending_view (wholes_in table.now) (Unread o)
+        ≡ repeat_pending head.name head.span repeat.old.op (repeated_kind (kind_at (wholes_in table.now) number)) (symbol_view repeat.old.symbol)) }
+    ensures readable { IfOk result (λ o. IsReadable (wholes_in table.now) (Unread o)) }
+{
+    let number = repeated_number(table, number);
+    let nothing = Symbol::new(head.span, SymbolKind::Error);
+    let symbol = mem::replace(&mut repeat.symbol, nothing);
+    let rule = repeat_rule(alloc, head, repeat.op, &symbol)?;
+    let names = vec![in alloc; hole_name(alloc)?]?;
+    let given = vec![in alloc; Given { number, symbol }]?;
+    Ok(UnreadRule { rule, names, given })
+}
+
+/// The rule of a call of a macro with these arguments.
+///
+/// Errors: at the first alternative whose condition has no value F33 (`ConditionArgument`) or F34 (`ConditionPattern`); `Memory`.
+fn instance_of(
+    alloc: Global,
+    table: &Table,
+    number: usize,
+    head: Head,
+    definition: &NonterminalData,
+    arguments: Vec<Symbol>,
+) -> NormResult<UnreadRule>
+    requires table { IsNodeTable table.now }
+    requires shallow { IsShallow (wholes_in table.now) number (call definition.now.name.0 (parts_view arguments.items)) }
+    ensures refuses { Refuses result (instance_faults (rule_view definition.now) (parts_view arguments.items)) }
+    ensures pending { IfOk result (λ o. pending_view (wholes_in table.now) (Unread o)
+        ≡ unread_rule (instance_shape head.name head.span (rule_view definition.now) (parts_view arguments.items))
+        (argument_kind definition.now.args.items (call_parts (kind_at (wholes_in table.now) number)))
+        (argument_kind definition.now.args.items (parts_view arguments.items))) }
+    ensures readable { IfOk result (λ o. IsReadable (wholes_in table.now) (Unread o)) }
+{
+    let rule = instance_rule(alloc, head, definition, &arguments)?;
+    let given = given_by_call(alloc, table, number, arguments)?;
+    let names = definition.args.clone()?;
+    Ok(UnreadRule { rule, names, given })
+}
+
+/// The rule of a macro call, if there is a macro of that name; it takes the arguments.
+fn called_of(
     alloc: Global,
     macros: &Macros,
-    met: &Met,
-    name: &NonterminalString,
-    arguments: &[Symbol],
-    items: &mut Vec<GrammarItem>,
-) -> NormResult<()>
-    requires named { IsNamed met.now }
+    table: &Table,
+    number: usize,
+    head: Head,
+    instance: &mut MacroSymbol,
+) -> NormResult<Option<Pending>>
     requires macros { AreByName macros.now }
-    requires kind { kind_view met.now.symbol.kind ≡ call name.now.0 (parts_view arguments.now) }
-    ensures refuses { Refuses result (called_faults (macro_named (macros_in macros.now) name.now.0) (parts_view arguments.now)) }
-    ensures adds { OnOk result (map item_view items.new.items ≡ map item_view items.old.items
-        ++ map rule_item (instance_of comparison met.now.symbol.span (macro_named (macros_in macros.now) name.now.0) (parts_view arguments.now))) }
+    requires table { IsNodeTable table.now }
+    requires shallow { IsShallow (wholes_in table.now) number (call (macro_view instance.old).0 (macro_view instance.old).1) }
+    ensures refuses { Refuses result (called_faults (macro_named (macros_in macros.now) (macro_view instance.old).0) (macro_view instance.old).1) }
+    ensures pending { IfOk result (λ o. option_to_list (option_map (pending_view (wholes_in table.now)) o)
+        ≡ call_pending head.name head.span (macro_named (macros_in macros.now) (macro_view instance.old).0) (call_parts (kind_at (wholes_in table.now) number)) (macro_view instance.old).1) }
+    ensures readable { IfOk result (λ o. IfSome o (IsReadable (wholes_in table.now))) }
 {
-    match macros.find(name) {
+    match macros.find(&instance.name) {
         Some(definition) => {
-            add(items, instance_rule(alloc, met, definition, arguments)?)?;
-            Ok(())
+            let arguments = mem::replace(&mut instance.args, Vec::new(alloc));
+            let unread = instance_of(alloc, table, number, head, definition, arguments)?;
+            Ok(Some(Pending::Unread(unread)))
         }
-        None => Ok(()),
+        None => Ok(None),
     }
 }
 
-/// Adds the rule that a symbol is made into.
+/// The rule that a symbol is made into, if it is made into one; it takes the symbol's parts.
 ///
 /// Errors: F35 (`NamedInGroup`) at a group with a named or tuple symbol in it; at a condition of a macro that is called F33
 /// (`ConditionArgument`) or F34 (`ConditionPattern`); `Memory`.
-pub(super) fn add_rule(
+fn rule_of(
     alloc: Global,
     macros: &Macros,
-    met: &Met,
-    items: &mut Vec<GrammarItem>,
-) -> NormResult<()>
-    requires named { IsNamed met.now }
+    table: &Table,
+    number: usize,
+    head: Head,
+    kind: &mut SymbolKind,
+) -> NormResult<Option<Pending>>
     requires macros { AreByName macros.now }
-    ensures refuses { Refuses result (unmade (macros_in macros.now) (met_view met.now)) }
-    ensures adds { OnOk result (map item_view items.new.items ≡ map item_view items.old.items ++ map rule_item (rules_to_read (macros_in macros.now) (met_view met.now))) }
+    requires table { IsNodeTable table.now }
+    requires shallow { IsShallow (wholes_in table.now) number (kind_view kind.old) }
+    requires name { head.name ≡ kind_text (kind_view kind.old) }
+    ensures refuses { Refuses result (unmade (macros_in macros.now) (at head.span (kind_view kind.old))) }
+    ensures pending { IfOk result (λ o. option_to_list (option_map (pending_view (wholes_in table.now)) o)
+        ≡ pending_of (macros_in macros.now) (kind_at (wholes_in table.now) number) (at head.span (kind_view kind.old))) }
+    ensures readable { IfOk result (λ o. IfSome o (IsReadable (wholes_in table.now))) }
 {
-    let symbol = &met.symbol;
-    match &symbol.kind {
-        SymbolKind::Expr(expr) => {
-            if has_name_value(&expr.symbols) {
-                return Err(refusal(
-                    FaultKind::NamedInGroup,
-                    symbol.span,
-                    format!(in alloc;
-                        "a symbol in the group `{symbol}` has a name: leave it out, or write a rule with code for the group"
-                    ),
-                ));
-            }
-            add(items, group_rule(alloc, met, expr)?)?;
-            Ok(())
-        }
-        SymbolKind::Macro(instance) => {
-            add_instance(alloc, macros, met, &instance.name, &instance.args, items)
-        }
+    match kind {
+        SymbolKind::Expr(expr) => Ok(Some(Pending::Finished(group_of(alloc, head, expr)?))),
+        SymbolKind::Macro(instance) => called_of(alloc, macros, table, number, head, instance),
         SymbolKind::Repeat(repeat) => {
-            add(items, repeat_rule(alloc, met, repeat)?)?;
-            Ok(())
+            let unread = repeat_of(alloc, table, number, head, repeat)?;
+            Ok(Some(Pending::Unread(unread)))
         }
         SymbolKind::Lookahead => {
-            add(items, location_rule(alloc, met, ActionKind::Lookahead)?)?;
-            Ok(())
+            let rule = location_rule(alloc, head, ActionKind::Lookahead)?;
+            Ok(Some(Pending::Finished(rule)))
         }
         SymbolKind::Lookbehind => {
-            add(items, location_rule(alloc, met, ActionKind::Lookbehind)?)?;
-            Ok(())
+            let rule = location_rule(alloc, head, ActionKind::Lookbehind)?;
+            Ok(Some(Pending::Finished(rule)))
         }
         SymbolKind::AmbiguousId(_)
         | SymbolKind::Terminal(_)
@@ -106,6 +172,77 @@ pub(super) fn add_rule(
         | SymbolKind::Choose(_)
         | SymbolKind::Name(_, _)
         | SymbolKind::Tuple(_, _)
-        | SymbolKind::Error => Ok(()),
+        | SymbolKind::Error => Ok(None),
     }
+}
+
+/// The rule of a symbol that waits, if it is made into one.
+fn pending_rule(
+    alloc: Global,
+    macros: &Macros,
+    table: &Table,
+    waiting: Waiting,
+) -> NormResult<Option<Pending>>
+    requires macros { AreByName macros.now }
+    requires table { IsNodeTable table.now }
+    requires waiting { IsWaiting (wholes_in table.now) waiting }
+    ensures refuses { Refuses result (unmade (macros_in macros.now) (symbol_view waiting.symbol)) }
+    ensures pending { IfOk result (λ o. option_to_list (option_map (pending_view (wholes_in table.now)) o) ≡ pending_for (wholes_in table.now) (macros_in macros.now) waiting) }
+    ensures readable { IfOk result (λ o. IfSome o (IsReadable (wholes_in table.now))) }
+{
+    let Some(name) = table.text_of(waiting.number) else {
+        return Ok(None);
+    };
+    let head = Head {
+        name: name.clone()?,
+        span: waiting.symbol.span,
+    };
+    let mut symbol = waiting.symbol;
+    rule_of(alloc, macros, table, waiting.number, head, &mut symbol.kind)
+}
+
+/// Adds the rule of a symbol that waits, if it is made into one.
+fn add_rule(
+    alloc: Global,
+    macros: &Macros,
+    table: &Table,
+    waiting: Waiting,
+    pending: &mut Vec<Pending>,
+) -> NormResult<()>
+    requires macros { AreByName macros.now }
+    requires table { IsNodeTable table.now }
+    requires waiting { IsWaiting (wholes_in table.now) waiting }
+    requires readable { AreReadable (wholes_in table.now) pending.old.items }
+    ensures refuses { Refuses result (unmade (macros_in macros.now) (symbol_view waiting.symbol)) }
+    ensures adds { OnOk result (map (pending_view (wholes_in table.now)) pending.new.items
+        ≡ map (pending_view (wholes_in table.now)) pending.old.items ++ pending_for (wholes_in table.now) (macros_in macros.now) waiting) }
+    ensures readable { OnOk result (AreReadable (wholes_in table.now) pending.new.items) }
+{
+    if let Some(rule) = pending_rule(alloc, macros, table, waiting)? {
+        pending.push(rule)?;
+    }
+    Ok(())
+}
+
+/// The rules of the symbols that wait, that of the last one first.
+pub(super) fn make_rules(
+    alloc: Global,
+    macros: &Macros,
+    table: &Table,
+    waiting: Vec<Waiting>,
+) -> NormResult<Vec<Pending>>
+    requires macros { AreByName macros.now }
+    requires table { IsNodeTable table.now }
+    requires waiting { AreWaiting (wholes_in table.now) waiting.items }
+    ensures refuses { Refuses result (flat_map (λ w. unmade (macros_in macros.now) (symbol_view w.symbol)) (reverse waiting.items)) }
+    ensures pending { IfOk result (λ ps. map (pending_view (wholes_in table.now)) ps.items ≡ flat_map (pending_for (wholes_in table.now) (macros_in macros.now)) (reverse waiting.items)) }
+    ensures readable { IfOk result (λ ps. AreReadable (wholes_in table.now) ps.items) }
+{
+    let mut waiting = waiting;
+    waiting.reverse();
+    let mut pending = Vec::with_capacity(alloc, waiting.len())?;
+    for symbol in waiting {
+        add_rule(alloc, macros, table, symbol, &mut pending)?;
+    }
+    Ok(pending)
 }

@@ -1,22 +1,36 @@
-//! The rules of repeats.
-ghost use Rattle.std.specs.Prelude.{◌≡◌, IfOk, codes, map};
+//! The rules of repeats, in which a name stands for what is repeated.
+ghost use Rattle.std.specs.Prelude.{◌≡◌, IfOk, Some, codes, map};
 ghost use Rattle.lalrpop_norm_tree_parts.specs.Paths.{path_view};
-ghost use Rattle.lalrpop_norm_tree.specs.Symbols.{part_and, at, repeated, kind_view, symbol_view, parts_view};
+ghost use Rattle.lalrpop_norm_tree_parts.specs.Attributes.{attributes_view};
+ghost use Rattle.lalrpop_norm_tree.specs.Symbols.{part_and, at, nonterminal, repeated, symbol_view, parts_view};
 ghost use Rattle.lalrpop_norm_tree.specs.Types.{type_view};
 ghost use Rattle.lalrpop_norm_tree.specs.Items.{alternative_view, rule_view};
-ghost use Rattle.lalrpop_norm_model.specs.MadeRules.{only_part, with_name, holding, star_rule, plus_rule, question_rule, repeat_rule};
-ghost use Rattle.lalrpop_norm_macro_expand_met.specs.Meeting.{IsNamed};
+ghost use Rattle.lalrpop_norm_model.specs.MadeRules.{only_part, with_name, holding, star_rule, plus_rule, question_rule};
+ghost use Rattle.lalrpop_norm_macro_expand.specs.Making.{hole_name, repeat_shape};
 
-use lalrpop_norm_macro_expand_met::expander::Met;
 use lalrpop_norm_macro_expand_rules::replaced::replaced_kind;
-use lalrpop_norm_macro_expand_rules::rules::{coded, inline_at, private_rule, repeat_of};
+use lalrpop_norm_macro_expand_rules::rules::{Head, coded, inline_at, private_rule, repeat_of};
 use lalrpop_norm_tree::grammar::parse_tree::{
-    Alternative, Atom, Name, NoMemory, NonterminalData, Path, RepeatOp, RepeatSymbol, Span, Symbol,
-    SymbolKind, TypeRef,
+    Alternative, Atom, Name, NoMemory, NonterminalData, NonterminalString, Path, RepeatOp, Span,
+    Symbol, SymbolKind, TypeRef,
 };
 use std::alloc::Global;
 
 // ---- parts
+
+/// The name that stands for what is repeated.
+pub(super) fn hole_name(alloc: Global) -> Result<NonterminalString, NoMemory>
+    ensures { IfOk result (λ n. n.0 ≡ hole_name) }
+{
+    Ok(NonterminalString(Atom::new(alloc, "X")?))
+}
+
+fn hole_at(alloc: Global, span: Span) -> Result<Symbol, NoMemory>
+    ensures { IfOk result (λ s. symbol_view s ≡ at span (nonterminal hole_name)) }
+{
+    let name = hole_name(alloc)?;
+    Ok(Symbol::new(span, SymbolKind::Nonterminal(name)))
+}
 
 /// The symbol with a name of its own.
 fn with_name(alloc: Global, span: Span, name: &str, symbol: Symbol) -> Result<Symbol, NoMemory>
@@ -45,22 +59,30 @@ fn repeated(alloc: Global, span: Span, op: RepeatOp, symbol: &Symbol) -> Result<
 
 // ---- rules
 
-/// Of `X*`: nothing, or `X+`.
-fn star_rule(alloc: Global, met: &Met, inner: &Symbol) -> Result<NonterminalData, NoMemory>
-    requires named { IsNamed met.now }
-    requires kind { kind_view met.now.symbol.kind ≡ repeated RepeatOp.Star (symbol_view inner.now) }
-    ensures { IfOk result (λ r. rule_view r ≡ star_rule met.now.symbol.span (symbol_view inner.now)) }
+fn star_alternatives(alloc: Global, span: Span, over: &Symbol) -> Result<Vec<Alternative>, NoMemory>
+    ensures { IfOk result (λ v. map alternative_view v.items ≡ (star_rule span (symbol_view over.now)).alternatives) }
 {
-    let span = met.symbol.span;
-    let plus = repeated(alloc, span, RepeatOp::Plus, inner)?;
+    let plus = repeated(alloc, span, RepeatOp::Plus, over)?;
     let filled = vec![in alloc; with_name(alloc, span, "v", plus)?]?;
-    let alternatives = vec![in alloc;
+    Ok(vec![in alloc;
         coded(alloc, span, Vec::new(alloc), "alloc::vec![]")?,
         coded(alloc, span, filled, "v")?,
-    ]?;
-    let inline = inline_at(alloc, span)?;
+    ]?)
+}
+
+/// Of `X*`: nothing, or `X+`.
+fn star_rule(
+    alloc: Global,
+    head: Head,
+    inner: &Symbol,
+    over: &Symbol,
+) -> Result<NonterminalData, NoMemory>
+    ensures { IfOk result (λ r. rule_view r ≡ repeat_shape head.name head.span RepeatOp.Star (symbol_view inner.now) (symbol_view over.now)) }
+{
     let of_vector = holding(alloc, Path::vec(alloc)?, inner)?;
-    private_rule(alloc, met, inline, Some(of_vector), alternatives)
+    let alternatives = star_alternatives(alloc, head.span, over)?;
+    let inline = inline_at(alloc, head.span)?;
+    Ok(private_rule(alloc, head, inline, Some(of_vector), alternatives))
 }
 
 /// `X`, in a row of its own.
@@ -71,26 +93,22 @@ fn alone(alloc: Global, symbol: &Symbol) -> Result<Vec<Symbol>, NoMemory>
 }
 
 /// `<v:X+> <e:X>`.
-fn one_more(alloc: Global, span: Span, inner: &Symbol) -> Result<Vec<Symbol>, NoMemory>
+fn one_more(alloc: Global, span: Span, over: &Symbol) -> Result<Vec<Symbol>, NoMemory>
     ensures { IfOk result (λ v. parts_view v.items
-        ≡ part_and (with_name span (codes "v") (at span (repeated RepeatOp.Plus (symbol_view inner.now))))
-        (only_part (with_name span (codes "e") (symbol_view inner.now)))) }
+        ≡ part_and (with_name span (codes "v") (at span (repeated RepeatOp.Plus (symbol_view over.now))))
+        (only_part (with_name span (codes "e") (symbol_view over.now)))) }
 {
-    let plus = repeated(alloc, span, RepeatOp::Plus, inner)?;
+    let plus = repeated(alloc, span, RepeatOp::Plus, over)?;
     let before = with_name(alloc, span, "v", plus)?;
-    let last = with_name(alloc, span, "e", inner.clone()?)?;
+    let last = with_name(alloc, span, "e", over.clone()?)?;
     Ok(vec![in alloc; before, last]?)
 }
 
-fn plus_alternatives(
-    alloc: Global,
-    span: Span,
-    inner: &Symbol,
-) -> Result<Vec<Alternative>, NoMemory>
-    ensures { IfOk result (λ v. map alternative_view v.items ≡ (plus_rule span (symbol_view inner.now)).alternatives) }
+fn plus_alternatives(alloc: Global, span: Span, over: &Symbol) -> Result<Vec<Alternative>, NoMemory>
+    ensures { IfOk result (λ v. map alternative_view v.items ≡ (plus_rule span (symbol_view over.now)).alternatives) }
 {
-    let first = alone(alloc, inner)?;
-    let more = one_more(alloc, span, inner)?;
+    let first = alone(alloc, over)?;
+    let more = one_more(alloc, span, over)?;
     Ok(vec![in alloc;
         coded(alloc, span, first, "alloc::vec![<>]")?,
         coded(alloc, span, more, "{ let mut v = v; v.push(e); v }")?,
@@ -98,25 +116,27 @@ fn plus_alternatives(
 }
 
 /// Of `X+`: `X`, or `X+` and one more `X`.
-fn plus_rule(alloc: Global, met: &Met, inner: &Symbol) -> Result<NonterminalData, NoMemory>
-    requires named { IsNamed met.now }
-    requires kind { kind_view met.now.symbol.kind ≡ repeated RepeatOp.Plus (symbol_view inner.now) }
-    ensures { IfOk result (λ r. rule_view r ≡ plus_rule met.now.symbol.span (symbol_view inner.now)) }
+fn plus_rule(
+    alloc: Global,
+    head: Head,
+    inner: &Symbol,
+    over: &Symbol,
+) -> Result<NonterminalData, NoMemory>
+    ensures { IfOk result (λ r. rule_view r ≡ repeat_shape head.name head.span RepeatOp.Plus (symbol_view inner.now) (symbol_view over.now)) }
 {
-    let span = met.symbol.span;
     let of_vector = holding(alloc, Path::vec(alloc)?, inner)?;
-    let alternatives = plus_alternatives(alloc, span, inner)?;
-    private_rule(alloc, met, Vec::new(alloc), Some(of_vector), alternatives)
+    let alternatives = plus_alternatives(alloc, head.span, over)?;
+    Ok(private_rule(alloc, head, Vec::new(alloc), Some(of_vector), alternatives))
 }
 
 fn question_alternatives(
     alloc: Global,
     span: Span,
-    inner: &Symbol,
+    over: &Symbol,
 ) -> Result<Vec<Alternative>, NoMemory>
-    ensures { IfOk result (λ v. map alternative_view v.items ≡ (question_rule span (symbol_view inner.now)).alternatives) }
+    ensures { IfOk result (λ v. map alternative_view v.items ≡ (question_rule span (symbol_view over.now)).alternatives) }
 {
-    let filled = alone(alloc, inner)?;
+    let filled = alone(alloc, over)?;
     Ok(vec![in alloc;
         coded(alloc, span, filled, "Some(<>)")?,
         coded(alloc, span, Vec::new(alloc), "None")?,
@@ -124,31 +144,33 @@ fn question_alternatives(
 }
 
 /// Of `X?`: `X`, or nothing.
-fn question_rule(alloc: Global, met: &Met, inner: &Symbol) -> Result<NonterminalData, NoMemory>
-    requires named { IsNamed met.now }
-    requires kind { kind_view met.now.symbol.kind ≡ repeated RepeatOp.Question (symbol_view inner.now) }
-    ensures { IfOk result (λ r. rule_view r ≡ question_rule met.now.symbol.span (symbol_view inner.now)) }
+fn question_rule(
+    alloc: Global,
+    head: Head,
+    inner: &Symbol,
+    over: &Symbol,
+) -> Result<NonterminalData, NoMemory>
+    ensures { IfOk result (λ r. rule_view r ≡ repeat_shape head.name head.span RepeatOp.Question (symbol_view inner.now) (symbol_view over.now)) }
 {
-    let span = met.symbol.span;
     let of_option = holding(alloc, Path::option(alloc)?, inner)?;
-    let inline = inline_at(alloc, span)?;
-    let alternatives = question_alternatives(alloc, span, inner)?;
-    private_rule(alloc, met, inline, Some(of_option), alternatives)
+    let alternatives = question_alternatives(alloc, head.span, over)?;
+    let inline = inline_at(alloc, head.span)?;
+    Ok(private_rule(alloc, head, inline, Some(of_option), alternatives))
 }
 
-/// The rule of a repeat.
+/// The rule of a repeat of a symbol, in which a name stands for that symbol.
 pub(super) fn repeat_rule(
     alloc: Global,
-    met: &Met,
-    repeat: &RepeatSymbol,
+    head: Head,
+    op: RepeatOp,
+    inner: &Symbol,
 ) -> Result<NonterminalData, NoMemory>
-    requires named { IsNamed met.now }
-    requires kind { kind_view met.now.symbol.kind ≡ repeated repeat.now.op (symbol_view repeat.now.symbol) }
-    ensures { IfOk result (λ r. rule_view r ≡ repeat_rule met.now.symbol.span repeat.now.op (symbol_view repeat.now.symbol)) }
+    ensures { IfOk result (λ r. rule_view r ≡ repeat_shape head.name head.span op (symbol_view inner.now) (at inner.now.span (nonterminal hole_name))) }
 {
-    match repeat.op {
-        RepeatOp::Star => star_rule(alloc, met, &repeat.symbol),
-        RepeatOp::Plus => plus_rule(alloc, met, &repeat.symbol),
-        RepeatOp::Question => question_rule(alloc, met, &repeat.symbol),
+    let over = hole_at(alloc, inner.span)?;
+    match op {
+        RepeatOp::Star => star_rule(alloc, head, inner, &over),
+        RepeatOp::Plus => plus_rule(alloc, head, inner, &over),
+        RepeatOp::Question => question_rule(alloc, head, inner, &over),
     }
 }

@@ -1,13 +1,24 @@
-use Rattle.std.proofs.Common.{◌-◌, ◌∙◌, ap, sym, subst, ℕ, List, get_or}
+use Rattle.std.proofs.Common.{◌≡◌, ◌-◌, ◌<◌, ℕ, List, [], ◌∷◌, map, length, get_or, sym, ap, ◌∙◌, subst, refl, arith}
+use Rattle.lalrpop_norm_tree.specs.Symbols.{Part, symbol_view}
+use Rattle.lalrpop_norm_tree.proofs.SymbolViews.{seen_at}
+use Rattle.lalrpop_norm_faults.specs.declared.kind.FaultKind.TheVariants.{RecursionCap}
 use Rattle.lalrpop_norm_faults.specs.Faults.{Fault, IsFirst}
-use Rattle.lalrpop_norm_macro_expand_met.specs.declared.expander.Met.{Met}
-use Rattle.lalrpop_norm_macro_expand.proofs.BackLemmas.{past_cap_is}
+use Rattle.lalrpop_norm_model.specs.MadeRules.{span_of}
+use Rattle.lalrpop_norm_nodes.specs.declared.table.Waiting.{Waiting}
+use Rattle.lalrpop_norm_macro_expand.specs.Expansion.{past_cap}
 use Rattle.lalrpop_norm_macro_expand.proofs.macro_expand.past_cap.Goals as goal
+
+-- of some symbols the last one is past the cap
+last_past_cap : (ws : List Waiting) (w : Waiting) → 0 < length ws → w ≡ get_or ws (length ws - 1) w →
+    past_cap (map (λ v. symbol_view v.symbol) ws) ≡ (RecursionCap, w.symbol.span) ∷ []
+last_past_cap [] w l e = absurd (omega arith)
+last_past_cap (v ∷ []) w l e = ap (λ (u : Waiting). (RecursionCap, span_of (symbol_view u.symbol)) ∷ []) (sym e) ∙ ap (λ (p : Part). (RecursionCap, span_of p) ∷ []) (seen_at w.symbol)
+last_past_cap (v ∷ u ∷ ws) w l e = last_past_cap (u ∷ ws) w (omega arith) e
 
 pub returns : goal.returns
 returns c =
-    let ss : List Met = c.args.expander.now.met.items in
-    let s : Met = c.index.result.now in
+    let ws : List Waiting = c.args.waiting.now in
+    let w : Waiting = c.index.result.now in
     subst (λ (fs : List Fault). IsFirst fs c.refusal.result)
-    (sym (past_cap_is ss c.args.from s c.requires (c.index.ensures ∙ ap (λ (n : ℕ). get_or ss (n - 1) s) (c.len.ensures ∙ c.args.expander.now.met.ok.0))))
+    (sym (last_past_cap ws w c.requires (c.index.ensures ∙ ap (λ (n : ℕ). get_or ws (n - 1) w) c.len.ensures)))
     c.refusal.ensures.first

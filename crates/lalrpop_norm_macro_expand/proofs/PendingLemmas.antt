@@ -1,0 +1,221 @@
+-- The rules of symbols that wait, read where names stand for what is given, are the rules that these symbols are made into.
+use Rattle.std.proofs.Common.{◌≡◌, inl, inr, ℕ, List, [], ◌∷◌, ◌++◌, Bool, true, false, cond, map, Option, Some, None, bytes_eq, option_map, refl, sym, ap, ap₂, ◌∙◌, subst, append-nil}
+use Rattle.std.specs.Prelude.{flat_map, ◌||◌}
+use Rattle.std.proofs.lemmas.Bool.{and_parts}
+use Rattle.std.proofs.lemmas.List.{map-append}
+use Rattle.std.proofs.lemmas.Grind.{flat_map-append}
+use Rattle.std.proofs.lemmas.Slice.Eq.{bytes_eq-Decides}
+use Rattle.lalrpop_norm_tree_names.specs.declared.names.Span.{Span}
+use Rattle.lalrpop_norm_tree_names.specs.declared.names.NonterminalString.{NonterminalString}
+use Rattle.lalrpop_norm_tree_names.specs.declared.names.TerminalString.TheVariants.{Literal, Bare, Error}
+use Rattle.lalrpop_norm_tree_names.specs.declared.names.TerminalLiteral.TheVariants.{Quoted, Regex}
+use Rattle.lalrpop_norm_tree.specs.declared.symbol.RepeatOp.{RepeatOp}
+use Rattle.lalrpop_norm_tree.specs.declared.symbol.RepeatOp.TheVariants.{Star, Plus, Question}
+use Rattle.lalrpop_norm_tree.specs.declared.items.Condition.{Condition}
+use Rattle.lalrpop_norm_tree.specs.Symbols.{Kind, Part, Parts, group, ambiguous_id, terminal, nonterminal, call, repeated, chosen, named, tupled, lookahead, lookbehind, error_terminal, at, no_parts, part_and}
+use Rattle.lalrpop_norm_tree.specs.Items.{AlternativeData, RuleData, ItemData, rule_item, lookahead_code, lookbehind_code}
+use Rattle.lalrpop_norm_tree.specs.SymbolTexts.{kind_text}
+use Rattle.lalrpop_norm_faults.specs.declared.kind.FaultKind.TheVariants.{NamedInGroup}
+use Rattle.lalrpop_norm_faults.specs.Faults.{Fault, fault_if}
+use Rattle.lalrpop_norm_conditions.specs.Conditions.{comparison}
+use Rattle.lalrpop_norm_theory.specs.Rounds.{In}
+use Rattle.lalrpop_norm_model.specs.Grammars.{is_true}
+use Rattle.lalrpop_norm_model.specs.Reading.{read_all}
+use Rattle.lalrpop_norm_model.specs.MadeRules.{flat_reader, kind_of, names_value, some_name_value, argument_kind, only_part, macro_named, made_rules, instance_of, instance_rule, instance_alternative, group_rule, repeat_rule, location_rule}
+use Rattle.lalrpop_norm_model.specs.PlainRules.{met, all_met, met_in_rule, replaced_rule}
+use Rattle.lalrpop_norm_model.specs.Replaced.{replaced, replaced_kind, all_replaced}
+use Rattle.lalrpop_norm_macro_expand_met.specs.Apart.{nowhere, unplaced_kind, all_unplaced}
+use Rattle.lalrpop_norm_macro_expand_met.specs.Meeting.{inside, were_met}
+use Rattle.lalrpop_norm_nodes.specs.Waits.{parts_replaced}
+use Rattle.lalrpop_norm_nodes.proofs.ShallowConditions.{kept_in}
+use Rattle.lalrpop_norm_nodes.proofs.ShallowMeetings.{MeetAlike, alike_none, alike_both}
+use Rattle.lalrpop_norm_nodes.proofs.ShallowReadings.{copied, shown_in_each, met_in_each, each_read, call_copies, call_read, call_alike, repeat_read, repeat_alike, group_alike, location_alike}
+use Rattle.lalrpop_norm_nodes.proofs.ShallowRules.{argument_replaced, argument_unplaced, group_replaced}
+use Rattle.lalrpop_norm_macro_expand_rules.specs.Conditions.{quoted_text, comparison_faults, value_faults, instance_faults, called_faults}
+use Rattle.lalrpop_norm_macro_expand_rules.specs.Pending.{PendingData, finished_rule, unread_rule, met_in_pending, shown_in_pending, pending_read, read_filled}
+use Rattle.lalrpop_norm_macro_expand.specs.Expansion.{unmade}
+use Rattle.lalrpop_norm_macro_expand.specs.Making.{kept_of, instance_shape, call_pending, hole, hole_name, repeat_pending, pending_of}
+use Rattle.lalrpop_norm_macro_expand_rules.proofs.MacroLemmas.{named_so}
+
+-- the rules of a symbol, as the code makes them
+abbrev pub pending_by : List RuleData → Part → List PendingData
+pending_by macros p = pending_of macros (unplaced_kind (kind_of p)) (parts_replaced p)
+
+abbrev replaced_rules : List RuleData → List ItemData
+replaced_rules rs = map (λ r. rule_item (replaced_rule r)) rs
+
+-- ---- the alternatives of a call
+
+kept_copies : (s : Span) (params : List NonterminalString) (args : Parts) (xs : List AlternativeData) →
+    flat_map (kept_of s params args) xs ≡ copied s (kept_in comparison params args xs)
+kept_copies s params args [] = refl
+kept_copies s params args (a ∷ xs) = by (is_true comparison params (read_all flat_reader args) a.condition) (kept_copies s params args xs)
+  where
+    by : (b : Bool) → flat_map (kept_of s params args) xs ≡ copied s (kept_in comparison params args xs) →
+        cond b (instance_alternative s (λ n. None) a ∷ []) [] ++ flat_map (kept_of s params args) xs
+        ≡ copied s (cond b (a ∷ kept_in comparison params args xs) (kept_in comparison params args xs))
+    by true deeper = ap (λ ys. instance_alternative s (λ n. None) a ∷ ys) deeper
+    by false deeper = deeper
+
+-- ---- what they are once they are read
+
+call_read_so : (s : Span) (n : List ℕ) (ps : Parts) (o : Option RuleData) → ((d : RuleData) → o ≡ Some d → d.name.0 ≡ n) →
+    map pending_read (call_pending (kind_text (call n (all_replaced ps))) s o (all_unplaced ps) (all_replaced ps)) ≡ replaced_rules (instance_of comparison s o ps)
+call_read_so s n ps None h = refl
+call_read_so s n ps (Some d) h =
+    let shown = argument_kind d.args (all_replaced ps) in
+    let shape : RuleData = instance_shape (kind_text (call n (all_replaced ps))) s d (all_replaced ps) in
+    ap₂ (λ (m : List ℕ) (xs : List AlternativeData).
+    let r : RuleData = record shape { name = record { 0 = kind_text (call m (all_replaced ps)) }; alternatives = each_read shown xs } in rule_item r ∷ [])
+    (sym (h d refl)) (kept_copies s d.args (all_replaced ps) d.alternatives)
+    ∙ ap (λ r. rule_item r ∷ []) (call_read (λ x. true) [] comparison s d ps shown (argument_replaced d.args ps))
+
+repeat_read_so : (s : Span) (op : RepeatOp) (sp : Span) (k : Kind) (whole : Kind) →
+    pending_read (repeat_pending (kind_text (repeated op (at sp (replaced_kind k)))) s op whole (at sp (replaced_kind k))) ≡ rule_item (replaced_rule (repeat_rule s op (at sp k)))
+repeat_read_so s Star sp k whole =
+    ap rule_item (repeat_read (λ x. true) [] s Star sp k (record { 0 = hole_name }) (argument_kind hole (only_part (at sp (replaced_kind k)))) (argument_replaced hole (only_part (at sp k))))
+repeat_read_so s Plus sp k whole =
+    ap rule_item (repeat_read (λ x. true) [] s Plus sp k (record { 0 = hole_name }) (argument_kind hole (only_part (at sp (replaced_kind k)))) (argument_replaced hole (only_part (at sp k))))
+repeat_read_so s Question sp k whole =
+    ap rule_item (repeat_read (λ x. true) [] s Question sp k (record { 0 = hole_name }) (argument_kind hole (only_part (at sp (replaced_kind k)))) (argument_replaced hole (only_part (at sp k))))
+
+one_read : (macros : List RuleData) (p : Part) → map pending_read (pending_by macros p) ≡ replaced_rules (made_rules comparison macros p)
+one_read macros (at s (group ps)) = ap (λ r. rule_item r ∷ []) (sym (group_replaced s ps))
+one_read macros (at s (call n ps)) = call_read_so s n ps (macro_named macros n) (λ d e. named_so macros n d e)
+one_read macros (at s (repeated op (at sp k))) = ap (λ (i : ItemData). i ∷ []) (repeat_read_so s op sp k (unplaced_kind k))
+one_read macros (at s lookahead) = refl
+one_read macros (at s lookbehind) = refl
+one_read macros (at s (ambiguous_id a)) = refl
+one_read macros (at s (terminal t)) = refl
+one_read macros (at s (nonterminal n)) = refl
+one_read macros (at s (chosen p)) = refl
+one_read macros (at s (named n p)) = refl
+one_read macros (at s (tupled ns p)) = refl
+one_read macros (at s error_terminal) = refl
+
+pub pending_are_read : (macros : List RuleData) (ps : List Part) →
+    map pending_read (flat_map (pending_by macros) ps) ≡ replaced_rules (flat_map (made_rules comparison macros) ps)
+pending_are_read macros [] = refl
+pending_are_read macros (p ∷ ps) =
+    map-append pending_read (pending_by macros p) (flat_map (pending_by macros) ps)
+    ∙ ap₂ ◌++◌ (one_read macros p) (pending_are_read macros ps)
+    ∙ sym (map-append (λ r. rule_item (replaced_rule r)) (made_rules comparison macros p) (flat_map (made_rules comparison macros) ps))
+
+-- ---- what they meet
+
+module _ (names : List ℕ → Bool) (start : List Part) where
+  abbrev pub ReadsAs : List PendingData → List RuleData → Type 0
+  ReadsAs qs rs = MeetAlike names start (flat_map shown_in_pending qs) (flat_map met_in_pending qs) (flat_map met_in_rule rs)
+
+  one_alike : (q : PendingData) (r : RuleData) → MeetAlike names start (shown_in_pending q) (met_in_pending q) (met_in_rule r) → ReadsAs (q ∷ []) (r ∷ [])
+  one_alike q r h = rw (append-nil (shown_in_pending q), append-nil (met_in_pending q), append-nil (met_in_rule r)) h
+
+  call_met : (s : Span) (n : List ℕ) (ps : Parts) (name : List ℕ) (o : Option RuleData) → were_met names start (all_met ps) ≡ true →
+      ReadsAs (call_pending name s o (all_unplaced ps) (all_replaced ps)) (instance_of comparison s o ps)
+  call_met s n ps name None were = alike_none names start
+  call_met s n ps name (Some d) were =
+      let shown = argument_kind d.args (all_replaced ps) in
+      let whole = argument_kind d.args (all_unplaced ps) in
+      one_alike (unread_rule (instance_shape name s d (all_replaced ps)) whole shown) (instance_rule comparison s d ps)
+      (rw (kept_copies s d.args (all_replaced ps) d.alternatives)
+      (call_alike names start comparison s d ps shown (argument_replaced d.args ps) whole (argument_unplaced d.args ps) were))
+
+  repeat_met : (s : Span) (op : RepeatOp) (sp : Span) (k : Kind) (name : List ℕ) → were_met names start (met (at sp k)) ≡ true →
+      ReadsAs (repeat_pending name s op (unplaced_kind k) (at sp (replaced_kind k)) ∷ []) (repeat_rule s op (at sp k) ∷ [])
+  repeat_met s op sp k name were =
+      one_alike (repeat_pending name s op (unplaced_kind k) (at sp (replaced_kind k))) (repeat_rule s op (at sp k))
+      (repeat_alike names start s op sp k (record { 0 = hole_name }) (argument_kind hole (only_part (at sp (replaced_kind k)))) (argument_replaced hole (only_part (at sp k)))
+      (argument_kind hole (only_part (at nowhere (unplaced_kind k)))) (argument_unplaced hole (only_part (at sp k))) were)
+
+  part_reads : (macros : List RuleData) (p : Part) → were_met names start (inside p) ≡ true → ReadsAs (pending_by macros p) (made_rules comparison macros p)
+  part_reads macros (at s (group ps)) h = one_alike (finished_rule (group_rule s (all_replaced ps))) (group_rule s ps) (group_alike names start s ps h)
+  part_reads macros (at s (call n ps)) h = call_met s n ps (kind_text (call n (all_replaced ps))) (macro_named macros n) h
+  part_reads macros (at s (repeated op (at sp k))) h = repeat_met s op sp k (kind_text (repeated op (at sp (replaced_kind k)))) h
+  part_reads macros (at s lookahead) h = one_alike (finished_rule (location_rule s lookahead lookahead_code)) (location_rule s lookahead lookahead_code) (location_alike names start s lookahead lookahead_code)
+  part_reads macros (at s lookbehind) h = one_alike (finished_rule (location_rule s lookbehind lookbehind_code)) (location_rule s lookbehind lookbehind_code) (location_alike names start s lookbehind lookbehind_code)
+  part_reads macros (at s (ambiguous_id a)) h = alike_none names start
+  part_reads macros (at s (terminal t)) h = alike_none names start
+  part_reads macros (at s (nonterminal n)) h = alike_none names start
+  part_reads macros (at s (chosen p)) h = alike_none names start
+  part_reads macros (at s (named n p)) h = alike_none names start
+  part_reads macros (at s (tupled ns p)) h = alike_none names start
+  part_reads macros (at s error_terminal) h = alike_none names start
+
+  pub rules_read : (macros : List RuleData) (ps : List Part) → ((p : Part) → In p ps → were_met names start (inside p) ≡ true) →
+      MeetAlike names start (flat_map shown_in_pending (flat_map (pending_by macros) ps)) (flat_map met_in_pending (flat_map (pending_by macros) ps))
+      (flat_map (λ p. flat_map met_in_rule (made_rules comparison macros p)) ps)
+  rules_read macros [] h = alike_none names start
+  rules_read macros (p ∷ ps) h =
+      let here = part_reads macros p (h p (inl refl)) in
+      let rest = rules_read macros ps (λ q i. h q (inr i)) in
+      rw (flat_map-append shown_in_pending (pending_by macros p) (flat_map (pending_by macros) ps), flat_map-append met_in_pending (pending_by macros p) (flat_map (pending_by macros) ps))
+      (alike_both names start _ _ _ _ _ _ here rest)
+
+-- ---- what no rule is made of
+
+name_replaced : (p : Part) → names_value (replaced p) ≡ names_value p
+name_replaced (at s (group ps)) = refl
+name_replaced (at s (call n ps)) = refl
+name_replaced (at s (repeated op p)) = refl
+name_replaced (at s lookahead) = refl
+name_replaced (at s lookbehind) = refl
+name_replaced (at s (ambiguous_id a)) = refl
+name_replaced (at s (terminal t)) = refl
+name_replaced (at s (nonterminal n)) = refl
+name_replaced (at s (chosen p)) = refl
+name_replaced (at s (named n p)) = refl
+name_replaced (at s (tupled ns p)) = refl
+name_replaced (at s error_terminal) = refl
+
+some_replaced : (ps : Parts) → some_name_value (all_replaced ps) ≡ some_name_value ps
+some_replaced no_parts = refl
+some_replaced (part_and p ps) = ap₂ ◌||◌ (name_replaced p) (some_replaced ps)
+
+quoted_replaced : (o : Option Kind) → quoted_text (option_map replaced_kind o) ≡ quoted_text o
+quoted_replaced None = refl
+quoted_replaced (Some (terminal t)) = refl
+quoted_replaced (Some (group ps)) = refl
+quoted_replaced (Some (ambiguous_id a)) = refl
+quoted_replaced (Some (nonterminal n)) = refl
+quoted_replaced (Some (call n ps)) = refl
+quoted_replaced (Some (repeated op p)) = refl
+quoted_replaced (Some (chosen p)) = refl
+quoted_replaced (Some (named n p)) = refl
+quoted_replaced (Some (tupled ns p)) = refl
+quoted_replaced (Some lookahead) = refl
+quoted_replaced (Some lookbehind) = refl
+quoted_replaced (Some error_terminal) = refl
+
+value_replaced : (params : List NonterminalString) (ps : Parts) (o : Option Condition) →
+    value_faults (argument_kind params (all_replaced ps)) o ≡ value_faults (argument_kind params ps) o
+value_replaced params ps None = refl
+value_replaced params ps (Some c) =
+    ap (comparison_faults c) (ap quoted_text (argument_replaced params ps c.lhs.0) ∙ quoted_replaced (argument_kind params ps c.lhs.0))
+
+values_replaced : (params : List NonterminalString) (ps : Parts) (xs : List AlternativeData) →
+    flat_map (λ (a : AlternativeData). value_faults (argument_kind params (all_replaced ps)) a.condition) xs
+    ≡ flat_map (λ (a : AlternativeData). value_faults (argument_kind params ps) a.condition) xs
+values_replaced params ps [] = refl
+values_replaced params ps (a ∷ xs) = ap₂ ◌++◌ (value_replaced params ps a.condition) (values_replaced params ps xs)
+
+called_replaced : (o : Option RuleData) (ps : Parts) → called_faults o (all_replaced ps) ≡ called_faults o ps
+called_replaced None ps = refl
+called_replaced (Some d) ps = values_replaced d.args ps d.alternatives
+
+unmade_replaced : (macros : List RuleData) (p : Part) → unmade macros (parts_replaced p) ≡ unmade macros p
+unmade_replaced macros (at s (group ps)) = ap (λ b. fault_if b (NamedInGroup, s)) (some_replaced ps)
+unmade_replaced macros (at s (call n ps)) = called_replaced (macro_named macros n) ps
+unmade_replaced macros (at s (repeated op p)) = refl
+unmade_replaced macros (at s lookahead) = refl
+unmade_replaced macros (at s lookbehind) = refl
+unmade_replaced macros (at s (ambiguous_id a)) = refl
+unmade_replaced macros (at s (terminal t)) = refl
+unmade_replaced macros (at s (nonterminal n)) = refl
+unmade_replaced macros (at s (chosen p)) = refl
+unmade_replaced macros (at s (named n p)) = refl
+unmade_replaced macros (at s (tupled ns p)) = refl
+unmade_replaced macros (at s error_terminal) = refl
+
+pub all_unmade : (macros : List RuleData) (ps : List Part) → flat_map (unmade macros) (map parts_replaced ps) ≡ flat_map (unmade macros) ps
+all_unmade macros [] = refl
+all_unmade macros (p ∷ ps) = ap₂ ◌++◌ (unmade_replaced macros p) (all_unmade macros ps)

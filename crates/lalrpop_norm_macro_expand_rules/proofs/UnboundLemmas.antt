@@ -1,0 +1,78 @@
+-- Alternatives that are read where no name stands for anything.
+use Rattle.std.proofs.Common.{◌≡◌, ℕ, List, [], ◌∷◌, ◌++◌, map, Option, Some, None, option_map, refl, sym, ap, ap₂, ◌∙◌}
+use Rattle.std.proofs.Math.Path.{fun_ext}
+use Rattle.std.specs.List.{flat_map}
+use Rattle.std.proofs.lemmas.List.{map-append}
+use Rattle.lalrpop_norm_tree.specs.Symbols.{Kind, Part, Parts, group, ambiguous_id, terminal, nonterminal, call, repeated, chosen, named, tupled, lookahead, lookbehind, error_terminal, at, no_parts, part_and, kind_view}
+use Rattle.lalrpop_norm_tree.specs.Items.{AlternativeData}
+use Rattle.lalrpop_norm_model.specs.PlainRules.{all_met, replaced_alternative}
+use Rattle.lalrpop_norm_nodes.specs.declared.given.Given.{Given}
+use Rattle.lalrpop_norm_nodes.specs.declared.given.Environment.{Environment}
+use Rattle.lalrpop_norm_nodes.specs.Filled.{filled, filled_kind, all_filled}
+use Rattle.lalrpop_norm_nodes.specs.Given.{given_for, whole_for, shown_for, IsGiven, AreGiven}
+use Rattle.lalrpop_norm_nodes.specs.Waits.{parts_replaced}
+use Rattle.lalrpop_norm_nodes.specs.Wholes.{Whole, kind_at}
+use Rattle.lalrpop_norm_macro_expand_rules.specs.Pending.{met_filled, shown_filled, read_filled}
+
+abbrev unbound : List ℕ → Option Kind
+unbound n = None
+
+mutual
+  filled_unbound : (p : Part) → filled unbound p ≡ p
+  filled_unbound (at s k) = ap (at s) (kind_unbound k)
+
+  kind_unbound : (k : Kind) → filled_kind unbound k ≡ k
+  kind_unbound (group ps) = ap group (all_unbound ps)
+  kind_unbound (call n ps) = ap (call n) (all_unbound ps)
+  kind_unbound (repeated op p) = ap (repeated op) (filled_unbound p)
+  kind_unbound (chosen p) = ap chosen (filled_unbound p)
+  kind_unbound (named n p) = ap (named n) (filled_unbound p)
+  kind_unbound (tupled ns p) = ap (tupled ns) (filled_unbound p)
+  kind_unbound lookahead = refl
+  kind_unbound lookbehind = refl
+  kind_unbound (ambiguous_id a) = refl
+  kind_unbound (terminal t) = refl
+  kind_unbound (nonterminal n) = refl
+  kind_unbound error_terminal = refl
+
+  all_unbound : (ps : Parts) → all_filled unbound ps ≡ ps
+  all_unbound no_parts = refl
+  all_unbound (part_and p ps) = ap₂ part_and (filled_unbound p) (all_unbound ps)
+
+met_unbound : (xs : List AlternativeData) → flat_map (met_filled unbound) xs ≡ flat_map (λ (a : AlternativeData). all_met a.parts) xs
+met_unbound [] = refl
+met_unbound (a ∷ xs) = ap₂ (λ (ps : Parts) (ys : List Part). all_met ps ++ ys) (all_unbound a.parts) (met_unbound xs)
+
+shown_unbound : (xs : List AlternativeData) → flat_map (shown_filled unbound) xs ≡ map parts_replaced (flat_map (λ (a : AlternativeData). all_met a.parts) xs)
+shown_unbound [] = refl
+shown_unbound (a ∷ xs) =
+    ap₂ (λ (ps : Parts) (ys : List Part). map parts_replaced (all_met ps) ++ ys) (all_unbound a.parts) (shown_unbound xs)
+    ∙ sym (map-append parts_replaced (all_met a.parts) (flat_map (λ (b : AlternativeData). all_met b.parts) xs))
+
+read_unbound : (xs : List AlternativeData) → map (read_filled unbound) xs ≡ map replaced_alternative xs
+read_unbound [] = refl
+read_unbound (a ∷ xs) =
+    ap₂ (λ (ps : Parts) (ys : List AlternativeData). let b : AlternativeData = record a { parts = ps } in replaced_alternative b ∷ ys) (all_unbound a.parts) (read_unbound xs)
+
+-- an environment without names
+module _ (e : Environment) (none : e.names.now ≡ []) where
+  given_none : (n : List ℕ) → given_for e.names.now e.given.now n ≡ None
+  given_none n = ap (λ names. given_for names e.given.now n) none
+
+  pub none_given : (ws : List Whole) → AreGiven ws e
+  none_given ws n g f = absurd (cc (given_none n, f))
+
+  whole_none : (ws : List Whole) → whole_for ws e ≡ unbound
+  whole_none ws = fun_ext (λ n. ap (option_map (λ (g : Given). kind_at ws g.number)) (given_none n))
+
+  shown_none : shown_for e ≡ unbound
+  shown_none = fun_ext (λ n. ap (option_map (λ (g : Given). kind_view g.symbol.kind)) (given_none n))
+
+  pub none_met : (ws : List Whole) (xs : List AlternativeData) → flat_map (met_filled (whole_for ws e)) xs ≡ flat_map (λ (a : AlternativeData). all_met a.parts) xs
+  none_met ws xs = ap (λ (f : List ℕ → Option Kind). flat_map (met_filled f) xs) (whole_none ws) ∙ met_unbound xs
+
+  pub none_shown : (xs : List AlternativeData) → flat_map (shown_filled (shown_for e)) xs ≡ map parts_replaced (flat_map (λ (a : AlternativeData). all_met a.parts) xs)
+  none_shown xs = ap (λ (f : List ℕ → Option Kind). flat_map (shown_filled f) xs) shown_none ∙ shown_unbound xs
+
+  pub none_read : (xs : List AlternativeData) → map (read_filled (shown_for e)) xs ≡ map replaced_alternative xs
+  none_read xs = ap (λ (f : List ℕ → Option Kind). map (read_filled f) xs) shown_none ∙ read_unbound xs

@@ -1,0 +1,56 @@
+//! Alternatives that are read where names stand for what is given.
+ghost use Rattle.std.specs.Prelude.{◌≡◌, OnOk, map, flat_map};
+ghost use Rattle.lalrpop_norm_tree.specs.Items.{alternative_view};
+ghost use Rattle.lalrpop_norm_faults.specs.Faults.{Refuses};
+ghost use Rattle.lalrpop_norm_nodes.specs.Given.{whole_for, shown_for, AreGiven};
+ghost use Rattle.lalrpop_norm_nodes.specs.Tables.{wholes_in, IsNodeTable, IsCounted, TableMeets, refused_in};
+ghost use Rattle.lalrpop_norm_nodes.specs.Waits.{LeavesWaiting};
+ghost use Rattle.lalrpop_norm_macro_expand_rules.specs.Pending.{met_filled, shown_filled, read_filled};
+
+use lalrpop_norm_faults::NormResult;
+use lalrpop_norm_nodes::given::Environment;
+use lalrpop_norm_nodes::read::read_row;
+use lalrpop_norm_nodes::table::Table;
+use lalrpop_norm_tree::grammar::parse_tree::Alternative;
+use std::alloc::Global;
+
+fn read_alternative(
+    alloc: Global,
+    environment: &Environment,
+    alternative: &mut Alternative,
+    table: &mut Table,
+) -> NormResult<()>
+    requires table { IsNodeTable table.old }
+    requires counted { IsCounted table.old }
+    requires given { AreGiven (wholes_in table.old) environment.now }
+    ensures refuses { Refuses result (refused_in table.old (met_filled (whole_for (wholes_in table.old) environment.now) (alternative_view alternative.old))) }
+    ensures meets { OnOk result (TableMeets table.old table.new (met_filled (whole_for (wholes_in table.old) environment.now) (alternative_view alternative.old))) }
+    ensures counted { OnOk result (IsCounted table.new) }
+    ensures waits { OnOk result (LeavesWaiting table.old table.new (shown_filled (shown_for environment.now) (alternative_view alternative.old))) }
+    ensures value { OnOk result (alternative_view alternative.new ≡ read_filled (shown_for environment.now) (alternative_view alternative.old)) }
+{
+    read_row(alloc, environment, &mut alternative.expr.symbols, table)?;
+    Ok(())
+}
+
+/// Reads alternatives in their order, and replaces their symbols where they stand.
+pub(crate) fn read_alternatives(
+    alloc: Global,
+    environment: &Environment,
+    alternatives: &mut [Alternative],
+    table: &mut Table,
+) -> NormResult<()>
+    requires table { IsNodeTable table.old }
+    requires counted { IsCounted table.old }
+    requires given { AreGiven (wholes_in table.old) environment.now }
+    ensures refuses { Refuses result (refused_in table.old (flat_map (met_filled (whole_for (wholes_in table.old) environment.now)) (map alternative_view alternatives.old))) }
+    ensures meets { OnOk result (TableMeets table.old table.new (flat_map (met_filled (whole_for (wholes_in table.old) environment.now)) (map alternative_view alternatives.old))) }
+    ensures counted { OnOk result (IsCounted table.new) }
+    ensures waits { OnOk result (LeavesWaiting table.old table.new (flat_map (shown_filled (shown_for environment.now)) (map alternative_view alternatives.old))) }
+    ensures value { OnOk result (map alternative_view alternatives.new ≡ map (read_filled (shown_for environment.now)) (map alternative_view alternatives.old)) }
+{
+    for i in 0..alternatives.len() {
+        read_alternative(alloc, environment, &mut alternatives[i], table)?;
+    }
+    Ok(())
+}
