@@ -4,7 +4,7 @@ use Rattle.std.specs.List.{flat_map}
 use Rattle.std.proofs.lemmas.List.{map-append}
 use Rattle.lalrpop_norm_tree_names.specs.declared.names.Span.{Span}
 use Rattle.lalrpop_norm_tree.specs.declared.symbol.Symbol.{Symbol}
-use Rattle.lalrpop_norm_tree.specs.Symbols.{Kind, Part, Parts, parts_of, group, ambiguous_id, terminal, nonterminal, call, repeated, chosen, named, tupled, lookahead, lookbehind, error_terminal, at, no_parts, part_and, kind_view, symbol_view}
+use Rattle.lalrpop_norm_tree.specs.Symbols.{Kind, Part, parts_of, group, ambiguous_id, terminal, nonterminal, call, repeated, chosen, named, tupled, lookahead, lookbehind, error_terminal, at, kind_view, symbol_view}
 use Rattle.lalrpop_norm_tree.proofs.SymbolViews.{seen_at}
 use Rattle.lalrpop_norm_tree.specs.SymbolTexts.{part_text, kind_text}
 use Rattle.lalrpop_norm_model.specs.MadeRules.{or_name}
@@ -22,22 +22,9 @@ use Rattle.lalrpop_norm_nodes.specs.Tables.{wholes_in, IsNodeTable, TableMeets}
 use Rattle.lalrpop_norm_nodes.specs.Waits.{parts_replaced, shown_met, LeavesWaiting}
 use Rattle.lalrpop_norm_nodes.proofs.InPlace.{met_more}
 use Rattle.lalrpop_norm_nodes.proofs.MeetLemmas.{split_at}
-use Rattle.lalrpop_norm_nodes.proofs.ReadLemmas.{Bound, bound_is}
+use Rattle.lalrpop_norm_nodes.proofs.ReadLemmas.{bound_is}
+use Rattle.lalrpop_norm_nodes.proofs.TwiceLemmas.{nothing_met}
 use Rattle.lalrpop_norm_nodes.proofs.WaitLemmas.{waits_both, waits_nothing, waits_plain}
-
-nothing_met : (p : Part) → met (replaced p) ≡ []
-nothing_met (at s (group ps)) = refl
-nothing_met (at s (call n ps)) = refl
-nothing_met (at s (repeated op p)) = refl
-nothing_met (at s lookahead) = refl
-nothing_met (at s lookbehind) = refl
-nothing_met (at s (ambiguous_id a)) = refl
-nothing_met (at s (terminal t)) = refl
-nothing_met (at s (nonterminal n)) = refl
-nothing_met (at s (chosen p)) = nothing_met p
-nothing_met (at s (named n p)) = nothing_met p
-nothing_met (at s (tupled ns p)) = nothing_met p
-nothing_met (at s error_terminal) = refl
 
 -- what is given for a name was met
 pub bound_waits : (t : Table) (e : Environment) (s : Symbol) (g : Given) → AreGiven (wholes_in t) e → given_to e (kind_view s.kind) ≡ Some g →

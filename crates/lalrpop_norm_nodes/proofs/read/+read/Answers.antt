@@ -1,5 +1,5 @@
 use Rattle.std.proofs.Common.{◌≡◌, rules, refl, ap, sym, subst, ◌∙◌, option_map, slice_get, List, Some, map, ℕ, ◌<◌, ◌≤◌, ◌++◌, Option, append-nil, length, get_or, arith, drop}
-use Rattle.lalrpop_norm_tree.specs.Symbols.{Part, at, ambiguous_id, nonterminal, terminal, lookahead, lookbehind, error_terminal, kind_view, Kind, argument_pattern_view, symbol_view, Call, parts_view, parts_of}
+use Rattle.lalrpop_norm_tree.specs.Symbols.{Part, at, ambiguous_id, nonterminal, terminal, lookahead, lookbehind, error_terminal, kind_view, Kind, argument_pattern_view, symbol_view, Parts, Call, Again, kind_step, expr_step, macro_step, repeat_step, symbol_step, parts_view, parts_of}
 use Rattle.lalrpop_norm_tree.proofs.SymbolViews.{symbol_seen, ambiguous_seen, nonterminal_seen, terminal_seen}
 use Rattle.lalrpop_norm_faults.proofs.FaultLemmas.{exit_at}
 use Rattle.lalrpop_norm_macro_expand_met.specs.Meeting.{met_inside, own, own_text, after, clash_faults}
@@ -12,10 +12,12 @@ use Rattle.lalrpop_norm_nodes.specs.Tables.{wholes_in, own_at, own_text_in, is_d
 use Rattle.lalrpop_norm_nodes.specs.Wholes.{Whole, patterns, symbols}
 use Rattle.lalrpop_norm_nodes.proofs.ReadLemmas.{bound_met, bound_value, bound_number, read_at, read_meets, read_refused, text_kept, value_kept}
 use Rattle.lalrpop_norm_tree.specs.declared.symbol.ArgPattern.{ArgPattern}
-use Rattle.lalrpop_norm_nodes.proofs.InsideReads.{tupled_seen, tuple_for, group_is, group_for, call_is, call_for, lookahead_seen, lookbehind_seen, error_seen}
+use Rattle.lalrpop_norm_nodes.proofs.InsideReads.{tupled_seen, tuple_for, group_is, group_for, call_is, call_for}
 use Rattle.lalrpop_norm_nodes.proofs.RowReads.{meets_row, met_one_by_one, shown_one_by_one, first_same, counted_row, row_more}
 use Rattle.lalrpop_norm_tree.specs.declared.symbol.Symbol.{Symbol}
-use Rattle.lalrpop_norm_tree.specs.declared.symbol.SymbolKind.TheViews.{out-ExprSymbol, out-MacroSymbol}
+use Rattle.lalrpop_norm_tree.specs.declared.symbol.SymbolKind.TheViews.{rolls-Lookahead, rolls-Lookbehind, rolls-Error, out-ExprSymbol, out-MacroSymbol}
+use Rattle.lalrpop_norm_tree.specs.declared.symbol.SymbolKind.TheFolds.{fold-roll-SymbolKind}
+use Rattle.lalrpop_norm_tree.specs.declared.symbol.SymbolKind.TheOpen.{SymbolKind-F}
 use Rattle.std.proofs.lemmas.List.{length-map, get_or_default, take_all, drop_all}
 use Rattle.std.specs.List.{flat_map}
 use Rattle.lalrpop_norm_macro_expand_met.specs.Apart.{unplaced}
@@ -285,12 +287,15 @@ node_of-returns-in_ok-clone-in-Terminal-clause-waits t c =
 
 pub node_of-returns-in-Lookahead-clause-waits : goal.node_of-returns-in-Lookahead-clause-waits
 node_of-returns-in-Lookahead-clause-waits t c =
-    leaf_waits c.args.table.now c.args.environment.now (kind_view c.args.kind.now) lookahead (ap kind_view c.in-Lookahead.is ∙ lookahead_seen) refl
+    leaf_waits c.args.table.now c.args.environment.now (kind_view c.args.kind.now) lookahead
+    (ap kind_view (c.in-Lookahead.is ∙ sym rolls-Lookahead) ∙ fold-roll-SymbolKind Kind Parts Call Again Part kind_step expr_step macro_step repeat_step symbol_step SymbolKind-F.Lookahead) refl
 
 pub node_of-returns-in-Lookbehind-clause-waits : goal.node_of-returns-in-Lookbehind-clause-waits
 node_of-returns-in-Lookbehind-clause-waits t c =
-    leaf_waits c.args.table.now c.args.environment.now (kind_view c.args.kind.now) lookbehind (ap kind_view c.in-Lookbehind.is ∙ lookbehind_seen) refl
+    leaf_waits c.args.table.now c.args.environment.now (kind_view c.args.kind.now) lookbehind
+    (ap kind_view (c.in-Lookbehind.is ∙ sym rolls-Lookbehind) ∙ fold-roll-SymbolKind Kind Parts Call Again Part kind_step expr_step macro_step repeat_step symbol_step SymbolKind-F.Lookbehind) refl
 
 pub node_of-returns-in-Error-clause-waits : goal.node_of-returns-in-Error-clause-waits
 node_of-returns-in-Error-clause-waits t c =
-    leaf_waits c.args.table.now c.args.environment.now (kind_view c.args.kind.now) error_terminal (ap kind_view c.in-Error.is ∙ error_seen) refl
+    leaf_waits c.args.table.now c.args.environment.now (kind_view c.args.kind.now) error_terminal
+    (ap kind_view (c.in-Error.is ∙ sym rolls-Error) ∙ fold-roll-SymbolKind Kind Parts Call Again Part kind_step expr_step macro_step repeat_step symbol_step SymbolKind-F.Error) refl
