@@ -24,7 +24,7 @@ use Rattle.lalrpop_norm_model.specs.Reading.{read_all}
 use Rattle.lalrpop_norm_model.specs.MadeRules.{flat_reader, kind_of, names_value, some_name_value, argument_kind, only_part, macro_named, made_rules, instance_of, instance_rule, instance_alternative, group_rule, repeat_rule, location_rule}
 use Rattle.lalrpop_norm_model.specs.PlainRules.{met, all_met, met_in_rule, replaced_rule}
 use Rattle.lalrpop_norm_model.specs.Replaced.{replaced, replaced_kind, all_replaced}
-use Rattle.lalrpop_norm_macro_expand_met.specs.Apart.{unplaced_kind, all_unplaced}
+use Rattle.lalrpop_norm_macro_expand_met.specs.Apart.{nowhere, unplaced_kind, all_unplaced}
 use Rattle.lalrpop_norm_macro_expand_met.specs.Meeting.{inside, were_met}
 use Rattle.lalrpop_norm_nodes.specs.Waits.{parts_replaced}
 use Rattle.lalrpop_norm_nodes.proofs.ShallowConditions.{kept_in}
@@ -125,7 +125,7 @@ module _ (names : List ℕ → Bool) (start : List Part) where
   repeat_met s op sp k name were =
       one_alike (repeat_pending name s op (unplaced_kind k) (at sp (replaced_kind k))) (repeat_rule s op (at sp k))
       (repeat_alike names start s op sp k (record { 0 = hole_name }) (argument_kind hole (only_part (at sp (replaced_kind k)))) (argument_replaced hole (only_part (at sp k)))
-      (argument_kind hole (only_part (at _ (unplaced_kind k)))) (argument_unplaced hole (only_part (at sp k))) were)
+      (argument_kind hole (only_part (at nowhere (unplaced_kind k)))) (argument_unplaced hole (only_part (at sp k))) were)
 
   part_reads : (macros : List RuleData) (p : Part) → were_met names start (inside p) ≡ true → ReadsAs (pending_by macros p) (made_rules comparison macros p)
   part_reads macros (at s (group ps)) h = one_alike (finished_rule (group_rule s (all_replaced ps))) (group_rule s ps) (group_alike names start s ps h)

@@ -14,7 +14,6 @@ use Rattle.lalrpop_norm_model.specs.MadeRules.{kind_of, inline_at, coded, type_o
 use Rattle.lalrpop_norm_model.specs.PlainRules.{replaced_rule}
 use Rattle.lalrpop_norm_model.specs.Replaced.{replaced_kind, all_replaced}
 use Rattle.lalrpop_norm_macro_expand_met.specs.Apart.{unplaced_kind, all_unplaced}
-use Rattle.lalrpop_norm_nodes.specs.Given.{given_for}
 use Rattle.lalrpop_norm_nodes.specs.Filled.{inside_replaced}
 use Rattle.lalrpop_norm_nodes.proofs.GivenLemmas.{inside_text}
 use Rattle.lalrpop_norm_nodes.proofs.ReplacedSources.{types_of_replaced, code_of_replaced}
@@ -44,18 +43,6 @@ argument_replaced = argument_mapped replaced_kind all_replaced refl (λ s k ps. 
 pub argument_unplaced : (names : List NonterminalString) (ps : Parts) (n : List ℕ) →
     argument_kind names (all_unplaced ps) n ≡ option_map unplaced_kind (argument_kind names ps n)
 argument_unplaced = argument_mapped unplaced_kind all_unplaced refl (λ s k ps. (_, refl))
-
--- what is given for names is what arguments of these symbols are bound to
-pub given_argument : {A : Type 0} (h : A → Part) (names : List NonterminalString) (gs : List A) (n : List ℕ) →
-    option_map (λ g. kind_of (h g)) (given_for names gs n) ≡ argument_kind names (parts_of (map h gs)) n
-given_argument h [] gs n = refl
-given_argument h (a ∷ names) [] n = refl
-given_argument h (a ∷ names) (g ∷ gs) n = by (bytes_eq a.0 n) (given_argument h names gs n)
-  where
-    by : (b : Bool) → option_map (λ g. kind_of (h g)) (given_for names gs n) ≡ argument_kind names (parts_of (map h gs)) n →
-        option_map (λ g. kind_of (h g)) (cond b (Some g) (given_for names gs n)) ≡ cond b (Some (kind_of (h g))) (argument_kind names (parts_of (map h gs)) n)
-    by true e = refl
-    by false e = e
 
 -- ---- groups
 
