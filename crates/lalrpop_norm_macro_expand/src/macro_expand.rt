@@ -86,7 +86,7 @@ fn read_round(
     read_pending(alloc, pending, done, table)
 }
 
-fn counts(table: &Table, rounds_made: u16) -> Counts
+fn counted(table: &Table, rounds_made: u16) -> Counts
     requires { IsCounted table.now }
     ensures instances { result.instances ≡ length (seen_in table.now) }
     ensures rounds { result.rounds ≡ rounds_made + 1 }
@@ -119,7 +119,7 @@ fn expand_rounds(alloc: Global, grammar: Grammar, limit: u16) -> NormResult<(Gra
         let waiting = table.take_waiting(alloc);
         if waiting.is_empty() {
             grammar.items = done;
-            return Ok((grammar, counts(&table, limit - left)));
+            return Ok((grammar, counted(&table, limit - left)));
         }
         if left == 0 {
             return Err(past_cap(alloc, &waiting));
@@ -140,8 +140,8 @@ pub fn expand_macros(alloc: Global, grammar: Grammar, limit: u16) -> NormResult<
     ensures whole { IfOk result (λ made. IsEnded comparison (resolved_grammar (grammar_view grammar)) limit) }
     ensures plain { IfOk result (λ made. grammar_view made ≡ plain_grammar comparison (resolved_grammar (grammar_view grammar)) limit) }
 {
-    let resolved = resolve(alloc, grammar)?;
-    expand_resolved(alloc, resolved, limit)
+    let (made, _counts) = expand_macros_counted(alloc, grammar, limit)?;
+    Ok(made)
 }
 
 /// Expands as `expand_macros` does, and counts: how many rules were added, how many rounds were read, and how many texts of symbols

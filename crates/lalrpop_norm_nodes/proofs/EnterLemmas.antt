@@ -1,5 +1,5 @@
 -- A symbol that is entered: it stands already, or it is new.
-use Rattle.std.proofs.Common.{◌≡◌, ℕ, Bool, true, false, List, [], ◌∷◌, ◌++◌, map, Option, Some, None, Result, is_some, refl, sym, ap, ◌∙◌, subst, append-nil, Vec, Global, slice_get, option_and_then}
+use Rattle.std.proofs.Common.{◌≡◌, ℕ, Bool, true, false, List, [], ◌∷◌, ◌++◌, map, Option, Some, None, Result, is_some, refl, sym, ap, ap₂, ◌∙◌, subst, append-nil, Vec, Global, slice_get, option_and_then}
 use Rattle.std.specs.Prelude.{not, ◌||◌}
 use Rattle.std.specs.List.{flat_map}
 use Rattle.std.proofs.lemmas.Bool.{and_parts, and_from}
@@ -17,16 +17,17 @@ use Rattle.lalrpop_norm_macro_expand_met.specs.Meeting.{first_with_text, joined_
 use Rattle.lalrpop_norm_macro_expand_met.proofs.ApartLemmas.{unplaced_same}
 use Rattle.lalrpop_norm_macro_expand_met.proofs.InwardLemmas.{quiet, same_met}
 use Rattle.lalrpop_norm_nodes.specs.declared.node.Node.{Node}
-use Rattle.lalrpop_norm_nodes.specs.Wholes.{Whole, one_symbol, built, Fits, StandsFor, IsNew, Grows, wholes}
+use Rattle.lalrpop_norm_nodes.specs.Wholes.{Whole, one_symbol, as_kind, part_at, built, Fits, StandsFor, IsNew, Grows, wholes}
 use Rattle.lalrpop_norm_nodes.specs.declared.node.Nodes.{Nodes}
 use Rattle.lalrpop_norm_nodes.specs.declared.table.Table.{Table}
 use Rattle.lalrpop_norm_nodes.specs.Tables.{wholes_in, own_at, own_in, own_text_in, inner_of, IsBare, IsNodeTable, TableMeets, seen_in, is_declared_in, refused_in}
 use Rattle.lalrpop_norm_nodes.proofs.MeetLemmas.{were_right}
 use Rattle.lalrpop_norm_nodes.proofs.WholeLemmas.{met_split, bare_built, Made, one_made, Standing, seen_stands}
 use Rattle.lalrpop_norm_nodes.specs.declared.table.Waiting.{Waiting}
-use Rattle.lalrpop_norm_nodes.specs.Tables.{waiting_in}
+use Rattle.lalrpop_norm_nodes.specs.Tables.{waiting_in, numbered_in}
 use Rattle.lalrpop_norm_nodes.specs.Waits.{LeavesWaiting}
 use Rattle.lalrpop_norm_nodes.proofs.WaitLemmas.{waits_seen, waits_new}
+use Rattle.lalrpop_norm_nodes.proofs.WaitNumbers.{numbers_stay}
 use Rattle.lalrpop_norm_tree.specs.SymbolTexts.{part_text, kind_text}
 
 -- ---- a symbol that stands already
@@ -158,14 +159,29 @@ seen_first t w i x h e some =
 pub stands_waits : (t : Table) (w : Whole) (i : ℕ) (p : Part) → IsNodeTable t → StandsFor (wholes_in t) i w → own_text_in w ≡ Some (part_text p) → LeavesWaiting t t (p ∷ [])
 stands_waits t w i p h e some = let y = seen_first t w i (part_text p) h e some in waits_seen t p y.0 y.1
 
-pub made_waits : (a f b d : Table) (n : Node) (p : Part) → own_text_in (built (wholes_in a) n) ≡ Some (part_text p) →
+-- where a node was put of a text that is new, and its symbol waits
+pub made_waits : (a f b d : Table) (n : Node) (p : Part) (i : ℕ) → IsNodeTable a → own_text_in (built (wholes_in a) n) ≡ Some (part_text p) →
     first_with_text (part_text p) (seen_in a) ≡ None → f.nodes ≡ a.nodes → f.waiting ≡ a.waiting →
-    seen_in b ≡ seen_in f ++ own_in (built (wholes_in f) n) → b.waiting ≡ f.waiting → d.nodes ≡ b.nodes → waiting_in d ≡ waiting_in b ++ p ∷ [] → LeavesWaiting a d (p ∷ [])
-made_waits a f b d n p some first nodes same seen kept more waiting =
-    let m = one_made (built (wholes_in a) n) (part_text p) some in
+    seen_in b ≡ seen_in f ++ own_in (built (wholes_in f) n) → b.waiting ≡ f.waiting → Grows (wholes_in f) (wholes_in b) → StandsFor (wholes_in b) i (built (wholes_in f) n) →
+    d.nodes ≡ b.nodes → waiting_in d ≡ waiting_in b ++ p ∷ [] → numbered_in d ≡ numbered_in b ++ part_at (wholes_in b) i ∷ [] → LeavesWaiting a d (p ∷ [])
+made_waits a f b d n p i table some first nodes same seen kept grows stands more waiting numbered =
     waits_new a d p (at nowhere m.kind) first
     (waiting ∙ ap (λ (v : Vec Waiting Global). map (λ (w : Waiting). symbol_view w.symbol) v.items ++ p ∷ []) (kept ∙ same))
     (ap (λ (ns : Nodes). flat_map own_in (wholes ns)) more ∙ seen
     ∙ ap (λ (ns : Nodes). flat_map own_in (wholes ns) ++ own_in (built (wholes ns) n)) nodes
     ∙ ap (λ (xs : List Part). seen_in a ++ xs) (m.at_place nowhere))
+    (numbered ∙ ap₂ (λ (ps : List Part) (q : Part). ps ++ q ∷ []) stay here)
     (sym m.text)
+  where
+    m : Made (built (wholes_in a) n) (part_text p)
+    m = one_made (built (wholes_in a) n) (part_text p) some
+
+    stay : numbered_in b ≡ numbered_in a
+    stay =
+        ap (λ (v : Vec Waiting Global). map (λ (w : Waiting). part_at (wholes_in b) w.number) v.items) (kept ∙ same)
+        ∙ numbers_stay (wholes_in a) (wholes_in b) a.waiting.items (subst (λ (ns : Nodes). Grows (wholes ns) (wholes_in b)) nodes grows) table.waiting
+
+    here : part_at (wholes_in b) i ≡ at nowhere m.kind
+    here =
+        ap (λ (o : Option Whole). at nowhere (as_kind o)) stands
+        ∙ ap (λ (v : Whole). at nowhere (as_kind (Some v))) (ap (λ (ns : Nodes). built (wholes ns) n) nodes ∙ m.is)

@@ -22,6 +22,7 @@ pub mod ShallowRules
 pub mod TableLemmas
 pub mod TwiceLemmas
 pub mod WaitLemmas
+pub mod WaitNumbers
 pub mod WaitReads
 pub mod WaitStands
 pub mod WholeLemmas

@@ -1,6 +1,7 @@
 -- The numbers that nodes have for what their symbols are made of.
 use Rattle.std.proofs.Common.{◌≡◌, ℕ, List, [], ◌∷◌, ◌++◌, true, false, map, Option, Some, None, option_map, slice_get, refl, sym, ap, ◌∙◌, subst}
 use Rattle.lalrpop_norm_tree.specs.Symbols.{Kind, Part, Parts, parts_of, call, repeated, group, ambiguous_id, terminal, nonterminal, chosen, named, tupled, lookahead, lookbehind, error_terminal}
+use Rattle.lalrpop_norm_tree.specs.declared.symbol.RepeatOp.TheVariants.{Star, Plus, Question}
 use Rattle.lalrpop_norm_model.specs.MadeRules.{kind_of, all_kinds}
 use Rattle.lalrpop_norm_nodes.specs.declared.node.Node.{Node}
 use Rattle.lalrpop_norm_nodes.specs.declared.node.Node.TheVariants as node
@@ -9,7 +10,7 @@ use Rattle.lalrpop_norm_nodes.specs.declared.node.NamedLeaf.TheVariants as named
 use Rattle.lalrpop_norm_nodes.specs.declared.node.Unary.TheVariants as unary
 use Rattle.lalrpop_norm_nodes.specs.declared.node.NamedUnary.TheVariants as named_unary
 use Rattle.lalrpop_norm_nodes.specs.declared.node.Binary.TheVariants as binary
-use Rattle.lalrpop_norm_nodes.specs.Wholes.{Whole, one_symbol, symbols, kind_at, symbols_at, as_kind, as_symbols, Fits, built, IsKind, AreSymbols, StandsFor, AreRows}
+use Rattle.lalrpop_norm_nodes.specs.Wholes.{Whole, one_symbol, symbols, kind_at, part_at, symbols_at, as_kind, as_symbols, Fits, built, IsKind, AreSymbols, StandsFor, AreRows}
 use Rattle.lalrpop_norm_nodes.specs.NodeParts.{is_call, call_parts, is_repeat, repeated_kind, row_of_call, part_of_repeat, last_in_row, EndsRow}
 use Rattle.lalrpop_norm_nodes.proofs.RowLemmas.{node_at}
 
@@ -27,32 +28,32 @@ abbrev CallOf : List Whole → Node → Kind → Type 0
 CallOf ws n k = Fits ws n → built ws n ≡ one_symbol k → is_call k ≡ true → CallRow ws (row_of_call n) k
 
 no_call : (ws : List Whole) (l : ℕ) (k j : Kind) → is_call j ≡ false → one_symbol j ≡ one_symbol k → is_call k ≡ true → CallRow ws l k
-no_call ws l k j no e yes = let same : j ≡ k = cc e in absurd (cc (no, yes, ap is_call same))
+no_call ws l k j fails e holds = let same : j ≡ k = cc e in absurd (cc (fails, holds, ap is_call same))
 
 call_of : (ws : List Whole) (n : Node) (k : Kind) → CallOf ws n k
-call_of ws (node.NamedUnary named_unary.Call a l) k h e yes =
+call_of ws (node.NamedUnary named_unary.Call a l) k h e holds =
     let same : call a (parts_of (symbols_at ws l)) ≡ k = cc e in
     record { row = h; kinds = sym (all_kinds_of (symbols_at ws l)) ∙ ap (λ j. all_kinds (call_parts j)) same }
-call_of ws (node.NamedUnary named_unary.Named a n) k h e yes = no_call ws _ k _ refl e yes
-call_of ws (node.NamedUnary named_unary.NamedMut a n) k h e yes = no_call ws _ k _ refl e yes
-call_of ws (node.Leaf leaf.NoSymbols) k h e yes = absurd (cc e)
-call_of ws (node.Leaf leaf.NoPatterns) k h e yes = absurd (cc e)
-call_of ws (node.Leaf leaf.Lookahead) k h e yes = no_call ws _ k _ refl e yes
-call_of ws (node.Leaf leaf.Lookbehind) k h e yes = no_call ws _ k _ refl e yes
-call_of ws (node.Leaf leaf.Error) k h e yes = no_call ws _ k _ refl e yes
-call_of ws (node.NamedLeaf named_leaf.Rule a) k h e yes = no_call ws _ k _ refl e yes
-call_of ws (node.NamedLeaf named_leaf.Pattern a) k h e yes = absurd (cc e)
-call_of ws (node.NamedLeaf named_leaf.MutPattern a) k h e yes = absurd (cc e)
-call_of ws (node.Terminal t) k h e yes = no_call ws _ k _ refl e yes
-call_of ws (node.Unary unary.Group l) k h e yes = no_call ws _ k _ refl e yes
-call_of ws (node.Unary unary.Star n) k h e yes = no_call ws _ k _ refl e yes
-call_of ws (node.Unary unary.Plus n) k h e yes = no_call ws _ k _ refl e yes
-call_of ws (node.Unary unary.Question n) k h e yes = no_call ws _ k _ refl e yes
-call_of ws (node.Unary unary.Chosen n) k h e yes = no_call ws _ k _ refl e yes
-call_of ws (node.Unary unary.Several l) k h e yes = absurd (cc e)
-call_of ws (node.Binary binary.Symbols l n) k h e yes = absurd (cc e)
-call_of ws (node.Binary binary.Patterns l n) k h e yes = absurd (cc e)
-call_of ws (node.Binary binary.Tuple l n) k h e yes = no_call ws _ k _ refl e yes
+call_of ws (node.NamedUnary named_unary.Named a n) k h e holds = no_call ws _ k _ refl e holds
+call_of ws (node.NamedUnary named_unary.NamedMut a n) k h e holds = no_call ws _ k _ refl e holds
+call_of ws (node.Leaf leaf.NoSymbols) k h e holds = absurd (cc e)
+call_of ws (node.Leaf leaf.NoPatterns) k h e holds = absurd (cc e)
+call_of ws (node.Leaf leaf.Lookahead) k h e holds = no_call ws _ k _ refl e holds
+call_of ws (node.Leaf leaf.Lookbehind) k h e holds = no_call ws _ k _ refl e holds
+call_of ws (node.Leaf leaf.Error) k h e holds = no_call ws _ k _ refl e holds
+call_of ws (node.NamedLeaf named_leaf.Rule a) k h e holds = no_call ws _ k _ refl e holds
+call_of ws (node.NamedLeaf named_leaf.Pattern a) k h e holds = absurd (cc e)
+call_of ws (node.NamedLeaf named_leaf.MutPattern a) k h e holds = absurd (cc e)
+call_of ws (node.Terminal t) k h e holds = no_call ws _ k _ refl e holds
+call_of ws (node.Unary unary.Group l) k h e holds = no_call ws _ k _ refl e holds
+call_of ws (node.Unary unary.Star n) k h e holds = no_call ws _ k _ refl e holds
+call_of ws (node.Unary unary.Plus n) k h e holds = no_call ws _ k _ refl e holds
+call_of ws (node.Unary unary.Question n) k h e holds = no_call ws _ k _ refl e holds
+call_of ws (node.Unary unary.Chosen n) k h e holds = no_call ws _ k _ refl e holds
+call_of ws (node.Unary unary.Several l) k h e holds = absurd (cc e)
+call_of ws (node.Binary binary.Symbols l n) k h e holds = absurd (cc e)
+call_of ws (node.Binary binary.Patterns l n) k h e holds = absurd (cc e)
+call_of ws (node.Binary binary.Tuple l n) k h e holds = no_call ws _ k _ refl e holds
 
 -- ---- a repeat
 
@@ -60,30 +61,30 @@ abbrev RepeatOf : List Whole → Node → Kind → Type 0
 RepeatOf ws n k = Fits ws n → built ws n ≡ one_symbol k → is_repeat k ≡ true → StandsFor ws (part_of_repeat n) (one_symbol (repeated_kind k))
 
 no_repeat : (ws : List Whole) (i : ℕ) (k j : Kind) → is_repeat j ≡ false → one_symbol j ≡ one_symbol k → is_repeat k ≡ true → StandsFor ws i (one_symbol (repeated_kind k))
-no_repeat ws i k j no e yes = let same : j ≡ k = cc e in absurd (cc (no, yes, ap is_repeat same))
+no_repeat ws i k j fails e holds = let same : j ≡ k = cc e in absurd (cc (fails, holds, ap is_repeat same))
 
 repeat_of : (ws : List Whole) (n : Node) (k : Kind) → RepeatOf ws n k
-repeat_of ws (node.Unary unary.Star n) k h e yes = h ∙ ap (λ (j : Kind). Some (one_symbol (repeated_kind j))) (cc e)
-repeat_of ws (node.Unary unary.Plus n) k h e yes = h ∙ ap (λ (j : Kind). Some (one_symbol (repeated_kind j))) (cc e)
-repeat_of ws (node.Unary unary.Question n) k h e yes = h ∙ ap (λ (j : Kind). Some (one_symbol (repeated_kind j))) (cc e)
-repeat_of ws (node.Unary unary.Group l) k h e yes = no_repeat ws _ k _ refl e yes
-repeat_of ws (node.Unary unary.Chosen n) k h e yes = no_repeat ws _ k _ refl e yes
-repeat_of ws (node.Unary unary.Several l) k h e yes = absurd (cc e)
-repeat_of ws (node.NamedUnary named_unary.Call a l) k h e yes = no_repeat ws _ k _ refl e yes
-repeat_of ws (node.NamedUnary named_unary.Named a n) k h e yes = no_repeat ws _ k _ refl e yes
-repeat_of ws (node.NamedUnary named_unary.NamedMut a n) k h e yes = no_repeat ws _ k _ refl e yes
-repeat_of ws (node.Leaf leaf.NoSymbols) k h e yes = absurd (cc e)
-repeat_of ws (node.Leaf leaf.NoPatterns) k h e yes = absurd (cc e)
-repeat_of ws (node.Leaf leaf.Lookahead) k h e yes = no_repeat ws _ k _ refl e yes
-repeat_of ws (node.Leaf leaf.Lookbehind) k h e yes = no_repeat ws _ k _ refl e yes
-repeat_of ws (node.Leaf leaf.Error) k h e yes = no_repeat ws _ k _ refl e yes
-repeat_of ws (node.NamedLeaf named_leaf.Rule a) k h e yes = no_repeat ws _ k _ refl e yes
-repeat_of ws (node.NamedLeaf named_leaf.Pattern a) k h e yes = absurd (cc e)
-repeat_of ws (node.NamedLeaf named_leaf.MutPattern a) k h e yes = absurd (cc e)
-repeat_of ws (node.Terminal t) k h e yes = no_repeat ws _ k _ refl e yes
-repeat_of ws (node.Binary binary.Symbols l n) k h e yes = absurd (cc e)
-repeat_of ws (node.Binary binary.Patterns l n) k h e yes = absurd (cc e)
-repeat_of ws (node.Binary binary.Tuple l n) k h e yes = no_repeat ws _ k _ refl e yes
+repeat_of ws (node.Unary unary.Star n) k h e holds = let same : repeated Star (part_at ws n) ≡ k = cc e in h ∙ ap (λ (j : Kind). Some (one_symbol (repeated_kind j))) same
+repeat_of ws (node.Unary unary.Plus n) k h e holds = let same : repeated Plus (part_at ws n) ≡ k = cc e in h ∙ ap (λ (j : Kind). Some (one_symbol (repeated_kind j))) same
+repeat_of ws (node.Unary unary.Question n) k h e holds = let same : repeated Question (part_at ws n) ≡ k = cc e in h ∙ ap (λ (j : Kind). Some (one_symbol (repeated_kind j))) same
+repeat_of ws (node.Unary unary.Group l) k h e holds = no_repeat ws _ k _ refl e holds
+repeat_of ws (node.Unary unary.Chosen n) k h e holds = no_repeat ws _ k _ refl e holds
+repeat_of ws (node.Unary unary.Several l) k h e holds = absurd (cc e)
+repeat_of ws (node.NamedUnary named_unary.Call a l) k h e holds = no_repeat ws _ k _ refl e holds
+repeat_of ws (node.NamedUnary named_unary.Named a n) k h e holds = no_repeat ws _ k _ refl e holds
+repeat_of ws (node.NamedUnary named_unary.NamedMut a n) k h e holds = no_repeat ws _ k _ refl e holds
+repeat_of ws (node.Leaf leaf.NoSymbols) k h e holds = absurd (cc e)
+repeat_of ws (node.Leaf leaf.NoPatterns) k h e holds = absurd (cc e)
+repeat_of ws (node.Leaf leaf.Lookahead) k h e holds = no_repeat ws _ k _ refl e holds
+repeat_of ws (node.Leaf leaf.Lookbehind) k h e holds = no_repeat ws _ k _ refl e holds
+repeat_of ws (node.Leaf leaf.Error) k h e holds = no_repeat ws _ k _ refl e holds
+repeat_of ws (node.NamedLeaf named_leaf.Rule a) k h e holds = no_repeat ws _ k _ refl e holds
+repeat_of ws (node.NamedLeaf named_leaf.Pattern a) k h e holds = absurd (cc e)
+repeat_of ws (node.NamedLeaf named_leaf.MutPattern a) k h e holds = absurd (cc e)
+repeat_of ws (node.Terminal t) k h e holds = no_repeat ws _ k _ refl e holds
+repeat_of ws (node.Binary binary.Symbols l n) k h e holds = absurd (cc e)
+repeat_of ws (node.Binary binary.Patterns l n) k h e holds = absurd (cc e)
+repeat_of ws (node.Binary binary.Tuple l n) k h e holds = no_repeat ws _ k _ refl e holds
 
 -- ---- a row
 
@@ -120,11 +121,11 @@ module _ (ns : List Node) (ws : List Whole) (rows : AreRows ns ws) (i : ℕ) whe
   stands_by n w e h = let same : Some (built ws n) ≡ Some w = sym (rows.stand i n (sym e)) ∙ h in cc same
 
   pub row_of_call_is : (n : Node) → Some n ≡ slice_get ns i → IsKind ws i → is_call (kind_at ws i) ≡ true → CallRow ws (row_of_call n) (kind_at ws i)
-  row_of_call_is n e h yes = call_of ws n (kind_at ws i) (rows.fit i n (sym e)) (stands_by n _ e h) yes
+  row_of_call_is n e h holds = call_of ws n (kind_at ws i) (rows.fit i n (sym e)) (stands_by n _ e h) holds
 
   pub part_of_repeat_is : (n : Node) → Some n ≡ slice_get ns i → IsKind ws i → is_repeat (kind_at ws i) ≡ true →
       StandsFor ws (part_of_repeat n) (one_symbol (repeated_kind (kind_at ws i)))
-  part_of_repeat_is n e h yes = repeat_of ws n (kind_at ws i) (rows.fit i n (sym e)) (stands_by n _ e h) yes
+  part_of_repeat_is n e h holds = repeat_of ws n (kind_at ws i) (rows.fit i n (sym e)) (stands_by n _ e h) holds
 
   pub row_ends : (n : Node) → Some n ≡ slice_get ns i → AreSymbols ws i → EndsRow ws (symbols_at ws i) (last_in_row n)
   row_ends n e h = row_of ws n (symbols_at ws i) (rows.fit i n (sym e)) (stands_by n _ e h)

@@ -15,7 +15,7 @@ use Rattle.lalrpop_norm_macro_expand_met.proofs.SamenessLemmas.{closed_same}
 use Rattle.lalrpop_norm_macro_expand_met.proofs.InwardLemmas.{met_by, all_stay, were_both}
 use Rattle.lalrpop_norm_macro_expand_met.proofs.IndexLemmas.{first_at}
 use Rattle.lalrpop_norm_nodes.specs.declared.node.Node.{Node}
-use Rattle.lalrpop_norm_nodes.specs.Wholes.{Whole, one_symbol, symbols, one_pattern, patterns, built, Fits, StandsFor, texts_of, AreNodes}
+use Rattle.lalrpop_norm_nodes.specs.Wholes.{Whole, one_symbol, symbols, one_pattern, patterns, built, Fits, StandsFor, texts_of, AreNodes, Grows}
 use Rattle.lalrpop_norm_nodes.specs.declared.table.Table.{Table}
 use Rattle.lalrpop_norm_nodes.specs.Tables.{wholes_in, own_in, own_text_in, met_of, inner_of, IsBare, IsNodeTable, TableMeets, seen_in, is_declared_in, text_noted}
 use Rattle.std.specs.HashMap.{get}

@@ -1,21 +1,24 @@
 -- What waits where a symbol is read.
-use Rattle.std.proofs.Common.{◌≡◌, ℕ, ◌+◌, ◌<◌, length, take, get_or, List, [], ◌∷◌, ◌++◌, map, Option, Some, None, refl, sym, ap, ◌∙◌, subst, append-nil}
+use Rattle.std.proofs.Common.{◌≡◌, ℕ, ◌+◌, ◌<◌, length, take, get_or, List, [], ◌∷◌, ◌++◌, true, false, map, Option, Some, None, option_map, is_some, refl, sym, ap, ◌∙◌, subst}
 use Rattle.std.specs.List.{flat_map}
 use Rattle.std.proofs.lemmas.List.{map-append}
 use Rattle.lalrpop_norm_tree_names.specs.declared.names.Span.{Span}
 use Rattle.lalrpop_norm_tree.specs.declared.symbol.Symbol.{Symbol}
 use Rattle.lalrpop_norm_tree.specs.Symbols.{Kind, Part, Parts, parts_of, group, ambiguous_id, terminal, nonterminal, call, repeated, chosen, named, tupled, lookahead, lookbehind, error_terminal, at, no_parts, part_and, kind_view, symbol_view}
 use Rattle.lalrpop_norm_tree.proofs.SymbolViews.{seen_at}
+use Rattle.lalrpop_norm_tree.specs.SymbolTexts.{part_text, kind_text}
+use Rattle.lalrpop_norm_model.specs.MadeRules.{or_name}
 use Rattle.lalrpop_norm_model.specs.PlainRules.{met, all_met}
 use Rattle.lalrpop_norm_model.specs.Replaced.{replaced}
 use Rattle.lalrpop_norm_macro_expand_met.specs.Meeting.{met_inside, own, own_text, met_itself}
-use Rattle.lalrpop_norm_macro_expand_met.proofs.InwardLemmas.{own_is_none}
+use Rattle.lalrpop_norm_macro_expand_met.specs.Apart.{nowhere}
 use Rattle.lalrpop_norm_nodes.specs.declared.given.Given.{Given}
 use Rattle.lalrpop_norm_nodes.specs.declared.given.Environment.{Environment}
 use Rattle.lalrpop_norm_nodes.specs.declared.table.Table.{Table}
 use Rattle.lalrpop_norm_nodes.specs.Filled.{filled, filled_kind, all_filled, inside_replaced}
 use Rattle.lalrpop_norm_nodes.specs.Given.{given_to, shown_for, AreGiven, kind_shown}
-use Rattle.lalrpop_norm_nodes.specs.Tables.{wholes_in, TableMeets}
+use Rattle.lalrpop_norm_nodes.specs.Readings.{topped}
+use Rattle.lalrpop_norm_nodes.specs.Tables.{wholes_in, IsNodeTable, TableMeets}
 use Rattle.lalrpop_norm_nodes.specs.Waits.{parts_replaced, shown_met, LeavesWaiting}
 use Rattle.lalrpop_norm_nodes.proofs.InPlace.{met_more}
 use Rattle.lalrpop_norm_nodes.proofs.MeetLemmas.{split_at}
@@ -74,8 +77,92 @@ read_waits a b d e s h g =
     subst (λ (xs : List Part). LeavesWaiting a d xs) (sym split) (waits_both a b d _ _ h g)
 
 -- one that is made into no rule does not
-pub kept_waits : (a b : Table) (p : Part) → own_text p ≡ None → TableMeets a b [] → b.waiting ≡ a.waiting → LeavesWaiting a b (met_itself p)
-kept_waits a b p none h same = subst (λ (xs : List Part). LeavesWaiting a b xs) (sym (own_is_none p (sym none))) (waits_plain a b h same)
+pub kept_waits : (a b : Table) (s : Symbol) → is_some (own_text (at nowhere (kind_view s.kind))) ≡ false → IsNodeTable a → TableMeets a b [] → b.waiting ≡ a.waiting →
+    LeavesWaiting a b (met_itself (symbol_view s))
+kept_waits a b s none table h same =
+    subst (λ (xs : List Part). LeavesWaiting a b xs) (sym (ap met_itself (seen_at s) ∙ by (kind_view s.kind) none)) (waits_plain a b table h same)
+  where
+    by : (k : Kind) → is_some (own_text (at nowhere k)) ≡ false → own s.span k ≡ []
+    by (group ps) f = absurd (cc f)
+    by (call n ps) f = absurd (cc f)
+    by (repeated op q) f = absurd (cc f)
+    by lookahead f = absurd (cc f)
+    by lookbehind f = absurd (cc f)
+    by (chosen q) f = refl
+    by (named n q) f = refl
+    by (tupled ns q) f = refl
+    by (ambiguous_id a) f = refl
+    by (terminal t) f = refl
+    by (nonterminal n) f = refl
+    by error_terminal f = refl
+
+-- one that is does
+pub made_waits_itself : (a b : Table) (p : Part) → is_some (own_text p) ≡ true → LeavesWaiting a b (p ∷ []) → LeavesWaiting a b (met_itself p)
+made_waits_itself a b p some h = subst (λ (xs : List Part). LeavesWaiting a b xs) (sym (itself p some)) h
+  where
+    itself : (p : Part) → is_some (own_text p) ≡ true → met_itself p ≡ p ∷ []
+    itself (at s (group ps)) f = refl
+    itself (at s (call n ps)) f = refl
+    itself (at s (repeated op q)) f = refl
+    itself (at s lookahead) f = refl
+    itself (at s lookbehind) f = refl
+    itself (at s (chosen q)) f = absurd (cc f)
+    itself (at s (named n q)) f = absurd (cc f)
+    itself (at s (tupled ns q)) f = absurd (cc f)
+    itself (at s (ambiguous_id a)) f = absurd (cc f)
+    itself (at s (terminal t)) f = absurd (cc f)
+    itself (at s (nonterminal n)) f = absurd (cc f)
+    itself (at s error_terminal) f = absurd (cc f)
+
+-- a symbol with the nonterminal of its text in its place
+pub made_topped : (s : Symbol) → is_some (own_text (symbol_view s)) ≡ true → at s.span (nonterminal (part_text (symbol_view s))) ≡ topped (symbol_view s)
+made_topped s some =
+    ap (λ (p : Part). at s.span (nonterminal (part_text p))) (seen_at s)
+    ∙ by (kind_view s.kind) (ap (λ (p : Part). is_some (own_text p)) (sym (seen_at s)) ∙ some) ∙ ap topped (sym (seen_at s))
+  where
+    by : (k : Kind) → is_some (own_text (at s.span k)) ≡ true → at s.span (nonterminal (kind_text k)) ≡ topped (at s.span k)
+    by (group ps) f = refl
+    by (call n ps) f = refl
+    by (repeated op q) f = refl
+    by lookahead f = refl
+    by lookbehind f = refl
+    by (chosen q) f = absurd (cc f)
+    by (named n q) f = absurd (cc f)
+    by (tupled ns q) f = absurd (cc f)
+    by (ambiguous_id a) f = absurd (cc f)
+    by (terminal t) f = absurd (cc f)
+    by (nonterminal n) f = absurd (cc f)
+    by error_terminal f = absurd (cc f)
+
+-- and its text
+pub own_is_text : (p : Part) (o : Option (List ℕ)) → is_some (own_text p) ≡ true → o ≡ own_text p → o ≡ Some (part_text p)
+own_is_text p o some e = e ∙ by p some
+  where
+    by : (p : Part) → is_some (own_text p) ≡ true → own_text p ≡ Some (part_text p)
+    by (at s (group ps)) f = refl
+    by (at s (call n ps)) f = refl
+    by (at s (repeated op q)) f = refl
+    by (at s lookahead) f = refl
+    by (at s lookbehind) f = refl
+    by (at s (chosen q)) f = absurd (cc f)
+    by (at s (named n q)) f = absurd (cc f)
+    by (at s (tupled ns q)) f = absurd (cc f)
+    by (at s (ambiguous_id a)) f = absurd (cc f)
+    by (at s (terminal t)) f = absurd (cc f)
+    by (at s (nonterminal n)) f = absurd (cc f)
+    by (at s error_terminal) f = absurd (cc f)
+
+-- a symbol with nothing inside
+pub leaf_waits : (t : Table) (e : Environment) (k l : Kind) → k ≡ l → met_inside (filled_kind (shown_for e) l) ≡ [] →
+    LeavesWaiting t t (map parts_replaced (met_inside (filled_kind (shown_for e) k)))
+leaf_waits t e k l is none =
+    subst (λ (xs : List Part). LeavesWaiting t t (map parts_replaced xs))
+    (sym (ap (λ (x : Kind). met_inside (filled_kind (shown_for e) x)) is ∙ none)) (waits_nothing t)
+
+-- a name that is no argument's
+pub free_inside : (e : Environment) (k : Kind) (n : List ℕ) → given_to e k ≡ None → k ≡ nonterminal n → met_inside (filled_kind (shown_for e) (nonterminal n)) ≡ []
+free_inside e k n free is =
+    ap (λ (o : Option Given). met_inside (or_name n (option_map (λ g. kind_view g.symbol.kind) o))) (ap (given_to e) (sym is) ∙ free)
 
 pub shown_met_one_by_one : (f : List ℕ → Option Kind) (ps : List Part) →
     map parts_replaced (all_met (all_filled f (parts_of ps))) ≡ flat_map (λ p. map parts_replaced (met (filled f p))) ps

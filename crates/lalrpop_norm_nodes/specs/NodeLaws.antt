@@ -1,16 +1,17 @@
 -- What is proved of the definitions.
-use Rattle.std.specs.Prelude.{◌≡◌, ℕ, List, [], ◌++◌}
+use Rattle.std.specs.Prelude.{◌≡◌, ℕ, List, [], ◌++◌, map}
 use Rattle.lalrpop_norm_tree_names.specs.declared.names.Span.{Span}
 use Rattle.lalrpop_norm_tree.specs.Symbols.{Kind, Part, at}
 use Rattle.lalrpop_norm_model.specs.PlainRules.{met}
-use Rattle.lalrpop_norm_macro_expand_met.specs.Apart.{unplaced_kind}
+use Rattle.lalrpop_norm_macro_expand_met.specs.Apart.{unplaced, unplaced_kind}
 use Rattle.lalrpop_norm_macro_expand_met.specs.Meeting.{met_inside}
 use Rattle.lalrpop_norm_nodes.specs.declared.table.Table.{Table}
 use Rattle.lalrpop_norm_tree.specs.SymbolTexts.{kind_text}
 use Rattle.lalrpop_norm_nodes.specs.declared.given.Environment.{Environment}
 use Rattle.lalrpop_norm_nodes.specs.Given.{AreGiven, whole_for, kind_shown, kind_whole}
 use Rattle.lalrpop_norm_nodes.specs.Wholes.{Whole, one_symbol, StandsFor, Grows}
-use Rattle.lalrpop_norm_nodes.specs.Tables.{wholes_in, own_at, IsNodeTable, TableMeets, refused_in}
+use Rattle.lalrpop_norm_nodes.specs.Tables.{wholes_in, own_at, seen_in, numbered_in, IsNodeTable, TableMeets, refused_in}
+use Rattle.lalrpop_norm_nodes.specs.Waits.{first_met, LeavesWaiting}
 
 abbrev pub MeetsInTwo : Type 0
 MeetsInTwo =
@@ -33,3 +34,9 @@ ReadsInTwo =
     (a b d : Table) (s : Span) (k : Kind) → TableMeets a b (met_inside k) → refused_in a (met_inside k) ≡ [] →
     TableMeets b d (own_at s (one_symbol (unplaced_kind k))) →
     TableMeets a d (met (at s k)) × (refused_in a (met (at s k)) ≡ refused_in b (own_at s (one_symbol (unplaced_kind k))))
+
+-- where symbols are met, and left waiting as they are shown, the numbers of those that wait stand for the first of each text
+abbrev pub NumbersOfWaiting : Type 0
+NumbersOfWaiting =
+    (a b : Table) (xs ys : List Part) → TableMeets a b xs → LeavesWaiting a b ys →
+    numbered_in b ≡ numbered_in a ++ map unplaced (first_met (seen_in a) xs)

@@ -11,7 +11,7 @@ use Rattle.lalrpop_norm_macro_expand_met.specs.Apart.{nowhere, unplaced_kind, un
 use Rattle.lalrpop_norm_macro_expand_met.specs.Meeting.{met_inside, own, own_text, first_with_text, after, clash_faults, were_met, has_key}
 use Rattle.lalrpop_norm_nodes.specs.declared.table.Table.{Table}
 use Rattle.lalrpop_norm_nodes.specs.declared.table.Waiting.{Waiting}
-use Rattle.lalrpop_norm_nodes.specs.Wholes.{Whole, one_symbol, symbols, one_pattern, patterns, wholes, texts_of, AreNodes, StandsFor, Grows}
+use Rattle.lalrpop_norm_nodes.specs.Wholes.{Whole, one_symbol, symbols, one_pattern, patterns, part_at, wholes, texts_of, AreNodes, StandsFor, Grows}
 
 -- what the numbers of a table stand for
 abbrev pub wholes_in : Table → List Whole
@@ -68,6 +68,10 @@ inner_of (patterns ps) = []
 -- the symbols that wait, in the order of meeting
 abbrev pub waiting_in : Table → List Part
 waiting_in t = map (λ w. symbol_view w.symbol) t.waiting.items
+
+-- what their numbers stand for
+abbrev pub numbered_in : Table → List Part
+numbered_in t = map (λ w. part_at (wholes_in t) w.number) t.waiting.items
 
 -- its number has its text
 abbrev pub IsNumbered : List Whole → Waiting → Type 0

@@ -8,7 +8,7 @@ use Rattle.lalrpop_norm_nodes.specs.declared.given.Environment.{Environment}
 use Rattle.lalrpop_norm_nodes.specs.declared.table.Table.{Table}
 use Rattle.lalrpop_norm_nodes.specs.Filled.{filled, inside_replaced}
 use Rattle.lalrpop_norm_nodes.specs.Given.{shown_for}
-use Rattle.lalrpop_norm_nodes.specs.Tables.{seen_in, waiting_in}
+use Rattle.lalrpop_norm_nodes.specs.Tables.{seen_in, waiting_in, numbered_in}
 
 -- a symbol with its parts replaced, and not itself
 abbrev pub parts_replaced : Part → Part
@@ -22,7 +22,11 @@ shown_met e p = map parts_replaced (met (filled (shown_for e) p))
 abbrev pub first_met : List Part → List Part → List Part
 first_met seen xs = drop (length seen) (after seen xs)
 
--- the symbols were met, and those that were met first wait behind the others
+-- The symbols were met, and those that were met first wait behind the others. Their numbers stand for what was seen since, one after
+-- another.
 pub record LeavesWaiting (before later : Table) (xs : List Part) : Type 0 where
   pub waiting : waiting_in later ≡ waiting_in before ++ first_met (seen_in before) xs
   pub texts : map part_text (seen_in later) ≡ map part_text (after (seen_in before) xs)
+  pub new : List Part
+  pub seen : seen_in later ≡ seen_in before ++ new
+  pub numbers : numbered_in later ≡ numbered_in before ++ new

@@ -1,5 +1,5 @@
 //! Laws of meeting, and of what is given for arguments. Each call does nothing; its clause is the law.
-ghost use Rattle.lalrpop_norm_nodes.specs.NodeLaws.{MeetsInTwo, StandingMeetsNothing, GivenStay, ReadsInTwo};
+ghost use Rattle.lalrpop_norm_nodes.specs.NodeLaws.{MeetsInTwo, StandingMeetsNothing, GivenStay, ReadsInTwo, NumbersOfWaiting};
 
 /// Symbols met in two parts are met, and what is refused of the second part is refused of both.
 pub fn meets_in_two()
@@ -19,4 +19,9 @@ pub fn reads_in_two()
 /// What is given for arguments stands as long as the table grows, and what is read has one text with what stands in its place.
 pub fn given_stay()
     ensures { GivenStay }
+{}
+
+/// The number of a symbol that waits stands for the symbol that was met there, spans aside.
+pub fn numbers_of_waiting()
+    ensures { NumbersOfWaiting }
 {}

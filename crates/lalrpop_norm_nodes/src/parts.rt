@@ -89,7 +89,10 @@ fn row_end(table: &Table, row: usize) -> Option<(usize, usize)>
     requires row { AreSymbols (wholes_in table.now) row }
     ensures { EndsRow (wholes_in table.now) (symbols_at (wholes_in table.now) row) result }
 {
-    last_in_row(table.node(row)?)
+    match table.node(row) {
+        Some(node) => last_in_row(node),
+        None => None,
+    }
 }
 
 /// Symbols with the numbers of a row, from the last one on.

@@ -1,12 +1,12 @@
 //! The nodes of the symbols that were met, and their texts.
-ghost use Rattle.std.specs.Prelude.{◌≡◌, ◌+◌, ◌++◌, ◌∷◌, ◌||◌, [], false, None, Some, IfOk, OnOk, is_some, length, option_map, option_and_then, slice_get};
+ghost use Rattle.std.specs.Prelude.{◌≡◌, ◌+◌, ◌++◌, ◌∷◌, ◌||◌, [], false, None, Some, IfOk, OnOk, is_some, length, map, option_map, option_and_then, slice_get};
 ghost use Rattle.lalrpop_norm_tree.specs.Symbols.{at, nonterminal, symbol_view};
 ghost use Rattle.lalrpop_norm_tree.specs.SymbolTexts.{part_text};
 ghost use Rattle.lalrpop_norm_faults.specs.Faults.{Refuses, IsFirst, fault_if};
 ghost use Rattle.lalrpop_norm_faults.specs.declared.kind.FaultKind.TheVariants.{SharedName};
 ghost use Rattle.lalrpop_norm_macro_expand_met.specs.Meeting.{first_with_text};
-ghost use Rattle.lalrpop_norm_nodes.specs.Wholes.{Fits, built, StandsFor, IsNew, Grows, nodes_of};
-ghost use Rattle.lalrpop_norm_nodes.specs.Tables.{wholes_in, seen_in, own_at, own_in, own_text_in, is_declared_in, IsNodeTable, IsCounted, TableMeets, refused_in, waiting_in, AreNumbered};
+ghost use Rattle.lalrpop_norm_nodes.specs.Wholes.{Fits, built, part_at, StandsFor, IsNew, Grows, nodes_of};
+ghost use Rattle.lalrpop_norm_nodes.specs.Tables.{wholes_in, seen_in, own_at, own_in, own_text_in, is_declared_in, IsNodeTable, IsCounted, TableMeets, refused_in, waiting_in, numbered_in, AreNumbered};
 ghost use Rattle.lalrpop_norm_nodes.specs.Waits.{LeavesWaiting};
 
 use crate::hashing::NodeHashBuilder;
@@ -62,6 +62,7 @@ impl Table {
         ensures counted { IsCounted result }
         ensures seen { seen_in result ≡ [] }
         ensures waiting { waiting_in result ≡ [] }
+        ensures numbers { numbered_in result ≡ [] }
         ensures names { result.names ≡ names }
     {
         Table {
@@ -209,6 +210,7 @@ impl Table {
         ensures nodes { OnOk result (self.new.nodes ≡ self.old.nodes) }
         ensures counted { OnOk result (self.new.made ≡ self.old.made) }
         ensures waiting { OnOk result (waiting_in self.new ≡ waiting_in self.old ++ symbol_view symbol.old ∷ []) }
+        ensures numbers { OnOk result (numbered_in self.new ≡ numbered_in self.old ++ part_at (wholes_in self.old) number ∷ []) }
         ensures value { OnOk result (symbol_view symbol.new ≡ at symbol.old.span (nonterminal name)) }
     {
         let named = Symbol {
@@ -224,7 +226,9 @@ impl Table {
     pub fn take_waiting(&mut self, alloc: Global) -> Vec<Waiting>
         requires { IsNodeTable self.old }
         ensures waiting { result ≡ self.old.waiting }
+        ensures numbers { map (λ w. part_at (wholes_in self.new) w.number) result.items ≡ numbered_in self.old }
         ensures none { waiting_in self.new ≡ [] }
+        ensures none_numbered { numbered_in self.new ≡ [] }
         ensures nodes { self.new.nodes ≡ self.old.nodes }
         ensures names { self.new.names ≡ self.old.names }
         ensures counted { self.new.made ≡ self.old.made }

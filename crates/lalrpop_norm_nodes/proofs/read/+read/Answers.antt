@@ -1,6 +1,6 @@
-use Rattle.std.proofs.Common.{rules, refl, ap, sym, subst, ◌∙◌, option_map, slice_get, List, Some, map, ℕ, ◌<◌, ◌≤◌, ◌++◌, Option, append-nil, length, get_or, arith, drop}
-use Rattle.lalrpop_norm_tree.specs.Symbols.{Part, at, kind_view, Kind, argument_pattern_view, symbol_view, Call, parts_view, parts_of}
-use Rattle.lalrpop_norm_tree.proofs.SymbolViews.{symbol_seen}
+use Rattle.std.proofs.Common.{◌≡◌, rules, refl, ap, sym, subst, ◌∙◌, option_map, slice_get, List, Some, map, ℕ, ◌<◌, ◌≤◌, ◌++◌, Option, append-nil, length, get_or, arith, drop}
+use Rattle.lalrpop_norm_tree.specs.Symbols.{Part, at, ambiguous_id, nonterminal, terminal, lookahead, lookbehind, error_terminal, kind_view, Kind, argument_pattern_view, symbol_view, Call, parts_view, parts_of}
+use Rattle.lalrpop_norm_tree.proofs.SymbolViews.{symbol_seen, ambiguous_seen, nonterminal_seen, terminal_seen}
 use Rattle.lalrpop_norm_faults.proofs.FaultLemmas.{exit_at}
 use Rattle.lalrpop_norm_macro_expand_met.specs.Meeting.{met_inside, own, own_text, after, clash_faults}
 use Rattle.lalrpop_norm_nodes.specs.Readings.{topped, bare_wholes}
@@ -26,8 +26,8 @@ use Rattle.lalrpop_norm_nodes.proofs.RowItems.{stands_later, is_kind, are_symbol
 use Rattle.lalrpop_norm_macro_expand_met.specs.Meeting.{met_itself}
 use Rattle.lalrpop_norm_nodes.specs.Filled.{filled_kind}
 use Rattle.lalrpop_norm_nodes.specs.Waits.{parts_replaced, shown_met, LeavesWaiting}
-use Rattle.lalrpop_norm_nodes.proofs.WaitLemmas.{waits_nothing, waits_plain, waits_row}
-use Rattle.lalrpop_norm_nodes.proofs.WaitReads.{bound_waits, read_waits, kept_waits, shown_met_one_by_one, partly_waits}
+use Rattle.lalrpop_norm_nodes.proofs.WaitLemmas.{waits_plain, waits_row}
+use Rattle.lalrpop_norm_nodes.proofs.WaitReads.{bound_waits, read_waits, leaf_waits, free_inside, shown_met_one_by_one, partly_waits}
 use Rattle.lalrpop_norm_nodes.proofs.read.+read.Goals as goal
 
 pub read_symbol-returns-in-Some-clause-refuses : goal.read_symbol-returns-in-Some-clause-refuses
@@ -171,7 +171,7 @@ read_row-loop-i-init t c =
       refuses = search rules;
       meets = r.meets;
       counted = counted_row a z c.requires.counted r.counted r.meets;
-      waits = waits_plain a z r.meets r.waiting;
+      waits = waits_plain a z c.requires.table r.meets r.waiting;
       given = all_given_stay (wholes_in a) (wholes_in z) c.args.environment.now r.meets.grows c.requires.given;
       row = r.number;
     }
@@ -202,7 +202,7 @@ read_row-loop-i-preserved t c =
           (ap (λ (f : List ℕ → Option Kind). refused_in b (met (filled f (symbol_view x)))) (sym stay) ∙ n.refuses);
       meets = partly_met m vs c.loop-i.i (symbol_view x) here same a b z v.meets (meets_row b d z _ reads r.meets);
       counted = counted_row d z n.counted r.counted r.meets;
-      waits = partly_waits (shown_met e) vs c.loop-i.i (symbol_view x) here same a b z v.waits (waits_row b d z _ n.waits r.meets r.waiting);
+      waits = partly_waits (shown_met e) vs c.loop-i.i (symbol_view x) here same a b z v.waits (waits_row b d z _ n.waits n.meets.table r.meets r.waiting);
       given = all_given_stay (wholes_in a) (wholes_in z) e (partly_met m vs c.loop-i.i (symbol_view x) here same a b z v.meets (meets_row b d z _ reads r.meets)).grows c.requires.given;
       row = row_more (wholes_in b) (wholes_in d) (wholes_in z) c.loop-i.row c.in_ok-number.number c.in_ok-row-2.row
           (λ p. unplaced (read_whole (wholes_in a) e p)) vs c.loop-i.i (symbol_view x) _ here same v.row n.meets.grows n.number
@@ -256,7 +256,8 @@ node_of-returns-in_ok-row-in-Tuple-clause-waits t c =
     let e = c.args.environment.now in
     subst (λ (k : Kind). LeavesWaiting a c.enter_patterns.new.table (map parts_replaced (met_inside (filled_kind (shown_for e) k))))
     (sym (ap kind_view c.in-Tuple.is ∙ tupled_seen c.in-Tuple.tuple c.in-Tuple.inner))
-    (waits_row a c.read_boxed-in-Tuple.new.table c.enter_patterns.new.table _ c.in_ok-number-in-Tuple.ensures.waits c.in_ok-row-in-Tuple.ensures.meets c.in_ok-row-in-Tuple.ensures.waiting)
+    (waits_row a c.read_boxed-in-Tuple.new.table c.enter_patterns.new.table _ c.in_ok-number-in-Tuple.ensures.waits c.in_ok-number-in-Tuple.ensures.meets.table
+    c.in_ok-row-in-Tuple.ensures.meets c.in_ok-row-in-Tuple.ensures.waiting)
 
 pub read_row-returns-clause-waits : goal.read_row-returns-clause-waits
 read_row-returns-clause-waits t c =
@@ -264,3 +265,32 @@ read_row-returns-clause-waits t c =
     let long : length vs ≤ c.loop-i.i = omega (arith, length-map c.args.several.now symbol_view) in
     let h = c.loop-i.invariant.waits in
     rw (shown_met_one_by_one (shown_for c.args.environment.now) vs) (rw (take_all c.loop-i.i vs long) at h)
+
+pub node_of-returns-in_ok-clone-in-Nonterminal-clause-waits : goal.node_of-returns-in_ok-clone-in-Nonterminal-clause-waits
+node_of-returns-in_ok-clone-in-Nonterminal-clause-waits t c =
+    let k = kind_view c.args.kind.now in
+    let n = c.in-Nonterminal.name in
+    let is : k ≡ nonterminal n.0 = ap kind_view c.in-Nonterminal.is ∙ nonterminal_seen n in
+    leaf_waits c.args.table.now c.args.environment.now k (nonterminal n.0) is (free_inside c.args.environment.now k n.0 c.requires.unbound is)
+
+pub node_of-returns-in_ok-clone-in-AmbiguousId-clause-waits : goal.node_of-returns-in_ok-clone-in-AmbiguousId-clause-waits
+node_of-returns-in_ok-clone-in-AmbiguousId-clause-waits t c =
+    leaf_waits c.args.table.now c.args.environment.now (kind_view c.args.kind.now) (ambiguous_id c.in-AmbiguousId.id)
+    (ap kind_view c.in-AmbiguousId.is ∙ ambiguous_seen c.in-AmbiguousId.id) refl
+
+pub node_of-returns-in_ok-clone-in-Terminal-clause-waits : goal.node_of-returns-in_ok-clone-in-Terminal-clause-waits
+node_of-returns-in_ok-clone-in-Terminal-clause-waits t c =
+    leaf_waits c.args.table.now c.args.environment.now (kind_view c.args.kind.now) (terminal c.in-Terminal.terminal)
+    (ap kind_view c.in-Terminal.is ∙ terminal_seen c.in-Terminal.terminal) refl
+
+pub node_of-returns-in-Lookahead-clause-waits : goal.node_of-returns-in-Lookahead-clause-waits
+node_of-returns-in-Lookahead-clause-waits t c =
+    leaf_waits c.args.table.now c.args.environment.now (kind_view c.args.kind.now) lookahead (search rules) refl
+
+pub node_of-returns-in-Lookbehind-clause-waits : goal.node_of-returns-in-Lookbehind-clause-waits
+node_of-returns-in-Lookbehind-clause-waits t c =
+    leaf_waits c.args.table.now c.args.environment.now (kind_view c.args.kind.now) lookbehind (search rules) refl
+
+pub node_of-returns-in-Error-clause-waits : goal.node_of-returns-in-Error-clause-waits
+node_of-returns-in-Error-clause-waits t c =
+    leaf_waits c.args.table.now c.args.environment.now (kind_view c.args.kind.now) error_terminal (search rules) refl

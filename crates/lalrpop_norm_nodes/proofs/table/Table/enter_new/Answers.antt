@@ -34,5 +34,5 @@ returns-clause-waits c =
     let f = c.in_ok-name.ensures in
     let p = c.in_ok-number.ensures in
     let w = c.in_ok-put_waiting.ensures in
-    made_waits c.args.self.now c.free_text.new.self c.put_made.new.self c.put_waiting.new.self c.args.node (symbol_view c.args.symbol.now)
-    c.requires.made (free_none _ _ _ f.refuses) f.nodes f.waiting p.seen p.waiting w.nodes w.waiting
+    made_waits c.args.self.now c.free_text.new.self c.put_made.new.self c.put_waiting.new.self c.args.node (symbol_view c.args.symbol.now) c.in_ok-number.number
+    c.requires.table c.requires.made (free_none _ _ _ f.refuses) f.nodes f.waiting p.seen p.waiting p.grows p.number w.nodes w.waiting w.numbers
