@@ -1,10 +1,10 @@
 -- What is given for the names of a macro by a call that waits, and for what a repeat repeats.
-use Rattle.std.proofs.Common.{◌≡◌, ℕ, suc, List, [], ◌∷◌, Bool, true, false, cond, map, length, Option, Some, None, option_map, slice_get, bytes_eq, refl, sym, ap, ap₂, ◌∙◌, subst}
+use Rattle.std.proofs.Common.{◌≡◌, ℕ, suc, List, [], ◌∷◌, Bool, true, false, cond, map, length, Some, option_map, slice_get, bytes_eq, refl, sym, ap, ◌∙◌, subst}
 use Rattle.std.proofs.Math.Path.{fun_ext}
 use Rattle.lalrpop_norm_tree_names.specs.declared.names.NonterminalString.{NonterminalString}
 use Rattle.lalrpop_norm_tree.specs.declared.symbol.RepeatOp.{RepeatOp}
 use Rattle.lalrpop_norm_tree.specs.declared.symbol.Symbol.{Symbol}
-use Rattle.lalrpop_norm_tree.specs.Symbols.{Kind, Part, Parts, group, ambiguous_id, terminal, nonterminal, call, repeated, chosen, named, tupled, lookahead, lookbehind, error_terminal, at, no_parts, part_and, parts_of, parts_view, kind_view, symbol_view}
+use Rattle.lalrpop_norm_tree.specs.Symbols.{Kind, Part, Parts, group, ambiguous_id, terminal, nonterminal, call, repeated, chosen, named, tupled, lookahead, lookbehind, error_terminal, at, no_parts, part_and, parts_view, kind_view, symbol_view}
 use Rattle.lalrpop_norm_tree.specs.SymbolTexts.{kind_text}
 use Rattle.lalrpop_norm_tree.proofs.SymbolViews.{seen_at}
 use Rattle.lalrpop_norm_model.specs.MadeRules.{kind_of, all_kinds, argument_kind}
@@ -14,21 +14,22 @@ use Rattle.lalrpop_norm_nodes.specs.declared.given.Given.{Given}
 use Rattle.lalrpop_norm_nodes.specs.Filled.{inside_replaced}
 use Rattle.lalrpop_norm_nodes.specs.Given.{given_for, IsGiven}
 use Rattle.lalrpop_norm_nodes.specs.NodeParts.{is_call, call_parts, is_repeat, repeated_kind, IsShallow}
-use Rattle.lalrpop_norm_nodes.specs.Wholes.{Whole, one_symbol, as_kind, kind_at, IsKind, StandsFor}
+use Rattle.lalrpop_norm_nodes.specs.Wholes.{Whole, one_symbol, as_kind, kind_at, StandsFor}
 use Rattle.lalrpop_norm_nodes.proofs.GivenLemmas.{kind_text_replaced}
 use Rattle.lalrpop_norm_nodes.proofs.MeetLemmas.{kind_text_unplaced}
-
-heads : {A : Type 0} (x y : A) (xs ys : List A) → x ∷ xs ≡ y ∷ ys → x ≡ y
-heads x y xs ys e = cc
-
-tails : {A : Type 0} (x y : A) (xs ys : List A) → x ∷ xs ≡ y ∷ ys → xs ≡ ys
-tails x y xs ys e = cc
+use Rattle.lalrpop_norm_nodes.proofs.ReplacedSources.{kind_replaced}
 
 -- ---- numbers, and symbols, of arguments
 
 module _ (ws : List Whole) where
   abbrev pub StandFor : List Given → Parts → Type 0
   StandFor gs ps = map (λ (g : Given). slice_get ws g.number) gs ≡ map (λ (k : Kind). Some (one_symbol k)) (all_kinds ps)
+
+  stands_first : (g : Given) (gs : List Given) (p : Part) (ps : Parts) → StandFor (g ∷ gs) (part_and p ps) → StandsFor ws g.number (one_symbol (kind_of p))
+  stands_first g gs p ps e = cc e
+
+  others_stand : (g : Given) (gs : List Given) (p : Part) (ps : Parts) → StandFor (g ∷ gs) (part_and p ps) → StandFor gs ps
+  others_stand g gs p ps e = cc e
 
   whole_each : (names : List NonterminalString) (gs : List Given) (ps : Parts) → StandFor gs ps → (n : List ℕ) →
       option_map (λ (g : Given). kind_at ws g.number) (given_for names gs n) ≡ argument_kind names ps n
@@ -38,8 +39,7 @@ module _ (ws : List Whole) where
   whole_each (a ∷ names) (g ∷ gs) no_parts e n = absurd (cc e)
   whole_each (a ∷ names) (g ∷ gs) (part_and p ps) e n =
       by (bytes_eq a.0 n)
-      (ap as_kind (heads (slice_get ws g.number) (Some (one_symbol (kind_of p))) (map (λ (h : Given). slice_get ws h.number) gs) (map (λ (k : Kind). Some (one_symbol k)) (all_kinds ps)) e))
-      (whole_each names gs ps (tails (slice_get ws g.number) (Some (one_symbol (kind_of p))) (map (λ (h : Given). slice_get ws h.number) gs) (map (λ (k : Kind). Some (one_symbol k)) (all_kinds ps)) e) n)
+      (ap as_kind (stands_first g gs p ps e)) (whole_each names gs ps (others_stand g gs p ps e) n)
     where
       by : (b : Bool) → kind_at ws g.number ≡ kind_of p → option_map (λ (h : Given). kind_at ws h.number) (given_for names gs n) ≡ argument_kind names ps n →
           option_map (λ (h : Given). kind_at ws h.number) (cond b (Some g) (given_for names gs n)) ≡ cond b (Some (kind_of p)) (argument_kind names ps n)
@@ -89,9 +89,6 @@ other_parts p q ps qs e = cc
 kind_unplaced : (p : Part) → kind_of (unplaced p) ≡ unplaced_kind (kind_of p)
 kind_unplaced (at s k) = refl
 
-kind_so_replaced : (p : Part) → kind_of (replaced p) ≡ replaced_kind (kind_of p)
-kind_so_replaced (at s k) = refl
-
 pub all_given : (ws : List Whole) (names : List NonterminalString) (gs : List Given) (ps : Parts) → StandFor ws gs ps →
     all_unplaced (parts_view (map (λ (g : Given). g.symbol) gs)) ≡ all_unplaced (all_replaced ps) →
     all_replaced (parts_view (map (λ (g : Given). g.symbol) gs)) ≡ parts_view (map (λ (g : Given). g.symbol) gs) →
@@ -102,7 +99,7 @@ all_given ws (a ∷ names) (h ∷ gs) no_parts e same done n g f = absurd (cc e)
 all_given ws (a ∷ names) (h ∷ gs) (part_and p ps) e same done n g f =
     by (bytes_eq a.0 n) f
     (λ i. all_given ws names gs ps
-    (tails (slice_get ws h.number) (Some (one_symbol (kind_of p))) (map (λ (j : Given). slice_get ws j.number) gs) (map (λ (k : Kind). Some (one_symbol k)) (all_kinds ps)) e)
+    (others_stand ws h gs p ps e)
     (other_parts (unplaced (symbol_view h.symbol)) (unplaced (replaced p)) (all_unplaced symbols) (all_unplaced (all_replaced ps)) same)
     (other_parts (replaced (symbol_view h.symbol)) (symbol_view h.symbol) (all_replaced symbols) symbols done) n g i)
   where
@@ -115,11 +112,11 @@ all_given ws (a ∷ names) (h ∷ gs) (part_and p ps) e same done n g f =
     here : IsGiven ws h
     here =
         one_given ws h (kind_of p)
-        (heads (slice_get ws h.number) (Some (one_symbol (kind_of p))) (map (λ (i : Given). slice_get ws i.number) gs) (map (λ (k : Kind). Some (one_symbol k)) (all_kinds ps)) e)
+        (stands_first ws h gs p ps e)
         (ap unplaced_kind (sym view) ∙ sym (kind_unplaced (symbol_view h.symbol))
         ∙ first_kinds (unplaced (symbol_view h.symbol)) (unplaced (replaced p)) (all_unplaced symbols) (all_unplaced (all_replaced ps)) same
-        ∙ kind_unplaced (replaced p) ∙ ap unplaced_kind (kind_so_replaced p))
-        (ap replaced_kind (sym view) ∙ sym (kind_so_replaced (symbol_view h.symbol))
+        ∙ kind_unplaced (replaced p) ∙ ap unplaced_kind (kind_replaced p))
+        (ap replaced_kind (sym view) ∙ sym (kind_replaced (symbol_view h.symbol))
         ∙ first_kinds (replaced (symbol_view h.symbol)) (symbol_view h.symbol) (all_replaced symbols) symbols done ∙ view)
 
     by : (b : Bool) → cond b (Some h) (given_for names gs n) ≡ Some g → (given_for names gs n ≡ Some g → IsGiven ws g) → IsGiven ws g
