@@ -13,7 +13,6 @@ pub mod RowItems
 pub mod RowLemmas
 pub mod RowReads
 pub mod ShallowConditions
-pub mod ShallowGiven
 pub mod ShallowKinds
 pub mod ShallowMeetings
 pub mod ShallowReadings

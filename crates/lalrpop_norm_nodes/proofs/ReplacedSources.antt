@@ -6,7 +6,7 @@ use Rattle.lalrpop_norm_model.specs.MadeRules.{kind_of, chosen_kinds, all_kinds,
 use Rattle.lalrpop_norm_model.specs.Replaced.{replaced, replaced_kind, all_replaced}
 use Rattle.lalrpop_norm_nodes.proofs.TwiceLemmas.{kind_twice}
 
-pub kind_replaced : (p : Part) → kind_of (replaced p) ≡ replaced_kind (kind_of p)
+kind_replaced : (p : Part) → kind_of (replaced p) ≡ replaced_kind (kind_of p)
 kind_replaced (at s k) = refl
 
 all_kinds_replaced : (ps : Parts) → all_kinds (all_replaced ps) ≡ map replaced_kind (all_kinds ps)
