@@ -1,5 +1,5 @@
 -- The state of the code once a round was read, and the rounds of the definition.
-use Rattle.std.proofs.Common.{◌≡◌, ◌⊎◌, inl, inr, ℕ, zero, suc, ◌+◌, ◌<◌, ◌≤◌, List, [], ◌∷◌, ◌++◌, Bool, true, false, cond, length, map, drop, reverse, Some, refl, sym, ap, ap₂, ◌∙◌, subst, arith, append-nil, append_assoc}
+use Rattle.std.proofs.Common.{◌≡◌, ◌⊎◌, inl, inr, ℕ, zero, suc, ◌+◌, ◌<◌, ◌≤◌, List, [], ◌∷◌, ◌++◌, Bool, true, false, cond, length, map, drop, reverse, Some, Vec, Global, refl, sym, ap, ap₂, ◌∙◌, subst, arith, append-nil, append_assoc}
 use Rattle.std.specs.Prelude.{not, filter, flat_map}
 use Rattle.std.proofs.Math.Seq.{drop-append_seam}
 use Rattle.std.proofs.lemmas.List.{map-append, length-append, length-map, length-reverse}
@@ -21,10 +21,12 @@ use Rattle.lalrpop_norm_conditions.specs.Conditions.{comparison}
 use Rattle.lalrpop_norm_macro_expand_met.specs.Apart.{unplaced}
 use Rattle.lalrpop_norm_macro_expand_met.specs.Meeting.{inside, met_inside, own, first_with_text, after, clash_faults, were_met, has_key}
 use Rattle.lalrpop_norm_macro_expand_met.proofs.InwardLemmas.{met_then}
+use Rattle.lalrpop_norm_nodes.specs.declared.node.Nodes.{Nodes}
 use Rattle.lalrpop_norm_nodes.specs.declared.table.Table.{Table}
 use Rattle.lalrpop_norm_nodes.specs.declared.table.Waiting.{Waiting}
 use Rattle.lalrpop_norm_nodes.specs.NodeParts.{AreWaiting}
-use Rattle.lalrpop_norm_nodes.specs.Tables.{wholes_in, seen_in, waiting_in, is_declared_in, AreNumbered, IsNodeTable, TableMeets, refused_in}
+use Rattle.lalrpop_norm_nodes.specs.Wholes.{wholes}
+use Rattle.lalrpop_norm_nodes.specs.Tables.{wholes_in, own_in, seen_in, waiting_in, is_declared_in, AreNumbered, IsNodeTable, TableMeets, refused_in}
 use Rattle.lalrpop_norm_nodes.specs.Waits.{parts_replaced, first_met, LeavesWaiting}
 use Rattle.lalrpop_norm_nodes.proofs.MeetLemmas.{split_at, were_left}
 use Rattle.lalrpop_norm_nodes.proofs.ShallowMeetings.{MeetAlike, alike_none, alike_one, alike_both}
@@ -361,6 +363,19 @@ module _ (g : GrammarData) where
         (faults_left ∙ ap (λ fs. fs ++ faults_from comparison g (suc k) less) quiets.0)
         (next_items limit left k old (map (λ w. symbol_view w.symbol) xs) done later h (moved ∙ ap (λ qs. done ++ map pending_read qs) making.pending))
         (earlier_next limit left k old (map (λ w. symbol_view w.symbol) xs) done h some)
+
+  -- the symbols that waited, once they are taken out of the table
+  pub record Taken (limit left k : ℕ) (a : Table) (xs : List Waiting) (done : List ItemData) : Type 0 where
+    pub round : AtRound limit left k (seen_in a) (map (λ w. symbol_view w.symbol) xs) done
+    pub making : IsMaking a k xs
+
+  pub taken : (limit left k : ℕ) (z a : Table) (xs : Vec Waiting Global) (done : List ItemData) → AtRound limit left k (seen_in z) (waiting_in z) done → a.nodes ≡ z.nodes →
+      xs ≡ z.waiting → IsNodeTable a → AreNumbered (wholes_in a) xs.items → Taken limit left k a xs.items done
+  taken limit left k z a xs done h nodes same table numbered =
+      let round : AtRound limit left k (seen_in a) (map (λ w. symbol_view w.symbol) xs.items) done =
+      subst (λ (v : Vec Waiting Global). AtRound limit left k (seen_in a) (map (λ w. symbol_view w.symbol) v.items) done) (sym same)
+      (subst (λ (ns : Nodes). AtRound limit left k (flat_map own_in (wholes ns)) (waiting_in z) done) (sym nodes) h) in
+      record { round = round; making = is_making a limit left k (seen_in a) done xs.items table refl round numbered }
 
   -- ---- F36
 
