@@ -1,4 +1,6 @@
+mod BoundLemmas
 pub mod DistinctLemmas
 mod FreshLemmas
 mod PendingLemmas
 mod RoundLemmas
+mod WaitingLists

@@ -108,8 +108,8 @@ pub fn read_pending(
     ensures waits { OnOk result (LeavesWaiting table.old table.new (flat_map shown_in_pending (map (pending_view (wholes_in table.old)) pending.items))) }
     ensures value { OnOk result (map item_view done.new.items ≡ map item_view done.old.items ++ map pending_read (map (pending_view (wholes_in table.old)) pending.items)) }
 {
-    for next in pending {
-        read_one(alloc, next, done, table)?;
+    for rule in pending {
+        read_one(alloc, rule, done, table)?;
     }
     Ok(())
 }

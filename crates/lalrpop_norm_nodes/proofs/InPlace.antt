@@ -15,7 +15,7 @@ use Rattle.lalrpop_norm_nodes.specs.Tables.{is_declared_in, seen_in, TableMeets,
 use Rattle.lalrpop_norm_nodes.proofs.MeetLemmas.{meets_both, refused_later}
 
 -- the exit by `?` where the first of what is met is refused
-exit_first : {T : Type 0} (a : Table) (xs ys : List Part) (r : Result T NormFailure) (e : NormFailure) →
+pub exit_first : {T : Type 0} (a : Table) (xs ys : List Part) (r : Result T NormFailure) (e : NormFailure) →
     IsErrAnd r (λ x. x ≡ e) → IsFirst (refused_in a xs) e → Refuses r (refused_in a (xs ++ ys))
 exit_first a xs ys r e from first =
     exit_at r e (refused_in a xs) (clash_faults (is_declared_in a) (after (seen_in a) xs) ys) (refused_in a (xs ++ ys)) from first

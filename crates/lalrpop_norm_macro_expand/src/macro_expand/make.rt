@@ -241,8 +241,8 @@ pub(super) fn make_rules(
     let mut waiting = waiting;
     waiting.reverse();
     let mut pending = Vec::with_capacity(alloc, waiting.len())?;
-    for next in waiting {
-        add_rule(alloc, macros, table, next, &mut pending)?;
+    for symbol in waiting {
+        add_rule(alloc, macros, table, symbol, &mut pending)?;
     }
     Ok(pending)
 }

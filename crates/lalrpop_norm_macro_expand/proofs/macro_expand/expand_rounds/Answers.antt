@@ -9,7 +9,11 @@ use Rattle.lalrpop_norm_model.specs.Expanded.{rule_names}
 use Rattle.lalrpop_norm_model.specs.PlainRules.{macros_of}
 use Rattle.lalrpop_norm_macro_expand_met.specs.Meeting.{has_key}
 use Rattle.lalrpop_norm_macro_expand_met.proofs.MeetingLemmas.{err_refuses}
-use Rattle.lalrpop_norm_nodes.specs.Tables.{seen_in, waiting_in, is_declared_in}
+use Rattle.lalrpop_norm_nodes.specs.declared.node.Nodes.{Nodes}
+use Rattle.lalrpop_norm_nodes.specs.declared.table.Table.{Table}
+use Rattle.lalrpop_norm_nodes.specs.declared.texts.Counter.{Counter}
+use Rattle.lalrpop_norm_nodes.specs.Wholes.{wholes}
+use Rattle.lalrpop_norm_nodes.specs.Tables.{own_in, seen_in, waiting_in, is_declared_in, IsCounted}
 use Rattle.lalrpop_norm_macro_expand_rules.specs.Names.{is_declared_name, item_names}
 use Rattle.lalrpop_norm_macro_expand_rules.specs.Items.{replaced_item, without_macro, macro_in}
 use Rattle.lalrpop_norm_macro_expand_rules.specs.Macros.{macros_in}
@@ -57,6 +61,15 @@ returns-in_err-read_items-clause-refuses c =
 no_items : {A : Type 0} (xs : List A) → length xs ≡ 0 → xs ≡ []
 no_items [] e = refl
 no_items (x ∷ xs) e = absurd (omega arith)
+
+counted_still : (z a : Table) → a.made ≡ z.made → a.nodes ≡ z.nodes → IsCounted z → IsCounted a
+counted_still z a made nodes h = ap (λ (m : Counter). m.count) made ∙ h ∙ ap (λ (ns : Nodes). length (flat_map own_in (wholes ns))) (sym nodes)
+
+pub counted-requires : goal.counted-requires
+counted-requires c = counted_still c.rounds.table c.take_waiting.new.self c.take_waiting.ensures.counted c.take_waiting.ensures.nodes c.rounds.invariant.counted
+
+pub read_round-requires-clause-counted : goal.read_round-requires-clause-counted
+read_round-requires-clause-counted c = counted_still c.rounds.table c.take_waiting.new.self c.take_waiting.ensures.counted c.take_waiting.ensures.nodes c.rounds.invariant.counted
 
 pub read_round-requires-clause-waiting : goal.read_round-requires-clause-waiting
 read_round-requires-clause-waiting c =

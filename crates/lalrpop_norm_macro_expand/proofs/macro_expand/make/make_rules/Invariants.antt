@@ -10,12 +10,12 @@ use Rattle.lalrpop_norm_macro_expand.specs.Expansion.{unmade}
 use Rattle.lalrpop_norm_macro_expand.specs.Making.{pending_for}
 use Rattle.lalrpop_norm_macro_expand.proofs.macro_expand.make.make_rules.Given as goal
 
-abbrev pub invariant-loop-next : goal.invariant-loop-next
-invariant-loop-next l = record {
-  waiting : AreWaiting (wholes_in l.table) l.next-iterator.rest.items;
-  refuses : flat_map (λ w. unmade (macros_in l.macros) (symbol_view w.symbol)) l.next-iterator.rest.items
+abbrev pub invariant-loop-symbol : goal.invariant-loop-symbol
+invariant-loop-symbol l = record {
+  waiting : AreWaiting (wholes_in l.table) l.symbol-iterator.rest.items;
+  refuses : flat_map (λ w. unmade (macros_in l.macros) (symbol_view w.symbol)) l.symbol-iterator.rest.items
       ≡ flat_map (λ w. unmade (macros_in l.macros) (symbol_view w.symbol)) (reverse l.fn.waiting.items);
-  pending : map (pending_view (wholes_in l.table)) l.pending.items ++ flat_map (pending_for (wholes_in l.table) (macros_in l.macros)) l.next-iterator.rest.items
+  pending : map (pending_view (wholes_in l.table)) l.pending.items ++ flat_map (pending_for (wholes_in l.table) (macros_in l.macros)) l.symbol-iterator.rest.items
       ≡ flat_map (pending_for (wholes_in l.table) (macros_in l.macros)) (reverse l.fn.waiting.items);
   readable : AreReadable (wholes_in l.table) l.pending.items;
 }

@@ -1,7 +1,9 @@
+use Rattle.std.proofs.Common.{sym, subst}
 use Rattle.lalrpop_norm_tree.specs.Symbols.{symbol_view}
 use Rattle.lalrpop_norm_tree.specs.SymbolTexts.{part_text}
 use Rattle.lalrpop_norm_nodes.specs.Tables.{wholes_in}
-use Rattle.lalrpop_norm_nodes.specs.Wholes.{built}
+use Rattle.lalrpop_norm_nodes.specs.Wholes.{wholes, built, IsNew}
+use Rattle.lalrpop_norm_nodes.specs.declared.node.Nodes.{Nodes}
 use Rattle.lalrpop_norm_nodes.proofs.EnterLemmas.{clash_is, err_same, made_meets, free_none, meets_waiting, numbered_by, made_waits}
 use Rattle.lalrpop_norm_nodes.proofs.WholeLemmas.{bare_built}
 use Rattle.lalrpop_norm_nodes.proofs.table.Table.enter_new.Goals as goal
@@ -13,6 +15,9 @@ returns-in_err-name-clause-refuses c =
     (clash_is a (built (wholes_in a) c.args.node) (part_text (symbol_view c.args.symbol.now)) c.requires.table c.requires.made
     (bare_built (wholes_in a) c.requires.table.bare c.args.node c.requires.fits) c.requires.new c.args.symbol.now.span)
     c.from_residual.ensures.1 c.in_err-name.ensures.refuses
+
+pub put_made-requires-clause-new : goal.put_made-requires-clause-new
+put_made-requires-clause-new c = subst (λ (ns : Nodes). IsNew (wholes ns) (built (wholes ns) c.args.node)) (sym c.in_ok-name.ensures.nodes) c.requires.new
 
 pub put_waiting-requires-clause-text : goal.put_waiting-requires-clause-text
 put_waiting-requires-clause-text c =
