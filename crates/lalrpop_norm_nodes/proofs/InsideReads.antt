@@ -8,8 +8,8 @@ use Rattle.lalrpop_norm_tree.specs.declared.symbol.Tuple.{Tuple}
 use Rattle.lalrpop_norm_tree.specs.declared.symbol.SymbolKind.TheFolds.{fold-roll-SymbolKind, fold_out-ExprSymbol, fold_out-MacroSymbol}
 use Rattle.lalrpop_norm_tree.specs.declared.symbol.SymbolKind.TheOpen.{SymbolKind-F}
 use Rattle.lalrpop_norm_tree.specs.declared.symbol.SymbolKind.TheVariants as kind
-use Rattle.lalrpop_norm_tree.specs.declared.symbol.SymbolKind.TheViews.{rolls-Tuple, out-ExprSymbol, out-MacroSymbol}
-use Rattle.lalrpop_norm_tree.specs.Symbols.{Kind, Part, Parts, Call, Again, ArgumentPattern, ArgumentPatterns, argument_pattern_step, tuple_step, argument_pattern_view, argument_patterns_of, tuple_view, part_and, parts_of, at, group, call, tupled, kind_step, expr_step, macro_step, repeat_step, symbol_step, kind_view, symbol_view, macro_view, expr_view, parts_view}
+use Rattle.lalrpop_norm_tree.specs.declared.symbol.SymbolKind.TheViews.{rolls-Tuple, rolls-Lookahead, rolls-Lookbehind, rolls-Error, out-ExprSymbol, out-MacroSymbol}
+use Rattle.lalrpop_norm_tree.specs.Symbols.{Kind, Part, Parts, Call, Again, ArgumentPattern, ArgumentPatterns, argument_pattern_step, tuple_step, argument_pattern_view, argument_patterns_of, tuple_view, part_and, parts_of, at, group, call, tupled, lookahead, lookbehind, error_terminal, kind_step, expr_step, macro_step, repeat_step, symbol_step, kind_view, symbol_view, macro_view, expr_view, parts_view}
 use Rattle.lalrpop_norm_macro_expand_met.specs.Apart.{nowhere, unplaced, unplaced_kind, all_unplaced}
 use Rattle.lalrpop_norm_nodes.specs.declared.given.Environment.{Environment}
 use Rattle.lalrpop_norm_nodes.specs.declared.node.Node.TheVariants as node
@@ -31,6 +31,15 @@ call_is m = fold_out-MacroSymbol Kind Parts Call Again Part kind_step expr_step 
 
 pub tupled_seen : (t : Tuple) (b : Box Symbol Global) → kind_view (kind.Tuple t b) ≡ tupled (tuple_view t) (symbol_view b.value)
 tupled_seen t b = ap kind_view (sym (rolls-Tuple t b)) ∙ fold-roll-SymbolKind Kind Parts Call Again Part kind_step expr_step macro_step repeat_step symbol_step (SymbolKind-F.Tuple t b)
+
+pub lookahead_seen : kind_view kind.Lookahead ≡ lookahead
+lookahead_seen = ap kind_view (sym rolls-Lookahead) ∙ fold-roll-SymbolKind Kind Parts Call Again Part kind_step expr_step macro_step repeat_step symbol_step SymbolKind-F.Lookahead
+
+pub lookbehind_seen : kind_view kind.Lookbehind ≡ lookbehind
+lookbehind_seen = ap kind_view (sym rolls-Lookbehind) ∙ fold-roll-SymbolKind Kind Parts Call Again Part kind_step expr_step macro_step repeat_step symbol_step SymbolKind-F.Lookbehind
+
+pub error_seen : kind_view kind.Error ≡ error_terminal
+error_seen = ap kind_view (sym rolls-Error) ∙ fold-roll-SymbolKind Kind Parts Call Again Part kind_step expr_step macro_step repeat_step symbol_step SymbolKind-F.Error
 
 pub tuple_is : (t : Tuple) → tuple_view t ≡ argument_patterns_of (map argument_pattern_view t.tuples.items)
 tuple_is t = fold_out-Tuple ArgumentPattern ArgumentPatterns argument_pattern_step tuple_step t

@@ -10,6 +10,6 @@ use Rattle.lalrpop_norm_nodes.proofs.parts.given_by_call.Goals as goal
 pub returns-clause-numbers : goal.returns-clause-numbers
 returns-clause-numbers c =
     IfOk-weaker c.given_in_row.result _ _
-    (λ gs h. h ∙ map_twice (λ (k : Kind). Some (one_symbol k)) kind_of (symbols_at (wholes_in c.args.table.now) c.arguments_row.result)
-    ∙ ap (map (λ (k : Kind). Some (one_symbol k))) c.arguments_row.ensures.kinds)
+    (λ gs h. h ∙ map_twice (λ (k : Kind). Some (one_symbol k)) kind_of (symbols_at (wholes_in c.args.table.now) c.arguments_row-row.result)
+    ∙ ap (map (λ (k : Kind). Some (one_symbol k))) c.arguments_row-row.ensures.kinds)
     c.given_in_row.ensures.numbers

@@ -12,7 +12,7 @@ use Rattle.lalrpop_norm_nodes.specs.Tables.{wholes_in, own_at, own_text_in, is_d
 use Rattle.lalrpop_norm_nodes.specs.Wholes.{Whole, patterns, symbols}
 use Rattle.lalrpop_norm_nodes.proofs.ReadLemmas.{bound_met, bound_value, bound_number, read_at, read_meets, read_refused, text_kept, value_kept}
 use Rattle.lalrpop_norm_tree.specs.declared.symbol.ArgPattern.{ArgPattern}
-use Rattle.lalrpop_norm_nodes.proofs.InsideReads.{tupled_seen, tuple_for, group_is, group_for, call_is, call_for}
+use Rattle.lalrpop_norm_nodes.proofs.InsideReads.{tupled_seen, tuple_for, group_is, group_for, call_is, call_for, lookahead_seen, lookbehind_seen, error_seen}
 use Rattle.lalrpop_norm_nodes.proofs.RowReads.{meets_row, met_one_by_one, shown_one_by_one, first_same, counted_row, row_more}
 use Rattle.lalrpop_norm_tree.specs.declared.symbol.Symbol.{Symbol}
 use Rattle.lalrpop_norm_tree.specs.declared.symbol.SymbolKind.TheViews.{out-ExprSymbol, out-MacroSymbol}
@@ -285,12 +285,12 @@ node_of-returns-in_ok-clone-in-Terminal-clause-waits t c =
 
 pub node_of-returns-in-Lookahead-clause-waits : goal.node_of-returns-in-Lookahead-clause-waits
 node_of-returns-in-Lookahead-clause-waits t c =
-    leaf_waits c.args.table.now c.args.environment.now (kind_view c.args.kind.now) lookahead (search rules) refl
+    leaf_waits c.args.table.now c.args.environment.now (kind_view c.args.kind.now) lookahead (ap kind_view c.in-Lookahead.is ∙ lookahead_seen) refl
 
 pub node_of-returns-in-Lookbehind-clause-waits : goal.node_of-returns-in-Lookbehind-clause-waits
 node_of-returns-in-Lookbehind-clause-waits t c =
-    leaf_waits c.args.table.now c.args.environment.now (kind_view c.args.kind.now) lookbehind (search rules) refl
+    leaf_waits c.args.table.now c.args.environment.now (kind_view c.args.kind.now) lookbehind (ap kind_view c.in-Lookbehind.is ∙ lookbehind_seen) refl
 
 pub node_of-returns-in-Error-clause-waits : goal.node_of-returns-in-Error-clause-waits
 node_of-returns-in-Error-clause-waits t c =
-    leaf_waits c.args.table.now c.args.environment.now (kind_view c.args.kind.now) error_terminal (search rules) refl
+    leaf_waits c.args.table.now c.args.environment.now (kind_view c.args.kind.now) error_terminal (ap kind_view c.in-Error.is ∙ error_seen) refl

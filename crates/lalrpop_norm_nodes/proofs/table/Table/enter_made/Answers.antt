@@ -11,17 +11,17 @@ put_name-requires-clause-text c =
     let a = c.args.self.now in
     numbered_by a a (wholes_in a) c.in-Some.number c.args.node (part_text (symbol_view c.args.symbol.now)) refl c.in-Some.ensures.found c.requires.made
 
-pub returns-in-Some-clause-refuses : goal.returns-in-Some-clause-refuses
-returns-in-Some-clause-refuses c =
+pub returns-in_ok-put_name-in-Some-clause-refuses : goal.returns-in_ok-put_name-in-Some-clause-refuses
+returns-in_ok-put_name-in-Some-clause-refuses c =
     (stands_met c.args.self.now (built (wholes_in c.args.self.now) c.args.node) c.in-Some.number (part_text (symbol_view c.args.symbol.now)) c.args.symbol.now.span
     c.requires.table c.in-Some.ensures.found c.requires.made).0
 
-pub returns-in-Some-clause-meets : goal.returns-in-Some-clause-meets
-returns-in-Some-clause-meets c =
+pub returns-in_ok-put_name-in-Some-clause-meets : goal.returns-in_ok-put_name-in-Some-clause-meets
+returns-in_ok-put_name-in-Some-clause-meets c =
     (stands_met c.args.self.now (built (wholes_in c.args.self.now) c.args.node) c.in-Some.number (part_text (symbol_view c.args.symbol.now)) c.args.symbol.now.span
     c.requires.table c.in-Some.ensures.found c.requires.made).1
 
-pub returns-in-Some-clause-waits : goal.returns-in-Some-clause-waits
-returns-in-Some-clause-waits c =
+pub returns-in_ok-put_name-in-Some-clause-waits : goal.returns-in_ok-put_name-in-Some-clause-waits
+returns-in_ok-put_name-in-Some-clause-waits c =
     stands_waits c.args.self.now (built (wholes_in c.args.self.now) c.args.node) c.in-Some.number (symbol_view c.args.symbol.now)
     c.requires.table c.in-Some.ensures.found c.requires.made
