@@ -1,6 +1,6 @@
 -- The numbers that nodes have for what their symbols are made of.
-use Rattle.std.proofs.Common.{◌≡◌, ℕ, List, [], ◌∷◌, ◌++◌, true, false, map, Option, Some, None, option_map, slice_get, refl, sym, ap, ◌∙◌, subst}
-use Rattle.lalrpop_norm_tree.specs.Symbols.{Kind, Part, Parts, parts_of, call, repeated, group, ambiguous_id, terminal, nonterminal, chosen, named, tupled, lookahead, lookbehind, error_terminal}
+use Rattle.std.proofs.Common.{◌≡◌, ℕ, List, [], ◌∷◌, true, false, map, Some, None, slice_get, refl, sym, ap, ◌∙◌}
+use Rattle.lalrpop_norm_tree.specs.Symbols.{Kind, Part, parts_of, call, repeated}
 use Rattle.lalrpop_norm_tree.specs.declared.symbol.RepeatOp.TheVariants.{Star, Plus, Question}
 use Rattle.lalrpop_norm_model.specs.MadeRules.{kind_of, all_kinds}
 use Rattle.lalrpop_norm_nodes.specs.declared.node.Node.{Node}
@@ -10,7 +10,7 @@ use Rattle.lalrpop_norm_nodes.specs.declared.node.NamedLeaf.TheVariants as named
 use Rattle.lalrpop_norm_nodes.specs.declared.node.Unary.TheVariants as unary
 use Rattle.lalrpop_norm_nodes.specs.declared.node.NamedUnary.TheVariants as named_unary
 use Rattle.lalrpop_norm_nodes.specs.declared.node.Binary.TheVariants as binary
-use Rattle.lalrpop_norm_nodes.specs.Wholes.{Whole, one_symbol, symbols, kind_at, part_at, symbols_at, as_kind, as_symbols, Fits, built, IsKind, AreSymbols, StandsFor, AreRows}
+use Rattle.lalrpop_norm_nodes.specs.Wholes.{Whole, one_symbol, symbols, kind_at, part_at, symbols_at, Fits, built, IsKind, AreSymbols, StandsFor, AreRows}
 use Rattle.lalrpop_norm_nodes.specs.NodeParts.{is_call, call_parts, is_repeat, repeated_kind, row_of_call, part_of_repeat, last_in_row, EndsRow}
 use Rattle.lalrpop_norm_nodes.proofs.RowLemmas.{node_at}
 

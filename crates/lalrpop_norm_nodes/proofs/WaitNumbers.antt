@@ -12,7 +12,7 @@ use Rattle.lalrpop_norm_nodes.specs.Wholes.{Whole, one_symbol, symbols, one_patt
 use Rattle.lalrpop_norm_nodes.specs.Tables.{wholes_in, own_in, own_text_in, seen_in, IsBare, IsNumbered, AreNumbered, IsNodeTable}
 use Rattle.lalrpop_norm_nodes.proofs.RowItems.{is_kind}
 use Rattle.lalrpop_norm_nodes.proofs.RowLemmas.{symbol_stays}
-use Rattle.lalrpop_norm_nodes.proofs.WholeLemmas.{Made, one_made}
+use Rattle.lalrpop_norm_nodes.proofs.WholeLemmas.{one_made}
 
 -- ---- what was seen has no spans
 

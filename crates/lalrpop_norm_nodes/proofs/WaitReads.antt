@@ -4,7 +4,7 @@ use Rattle.std.specs.List.{flat_map}
 use Rattle.std.proofs.lemmas.List.{map-append}
 use Rattle.lalrpop_norm_tree_names.specs.declared.names.Span.{Span}
 use Rattle.lalrpop_norm_tree.specs.declared.symbol.Symbol.{Symbol}
-use Rattle.lalrpop_norm_tree.specs.Symbols.{Kind, Part, Parts, parts_of, group, ambiguous_id, terminal, nonterminal, call, repeated, chosen, named, tupled, lookahead, lookbehind, error_terminal, at, no_parts, part_and, kind_view, symbol_view}
+use Rattle.lalrpop_norm_tree.specs.Symbols.{Kind, Part, parts_of, group, ambiguous_id, terminal, nonterminal, call, repeated, chosen, named, tupled, lookahead, lookbehind, error_terminal, at, kind_view, symbol_view}
 use Rattle.lalrpop_norm_tree.proofs.SymbolViews.{seen_at}
 use Rattle.lalrpop_norm_tree.specs.SymbolTexts.{part_text, kind_text}
 use Rattle.lalrpop_norm_model.specs.MadeRules.{or_name}
@@ -22,7 +22,7 @@ use Rattle.lalrpop_norm_nodes.specs.Tables.{wholes_in, IsNodeTable, TableMeets}
 use Rattle.lalrpop_norm_nodes.specs.Waits.{parts_replaced, shown_met, LeavesWaiting}
 use Rattle.lalrpop_norm_nodes.proofs.InPlace.{met_more}
 use Rattle.lalrpop_norm_nodes.proofs.MeetLemmas.{split_at}
-use Rattle.lalrpop_norm_nodes.proofs.ReadLemmas.{Bound, bound_is}
+use Rattle.lalrpop_norm_nodes.proofs.ReadLemmas.{bound_is}
 use Rattle.lalrpop_norm_nodes.proofs.WaitLemmas.{waits_both, waits_nothing, waits_plain}
 
 nothing_met : (p : Part) → met (replaced p) ≡ []

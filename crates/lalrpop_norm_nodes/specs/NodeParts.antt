@@ -1,6 +1,6 @@
 -- What a symbol that is made into a rule is made of, as its node has it.
 use Rattle.std.specs.Prelude.{◌≡◌, ⊤, ℕ, Bool, true, false, List, [], ◌∷◌, ◌++◌, Option, Some, None}
-use Rattle.lalrpop_norm_tree.specs.Symbols.{Kind, Part, Parts, call, repeated, error_terminal, no_parts, parts_of}
+use Rattle.lalrpop_norm_tree.specs.Symbols.{Kind, Part, Parts, call, repeated, error_terminal, no_parts}
 use Rattle.lalrpop_norm_nodes.specs.declared.node.Node.{Node}
 use Rattle.lalrpop_norm_nodes.specs.declared.node.Node.TheVariants as node
 use Rattle.lalrpop_norm_nodes.specs.declared.node.Unary.TheVariants as unary
