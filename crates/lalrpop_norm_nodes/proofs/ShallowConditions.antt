@@ -1,15 +1,14 @@
 -- Conditions of a macro's alternatives have the value on replaced arguments that they have on the arguments.
-use Rattle.std.proofs.Common.{◌≡◌, ℕ, List, [], ◌∷◌, Bool, true, false, Option, Some, None, cond, bytes_eq, option_map, refl, ap, ap₂, ◌∙◌}
+use Rattle.std.proofs.Common.{◌≡◌, ℕ, List, [], ◌∷◌, Bool, true, false, Option, Some, None, cond, bytes_eq, refl, ap₂}
 use Rattle.std.specs.Prelude.{filter}
 use Rattle.lalrpop_norm_tree_names.specs.declared.names.NonterminalString.{NonterminalString}
-use Rattle.lalrpop_norm_tree_names.specs.declared.names.Span.{Span}
 use Rattle.lalrpop_norm_tree.specs.declared.items.Condition.{Condition}
 use Rattle.lalrpop_norm_tree.specs.declared.symbol.RepeatOp.TheVariants.{Star, Plus, Question}
-use Rattle.lalrpop_norm_tree.specs.Items.{AlternativeData, RuleData}
+use Rattle.lalrpop_norm_tree.specs.Items.{AlternativeData}
 use Rattle.lalrpop_norm_tree.specs.Symbols.{Kind, group, ambiguous_id, terminal, nonterminal, call, repeated, chosen, named, tupled, lookahead, lookbehind, error_terminal, at, Parts, no_parts, part_and}
 use Rattle.lalrpop_norm_model.specs.Grammars.{ConditionValue, bound_argument, is_true, value_of}
-use Rattle.lalrpop_norm_model.specs.Reading.{read_kind, read_part, read_parts, read_all}
-use Rattle.lalrpop_norm_model.specs.MadeRules.{flat_reader, argument_kind, instance_alternative, instance_alternatives}
+use Rattle.lalrpop_norm_model.specs.Reading.{read_kind, read_parts, read_all}
+use Rattle.lalrpop_norm_model.specs.MadeRules.{flat_reader}
 use Rattle.lalrpop_norm_model.specs.Replaced.{replaced_kind, all_replaced}
 
 module _ (value : ConditionValue) where

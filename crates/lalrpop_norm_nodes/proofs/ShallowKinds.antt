@@ -1,10 +1,10 @@
 -- What a macro's arguments are bound to, with what is made into rules replaced in them: symbols and types with these substituted.
-use Rattle.std.proofs.Common.{◌≡◌, ℕ, List, ◌∷◌, ◌++◌, Option, Some, None, option_map, codes, refl, sym, ap, ap₂, ◌∙◌}
+use Rattle.std.proofs.Common.{◌≡◌, ℕ, List, ◌∷◌, ◌++◌, Option, Some, None, option_map, codes, refl, ap, ap₂, ◌∙◌}
 use Rattle.lalrpop_norm_tree_names.specs.Texts.{joined}
 use Rattle.lalrpop_norm_tree.specs.Symbols.{Kind, Part, Parts, group, ambiguous_id, terminal, nonterminal, call, repeated, chosen, named, tupled, lookahead, lookbehind, error_terminal, at, no_parts, part_and}
 use Rattle.lalrpop_norm_tree.specs.SymbolTexts.{kind_text, part_text, part_texts, op_text, name_text, tuple_text}
 use Rattle.lalrpop_norm_tree.specs.Types.{TypeData, TypesData, MaybeType, tuple, slice, nominal, reference, trait_object, of_lifetime, id, of_symbol, function, no_types, type_and, no_type, returns}
-use Rattle.lalrpop_norm_model.specs.MadeRules.{or_name, substituted, kind_substituted, all_substituted, type_of_kind, type_of_name, type_substituted, types_substituted, returned_substituted}
+use Rattle.lalrpop_norm_model.specs.MadeRules.{or_name, substituted, kind_substituted, all_substituted, type_of_name, type_substituted, types_substituted, returned_substituted}
 use Rattle.lalrpop_norm_model.specs.Replaced.{replaced, replaced_kind, all_replaced}
 use Rattle.lalrpop_norm_nodes.specs.Filled.{filled, filled_kind, all_filled}
 use Rattle.lalrpop_norm_nodes.proofs.TwiceLemmas.{kind_twice}

@@ -1,9 +1,8 @@
 -- A round over numbers and replaced symbols is the round over the symbols: the same is refused, the same is seen, spans aside, and what
 -- is new waits with its parts replaced.
-use Rattle.std.proofs.Common.{◌≡◌, ◌⊎◌, inl, inr, ℕ, List, [], ◌∷◌, ◌++◌, Bool, true, false, cond, map, length, drop, Option, Some, None, option_map, is_some, bytes_eq, refl, sym, ap, ap₂, ◌∙◌, subst, append_assoc}
+use Rattle.std.proofs.Common.{◌≡◌, inl, inr, ℕ, List, [], ◌∷◌, ◌++◌, Bool, true, false, cond, map, Option, Some, None, option_map, is_some, refl, sym, ap, ap₂, ◌∙◌, subst}
 use Rattle.std.specs.Prelude.{not, ◌||◌, ◌&&◌}
 use Rattle.std.specs.List.{flat_map}
-use Rattle.std.proofs.Math.Seq.{drop-append_seam}
 use Rattle.std.proofs.lemmas.Bool.{and_parts}
 use Rattle.std.proofs.lemmas.List.{map-append}
 use Rattle.lalrpop_norm_tree.specs.Symbols.{Kind, Part, Parts, group, ambiguous_id, terminal, nonterminal, call, repeated, chosen, named, tupled, lookahead, lookbehind, error_terminal, at, no_parts, part_and}
@@ -12,14 +11,14 @@ use Rattle.lalrpop_norm_tree.specs.Items.{AlternativeData, RuleData}
 use Rattle.lalrpop_norm_theory.specs.Rounds.{In}
 use Rattle.lalrpop_norm_theory.proofs.RoundsLemmas.{in_cases}
 use Rattle.lalrpop_norm_theory.proofs.ListLemmas.{some_inner}
-use Rattle.lalrpop_norm_theory.proofs.BoolLemmas.{left_false, right_false, not_false, false_of_not}
+use Rattle.lalrpop_norm_theory.proofs.BoolLemmas.{right_false, not_false, false_of_not}
 use Rattle.lalrpop_norm_model.specs.PlainRules.{met, all_met, met_in_rule, same_apart_from_spans}
 use Rattle.lalrpop_norm_macro_expand_met.specs.Apart.{nowhere, unplaced_kind, unplaced}
 use Rattle.lalrpop_norm_macro_expand_met.specs.Meeting.{first_with_text, joined_by, after_one, after, differs, clash_faults, was_met, were_met}
 use Rattle.lalrpop_norm_macro_expand_met.proofs.ApartLemmas.{unplaced_same}
 use Rattle.lalrpop_norm_macro_expand_met.proofs.IndexLemmas.{first_more, first_at}
 use Rattle.lalrpop_norm_nodes.specs.Waits.{parts_replaced, first_met}
-use Rattle.lalrpop_norm_nodes.proofs.FirstMet.{has_text, fresh_after, text_is_seen, after_fresh, first_fresh}
+use Rattle.lalrpop_norm_nodes.proofs.FirstMet.{has_text, fresh_after, text_is_seen, first_fresh}
 use Rattle.lalrpop_norm_nodes.proofs.MeetLemmas.{text_unplaced, first_bare, after_same, clash_same, were_left, were_right}
 use Rattle.lalrpop_norm_nodes.proofs.ShallowMeetings.{HaveTexts, MeetAlike}
 

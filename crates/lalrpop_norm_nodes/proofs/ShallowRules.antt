@@ -5,17 +5,15 @@ use Rattle.lalrpop_norm_tree_names.specs.declared.names.Span.{Span}
 use Rattle.lalrpop_norm_tree.specs.declared.symbol.RepeatOp.{RepeatOp}
 use Rattle.lalrpop_norm_tree.specs.declared.symbol.RepeatOp.TheVariants.{Star, Plus, Question}
 use Rattle.lalrpop_norm_tree.specs.Items.{AlternativeData, RuleData, private}
-use Rattle.lalrpop_norm_tree.specs.Symbols.{Kind, Part, Parts, group, nonterminal, call, repeated, at, no_parts, part_and, parts_of}
+use Rattle.lalrpop_norm_tree.specs.Symbols.{Kind, Parts, group, nonterminal, call, repeated, at, no_parts, part_and}
 use Rattle.lalrpop_norm_tree.specs.SymbolTexts.{kind_text}
 use Rattle.lalrpop_norm_tree.specs.Types.{TypeData, of_symbol, nominal, no_types, type_and}
 use Rattle.lalrpop_norm_model.specs.Grammars.{ConditionValue, is_true}
 use Rattle.lalrpop_norm_model.specs.Reading.{read_all}
-use Rattle.lalrpop_norm_model.specs.MadeRules.{kind_of, inline_at, coded, type_of_kind, bare_or_tuple, group_sources, bare_or_tuple_code, group_rule, only_part, with_name, vector_path, option_path, repeat_rule, argument_kind, or_name, type_substituted, flat_reader, instance_alternative, instance_alternatives, instance_rule}
+use Rattle.lalrpop_norm_model.specs.MadeRules.{inline_at, coded, type_of_kind, bare_or_tuple, group_sources, bare_or_tuple_code, group_rule, only_part, with_name, vector_path, option_path, repeat_rule, argument_kind, or_name, type_substituted, flat_reader, instance_alternative, instance_alternatives, instance_rule}
 use Rattle.lalrpop_norm_model.specs.PlainRules.{replaced_rule}
 use Rattle.lalrpop_norm_model.specs.Replaced.{replaced_kind, all_replaced}
 use Rattle.lalrpop_norm_macro_expand_met.specs.Apart.{unplaced_kind, all_unplaced}
-use Rattle.lalrpop_norm_nodes.specs.Given.{given_for}
-use Rattle.lalrpop_norm_nodes.specs.Filled.{inside_replaced}
 use Rattle.lalrpop_norm_nodes.proofs.GivenLemmas.{inside_text}
 use Rattle.lalrpop_norm_nodes.proofs.ReplacedSources.{types_of_replaced, code_of_replaced}
 use Rattle.lalrpop_norm_nodes.proofs.ShallowConditions.{kept_in, kept_replaced}
@@ -44,18 +42,6 @@ argument_replaced = argument_mapped replaced_kind all_replaced refl (λ s k ps. 
 pub argument_unplaced : (names : List NonterminalString) (ps : Parts) (n : List ℕ) →
     argument_kind names (all_unplaced ps) n ≡ option_map unplaced_kind (argument_kind names ps n)
 argument_unplaced = argument_mapped unplaced_kind all_unplaced refl (λ s k ps. (_, refl))
-
--- what is given for names is what arguments of these symbols are bound to
-pub given_argument : {A : Type 0} (h : A → Part) (names : List NonterminalString) (gs : List A) (n : List ℕ) →
-    option_map (λ g. kind_of (h g)) (given_for names gs n) ≡ argument_kind names (parts_of (map h gs)) n
-given_argument h [] gs n = refl
-given_argument h (a ∷ names) [] n = refl
-given_argument h (a ∷ names) (g ∷ gs) n = by (bytes_eq a.0 n) (given_argument h names gs n)
-  where
-    by : (b : Bool) → option_map (λ g. kind_of (h g)) (given_for names gs n) ≡ argument_kind names (parts_of (map h gs)) n →
-        option_map (λ g. kind_of (h g)) (cond b (Some g) (given_for names gs n)) ≡ cond b (Some (kind_of (h g))) (argument_kind names (parts_of (map h gs)) n)
-    by true e = refl
-    by false e = e
 
 -- ---- groups
 

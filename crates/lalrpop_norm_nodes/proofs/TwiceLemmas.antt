@@ -1,8 +1,7 @@
 -- Symbols that are replaced meet nothing, and are not replaced again.
-use Rattle.std.proofs.Common.{◌≡◌, List, [], ◌∷◌, ◌++◌, map, refl, ap, ap₂, ◌∙◌}
+use Rattle.std.proofs.Common.{◌≡◌, [], ◌++◌, refl, ap, ap₂, ◌∙◌}
 use Rattle.lalrpop_norm_tree.specs.Symbols.{Kind, Part, Parts, group, ambiguous_id, terminal, nonterminal, call, repeated, chosen, named, tupled, lookahead, lookbehind, error_terminal, at, no_parts, part_and}
-use Rattle.lalrpop_norm_tree.specs.Items.{AlternativeData, RuleData}
-use Rattle.lalrpop_norm_model.specs.PlainRules.{met, all_met, replaced_alternative, replaced_rule}
+use Rattle.lalrpop_norm_model.specs.PlainRules.{met, all_met}
 use Rattle.lalrpop_norm_model.specs.Replaced.{replaced, replaced_kind, all_replaced}
 
 mutual
@@ -56,11 +55,3 @@ kind_twice (chosen p) = ap chosen (replaced_twice p)
 kind_twice (named n p) = ap (named n) (replaced_twice p)
 kind_twice (tupled ns p) = ap (tupled ns) (replaced_twice p)
 kind_twice error_terminal = refl
-
-alternatives_twice : (xs : List AlternativeData) → map replaced_alternative (map replaced_alternative xs) ≡ map replaced_alternative xs
-alternatives_twice [] = refl
-alternatives_twice (a ∷ xs) =
-    ap₂ (λ (ps : Parts) (ys : List AlternativeData). let b : AlternativeData = record a { parts = ps } in b ∷ ys) (all_twice a.parts) (alternatives_twice xs)
-
-pub rule_twice : (r : RuleData) → replaced_rule (replaced_rule r) ≡ replaced_rule r
-rule_twice r = ap (λ (xs : List AlternativeData). let s : RuleData = record r { alternatives = xs } in s) (alternatives_twice r.alternatives)

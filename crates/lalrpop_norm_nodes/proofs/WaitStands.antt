@@ -1,24 +1,21 @@
 -- The numbers of the symbols that wait stand for these.
-use Rattle.std.proofs.Common.{◌≡◌, inl, inr, ℕ, zero, suc, List, [], ◌∷◌, ◌++◌, true, map, Option, Some, None, slice_get, option_and_then, refl, sym, ap, ap₂, ◌∙◌, subst}
+use Rattle.std.proofs.Common.{◌≡◌, inl, inr, ℕ, suc, List, [], ◌∷◌, ◌++◌, true, map, Option, Some, None, slice_get, option_and_then, refl, sym, ap, ap₂, ◌∙◌}
 use Rattle.std.proofs.lemmas.Bool.{and_parts}
-use Rattle.lalrpop_norm_tree_names.specs.declared.names.Span.{Span}
 use Rattle.lalrpop_norm_tree.specs.Symbols.{Kind, Part, Parts, group, ambiguous_id, terminal, nonterminal, call, repeated, chosen, named, tupled, lookahead, lookbehind, error_terminal, at, no_parts, part_and, kind_view, symbol_view}
-use Rattle.lalrpop_norm_tree.specs.SymbolTexts.{part_text, kind_text}
+use Rattle.lalrpop_norm_tree.specs.SymbolTexts.{part_text}
 use Rattle.lalrpop_norm_tree.proofs.SymbolViews.{seen_at}
 use Rattle.lalrpop_norm_theory.specs.Rounds.{In}
 use Rattle.lalrpop_norm_model.specs.MadeRules.{kind_of}
-use Rattle.lalrpop_norm_model.specs.PlainRules.{met}
 use Rattle.lalrpop_norm_model.specs.Replaced.{replaced, replaced_kind, all_replaced}
 use Rattle.lalrpop_norm_macro_expand_met.specs.Apart.{nowhere, unplaced_kind, unplaced, all_unplaced}
-use Rattle.lalrpop_norm_macro_expand_met.specs.Meeting.{first_with_text, own, own_text, was_met, were_met}
+use Rattle.lalrpop_norm_macro_expand_met.specs.Meeting.{first_with_text, was_met, were_met}
 use Rattle.lalrpop_norm_nodes.specs.declared.table.Table.{Table}
 use Rattle.lalrpop_norm_nodes.specs.declared.table.Waiting.{Waiting}
 use Rattle.lalrpop_norm_nodes.specs.Filled.{inside_replaced}
-use Rattle.lalrpop_norm_nodes.specs.NodeParts.{IsShallow, IsWaiting, AreWaiting}
-use Rattle.lalrpop_norm_nodes.specs.Tables.{wholes_in, seen_in, is_declared_in, own_at, own_text_in, inner_of, own_in, met_of, IsNumbered, AreNumbered, IsNodeTable}
+use Rattle.lalrpop_norm_nodes.specs.NodeParts.{IsWaiting, AreWaiting}
+use Rattle.lalrpop_norm_nodes.specs.Tables.{wholes_in, seen_in, is_declared_in, own_text_in, inner_of, own_in, IsNumbered, AreNumbered, IsNodeTable}
 use Rattle.lalrpop_norm_nodes.specs.Waits.{parts_replaced}
 use Rattle.lalrpop_norm_nodes.specs.Wholes.{Whole, one_symbol, kind_at, as_kind, StandsFor}
-use Rattle.lalrpop_norm_nodes.proofs.GivenLemmas.{inside_text}
 use Rattle.lalrpop_norm_nodes.proofs.MeetLemmas.{kind_text_unplaced, were_right}
 use Rattle.lalrpop_norm_nodes.proofs.RowItems.{is_kind}
 use Rattle.lalrpop_norm_nodes.proofs.ShallowMeetings.{parts_text}
