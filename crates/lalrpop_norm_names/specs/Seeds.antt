@@ -19,8 +19,9 @@ first_half reader = finish reader
 abbrev pub second_half : DefaultHasher → ℕ
 second_half reader = finish (hasher_after reader (u64 (first_half reader)))
 
--- the hasher that each text is then hashed by: one that has read the seed
+-- the hasher that each key is then hashed by: one that has read the seed
+abbrev pub seeded_after : DefaultHasher → DefaultHasher
+seeded_after reader = hasher_after (hasher_after initial (u64 (first_half reader))) (u64 (second_half reader))
+
 abbrev pub seeded_hasher : List (List ℕ) → DefaultHasher
-seeded_hasher texts =
-    let reader = reader_of texts in
-    hasher_after (hasher_after initial (u64 (first_half reader))) (u64 (second_half reader))
+seeded_hasher texts = seeded_after (reader_of texts)

@@ -4,4 +4,5 @@
 mod seeded;
 mod table;
 
+pub use seeded::Seeded;
 pub use table::Names;

@@ -1,29 +1,36 @@
-//! A hash whose seed is a digest of all names.
+//! A hash whose seed is a digest of all that may be hashed.
 ghost use Rattle.std.specs.Prelude.{◌≡◌, map};
-ghost use Rattle.lalrpop_norm_names.specs.Seeds.{seeded_hasher};
+ghost use Rattle.lalrpop_norm_names.specs.Seeds.{seeded_after, seeded_hasher};
 
 use lalrpop_norm_tree_names::names::NonterminalString;
 use std::hash::{BuildHasher, DefaultHasher, Hash, Hasher};
 
 /// Makes each hasher as a copy of one that has read a seed.
 #[derive(Clone, Copy)]
-pub(crate) struct Seeded {
+pub struct Seeded {
     start: DefaultHasher,
 }
 
 impl Seeded {
-    /// The seed is 128 bits that all the names decide, and their order: so whoever changes a name changes each hash.
-    pub(crate) fn by(names: &[NonterminalString]) -> Seeded
-        ensures { result.start ≡ seeded_hasher (map (λ n. n.0) names.now) }
+    /// The seed is 128 bits that all decides which a hasher has read: so whoever changes any of it changes each hash.
+    pub fn after(mut reader: DefaultHasher) -> Seeded
+        ensures { result.start ≡ seeded_after reader }
     {
-        let mut reader = DefaultHasher::new();
-        NonterminalString::hash_slice(names, &mut reader);
         let digest = reader.finish();
         reader.write_u64(digest);
         let mut start = DefaultHasher::new();
         start.write_u64(digest);
         start.write_u64(reader.finish());
         Seeded { start }
+    }
+
+    /// By all the names, and their order.
+    pub(crate) fn by(names: &[NonterminalString]) -> Seeded
+        ensures { result.start ≡ seeded_hasher (map (λ n. n.0) names.now) }
+    {
+        let mut reader = DefaultHasher::new();
+        NonterminalString::hash_slice(names, &mut reader);
+        Seeded::after(reader)
     }
 }
 

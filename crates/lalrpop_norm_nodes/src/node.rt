@@ -2,8 +2,8 @@
 ghost use Rattle.std.specs.Prelude.{◌≡◌, ◌++◌, ◌∷◌, [], OnOk, IfOk, IfSome, IfNone};
 ghost use Rattle.lalrpop_norm_nodes.specs.Wholes.{wholes, texts_of, Fits, built, AreNodes, StandsFor, IsNew};
 
-use crate::hashing::NodeHashBuilder;
 use indexmap::IndexMap;
+use lalrpop_norm_names::Seeded;
 use lalrpop_norm_tree::grammar::parse_tree::{Atom, NoMemory, TerminalString};
 use std::alloc::Global;
 
@@ -92,12 +92,12 @@ pub enum Node {
 /// The nodes in the order of their numbers, each with its text if it is made into a rule.
 #[derive(Drop)]
 pub struct Nodes {
-    pub(crate) rows: IndexMap<Node, Option<Atom>, NodeHashBuilder>,
+    pub(crate) rows: IndexMap<Node, Option<Atom>, Seeded>,
 }
 
 impl Nodes {
     /// No nodes yet, to be found by these hashes.
-    pub(crate) fn new(alloc: Global, hash_builder: NodeHashBuilder) -> Nodes
+    pub(crate) fn new(alloc: Global, hash_builder: Seeded) -> Nodes
         ensures nodes { AreNodes result }
         ensures wholes { wholes result ≡ [] }
         ensures texts { texts_of result ≡ [] }

@@ -9,10 +9,10 @@ ghost use Rattle.lalrpop_norm_nodes.specs.Wholes.{Fits, built, part_at, StandsFo
 ghost use Rattle.lalrpop_norm_nodes.specs.Tables.{wholes_in, seen_in, own_at, own_in, own_text_in, is_declared_in, IsNodeTable, IsCounted, TableMeets, refused_in, waiting_in, numbered_in, AreNumbered};
 ghost use Rattle.lalrpop_norm_nodes.specs.Waits.{LeavesWaiting};
 
-use crate::hashing::NodeHashBuilder;
 use crate::node::{Node, Nodes};
 use crate::texts::{Counter, make_text};
 use lalrpop_norm_faults::{FaultKind, NormFailure, NormResult, refusal};
+use lalrpop_norm_names::Seeded;
 use lalrpop_norm_tree::grammar::parse_tree::{
     Atom, NoMemory, NonterminalString, Span, Symbol, SymbolKind,
 };
@@ -36,7 +36,7 @@ pub struct Table {
     names: BTreeSet<Atom>,
     nodes: Nodes,
     /// The number of the node of each text.
-    places: HashMap<Atom, usize, NodeHashBuilder>,
+    places: HashMap<Atom, usize, Seeded>,
     /// How many texts were made.
     made: Counter,
     /// The symbols that wait for their rules, in the order of meeting.
@@ -57,7 +57,7 @@ fn shared_name(alloc: Global, name: &Atom, span: Span) -> NormFailure
 
 impl Table {
     /// A table for a grammar that declares these names: no symbol was met yet.
-    pub fn new(alloc: Global, names: BTreeSet<Atom>, hash_builder: NodeHashBuilder) -> Table
+    pub fn new(alloc: Global, names: BTreeSet<Atom>, hash_builder: Seeded) -> Table
         ensures table { IsNodeTable result }
         ensures counted { IsCounted result }
         ensures seen { seen_in result ≡ [] }

@@ -4,6 +4,4 @@ use Rattle.std.proofs.lemmas.List.Folds.{flat_map-map}
 use Rattle.lalrpop_norm_names.proofs.seeded.Seeded.by.Goals as goal
 
 pub returns : goal.returns
-returns c =
-    rw (flat_map-map str (λ n. n.0) c.args.names.now)
-    (rw (c.write_u64-3.ensures, c.finish.ensures, c.write_u64-2.ensures, c.new-start.ensures, c.write_u64.ensures, c.finish-digest.ensures, c.hash_slice.ensures, c.new-reader.ensures) refl)
+returns c = rw (flat_map-map str (λ n. n.0) c.args.names.now) (rw (c.after.ensures, c.hash_slice.ensures, c.new-reader.ensures) refl)
