@@ -29,7 +29,7 @@ use lalrpop_norm_macro_expand_rules::items::read_items;
 use lalrpop_norm_macro_expand_rules::macros::{Macros, without_macros};
 use lalrpop_norm_macro_expand_rules::names::declared_names;
 use lalrpop_norm_macro_expand_rules::pending::read_pending;
-use lalrpop_norm_nodes::hashing::NodeHashBuilder;
+use lalrpop_norm_nodes::digest::seeded_by;
 use lalrpop_norm_nodes::table::{Table, Waiting};
 use lalrpop_norm_resolve::resolve::resolve;
 use lalrpop_norm_tree::grammar::parse_tree::{Grammar, GrammarItem};
@@ -106,8 +106,9 @@ fn expand_rounds(alloc: Global, grammar: Grammar, limit: u16) -> NormResult<(Gra
     ensures plain { IfOk result (λ made. grammar_view made.0 ≡ plain_grammar comparison (grammar_view grammar) limit) }
     ensures counts { IfOk result (λ made. AreCounts comparison (grammar_view grammar) limit made.1) }
 {
+    let seed = seeded_by(&grammar.items);
     let names = declared_names(alloc, &grammar.items)?;
-    let mut table = Table::new(alloc, names, NodeHashBuilder::new());
+    let mut table = Table::new(alloc, names, seed);
     let mut grammar = grammar;
     let items = mem::replace(&mut grammar.items, Vec::new(alloc));
     let (others, macros) = without_macros(alloc, items)?;

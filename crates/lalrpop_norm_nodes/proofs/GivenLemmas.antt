@@ -32,7 +32,7 @@ whole_stays ws vs (Some g) (more, e) h =
     ap Some (ap (λ (us : List Whole). kind_at us g.number) e ∙ symbol_stays ws more g.number (h g refl).stands)
 
 pub wholes_stay : (ws vs : List Whole) (e : Environment) → Grows ws vs → AreGiven ws e → whole_for vs e ≡ whole_for ws e
-wholes_stay ws vs e grows h = fun_ext (λ n. whole_stays ws vs (given_for e n) grows (λ g f. h n g f))
+wholes_stay ws vs e grows h = fun_ext (λ n. whole_stays ws vs (given_for e.names.now e.given.now n) grows (λ g f. h n g f))
 
 -- ---- texts
 
@@ -112,4 +112,4 @@ pub shown_text : (ws : List Whole) (e : Environment) → AreGiven ws e → (k : 
     kind_text (inside_replaced (filled_kind (shown_for e) k)) ≡ kind_text (filled_kind (whole_for ws e) k)
 shown_text ws e h k =
     inside_text (filled_kind (shown_for e) k)
-    ∙ kind_text_filled (shown_for e) (whole_for ws e) (λ n. given_texts ws (given_for e n) (λ g f. h n g f)) k
+    ∙ kind_text_filled (shown_for e) (whole_for ws e) (λ n. given_texts ws (given_for e.names.now e.given.now n) (λ g f. h n g f)) k
