@@ -11,7 +11,7 @@ use Rattle.lalrpop_norm_tree.specs.SymbolTexts.{part_text, kind_text}
 use Rattle.lalrpop_norm_tree.proofs.SymbolViews.{seen_at}
 use Rattle.lalrpop_norm_model.specs.MadeRules.{kind_of, all_kinds, only_part, argument_kind}
 use Rattle.lalrpop_norm_model.specs.Replaced.{replaced, replaced_kind, all_replaced}
-use Rattle.lalrpop_norm_macro_expand_met.specs.Apart.{nowhere, unplaced, unplaced_kind, all_unplaced}
+use Rattle.lalrpop_norm_nodes.specs.Apart.{nowhere, unplaced, unplaced_kind, all_unplaced}
 use Rattle.lalrpop_norm_nodes.specs.declared.given.Given.{Given}
 use Rattle.lalrpop_norm_nodes.specs.Filled.{inside_replaced}
 use Rattle.lalrpop_norm_nodes.specs.Given.{given_for, IsGiven}

@@ -21,10 +21,10 @@ use Rattle.lalrpop_norm_model.proofs.FaithfulLemmas.{plain_grammars_hold_plain_r
 use Rattle.lalrpop_norm_macro_expand_rules.specs.Names.{is_declared_name}
 use Rattle.lalrpop_norm_macro_expand.specs.Expansion.{meetings, met_before, shared_in, unmade_in, faults_from, expansion_faults}
 use Rattle.lalrpop_norm_macro_expand.specs.Laws.{NamesStayDistinct}
-use Rattle.lalrpop_norm_macro_expand_met.specs.Meeting.{first_with_text, joined_by, after_one, after, clashes, clash_faults}
+use Rattle.lalrpop_norm_nodes.specs.Meeting.{first_with_text, joined_by, after_one, after, clashes, clash_faults}
 use Rattle.lalrpop_norm_faults.proofs.FaultLemmas.{none_first}
 use Rattle.lalrpop_norm_macro_expand.proofs.FreshLemmas.{Tells, after_fresh, first_same, tells_after}
-use Rattle.lalrpop_norm_macro_expand_met.proofs.SamenessLemmas.{none_if, or_false}
+use Rattle.lalrpop_norm_nodes.proofs.SamenessLemmas.{none_if, or_false}
 use Rattle.lalrpop_norm_theory.proofs.MadeLemmas.{distinct_append, distinct_reverse}
 use Rattle.lalrpop_norm_theory.proofs.ListLemmas.{map_reverse, distinct_right, distinct_apart}
 

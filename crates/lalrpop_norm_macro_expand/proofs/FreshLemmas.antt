@@ -12,9 +12,9 @@ use Rattle.lalrpop_norm_model.specs.MadeRules.{span_of}
 use Rattle.lalrpop_norm_model.specs.PlainRules.{same_apart_from_spans}
 use Rattle.lalrpop_norm_macro_expand_rules.specs.Names.{is_declared_name}
 use Rattle.lalrpop_norm_macro_expand.specs.Expansion.{has_other, shared_names}
-use Rattle.lalrpop_norm_macro_expand_met.proofs.SamenessLemmas.{same_closed, closed_same, closed_text_same, is_text, false_where, or_false, none_if}
-use Rattle.lalrpop_norm_macro_expand_met.proofs.IndexLemmas.{first_more, first_at, text_cases}
-use Rattle.lalrpop_norm_macro_expand_met.specs.Meeting.{first_with_text, joined_by, after_one, after, differs, clashes, clash_faults}
+use Rattle.lalrpop_norm_nodes.proofs.SamenessLemmas.{same_closed, closed_same, closed_text_same, is_text, false_where, or_false, none_if}
+use Rattle.lalrpop_norm_nodes.proofs.FirstLemmas.{first_more, first_at, text_cases}
+use Rattle.lalrpop_norm_nodes.specs.Meeting.{first_with_text, joined_by, after_one, after, differs, clashes, clash_faults}
 use Rattle.lalrpop_norm_model.specs.PlainTables.{closed}
 use Rattle.lalrpop_norm_theory.proofs.BoolLemmas.{or_nothing, not_false, or_assoc}
 use Rattle.lalrpop_norm_theory.proofs.SameLemmas.{text_sound}

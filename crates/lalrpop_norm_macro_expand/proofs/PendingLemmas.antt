@@ -24,8 +24,8 @@ use Rattle.lalrpop_norm_model.specs.Reading.{read_all}
 use Rattle.lalrpop_norm_model.specs.MadeRules.{flat_reader, kind_of, names_value, some_name_value, argument_kind, only_part, macro_named, made_rules, instance_of, instance_rule, instance_alternative, group_rule, repeat_rule, location_rule}
 use Rattle.lalrpop_norm_model.specs.PlainRules.{met, all_met, met_in_rule, replaced_rule}
 use Rattle.lalrpop_norm_model.specs.Replaced.{replaced, replaced_kind, all_replaced}
-use Rattle.lalrpop_norm_macro_expand_met.specs.Apart.{nowhere, unplaced_kind, all_unplaced}
-use Rattle.lalrpop_norm_macro_expand_met.specs.Meeting.{inside, were_met}
+use Rattle.lalrpop_norm_nodes.specs.Apart.{nowhere, unplaced_kind, all_unplaced}
+use Rattle.lalrpop_norm_nodes.specs.Meeting.{inside, were_met}
 use Rattle.lalrpop_norm_nodes.specs.Waits.{parts_replaced}
 use Rattle.lalrpop_norm_nodes.proofs.ShallowConditions.{kept_in}
 use Rattle.lalrpop_norm_nodes.proofs.ShallowMeetings.{MeetAlike, alike_none, alike_both}

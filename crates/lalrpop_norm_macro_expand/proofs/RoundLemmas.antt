@@ -18,9 +18,9 @@ use Rattle.lalrpop_norm_model.specs.MadeRules.{made_rules}
 use Rattle.lalrpop_norm_model.specs.Expanded.{rule_names}
 use Rattle.lalrpop_norm_model.specs.PlainRules.{met, met_in_rule, met_by_made, rule_of_item, rules_without_arguments, macros_of, same_apart_from_spans, expansion_round, made_symbols, made_in, IsEnded, plain_item, plain_grammar, replaced_rule}
 use Rattle.lalrpop_norm_conditions.specs.Conditions.{comparison}
-use Rattle.lalrpop_norm_macro_expand_met.specs.Apart.{unplaced}
-use Rattle.lalrpop_norm_macro_expand_met.specs.Meeting.{inside, met_inside, own, first_with_text, after, clash_faults, were_met, has_key}
-use Rattle.lalrpop_norm_macro_expand_met.proofs.InwardLemmas.{met_then}
+use Rattle.lalrpop_norm_nodes.specs.Apart.{unplaced}
+use Rattle.lalrpop_norm_nodes.specs.Meeting.{inside, met_inside, own, first_with_text, after, clash_faults, were_met, has_key}
+use Rattle.lalrpop_norm_nodes.proofs.InwardLemmas.{met_then}
 use Rattle.lalrpop_norm_nodes.specs.declared.node.Nodes.{Nodes}
 use Rattle.lalrpop_norm_nodes.specs.declared.table.Table.{Table}
 use Rattle.lalrpop_norm_nodes.specs.declared.table.Waiting.{Waiting}

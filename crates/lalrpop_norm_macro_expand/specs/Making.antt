@@ -12,7 +12,7 @@ use Rattle.lalrpop_norm_model.specs.Grammars.{is_true}
 use Rattle.lalrpop_norm_model.specs.MadeRules.{flat_reader, argument_kind, only_part, macro_named, type_substituted}
 use Rattle.lalrpop_norm_model.specs.MadeRules.{group_rule, location_rule, repeat_rule, instance_alternative}
 use Rattle.lalrpop_norm_model.specs.Reading.{read_all}
-use Rattle.lalrpop_norm_macro_expand_met.specs.Apart.{nowhere}
+use Rattle.lalrpop_norm_nodes.specs.Apart.{nowhere}
 use Rattle.lalrpop_norm_nodes.specs.declared.table.Waiting.{Waiting}
 use Rattle.lalrpop_norm_nodes.specs.NodeParts.{call_parts, repeated_kind}
 use Rattle.lalrpop_norm_nodes.specs.Wholes.{Whole, kind_at}

@@ -6,6 +6,7 @@ use Rattle.lalrpop_norm_tree.specs.Accessors.{or_else}
 use Rattle.lalrpop_norm_tree.specs.Items.{RuleData}
 use Rattle.lalrpop_norm_model.specs.MadeRules.{macro_named}
 use Rattle.lalrpop_norm_theory.proofs.ListLemmas.{get_some}
+use Rattle.lalrpop_norm_nodes.proofs.RowLemmas.{slice_last}
 
 or_named : (ds : List RuleData) (d : RuleData) (n : List ℕ) →
     macro_named (ds ++ d ∷ []) n ≡ or_else (macro_named ds n) (cond (bytes_eq d.name.0 n) (Some d) None)
@@ -22,15 +23,11 @@ get_left [] x i h = absurd (omega arith)
 get_left (y ∷ xs) x zero h = refl
 get_left (y ∷ xs) x (suc i) h = get_left xs x i (omega arith)
 
-get_last : {A : Type 0} (xs : List A) (x : A) → slice_get (xs ++ x ∷ []) (length xs) ≡ Some x
-get_last [] x = refl
-get_last (y ∷ xs) x = get_last xs x
-
 -- where a place leads in the longer list
 led_to : (place : Option ℕ) (ds : List RuleData) (d : RuleData) (b : Bool) (found : Option RuleData) →
     option_and_then (λ i. slice_get ds i) place ≡ found → ((i : ℕ) → place ≡ Some i → i < length ds) →
     option_and_then (λ i. slice_get (ds ++ d ∷ []) i) (or_else place (cond b (Some (length ds)) None)) ≡ or_else found (cond b (Some d) None)
-led_to None ds d true found e h = get_last ds d ∙ ap (λ o. or_else o (Some d)) e
+led_to None ds d true found e h = slice_last ds d ∙ ap (λ o. or_else o (Some d)) e
 led_to None ds d false found e h = ap (λ o. or_else o None) e
 led_to (Some i) ds d b found e h =
     let (y, there) = get_some ds i (h i refl) in

@@ -6,7 +6,7 @@ ghost use Rattle.std.specs.Cmp.Lexicographic.{slice_cmp};
 ghost use Rattle.lalrpop_norm_tree.specs.Items.{item_view};
 ghost use Rattle.lalrpop_norm_macro_expand_rules.specs.Names.{is_declared_name};
 ghost use Rattle.lalrpop_norm_macro_expand_rules.specs.Names.{item_names, with_names};
-ghost use Rattle.lalrpop_norm_macro_expand_met.specs.Meeting.{has_key};
+ghost use Rattle.lalrpop_norm_nodes.specs.Meeting.{has_key};
 
 use lalrpop_norm_tree::grammar::parse_tree::{Atom, GrammarItem, NoMemory};
 use std::alloc::Global;

@@ -7,15 +7,15 @@ use Rattle.std.proofs.lemmas.List.{map-append}
 use Rattle.std.specs.Result.{IsErrAnd}
 use Rattle.lalrpop_norm_faults.specs.declared.failure.NormFailure.{NormFailure}
 use Rattle.lalrpop_norm_faults.specs.Faults.{Fault, fault_if, IsFirst, Refuses}
-use Rattle.lalrpop_norm_macro_expand_met.proofs.MeetingLemmas.{err_refuses}
+use Rattle.lalrpop_norm_nodes.proofs.MeetingLemmas.{err_refuses}
 use Rattle.lalrpop_norm_faults.specs.declared.kind.FaultKind.TheVariants.{SharedName}
 use Rattle.lalrpop_norm_tree_names.specs.declared.names.Span.{Span}
 use Rattle.lalrpop_norm_tree.specs.Symbols.{Kind, Part, at, symbol_view}
 use Rattle.lalrpop_norm_model.specs.PlainRules.{same_apart_from_spans}
-use Rattle.lalrpop_norm_macro_expand_met.specs.Apart.{nowhere, unplaced_kind, unplaced}
-use Rattle.lalrpop_norm_macro_expand_met.specs.Meeting.{first_with_text, joined_by, after, differs, were_met}
-use Rattle.lalrpop_norm_macro_expand_met.proofs.ApartLemmas.{unplaced_same}
-use Rattle.lalrpop_norm_macro_expand_met.proofs.InwardLemmas.{quiet, same_met}
+use Rattle.lalrpop_norm_nodes.specs.Apart.{nowhere, unplaced_kind, unplaced}
+use Rattle.lalrpop_norm_nodes.specs.Meeting.{first_with_text, joined_by, after, differs, were_met}
+use Rattle.lalrpop_norm_nodes.proofs.ApartLemmas.{unplaced_same}
+use Rattle.lalrpop_norm_nodes.proofs.InwardLemmas.{quiet, same_met}
 use Rattle.lalrpop_norm_nodes.specs.declared.node.Node.{Node}
 use Rattle.lalrpop_norm_nodes.specs.Wholes.{Whole, one_symbol, as_kind, part_at, built, Fits, StandsFor, IsNew, Grows, wholes}
 use Rattle.lalrpop_norm_nodes.specs.declared.node.Nodes.{Nodes}

@@ -4,7 +4,7 @@ use Rattle.std.proofs.Math.Seq.{drop-append_seam}
 use Rattle.std.proofs.lemmas.List.{map-append}
 use Rattle.lalrpop_norm_tree.specs.Symbols.{Part}
 use Rattle.lalrpop_norm_tree.specs.SymbolTexts.{part_text}
-use Rattle.lalrpop_norm_macro_expand_met.specs.Meeting.{first_with_text, joined_by, after}
+use Rattle.lalrpop_norm_nodes.specs.Meeting.{first_with_text, joined_by, after}
 use Rattle.lalrpop_norm_nodes.specs.Waits.{first_met}
 
 abbrev pub has_text : List ℕ → List (List ℕ) → Bool

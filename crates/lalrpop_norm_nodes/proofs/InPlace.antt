@@ -8,9 +8,9 @@ use Rattle.lalrpop_norm_tree.specs.Symbols.{Part}
 use Rattle.lalrpop_norm_faults.specs.declared.failure.NormFailure.{NormFailure}
 use Rattle.lalrpop_norm_faults.specs.Faults.{IsFirst, Refuses}
 use Rattle.lalrpop_norm_nodes.specs.declared.table.Table.{Table}
-use Rattle.lalrpop_norm_macro_expand_met.specs.Meeting.{after, clash_faults}
+use Rattle.lalrpop_norm_nodes.specs.Meeting.{after, clash_faults}
 use Rattle.lalrpop_norm_faults.proofs.FaultLemmas.{exit_at}
-use Rattle.lalrpop_norm_macro_expand_met.proofs.MeetingLemmas.{refuses_same, clash_both}
+use Rattle.lalrpop_norm_nodes.proofs.MeetingLemmas.{refuses_same, clash_both}
 use Rattle.lalrpop_norm_nodes.specs.Tables.{is_declared_in, seen_in, TableMeets, refused_in}
 use Rattle.lalrpop_norm_nodes.proofs.MeetLemmas.{meets_both, refused_later}
 

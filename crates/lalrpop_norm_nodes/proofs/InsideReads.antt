@@ -10,7 +10,7 @@ use Rattle.lalrpop_norm_tree.specs.declared.symbol.SymbolKind.TheOpen.{SymbolKin
 use Rattle.lalrpop_norm_tree.specs.declared.symbol.SymbolKind.TheVariants as kind
 use Rattle.lalrpop_norm_tree.specs.declared.symbol.SymbolKind.TheViews.{rolls-Tuple, out-ExprSymbol, out-MacroSymbol}
 use Rattle.lalrpop_norm_tree.specs.Symbols.{Kind, Part, Parts, Call, Again, ArgumentPattern, ArgumentPatterns, argument_pattern_step, tuple_step, argument_pattern_view, argument_patterns_of, tuple_view, part_and, parts_of, at, group, call, tupled, kind_step, expr_step, macro_step, repeat_step, symbol_step, kind_view, symbol_view, macro_view, expr_view, parts_view}
-use Rattle.lalrpop_norm_macro_expand_met.specs.Apart.{nowhere, unplaced, unplaced_kind, all_unplaced}
+use Rattle.lalrpop_norm_nodes.specs.Apart.{nowhere, unplaced, unplaced_kind, all_unplaced}
 use Rattle.lalrpop_norm_nodes.specs.declared.given.Environment.{Environment}
 use Rattle.lalrpop_norm_nodes.specs.declared.node.Node.TheVariants as node
 use Rattle.lalrpop_norm_nodes.specs.declared.node.Unary.TheVariants as unary

@@ -13,12 +13,12 @@ use Rattle.lalrpop_norm_theory.specs.Same.{same_symbol}
 use Rattle.lalrpop_norm_model.specs.MadeRules.{span_of}
 use Rattle.lalrpop_norm_model.specs.PlainRules.{met}
 use Rattle.lalrpop_norm_model.specs.PlainTables.{closed}
-use Rattle.lalrpop_norm_macro_expand_met.specs.Apart.{nowhere, unplaced_kind, unplaced}
-use Rattle.lalrpop_norm_macro_expand_met.specs.Meeting.{met_inside, own, first_with_text, joined_by, after_one, after, differs, clashes, clash_faults, were_met, has_key}
-use Rattle.lalrpop_norm_macro_expand_met.proofs.ApartLemmas.{part_closed}
-use Rattle.lalrpop_norm_macro_expand_met.proofs.SamenessLemmas.{closed_text_same}
-use Rattle.lalrpop_norm_macro_expand_met.proofs.MeetingLemmas.{after_both, clash_both}
-use Rattle.lalrpop_norm_macro_expand_met.proofs.InwardLemmas.{quiet, were_both, same_met}
+use Rattle.lalrpop_norm_nodes.specs.Apart.{nowhere, unplaced_kind, unplaced}
+use Rattle.lalrpop_norm_nodes.specs.Meeting.{met_inside, own, first_with_text, joined_by, after_one, after, differs, clashes, clash_faults, were_met, has_key}
+use Rattle.lalrpop_norm_nodes.proofs.ApartLemmas.{part_closed}
+use Rattle.lalrpop_norm_nodes.proofs.SamenessLemmas.{closed_text_same}
+use Rattle.lalrpop_norm_nodes.proofs.MeetingLemmas.{after_both, clash_both}
+use Rattle.lalrpop_norm_nodes.proofs.InwardLemmas.{quiet, were_both, same_met}
 use Rattle.lalrpop_norm_nodes.specs.declared.table.Table.{Table}
 use Rattle.lalrpop_norm_nodes.specs.Wholes.{Whole, one_symbol, StandsFor, Grows}
 use Rattle.lalrpop_norm_nodes.specs.Tables.{wholes_in, is_declared_in, seen_in, IsNodeTable, TableMeets, refused_in}

@@ -14,9 +14,9 @@ use Rattle.lalrpop_norm_theory.specs.Symbols.{ClosedSymbol}
 use Rattle.lalrpop_norm_theory.specs.Same.{same_symbol}
 use Rattle.lalrpop_norm_model.specs.PlainRules.{met}
 use Rattle.lalrpop_norm_model.specs.PlainTables.{closed}
-use Rattle.lalrpop_norm_macro_expand_met.specs.Apart.{nowhere, unplaced, unplaced_kind, all_unplaced}
-use Rattle.lalrpop_norm_macro_expand_met.specs.Meeting.{met_inside, own, own_text, first_with_text, joined_by, after, differs, clashes, clash_faults}
-use Rattle.lalrpop_norm_macro_expand_met.proofs.ApartLemmas.{part_closed}
+use Rattle.lalrpop_norm_nodes.specs.Apart.{nowhere, unplaced, unplaced_kind, all_unplaced}
+use Rattle.lalrpop_norm_nodes.specs.Meeting.{met_inside, own, own_text, first_with_text, joined_by, after, differs, clashes, clash_faults}
+use Rattle.lalrpop_norm_nodes.proofs.ApartLemmas.{part_closed}
 use Rattle.lalrpop_norm_model.specs.MadeRules.{or_name}
 use Rattle.lalrpop_norm_nodes.specs.declared.given.Given.{Given}
 use Rattle.lalrpop_norm_nodes.specs.declared.given.Environment.{Environment}

@@ -4,8 +4,8 @@ use Rattle.std.proofs.lemmas.Option.{slice_get_within, slice_get-get_or}
 use Rattle.std.proofs.lemmas.List.{length-append}
 use Rattle.lalrpop_norm_tree.specs.declared.symbol.RepeatOp.TheVariants.{Star, Plus, Question}
 use Rattle.lalrpop_norm_tree.specs.Symbols.{ArgumentPattern, ArgumentPatterns, one_name, several, argument_patterns_of, Kind, Part, Parts, parts_of, group, ambiguous_id, terminal, nonterminal, call, repeated, chosen, named, tupled, lookahead, lookbehind, error_terminal, at}
-use Rattle.lalrpop_norm_macro_expand_met.specs.Apart.{nowhere}
-use Rattle.lalrpop_norm_macro_expand_met.proofs.SameLemmas.{parts_apart, patterns_apart}
+use Rattle.lalrpop_norm_nodes.specs.Apart.{nowhere}
+use Rattle.lalrpop_norm_nodes.proofs.ListedLemmas.{parts_apart, patterns_apart}
 use Rattle.lalrpop_norm_nodes.specs.declared.node.Node.{Node}
 use Rattle.lalrpop_norm_nodes.specs.declared.node.Node.TheVariants as node
 use Rattle.lalrpop_norm_nodes.specs.declared.node.Leaf.TheVariants as leaf

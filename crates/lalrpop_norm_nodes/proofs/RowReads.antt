@@ -7,7 +7,7 @@ use Rattle.lalrpop_norm_model.specs.PlainRules.{met, all_met}
 use Rattle.lalrpop_norm_model.specs.Replaced.{replaced, all_replaced}
 use Rattle.lalrpop_norm_faults.specs.declared.failure.NormFailure.{NormFailure}
 use Rattle.lalrpop_norm_faults.specs.Faults.{Fault, IsFirst}
-use Rattle.lalrpop_norm_macro_expand_met.specs.Apart.{nowhere, unplaced}
+use Rattle.lalrpop_norm_nodes.specs.Apart.{nowhere, unplaced}
 use Rattle.lalrpop_norm_nodes.specs.declared.node.Node.TheVariants as node
 use Rattle.lalrpop_norm_nodes.specs.declared.node.Binary.TheVariants as binary
 use Rattle.lalrpop_norm_nodes.specs.declared.table.Table.{Table}

@@ -15,12 +15,12 @@ use Rattle.lalrpop_norm_model.specs.MadeRules.{span_of, or_name, substituted, ki
 use Rattle.lalrpop_norm_model.specs.PlainRules.{met, all_met}
 use Rattle.lalrpop_norm_model.specs.PlainTables.{closed}
 use Rattle.lalrpop_norm_model.specs.Replaced.{replaced_kind}
-use Rattle.lalrpop_norm_macro_expand_met.specs.Apart.{nowhere, unplaced_kind, unplaced, all_unplaced}
-use Rattle.lalrpop_norm_macro_expand_met.specs.Meeting.{first_with_text, joined_by, after, differs, clash_faults, was_met, were_met}
-use Rattle.lalrpop_norm_macro_expand_met.proofs.ApartLemmas.{part_closed}
-use Rattle.lalrpop_norm_macro_expand_met.proofs.InwardLemmas.{quiet, same_met, stays_after}
-use Rattle.lalrpop_norm_macro_expand_met.proofs.MeetingLemmas.{after_both, clash_both}
-use Rattle.lalrpop_norm_macro_expand_met.proofs.SamenessLemmas.{closed_text_same}
+use Rattle.lalrpop_norm_nodes.specs.Apart.{nowhere, unplaced_kind, unplaced, all_unplaced}
+use Rattle.lalrpop_norm_nodes.specs.Meeting.{first_with_text, joined_by, after, differs, clash_faults, was_met, were_met}
+use Rattle.lalrpop_norm_nodes.proofs.ApartLemmas.{part_closed}
+use Rattle.lalrpop_norm_nodes.proofs.InwardLemmas.{quiet, same_met, stays_after}
+use Rattle.lalrpop_norm_nodes.proofs.MeetingLemmas.{after_both, clash_both}
+use Rattle.lalrpop_norm_nodes.proofs.SamenessLemmas.{closed_text_same}
 use Rattle.lalrpop_norm_nodes.specs.Waits.{parts_replaced}
 use Rattle.lalrpop_norm_nodes.proofs.FirstMet.{has_text, fresh_after, fresh_both}
 use Rattle.lalrpop_norm_nodes.proofs.GivenLemmas.{inside_text}

@@ -10,9 +10,9 @@ use Rattle.lalrpop_norm_model.specs.Grammars.{ConditionValue}
 use Rattle.lalrpop_norm_model.specs.MadeRules.{all_substituted, group_rule, only_part, repeat_rule, location_rule, argument_kind, instance_alternative, instance_rule}
 use Rattle.lalrpop_norm_model.specs.PlainRules.{met, all_met, met_in_rule, replaced_alternative, replaced_rule}
 use Rattle.lalrpop_norm_model.specs.Replaced.{replaced_kind, all_replaced}
-use Rattle.lalrpop_norm_macro_expand_met.specs.Apart.{unplaced_kind}
-use Rattle.lalrpop_norm_macro_expand_met.specs.Meeting.{were_met}
-use Rattle.lalrpop_norm_macro_expand_met.proofs.SamenessLemmas.{is_text}
+use Rattle.lalrpop_norm_nodes.specs.Apart.{unplaced_kind}
+use Rattle.lalrpop_norm_nodes.specs.Meeting.{were_met}
+use Rattle.lalrpop_norm_nodes.proofs.SamenessLemmas.{is_text}
 use Rattle.lalrpop_norm_nodes.specs.Filled.{all_filled}
 use Rattle.lalrpop_norm_nodes.specs.Waits.{parts_replaced}
 use Rattle.lalrpop_norm_nodes.proofs.MeetLemmas.{were_left, were_right}

@@ -13,10 +13,10 @@ use Rattle.lalrpop_norm_theory.proofs.RoundsLemmas.{in_cases}
 use Rattle.lalrpop_norm_theory.proofs.ListLemmas.{some_inner}
 use Rattle.lalrpop_norm_theory.proofs.BoolLemmas.{right_false, not_false, false_of_not}
 use Rattle.lalrpop_norm_model.specs.PlainRules.{met, all_met, met_in_rule, same_apart_from_spans}
-use Rattle.lalrpop_norm_macro_expand_met.specs.Apart.{nowhere, unplaced_kind, unplaced}
-use Rattle.lalrpop_norm_macro_expand_met.specs.Meeting.{first_with_text, joined_by, after_one, after, differs, clash_faults, was_met, were_met}
-use Rattle.lalrpop_norm_macro_expand_met.proofs.ApartLemmas.{unplaced_same}
-use Rattle.lalrpop_norm_macro_expand_met.proofs.IndexLemmas.{first_more, first_at}
+use Rattle.lalrpop_norm_nodes.specs.Apart.{nowhere, unplaced_kind, unplaced}
+use Rattle.lalrpop_norm_nodes.specs.Meeting.{first_with_text, joined_by, after_one, after, differs, clash_faults, was_met, were_met}
+use Rattle.lalrpop_norm_nodes.proofs.ApartLemmas.{unplaced_same}
+use Rattle.lalrpop_norm_nodes.proofs.FirstLemmas.{first_more, first_at}
 use Rattle.lalrpop_norm_nodes.specs.Waits.{parts_replaced, first_met}
 use Rattle.lalrpop_norm_nodes.proofs.FirstMet.{has_text, fresh_after, text_is_seen, first_fresh}
 use Rattle.lalrpop_norm_nodes.proofs.MeetLemmas.{text_unplaced, first_bare, after_same, clash_same, were_left, were_right}

@@ -13,7 +13,7 @@ use Rattle.lalrpop_norm_model.specs.Reading.{read_all}
 use Rattle.lalrpop_norm_model.specs.MadeRules.{inline_at, coded, type_of_kind, bare_or_tuple, group_sources, bare_or_tuple_code, group_rule, only_part, with_name, vector_path, option_path, repeat_rule, argument_kind, or_name, type_substituted, flat_reader, instance_alternative, instance_alternatives, instance_rule}
 use Rattle.lalrpop_norm_model.specs.PlainRules.{replaced_rule}
 use Rattle.lalrpop_norm_model.specs.Replaced.{replaced_kind, all_replaced}
-use Rattle.lalrpop_norm_macro_expand_met.specs.Apart.{unplaced_kind, all_unplaced}
+use Rattle.lalrpop_norm_nodes.specs.Apart.{unplaced_kind, all_unplaced}
 use Rattle.lalrpop_norm_nodes.proofs.GivenLemmas.{inside_text}
 use Rattle.lalrpop_norm_nodes.proofs.ReplacedSources.{types_of_replaced, code_of_replaced}
 use Rattle.lalrpop_norm_nodes.proofs.ShallowConditions.{kept_in, kept_replaced}

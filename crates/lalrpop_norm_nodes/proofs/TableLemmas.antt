@@ -9,11 +9,11 @@ use Rattle.lalrpop_norm_tree.specs.Symbols.{Kind, Part, group, ambiguous_id, ter
 use Rattle.lalrpop_norm_tree.specs.SymbolTexts.{part_text}
 use Rattle.lalrpop_norm_model.specs.PlainRules.{same_apart_from_spans}
 use Rattle.lalrpop_norm_theory.proofs.BoolLemmas.{both_false}
-use Rattle.lalrpop_norm_macro_expand_met.specs.Apart.{nowhere, unplaced}
-use Rattle.lalrpop_norm_macro_expand_met.specs.Meeting.{own, first_with_text, was_met, were_met, has_key}
-use Rattle.lalrpop_norm_macro_expand_met.proofs.SamenessLemmas.{closed_same}
-use Rattle.lalrpop_norm_macro_expand_met.proofs.InwardLemmas.{met_by, all_stay, were_both}
-use Rattle.lalrpop_norm_macro_expand_met.proofs.IndexLemmas.{first_at}
+use Rattle.lalrpop_norm_nodes.specs.Apart.{nowhere, unplaced}
+use Rattle.lalrpop_norm_nodes.specs.Meeting.{own, first_with_text, was_met, were_met, has_key}
+use Rattle.lalrpop_norm_nodes.proofs.SamenessLemmas.{closed_same}
+use Rattle.lalrpop_norm_nodes.proofs.InwardLemmas.{met_by, all_stay, were_both}
+use Rattle.lalrpop_norm_nodes.proofs.FirstLemmas.{first_at}
 use Rattle.lalrpop_norm_nodes.specs.declared.node.Node.{Node}
 use Rattle.lalrpop_norm_nodes.specs.Wholes.{Whole, one_symbol, symbols, one_pattern, patterns, built, Fits, StandsFor, texts_of, AreNodes, Grows}
 use Rattle.lalrpop_norm_nodes.specs.declared.table.Table.{Table}

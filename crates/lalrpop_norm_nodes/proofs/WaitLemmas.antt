@@ -4,9 +4,9 @@ use Rattle.std.proofs.Math.Seq.{drop-append_seam, drop-length}
 use Rattle.std.proofs.lemmas.List.{map-append, length-map, drop_at, append_cancel_left}
 use Rattle.lalrpop_norm_tree.specs.Symbols.{Part, symbol_view}
 use Rattle.lalrpop_norm_tree.specs.SymbolTexts.{part_text}
-use Rattle.lalrpop_norm_macro_expand_met.specs.Apart.{unplaced}
-use Rattle.lalrpop_norm_macro_expand_met.specs.Meeting.{first_with_text, joined_by, after}
-use Rattle.lalrpop_norm_macro_expand_met.proofs.MeetingLemmas.{after_both}
+use Rattle.lalrpop_norm_nodes.specs.Apart.{unplaced}
+use Rattle.lalrpop_norm_nodes.specs.Meeting.{first_with_text, joined_by, after}
+use Rattle.lalrpop_norm_nodes.proofs.MeetingLemmas.{after_both}
 use Rattle.lalrpop_norm_nodes.specs.declared.table.Table.{Table}
 use Rattle.lalrpop_norm_nodes.specs.declared.table.Waiting.{Waiting}
 use Rattle.lalrpop_norm_nodes.specs.Tables.{wholes_in, seen_in, waiting_in, numbered_in, IsNodeTable, TableMeets}

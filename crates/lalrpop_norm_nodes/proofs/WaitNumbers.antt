@@ -4,8 +4,8 @@ use Rattle.std.specs.List.{flat_map}
 use Rattle.std.proofs.lemmas.List.{map-append}
 use Rattle.lalrpop_norm_tree.specs.Symbols.{Kind, Part, at, group, ambiguous_id, terminal, nonterminal, call, repeated, chosen, named, tupled, lookahead, lookbehind, error_terminal, symbol_view}
 use Rattle.lalrpop_norm_tree.specs.SymbolTexts.{part_text}
-use Rattle.lalrpop_norm_macro_expand_met.specs.Apart.{nowhere, unplaced, unplaced_kind}
-use Rattle.lalrpop_norm_macro_expand_met.specs.Meeting.{own}
+use Rattle.lalrpop_norm_nodes.specs.Apart.{nowhere, unplaced, unplaced_kind}
+use Rattle.lalrpop_norm_nodes.specs.Meeting.{own}
 use Rattle.lalrpop_norm_nodes.specs.declared.table.Table.{Table}
 use Rattle.lalrpop_norm_nodes.specs.declared.table.Waiting.{Waiting}
 use Rattle.lalrpop_norm_nodes.specs.Wholes.{Whole, one_symbol, symbols, one_pattern, patterns, part_at, IsKind, StandsFor, Grows}

@@ -10,8 +10,8 @@ use Rattle.lalrpop_norm_tree.specs.SymbolTexts.{part_text, kind_text}
 use Rattle.lalrpop_norm_model.specs.MadeRules.{or_name}
 use Rattle.lalrpop_norm_model.specs.PlainRules.{met, all_met}
 use Rattle.lalrpop_norm_model.specs.Replaced.{replaced}
-use Rattle.lalrpop_norm_macro_expand_met.specs.Meeting.{met_inside, own, own_text, met_itself}
-use Rattle.lalrpop_norm_macro_expand_met.specs.Apart.{nowhere}
+use Rattle.lalrpop_norm_nodes.specs.Meeting.{met_inside, own, own_text, met_itself}
+use Rattle.lalrpop_norm_nodes.specs.Apart.{nowhere}
 use Rattle.lalrpop_norm_nodes.specs.declared.given.Given.{Given}
 use Rattle.lalrpop_norm_nodes.specs.declared.given.Environment.{Environment}
 use Rattle.lalrpop_norm_nodes.specs.declared.table.Table.{Table}

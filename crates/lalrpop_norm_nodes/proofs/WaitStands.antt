@@ -7,8 +7,8 @@ use Rattle.lalrpop_norm_tree.proofs.SymbolViews.{seen_at}
 use Rattle.lalrpop_norm_theory.specs.Rounds.{In}
 use Rattle.lalrpop_norm_model.specs.MadeRules.{kind_of}
 use Rattle.lalrpop_norm_model.specs.Replaced.{replaced, replaced_kind, all_replaced}
-use Rattle.lalrpop_norm_macro_expand_met.specs.Apart.{nowhere, unplaced_kind, unplaced, all_unplaced}
-use Rattle.lalrpop_norm_macro_expand_met.specs.Meeting.{first_with_text, was_met, were_met}
+use Rattle.lalrpop_norm_nodes.specs.Apart.{nowhere, unplaced_kind, unplaced, all_unplaced}
+use Rattle.lalrpop_norm_nodes.specs.Meeting.{first_with_text, was_met, were_met}
 use Rattle.lalrpop_norm_nodes.specs.declared.table.Table.{Table}
 use Rattle.lalrpop_norm_nodes.specs.declared.table.Waiting.{Waiting}
 use Rattle.lalrpop_norm_nodes.specs.Filled.{inside_replaced}

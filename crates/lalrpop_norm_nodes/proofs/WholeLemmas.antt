@@ -8,9 +8,9 @@ use Rattle.lalrpop_norm_tree.specs.declared.symbol.RepeatOp.TheVariants.{Star, P
 use Rattle.lalrpop_norm_tree.specs.Symbols.{Kind, Part, Parts, argument_patterns_of, part_and, parts_of, group, ambiguous_id, terminal, nonterminal, call, repeated, chosen, named, tupled, lookahead, lookbehind, error_terminal, at}
 use Rattle.lalrpop_norm_tree.specs.SymbolTexts.{kind_text}
 use Rattle.lalrpop_norm_model.specs.PlainRules.{met, all_met}
-use Rattle.lalrpop_norm_macro_expand_met.specs.Apart.{nowhere, unplaced, all_unplaced}
-use Rattle.lalrpop_norm_macro_expand_met.specs.Meeting.{own, own_text, first_with_text, were_met}
-use Rattle.lalrpop_norm_macro_expand_met.proofs.InwardLemmas.{were_both}
+use Rattle.lalrpop_norm_nodes.specs.Apart.{nowhere, unplaced, all_unplaced}
+use Rattle.lalrpop_norm_nodes.specs.Meeting.{own, own_text, first_with_text, were_met}
+use Rattle.lalrpop_norm_nodes.proofs.InwardLemmas.{were_both}
 use Rattle.lalrpop_norm_nodes.specs.declared.node.Node.{Node}
 use Rattle.lalrpop_norm_nodes.specs.declared.node.Node.TheVariants as node
 use Rattle.lalrpop_norm_nodes.specs.declared.node.Leaf.TheVariants as leaf

@@ -3,8 +3,8 @@ use Rattle.std.specs.Prelude.{◌≡◌, ℕ, List, [], ◌++◌, map}
 use Rattle.lalrpop_norm_tree_names.specs.declared.names.Span.{Span}
 use Rattle.lalrpop_norm_tree.specs.Symbols.{Kind, Part, at}
 use Rattle.lalrpop_norm_model.specs.PlainRules.{met}
-use Rattle.lalrpop_norm_macro_expand_met.specs.Apart.{unplaced, unplaced_kind}
-use Rattle.lalrpop_norm_macro_expand_met.specs.Meeting.{met_inside}
+use Rattle.lalrpop_norm_nodes.specs.Apart.{unplaced, unplaced_kind}
+use Rattle.lalrpop_norm_nodes.specs.Meeting.{met_inside}
 use Rattle.lalrpop_norm_nodes.specs.declared.table.Table.{Table}
 use Rattle.lalrpop_norm_tree.specs.SymbolTexts.{kind_text}
 use Rattle.lalrpop_norm_nodes.specs.declared.given.Environment.{Environment}

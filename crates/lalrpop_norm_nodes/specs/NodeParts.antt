@@ -11,7 +11,7 @@ use Rattle.lalrpop_norm_nodes.specs.declared.table.Waiting.{Waiting}
 use Rattle.lalrpop_norm_nodes.specs.Filled.{inside_replaced}
 use Rattle.lalrpop_norm_nodes.specs.Tables.{IsNumbered}
 use Rattle.lalrpop_norm_nodes.specs.Wholes.{Whole, kind_at, part_at, symbols_at, IsKind, AreSymbols}
-use Rattle.lalrpop_norm_macro_expand_met.specs.Apart.{unplaced_kind}
+use Rattle.lalrpop_norm_nodes.specs.Apart.{unplaced_kind}
 use Rattle.lalrpop_norm_tree.specs.Symbols.{kind_view}
 
 -- a macro call, and its arguments

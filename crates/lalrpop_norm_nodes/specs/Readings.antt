@@ -9,7 +9,7 @@ use Rattle.lalrpop_norm_tree.specs.declared.symbol.Name.{Name}
 use Rattle.lalrpop_norm_tree.specs.Symbols.{one_name, Kind, Part, group, ambiguous_id, terminal, nonterminal, call, repeated, chosen, named}
 use Rattle.lalrpop_norm_tree.specs.Symbols.{tupled, lookahead, lookbehind, error_terminal, at}
 use Rattle.lalrpop_norm_tree.specs.SymbolTexts.{kind_text}
-use Rattle.lalrpop_norm_macro_expand_met.specs.Apart.{unplaced, unplaced_kind}
+use Rattle.lalrpop_norm_nodes.specs.Apart.{unplaced, unplaced_kind}
 use Rattle.lalrpop_norm_nodes.specs.declared.node.Node.{Node}
 use Rattle.lalrpop_norm_nodes.specs.declared.given.Environment.{Environment}
 use Rattle.lalrpop_norm_nodes.specs.Wholes.{Whole, one_symbol, one_pattern, Fits, built}

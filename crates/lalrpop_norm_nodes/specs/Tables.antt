@@ -7,8 +7,8 @@ use Rattle.lalrpop_norm_tree.specs.Symbols.{Part, at, parts_of, symbol_view}
 use Rattle.lalrpop_norm_tree.specs.SymbolTexts.{part_text}
 use Rattle.lalrpop_norm_faults.specs.Faults.{Fault}
 use Rattle.lalrpop_norm_model.specs.PlainRules.{met, all_met}
-use Rattle.lalrpop_norm_macro_expand_met.specs.Apart.{nowhere, unplaced_kind, unplaced}
-use Rattle.lalrpop_norm_macro_expand_met.specs.Meeting.{met_inside, own, own_text, first_with_text, after, clash_faults, were_met, has_key}
+use Rattle.lalrpop_norm_nodes.specs.Apart.{nowhere, unplaced_kind, unplaced}
+use Rattle.lalrpop_norm_nodes.specs.Meeting.{met_inside, own, own_text, first_with_text, after, clash_faults, were_met, has_key}
 use Rattle.lalrpop_norm_nodes.specs.declared.table.Table.{Table}
 use Rattle.lalrpop_norm_nodes.specs.declared.table.Waiting.{Waiting}
 use Rattle.lalrpop_norm_nodes.specs.Wholes.{Whole, one_symbol, symbols, one_pattern, patterns, part_at, wholes, texts_of, AreNodes, StandsFor, Grows}

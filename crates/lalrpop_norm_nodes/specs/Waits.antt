@@ -3,7 +3,7 @@ use Rattle.std.specs.Prelude.{◌≡◌, List, ◌++◌, map, length, drop}
 use Rattle.lalrpop_norm_tree.specs.Symbols.{Part, at}
 use Rattle.lalrpop_norm_tree.specs.SymbolTexts.{part_text}
 use Rattle.lalrpop_norm_model.specs.PlainRules.{met}
-use Rattle.lalrpop_norm_macro_expand_met.specs.Meeting.{after}
+use Rattle.lalrpop_norm_nodes.specs.Meeting.{after}
 use Rattle.lalrpop_norm_nodes.specs.declared.given.Environment.{Environment}
 use Rattle.lalrpop_norm_nodes.specs.declared.table.Table.{Table}
 use Rattle.lalrpop_norm_nodes.specs.Filled.{filled, inside_replaced}

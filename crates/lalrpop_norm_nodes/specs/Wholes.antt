@@ -4,7 +4,7 @@ use Rattle.lalrpop_norm_tree.specs.declared.symbol.RepeatOp.TheVariants.{Star, P
 use Rattle.lalrpop_norm_tree.specs.Symbols.{ArgumentPattern, one_name, several, argument_patterns_of, Kind, Part, parts_of, group}
 use Rattle.lalrpop_norm_tree.specs.Symbols.{terminal, nonterminal, call, repeated, chosen, named, tupled, lookahead}
 use Rattle.lalrpop_norm_tree.specs.Symbols.{lookbehind, error_terminal, at}
-use Rattle.lalrpop_norm_macro_expand_met.specs.Apart.{nowhere}
+use Rattle.lalrpop_norm_nodes.specs.Apart.{nowhere}
 use Rattle.lalrpop_norm_nodes.specs.declared.node.Node.{Node}
 use Rattle.lalrpop_norm_nodes.specs.declared.node.Node.TheVariants as node
 use Rattle.lalrpop_norm_nodes.specs.declared.node.Leaf.TheVariants as leaf

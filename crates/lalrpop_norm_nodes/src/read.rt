@@ -4,8 +4,8 @@ ghost use Rattle.lalrpop_norm_tree.specs.Symbols.{at, group, call, nonterminal, 
 ghost use Rattle.lalrpop_norm_faults.specs.Faults.{Refuses};
 ghost use Rattle.lalrpop_norm_model.specs.PlainRules.{met, all_met};
 ghost use Rattle.lalrpop_norm_model.specs.Replaced.{all_replaced};
-ghost use Rattle.lalrpop_norm_macro_expand_met.specs.Apart.{nowhere, unplaced_kind};
-ghost use Rattle.lalrpop_norm_macro_expand_met.specs.Meeting.{met_inside, met_itself, own_text};
+ghost use Rattle.lalrpop_norm_nodes.specs.Apart.{nowhere, unplaced_kind};
+ghost use Rattle.lalrpop_norm_nodes.specs.Meeting.{met_inside, met_itself, own_text};
 ghost use Rattle.lalrpop_norm_nodes.specs.Filled.{all_filled, filled_kind};
 ghost use Rattle.lalrpop_norm_nodes.specs.Given.{given_to, whole_for, shown_for, AreGiven, read_whole, kind_whole, read_shown, kind_shown};
 ghost use Rattle.lalrpop_norm_nodes.specs.Readings.{IsNodeFor, repeat_node, named_node, topped, bare_wholes};

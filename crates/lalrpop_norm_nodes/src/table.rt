@@ -4,7 +4,7 @@ ghost use Rattle.lalrpop_norm_tree.specs.Symbols.{at, nonterminal, symbol_view};
 ghost use Rattle.lalrpop_norm_tree.specs.SymbolTexts.{part_text};
 ghost use Rattle.lalrpop_norm_faults.specs.Faults.{Refuses, IsFirst, fault_if};
 ghost use Rattle.lalrpop_norm_faults.specs.declared.kind.FaultKind.TheVariants.{SharedName};
-ghost use Rattle.lalrpop_norm_macro_expand_met.specs.Meeting.{first_with_text};
+ghost use Rattle.lalrpop_norm_nodes.specs.Meeting.{first_with_text};
 ghost use Rattle.lalrpop_norm_nodes.specs.Wholes.{Fits, built, part_at, StandsFor, IsNew, Grows, nodes_of};
 ghost use Rattle.lalrpop_norm_nodes.specs.Tables.{wholes_in, seen_in, own_at, own_in, own_text_in, is_declared_in, IsNodeTable, IsCounted, TableMeets, refused_in, waiting_in, numbered_in, AreNumbered};
 ghost use Rattle.lalrpop_norm_nodes.specs.Waits.{LeavesWaiting};

@@ -1,4 +1,4 @@
-use Rattle.lalrpop_norm_macro_expand_met.proofs.MeetingLemmas.{err_refuses}
+use Rattle.lalrpop_norm_nodes.proofs.MeetingLemmas.{err_refuses}
 use Rattle.lalrpop_norm_macro_expand.proofs.macro_expand.expand_macros.Goals as goal
 
 pub returns-in_err-made-clause-refuses : goal.returns-in_err-made-clause-refuses

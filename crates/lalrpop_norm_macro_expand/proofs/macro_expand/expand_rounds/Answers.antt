@@ -7,8 +7,8 @@ use Rattle.lalrpop_norm_tree.specs.Items.{GrammarData, ItemData, item_view, gram
 use Rattle.lalrpop_norm_faults.specs.Faults.{Fault, IsFirst}
 use Rattle.lalrpop_norm_model.specs.Expanded.{rule_names}
 use Rattle.lalrpop_norm_model.specs.PlainRules.{macros_of}
-use Rattle.lalrpop_norm_macro_expand_met.specs.Meeting.{has_key}
-use Rattle.lalrpop_norm_macro_expand_met.proofs.MeetingLemmas.{err_refuses}
+use Rattle.lalrpop_norm_nodes.specs.Meeting.{has_key}
+use Rattle.lalrpop_norm_nodes.proofs.MeetingLemmas.{err_refuses}
 use Rattle.lalrpop_norm_nodes.specs.declared.node.Nodes.{Nodes}
 use Rattle.lalrpop_norm_nodes.specs.declared.table.Table.{Table}
 use Rattle.lalrpop_norm_nodes.specs.declared.texts.Counter.{Counter}

@@ -3,7 +3,7 @@ use Rattle.std.specs.List.{flat_map}
 use Rattle.lalrpop_norm_tree.specs.Symbols.{Part}
 use Rattle.lalrpop_norm_tree.specs.Items.{item_view}
 use Rattle.lalrpop_norm_faults.specs.Faults.{IsFirst}
-use Rattle.lalrpop_norm_macro_expand_met.proofs.MeetingLemmas.{refuses_same}
+use Rattle.lalrpop_norm_nodes.proofs.MeetingLemmas.{refuses_same}
 use Rattle.lalrpop_norm_nodes.specs.declared.table.Table.{Table}
 use Rattle.lalrpop_norm_nodes.specs.Tables.{wholes_in, TableMeets, refused_in}
 use Rattle.lalrpop_norm_nodes.specs.Waits.{LeavesWaiting}

@@ -1,5 +1,5 @@
 use Rattle.std.proofs.Common.{[], ◌∙◌}
-use Rattle.lalrpop_norm_macro_expand_met.proofs.MeetingLemmas.{on_ok_more}
+use Rattle.lalrpop_norm_nodes.proofs.MeetingLemmas.{on_ok_more}
 use Rattle.lalrpop_norm_nodes.specs.Tables.{wholes_in}
 use Rattle.lalrpop_norm_nodes.proofs.MeetLemmas.{meets_both}
 use Rattle.lalrpop_norm_nodes.proofs.RowItems.{patterns_more}

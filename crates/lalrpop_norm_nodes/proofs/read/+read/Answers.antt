@@ -2,11 +2,11 @@ use Rattle.std.proofs.Common.{◌≡◌, rules, refl, ap, sym, subst, ◌∙◌,
 use Rattle.lalrpop_norm_tree.specs.Symbols.{Part, at, ambiguous_id, nonterminal, terminal, lookahead, lookbehind, error_terminal, kind_view, Kind, argument_pattern_view, symbol_view, Parts, Call, Again, kind_step, expr_step, macro_step, repeat_step, symbol_step, parts_view, parts_of}
 use Rattle.lalrpop_norm_tree.proofs.SymbolViews.{symbol_seen, ambiguous_seen, nonterminal_seen, terminal_seen}
 use Rattle.lalrpop_norm_faults.proofs.FaultLemmas.{exit_at}
-use Rattle.lalrpop_norm_macro_expand_met.specs.Meeting.{met_inside, own, own_text, after, clash_faults}
+use Rattle.lalrpop_norm_nodes.specs.Meeting.{met_inside, own, own_text, after, clash_faults}
 use Rattle.lalrpop_norm_nodes.specs.Readings.{topped, bare_wholes}
 use Rattle.lalrpop_norm_nodes.proofs.MeetLemmas.{split_at}
 use Rattle.lalrpop_norm_model.specs.PlainRules.{met}
-use Rattle.lalrpop_norm_macro_expand_met.proofs.MeetingLemmas.{on_ok_more, refuses_same, clash_both}
+use Rattle.lalrpop_norm_nodes.proofs.MeetingLemmas.{on_ok_more, refuses_same, clash_both}
 use Rattle.lalrpop_norm_nodes.specs.Given.{kind_whole, read_whole, read_shown, whole_for, shown_for}
 use Rattle.lalrpop_norm_nodes.specs.Tables.{wholes_in, own_at, own_text_in, is_declared_in, seen_in, TableMeets, refused_in}
 use Rattle.lalrpop_norm_nodes.specs.Wholes.{Whole, patterns, symbols}
@@ -20,12 +20,12 @@ use Rattle.lalrpop_norm_tree.specs.declared.symbol.SymbolKind.TheFolds.{fold-rol
 use Rattle.lalrpop_norm_tree.specs.declared.symbol.SymbolKind.TheOpen.{SymbolKind-F}
 use Rattle.std.proofs.lemmas.List.{length-map, get_or_default, take_all, drop_all}
 use Rattle.std.specs.List.{flat_map}
-use Rattle.lalrpop_norm_macro_expand_met.specs.Apart.{unplaced}
+use Rattle.lalrpop_norm_nodes.specs.Apart.{unplaced}
 use Rattle.lalrpop_norm_nodes.specs.Filled.{filled}
 use Rattle.lalrpop_norm_nodes.proofs.GivenLemmas.{all_given_stay, wholes_stay}
 use Rattle.lalrpop_norm_nodes.proofs.InPlace.{still, partly_more, partly_met, partly_quiet, partly_exit}
 use Rattle.lalrpop_norm_nodes.proofs.RowItems.{stands_later, is_kind, are_symbols}
-use Rattle.lalrpop_norm_macro_expand_met.specs.Meeting.{met_itself}
+use Rattle.lalrpop_norm_nodes.specs.Meeting.{met_itself}
 use Rattle.lalrpop_norm_nodes.specs.Filled.{filled_kind}
 use Rattle.lalrpop_norm_nodes.specs.Waits.{parts_replaced, shown_met, LeavesWaiting}
 use Rattle.lalrpop_norm_nodes.proofs.WaitLemmas.{waits_plain, waits_row}

@@ -1,6 +1,6 @@
 use Rattle.std.proofs.Common.{◌∙◌}
 use Rattle.lalrpop_norm_tree.specs.Symbols.{symbol_view}
-use Rattle.lalrpop_norm_macro_expand_met.proofs.MeetingLemmas.{on_ok_more}
+use Rattle.lalrpop_norm_nodes.proofs.MeetingLemmas.{on_ok_more}
 use Rattle.lalrpop_norm_nodes.proofs.WaitReads.{made_waits_itself, made_topped, own_is_text}
 use Rattle.lalrpop_norm_nodes.proofs.read.make_symbol.Goals as goal
 

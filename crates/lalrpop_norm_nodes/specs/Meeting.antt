@@ -13,8 +13,6 @@ use Rattle.lalrpop_norm_tree.specs.SymbolTexts.{part_text}
 use Rattle.lalrpop_norm_faults.specs.declared.kind.FaultKind.TheVariants.{SharedName}
 use Rattle.lalrpop_norm_faults.specs.Faults.{Fault, fault_if}
 use Rattle.lalrpop_norm_model.specs.PlainRules.{same_apart_from_spans, met, all_met}
-use Rattle.lalrpop_norm_macro_expand_met.specs.declared.expander.Expander.{Expander}
-use Rattle.lalrpop_norm_macro_expand_met.specs.declared.expander.Met.{Met}
 use Rattle.lalrpop_norm_model.specs.MadeRules.{span_of}
 
 -- ---- what a symbol meets
@@ -110,47 +108,5 @@ abbrev pub were_met : (List ℕ → Bool) → List Part → List Part → Bool
 were_met names seen [] = true
 were_met names seen (x ∷ xs) = was_met names seen x && were_met names seen xs
 
--- what is inside each of these symbols was met
-abbrev pub were_met_inside : (List ℕ → Bool) → List Part → List Part → Bool
-were_met_inside names seen [] = true
-were_met_inside names seen (y ∷ ys) = were_met names seen (inside y) && were_met_inside names seen ys
-
-abbrev pub met_view : Met → Part
-met_view m = symbol_view m.symbol
-
--- its name is its text
-abbrev pub IsNamed : Met → Type 0
-IsNamed m = m.name ≡ part_text (met_view m)
-
-abbrev pub AreNamed : List Met → Type 0
-AreNamed ms = map (λ m. m.name) ms ≡ map (λ m. part_text (met_view m)) ms
-
-abbrev pub seen_of : Expander → List Part
-seen_of e = map met_view e.met.items
-
 abbrev pub has_key : BTreeSet (List ℕ) → List ℕ → Bool
 has_key s t = list_any (is_at (slice_cmp nat_cmp t)) s.keys
-
-abbrev pub is_taken_by : Expander → List ℕ → Bool
-is_taken_by e = has_key e.names
-
-abbrev pub place_noted : Expander → List ℕ → Option ℕ
-place_noted e t = get (slice_cmp nat_cmp) e.places t
-
--- the places lead to the symbols by their texts, which are their names, and what is inside a symbol that was met was met
-pub record IsExpander (e : Expander) : Type 0 where
-  pub finds : (t : List ℕ) → option_and_then (λ i. slice_get (seen_of e) i) (place_noted e t)
-      ≡ first_with_text t (seen_of e)
-  pub in_range : (t : List ℕ) (i : ℕ) → place_noted e t ≡ Some i → i < length e.met.items
-  pub named : AreNamed e.met.items
-  pub inward : were_met_inside (is_taken_by e) (seen_of e) (seen_of e) ≡ true
-
--- the symbols were met
-pub record Meets (before later : Expander) (xs : List Part) : Type 0 where
-  pub seen : seen_of later ≡ after (seen_of before) xs
-  pub names : later.names ≡ before.names
-  pub indexed : IsExpander later
-
--- what is refused where they are met
-abbrev pub refused_by : Expander → List Part → List Fault
-refused_by e xs = clash_faults (is_taken_by e) (seen_of e) xs

@@ -16,7 +16,7 @@ use Rattle.lalrpop_norm_model.specs.Occurrences.{count_part, count_parts}
 use Rattle.lalrpop_norm_model.specs.Reading.{terminal_of, literal_terminal, closed_pattern_of, closed_patterns_of, repeat_of, read_kind, read_part, read_parts}
 use Rattle.lalrpop_norm_model.specs.MadeRules.{flat_reader}
 use Rattle.lalrpop_norm_model.specs.PlainRules.{same_apart_from_spans}
-use Rattle.lalrpop_norm_macro_expand_met.specs.Apart.{nowhere, unplaced_kind, unplaced, all_unplaced}
+use Rattle.lalrpop_norm_nodes.specs.Apart.{nowhere, unplaced_kind, unplaced, all_unplaced}
 
 -- ---- a closed symbol is read from the symbol with its spans taken off
 
@@ -145,11 +145,3 @@ mutual
 pub unplaced_same : (p q : Part) → same_apart_from_spans p q ≡ true → unplaced p ≡ unplaced q
 unplaced_same p q e =
     sym (part_is 0 0 p) ∙ ap (λ g. at nowhere (kind_back g)) (symbol_test.sound (read_part flat_reader 0 0 p) (read_part flat_reader 0 0 q) e) ∙ part_is 0 0 q
-
-pub same_is : (p q : Part) (r : Bool) → (IsTrue r ↔ (unplaced p ≡ unplaced q)) → r ≡ same_apart_from_spans p q
-same_is p q r h = both_ways r (same_apart_from_spans p q) (λ e. there (h.0 e)) (λ e. h.1 (unplaced_same p q e))
-  where
-    there : unplaced p ≡ unplaced q → same_apart_from_spans p q ≡ true
-    there e =
-        let same : read_part flat_reader 0 0 p ≡ read_part flat_reader 0 0 q = sym (part_closed 0 0 0 0 p) ∙ ap (read_part flat_reader 0 0) e ∙ part_closed 0 0 0 0 q in
-        rw same (symbol_test.complete (read_part flat_reader 0 0 q))

@@ -7,9 +7,9 @@ use Rattle.lalrpop_norm_faults.specs.declared.failure.NormFailure.{NormFailure}
 use Rattle.lalrpop_norm_faults.specs.declared.kind.FaultKind.TheVariants.{SharedName}
 use Rattle.lalrpop_norm_faults.specs.Faults.{Fault, fault_if, IsFirst, Refuses}
 use Rattle.lalrpop_norm_faults.proofs.FaultLemmas.{exit_at}
-use Rattle.lalrpop_norm_macro_expand_met.specs.declared.expander.Expander.{Expander}
+use Rattle.lalrpop_norm_nodes.specs.declared.expander.Expander.{Expander}
 use Rattle.lalrpop_norm_model.specs.MadeRules.{span_of}
-use Rattle.lalrpop_norm_macro_expand_met.specs.Meeting.{after, after_one, clashes, clash_faults, seen_of, has_key, is_taken_by, Meets, refused_by}
+use Rattle.lalrpop_norm_nodes.specs.Meeting.{after, after_one, clashes, clash_faults, has_key}
 
 pub after_both : (seen xs ys : List Part) → after seen (xs ++ ys) ≡ after (after seen xs) ys
 after_both seen [] ys = refl
@@ -23,36 +23,12 @@ clash_both names seen (x ∷ xs) ys =
     ap (λ fs. here ++ fs) (clash_both names (after_one seen x) xs ys)
     ∙ sym (append_assoc here (clash_faults names (after_one seen x) xs) (clash_faults names (after (after_one seen x) xs) ys))
 
-pub meets_both : (a b c : Expander) (xs ys : List Part) → Meets a b xs → Meets b c ys → Meets a c (xs ++ ys)
-meets_both a b c xs ys h k = record {
-  seen = k.seen ∙ ap (λ s. after s ys) h.seen ∙ sym (after_both (seen_of a) xs ys);
-  names = k.names ∙ h.names;
-  indexed = k.indexed;
-}
-
--- what is refused once some were met is refused where all are
-pub refused_both : (a b : Expander) (xs ys : List Part) → Meets a b xs → refused_by a (xs ++ ys) ≡ refused_by a xs ++ refused_by b ys
-refused_both a b xs ys h =
-    clash_both (is_taken_by a) (seen_of a) xs ys
-    ∙ ap (λ s. refused_by a xs ++ clash_faults (is_taken_by a) s ys) (sym h.seen)
-    ∙ ap (λ n. refused_by a xs ++ clash_faults (has_key n) (seen_of b) ys) (sym h.names)
-
-pub refused_later : (a b : Expander) (xs ys : List Part) → Meets a b xs → refused_by a xs ≡ [] → refused_by a (xs ++ ys) ≡ refused_by b ys
-refused_later a b xs ys h none = refused_both a b xs ys h ∙ ap (λ fs. fs ++ refused_by b ys) none
-
 pub refuses_same : {T : Type 0} (r : Result T NormFailure) (xs ys : List Fault) → xs ≡ ys → Refuses r xs → Refuses r ys
 refuses_same {T} r xs ys e h = subst (λ (fs : List Fault). Refuses r fs) e h
 
 pub on_ok_more : {A E : Type 0} (r : Result A E) (P Q : Type 0) → (P → Q) → OnOk r P → OnOk r Q
 on_ok_more (Ok x) P Q f h = f h
 on_ok_more (Err e) P Q f h = tt
-
--- the exit by `?` of the first part
-pub exit_first : {T : Type 0} (a : Expander) (xs ys : List Part) (r : Result T NormFailure) (e : NormFailure) →
-    IsErrAnd r (λ x. x ≡ e) → IsFirst (refused_by a xs) e → Refuses r (refused_by a (xs ++ ys))
-exit_first a xs ys r e from first =
-    exit_at r e (refused_by a xs) (clash_faults (is_taken_by a) (after (seen_of a) xs) ys) (refused_by a (xs ++ ys)) from first
-    (clash_both (is_taken_by a) (seen_of a) xs ys)
 
 pub err_refuses : {T : Type 0} (r : Result T NormFailure) (e : NormFailure) (fs : List Fault) → IsErrAnd r (λ x. x ≡ e) → IsFirst fs e → Refuses r fs
 err_refuses (Ok x) e fs from h = absurd from

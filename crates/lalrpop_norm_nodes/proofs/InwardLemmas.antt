@@ -11,15 +11,15 @@ use Rattle.lalrpop_norm_faults.specs.Faults.{fault_if}
 use Rattle.lalrpop_norm_theory.specs.Symbols.{ClosedSymbol}
 use Rattle.lalrpop_norm_theory.specs.Same.{same_symbol}
 use Rattle.lalrpop_norm_model.specs.PlainRules.{same_apart_from_spans, met, all_met}
-use Rattle.lalrpop_norm_macro_expand_met.specs.declared.expander.Expander.{Expander}
-use Rattle.lalrpop_norm_macro_expand_met.specs.Apart.{unplaced, all_unplaced}
+use Rattle.lalrpop_norm_nodes.specs.declared.expander.Expander.{Expander}
+use Rattle.lalrpop_norm_nodes.specs.Apart.{unplaced, all_unplaced}
 use Rattle.lalrpop_norm_model.specs.MadeRules.{span_of}
-use Rattle.lalrpop_norm_macro_expand_met.specs.Meeting.{met_inside, own, met_itself, inside, own_text, first_with_text, joined_by, after_one, after, differs, clashes, clash_faults, was_met, were_met, were_met_inside, seen_of, is_taken_by, has_key, IsExpander, Meets, refused_by}
+use Rattle.lalrpop_norm_nodes.specs.Meeting.{met_inside, own, met_itself, inside, own_text, first_with_text, joined_by, after_one, after, differs, clashes, clash_faults, was_met, were_met, has_key}
 use Rattle.lalrpop_norm_model.specs.PlainTables.{closed}
-use Rattle.lalrpop_norm_macro_expand_met.proofs.ApartLemmas.{part_closed, unplaced_same}
-use Rattle.lalrpop_norm_macro_expand_met.proofs.SamenessLemmas.{closed_same, closed_text_same, none_if, or_false}
-use Rattle.lalrpop_norm_macro_expand_met.proofs.IndexLemmas.{first_at}
-use Rattle.lalrpop_norm_macro_expand_met.proofs.SymbolLemmas.{met_is}
+use Rattle.lalrpop_norm_nodes.proofs.ApartLemmas.{part_closed, unplaced_same}
+use Rattle.lalrpop_norm_nodes.proofs.SamenessLemmas.{closed_same, closed_text_same, none_if, or_false}
+use Rattle.lalrpop_norm_nodes.proofs.FirstLemmas.{first_at}
+use Rattle.lalrpop_norm_nodes.proofs.SymbolLemmas.{met_is}
 use Rattle.lalrpop_norm_tree.proofs.SymbolViews.{seen_at}
 use Rattle.lalrpop_norm_theory.proofs.BoolLemmas.{false_of_not, both_false, not_false}
 use Rattle.lalrpop_norm_theory.proofs.ListLemmas.{some_inner}
@@ -192,122 +192,3 @@ mutual
       map-append closed (met (unplaced p)) (all_met (all_unplaced ps))
       ∙ ap₂ (λ (xs ys : List ClosedSymbol). xs ++ ys) (met_unplaced p) (all_met_unplaced ps)
       ∙ sym (map-append closed (met p) (all_met ps))
-
-inside_unplaced : (p : Part) → map closed (inside (unplaced p)) ≡ map closed (inside p)
-inside_unplaced (at s (group ps)) = all_met_unplaced ps
-inside_unplaced (at s (call n ps)) = all_met_unplaced ps
-inside_unplaced (at s (repeated op p)) = met_unplaced p
-inside_unplaced (at s (chosen p)) = met_unplaced p
-inside_unplaced (at s (named n p)) = met_unplaced p
-inside_unplaced (at s (tupled ns p)) = met_unplaced p
-inside_unplaced (at s lookahead) = refl
-inside_unplaced (at s lookbehind) = refl
-inside_unplaced (at s (ambiguous_id a)) = refl
-inside_unplaced (at s (terminal t)) = refl
-inside_unplaced (at s (nonterminal n)) = refl
-inside_unplaced (at s error_terminal) = refl
-
-inside_same : (p q : Part) → same_apart_from_spans p q ≡ true → map closed (inside p) ≡ map closed (inside q)
-inside_same p q e =
-    sym (inside_unplaced p) ∙ ap (λ (r : Part). map closed (inside r)) (unplaced_same p q e) ∙ inside_unplaced q
-
--- ---- so what is inside was met
-
-module _ (names : List ℕ → Bool) where
-  inward_first : (seen ys : List Part) (t : List ℕ) (y : Part) → were_met_inside names seen ys ≡ true → first_with_text t ys ≡ Some y →
-      were_met names seen (inside y) ≡ true
-  inward_first seen [] t y h e = absurd (cc e)
-  inward_first seen (z ∷ ys) t y h e = by (bytes_eq (part_text z) t) (inward_first seen ys t y (and_parts _ _ h).1) e
-    where
-      by : (b : Bool) → (first_with_text t ys ≡ Some y → were_met names seen (inside y) ≡ true)
-          → cond b (Some z) (first_with_text t ys) ≡ Some y → were_met names seen (inside y) ≡ true
-      by true deeper k = subst (λ (w : Part). were_met names seen (inside w) ≡ true) (some_inner z y k) (and_parts _ _ h).0
-      by false deeper k = deeper k
-
-  inside_met : (seen : List Part) (x : Part) → were_met_inside names seen seen ≡ true → was_met names seen x ≡ true → were_met names seen (inside x) ≡ true
-  inside_met seen x h k =
-      let f = found names seen x k in
-      let same : same_apart_from_spans f.one x ≡ true =
-      not_false (same_apart_from_spans f.one x) (or_false (names (part_text x)) (not (same_apart_from_spans f.one x)) f.free).1 in
-      all_same_met names seen (inside f.one) (inside x) (inside_same f.one x same)
-      (inward_first seen seen (part_text x) f.one h f.is_first)
-
-  -- one more symbol, what is inside which was met
-  pub inward_more : (seen : List Part) (x : Part) → were_met_inside names seen seen ≡ true → were_met names seen (inside x) ≡ true →
-      were_met_inside names (seen ++ x ∷ []) (seen ++ x ∷ []) ≡ true
-  inward_more seen x h k = joined seen (inside_stay names seen (x ∷ []) seen h)
-    where
-      joined : (ys : List Part) → were_met_inside names (seen ++ x ∷ []) ys ≡ true → were_met_inside names (seen ++ x ∷ []) (ys ++ x ∷ []) ≡ true
-      joined [] e = and_from _ _ (all_stay names seen (x ∷ []) (inside x) k) refl
-      joined (y ∷ ys) e = let p = and_parts _ _ e in and_from _ _ p.0 (joined ys p.1)
-
--- ---- symbols that are made into rules
-
-own_is : (p : Part) (t : List ℕ) → own_text p ≡ Some t → (t ≡ part_text p) × (met_itself p ≡ p ∷ [])
-own_is (at s (group ps)) t e = (cc e, refl)
-own_is (at s (call n ps)) t e = (cc e, refl)
-own_is (at s (repeated op p)) t e = (cc e, refl)
-own_is (at s lookahead) t e = (cc e, refl)
-own_is (at s lookbehind) t e = (cc e, refl)
-own_is (at s (ambiguous_id a)) t e = absurd (cc e)
-own_is (at s (terminal u)) t e = absurd (cc e)
-own_is (at s (nonterminal n)) t e = absurd (cc e)
-own_is (at s (chosen p)) t e = absurd (cc e)
-own_is (at s (named n p)) t e = absurd (cc e)
-own_is (at s (tupled ns p)) t e = absurd (cc e)
-own_is (at s error_terminal) t e = absurd (cc e)
-
-pub own_is_text : (p : Part) (t : List ℕ) → Some t ≡ own_text p → t ≡ part_text p
-own_is_text p t e = (own_is p t (sym e)).0
-
-pub own_is_one : (p : Part) (t : List ℕ) → Some t ≡ own_text p → met_itself p ≡ p ∷ []
-own_is_one p t e = (own_is p t (sym e)).1
-
-pub own_is_none : (p : Part) → None ≡ own_text p → met_itself p ≡ []
-own_is_none (at s (group ps)) e = absurd (cc e)
-own_is_none (at s (call n ps)) e = absurd (cc e)
-own_is_none (at s (repeated op p)) e = absurd (cc e)
-own_is_none (at s lookahead) e = absurd (cc e)
-own_is_none (at s lookbehind) e = absurd (cc e)
-own_is_none (at s (ambiguous_id a)) e = refl
-own_is_none (at s (terminal u)) e = refl
-own_is_none (at s (nonterminal n)) e = refl
-own_is_none (at s (chosen p)) e = refl
-own_is_none (at s (named n p)) e = refl
-own_is_none (at s (tupled ns p)) e = refl
-own_is_none (at s error_terminal) e = refl
-
--- a symbol that is made into no rule meets what is inside it
-pub kept_meets : (s : Symbol) → None ≡ own_text (symbol_view s) → met (symbol_view s) ≡ met_inside (kind_view s.kind)
-kept_meets s e = met_is s ∙ ap (λ (ps : List Part). met_inside (kind_view s.kind) ++ ps) (own_is_none (symbol_view s) e) ∙ append-nil (met_inside (kind_view s.kind))
-
--- where the symbol was met, so was all that it meets
-pub all_was_met : (e : Expander) (s : Symbol) (t : List ℕ) → IsExpander e → Some t ≡ own_text (symbol_view s) →
-    was_met (is_taken_by e) (seen_of e) (symbol_view s) ≡ true → were_met (is_taken_by e) (seen_of e) (met (symbol_view s)) ≡ true
-all_was_met e s t ix own h =
-    let split : met (symbol_view s) ≡ inside_of_kind ++ symbol_view s ∷ [] =
-    met_is s ∙ ap (λ (ps : List Part). met_inside (kind_view s.kind) ++ ps) (own_is_one (symbol_view s) t own) in
-    subst (λ (ps : List Part). were_met (is_taken_by e) (seen_of e) ps ≡ true) (sym split)
-    (were_both (is_taken_by e) (seen_of e) inside_of_kind (symbol_view s ∷ [])
-    (subst (λ (p : Part). were_met (is_taken_by e) (seen_of e) (inside p) ≡ true) (seen_at s) (inside_met (is_taken_by e) (seen_of e) (symbol_view s) ix.inward h))
-    (and_from _ _ h refl))
-  where
-    inside_of_kind : List Part
-    inside_of_kind = met_inside (kind_view s.kind)
-
--- then nothing is refused, and nothing changes
-pub nothing_refused : (e : Expander) (xs : List Part) → were_met (is_taken_by e) (seen_of e) xs ≡ true → refused_by e xs ≡ []
-nothing_refused e xs h = (quiet (is_taken_by e) (seen_of e) xs h).0
-
-pub nothing_changes : (e : Expander) (xs : List Part) → IsExpander e → were_met (is_taken_by e) (seen_of e) xs ≡ true → Meets e e xs
-nothing_changes e xs ix h = record { seen = sym (quiet (is_taken_by e) (seen_of e) xs h).1; names = refl; indexed = ix }
-
--- what was met without a fault was met
-pub met_now : (a b : Expander) (s : Symbol) → Meets a b (met_inside (kind_view s.kind)) → refused_by a (met_inside (kind_view s.kind)) ≡ [] →
-    were_met (is_taken_by b) (seen_of b) (inside (symbol_view s)) ≡ true
-met_now a b s h none =
-    let xs = met_inside (kind_view s.kind) in
-    let there : were_met (is_taken_by a) (after (seen_of a) xs) xs ≡ true = met_then (is_taken_by a) (seen_of a) xs none in
-    let names : is_taken_by b ≡ is_taken_by a = ap has_key h.names in
-    let same : inside (symbol_view s) ≡ xs = ap inside (seen_at s) in
-    rw (names, h.seen, same) there
