@@ -28,8 +28,8 @@ use lalrpop_norm_nodes::parts::{given_by_call, repeated_number};
 use lalrpop_norm_nodes::table::{Table, Waiting};
 use lalrpop_norm_session::norm_util::has_name_value;
 use lalrpop_norm_tree::grammar::parse_tree::{
-    ActionKind, ExprSymbol, MacroSymbol, NoMemory, NonterminalData, RepeatSymbol, Symbol,
-    SymbolKind,
+    ActionKind, ExprSymbol, MacroSymbol, NoMemory, NonterminalData, NonterminalString,
+    RepeatSymbol, Symbol, SymbolKind,
 };
 use std::alloc::Global;
 use std::mem;
@@ -77,6 +77,13 @@ fn repeat_of(
     Ok(UnreadRule { rule, names, given })
 }
 
+#[tactic(auto, using(std::proofs::lemmas::List::Elements::same_from_all_zip))]
+fn copy_names(names: &Vec<NonterminalString>) -> Result<Vec<NonterminalString>, NoMemory>
+    ensures { IfOk result (λ copies. copies.items ≡ names.now.items) }
+{
+    Ok(names.clone()?)
+}
+
 /// The rule of a call of a macro with these arguments.
 ///
 /// Errors: at the first alternative whose condition has no value F33 (`ConditionArgument`) or F34 (`ConditionPattern`); `Memory`.
@@ -99,7 +106,7 @@ fn instance_of(
 {
     let rule = instance_rule(alloc, head, definition, &arguments)?;
     let given = given_by_call(alloc, table, number, arguments)?;
-    let names = definition.args.clone()?;
+    let names = copy_names(&definition.args)?;
     Ok(UnreadRule { rule, names, given })
 }
 
@@ -218,10 +225,13 @@ fn add_rule(
         ≡ map (pending_view (wholes_in table.now)) pending.old.items ++ pending_for (wholes_in table.now) (macros_in macros.now) waiting) }
     ensures readable { OnOk result (AreReadable (wholes_in table.now) pending.new.items) }
 {
-    if let Some(rule) = pending_rule(alloc, macros, table, waiting)? {
-        pending.push(rule)?;
+    match pending_rule(alloc, macros, table, waiting)? {
+        Some(rule) => {
+            pending.push(rule)?;
+            Ok(())
+        }
+        None => Ok(()),
     }
-    Ok(())
 }
 
 /// The rules of the symbols that wait, that of the last one first.

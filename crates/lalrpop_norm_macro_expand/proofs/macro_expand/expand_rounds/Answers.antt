@@ -1,4 +1,4 @@
-use Rattle.std.proofs.Common.{◌≡◌, ◌-◌, ◌+◌, ◌++◌, ℕ, suc, arith, map, length, refl, sym, ap, ◌∙◌, subst, [], ◌∷◌, List, Vec, Global}
+use Rattle.std.proofs.Common.{◌≡◌, ◌==◌, ◌<◌, Bool, true, false, ◌-◌, ◌+◌, ◌++◌, ℕ, suc, arith, map, length, refl, sym, ap, ◌∙◌, subst, [], ◌∷◌, List, Vec, Global}
 use Rattle.std.specs.List.{flat_map}
 use Rattle.std.proofs.lemmas.List.{length-map}
 use Rattle.lalrpop_norm_tree.specs.declared.items.GrammarItem.{GrammarItem}
@@ -34,7 +34,7 @@ rounds-init c =
     record {
       grammar =
           ap (λ (v : Vec GrammarItem Global). record g { items = map item_view v.items }) c.replace-items.ensures.after
-          ∙ ap (λ is. record g { items = map item_view is }) c.new.ensures.items;
+          ∙ ap (λ is. record g { items = map item_view is }) c.new-2.ensures.items;
       table = c.in_ok-read_items.ensures.meets.table;
       counted = c.in_ok-read_items.ensures.counted;
       names = ap has_key c.in_ok-read_items.ensures.meets.names ∙ names;
@@ -58,6 +58,12 @@ returns-in_err-read_items-clause-refuses c =
     err_refuses _ _ _ c.from_residual-in_err-read_items.ensures.1
     (first_refused g c.new-table.result c.new-table.result (map item_view c.in_ok-others.others.items) others names c.new-table.ensures.seen c.args.limit _ c.in_err-read_items.ensures.refuses)
 
+none_waits : (m n : ℕ) (b : Bool) → m ≡ n → b ≡ (m == 0) → b ≡ true → n ≡ 0
+none_waits m n b long e t = grind arith
+
+some_waits : (m n : ℕ) (b : Bool) → m ≡ n → b ≡ (m == 0) → b ≡ false → 0 < n
+some_waits m n b long e f = grind arith
+
 no_items : {A : Type 0} (xs : List A) → length xs ≡ 0 → xs ≡ []
 no_items [] e = refl
 no_items (x ∷ xs) e = absurd (omega arith)
@@ -66,45 +72,45 @@ counted_still : (z a : Table) → a.made ≡ z.made → a.nodes ≡ z.nodes → 
 counted_still z a made nodes h = ap (λ (m : Counter). m.count) made ∙ h ∙ ap (λ (ns : Nodes). length (flat_map own_in (wholes ns))) (sym nodes)
 
 pub counted-requires : goal.counted-requires
-counted-requires c = counted_still c.rounds.table c.take_waiting.new.self c.take_waiting.ensures.counted c.take_waiting.ensures.nodes c.rounds.invariant.counted
+counted-requires c = counted_still c.rounds.table c.take_waiting-waiting.new.self c.take_waiting-waiting.ensures.counted c.take_waiting-waiting.ensures.nodes c.rounds.invariant.counted
 
 pub read_round-requires-clause-counted : goal.read_round-requires-clause-counted
-read_round-requires-clause-counted c = counted_still c.rounds.table c.take_waiting.new.self c.take_waiting.ensures.counted c.take_waiting.ensures.nodes c.rounds.invariant.counted
+read_round-requires-clause-counted c = counted_still c.rounds.table c.take_waiting-waiting.new.self c.take_waiting-waiting.ensures.counted c.take_waiting-waiting.ensures.nodes c.rounds.invariant.counted
 
 pub read_round-requires-clause-waiting : goal.read_round-requires-clause-waiting
 read_round-requires-clause-waiting c =
-    (taken (grammar_view c.args.grammar) c.args.limit c.rounds.left (c.args.limit - c.rounds.left) c.rounds.table c.take_waiting.new.self c.take_waiting.result (map item_view c.rounds.done.items)
-    c.rounds.invariant.rounds c.take_waiting.ensures.nodes c.take_waiting.ensures.waiting c.take_waiting.ensures.table c.take_waiting.ensures.numbered).making.waiting
+    (taken (grammar_view c.args.grammar) c.args.limit c.rounds.left (c.args.limit - c.rounds.left) c.rounds.table c.take_waiting-waiting.new.self c.take_waiting-waiting.result (map item_view c.rounds.done.items)
+    c.rounds.invariant.rounds c.take_waiting-waiting.ensures.nodes c.take_waiting-waiting.ensures.waiting c.take_waiting-waiting.ensures.table c.take_waiting-waiting.ensures.numbered).making.waiting
 
 pub past_cap-requires : goal.past_cap-requires
-past_cap-requires c = search (arith, c.is_empty.ensures, c.if-is_empty.false)
+past_cap-requires c = rw c.deref-then-left-eq0.ensures.value (some_waits c.take_waiting-waiting.result.len (length c.take_waiting-waiting.result.items) c.is_empty.result c.take_waiting-waiting.result.ok.0 c.is_empty.ensures c.if-is_empty.false)
 
 pub returns-then-is_empty-clause-refuses : goal.returns-then-is_empty-clause-refuses
 returns-then-is_empty-clause-refuses c =
     let t =
-    taken (grammar_view c.args.grammar) c.args.limit c.rounds.left (c.args.limit - c.rounds.left) c.rounds.table c.take_waiting.new.self c.take_waiting.result (map item_view c.rounds.done.items)
-    c.rounds.invariant.rounds c.take_waiting.ensures.nodes c.take_waiting.ensures.waiting c.take_waiting.ensures.table c.take_waiting.ensures.numbered in
-    let none : map (λ w. symbol_view w.symbol) c.take_waiting.result.items ≡ [] = ap (map (λ w. symbol_view w.symbol)) (no_items c.take_waiting.result.items (omega (arith, c.take_waiting.result.ok.0, c.is_empty.ensures, c.if-is_empty.true))) in
-    (last_round (grammar_view c.args.grammar) c.args.limit c.rounds.left (c.args.limit - c.rounds.left) (seen_in c.take_waiting.new.self) (map (λ w. symbol_view w.symbol) c.take_waiting.result.items) (map item_view c.rounds.done.items)
+    taken (grammar_view c.args.grammar) c.args.limit c.rounds.left (c.args.limit - c.rounds.left) c.rounds.table c.take_waiting-waiting.new.self c.take_waiting-waiting.result (map item_view c.rounds.done.items)
+    c.rounds.invariant.rounds c.take_waiting-waiting.ensures.nodes c.take_waiting-waiting.ensures.waiting c.take_waiting-waiting.ensures.table c.take_waiting-waiting.ensures.numbered in
+    let none : map (λ w. symbol_view w.symbol) c.take_waiting-waiting.result.items ≡ [] = ap (map (λ w. symbol_view w.symbol)) (no_items c.take_waiting-waiting.result.items (none_waits c.take_waiting-waiting.result.len (length c.take_waiting-waiting.result.items) c.is_empty.result c.take_waiting-waiting.result.ok.0 c.is_empty.ensures c.if-is_empty.true)) in
+    (last_round (grammar_view c.args.grammar) c.args.limit c.rounds.left (c.args.limit - c.rounds.left) (seen_in c.take_waiting-waiting.new.self) (map (λ w. symbol_view w.symbol) c.take_waiting-waiting.result.items) (map item_view c.rounds.done.items)
     t.round none (omega (arith, c.rounds.invariant.bound))).faultless
 
 pub returns-then-is_empty-clause-whole : goal.returns-then-is_empty-clause-whole
 returns-then-is_empty-clause-whole c =
     let t =
-    taken (grammar_view c.args.grammar) c.args.limit c.rounds.left (c.args.limit - c.rounds.left) c.rounds.table c.take_waiting.new.self c.take_waiting.result (map item_view c.rounds.done.items)
-    c.rounds.invariant.rounds c.take_waiting.ensures.nodes c.take_waiting.ensures.waiting c.take_waiting.ensures.table c.take_waiting.ensures.numbered in
-    let none : map (λ w. symbol_view w.symbol) c.take_waiting.result.items ≡ [] = ap (map (λ w. symbol_view w.symbol)) (no_items c.take_waiting.result.items (omega (arith, c.take_waiting.result.ok.0, c.is_empty.ensures, c.if-is_empty.true))) in
-    (last_round (grammar_view c.args.grammar) c.args.limit c.rounds.left (c.args.limit - c.rounds.left) (seen_in c.take_waiting.new.self) (map (λ w. symbol_view w.symbol) c.take_waiting.result.items) (map item_view c.rounds.done.items)
+    taken (grammar_view c.args.grammar) c.args.limit c.rounds.left (c.args.limit - c.rounds.left) c.rounds.table c.take_waiting-waiting.new.self c.take_waiting-waiting.result (map item_view c.rounds.done.items)
+    c.rounds.invariant.rounds c.take_waiting-waiting.ensures.nodes c.take_waiting-waiting.ensures.waiting c.take_waiting-waiting.ensures.table c.take_waiting-waiting.ensures.numbered in
+    let none : map (λ w. symbol_view w.symbol) c.take_waiting-waiting.result.items ≡ [] = ap (map (λ w. symbol_view w.symbol)) (no_items c.take_waiting-waiting.result.items (none_waits c.take_waiting-waiting.result.len (length c.take_waiting-waiting.result.items) c.is_empty.result c.take_waiting-waiting.result.ok.0 c.is_empty.ensures c.if-is_empty.true)) in
+    (last_round (grammar_view c.args.grammar) c.args.limit c.rounds.left (c.args.limit - c.rounds.left) (seen_in c.take_waiting-waiting.new.self) (map (λ w. symbol_view w.symbol) c.take_waiting-waiting.result.items) (map item_view c.rounds.done.items)
     t.round none (omega (arith, c.rounds.invariant.bound))).whole
 
 pub returns-then-is_empty-clause-plain : goal.returns-then-is_empty-clause-plain
 returns-then-is_empty-clause-plain c =
     let t =
-    taken (grammar_view c.args.grammar) c.args.limit c.rounds.left (c.args.limit - c.rounds.left) c.rounds.table c.take_waiting.new.self c.take_waiting.result (map item_view c.rounds.done.items)
-    c.rounds.invariant.rounds c.take_waiting.ensures.nodes c.take_waiting.ensures.waiting c.take_waiting.ensures.table c.take_waiting.ensures.numbered in
-    let none : map (λ w. symbol_view w.symbol) c.take_waiting.result.items ≡ [] = ap (map (λ w. symbol_view w.symbol)) (no_items c.take_waiting.result.items (omega (arith, c.take_waiting.result.ok.0, c.is_empty.ensures, c.if-is_empty.true))) in
+    taken (grammar_view c.args.grammar) c.args.limit c.rounds.left (c.args.limit - c.rounds.left) c.rounds.table c.take_waiting-waiting.new.self c.take_waiting-waiting.result (map item_view c.rounds.done.items)
+    c.rounds.invariant.rounds c.take_waiting-waiting.ensures.nodes c.take_waiting-waiting.ensures.waiting c.take_waiting-waiting.ensures.table c.take_waiting-waiting.ensures.numbered in
+    let none : map (λ w. symbol_view w.symbol) c.take_waiting-waiting.result.items ≡ [] = ap (map (λ w. symbol_view w.symbol)) (no_items c.take_waiting-waiting.result.items (none_waits c.take_waiting-waiting.result.len (length c.take_waiting-waiting.result.items) c.is_empty.result c.take_waiting-waiting.result.ok.0 c.is_empty.ensures c.if-is_empty.true)) in
     let last =
-    last_round (grammar_view c.args.grammar) c.args.limit c.rounds.left (c.args.limit - c.rounds.left) (seen_in c.take_waiting.new.self) (map (λ w. symbol_view w.symbol) c.take_waiting.result.items) (map item_view c.rounds.done.items)
+    last_round (grammar_view c.args.grammar) c.args.limit c.rounds.left (c.args.limit - c.rounds.left) (seen_in c.take_waiting-waiting.new.self) (map (λ w. symbol_view w.symbol) c.take_waiting-waiting.result.items) (map item_view c.rounds.done.items)
     t.round none (omega (arith, c.rounds.invariant.bound)) in
     ap (λ (d : GrammarData). record d { items = map item_view c.rounds.done.items }) c.rounds.invariant.grammar
     ∙ ap (λ is. record (grammar_view c.args.grammar) { items = is }) last.items
@@ -112,11 +118,11 @@ returns-then-is_empty-clause-plain c =
 pub returns-then-is_empty-clause-counts : goal.returns-then-is_empty-clause-counts
 returns-then-is_empty-clause-counts c =
     let t =
-    taken (grammar_view c.args.grammar) c.args.limit c.rounds.left (c.args.limit - c.rounds.left) c.rounds.table c.take_waiting.new.self c.take_waiting.result (map item_view c.rounds.done.items)
-    c.rounds.invariant.rounds c.take_waiting.ensures.nodes c.take_waiting.ensures.waiting c.take_waiting.ensures.table c.take_waiting.ensures.numbered in
-    let none : map (λ w. symbol_view w.symbol) c.take_waiting.result.items ≡ [] = ap (map (λ w. symbol_view w.symbol)) (no_items c.take_waiting.result.items (omega (arith, c.take_waiting.result.ok.0, c.is_empty.ensures, c.if-is_empty.true))) in
+    taken (grammar_view c.args.grammar) c.args.limit c.rounds.left (c.args.limit - c.rounds.left) c.rounds.table c.take_waiting-waiting.new.self c.take_waiting-waiting.result (map item_view c.rounds.done.items)
+    c.rounds.invariant.rounds c.take_waiting-waiting.ensures.nodes c.take_waiting-waiting.ensures.waiting c.take_waiting-waiting.ensures.table c.take_waiting-waiting.ensures.numbered in
+    let none : map (λ w. symbol_view w.symbol) c.take_waiting-waiting.result.items ≡ [] = ap (map (λ w. symbol_view w.symbol)) (no_items c.take_waiting-waiting.result.items (none_waits c.take_waiting-waiting.result.len (length c.take_waiting-waiting.result.items) c.is_empty.result c.take_waiting-waiting.result.ok.0 c.is_empty.ensures c.if-is_empty.true)) in
     let last =
-    last_round (grammar_view c.args.grammar) c.args.limit c.rounds.left (c.args.limit - c.rounds.left) (seen_in c.take_waiting.new.self) (map (λ w. symbol_view w.symbol) c.take_waiting.result.items) (map item_view c.rounds.done.items)
+    last_round (grammar_view c.args.grammar) c.args.limit c.rounds.left (c.args.limit - c.rounds.left) (seen_in c.take_waiting-waiting.new.self) (map (λ w. symbol_view w.symbol) c.take_waiting-waiting.result.items) (map item_view c.rounds.done.items)
     t.round none (omega (arith, c.rounds.invariant.bound)) in
     record {
       instances = c.counted.ensures.instances ∙ last.long;
@@ -127,39 +133,39 @@ returns-then-is_empty-clause-counts c =
 pub returns-then-left-eq0-clause-refuses : goal.returns-then-left-eq0-clause-refuses
 returns-then-left-eq0-clause-refuses c =
     let t =
-    taken (grammar_view c.args.grammar) c.args.limit c.rounds.left (c.args.limit - c.rounds.left) c.rounds.table c.take_waiting.new.self c.take_waiting.result (map item_view c.rounds.done.items)
-    c.rounds.invariant.rounds c.take_waiting.ensures.nodes c.take_waiting.ensures.waiting c.take_waiting.ensures.table c.take_waiting.ensures.numbered in
+    taken (grammar_view c.args.grammar) c.args.limit c.rounds.left (c.args.limit - c.rounds.left) c.rounds.table c.take_waiting-waiting.new.self c.take_waiting-waiting.result (map item_view c.rounds.done.items)
+    c.rounds.invariant.rounds c.take_waiting-waiting.ensures.nodes c.take_waiting-waiting.ensures.waiting c.take_waiting-waiting.ensures.table c.take_waiting-waiting.ensures.numbered in
     subst (λ (fs : List Fault). IsFirst fs c.past_cap.result)
-    (sym (cap_refused (grammar_view c.args.grammar) c.args.limit c.rounds.left (c.args.limit - c.rounds.left) (seen_in c.take_waiting.new.self) (map (λ w. symbol_view w.symbol) c.take_waiting.result.items) (map item_view c.rounds.done.items)
+    (sym (cap_refused (grammar_view c.args.grammar) c.args.limit c.rounds.left (c.args.limit - c.rounds.left) (seen_in c.take_waiting-waiting.new.self) (map (λ w. symbol_view w.symbol) c.take_waiting-waiting.result.items) (map item_view c.rounds.done.items)
     t.round c.if-left-eq0.true))
-    c.past_cap.ensures
+    (rw c.deref-then-left-eq0.ensures.value at c.past_cap.ensures)
 
 pub returns-in_err-read_round-clause-refuses : goal.returns-in_err-read_round-clause-refuses
 returns-in_err-read_round-clause-refuses c =
     let are : macros_in c.in_ok-others.macros ≡ macros_of (grammar_view c.args.grammar) =
     c.in_ok-others.ensures.macros ∙ ap (λ (v : Vec GrammarItem Global). flat_map macro_in (map item_view v.items)) c.replace-items.ensures.value
     ∙ macros_are (grammar_view c.args.grammar).items in
-    let names = ap has_key c.take_waiting.ensures.names ∙ c.rounds.invariant.names in
+    let names = ap has_key c.take_waiting-waiting.ensures.names ∙ c.rounds.invariant.names in
     let t =
-    taken (grammar_view c.args.grammar) c.args.limit c.rounds.left (c.args.limit - c.rounds.left) c.rounds.table c.take_waiting.new.self c.take_waiting.result (map item_view c.rounds.done.items)
-    c.rounds.invariant.rounds c.take_waiting.ensures.nodes c.take_waiting.ensures.waiting c.take_waiting.ensures.table c.take_waiting.ensures.numbered in
+    taken (grammar_view c.args.grammar) c.args.limit c.rounds.left (c.args.limit - c.rounds.left) c.rounds.table c.take_waiting-waiting.new.self c.take_waiting-waiting.result (map item_view c.rounds.done.items)
+    c.rounds.invariant.rounds c.take_waiting-waiting.ensures.nodes c.take_waiting-waiting.ensures.waiting c.take_waiting-waiting.ensures.table c.take_waiting-waiting.ensures.numbered in
     let refused = rw are at c.in_err-read_round.ensures.refuses in
     err_refuses _ _ _ c.from_residual-in_err-read_round.ensures.1
-    (round_refused_so (grammar_view c.args.grammar) c.args.limit c.rounds.left (c.rounds.left - 1) (c.args.limit - c.rounds.left) c.take_waiting.new.self c.take_waiting.new.self (seen_in c.take_waiting.new.self)
-    c.take_waiting.result.items (map item_view c.rounds.done.items) (omega arith) t.round t.making names refl _ refused)
+    (round_refused_so (grammar_view c.args.grammar) c.args.limit c.rounds.left (c.rounds.left - 1) (c.args.limit - c.rounds.left) c.take_waiting-waiting.new.self c.take_waiting-waiting.new.self (seen_in c.take_waiting-waiting.new.self)
+    c.take_waiting-waiting.result.items (map item_view c.rounds.done.items) (omega arith) t.round t.making names refl _ refused)
 
 pub rounds-preserved : goal.rounds-preserved
 rounds-preserved c =
     let are : macros_in c.in_ok-others.macros ≡ macros_of (grammar_view c.args.grammar) =
     c.in_ok-others.ensures.macros ∙ ap (λ (v : Vec GrammarItem Global). flat_map macro_in (map item_view v.items)) c.replace-items.ensures.value
     ∙ macros_are (grammar_view c.args.grammar).items in
-    let names = ap has_key c.take_waiting.ensures.names ∙ c.rounds.invariant.names in
+    let names = ap has_key c.take_waiting-waiting.ensures.names ∙ c.rounds.invariant.names in
     let t =
-    taken (grammar_view c.args.grammar) c.args.limit c.rounds.left (c.args.limit - c.rounds.left) c.rounds.table c.take_waiting.new.self c.take_waiting.result (map item_view c.rounds.done.items)
-    c.rounds.invariant.rounds c.take_waiting.ensures.nodes c.take_waiting.ensures.waiting c.take_waiting.ensures.table c.take_waiting.ensures.numbered in
+    taken (grammar_view c.args.grammar) c.args.limit c.rounds.left (c.args.limit - c.rounds.left) c.rounds.table c.take_waiting-waiting.new.self c.take_waiting-waiting.result (map item_view c.rounds.done.items)
+    c.rounds.invariant.rounds c.take_waiting-waiting.ensures.nodes c.take_waiting-waiting.ensures.waiting c.take_waiting-waiting.ensures.table c.take_waiting-waiting.ensures.numbered in
     let e = c.in_ok-read_round.ensures in
-    let some : map (λ w. symbol_view w.symbol) c.take_waiting.result.items ≡ [] → ⊥ = λ f.
-    omega (arith, ap length f, length-map c.take_waiting.result.items (λ w. symbol_view w.symbol), c.take_waiting.result.ok.0, c.is_empty.ensures, c.if-is_empty.false) in
+    let some : map (λ w. symbol_view w.symbol) c.take_waiting-waiting.result.items ≡ [] → ⊥ = λ f.
+    omega (arith, ap length f, length-map c.take_waiting-waiting.result.items (λ w. symbol_view w.symbol), some_waits c.take_waiting-waiting.result.len (length c.take_waiting-waiting.result.items) c.is_empty.result c.take_waiting-waiting.result.ok.0 c.is_empty.ensures c.if-is_empty.false) in
     let round : suc (c.args.limit - c.rounds.left) ≡ c.args.limit - (c.rounds.left - 1) = omega (arith, c.rounds.invariant.bound) in
     record {
       grammar = c.rounds.invariant.grammar;
@@ -169,7 +175,7 @@ rounds-preserved c =
       bound = omega (arith, c.rounds.invariant.bound);
       rounds =
           subst (λ (k : ℕ). AtRound (grammar_view c.args.grammar) c.args.limit (c.rounds.left - 1) k (seen_in c.read_round.new.table) (waiting_in c.read_round.new.table) (map item_view c.read_round.new.done.items)) round
-          (round_next (grammar_view c.args.grammar) c.args.limit c.rounds.left (c.rounds.left - 1) (c.args.limit - c.rounds.left) c.take_waiting.new.self c.read_round.new.table (seen_in c.take_waiting.new.self)
-          c.take_waiting.result.items (map item_view c.rounds.done.items) (omega arith) t.round t.making names refl (map item_view c.read_round.new.done.items) c.take_waiting.ensures.none some
+          (round_next (grammar_view c.args.grammar) c.args.limit c.rounds.left (c.rounds.left - 1) (c.args.limit - c.rounds.left) c.take_waiting-waiting.new.self c.read_round.new.table (seen_in c.take_waiting-waiting.new.self)
+          c.take_waiting-waiting.result.items (map item_view c.rounds.done.items) (omega arith) t.round t.making names refl (map item_view c.read_round.new.done.items) c.take_waiting-waiting.ensures.none some
           (rw are at e.meets) (rw are at e.refuses) (rw are at e.waits) (rw are at e.value));
     }

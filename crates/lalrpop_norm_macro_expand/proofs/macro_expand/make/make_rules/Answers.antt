@@ -33,7 +33,7 @@ pub returns-in_err-add_rule-clause-refuses : goal.returns-in_err-add_rule-clause
 returns-in_err-add_rule-clause-refuses c =
     let unmade_of : List Waiting → List Fault = flat_map (λ w. unmade (macros_in c.args.macros.now) (symbol_view w.symbol)) in
     exit_at _ _ (unmade (macros_in c.args.macros.now) (symbol_view c.in-Some.symbol.symbol)) (unmade_of c.next.new.self.rest.items) (unmade_of (reverse c.args.waiting.items))
-    c.from_residual.ensures.1 c.in_err-add_rule.ensures.refuses
+    c.from_residual-in_err-add_rule.ensures.1 c.in_err-add_rule.ensures.refuses
     (sym c.loop-symbol.invariant.refuses ∙ ap unmade_of c.in-Some.ensures.steps.0)
 
 pub loop-symbol-preserved : goal.loop-symbol-preserved
