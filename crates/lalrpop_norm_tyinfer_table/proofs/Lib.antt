@@ -6,6 +6,7 @@ mod LoweredViews
 mod MisfitLemmas
 pub mod NeedLemmas
 mod NeededLemmas
+mod NumberLemmas
 mod ReadLemmas
 pub mod RoundLemmas
 mod SameLemmas

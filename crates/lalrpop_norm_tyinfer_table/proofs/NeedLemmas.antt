@@ -1,9 +1,8 @@
 -- Numbers of rules, and what clauses need.
-use Rattle.std.proofs.Common.{◌≡◌, ◌<◌, ◌+◌, ◌++◌, ◌⊎◌, inl, inr, ℕ, zero, suc, Bool, true, false, List, [], ◌∷◌, Option, Some, None, length, map, take, get_or, slice_get, bytes_eq, append_assoc, refl, sym, ap, ◌∙◌, subst, arith}
+use Rattle.std.proofs.Common.{◌≡◌, ◌<◌, ◌+◌, ◌++◌, ◌⊎◌, inl, inr, ℕ, zero, suc, List, [], ◌∷◌, Option, Some, length, map, take, get_or, slice_get, append_assoc, refl, sym, ap, ◌∙◌, subst, arith}
 use Rattle.std.specs.Prelude.{Result, Ok, Err, OnOk}
 use Rattle.std.proofs.lemmas.List.{length-map, length-append, map-append, take_more}
 use Rattle.std.proofs.lemmas.Option.{slice_get_within}
-use Rattle.std.proofs.lemmas.Slice.Eq.{bytes_eq-Decides}
 use Rattle.lalrpop_norm_tree_names.specs.declared.names.TypeParameter.{TypeParameter}
 use Rattle.lalrpop_norm_theory.specs.Rounds.{In, IsDistinct}
 use Rattle.lalrpop_norm_theory.proofs.ListLemmas.{in_one}
@@ -16,15 +15,6 @@ use Rattle.lalrpop_norm_tyinfer_table.specs.Visits.{Seen}
 use Rattle.lalrpop_norm_model.proofs.LevelLemmas.{at_in}
 
 -- ---- elements of lists
-
-get_before : {X : Type 0} (xs ys : List X) (k : ℕ) (x : X) → slice_get xs k ≡ Some x → slice_get (xs ++ ys) k ≡ Some x
-get_before [] ys k x e = absurd (cc e)
-get_before (z ∷ xs) ys zero x e = e
-get_before (z ∷ xs) ys (suc k) x e = get_before xs ys k x e
-
-get_last : {X : Type 0} (xs : List X) (x : X) → slice_get (xs ++ x ∷ []) (length xs) ≡ Some x
-get_last [] x = refl
-get_last (z ∷ xs) x = get_last xs x
 
 pub get_before_last : {X : Type 0} (xs : List X) (x : X) (k : ℕ) (y : X) → slice_get (xs ++ x ∷ []) k ≡ Some y → (slice_get xs k ≡ Some y) ⊎ ((k ≡ length xs) × (x ≡ y))
 get_before_last [] x zero y e = inr (refl, cc)
@@ -68,40 +58,6 @@ pub added_both : {X Y T E : Type 0} (f : X → Y) (old mid new : List Y) (xs ys 
 added_both f old mid new xs ys (Ok x) one two =
     two ∙ (ap (λ zs. zs ++ map f ys) one ∙ (append_assoc old (map f xs) (map f ys) ∙ ap (λ zs. old ++ zs) (sym (map-append f xs ys))))
 added_both f old mid new xs ys (Err x) one two = two
-
--- ---- numbers
-
-pub numbers_none : (f : List ℕ → Option ℕ) → ((n : List ℕ) → f n ≡ None) → AreRuleNumbers f []
-numbers_none f none = record {
-  right = λ n k is. let clash = sym (none n) ∙ is in absurd cc;
-  all = λ n _ no. absurd no;
-}
-
-module _ (f h : List ℕ → Option ℕ) (names : List (List ℕ)) (m : List ℕ) (k : ℕ) (last : k ≡ length names) (a : AreRuleNumbers f names) (here : h m ≡ Some k)
-    (others : (n : List ℕ) → bytes_eq m n ≡ false → h n ≡ f n) where
-  right_case : (n : List ℕ) (j : ℕ) → h n ≡ Some j → (b : Bool) → bytes_eq m n ≡ b → slice_get (names ++ m ∷ []) j ≡ Some n
-  right_case n j is true e =
-      let same : m ≡ n = (bytes_eq-Decides m n).0 e in
-      let at : k ≡ j = let one : Some k ≡ Some j = sym here ∙ (ap h same ∙ is) in cc in
-      subst (λ i. slice_get (names ++ m ∷ []) i ≡ Some n) (sym last ∙ at) (get_last names m ∙ ap Some same)
-  right_case n j is false e = get_before names (m ∷ []) j n (a.right n j (sym (others n e) ∙ is))
-
-  all_case : (n : List ℕ) → h n ≡ None → In n (names ++ m ∷ []) → (b : Bool) → bytes_eq m n ≡ b → ⊥
-  all_case n none i true e =
-      let same : m ≡ n = (bytes_eq-Decides m n).0 e in
-      let clash : Some k ≡ None = sym here ∙ (ap h same ∙ none) in
-      absurd cc
-  all_case n none i false e = elim (in_cases n names (m ∷ []) i) [
-    | inl l ↦ a.all n (sym (others n e) ∙ none) l
-    | inr r ↦ let is : bytes_eq m n ≡ true = (bytes_eq-Decides m n).1 (sym (in_one n m r)) in absurd cc
-  ]
-
-  -- one more name, with its place
-  pub numbers_more : AreRuleNumbers h (names ++ m ∷ [])
-  numbers_more = record {
-    right = λ n j is. right_case n j is (bytes_eq m n) refl;
-    all = λ n none i. all_case n none i (bytes_eq m n) refl;
-  }
 
 -- ---- what clauses need
 

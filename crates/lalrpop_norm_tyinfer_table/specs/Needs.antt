@@ -1,15 +1,11 @@
 -- The names whose types a clause is made of, and the numbers that stand for them.
 use Rattle.std.specs.Prelude.{◌≡◌, ◌<◌, ◌⊎◌, ℕ, List, [], ◌++◌, map, length, Option, Some, None, slice_get}
-use Rattle.std.specs.Ordering.{nat_cmp}
-use Rattle.std.specs.Cmp.Lexicographic.{slice_cmp}
-use Rattle.std.specs.BTreeMap.{get}
 use Rattle.lalrpop_norm_tree_names.specs.declared.names.TypeParameter.{TypeParameter}
 use Rattle.lalrpop_norm_tree.specs.Types.{TypeData, TypesData, MaybeType, tuple, slice, nominal, reference, trait_object}
 use Rattle.lalrpop_norm_tree.specs.Types.{of_lifetime, id, of_symbol, function, no_types, type_and, no_type, returns}
 use Rattle.lalrpop_norm_theory.specs.Rounds.{In}
 use Rattle.lalrpop_norm_model.specs.Expanded.{names_in_kind}
 use Rattle.lalrpop_norm_model.specs.TypeRelation.{associated_in, TypeClause, makes, locates}
-use Rattle.lalrpop_norm_tyinfer_table.specs.declared.names.RuleNames.{RuleNames}
 use Rattle.lalrpop_norm_tyinfer_table.specs.declared.needs.Need.{Need}
 use Rattle.lalrpop_norm_tyinfer_table.specs.Visits.{Seen}
 
@@ -47,10 +43,6 @@ needed_in ps (makes t) = needed_type ps t
 needed_in ps locates = []
 
 -- ---- numbers
-
--- the number that a name has
-abbrev pub rule_number : RuleNames → List ℕ → Option ℕ
-rule_number d n = get (slice_cmp nat_cmp) d.places n
 
 -- the names of rules
 abbrev pub names_seen : List Seen → List (List ℕ)

@@ -3,7 +3,6 @@
 
 pub mod grounded;
 mod named;
-pub mod names;
 pub mod needs;
 pub mod patterns;
 pub mod rules;

@@ -1,18 +1,19 @@
 //! The clauses of rules by the names whose types they are made of.
 ghost use Rattle.std.specs.Prelude.{◌≡◌, ◌++◌, IfOk, OnOk, flat_map, map, option_map};
+ghost use Rattle.lalrpop_norm_names.specs.Numbers.{number_in_table};
 ghost use Rattle.lalrpop_norm_tree.specs.Symbols.{kind_view, symbol_view};
 ghost use Rattle.lalrpop_norm_tree.specs.Types.{type_view, types_view, maybe_of};
 ghost use Rattle.lalrpop_norm_tree_parts.specs.Paths.{path_view};
 ghost use Rattle.lalrpop_norm_model.specs.Expanded.{names_in, names_in_kind};
 ghost use Rattle.lalrpop_norm_model.specs.TypeRelation.{associated_in};
 ghost use Rattle.lalrpop_norm_tyinfer_table.specs.Clauses.{clause_view};
-ghost use Rattle.lalrpop_norm_tyinfer_table.specs.Needs.{needed_in, needed_type, needed_types, needed_return, needed_path, rule_number, AddsNeeds, IsNeedOf, AreNeeds, HaveNeeds};
+ghost use Rattle.lalrpop_norm_tyinfer_table.specs.Needs.{needed_in, needed_type, needed_types, needed_return, needed_path, names_seen, AreRuleNumbers, AddsNeeds, IsNeedOf, AreNeeds, HaveNeeds};
 ghost use Rattle.lalrpop_norm_tyinfer_table.specs.Visits.{rule_seen};
 
-use crate::names::RuleNames;
-use crate::rules::PlainRule;
+use crate::rules::{PlainRule, names_of_rules};
 use crate::type_sources::TypeSource;
 use crate::values::associated;
+use lalrpop_norm_names::Names;
 use lalrpop_norm_tree::grammar::parse_tree::{
     NoMemory, Path, Symbol, SymbolKind, TypeParameter, TypeRef,
 };
@@ -31,14 +32,14 @@ pub struct Need {
 #[cycle(symbol)]
 fn add_kind(
     numbers: &mut Vec<Option<usize>>,
-    names: &RuleNames,
+    names: &Names,
     kind: &SymbolKind,
 ) -> Result<(), NoMemory>
-    ensures { OnOk result (numbers.new.items ≡ numbers.old.items ++ map (rule_number names.now) (names_in_kind (kind_view kind.now))) }
+    ensures { OnOk result (numbers.new.items ≡ numbers.old.items ++ map (number_in_table names.now) (names_in_kind (kind_view kind.now))) }
 {
     match kind {
         SymbolKind::Nonterminal(name) => {
-            numbers.push(names.number(&name.0))?;
+            numbers.push(names.number(name))?;
             Ok(())
         }
         SymbolKind::Choose(symbol) => add_symbol(numbers, names, symbol),
@@ -58,10 +59,10 @@ fn add_kind(
 #[cycle(symbol)]
 fn add_symbol(
     numbers: &mut Vec<Option<usize>>,
-    names: &RuleNames,
+    names: &Names,
     symbol: &Symbol,
 ) -> Result<(), NoMemory>
-    ensures { OnOk result (numbers.new.items ≡ numbers.old.items ++ map (rule_number names.now) (names_in (symbol_view symbol.now))) }
+    ensures { OnOk result (numbers.new.items ≡ numbers.old.items ++ map (number_in_table names.now) (names_in (symbol_view symbol.now))) }
 {
     add_kind(numbers, names, &symbol.kind)
 }
@@ -71,10 +72,10 @@ fn add_symbol(
 fn add_type(
     numbers: &mut Vec<Option<usize>>,
     parameters: &[TypeParameter],
-    names: &RuleNames,
+    names: &Names,
     written: &TypeRef,
 ) -> Result<(), NoMemory>
-    ensures { OnOk result (numbers.new.items ≡ numbers.old.items ++ map (rule_number names.now) (needed_type parameters.now (type_view written.now))) }
+    ensures { OnOk result (numbers.new.items ≡ numbers.old.items ++ map (number_in_table names.now) (needed_type parameters.now (type_view written.now))) }
 {
     match written {
         TypeRef::Tuple(inner) => add_types(numbers, parameters, names, inner),
@@ -110,12 +111,12 @@ fn add_type(
 fn add_path(
     numbers: &mut Vec<Option<usize>>,
     parameters: &[TypeParameter],
-    names: &RuleNames,
+    names: &Names,
     path: &Path,
     inner: &[TypeRef],
 ) -> Result<(), NoMemory>
     ensures { OnOk result (numbers.new.items ≡ numbers.old.items
-        ++ map (rule_number names.now) (needed_path (associated_in parameters.now (path_view path.now).ids) (needed_types parameters.now (types_view inner.now)))) }
+        ++ map (number_in_table names.now) (needed_path (associated_in parameters.now (path_view path.now).ids) (needed_types parameters.now (types_view inner.now)))) }
 {
     match associated(parameters, path) {
         Some(_) => Ok(()),
@@ -127,10 +128,10 @@ fn add_path(
 fn add_types(
     numbers: &mut Vec<Option<usize>>,
     parameters: &[TypeParameter],
-    names: &RuleNames,
+    names: &Names,
     written: &[TypeRef],
 ) -> Result<(), NoMemory>
-    ensures { OnOk result (numbers.new.items ≡ numbers.old.items ++ map (rule_number names.now) (needed_types parameters.now (types_view written.now))) }
+    ensures { OnOk result (numbers.new.items ≡ numbers.old.items ++ map (number_in_table names.now) (needed_types parameters.now (types_view written.now))) }
 {
     for inner in written {
         add_type(numbers, parameters, names, inner)?;
@@ -142,11 +143,11 @@ fn add_types(
 fn add_return(
     numbers: &mut Vec<Option<usize>>,
     parameters: &[TypeParameter],
-    names: &RuleNames,
+    names: &Names,
     ret: &Option<Box<TypeRef>>,
 ) -> Result<(), NoMemory>
     ensures { OnOk result (numbers.new.items ≡ numbers.old.items
-        ++ map (rule_number names.now) (needed_return parameters.now (maybe_of (option_map (λ b. type_view b.value) ret.now)))) }
+        ++ map (number_in_table names.now) (needed_return parameters.now (maybe_of (option_map (λ b. type_view b.value) ret.now)))) }
 {
     match ret {
         None => Ok(()),
@@ -156,10 +157,10 @@ fn add_return(
 
 fn add_sources(
     numbers: &mut Vec<Option<usize>>,
-    names: &RuleNames,
+    names: &Names,
     sources: &[(usize, &Symbol)],
 ) -> Result<(), NoMemory>
-    ensures { OnOk result (numbers.new.items ≡ numbers.old.items ++ map (rule_number names.now) (flat_map names_in_kind (map (λ t. kind_view t.1.now.kind) sources.now))) }
+    ensures { OnOk result (numbers.new.items ≡ numbers.old.items ++ map (number_in_table names.now) (flat_map names_in_kind (map (λ t. kind_view t.1.now.kind) sources.now))) }
 {
     for source in sources {
         add_kind(numbers, names, &source.1.kind)?;
@@ -171,10 +172,10 @@ fn add_sources(
 fn add_clause(
     numbers: &mut Vec<Option<usize>>,
     parameters: &[TypeParameter],
-    names: &RuleNames,
+    names: &Names,
     clause: &TypeSource,
 ) -> Result<(), NoMemory>
-    ensures { OnOk result (numbers.new.items ≡ numbers.old.items ++ map (rule_number names.now) (needed_in parameters.now (clause_view clause.now))) }
+    ensures { OnOk result (numbers.new.items ≡ numbers.old.items ++ map (number_in_table names.now) (needed_in parameters.now (clause_view clause.now))) }
 {
     match clause {
         TypeSource::Declared(written) => add_type(numbers, parameters, names, written),
@@ -187,11 +188,11 @@ fn add_clause(
 fn need_of(
     alloc: Global,
     parameters: &[TypeParameter],
-    names: &RuleNames,
+    names: &Names,
     clause: &TypeSource,
     rule: usize,
 ) -> Result<Need, NoMemory>
-    ensures { IfOk result (IsNeedOf (rule_number names.now) parameters.now (clause_view clause.now) rule) }
+    ensures { IfOk result (IsNeedOf (number_in_table names.now) parameters.now (clause_view clause.now) rule) }
 {
     let mut numbers = Vec::new(alloc);
     add_clause(&mut numbers, parameters, names, clause)?;
@@ -203,11 +204,11 @@ fn add_needs(
     needs: &mut Vec<Need>,
     alloc: Global,
     parameters: &[TypeParameter],
-    names: &RuleNames,
+    names: &Names,
     clauses: &[TypeSource],
     rule: usize,
 ) -> Result<(), NoMemory>
-    ensures { OnOk result (AddsNeeds (rule_number names.now) parameters.now needs.old.items needs.new.items (map clause_view clauses.now) rule) }
+    ensures { OnOk result (AddsNeeds (number_in_table names.now) parameters.now needs.old.items needs.new.items (map clause_view clauses.now) rule) }
 {
     for clause in clauses {
         needs.push(need_of(alloc, parameters, names, clause, rule)?)?;
@@ -219,10 +220,10 @@ fn add_needs(
 fn needs_by(
     alloc: Global,
     parameters: &[TypeParameter],
-    names: &RuleNames,
+    names: &Names,
     rules: &[PlainRule],
 ) -> Result<Vec<Need>, NoMemory>
-    ensures { IfOk result (λ ns. AreNeeds (rule_number names.now) parameters.now (map rule_seen rules.now) ns.items) }
+    ensures { IfOk result (λ ns. AreNeeds (number_in_table names.now) parameters.now (map rule_seen rules.now) ns.items) }
 {
     let mut needs = Vec::with_capacity(alloc, rules.len())?;
     for rule in 0..rules.len() {
@@ -238,6 +239,14 @@ fn needs_by(
     Ok(needs)
 }
 
+/// The number of each rule, which is its place, by its name; of several the first.
+fn numbers_of(alloc: Global, rules: &[PlainRule]) -> Result<Names, NoMemory>
+    ensures { IfOk result (λ d. AreRuleNumbers (number_in_table d) (names_seen (map rule_seen rules.now))) }
+{
+    let names = names_of_rules(alloc, rules)?;
+    Names::of(alloc, &names)
+}
+
 /// What the clauses of some rules need.
 pub fn needs_of(
     alloc: Global,
@@ -246,6 +255,6 @@ pub fn needs_of(
 ) -> Result<Vec<Need>, NoMemory>
     ensures { IfOk result (λ ns. HaveNeeds parameters.now (map rule_seen rules.now) ns.items) }
 {
-    let names = RuleNames::of(alloc, rules)?;
+    let names = numbers_of(alloc, rules)?;
     needs_by(alloc, parameters, &names, rules)
 }

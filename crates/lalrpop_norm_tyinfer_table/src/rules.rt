@@ -2,10 +2,13 @@
 ghost use Rattle.std.specs.Prelude.{◌≡◌, IfOk, map, flat_map};
 ghost use Rattle.lalrpop_norm_tree.specs.Items.{item_view, rule_view};
 ghost use Rattle.lalrpop_norm_model.specs.PlainRules.{rule_of_item};
+ghost use Rattle.lalrpop_norm_tyinfer_table.specs.Needs.{names_seen};
 ghost use Rattle.lalrpop_norm_tyinfer_table.specs.Visits.{rule_seen, with_clauses};
 
 use crate::type_sources::{TypeSource, rule_clauses};
-use lalrpop_norm_tree::grammar::parse_tree::{GrammarItem, NoMemory, NonterminalData};
+use lalrpop_norm_tree::grammar::parse_tree::{
+    GrammarItem, NoMemory, NonterminalData, NonterminalString,
+};
 use std::alloc::Global;
 
 /// A rule, and by which it has a type.
@@ -45,4 +48,18 @@ pub fn plain_rules(alloc: Global, items: &[GrammarItem]) -> Result<Vec<PlainRule
         }
     }
     Ok(rules)
+}
+
+/// The names of some rules.
+pub(crate) fn names_of_rules(
+    alloc: Global,
+    rules: &[PlainRule],
+) -> Result<Vec<NonterminalString>, NoMemory>
+    ensures { IfOk result (λ ns. map (λ n. n.0) ns.items ≡ names_seen (map rule_seen rules.now)) }
+{
+    let mut names = Vec::with_capacity(alloc, rules.len())?;
+    for rule in rules {
+        names.push(rule.data.name.clone()?)?;
+    }
+    Ok(names)
 }
