@@ -428,7 +428,7 @@ def meet(s, seen, declared):
 
 
 def expand_macros(tree, limit):
-    """Calls, groups, repeats and lookarounds, round by round; what was met last is made first."""
+    """Calls, groups, repeats and lookarounds, round by round; what was met last is made first. How many rules, and how many rounds."""
     declared = {r["name"] for r in rules_of(tree)}
     macros = {r["name"]: r for r in rules_of(tree) if r["args"]}
     tree["items"] = [i for i in tree["items"] if one(i)[0] != "Nonterminal" or not one(i)[1]["args"]]
@@ -441,7 +441,7 @@ def expand_macros(tree, limit):
                     if one(s["kind"])[0] in ("Expr", "Repeat", "Macro") + LOOKAROUNDS:
                         waiting += meet(s, seen, declared)
         if not waiting:
-            return
+            return len(seen), rounds + 1
         rounds += 1
         if rounds > limit:
             raise Refused("F36 " + place(waiting[-1][1]["span"]))
@@ -666,6 +666,13 @@ def normalized(tree, features, limit, lexer=None):
     return Lowered(tree)
 
 
+def counted(tree, limit):
+    """How much an expansion did, and the tree is expanded. Each rule that is made has one text."""
+    resolve(tree)
+    rules, rounds = expand_macros(tree, limit)
+    return "instances %d, rounds %d, texts %d\n" % (rules, rounds, rules)
+
+
 def lowered_alone(tree, features):
     """What `lower` makes of a tree whose names are resolved; types are those of all conversions, terminals of the active ones."""
     types_text(tree)
@@ -705,7 +712,7 @@ def counts_of(data):
 PASSES = ("read", "validate", "check_globals", "remove_disabled_decls", "resolve", "expand_levels", "expand_precedence",
           "expand_macros", "token_check")
 LAST = ("token_check_scripted", "infer_types", "normalize", "lowered_copy", "copy", "lower", "is_typed", "ask", "texts",
-        "normalize_scripted", "without_memory")
+        "normalize_scripted", "without_memory", "expand_macros_counted")
 
 
 def passes_answer(data, call, words):
@@ -736,10 +743,12 @@ def passes_answer(data, call, words):
         return text if last == "infer_types" else "typed: %s\n" % str(is_typed(tree, features)).lower()
     if last in ("ask", "texts"):
         return asked(tree, features) if last == "ask" else texts_of(tree)
-    run_pass(last, tree, features, limit, lexer)
+    told = counted(tree, limit) if last == "expand_macros_counted" else ""
+    if not told:
+        run_pass(last, tree, features, limit, lexer)
     if last in ("validate", "check_globals"):
         return "ok\n"
-    return debug_tree(tree) if whole else tree_text(tree)
+    return told + (debug_tree(tree) if whole else tree_text(tree))
 
 
 def answer(data, name, call, *words):

@@ -4,7 +4,6 @@ use Rattle.std.proofs.lemmas.List.{length-append}
 use Rattle.std.proofs.lemmas.Slice.Eq.{bytes_eq-Decides}
 use Rattle.lalrpop_norm_tree.specs.Symbols.{Part}
 use Rattle.lalrpop_norm_tree.specs.SymbolTexts.{part_text}
-use Rattle.lalrpop_norm_nodes.specs.declared.expander.Met.{Met}
 use Rattle.lalrpop_norm_nodes.specs.Meeting.{first_with_text}
 
 pub first_more : (t : List ℕ) (seen : List Part) (x : Part) → (part_text x ≡ t → ⊥) → first_with_text t (seen ++ x ∷ []) ≡ first_with_text t seen

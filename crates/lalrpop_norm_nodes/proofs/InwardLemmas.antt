@@ -11,7 +11,6 @@ use Rattle.lalrpop_norm_faults.specs.Faults.{fault_if}
 use Rattle.lalrpop_norm_theory.specs.Symbols.{ClosedSymbol}
 use Rattle.lalrpop_norm_theory.specs.Same.{same_symbol}
 use Rattle.lalrpop_norm_model.specs.PlainRules.{same_apart_from_spans, met, all_met}
-use Rattle.lalrpop_norm_nodes.specs.declared.expander.Expander.{Expander}
 use Rattle.lalrpop_norm_nodes.specs.Apart.{unplaced, all_unplaced}
 use Rattle.lalrpop_norm_model.specs.MadeRules.{span_of}
 use Rattle.lalrpop_norm_nodes.specs.Meeting.{met_inside, own, met_itself, inside, own_text, first_with_text, joined_by, after_one, after, differs, clashes, clash_faults, was_met, were_met, has_key}

@@ -7,7 +7,6 @@ use Rattle.lalrpop_norm_faults.specs.declared.failure.NormFailure.{NormFailure}
 use Rattle.lalrpop_norm_faults.specs.declared.kind.FaultKind.TheVariants.{SharedName}
 use Rattle.lalrpop_norm_faults.specs.Faults.{Fault, fault_if, IsFirst, Refuses}
 use Rattle.lalrpop_norm_faults.proofs.FaultLemmas.{exit_at}
-use Rattle.lalrpop_norm_nodes.specs.declared.expander.Expander.{Expander}
 use Rattle.lalrpop_norm_model.specs.MadeRules.{span_of}
 use Rattle.lalrpop_norm_nodes.specs.Meeting.{after, after_one, clashes, clash_faults, has_key}
 

@@ -10,7 +10,6 @@ use Rattle.lalrpop_norm_tree.proofs.SymbolViews.{seen_at}
 use Rattle.lalrpop_norm_faults.specs.declared.failure.NormFailure.{NormFailure}
 use Rattle.lalrpop_norm_faults.specs.Faults.{IsFirst, Refuses}
 use Rattle.lalrpop_norm_model.specs.PlainRules.{met, all_met}
-use Rattle.lalrpop_norm_nodes.specs.declared.expander.Expander.{Expander}
 use Rattle.lalrpop_norm_nodes.specs.Meeting.{met_inside, own, met_itself}
 use Rattle.lalrpop_norm_nodes.proofs.MeetingLemmas.{refuses_same}
 

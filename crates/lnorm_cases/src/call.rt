@@ -75,6 +75,8 @@ pub(crate) enum Last {
     TokenCheckScripted,
     /// `normalize` with that lexer.
     NormalizeScripted,
+    /// `expand_macros_counted`: how much it did, and the tree.
+    ExpandMacrosCounted,
     /// `infer_types`: the table of types.
     InferTypes,
     /// `is_typed`: whether `lower` takes that table.
@@ -135,6 +137,7 @@ fn last_of(name: &str) -> Option<Last> {
     match name {
         "token_check_scripted" => Some(Last::TokenCheckScripted),
         "normalize_scripted" => Some(Last::NormalizeScripted),
+        "expand_macros_counted" => Some(Last::ExpandMacrosCounted),
         "infer_types" => Some(Last::InferTypes),
         "is_typed" => Some(Last::IsTyped),
         "lower" => Some(Last::Lower),

@@ -1,7 +1,7 @@
 //! What passes come to, and how it is printed.
 use crate::asks::push_asked;
 use crate::call::{Last, Pass};
-use crate::passes::{Stopped, lowered, normalized, tree_after, tree_after_all, typed};
+use crate::passes::{Stopped, counted, lowered, normalized, tree_after, tree_after_all, typed};
 use crate::shown::{ended, push_or};
 use crate::without_memory::push_without_memory;
 use lalrpop_norm::grammar::repr;
@@ -9,6 +9,7 @@ use lalrpop_norm::normalize::lower::is_typed;
 use lalrpop_norm::normalize::{NormFailure, Session};
 use lalrpop_norm_json::{TreeError, read_tree};
 use lalrpop_norm_lexer::lexer::Lexer;
+use lalrpop_norm_macro_expand::macro_expand::Counts;
 use lalrpop_norm_repr::grammar::repr::Types;
 use lalrpop_norm_tree::grammar::parse_tree::Grammar;
 use lnorm_texts::faults::push_told;
@@ -108,6 +109,7 @@ fn push_last<L: Lexer>(
             let pass = Pass::TokenCheck;
             push_pass(text, layout, pass, tree_after(alloc, session, pass, tree))
         }
+        Last::ExpandMacrosCounted => push_counted(text, layout, counted(alloc, session, tree)),
         Last::InferTypes => push_typed(alloc, text, layout, tree),
         Last::IsTyped => push_is_typed(alloc, text, session, layout, tree),
         Last::Lower => push_normalized(text, layout, lowered(alloc, session, tree)),
@@ -162,6 +164,33 @@ fn push_tree_as(text: &mut String, layout: Layout, tree: &Grammar) -> Result<(),
         Layout::Lines | Layout::Told | Layout::Twice => push_tree(text, tree),
         Layout::Whole => push_whole_tree(text, tree),
     }
+}
+
+/// How much an expansion did, and the tree after it.
+fn push_counted(
+    text: &mut String,
+    layout: Layout,
+    answer: Result<(Grammar, Counts), Stopped>,
+) -> Result<(), AllocError> {
+    push_answer_of(text, layout, answer, |text, counted| {
+        push_counts(text, layout, counted)
+    })
+}
+
+fn push_counts(
+    text: &mut String,
+    layout: Layout,
+    counted: &(Grammar, Counts),
+) -> Result<(), AllocError> {
+    let (tree, counts) = counted;
+    let instances = counts.instances;
+    let rounds = counts.rounds;
+    let texts = counts.texts;
+    write!(
+        text,
+        "instances {instances}, rounds {rounds}, texts {texts}\n"
+    )?;
+    push_tree_as(text, layout, tree)
 }
 
 /// The types of the tree's rules, once its names are resolved.

@@ -16,7 +16,7 @@ use lalrpop_norm::normalize::{
     NormFailure, NormResult, Session, is_expanded, normalize, token_check,
 };
 use lalrpop_norm_lexer::lexer::Lexer;
-use lalrpop_norm_macro_expand::macro_expand::expand_macros;
+use lalrpop_norm_macro_expand::macro_expand::{Counts, expand_macros, expand_macros_counted};
 use lalrpop_norm_precedence::precedence::expand_levels;
 use lalrpop_norm_repr::grammar::repr::Types;
 use lalrpop_norm_tree::grammar::parse_tree::Grammar;
@@ -89,6 +89,16 @@ fn validated(alloc: Global, tree: Grammar) -> NormResult<Grammar> {
 fn with_checked_globals(alloc: Global, tree: Grammar) -> NormResult<Grammar> {
     let done = check_globals(alloc, &tree);
     kept(tree, done)
+}
+
+/// The tree after `expand_macros_counted`, and how much that did.
+pub(crate) fn counted<L>(
+    alloc: Global,
+    session: &Session<L>,
+    tree: Grammar,
+) -> Result<(Grammar, Counts), Stopped> {
+    let limit = session.macro_recursion_limit;
+    Ok(expand_macros_counted(alloc, tree, limit)?)
 }
 
 /// The lowered grammar.
