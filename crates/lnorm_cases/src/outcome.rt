@@ -172,17 +172,17 @@ fn push_counted(
     layout: Layout,
     answer: Result<(Grammar, Counts), Stopped>,
 ) -> Result<(), AllocError> {
-    push_answer_of(text, layout, answer, |text, counted| {
-        push_counts(text, layout, counted)
+    push_answer_of(text, layout, answer, |text, made| {
+        push_counts(text, layout, made)
     })
 }
 
 fn push_counts(
     text: &mut String,
     layout: Layout,
-    counted: &(Grammar, Counts),
+    made: &(Grammar, Counts),
 ) -> Result<(), AllocError> {
-    let (tree, counts) = counted;
+    let (tree, counts) = made;
     let instances = counts.instances;
     let rounds = counts.rounds;
     let texts = counts.texts;
