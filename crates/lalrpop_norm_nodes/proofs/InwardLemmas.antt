@@ -77,12 +77,6 @@ module _ (names : List ℕ → Bool) where
       let p = and_parts _ _ h in
       and_from _ _ (stays seen more x p.0) (all_stay seen more xs p.1)
 
-  inside_stay : (seen more ys : List Part) → were_met_inside names seen ys ≡ true → were_met_inside names (seen ++ more) ys ≡ true
-  inside_stay seen more [] h = refl
-  inside_stay seen more (y ∷ ys) h =
-      let p = and_parts _ _ h in
-      and_from _ _ (all_stay seen more (inside y) p.0) (inside_stay seen more ys p.1)
-
   stays_one : (seen : List Part) (x z : Part) → was_met names seen z ≡ true → was_met names (after_one seen x) z ≡ true
   stays_one seen x z h = by (first_with_text (part_text x) seen)
     where
