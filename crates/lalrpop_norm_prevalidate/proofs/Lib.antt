@@ -1,3 +1,4 @@
 pub mod EnabledLemmas
 pub mod CallLemmas
 pub mod PlaceLemmas
+pub mod NameLemmas

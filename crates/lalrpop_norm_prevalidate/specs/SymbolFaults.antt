@@ -46,10 +46,14 @@ abbrev pub named_at : List ℕ → Parts → Option Span
 named_at name no_parts = None
 named_at name (part_and (at s k) ps) = if is_that_name name (name_of k) then Some s else named_at name ps
 
+-- a name with its place, if there is one
+abbrev pub placed : (List ℕ → Option Span) → Option (List ℕ) → Option (List ℕ × Span)
+placed place None = None
+placed place (Some n) = option_map (λ s. (n, s)) (place n)
+
 -- a name with the place of the second symbol of that name, if there is one
 abbrev pub again : Option (List ℕ) → Parts → Option (List ℕ × Span)
-again None ps = None
-again (Some n) ps = option_map (λ s. (n, s)) (named_at n ps)
+again name ps = placed (λ n. named_at n ps) name
 
 -- of two repeated names the lesser, and of one name the earlier place
 abbrev pub lesser_name : Option (List ℕ × Span) → Option (List ℕ × Span) → Option (List ℕ × Span)

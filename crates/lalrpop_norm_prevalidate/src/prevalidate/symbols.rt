@@ -1,14 +1,23 @@
 //! Symbols.
-ghost use Rattle.std.specs.Prelude.{◌≡◌, option_map};
+ghost use Rattle.std.specs.Prelude.{◌≡◌, ℕ, List, Some, IfOk, OnOk, option_map, if◌then◌else◌};
+ghost use Rattle.std.specs.BTreeMap.{get};
+ghost use Rattle.std.specs.Ordering.{nat_cmp};
+ghost use Rattle.std.specs.Cmp.Lexicographic.{slice_cmp};
 ghost use Rattle.lalrpop_norm_faults.specs.Faults.{Refuses, fault_if};
-ghost use Rattle.lalrpop_norm_prevalidate.specs.SymbolFaults.{call_faults, terminal_faults, kind_faults, part_faults, parts_faults, list_faults, beside_faults, name_of, is_that_name, first_chosen, has_named, named_at, again, lesser_name, least_twice};
+ghost use Rattle.lalrpop_norm_prevalidate.specs.SymbolFaults.{call_faults, terminal_faults, kind_faults, part_faults, parts_faults, list_faults, beside_faults, name_of, is_that_name, first_chosen, has_named, named_at, placed, again, lesser_name, least_twice};
 ghost use Rattle.lalrpop_norm_tree.specs.Symbols.{kind_view, symbol_view, parts_view};
 
 use super::Surroundings;
 use lalrpop_norm_faults::{FaultKind, NormResult, refusal};
 use lalrpop_norm_session::norm_util::is_chosen_kind;
-use lalrpop_norm_tree::grammar::parse_tree::{Atom, Span, Symbol, SymbolKind, TerminalString};
+use lalrpop_norm_tree::grammar::parse_tree::{
+    Atom, NoMemory, Span, Symbol, SymbolKind, TerminalString,
+};
 use std::alloc::Global;
+use std::collections::BTreeMap;
+
+/// How long a list of symbols may be whose names are compared with one another.
+const FEW: usize = 8;
 
 #[cycle(symbols)]
 pub(super) fn validate_list(
@@ -133,7 +142,7 @@ fn validate_beside(alloc: Global, symbols: &[Symbol]) -> NormResult<()>
             ));
         }
     }
-    if let Some((name, span)) = least_twice(symbols) {
+    if let Some((name, span)) = least_twice(alloc, symbols)? {
         return Err(refusal(
             FaultKind::NameTwice,
             span,
@@ -242,8 +251,10 @@ fn lesser<'a>(
     }
 }
 
-/// The least name that two symbols have, with the place of the second of them.
-fn least_twice(symbols: &[Symbol]) -> Option<(&Atom, Span)>
+/// The least name that two symbols of a short list have, with the place of the second of them.
+///
+/// Each name is compared with those behind it, in the square of their number and without memory.
+fn least_of_few(symbols: &[Symbol]) -> Option<(&Atom, Span)>
     ensures { option_map (λ r. (r.0.now, r.1)) result ≡ least_twice (parts_view symbols.now) }
 {
     let mut least = None;
@@ -252,6 +263,48 @@ fn least_twice(symbols: &[Symbol]) -> Option<(&Atom, Span)>
         least = lesser(found, least);
     }
     least
+}
+
+/// Notes the place of a symbol under its name, if it has one, and answers the name with the place that was noted before.
+fn note<'a>(
+    places: &mut BTreeMap<Atom, Span>,
+    symbol: &'a Symbol,
+) -> Result<Option<(&'a Atom, Span)>, NoMemory>
+    ensures found { IfOk result (λ r. option_map (λ r. (r.0.now, r.1)) r ≡ placed (get (slice_cmp nat_cmp) places.old) (name_of (kind_view symbol.now.kind))) }
+    ensures notes { OnOk result ((name : List ℕ) → get (slice_cmp nat_cmp) places.new name
+        ≡ (if is_that_name name (name_of (kind_view symbol.now.kind)) then Some symbol.now.span else get (slice_cmp nat_cmp) places.old name)) }
+{
+    let Some(name) = name_of(&symbol.kind) else {
+        return Ok(None);
+    };
+    match places.insert(name.again(), symbol.span)? {
+        Some(later) => Ok(Some((name, later))),
+        None => Ok(None),
+    }
+}
+
+/// The least name that two symbols of a long list have, with the place of the second of them.
+fn least_of_many(alloc: Global, symbols: &[Symbol]) -> Result<Option<(&Atom, Span)>, NoMemory>
+    ensures { IfOk result (λ r. option_map (λ r. (r.0.now, r.1)) r ≡ least_twice (parts_view symbols.now)) }
+{
+    let mut least = None;
+    let mut places = BTreeMap::new(alloc);
+    for i in (0..symbols.len()).rev() {
+        let found = note(&mut places, &symbols[i])?;
+        least = lesser(found, least);
+    }
+    Ok(least)
+}
+
+/// The least name that two symbols have, with the place of the second of them.
+fn least_twice(alloc: Global, symbols: &[Symbol]) -> Result<Option<(&Atom, Span)>, NoMemory>
+    ensures { IfOk result (λ r. option_map (λ r. (r.0.now, r.1)) r ≡ least_twice (parts_view symbols.now)) }
+{
+    if symbols.len() > FEW {
+        least_of_many(alloc, symbols)
+    } else {
+        Ok(least_of_few(symbols))
+    }
 }
 
 #[tactic(auto, unfolding(crate::specs::SymbolFaults::call_faults), using(crate::proofs::CallLemmas::no_call_faults))]
