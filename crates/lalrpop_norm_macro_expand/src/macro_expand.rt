@@ -106,8 +106,8 @@ fn expand_rounds(alloc: Global, grammar: Grammar, limit: u16) -> NormResult<(Gra
     ensures plain { IfOk result (λ made. grammar_view made.0 ≡ plain_grammar comparison (grammar_view grammar) limit) }
     ensures counts { IfOk result (λ made. AreCounts comparison (grammar_view grammar) limit made.1) }
 {
-    let seed = seeded_by(&grammar.items);
     let names = declared_names(alloc, &grammar.items)?;
+    let seed = seeded_by(&grammar.items);
     let mut table = Table::new(alloc, names, seed);
     let mut grammar = grammar;
     let items = mem::replace(&mut grammar.items, Vec::new(alloc));
