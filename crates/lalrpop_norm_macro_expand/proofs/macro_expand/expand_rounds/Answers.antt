@@ -34,7 +34,7 @@ rounds-init c =
     record {
       grammar =
           ap (λ (v : Vec GrammarItem Global). record g { items = map item_view v.items }) c.replace-items.ensures.after
-          ∙ ap (λ is. record g { items = map item_view is }) c.new-2.ensures.items;
+          ∙ ap (λ is. record g { items = map item_view is }) c.new.ensures.items;
       table = c.in_ok-read_items.ensures.meets.table;
       counted = c.in_ok-read_items.ensures.counted;
       names = ap has_key c.in_ok-read_items.ensures.meets.names ∙ names;
