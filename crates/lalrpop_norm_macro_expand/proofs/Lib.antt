@@ -1,6 +1,7 @@
 mod BoundLemmas
 pub mod DistinctLemmas
 mod FreshLemmas
+mod MadeLemmas
 mod PendingLemmas
 mod RoundLemmas
 mod WaitingLists

@@ -14,11 +14,11 @@ use Rattle.lalrpop_norm_theory.specs.Rounds.{In, Round, fresh_of}
 use Rattle.lalrpop_norm_theory.proofs.RoundsLemmas.{fresh_listed, of_reverse}
 use Rattle.lalrpop_norm_theory.proofs.ListLemmas.{map_reverse}
 use Rattle.lalrpop_norm_model.specs.Grammars.{is_nil}
-use Rattle.lalrpop_norm_model.specs.MadeRules.{made_rules}
+use Rattle.lalrpop_norm_model.specs.MadeRules.{kind_of, made_rules}
 use Rattle.lalrpop_norm_model.specs.Expanded.{rule_names}
 use Rattle.lalrpop_norm_model.specs.PlainRules.{met, met_in_rule, met_by_made, rule_of_item, rules_without_arguments, macros_of, same_apart_from_spans, expansion_round, made_symbols, made_in, IsEnded, plain_item, plain_grammar, replaced_rule}
 use Rattle.lalrpop_norm_conditions.specs.Conditions.{comparison}
-use Rattle.lalrpop_norm_nodes.specs.Apart.{unplaced}
+use Rattle.lalrpop_norm_nodes.specs.Apart.{nowhere, unplaced_kind, unplaced}
 use Rattle.lalrpop_norm_nodes.specs.Meeting.{inside, met_inside, own, first_with_text, after, clash_faults, were_met, has_key}
 use Rattle.lalrpop_norm_nodes.proofs.InwardLemmas.{met_then}
 use Rattle.lalrpop_norm_nodes.specs.declared.node.Nodes.{Nodes}
@@ -36,8 +36,10 @@ use Rattle.lalrpop_norm_macro_expand_rules.specs.Names.{is_declared_name}
 use Rattle.lalrpop_norm_macro_expand_rules.specs.Items.{replaced_item, met_in_item, shown_in_item, without_macro, macro_in}
 use Rattle.lalrpop_norm_macro_expand_rules.specs.Pending.{PendingData, met_in_pending, shown_in_pending, pending_read}
 use Rattle.lalrpop_norm_macro_expand.specs.Expansion.{shared_names, meetings, met_before, shared_in, unmade, unmade_in, past_cap, faults_from, expansion_faults}
+use Rattle.lalrpop_norm_macro_expand.specs.Kept.{kept_by}
 use Rattle.lalrpop_norm_macro_expand.specs.Making.{pending_of, pending_for}
 use Rattle.lalrpop_norm_macro_expand.proofs.FreshLemmas.{Tells, after_fresh, first_same, quiet_same, tells_after}
+use Rattle.lalrpop_norm_macro_expand.proofs.MadeLemmas.{NewOnes, kept_replaced}
 use Rattle.lalrpop_norm_macro_expand.proofs.PendingLemmas.{pending_by, pending_are_read, rules_read, all_unmade}
 
 abbrev replaced_rules : List RuleData → List ItemData
@@ -268,10 +270,23 @@ module _ (g : GrammarData) where
     pub waiting : AreWaiting (wholes_in t) xs
     pub pending : flat_map (pending_for (wholes_in t) (macros_of g)) (reverse xs) ≡ next_pending k
     pub unmade : flat_map (λ w. unmade (macros_of g) (symbol_view w.symbol)) (reverse xs) ≡ unmade_in comparison g k
+    pub new : NewOnes g (wholes_in t) k xs
 
   mapped : {A B C : Type 0} (f : A → B) (h : B → List C) (xs : List A) → flat_map (λ x. h (f x)) xs ≡ flat_map h (map f xs)
   mapped f h [] = refl
   mapped f h (x ∷ xs) = ap (λ ys. h (f x) ++ ys) (mapped f h xs)
+
+  listed : {A B C : Type 0} (f : A → B) (h : B → C) (xs : List A) → map (λ x. h (f x)) xs ≡ map h (map f xs)
+  listed f h [] = refl
+  listed f h (x ∷ xs) = ap (λ ys. h (f x) ∷ ys) (listed f h xs)
+
+  all_unplaced_are : (ps : List Part) → map (λ p. at nowhere (unplaced_kind (kind_of p))) ps ≡ map unplaced ps
+  all_unplaced_are [] = refl
+  all_unplaced_are (at s k ∷ ps) = ap (λ qs. at nowhere (unplaced_kind k) ∷ qs) (all_unplaced_are ps)
+
+  all_kept : (ps : List Part) → map (λ p. kept_by comparison (macros_of g) (parts_replaced p)) ps ≡ map (kept_by comparison (macros_of g)) ps
+  all_kept [] = refl
+  all_kept (p ∷ ps) = ap₂ ◌∷◌ (kept_replaced (macros_of g) p) (all_kept ps)
 
   pub is_making : (t : Table) (limit left k : ℕ) (seen : List Part) (done : List ItemData) (xs : List Waiting) → IsNodeTable t → map unplaced (seen_in t) ≡ map unplaced seen →
       AtRound limit left k seen (map (λ w. symbol_view w.symbol) xs) done → AreNumbered (wholes_in t) xs → IsMaking t k xs
@@ -281,11 +296,23 @@ module _ (g : GrammarData) where
       let whole = with_whole t table (round (suc k)).seen (same ∙ h.before.kept) in
       let make_of : Kind × Part → List PendingData = λ x. pending_of (macros_of g) x.0 x.1 in
       let view : Waiting → Part = λ w. symbol_view w.symbol in
+      let backwards : map number (reverse xs) ≡ map whole (reverse (round k).fresh) = map_reverse number xs ∙ ap reverse are.1 ∙ sym (map_reverse whole (round k).fresh) in
+      let part_of : Kind × Part → Part = λ x. at nowhere x.0 in
+      let places_of : Kind × Part → List ℕ = λ x. kept_by comparison (macros_of g) x.1 in
       record {
         waiting = are.0;
+        new = record {
+          waiting = are.0;
+          symbols =
+              listed number part_of (reverse xs) ∙ ap (map part_of) backwards
+              ∙ sym (listed whole part_of (reverse (round k).fresh)) ∙ all_unplaced_are (reverse (round k).fresh);
+          kept =
+              listed number places_of (reverse xs) ∙ ap (map places_of) backwards
+              ∙ sym (listed whole places_of (reverse (round k).fresh)) ∙ all_kept (reverse (round k).fresh);
+        };
         pending =
             mapped number make_of (reverse xs)
-            ∙ ap (flat_map make_of) (map_reverse number xs ∙ ap reverse are.1 ∙ sym (map_reverse whole (round k).fresh))
+            ∙ ap (flat_map make_of) backwards
             ∙ sym (mapped whole make_of (reverse (round k).fresh));
         unmade =
             mapped view (unmade (macros_of g)) (reverse xs)
@@ -433,6 +460,7 @@ module _ (g : GrammarData) where
     pub items : made ≡ (plain_grammar comparison g limit).items
     pub ended : IsEnded comparison g k
     pub long : length seen ≡ length (made_symbols comparison g limit)
+    pub stays : made_symbols comparison g limit ≡ made_symbols comparison g k
 
   -- a round with nothing new is the last
   pub last_round : (limit left k : ℕ) (seen waiting : List Part) (done : List ItemData) → AtRound limit left k seen waiting done → waiting ≡ [] → limit ≡ k + left →
@@ -446,6 +474,7 @@ module _ (g : GrammarData) where
         sym (length-map seen unplaced) ∙ ap length h.before.kept ∙ length-map (round (suc k)).seen unplaced
         ∙ ap (λ xs. length ((round k).seen ++ xs)) nothing ∙ ap length (append-nil (round k).seen)
         ∙ sym (made_long k) ∙ ap length (sym (made_stays k left limit sum nothing));
+    stays = made_stays k left limit sum nothing;
   }
     where
       no_more : (xs : List Part) → map parts_replaced xs ≡ [] → xs ≡ []

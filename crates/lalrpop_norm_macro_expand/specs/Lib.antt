@@ -1,4 +1,6 @@
 pub mod Counts
 pub mod Expansion
+pub mod Kept
 pub mod Laws
+pub mod Made
 pub mod Making

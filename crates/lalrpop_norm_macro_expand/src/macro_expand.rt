@@ -8,22 +8,23 @@ ghost use Rattle.lalrpop_norm_tree.specs.Symbols.{symbol_view};
 ghost use Rattle.lalrpop_norm_tree.specs.Items.{item_view, grammar_view};
 ghost use Rattle.lalrpop_norm_faults.specs.Faults.{Refuses, IsFirst};
 ghost use Rattle.lalrpop_norm_conditions.specs.Conditions.{comparison};
-ghost use Rattle.lalrpop_norm_model.specs.PlainRules.{IsEnded, plain_grammar};
+ghost use Rattle.lalrpop_norm_model.specs.PlainRules.{IsEnded, made_symbols, plain_grammar};
 ghost use Rattle.lalrpop_norm_model.specs.Scopes.{resolved_grammar};
 ghost use Rattle.lalrpop_norm_nodes.specs.NodeParts.{AreWaiting};
 ghost use Rattle.lalrpop_norm_nodes.specs.Tables.{wholes_in, seen_in, IsNodeTable, IsCounted, TableMeets, refused_in};
 ghost use Rattle.lalrpop_norm_nodes.specs.Waits.{LeavesWaiting};
 ghost use Rattle.lalrpop_norm_macro_expand_rules.specs.Macros.{macros_in, AreByName};
 ghost use Rattle.lalrpop_norm_macro_expand_rules.specs.Pending.{met_in_pending, shown_in_pending, pending_read};
-ghost use Rattle.lalrpop_norm_macro_expand.specs.Counts.{AreCounts};
+ghost use Rattle.lalrpop_norm_macro_expand.specs.Counts.{AreCounts, IsLastRound};
 ghost use Rattle.lalrpop_norm_macro_expand.specs.Expansion.{unmade, past_cap, expansion_faults, macro_faults};
+ghost use Rattle.lalrpop_norm_macro_expand.specs.Made.{made_view, made_for, AreMade};
 ghost use Rattle.lalrpop_norm_macro_expand.specs.Making.{pending_for};
 
 mod instance;
 mod make;
 mod repeats;
 
-use self::make::make_rules;
+use self::make::{MadeSymbol, make_rules};
 use lalrpop_norm_faults::{FaultKind, NormFailure, NormResult, refusal};
 use lalrpop_norm_macro_expand_rules::items::read_items;
 use lalrpop_norm_macro_expand_rules::macros::{Macros, without_macros};
@@ -67,6 +68,7 @@ fn read_round(
     alloc: Global,
     macros: &Macros,
     waiting: Vec<Waiting>,
+    made: &mut Vec<MadeSymbol>,
     done: &mut Vec<GrammarItem>,
     table: &mut Table,
 ) -> NormResult<()>
@@ -81,30 +83,42 @@ fn read_round(
     ensures waits { OnOk result (LeavesWaiting table.old table.new (flat_map shown_in_pending (flat_map (pending_for (wholes_in table.old) (macros_in macros.now)) (reverse waiting.items)))) }
     ensures value { OnOk result (map item_view done.new.items ≡ map item_view done.old.items
         ++ map pending_read (flat_map (pending_for (wholes_in table.old) (macros_in macros.now)) (reverse waiting.items))) }
+    ensures made { OnOk result (map made_view made.new.items ≡ map made_view made.old.items ++ map (made_for (macros_in macros.now)) (reverse waiting.items)) }
 {
-    let pending = make_rules(alloc, macros, table, waiting)?;
+    let pending = make_rules(alloc, macros, table, waiting, made)?;
     read_pending(alloc, pending, done, table)
 }
 
-fn counted(table: &Table, rounds_made: u16) -> Counts
-    requires { IsCounted table.now }
-    ensures instances { result.instances ≡ length (seen_in table.now) }
-    ensures rounds { result.rounds ≡ rounds_made + 1 }
-    ensures texts { result.texts ≡ result.instances }
-{
-    Counts {
-        instances: table.text_count(),
-        rounds: usize::from(rounds_made) + 1,
-        texts: table.text_count(),
-    }
+/// What an expansion knows at its end.
+#[derive(Drop)]
+struct Expanded {
+    /// What `expand_resolved` answers.
+    grammar: Grammar,
+    /// The symbols, by their numbers.
+    table: Table,
+    /// Those that are made into rules, in the order of the rules.
+    made: Vec<MadeSymbol>,
+    /// How many rounds read rules.
+    rounds: usize,
 }
 
-/// The rounds of an expansion: what `expand_resolved` answers, and how much was done.
-fn expand_rounds(alloc: Global, grammar: Grammar, limit: u16) -> NormResult<(Grammar, Counts)>
+/// The number of the round behind these.
+fn round_after(count: u16) -> usize
+    ensures { result ≡ count + 1 }
+{
+    usize::from(count) + 1
+}
+
+/// The rounds of an expansion.
+fn expand_rounds(alloc: Global, grammar: Grammar, limit: u16) -> NormResult<Expanded>
     ensures refuses { Refuses result (expansion_faults comparison (grammar_view grammar) limit) }
-    ensures whole { IfOk result (λ made. IsEnded comparison (grammar_view grammar) limit) }
-    ensures plain { IfOk result (λ made. grammar_view made.0 ≡ plain_grammar comparison (grammar_view grammar) limit) }
-    ensures counts { IfOk result (λ made. AreCounts comparison (grammar_view grammar) limit made.1) }
+    ensures whole { IfOk result (λ x. IsEnded comparison (grammar_view grammar) limit) }
+    ensures plain { IfOk result (λ x. grammar_view x.grammar ≡ plain_grammar comparison (grammar_view grammar) limit) }
+    // Which symbol each made rule stands for, and which alternatives of a macro it has.
+    ensures made { IfOk result (λ x. AreMade (wholes_in x.table) (grammar_view grammar) limit x.made.items) }
+    ensures rounds { IfOk result (λ x. IsLastRound comparison (grammar_view grammar) x.rounds) }
+    ensures counted { IfOk result (λ x. IsCounted x.table) }
+    ensures seen { IfOk result (λ x. length (seen_in x.table) ≡ length (made_symbols comparison (grammar_view grammar) limit)) }
 {
     let names = declared_names(alloc, &grammar.items)?;
     let seed = seeded_by(&grammar.items);
@@ -113,6 +127,7 @@ fn expand_rounds(alloc: Global, grammar: Grammar, limit: u16) -> NormResult<(Gra
     let items = mem::replace(&mut grammar.items, Vec::new(alloc));
     let (others, macros) = without_macros(alloc, items)?;
     let mut done = Vec::new(alloc);
+    let mut made = Vec::new(alloc);
     read_items(alloc, others, &mut done, &mut table)?;
     let mut left = limit;
     // The label is the loop's name in the proof, where its invariant and its measure stand.
@@ -120,14 +135,44 @@ fn expand_rounds(alloc: Global, grammar: Grammar, limit: u16) -> NormResult<(Gra
         let waiting = table.take_waiting(alloc);
         if waiting.is_empty() {
             grammar.items = done;
-            return Ok((grammar, counted(&table, limit - left)));
+            return Ok(Expanded {
+                grammar,
+                table,
+                made,
+                rounds: round_after(limit - left),
+            });
         }
         if left == 0 {
             return Err(past_cap(alloc, &waiting));
         }
-        read_round(alloc, &macros, waiting, &mut done, &mut table)?;
+        read_round(alloc, &macros, waiting, &mut made, &mut done, &mut table)?;
         left -= 1;
     }
+}
+
+fn counted(expanded: &Expanded) -> Counts
+    requires { IsCounted expanded.now.table }
+    ensures instances { result.instances ≡ length expanded.now.made.items }
+    ensures rounds { result.rounds ≡ expanded.now.rounds }
+    ensures texts { result.texts ≡ length (seen_in expanded.now.table) }
+{
+    Counts {
+        instances: expanded.made.len(),
+        rounds: expanded.rounds,
+        texts: expanded.table.text_count(),
+    }
+}
+
+/// What `expand_resolved` answers, and how much was done.
+fn expand_counted(alloc: Global, grammar: Grammar, limit: u16) -> NormResult<(Grammar, Counts)>
+    ensures refuses { Refuses result (expansion_faults comparison (grammar_view grammar) limit) }
+    ensures whole { IfOk result (λ made. IsEnded comparison (grammar_view grammar) limit) }
+    ensures plain { IfOk result (λ made. grammar_view made.0 ≡ plain_grammar comparison (grammar_view grammar) limit) }
+    ensures counts { IfOk result (λ made. AreCounts comparison (grammar_view grammar) limit made.1) }
+{
+    let expanded = expand_rounds(alloc, grammar, limit)?;
+    let counts = counted(&expanded);
+    Ok((expanded.grammar, counts))
 }
 
 /// Resolves the names of a grammar (`resolve`), and makes its macro calls, groups, repeats and lookarounds into rules
@@ -162,7 +207,7 @@ pub fn expand_macros_counted(
     ensures counts { IfOk result (λ made. AreCounts comparison (resolved_grammar (grammar_view grammar)) limit made.1) }
 {
     let resolved = resolve(alloc, grammar)?;
-    expand_rounds(alloc, resolved, limit)
+    expand_counted(alloc, resolved, limit)
 }
 
 /// Makes the macro calls, groups, repeats and lookarounds of a grammar whose names are resolved into rules: the answer holds the
@@ -182,6 +227,6 @@ pub fn expand_resolved(alloc: Global, grammar: Grammar, limit: u16) -> NormResul
     ensures whole { IfOk result (λ made. IsEnded comparison (grammar_view grammar) limit) }
     ensures plain { IfOk result (λ made. grammar_view made ≡ plain_grammar comparison (grammar_view grammar) limit) }
 {
-    let (made, _counts) = expand_rounds(alloc, grammar, limit)?;
+    let (made, _counts) = expand_counted(alloc, grammar, limit)?;
     Ok(made)
 }

@@ -1,10 +1,12 @@
 //! The rules of macro calls: those alternatives of the macro whose conditions hold, in which the macro's names stand for the arguments.
-ghost use Rattle.std.specs.Prelude.{◌≡◌, ◌++◌, OnOk, map, flat_map};
+ghost use Rattle.std.specs.Prelude.{◌≡◌, ◌×◌, ◌++◌, OnOk, map, flat_map};
 ghost use Rattle.lalrpop_norm_tree.specs.Symbols.{parts_view};
 ghost use Rattle.lalrpop_norm_tree.specs.Items.{AlternativeData, alternative_view, rule_view};
 ghost use Rattle.lalrpop_norm_faults.specs.Faults.{Refuses, RefusesOr};
+ghost use Rattle.lalrpop_norm_conditions.specs.Conditions.{comparison};
 ghost use Rattle.lalrpop_norm_model.specs.MadeRules.{argument_kind};
 ghost use Rattle.lalrpop_norm_macro_expand_rules.specs.Conditions.{value_faults, instance_faults};
+ghost use Rattle.lalrpop_norm_macro_expand.specs.Kept.{kept_place, kept_places};
 ghost use Rattle.lalrpop_norm_macro_expand.specs.Making.{kept_of, instance_shape};
 
 use lalrpop_norm_faults::NormResult;
@@ -18,20 +20,32 @@ use lalrpop_norm_tree::grammar::parse_tree::{
 use lalrpop_norm_tree_parts::attribute::copy::copy_attributes;
 use std::alloc::Global;
 
+/// Those of a macro's alternatives that the rule of a call has, and their places among the macro's.
+#[derive(Drop)]
+struct Kept {
+    alternatives: Vec<Alternative>,
+    places: Vec<usize>,
+}
+
 /// Adds an alternative, if its condition is true or absent.
 fn add_alternative(
     alloc: Global,
     bindings: &Bindings,
     span: Span,
+    place: usize,
     alternative: &Alternative,
-    kept: &mut Vec<Alternative>,
+    kept: &mut Kept,
 ) -> NormResult<()>
     ensures refuses { Refuses result (value_faults (argument_kind bindings.now.names.now (parts_view bindings.now.symbols.now)) alternative.now.condition) }
-    ensures adds { OnOk result (map alternative_view kept.new.items
-        ≡ map alternative_view kept.old.items ++ kept_of span bindings.now.names.now (parts_view bindings.now.symbols.now) (alternative_view alternative.now)) }
+    ensures adds { OnOk result (map alternative_view kept.new.alternatives.items
+        ≡ map alternative_view kept.old.alternatives.items ++ kept_of span bindings.now.names.now (parts_view bindings.now.symbols.now) (alternative_view alternative.now)) }
+    ensures places { OnOk result (kept.new.places.items
+        ≡ kept.old.places.items ++ kept_place comparison bindings.now.names.now (parts_view bindings.now.symbols.now) place (alternative_view alternative.now)) }
 {
     if is_kept(alloc, bindings, &alternative.condition)? {
-        kept.push(copied_alternative(alloc, span, alternative)?)?;
+        let copy = copied_alternative(alloc, span, alternative)?;
+        kept.alternatives.push(copy)?;
+        kept.places.push(place)?;
     }
     Ok(())
 }
@@ -42,18 +56,23 @@ fn instance_alternatives(
     bindings: &Bindings,
     span: Span,
     alternatives: &[Alternative],
-) -> NormResult<Vec<Alternative>>
+) -> NormResult<Kept>
     ensures { RefusesOr result (flat_map (λ (a : AlternativeData). value_faults (argument_kind bindings.now.names.now (parts_view bindings.now.symbols.now)) a.condition) (map alternative_view alternatives.now))
-        (λ kept. map alternative_view kept.items ≡ flat_map (kept_of span bindings.now.names.now (parts_view bindings.now.symbols.now)) (map alternative_view alternatives.now)) }
+        (λ kept. (map alternative_view kept.alternatives.items ≡ flat_map (kept_of span bindings.now.names.now (parts_view bindings.now.symbols.now)) (map alternative_view alternatives.now))
+        × (kept.places.items ≡ kept_places comparison bindings.now.names.now (parts_view bindings.now.symbols.now) 0 (map alternative_view alternatives.now))) }
 {
-    let mut kept = Vec::with_capacity(alloc, alternatives.len())?;
-    for alternative in alternatives {
-        add_alternative(alloc, bindings, span, alternative, &mut kept)?;
+    let mut kept = Kept {
+        alternatives: Vec::new(alloc),
+        places: Vec::new(alloc),
+    };
+    for (place, alternative) in alternatives.iter().enumerate() {
+        add_alternative(alloc, bindings, span, place, alternative, &mut kept)?;
     }
     Ok(kept)
 }
 
-/// The rule of a call of a macro with these arguments, in which the macro's names stand for them.
+/// The rule of a call of a macro with these arguments, in which the macro's names stand for them; and the places, among the macro's
+/// alternatives, of those that it has.
 ///
 /// Errors: at the first alternative whose condition has no value F33 (`ConditionArgument`) or F34 (`ConditionPattern`); `Memory`.
 pub(super) fn instance_rule(
@@ -61,24 +80,26 @@ pub(super) fn instance_rule(
     head: Head,
     definition: &NonterminalData,
     arguments: &[Symbol],
-) -> NormResult<NonterminalData>
+) -> NormResult<(NonterminalData, Vec<usize>)>
     ensures { RefusesOr result (instance_faults (rule_view definition.now) (parts_view arguments.now))
-        (λ r. rule_view r ≡ instance_shape head.name head.span (rule_view definition.now) (parts_view arguments.now)) }
+        (λ r. (rule_view r.0 ≡ instance_shape head.name head.span (rule_view definition.now) (parts_view arguments.now))
+        × (r.1.items ≡ kept_places comparison definition.now.args.items (parts_view arguments.now) 0 (rule_view definition.now).alternatives)) }
 {
     let span = head.span;
     let bindings = Bindings {
         names: &definition.args,
         symbols: arguments,
     };
-    let alternatives = instance_alternatives(alloc, &bindings, span, &definition.alternatives)?;
+    let kept = instance_alternatives(alloc, &bindings, span, &definition.alternatives)?;
     let type_decl = instance_type(alloc, &bindings, &definition.type_decl)?;
-    Ok(NonterminalData {
+    let rule = NonterminalData {
         visibility: definition.visibility.clone()?,
         name: NonterminalString(head.name),
         attributes: copy_attributes(&definition.attributes)?,
         span,
         args: Vec::new(alloc),
         type_decl,
-        alternatives,
-    })
+        alternatives: kept.alternatives,
+    };
+    Ok((rule, kept.places))
 }

@@ -1,10 +1,11 @@
 //! The rules that symbols are made into.
-ghost use Rattle.std.specs.Prelude.{◌≡◌, ◌++◌, IfOk, IfSome, OnOk, map, flat_map, reverse, option_map, option_to_list};
+ghost use Rattle.std.specs.Prelude.{◌≡◌, ◌×◌, [], ◌∷◌, ◌++◌, Some, IfOk, IfSome, OnOk, map, flat_map, reverse, option_map, option_to_list};
 ghost use Rattle.lalrpop_norm_tree.specs.Symbols.{at, group, call, repeated, kind_view, parts_view, expr_view, macro_view, symbol_view};
 ghost use Rattle.lalrpop_norm_tree.specs.SymbolTexts.{kind_text};
 ghost use Rattle.lalrpop_norm_tree.specs.Items.{rule_view};
 ghost use Rattle.lalrpop_norm_faults.specs.Faults.{Refuses, RefusesOr, fault_if};
 ghost use Rattle.lalrpop_norm_faults.specs.declared.kind.FaultKind.TheVariants.{NamedInGroup};
+ghost use Rattle.lalrpop_norm_conditions.specs.Conditions.{comparison};
 ghost use Rattle.lalrpop_norm_model.specs.MadeRules.{argument_kind, macro_named, group_rule, some_name_value};
 ghost use Rattle.lalrpop_norm_nodes.specs.NodeParts.{call_parts, repeated_kind, IsShallow, IsWaiting, AreWaiting};
 ghost use Rattle.lalrpop_norm_nodes.specs.Tables.{wholes_in, IsNodeTable};
@@ -14,6 +15,8 @@ ghost use Rattle.lalrpop_norm_macro_expand_rules.specs.Macros.{macros_in, AreByN
 ghost use Rattle.lalrpop_norm_macro_expand_rules.specs.Pending.{unread_rule, pending_view, IsReadable, AreReadable};
 ghost use Rattle.lalrpop_norm_macro_expand_rules.specs.declared.pending.Pending.TheVariants.{Unread};
 ghost use Rattle.lalrpop_norm_macro_expand.specs.Expansion.{unmade};
+ghost use Rattle.lalrpop_norm_macro_expand.specs.Kept.{kept_by, kept_by_call};
+ghost use Rattle.lalrpop_norm_macro_expand.specs.Made.{made_view, made_for};
 ghost use Rattle.lalrpop_norm_macro_expand.specs.Making.{instance_shape, call_pending, repeat_pending, pending_of, pending_for};
 
 use super::instance::instance_rule;
@@ -84,7 +87,7 @@ fn copy_names(names: &Vec<NonterminalString>) -> Result<Vec<NonterminalString>, 
     Ok(names.clone()?)
 }
 
-/// The rule of a call of a macro with these arguments.
+/// The rule of a call of a macro with these arguments, and the places of the macro's alternatives that it has.
 ///
 /// Errors: at the first alternative whose condition has no value F33 (`ConditionArgument`) or F34 (`ConditionPattern`); `Memory`.
 fn instance_of(
@@ -94,20 +97,40 @@ fn instance_of(
     head: Head,
     definition: &NonterminalData,
     arguments: Vec<Symbol>,
-) -> NormResult<UnreadRule>
+) -> NormResult<(UnreadRule, Vec<usize>)>
     requires table { IsNodeTable table.now }
     requires shallow { IsShallow (wholes_in table.now) number (call definition.now.name.0 (parts_view arguments.items)) }
     ensures refuses { Refuses result (instance_faults (rule_view definition.now) (parts_view arguments.items)) }
-    ensures pending { IfOk result (λ o. pending_view (wholes_in table.now) (Unread o)
+    ensures pending { IfOk result (λ o. pending_view (wholes_in table.now) (Unread o.0)
         ≡ unread_rule (instance_shape head.name head.span (rule_view definition.now) (parts_view arguments.items))
         (argument_kind definition.now.args.items (call_parts (kind_at (wholes_in table.now) number)))
         (argument_kind definition.now.args.items (parts_view arguments.items))) }
-    ensures readable { IfOk result (λ o. IsReadable (wholes_in table.now) (Unread o)) }
+    ensures readable { IfOk result (λ o. IsReadable (wholes_in table.now) (Unread o.0)) }
+    ensures kept { IfOk result (λ o. o.1.items ≡ kept_by_call comparison (Some (rule_view definition.now)) (parts_view arguments.items)) }
 {
-    let rule = instance_rule(alloc, head, definition, &arguments)?;
+    let (rule, kept) = instance_rule(alloc, head, definition, &arguments)?;
     let given = given_by_call(alloc, table, number, arguments)?;
     let names = copy_names(&definition.args)?;
-    Ok(UnreadRule { rule, names, given })
+    Ok((UnreadRule { rule, names, given }, kept))
+}
+
+/// What a symbol is made into.
+#[derive(Drop)]
+struct Making {
+    /// Its rule, if it is made into one.
+    pending: Option<Pending>,
+    /// Of a macro call the places, among the macro's alternatives, of those that the rule has.
+    kept: Vec<usize>,
+}
+
+/// What a symbol that calls no macro is made into.
+fn into(alloc: Global, pending: Option<Pending>) -> Making
+    ensures { (result.pending ≡ pending) × (result.kept.items ≡ []) }
+{
+    Making {
+        pending,
+        kept: Vec::new(alloc),
+    }
 }
 
 /// The rule of a macro call, if there is a macro of that name; it takes the arguments.
@@ -118,22 +141,26 @@ fn called_of(
     number: usize,
     head: Head,
     instance: &mut MacroSymbol,
-) -> NormResult<Option<Pending>>
+) -> NormResult<Making>
     requires macros { AreByName macros.now }
     requires table { IsNodeTable table.now }
     requires shallow { IsShallow (wholes_in table.now) number (call (macro_view instance.old).0 (macro_view instance.old).1) }
     ensures refuses { Refuses result (called_faults (macro_named (macros_in macros.now) (macro_view instance.old).0) (macro_view instance.old).1) }
-    ensures pending { IfOk result (λ o. option_to_list (option_map (pending_view (wholes_in table.now)) o)
+    ensures pending { IfOk result (λ m. option_to_list (option_map (pending_view (wholes_in table.now)) m.pending)
         ≡ call_pending head.name head.span (macro_named (macros_in macros.now) (macro_view instance.old).0) (call_parts (kind_at (wholes_in table.now) number)) (macro_view instance.old).1) }
-    ensures readable { IfOk result (λ o. IfSome o (IsReadable (wholes_in table.now))) }
+    ensures readable { IfOk result (λ m. IfSome m.pending (IsReadable (wholes_in table.now))) }
+    ensures kept { IfOk result (λ m. m.kept.items ≡ kept_by_call comparison (macro_named (macros_in macros.now) (macro_view instance.old).0) (macro_view instance.old).1) }
 {
     match macros.find(&instance.name) {
         Some(definition) => {
             let arguments = mem::replace(&mut instance.args, Vec::new(alloc));
-            let unread = instance_of(alloc, table, number, head, definition, arguments)?;
-            Ok(Some(Pending::Unread(unread)))
+            let (unread, kept) = instance_of(alloc, table, number, head, definition, arguments)?;
+            Ok(Making {
+                pending: Some(Pending::Unread(unread)),
+                kept,
+            })
         }
-        None => Ok(None),
+        None => Ok(into(alloc, None)),
     }
 }
 
@@ -148,30 +175,34 @@ fn rule_of(
     number: usize,
     head: Head,
     kind: &mut SymbolKind,
-) -> NormResult<Option<Pending>>
+) -> NormResult<Making>
     requires macros { AreByName macros.now }
     requires table { IsNodeTable table.now }
     requires shallow { IsShallow (wholes_in table.now) number (kind_view kind.old) }
     requires name { head.name ≡ kind_text (kind_view kind.old) }
     ensures refuses { Refuses result (unmade (macros_in macros.now) (at head.span (kind_view kind.old))) }
-    ensures pending { IfOk result (λ o. option_to_list (option_map (pending_view (wholes_in table.now)) o)
+    ensures pending { IfOk result (λ m. option_to_list (option_map (pending_view (wholes_in table.now)) m.pending)
         ≡ pending_of (macros_in macros.now) (kind_at (wholes_in table.now) number) (at head.span (kind_view kind.old))) }
-    ensures readable { IfOk result (λ o. IfSome o (IsReadable (wholes_in table.now))) }
+    ensures readable { IfOk result (λ m. IfSome m.pending (IsReadable (wholes_in table.now))) }
+    ensures kept { IfOk result (λ m. m.kept.items ≡ kept_by comparison (macros_in macros.now) (at head.span (kind_view kind.old))) }
 {
     match kind {
-        SymbolKind::Expr(expr) => Ok(Some(Pending::Finished(group_of(alloc, head, expr)?))),
+        SymbolKind::Expr(expr) => {
+            let rule = group_of(alloc, head, expr)?;
+            Ok(into(alloc, Some(Pending::Finished(rule))))
+        }
         SymbolKind::Macro(instance) => called_of(alloc, macros, table, number, head, instance),
         SymbolKind::Repeat(repeat) => {
             let unread = repeat_of(alloc, table, number, head, repeat)?;
-            Ok(Some(Pending::Unread(unread)))
+            Ok(into(alloc, Some(Pending::Unread(unread))))
         }
         SymbolKind::Lookahead => {
             let rule = location_rule(alloc, head, ActionKind::Lookahead)?;
-            Ok(Some(Pending::Finished(rule)))
+            Ok(into(alloc, Some(Pending::Finished(rule))))
         }
         SymbolKind::Lookbehind => {
             let rule = location_rule(alloc, head, ActionKind::Lookbehind)?;
-            Ok(Some(Pending::Finished(rule)))
+            Ok(into(alloc, Some(Pending::Finished(rule))))
         }
         SymbolKind::AmbiguousId(_)
         | SymbolKind::Terminal(_)
@@ -179,7 +210,7 @@ fn rule_of(
         | SymbolKind::Choose(_)
         | SymbolKind::Name(_, _)
         | SymbolKind::Tuple(_, _)
-        | SymbolKind::Error => Ok(None),
+        | SymbolKind::Error => Ok(into(alloc, None)),
     }
 }
 
@@ -189,16 +220,17 @@ fn pending_rule(
     macros: &Macros,
     table: &Table,
     waiting: Waiting,
-) -> NormResult<Option<Pending>>
+) -> NormResult<Making>
     requires macros { AreByName macros.now }
     requires table { IsNodeTable table.now }
     requires waiting { IsWaiting (wholes_in table.now) waiting }
     ensures refuses { Refuses result (unmade (macros_in macros.now) (symbol_view waiting.symbol)) }
-    ensures pending { IfOk result (λ o. option_to_list (option_map (pending_view (wholes_in table.now)) o) ≡ pending_for (wholes_in table.now) (macros_in macros.now) waiting) }
-    ensures readable { IfOk result (λ o. IfSome o (IsReadable (wholes_in table.now))) }
+    ensures pending { IfOk result (λ m. option_to_list (option_map (pending_view (wholes_in table.now)) m.pending) ≡ pending_for (wholes_in table.now) (macros_in macros.now) waiting) }
+    ensures readable { IfOk result (λ m. IfSome m.pending (IsReadable (wholes_in table.now))) }
+    ensures kept { IfOk result (λ m. m.kept.items ≡ kept_by comparison (macros_in macros.now) (symbol_view waiting.symbol)) }
 {
     let Some(name) = table.text_of(waiting.number) else {
-        return Ok(None);
+        return Ok(into(alloc, None));
     };
     let head = Head {
         name: name.clone()?,
@@ -208,13 +240,23 @@ fn pending_rule(
     rule_of(alloc, macros, table, waiting.number, head, &mut symbol.kind)
 }
 
-/// Adds the rule of a symbol that waits, if it is made into one.
+/// A symbol that is made into a rule.
+#[derive(Drop)]
+pub(super) struct MadeSymbol {
+    /// Its number.
+    pub(super) number: usize,
+    /// Of a macro call the places, among the macro's alternatives, of those that the rule has.
+    pub(super) kept: Vec<usize>,
+}
+
+/// Adds the rule of a symbol that waits, if it is made into one, and the symbol.
 fn add_rule(
     alloc: Global,
     macros: &Macros,
     table: &Table,
     waiting: Waiting,
     pending: &mut Vec<Pending>,
+    made: &mut Vec<MadeSymbol>,
 ) -> NormResult<()>
     requires macros { AreByName macros.now }
     requires table { IsNodeTable table.now }
@@ -224,8 +266,13 @@ fn add_rule(
     ensures adds { OnOk result (map (pending_view (wholes_in table.now)) pending.new.items
         ≡ map (pending_view (wholes_in table.now)) pending.old.items ++ pending_for (wholes_in table.now) (macros_in macros.now) waiting) }
     ensures readable { OnOk result (AreReadable (wholes_in table.now) pending.new.items) }
+    ensures made { OnOk result (map made_view made.new.items ≡ map made_view made.old.items ++ made_for (macros_in macros.now) waiting ∷ []) }
 {
-    match pending_rule(alloc, macros, table, waiting)? {
+    let number = waiting.number;
+    let making = pending_rule(alloc, macros, table, waiting)?;
+    let kept = making.kept;
+    made.push(MadeSymbol { number, kept })?;
+    match making.pending {
         Some(rule) => {
             pending.push(rule)?;
             Ok(())
@@ -234,12 +281,14 @@ fn add_rule(
     }
 }
 
-/// The rules of the symbols that wait, that of the last one first.
+/// The rules of the symbols that wait, that of the last one first; the symbols are put, in the same order, behind those that were
+/// made into rules before.
 pub(super) fn make_rules(
     alloc: Global,
     macros: &Macros,
     table: &Table,
     waiting: Vec<Waiting>,
+    made: &mut Vec<MadeSymbol>,
 ) -> NormResult<Vec<Pending>>
     requires macros { AreByName macros.now }
     requires table { IsNodeTable table.now }
@@ -247,12 +296,13 @@ pub(super) fn make_rules(
     ensures refuses { Refuses result (flat_map (λ w. unmade (macros_in macros.now) (symbol_view w.symbol)) (reverse waiting.items)) }
     ensures pending { IfOk result (λ ps. map (pending_view (wholes_in table.now)) ps.items ≡ flat_map (pending_for (wholes_in table.now) (macros_in macros.now)) (reverse waiting.items)) }
     ensures readable { IfOk result (λ ps. AreReadable (wholes_in table.now) ps.items) }
+    ensures made { OnOk result (map made_view made.new.items ≡ map made_view made.old.items ++ map (made_for (macros_in macros.now)) (reverse waiting.items)) }
 {
     let mut waiting = waiting;
     waiting.reverse();
     let mut pending = Vec::with_capacity(alloc, waiting.len())?;
     for symbol in waiting {
-        add_rule(alloc, macros, table, symbol, &mut pending)?;
+        add_rule(alloc, macros, table, symbol, &mut pending, made)?;
     }
     Ok(pending)
 }

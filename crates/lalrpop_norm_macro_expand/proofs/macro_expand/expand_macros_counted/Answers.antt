@@ -21,21 +21,21 @@ pub returns-clause-refuses : goal.returns-clause-refuses
 returns-clause-refuses c =
     let g = grammar_view c.args.grammar in
     let resolved = c.in_ok-resolved.ensures.resolves in
-    subst (Refuses c.expand_rounds.result)
+    subst (Refuses c.expand_counted.result)
     (sym (ap (λ (fs : List Fault). fs ++ expansion_faults comparison (resolved_grammar g) c.args.limit) resolved.0))
-    (subst (λ (h : GrammarData). Refuses c.expand_rounds.result (expansion_faults comparison h c.args.limit)) resolved.1 c.expand_rounds.ensures.refuses)
+    (subst (λ (h : GrammarData). Refuses c.expand_counted.result (expansion_faults comparison h c.args.limit)) resolved.1 c.expand_counted.ensures.refuses)
 
 pub returns-clause-whole : goal.returns-clause-whole
 returns-clause-whole c =
-    IfOk-weaker c.expand_rounds.result _ _
-    (λ made. subst (λ (h : GrammarData). IsEnded comparison h c.args.limit) c.in_ok-resolved.ensures.resolves.1) c.expand_rounds.ensures.whole
+    IfOk-weaker c.expand_counted.result _ _
+    (λ made. subst (λ (h : GrammarData). IsEnded comparison h c.args.limit) c.in_ok-resolved.ensures.resolves.1) c.expand_counted.ensures.whole
 
 pub returns-clause-plain : goal.returns-clause-plain
 returns-clause-plain c =
-    IfOk-weaker c.expand_rounds.result _ _
-    (λ made. subst (λ (h : GrammarData). grammar_view made.0 ≡ plain_grammar comparison h c.args.limit) c.in_ok-resolved.ensures.resolves.1) c.expand_rounds.ensures.plain
+    IfOk-weaker c.expand_counted.result _ _
+    (λ made. subst (λ (h : GrammarData). grammar_view made.0 ≡ plain_grammar comparison h c.args.limit) c.in_ok-resolved.ensures.resolves.1) c.expand_counted.ensures.plain
 
 pub returns-clause-counts : goal.returns-clause-counts
 returns-clause-counts c =
-    IfOk-weaker c.expand_rounds.result _ _
-    (λ made. subst (λ (h : GrammarData). AreCounts comparison h c.args.limit made.1) c.in_ok-resolved.ensures.resolves.1) c.expand_rounds.ensures.counts
+    IfOk-weaker c.expand_counted.result _ _
+    (λ made. subst (λ (h : GrammarData). AreCounts comparison h c.args.limit made.1) c.in_ok-resolved.ensures.resolves.1) c.expand_counted.ensures.counts

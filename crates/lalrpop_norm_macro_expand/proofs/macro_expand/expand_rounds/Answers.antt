@@ -13,11 +13,13 @@ use Rattle.lalrpop_norm_nodes.specs.declared.node.Nodes.{Nodes}
 use Rattle.lalrpop_norm_nodes.specs.declared.table.Table.{Table}
 use Rattle.lalrpop_norm_nodes.specs.declared.texts.Counter.{Counter}
 use Rattle.lalrpop_norm_nodes.specs.Wholes.{wholes}
-use Rattle.lalrpop_norm_nodes.specs.Tables.{own_in, seen_in, waiting_in, is_declared_in, IsCounted}
+use Rattle.lalrpop_norm_nodes.specs.Tables.{wholes_in, own_in, seen_in, waiting_in, is_declared_in, IsCounted}
 use Rattle.lalrpop_norm_macro_expand_rules.specs.Names.{is_declared_name, item_names}
 use Rattle.lalrpop_norm_macro_expand_rules.specs.Items.{replaced_item, without_macro, macro_in}
 use Rattle.lalrpop_norm_macro_expand_rules.specs.Macros.{macros_in}
 use Rattle.lalrpop_norm_macro_expand_rules.proofs.NameLemmas.{rule_names_are}
+use Rattle.lalrpop_norm_macro_expand.specs.Made.{made_view}
+use Rattle.lalrpop_norm_macro_expand.proofs.MadeLemmas.{MadeSo, none_made, made_next, all_made}
 use Rattle.lalrpop_norm_macro_expand.proofs.RoundLemmas.{AtRound, macros_are, first_refused, first_round, taken, round_refused_so, round_next, cap_refused, last_round}
 use Rattle.lalrpop_norm_macro_expand.proofs.macro_expand.expand_rounds.Goals as goal
 
@@ -44,6 +46,9 @@ rounds-init c =
           (first_round g c.new-table.result c.read_items.new.table (map item_view c.in_ok-others.others.items) others names c.new-table.ensures.seen c.args.limit
           (map item_view c.read_items.new.done.items) c.new-table.ensures.waiting c.in_ok-read_items.ensures.meets c.in_ok-read_items.ensures.refuses c.in_ok-read_items.ensures.waits
           (c.in_ok-read_items.ensures.value ∙ ap (λ is. map item_view is ++ map replaced_item (map item_view c.in_ok-others.others.items)) c.new-done.ensures.items));
+      made =
+          subst (λ (k : ℕ). MadeSo g (wholes_in c.read_items.new.table) k (map made_view c.new-made.result.items)) same
+          (rw c.new-made.ensures.items (none_made g (wholes_in c.read_items.new.table)));
     }
 
 pub returns-in_err-read_items-clause-refuses : goal.returns-in_err-read_items-clause-refuses
@@ -70,9 +75,6 @@ no_items (x ∷ xs) e = absurd (omega arith)
 
 counted_still : (z a : Table) → a.made ≡ z.made → a.nodes ≡ z.nodes → IsCounted z → IsCounted a
 counted_still z a made nodes h = ap (λ (m : Counter). m.count) made ∙ h ∙ ap (λ (ns : Nodes). length (flat_map own_in (wholes ns))) (sym nodes)
-
-pub counted-requires : goal.counted-requires
-counted-requires c = counted_still c.rounds.table c.take_waiting-waiting.new.self c.take_waiting-waiting.ensures.counted c.take_waiting-waiting.ensures.nodes c.rounds.invariant.counted
 
 pub read_round-requires-clause-counted : goal.read_round-requires-clause-counted
 read_round-requires-clause-counted c = counted_still c.rounds.table c.take_waiting-waiting.new.self c.take_waiting-waiting.ensures.counted c.take_waiting-waiting.ensures.nodes c.rounds.invariant.counted
@@ -115,8 +117,8 @@ returns-then-is_empty-clause-plain c =
     ap (λ (d : GrammarData). record d { items = map item_view c.rounds.done.items }) c.rounds.invariant.grammar
     ∙ ap (λ is. record (grammar_view c.args.grammar) { items = is }) last.items
 
-pub returns-then-is_empty-clause-counts : goal.returns-then-is_empty-clause-counts
-returns-then-is_empty-clause-counts c =
+pub returns-then-is_empty-clause-made : goal.returns-then-is_empty-clause-made
+returns-then-is_empty-clause-made c =
     let t =
     taken (grammar_view c.args.grammar) c.args.limit c.rounds.left (c.args.limit - c.rounds.left) c.rounds.table c.take_waiting-waiting.new.self c.take_waiting-waiting.result (map item_view c.rounds.done.items)
     c.rounds.invariant.rounds c.take_waiting-waiting.ensures.nodes c.take_waiting-waiting.ensures.waiting c.take_waiting-waiting.ensures.table c.take_waiting-waiting.ensures.numbered in
@@ -124,11 +126,33 @@ returns-then-is_empty-clause-counts c =
     let last =
     last_round (grammar_view c.args.grammar) c.args.limit c.rounds.left (c.args.limit - c.rounds.left) (seen_in c.take_waiting-waiting.new.self) (map (λ w. symbol_view w.symbol) c.take_waiting-waiting.result.items) (map item_view c.rounds.done.items)
     t.round none (omega (arith, c.rounds.invariant.bound)) in
-    record {
-      instances = c.counted.ensures.instances ∙ last.long;
-      rounds = record { round = c.args.limit - c.rounds.left; number = c.counted.ensures.rounds; ended = last.ended; first = t.round.earlier };
-      texts = c.counted.ensures.texts;
-    }
+    all_made (grammar_view c.args.grammar) (wholes_in c.take_waiting-waiting.new.self) (c.args.limit - c.rounds.left) c.args.limit c.rounds.made.items
+    (subst (λ (ns : Nodes). MadeSo (grammar_view c.args.grammar) (wholes ns) (c.args.limit - c.rounds.left) (map made_view c.rounds.made.items)) (sym c.take_waiting-waiting.ensures.nodes) c.rounds.invariant.made) last.stays
+
+pub returns-then-is_empty-clause-rounds : goal.returns-then-is_empty-clause-rounds
+returns-then-is_empty-clause-rounds c =
+    let t =
+    taken (grammar_view c.args.grammar) c.args.limit c.rounds.left (c.args.limit - c.rounds.left) c.rounds.table c.take_waiting-waiting.new.self c.take_waiting-waiting.result (map item_view c.rounds.done.items)
+    c.rounds.invariant.rounds c.take_waiting-waiting.ensures.nodes c.take_waiting-waiting.ensures.waiting c.take_waiting-waiting.ensures.table c.take_waiting-waiting.ensures.numbered in
+    let none : map (λ w. symbol_view w.symbol) c.take_waiting-waiting.result.items ≡ [] = ap (map (λ w. symbol_view w.symbol)) (no_items c.take_waiting-waiting.result.items (none_waits c.take_waiting-waiting.result.len (length c.take_waiting-waiting.result.items) c.is_empty.result c.take_waiting-waiting.result.ok.0 c.is_empty.ensures c.if-is_empty.true)) in
+    let last =
+    last_round (grammar_view c.args.grammar) c.args.limit c.rounds.left (c.args.limit - c.rounds.left) (seen_in c.take_waiting-waiting.new.self) (map (λ w. symbol_view w.symbol) c.take_waiting-waiting.result.items) (map item_view c.rounds.done.items)
+    t.round none (omega (arith, c.rounds.invariant.bound)) in
+    record { round = c.args.limit - c.rounds.left; number = c.round_after.ensures; ended = last.ended; first = t.round.earlier }
+
+pub returns-then-is_empty-clause-seen : goal.returns-then-is_empty-clause-seen
+returns-then-is_empty-clause-seen c =
+    let t =
+    taken (grammar_view c.args.grammar) c.args.limit c.rounds.left (c.args.limit - c.rounds.left) c.rounds.table c.take_waiting-waiting.new.self c.take_waiting-waiting.result (map item_view c.rounds.done.items)
+    c.rounds.invariant.rounds c.take_waiting-waiting.ensures.nodes c.take_waiting-waiting.ensures.waiting c.take_waiting-waiting.ensures.table c.take_waiting-waiting.ensures.numbered in
+    let none : map (λ w. symbol_view w.symbol) c.take_waiting-waiting.result.items ≡ [] = ap (map (λ w. symbol_view w.symbol)) (no_items c.take_waiting-waiting.result.items (none_waits c.take_waiting-waiting.result.len (length c.take_waiting-waiting.result.items) c.is_empty.result c.take_waiting-waiting.result.ok.0 c.is_empty.ensures c.if-is_empty.true)) in
+    let last =
+    last_round (grammar_view c.args.grammar) c.args.limit c.rounds.left (c.args.limit - c.rounds.left) (seen_in c.take_waiting-waiting.new.self) (map (λ w. symbol_view w.symbol) c.take_waiting-waiting.result.items) (map item_view c.rounds.done.items)
+    t.round none (omega (arith, c.rounds.invariant.bound)) in
+    last.long
+
+pub returns-then-is_empty-clause-counted : goal.returns-then-is_empty-clause-counted
+returns-then-is_empty-clause-counted c = counted_still c.rounds.table c.take_waiting-waiting.new.self c.take_waiting-waiting.ensures.counted c.take_waiting-waiting.ensures.nodes c.rounds.invariant.counted
 
 pub returns-then-left-eq0-clause-refuses : goal.returns-then-left-eq0-clause-refuses
 returns-then-left-eq0-clause-refuses c =
@@ -178,4 +202,10 @@ rounds-preserved c =
           (round_next (grammar_view c.args.grammar) c.args.limit c.rounds.left (c.rounds.left - 1) (c.args.limit - c.rounds.left) c.take_waiting-waiting.new.self c.read_round.new.table (seen_in c.take_waiting-waiting.new.self)
           c.take_waiting-waiting.result.items (map item_view c.rounds.done.items) (omega arith) t.round t.making names refl (map item_view c.read_round.new.done.items) c.take_waiting-waiting.ensures.none some
           (rw are at e.meets) (rw are at e.refuses) (rw are at e.waits) (rw are at e.value));
+      made =
+          subst (λ (k : ℕ). MadeSo (grammar_view c.args.grammar) (wholes_in c.read_round.new.table) k (map made_view c.read_round.new.made.items)) round
+          (made_next (grammar_view c.args.grammar) (wholes_in c.take_waiting-waiting.new.self) (wholes_in c.read_round.new.table) (c.args.limit - c.rounds.left) c.take_waiting-waiting.result.items
+          t.making.new e.meets.grows (map made_view c.rounds.made.items) (map made_view c.read_round.new.made.items)
+          (subst (λ (ns : Nodes). MadeSo (grammar_view c.args.grammar) (wholes ns) (c.args.limit - c.rounds.left) (map made_view c.rounds.made.items)) (sym c.take_waiting-waiting.ensures.nodes) c.rounds.invariant.made)
+          (rw are at e.made));
     }

@@ -15,8 +15,8 @@ returns-in_err-add_alternative c =
     let xs : List Alternative = c.args.alternatives.now in
     let x : Alternative = c.alternative-item.result in
     let faults : List Alternative → List Fault = λ ys. flat_map (λ (a : AlternativeData). value_faults argument a.condition) (map alternative_view ys) in
-    let rest : List Fault = faults (drop (c.loop-alternative.alternative-index + 1) xs) in
+    let rest : List Fault = faults (drop (c.loop-place.place + 1) xs) in
     exit_or _ _ (faults xs) _ c.from_residual-in_err-add_alternative.ensures.1
     (subst (λ (fs : List Fault). IsFirst fs c.in_err-add_alternative.field-0.0)
-    (sym (at_drop_item faults xs c.loop-alternative.alternative-index x (omega arith) c.alternative-item.is) ∙ c.loop-alternative.invariant.refuses)
+    (sym (at_drop_item faults xs c.loop-place.place x (omega arith) c.alternative-item.is) ∙ c.loop-place.invariant.refuses)
     (first_of_more (value_faults argument x.condition) rest _ c.in_err-add_alternative.ensures.refuses))

@@ -13,6 +13,8 @@ use Rattle.lalrpop_norm_nodes.proofs.InsideReads.{call_is}
 use Rattle.lalrpop_norm_macro_expand_rules.specs.Conditions.{called_faults}
 use Rattle.lalrpop_norm_macro_expand_rules.specs.Macros.{macros_in}
 use Rattle.lalrpop_norm_macro_expand_rules.proofs.MacroLemmas.{named_so}
+use Rattle.lalrpop_norm_conditions.specs.Conditions.{comparison}
+use Rattle.lalrpop_norm_macro_expand.specs.Kept.{kept_by_call}
 use Rattle.lalrpop_norm_macro_expand.proofs.macro_expand.make.called_of.Goals as goal
 
 pub instance_of-requires-clause-shallow : goal.instance_of-requires-clause-shallow
@@ -36,3 +38,14 @@ returns-in_err-unread-in-Some-clause-refuses c =
     ap (λ (t : List ℕ × Parts). called_faults (macro_named ms t.0) t.1) (call_is m)
     ∙ ap₂ (λ (o : Option RuleData) (ps : Parts). called_faults o ps) found (ap (λ (v : Vec Symbol Global). parts_view v.items) (sym c.replace-arguments.ensures.value)) in
     err_same _ _ _ _ same c.from_residual.ensures.1 c.in_err-unread-in-Some.ensures.refuses
+
+pub returns-in-Some-clause-kept : goal.returns-in-Some-clause-kept
+returns-in-Some-clause-kept c =
+    let m : MacroSymbol = c.args.instance.now in
+    let ms : List RuleData = macros_in c.args.macros.now in
+    let d : RuleData = rule_view c.in-Some.definition.now in
+    let found : macro_named ms (out-MacroSymbol m).name.0 ≡ Some d = sym c.find.ensures ∙ ap (option_map (λ r. rule_view r.now)) c.in-Some.is in
+    let same : kept_by_call comparison (macro_named ms (macro_view m).0) (macro_view m).1 ≡ kept_by_call comparison (Some d) (parts_view c.replace-arguments.result.items) =
+    ap (λ (t : List ℕ × Parts). kept_by_call comparison (macro_named ms t.0) t.1) (call_is m)
+    ∙ ap₂ (λ (o : Option RuleData) (ps : Parts). kept_by_call comparison o ps) found (ap (λ (v : Vec Symbol Global). parts_view v.items) (sym c.replace-arguments.ensures.value)) in
+    c.in_ok-unread-in-Some.ensures.kept ∙ sym same

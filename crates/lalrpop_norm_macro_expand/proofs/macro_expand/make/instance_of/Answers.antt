@@ -29,7 +29,7 @@ returns-clause-pending c =
     let rule = rw c.deref.ensures.value at c.in_ok-rule.ensures in
     ap (λ (ns : List NonterminalString). unread_rule (rule_view c.in_ok-rule.rule) (whole_of ws ns given) (shown_of ns given)) c.in_ok-names.ensures
     ∙ call_is ws (rule_view c.in_ok-rule.rule) (instance_shape c.args.head.name c.args.head.span (rule_view c.args.definition.now) (parts_view c.args.arguments.items)) params given
-    (call_parts (kind_at ws c.args.number)) c.args.arguments.items rule.1 c.in_ok-given.ensures.numbers c.in_ok-given.ensures.symbols
+    (call_parts (kind_at ws c.args.number)) c.args.arguments.items rule.1.0 c.in_ok-given.ensures.numbers c.in_ok-given.ensures.symbols
 
 pub returns-clause-readable : goal.returns-clause-readable
 returns-clause-readable c =
@@ -40,3 +40,6 @@ returns-clause-readable c =
     rw c.in_ok-names.ensures
     (are_given ws c.args.definition.now.args.items given (call_parts (kind_at ws c.args.number)) c.in_ok-given.ensures.numbers
     (rw symbols (parts_stay c.args.definition.now.name.0 (parts_view c.args.arguments.items) c.requires.shallow.replaced)) (rw symbols shallow.same))
+
+pub returns-clause-kept : goal.returns-clause-kept
+returns-clause-kept c = (rw c.deref.ensures.value at c.in_ok-rule.ensures).1.1

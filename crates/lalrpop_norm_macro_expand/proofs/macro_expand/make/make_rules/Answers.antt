@@ -10,6 +10,7 @@ use Rattle.lalrpop_norm_nodes.specs.Tables.{wholes_in}
 use Rattle.lalrpop_norm_macro_expand_rules.specs.Macros.{macros_in}
 use Rattle.lalrpop_norm_macro_expand_rules.specs.Pending.{PendingData, pending_view}
 use Rattle.lalrpop_norm_macro_expand.specs.Expansion.{unmade}
+use Rattle.lalrpop_norm_macro_expand.specs.Made.{made_view, made_for}
 use Rattle.lalrpop_norm_macro_expand.specs.Making.{pending_for}
 use Rattle.lalrpop_norm_macro_expand.proofs.WaitingLists.{none_left, waiting_back}
 use Rattle.lalrpop_norm_macro_expand.proofs.macro_expand.make.make_rules.Goals as goal
@@ -22,6 +23,7 @@ loop-symbol-init c =
       refuses = rw whole refl;
       pending = rw (whole, c.in_ok-pending.ensures.items) refl;
       readable = rw c.in_ok-pending.ensures.items tt;
+      made = rw whole refl;
     }
 
 pub add_rule-requires-clause-waiting : goal.add_rule-requires-clause-waiting
@@ -53,6 +55,11 @@ loop-symbol-preserved c =
           ∙ ap (λ (ws : List Waiting). map (pending_view (wholes_in c.args.table.now)) c.loop-symbol.pending.items ++ pending_by ws) (sym split)
           ∙ v.pending;
       readable = c.in_ok-add_rule.ensures.readable;
+      made =
+          ap (λ (ms : List (ℕ × List ℕ)). ms ++ map (made_for (macros_in c.args.macros.now)) rest) c.in_ok-add_rule.ensures.made
+          ∙ append_assoc (map made_view c.loop-symbol.made.items) (made_for (macros_in c.args.macros.now) c.in-Some.symbol ∷ []) (map (made_for (macros_in c.args.macros.now)) rest)
+          ∙ ap (λ (ws : List Waiting). map made_view c.loop-symbol.made.items ++ map (made_for (macros_in c.args.macros.now)) ws) (sym split)
+          ∙ v.made;
     }
 
 pub returns-clause-refuses : goal.returns-clause-refuses
@@ -66,3 +73,10 @@ returns-clause-pending c =
     sym (append-nil (map (pending_view (wholes_in c.args.table.now)) c.loop-symbol.pending.items))
     ∙ ap (λ (ws : List Waiting). map (pending_view (wholes_in c.args.table.now)) c.loop-symbol.pending.items ++ flat_map (pending_for (wholes_in c.args.table.now) (macros_in c.args.macros.now)) ws) (sym none)
     ∙ c.loop-symbol.invariant.pending
+
+pub returns-clause-made : goal.returns-clause-made
+returns-clause-made c =
+    let none : c.loop-symbol.symbol-iterator.rest.items ≡ [] = none_left c.loop-symbol.symbol-iterator.rest.items (omega (arith, c.in-None.ensures.steps.0)) in
+    sym (append-nil (map made_view c.loop-symbol.made.items))
+    ∙ ap (λ (ws : List Waiting). map made_view c.loop-symbol.made.items ++ map (made_for (macros_in c.args.macros.now)) ws) (sym none)
+    ∙ c.loop-symbol.invariant.made

@@ -7,6 +7,7 @@ use Rattle.lalrpop_norm_nodes.specs.Tables.{wholes_in}
 use Rattle.lalrpop_norm_macro_expand_rules.specs.Macros.{macros_in}
 use Rattle.lalrpop_norm_macro_expand_rules.specs.Pending.{pending_view, AreReadable}
 use Rattle.lalrpop_norm_macro_expand.specs.Expansion.{unmade}
+use Rattle.lalrpop_norm_macro_expand.specs.Made.{made_view, made_for}
 use Rattle.lalrpop_norm_macro_expand.specs.Making.{pending_for}
 use Rattle.lalrpop_norm_macro_expand.proofs.macro_expand.make.make_rules.Given as goal
 
@@ -18,4 +19,6 @@ invariant-loop-symbol l = record {
   pending : map (pending_view (wholes_in l.table)) l.pending.items ++ flat_map (pending_for (wholes_in l.table) (macros_in l.macros)) l.symbol-iterator.rest.items
       ≡ flat_map (pending_for (wholes_in l.table) (macros_in l.macros)) (reverse l.fn.waiting.items);
   readable : AreReadable (wholes_in l.table) l.pending.items;
+  made : map made_view l.made.items ++ map (made_for (macros_in l.macros)) l.symbol-iterator.rest.items
+      ≡ map made_view l.fn.made.items ++ map (made_for (macros_in l.macros)) (reverse l.fn.waiting.items);
 }
