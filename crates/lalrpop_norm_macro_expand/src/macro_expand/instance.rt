@@ -1,5 +1,5 @@
 //! The rules of macro calls: those alternatives of the macro whose conditions hold, in which the macro's names stand for the arguments.
-ghost use Rattle.std.specs.Prelude.{◌≡◌, ◌×◌, ◌++◌, OnOk, map, flat_map};
+ghost use Rattle.std.specs.Prelude.{◌≡◌, ◌++◌, OnOk, map, flat_map};
 ghost use Rattle.lalrpop_norm_tree.specs.Symbols.{parts_view};
 ghost use Rattle.lalrpop_norm_tree.specs.Items.{AlternativeData, alternative_view, rule_view};
 ghost use Rattle.lalrpop_norm_faults.specs.Faults.{Refuses, RefusesOr};

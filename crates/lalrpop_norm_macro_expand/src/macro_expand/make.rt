@@ -1,5 +1,5 @@
 //! The rules that symbols are made into.
-ghost use Rattle.std.specs.Prelude.{◌≡◌, ◌×◌, [], ◌∷◌, ◌++◌, Some, IfOk, IfSome, OnOk, map, flat_map, reverse, option_map, option_to_list};
+ghost use Rattle.std.specs.Prelude.{◌≡◌, [], ◌∷◌, ◌++◌, Some, IfOk, IfSome, OnOk, map, flat_map, reverse, option_map, option_to_list};
 ghost use Rattle.lalrpop_norm_tree.specs.Symbols.{at, group, call, repeated, kind_view, parts_view, expr_view, macro_view, symbol_view};
 ghost use Rattle.lalrpop_norm_tree.specs.SymbolTexts.{kind_text};
 ghost use Rattle.lalrpop_norm_tree.specs.Items.{rule_view};
