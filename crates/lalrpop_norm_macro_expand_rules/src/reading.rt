@@ -1,18 +1,44 @@
 //! Alternatives that are read where names stand for what is given.
 ghost use Rattle.std.specs.Prelude.{◌≡◌, OnOk, map, flat_map};
 ghost use Rattle.lalrpop_norm_tree.specs.Items.{alternative_view};
+ghost use Rattle.lalrpop_norm_tree.specs.Symbols.{parts_view};
 ghost use Rattle.lalrpop_norm_faults.specs.Faults.{Refuses};
+ghost use Rattle.lalrpop_norm_model.specs.PlainRules.{all_met};
+ghost use Rattle.lalrpop_norm_model.specs.Replaced.{all_replaced};
+ghost use Rattle.lalrpop_norm_nodes.specs.Filled.{all_filled};
 ghost use Rattle.lalrpop_norm_nodes.specs.Given.{whole_for, shown_for, AreGiven};
 ghost use Rattle.lalrpop_norm_nodes.specs.Tables.{wholes_in, IsNodeTable, IsCounted, TableMeets, refused_in};
-ghost use Rattle.lalrpop_norm_nodes.specs.Waits.{LeavesWaiting};
+ghost use Rattle.lalrpop_norm_nodes.specs.Waits.{parts_replaced, LeavesWaiting};
 ghost use Rattle.lalrpop_norm_macro_expand_rules.specs.Pending.{met_filled, shown_filled, read_filled};
 
 use lalrpop_norm_faults::NormResult;
 use lalrpop_norm_nodes::given::Environment;
-use lalrpop_norm_nodes::read::read_row;
+use lalrpop_norm_nodes::read::read_symbol;
 use lalrpop_norm_nodes::table::Table;
-use lalrpop_norm_tree::grammar::parse_tree::Alternative;
+use lalrpop_norm_tree::grammar::parse_tree::{Alternative, Symbol};
 use std::alloc::Global;
+
+/// Reads symbols one after another, and replaces them where they stand. Unlike those of a group or a call they are no node together.
+fn read_symbols(
+    alloc: Global,
+    environment: &Environment,
+    symbols: &mut [Symbol],
+    table: &mut Table,
+) -> NormResult<()>
+    requires table { IsNodeTable table.old }
+    requires counted { IsCounted table.old }
+    requires given { AreGiven (wholes_in table.old) environment.now }
+    ensures refuses { Refuses result (refused_in table.old (all_met (all_filled (whole_for (wholes_in table.old) environment.now) (parts_view symbols.old)))) }
+    ensures meets { OnOk result (TableMeets table.old table.new (all_met (all_filled (whole_for (wholes_in table.old) environment.now) (parts_view symbols.old)))) }
+    ensures counted { OnOk result (IsCounted table.new) }
+    ensures waits { OnOk result (LeavesWaiting table.old table.new (map parts_replaced (all_met (all_filled (shown_for environment.now) (parts_view symbols.old))))) }
+    ensures value { OnOk result (parts_view symbols.new ≡ all_replaced (all_filled (shown_for environment.now) (parts_view symbols.old))) }
+{
+    for i in 0..symbols.len() {
+        read_symbol(alloc, environment, &mut symbols[i], table)?;
+    }
+    Ok(())
+}
 
 fn read_alternative(
     alloc: Global,
@@ -29,8 +55,7 @@ fn read_alternative(
     ensures waits { OnOk result (LeavesWaiting table.old table.new (shown_filled (shown_for environment.now) (alternative_view alternative.old))) }
     ensures value { OnOk result (alternative_view alternative.new ≡ read_filled (shown_for environment.now) (alternative_view alternative.old)) }
 {
-    read_row(alloc, environment, &mut alternative.expr.symbols, table)?;
-    Ok(())
+    read_symbols(alloc, environment, &mut alternative.expr.symbols, table)
 }
 
 /// Reads alternatives in their order, and replaces their symbols where they stand.
