@@ -4,6 +4,7 @@ ghost use Rattle.lalrpop_norm_tree.specs.Symbols.{parts_view};
 ghost use Rattle.lalrpop_norm_tree.specs.Items.{AlternativeData, alternative_view, rule_view};
 ghost use Rattle.lalrpop_norm_faults.specs.Faults.{Refuses, RefusesOr};
 ghost use Rattle.lalrpop_norm_model.specs.MadeRules.{argument_kind};
+ghost use Rattle.lalrpop_norm_macro_expand_rules.specs.Bound.{AreByNumber};
 ghost use Rattle.lalrpop_norm_macro_expand_rules.specs.Conditions.{value_faults, instance_faults};
 ghost use Rattle.lalrpop_norm_macro_expand.specs.Making.{kept_of, instance_shape};
 
@@ -12,6 +13,7 @@ use lalrpop_norm_macro_expand_rules::alternatives::{copied_alternative, instance
 use lalrpop_norm_macro_expand_rules::conditions::is_kept;
 use lalrpop_norm_macro_expand_rules::rules::Head;
 use lalrpop_norm_macro_expand_rules::substituted::Bindings;
+use lalrpop_norm_names::Names;
 use lalrpop_norm_tree::grammar::parse_tree::{
     Alternative, NonterminalData, NonterminalString, Span, Symbol,
 };
@@ -26,6 +28,7 @@ fn add_alternative(
     alternative: &Alternative,
     kept: &mut Vec<Alternative>,
 ) -> NormResult<()>
+    requires numbers { AreByNumber bindings.now }
     ensures refuses { Refuses result (value_faults (argument_kind bindings.now.names.now (parts_view bindings.now.symbols.now)) alternative.now.condition) }
     ensures adds { OnOk result (map alternative_view kept.new.items
         ≡ map alternative_view kept.old.items ++ kept_of span bindings.now.names.now (parts_view bindings.now.symbols.now) (alternative_view alternative.now)) }
@@ -43,6 +46,7 @@ fn instance_alternatives(
     span: Span,
     alternatives: &[Alternative],
 ) -> NormResult<Vec<Alternative>>
+    requires numbers { AreByNumber bindings.now }
     ensures { RefusesOr result (flat_map (λ (a : AlternativeData). value_faults (argument_kind bindings.now.names.now (parts_view bindings.now.symbols.now)) a.condition) (map alternative_view alternatives.now))
         (λ kept. map alternative_view kept.items ≡ flat_map (kept_of span bindings.now.names.now (parts_view bindings.now.symbols.now)) (map alternative_view alternatives.now)) }
 {
@@ -66,8 +70,11 @@ pub(super) fn instance_rule(
         (λ r. rule_view r ≡ instance_shape head.name head.span (rule_view definition.now) (parts_view arguments.now)) }
 {
     let span = head.span;
+    let names: &[NonterminalString] = &definition.args;
+    let numbers = Names::of(alloc, names)?;
     let bindings = Bindings {
-        names: &definition.args,
+        names,
+        numbers: &numbers,
         symbols: arguments,
     };
     let alternatives = instance_alternatives(alloc, &bindings, span, &definition.alternatives)?;
