@@ -14,13 +14,13 @@ use Rattle.lalrpop_norm_model.specs.Replaced.{replaced, replaced_kind, all_repla
 use Rattle.lalrpop_norm_nodes.specs.Apart.{nowhere, unplaced, unplaced_kind, all_unplaced}
 use Rattle.lalrpop_norm_nodes.specs.declared.given.Given.{Given}
 use Rattle.lalrpop_norm_nodes.specs.Filled.{inside_replaced}
-use Rattle.lalrpop_norm_nodes.specs.Given.{given_for, IsGiven}
+use Rattle.lalrpop_norm_nodes.specs.Given.{IsGiven}
 use Rattle.lalrpop_norm_nodes.specs.NodeParts.{is_call, call_parts, is_repeat, repeated_kind}
 use Rattle.lalrpop_norm_nodes.specs.Wholes.{Whole, one_symbol, kind_at, as_kind}
 use Rattle.lalrpop_norm_nodes.proofs.GivenLemmas.{text_replaced}
 use Rattle.lalrpop_norm_nodes.proofs.MeetLemmas.{text_unplaced}
 use Rattle.lalrpop_norm_nodes.proofs.RowItems.{is_kind}
-use Rattle.lalrpop_norm_macro_expand_rules.specs.Pending.{unread_rule, whole_of, shown_of}
+use Rattle.lalrpop_norm_macro_expand_rules.specs.Pending.{unread_rule, given_for, whole_of, shown_of}
 use Rattle.lalrpop_norm_macro_expand.specs.Making.{hole, hole_name, repeat_shape, repeat_pending}
 
 -- ---- a symbol with its parts replaced tells what it is

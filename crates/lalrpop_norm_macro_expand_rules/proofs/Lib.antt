@@ -1,3 +1,4 @@
+mod ArgumentLemmas
 mod ConditionLemmas
 mod InstanceLemmas
 pub mod MacroLemmas

@@ -6,12 +6,12 @@ use Rattle.lalrpop_norm_tree_names.specs.declared.names.NonterminalString.{Nonte
 use Rattle.lalrpop_norm_tree.specs.Symbols.{Kind, Part}
 use Rattle.lalrpop_norm_tree.specs.Items.{rule_view}
 use Rattle.lalrpop_norm_nodes.specs.declared.given.Given.{Given}
-use Rattle.lalrpop_norm_nodes.specs.Given.{given_for, IsGiven}
+use Rattle.lalrpop_norm_nodes.specs.Given.{IsGiven}
 use Rattle.lalrpop_norm_nodes.specs.Wholes.{Whole, kind_at, Grows}
 use Rattle.lalrpop_norm_nodes.proofs.GivenLemmas.{given_stays, whole_stays}
 use Rattle.lalrpop_norm_macro_expand_rules.specs.declared.pending.Pending.{Pending}
 use Rattle.lalrpop_norm_macro_expand_rules.specs.declared.pending.Pending.TheVariants.{Finished, Unread}
-use Rattle.lalrpop_norm_macro_expand_rules.specs.Pending.{PendingData, unread_rule, whole_of, shown_of, pending_view, IsReadable, AreReadable}
+use Rattle.lalrpop_norm_macro_expand_rules.specs.Pending.{PendingData, unread_rule, given_for, whole_of, shown_of, pending_view, IsReadable, AreReadable}
 
 pub readable_stays : (ws vs : List Whole) (p : Pending) → Grows ws vs → IsReadable ws p → IsReadable vs p
 readable_stays ws vs (Finished r) grows h = tt

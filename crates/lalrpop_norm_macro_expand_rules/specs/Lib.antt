@@ -1,3 +1,4 @@
+pub mod Bound
 pub mod Conditions
 pub mod Items
 pub mod Macros

@@ -1,5 +1,5 @@
 -- Rules that were made, and what is still to be read in them: the code's own words, of which no public clause speaks.
-use Rattle.std.specs.Prelude.{◌≡◌, ⊤, ℕ, List, [], ◌∷◌, map, flat_map, Option, Some, option_map}
+use Rattle.std.specs.Prelude.{◌≡◌, ⊤, ℕ, List, [], ◌∷◌, map, flat_map, Option, Some, None, option_map, bytes_eq, if◌then◌else◌}
 use Rattle.lalrpop_norm_tree_names.specs.declared.names.NonterminalString.{NonterminalString}
 use Rattle.lalrpop_norm_tree.specs.Symbols.{Kind, Part, kind_view}
 use Rattle.lalrpop_norm_tree.specs.Items.{AlternativeData, RuleData, ItemData, rule_item, rule_view}
@@ -7,7 +7,7 @@ use Rattle.lalrpop_norm_model.specs.PlainRules.{all_met}
 use Rattle.lalrpop_norm_model.specs.Replaced.{all_replaced}
 use Rattle.lalrpop_norm_nodes.specs.declared.given.Given.{Given}
 use Rattle.lalrpop_norm_nodes.specs.Filled.{all_filled}
-use Rattle.lalrpop_norm_nodes.specs.Given.{given_for, IsGiven}
+use Rattle.lalrpop_norm_nodes.specs.Given.{IsGiven}
 use Rattle.lalrpop_norm_nodes.specs.Waits.{parts_replaced}
 use Rattle.lalrpop_norm_nodes.specs.Wholes.{Whole, kind_at}
 use Rattle.lalrpop_norm_macro_expand_rules.specs.declared.pending.Pending.{Pending}
@@ -45,6 +45,11 @@ shown_in_pending (unread_rule r whole shown) = flat_map (shown_filled shown) r.a
 abbrev pub pending_read : PendingData → ItemData
 pending_read (finished_rule r) = rule_item r
 pending_read (unread_rule r whole shown) = rule_item (record r { alternatives = map (read_filled shown) r.alternatives })
+
+-- what is given for the first of the names that is this one
+abbrev pub given_for : {A : Type 0} → List NonterminalString → List A → List ℕ → Option A
+given_for (a ∷ names) (g ∷ given) n = if bytes_eq a.0 n then Some g else given_for names given n
+given_for _ _ n = None
 
 -- what a name is bound to
 abbrev pub whole_of : List Whole → List NonterminalString → List Given → List ℕ → Option Kind

@@ -4,12 +4,12 @@ ghost use Rattle.lalrpop_norm_tree.specs.Symbols.{parts_view};
 ghost use Rattle.lalrpop_norm_tree.specs.Types.{type_view};
 ghost use Rattle.lalrpop_norm_tree.specs.Items.{alternative_view};
 ghost use Rattle.lalrpop_norm_model.specs.MadeRules.{argument_kind, type_substituted, instance_alternative};
+ghost use Rattle.lalrpop_norm_macro_expand_rules.specs.Bound.{AreByNumber};
 
-use crate::substituted::{Bindings, all_substituted, type_substituted};
+use crate::copied::all_copied;
+use crate::substituted::{Bindings, declared_type};
 use lalrpop_norm_tree::grammar::copy::copy_action;
-use lalrpop_norm_tree::grammar::parse_tree::{
-    Alternative, ExprSymbol, NoMemory, NonterminalString, Span, Symbol, TypeRef,
-};
+use lalrpop_norm_tree::grammar::parse_tree::{Alternative, ExprSymbol, NoMemory, Span, TypeRef};
 use lalrpop_norm_tree_parts::attribute::copy::copy_attributes;
 use std::alloc::Global;
 
@@ -21,13 +21,7 @@ pub fn copied_alternative(
 ) -> Result<Alternative, NoMemory>
     ensures { IfOk result (λ a. alternative_view a ≡ instance_alternative span (λ n. None) (alternative_view alternative.now)) }
 {
-    let names: Vec<NonterminalString> = Vec::new(alloc);
-    let nothing: Vec<Symbol> = Vec::new(alloc);
-    let unbound = Bindings {
-        names: &names,
-        symbols: &nothing,
-    };
-    let symbols = all_substituted(alloc, &unbound, &alternative.expr.symbols)?;
+    let symbols = all_copied(alloc, &alternative.expr.symbols)?;
     let action = copy_action(&alternative.action)?;
     let attributes = copy_attributes(&alternative.attributes)?;
     Ok(Alternative {
@@ -45,11 +39,12 @@ pub fn instance_type(
     bindings: &Bindings,
     ty: &Option<TypeRef>,
 ) -> Result<Option<TypeRef>, NoMemory>
+    requires numbers { AreByNumber bindings.now }
     ensures { IfOk result (λ t. option_map type_view t
         ≡ option_map (type_substituted (argument_kind bindings.now.names.now (parts_view bindings.now.symbols.now))) (option_map type_view ty.now)) }
 {
     match ty {
         None => Ok(None),
-        Some(ty) => Ok(Some(type_substituted(alloc, bindings, ty)?)),
+        Some(ty) => Ok(Some(declared_type(alloc, bindings, ty)?)),
     }
 }

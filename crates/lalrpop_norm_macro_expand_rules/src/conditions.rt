@@ -7,13 +7,14 @@ ghost use Rattle.lalrpop_norm_conditions.specs.Conditions.{comparison, lacks_rea
 ghost use Rattle.lalrpop_norm_model.specs.Grammars.{is_true};
 ghost use Rattle.lalrpop_norm_model.specs.Reading.{read_all};
 ghost use Rattle.lalrpop_norm_model.specs.MadeRules.{flat_reader, argument_kind};
+ghost use Rattle.lalrpop_norm_macro_expand_rules.specs.Bound.{AreByNumber};
 ghost use Rattle.lalrpop_norm_macro_expand_rules.specs.Conditions.{quoted_text, value_faults};
 
 use crate::substituted::{Bindings, bound_to};
 use lalrpop_norm_conditions::{ConditionError, holds};
 use lalrpop_norm_faults::{FaultKind, NormFailure, NormResult, refusal};
 use lalrpop_norm_tree::grammar::parse_tree::{
-    Atom, Condition, SymbolKind, TerminalLiteral, TerminalString,
+    Atom, Condition, NonterminalString, SymbolKind, TerminalLiteral, TerminalString,
 };
 use std::alloc::Global;
 
@@ -29,8 +30,9 @@ fn quoted(token: &TerminalString) -> Option<&Atom>
 }
 
 /// The text of the quoted literal that a name is bound to.
-fn literal_bound<'a>(bindings: &Bindings<'a>, name: &Atom) -> Option<&'a Atom>
-    ensures { option_map (λ t. t.now) result ≡ quoted_text (argument_kind bindings.now.names.now (parts_view bindings.now.symbols.now) name.now) }
+fn literal_bound<'a>(bindings: &Bindings<'a>, name: &NonterminalString) -> Option<&'a Atom>
+    requires numbers { AreByNumber bindings.now }
+    ensures { option_map (λ t. t.now) result ≡ quoted_text (argument_kind bindings.now.names.now (parts_view bindings.now.symbols.now) name.now.0) }
 {
     match bound_to(bindings, name)? {
         SymbolKind::Terminal(token) => quoted(token),
@@ -77,13 +79,14 @@ pub fn is_kept(
     bindings: &Bindings,
     condition: &Option<Condition>,
 ) -> NormResult<bool>
+    requires numbers { AreByNumber bindings.now }
     ensures { RefusesOr result (value_faults (argument_kind bindings.now.names.now (parts_view bindings.now.symbols.now)) condition.now)
         (λ b. b ≡ is_true comparison bindings.now.names.now (read_all flat_reader (parts_view bindings.now.symbols.now)) condition.now) }
 {
     let Some(condition) = condition else {
         return Ok(true);
     };
-    match literal_bound(bindings, &condition.lhs.0) {
+    match literal_bound(bindings, &condition.lhs) {
         Some(literal) => says(alloc, condition, literal),
         None => Err(refusal(
             FaultKind::ConditionArgument,

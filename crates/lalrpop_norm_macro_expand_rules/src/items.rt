@@ -9,9 +9,10 @@ ghost use Rattle.lalrpop_norm_macro_expand_rules.specs.Items.{replaced_item, met
 
 use crate::reading::read_alternatives;
 use lalrpop_norm_faults::NormResult;
+use lalrpop_norm_names::Names;
 use lalrpop_norm_nodes::given::{Environment, Given};
 use lalrpop_norm_nodes::table::Table;
-use lalrpop_norm_tree::grammar::parse_tree::{GrammarItem, NonterminalData, NonterminalString};
+use lalrpop_norm_tree::grammar::parse_tree::{GrammarItem, NonterminalData};
 use std::alloc::Global;
 
 /// Reads a rule of the grammar: no name in it stands for anything given.
@@ -24,10 +25,10 @@ fn replace_rule(alloc: Global, rule: &mut NonterminalData, table: &mut Table) ->
     ensures waits { OnOk result (LeavesWaiting table.old table.new (map parts_replaced (met_in_rule (rule_view rule.old)))) }
     ensures value { OnOk result (rule_view rule.new ≡ replaced_rule (rule_view rule.old)) }
 {
-    let names: Vec<NonterminalString> = Vec::new(alloc);
+    let numbers = Names::of(alloc, &[])?;
     let given: Vec<Given> = Vec::new(alloc);
     let environment = Environment {
-        names: &names,
+        numbers: &numbers,
         given: &given,
     };
     read_alternatives(alloc, &environment, &mut rule.alternatives, table)?;

@@ -4,6 +4,7 @@
 
 pub mod alternatives;
 pub mod conditions;
+mod copied;
 pub mod groups;
 pub mod items;
 pub mod macros;

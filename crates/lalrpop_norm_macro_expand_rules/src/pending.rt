@@ -9,6 +9,7 @@ ghost use Rattle.lalrpop_norm_macro_expand_rules.specs.Pending.{met_in_pending, 
 
 use crate::reading::read_alternatives;
 use lalrpop_norm_faults::NormResult;
+use lalrpop_norm_names::Names;
 use lalrpop_norm_nodes::given::{Environment, Given};
 use lalrpop_norm_nodes::table::Table;
 use lalrpop_norm_tree::grammar::parse_tree::{GrammarItem, NonterminalData, NonterminalString};
@@ -47,8 +48,9 @@ fn read_unread(alloc: Global, unread: UnreadRule, table: &mut Table) -> NormResu
     let names = unread.names;
     let given = unread.given;
     let mut rule = unread.rule;
+    let numbers = Names::of(alloc, &names)?;
     let environment = Environment {
-        names: &names,
+        numbers: &numbers,
         given: &given,
     };
     read_alternatives(alloc, &environment, &mut rule.alternatives, table)?;

@@ -10,7 +10,7 @@ use Rattle.lalrpop_norm_nodes.specs.declared.given.Given.{Given}
 use Rattle.lalrpop_norm_nodes.specs.declared.given.Environment.{Environment}
 use Rattle.lalrpop_norm_nodes.specs.Wholes.{Whole, kind_at, Grows}
 use Rattle.lalrpop_norm_nodes.specs.Filled.{filled, filled_kind, all_filled, inside_replaced}
-use Rattle.lalrpop_norm_nodes.specs.Given.{given_for, whole_for, shown_for, IsGiven, AreGiven}
+use Rattle.lalrpop_norm_nodes.specs.Given.{given_in, whole_for, shown_for, IsGiven, AreGiven}
 use Rattle.lalrpop_norm_nodes.proofs.RowLemmas.{symbol_stays, is_kind_stays}
 
 -- ---- numbers keep what they stand for
@@ -32,7 +32,7 @@ whole_stays ws vs (Some g) (more, e) h =
     ap Some (ap (λ (us : List Whole). kind_at us g.number) e ∙ symbol_stays ws more g.number (h g refl).stands)
 
 pub wholes_stay : (ws vs : List Whole) (e : Environment) → Grows ws vs → AreGiven ws e → whole_for vs e ≡ whole_for ws e
-wholes_stay ws vs e grows h = fun_ext (λ n. whole_stays ws vs (given_for e.names.now e.given.now n) grows (λ g f. h n g f))
+wholes_stay ws vs e grows h = fun_ext (λ n. whole_stays ws vs (given_in e n) grows (λ g f. h n g f))
 
 -- ---- texts
 
@@ -112,4 +112,4 @@ pub shown_text : (ws : List Whole) (e : Environment) → AreGiven ws e → (k : 
     kind_text (inside_replaced (filled_kind (shown_for e) k)) ≡ kind_text (filled_kind (whole_for ws e) k)
 shown_text ws e h k =
     inside_text (filled_kind (shown_for e) k)
-    ∙ kind_text_filled (shown_for e) (whole_for ws e) (λ n. given_texts ws (given_for e.names.now e.given.now n) (λ g f. h n g f)) k
+    ∙ kind_text_filled (shown_for e) (whole_for ws e) (λ n. given_texts ws (given_in e n) (λ g f. h n g f)) k

@@ -1,4 +1,5 @@
 pub mod ApartLemmas
+mod DigestLemmas
 pub mod EnterLemmas
 pub mod FirstLemmas
 pub mod FirstMet

@@ -1,6 +1,6 @@
 -- What the arguments of a macro are bound to, by numbers.
-use Rattle.std.specs.Prelude.{◌≡◌, ℕ, List, ◌∷◌, Option, Some, None, option_map, bytes_eq, if◌then◌else◌}
-use Rattle.lalrpop_norm_tree_names.specs.declared.names.NonterminalString.{NonterminalString}
+use Rattle.std.specs.Prelude.{◌≡◌, ℕ, List, Option, Some, None, option_map, option_and_then, slice_get}
+use Rattle.lalrpop_norm_names.specs.Numbers.{number_in_table}
 use Rattle.lalrpop_norm_tree.specs.Symbols.{Kind, Part, nonterminal, kind_view}
 use Rattle.lalrpop_norm_tree.specs.SymbolTexts.{kind_text}
 use Rattle.lalrpop_norm_model.specs.Replaced.{replaced, replaced_kind}
@@ -9,16 +9,16 @@ use Rattle.lalrpop_norm_nodes.specs.declared.given.Given.{Given}
 use Rattle.lalrpop_norm_nodes.specs.declared.given.Environment.{Environment}
 use Rattle.lalrpop_norm_nodes.specs.Wholes.{Whole, kind_at, IsKind}
 
-abbrev pub given_for : {A : Type 0} → List NonterminalString → List A → List ℕ → Option A
-given_for (a ∷ names) (g ∷ given) n = if bytes_eq a.0 n then Some g else given_for names given n
-given_for _ _ n = None
+-- what is given for the argument of a name
+abbrev pub given_in : Environment → List ℕ → Option Given
+given_in e n = option_and_then (λ i. slice_get e.given.now i) (number_in_table e.numbers.now n)
 
 -- what a name is bound to, spans aside, and what stands in its place
 abbrev pub whole_for : List Whole → Environment → List ℕ → Option Kind
-whole_for ws e n = option_map (λ g. kind_at ws g.number) (given_for e.names.now e.given.now n)
+whole_for ws e n = option_map (λ g. kind_at ws g.number) (given_in e n)
 
 abbrev pub shown_for : Environment → List ℕ → Option Kind
-shown_for e n = option_map (λ g. kind_view g.symbol.kind) (given_for e.names.now e.given.now n)
+shown_for e n = option_map (λ g. kind_view g.symbol.kind) (given_in e n)
 
 -- a number that stands for a symbol, and that symbol with what is made into rules replaced
 pub record IsGiven (ws : List Whole) (g : Given) : Type 0 where
@@ -27,11 +27,11 @@ pub record IsGiven (ws : List Whole) (g : Given) : Type 0 where
   pub text : kind_text (kind_view g.symbol.kind) ≡ kind_text (kind_at ws g.number)
 
 abbrev pub AreGiven : List Whole → Environment → Type 0
-AreGiven ws e = (n : List ℕ) (g : Given) → given_for e.names.now e.given.now n ≡ Some g → IsGiven ws g
+AreGiven ws e = (n : List ℕ) (g : Given) → given_in e n ≡ Some g → IsGiven ws g
 
 -- what is given for a symbol that is an argument's name
 abbrev pub given_to : Environment → Kind → Option Given
-given_to e (nonterminal n) = given_for e.names.now e.given.now n
+given_to e (nonterminal n) = given_in e n
 given_to e _ = None
 
 -- a symbol read where names stand for what is given: as it is, spans inside what is given aside; and with what is made into rules

@@ -1,6 +1,12 @@
 //! A digest of the symbols of a grammar's rules, which is the seed of a table's hashes.
 //!
 //! No key of a table can be chosen that is not written there, or made of what is: so whoever changes a key changes all hashes.
+ghost use Rattle.std.specs.Prelude.{◌≡◌, ◌++◌, map, flat_map};
+ghost use Rattle.std.specs.Hash.{u8, bool, str};
+ghost use Rattle.lalrpop_norm_names.specs.Seeds.{hasher_after, seeded_after};
+ghost use Rattle.lalrpop_norm_tree.specs.Symbols.{argument_pattern_view, argument_patterns_view, kind_view, symbol_view, parts_view};
+ghost use Rattle.lalrpop_norm_tree.specs.Items.{alternative_view, item_view};
+ghost use Rattle.lalrpop_norm_nodes.specs.Digests.{name_writes, terminal_writes, op_writes, pattern_writes, patterns_writes, kind_writes, part_writes, parts_writes, alternative_writes, item_writes, reader_of_items};
 
 use lalrpop_norm_names::Seeded;
 use lalrpop_norm_tree::grammar::parse_tree::{
@@ -10,18 +16,24 @@ use lalrpop_norm_tree::grammar::parse_tree::{
 use std::hash::{DefaultHasher, Hash, Hasher};
 
 /// Reads a text that stands there as what a number says.
-fn read_text(tag: u8, text: &Atom, reader: &mut DefaultHasher) {
+fn read_text(tag: u8, text: &Atom, reader: &mut DefaultHasher)
+    ensures { reader.new ≡ hasher_after reader.old (u8 tag ++ str text.now) }
+{
     reader.write_u8(tag);
     text.hash(reader);
 }
 
-fn read_name(name: &Name, reader: &mut DefaultHasher) {
+fn read_name(name: &Name, reader: &mut DefaultHasher)
+    ensures { reader.new ≡ hasher_after reader.old (name_writes name.now) }
+{
     name.mutable.hash(reader);
     name.name.hash(reader);
 }
 
 #[cycle(pattern)]
-fn read_pattern(pattern: &ArgPattern, reader: &mut DefaultHasher) {
+fn read_pattern(pattern: &ArgPattern, reader: &mut DefaultHasher)
+    ensures { reader.new ≡ hasher_after reader.old (pattern_writes (argument_pattern_view pattern.now)) }
+{
     match pattern {
         ArgPattern::Name(name) => read_name(name, reader),
         ArgPattern::Tuple(tuple) => {
@@ -32,14 +44,18 @@ fn read_pattern(pattern: &ArgPattern, reader: &mut DefaultHasher) {
 }
 
 #[cycle(pattern)]
-fn read_patterns(several: &[ArgPattern], reader: &mut DefaultHasher) {
+fn read_patterns(several: &[ArgPattern], reader: &mut DefaultHasher)
+    ensures { reader.new ≡ hasher_after reader.old (patterns_writes (argument_patterns_view several.now)) }
+{
     for pattern in several {
         read_pattern(pattern, reader);
     }
     reader.write_u8(3);
 }
 
-fn read_terminal(terminal: &TerminalString, reader: &mut DefaultHasher) {
+fn read_terminal(terminal: &TerminalString, reader: &mut DefaultHasher)
+    ensures { reader.new ≡ hasher_after reader.old (terminal_writes terminal.now) }
+{
     match terminal {
         TerminalString::Literal(TerminalLiteral::Quoted(text)) => read_text(4, text, reader),
         TerminalString::Literal(TerminalLiteral::Regex(text)) => read_text(5, text, reader),
@@ -48,7 +64,9 @@ fn read_terminal(terminal: &TerminalString, reader: &mut DefaultHasher) {
     }
 }
 
-fn read_op(op: RepeatOp, reader: &mut DefaultHasher) {
+fn read_op(op: RepeatOp, reader: &mut DefaultHasher)
+    ensures { reader.new ≡ hasher_after reader.old (op_writes op) }
+{
     match op {
         RepeatOp::Star => reader.write_u8(8),
         RepeatOp::Plus => reader.write_u8(9),
@@ -57,12 +75,16 @@ fn read_op(op: RepeatOp, reader: &mut DefaultHasher) {
 }
 
 #[cycle(symbol)]
-fn read_symbol(symbol: &Symbol, reader: &mut DefaultHasher) {
+fn read_symbol(symbol: &Symbol, reader: &mut DefaultHasher)
+    ensures { reader.new ≡ hasher_after reader.old (part_writes (symbol_view symbol.now)) }
+{
     read_kind(&symbol.kind, reader);
 }
 
 #[cycle(symbol)]
-fn read_kind(kind: &SymbolKind, reader: &mut DefaultHasher) {
+fn read_kind(kind: &SymbolKind, reader: &mut DefaultHasher)
+    ensures { reader.new ≡ hasher_after reader.old (kind_writes (kind_view kind.now)) }
+{
     match kind {
         SymbolKind::Nonterminal(name) => read_text(11, &name.0, reader),
         SymbolKind::AmbiguousId(name) => read_text(12, name, reader),
@@ -100,20 +122,32 @@ fn read_kind(kind: &SymbolKind, reader: &mut DefaultHasher) {
 }
 
 #[cycle(symbol)]
-fn read_row(symbols: &[Symbol], reader: &mut DefaultHasher) {
+fn read_row(symbols: &[Symbol], reader: &mut DefaultHasher)
+    ensures { reader.new ≡ hasher_after reader.old (parts_writes (parts_view symbols.now)) }
+{
     for symbol in symbols {
         read_symbol(symbol, reader);
     }
     reader.write_u8(21);
 }
 
-fn read_alternatives(alternatives: &[Alternative], reader: &mut DefaultHasher) {
+fn read_alternative(alternative: &Alternative, reader: &mut DefaultHasher)
+    ensures { reader.new ≡ hasher_after reader.old (alternative_writes (alternative_view alternative.now)) }
+{
+    read_row(&alternative.expr.symbols, reader);
+}
+
+fn read_alternatives(alternatives: &[Alternative], reader: &mut DefaultHasher)
+    ensures { reader.new ≡ hasher_after reader.old (flat_map alternative_writes (map alternative_view alternatives.now)) }
+{
     for alternative in alternatives {
-        read_row(&alternative.expr.symbols, reader);
+        read_alternative(alternative, reader);
     }
 }
 
-fn read_item(item: &GrammarItem, reader: &mut DefaultHasher) {
+fn read_item(item: &GrammarItem, reader: &mut DefaultHasher)
+    ensures { reader.new ≡ hasher_after reader.old (item_writes (item_view item.now)) }
+{
     match item {
         GrammarItem::Nonterminal(rule) => {
             rule.name.0.hash(reader);
@@ -128,7 +162,9 @@ fn read_item(item: &GrammarItem, reader: &mut DefaultHasher) {
 
 /// The hashes of a table for a grammar of these items: their seed is made of the names of its rules and the symbols of their
 /// alternatives, macros too.
-pub fn seeded_by(items: &[GrammarItem]) -> Seeded {
+pub fn seeded_by(items: &[GrammarItem]) -> Seeded
+    ensures { result.start ≡ seeded_after (reader_of_items (map item_view items.now)) }
+{
     let mut reader = DefaultHasher::new();
     for item in items {
         read_item(item, &mut reader);

@@ -5,6 +5,7 @@ ghost use Rattle.lalrpop_norm_tree.specs.Items.{AlternativeData, alternative_vie
 ghost use Rattle.lalrpop_norm_faults.specs.Faults.{Refuses, RefusesOr};
 ghost use Rattle.lalrpop_norm_conditions.specs.Conditions.{comparison};
 ghost use Rattle.lalrpop_norm_model.specs.MadeRules.{argument_kind};
+ghost use Rattle.lalrpop_norm_macro_expand_rules.specs.Bound.{AreByNumber};
 ghost use Rattle.lalrpop_norm_macro_expand_rules.specs.Conditions.{value_faults, instance_faults};
 ghost use Rattle.lalrpop_norm_macro_expand.specs.Kept.{kept_place, kept_places};
 ghost use Rattle.lalrpop_norm_macro_expand.specs.Making.{kept_of, instance_shape};
@@ -14,6 +15,7 @@ use lalrpop_norm_macro_expand_rules::alternatives::{copied_alternative, instance
 use lalrpop_norm_macro_expand_rules::conditions::is_kept;
 use lalrpop_norm_macro_expand_rules::rules::Head;
 use lalrpop_norm_macro_expand_rules::substituted::Bindings;
+use lalrpop_norm_names::Names;
 use lalrpop_norm_tree::grammar::parse_tree::{
     Alternative, NonterminalData, NonterminalString, Span, Symbol,
 };
@@ -36,6 +38,7 @@ fn add_alternative(
     alternative: &Alternative,
     kept: &mut Kept,
 ) -> NormResult<()>
+    requires numbers { AreByNumber bindings.now }
     ensures refuses { Refuses result (value_faults (argument_kind bindings.now.names.now (parts_view bindings.now.symbols.now)) alternative.now.condition) }
     ensures adds { OnOk result (map alternative_view kept.new.alternatives.items
         ≡ map alternative_view kept.old.alternatives.items ++ kept_of span bindings.now.names.now (parts_view bindings.now.symbols.now) (alternative_view alternative.now)) }
@@ -57,6 +60,7 @@ fn instance_alternatives(
     span: Span,
     alternatives: &[Alternative],
 ) -> NormResult<Kept>
+    requires numbers { AreByNumber bindings.now }
     ensures { RefusesOr result (flat_map (λ (a : AlternativeData). value_faults (argument_kind bindings.now.names.now (parts_view bindings.now.symbols.now)) a.condition) (map alternative_view alternatives.now))
         (λ kept. (map alternative_view kept.alternatives.items ≡ flat_map (kept_of span bindings.now.names.now (parts_view bindings.now.symbols.now)) (map alternative_view alternatives.now))
         × (kept.places.items ≡ kept_places comparison bindings.now.names.now (parts_view bindings.now.symbols.now) 0 (map alternative_view alternatives.now))) }
@@ -86,8 +90,11 @@ pub(super) fn instance_rule(
         × (r.1.items ≡ kept_places comparison definition.now.args.items (parts_view arguments.now) 0 (rule_view definition.now).alternatives)) }
 {
     let span = head.span;
+    let names: &[NonterminalString] = &definition.args;
+    let numbers = Names::of(alloc, names)?;
     let bindings = Bindings {
-        names: &definition.args,
+        names,
+        numbers: &numbers,
         symbols: arguments,
     };
     let kept = instance_alternatives(alloc, &bindings, span, &definition.alternatives)?;
