@@ -61,7 +61,7 @@ abbrev pub with_all : NameRows → List Global → NameRows
 with_all rows [] = rows
 with_all rows (d ∷ ds) = with_all (with_def rows d.name (def_of d.definition)) ds
 
--- the rows of definitions, and of those before them: each name has the first of its own
+-- what a table of definitions, and of those before them, has of each name: the first of its own
 abbrev pub all_rows : List Global → List Global → NameRows
 all_rows before ds name = option_map def_of (definition_of (before ++ ds) name)
 
