@@ -3,16 +3,15 @@ use Rattle.std.proofs.Common.{◌≡◌, ◌+◌, ◌<◌, ℕ, Bool, true, fals
 use Rattle.std.proofs.Math.Path.{fun_ext}
 use Rattle.std.specs.Prelude.{flat_map}
 use Rattle.std.specs.Cmp.Lexicographic.{slice_cmp}
-use Rattle.std.specs.BTreeMap.{BTreeMap, is_at}
+use Rattle.std.specs.BTreeMap.{is_at}
 use Rattle.std.specs.BTreeSet.{BTreeSet, contains}
 use Rattle.std.proofs.lemmas.Map.Text.{is_eq-slice_cmp}
 use Rattle.shared_text.specs.declared.atom.Atom.{Atom}
 use Rattle.lalrpop_norm_tree_names.specs.declared.names.NonterminalString.{NonterminalString}
 use Rattle.lalrpop_norm_tree.specs.Items.{RuleData}
 use Rattle.lalrpop_norm_model.specs.Scopes.{is_argument, resolved_alternative}
-use Rattle.lalrpop_norm_resolve.specs.declared.resolve.Def.{Def}
 use Rattle.lalrpop_norm_resolve.specs.NameFaults.{has_repeated_argument, repeated_argument_faults, alternative_name_faults}
-use Rattle.lalrpop_norm_resolve.specs.NameTables.{sense_beside, sense_in, rule_faults_in, resolved_rule_in}
+use Rattle.lalrpop_norm_resolve.specs.NameTables.{GlobalMap, sense_beside, sense_in, rule_faults_in, resolved_rule_in}
 use Rattle.lalrpop_norm_faults.proofs.FaultLemmas.{at_drop_item}
 
 -- a set has just the names of these arguments
@@ -51,7 +50,7 @@ module _ (args : List NonterminalString) (i next : ℕ) (x : NonterminalString) 
       ∙ ap (λ n. is_argument (drop next args) n || has_repeated_argument (drop next args)) (sym named)
       ∙ ap (λ b. b || has_repeated_argument (drop next args)) (sym (h key))
 
-module _ (m : BTreeMap Atom Def) (own : BTreeSet Atom) (r : RuleData) (h : HasArguments own r.args) where
+module _ (m : GlobalMap) (own : BTreeSet Atom) (r : RuleData) (h : HasArguments own r.args) where
   own_sense : sense_beside m (is_argument r.args) ≡ sense_in m own
   unfolding sense_in
   own_sense = ap (sense_beside m) (sym (fun_ext h))

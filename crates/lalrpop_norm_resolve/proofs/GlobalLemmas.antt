@@ -1,15 +1,10 @@
 -- The table of global names says what the list of definitions says.
-use Rattle.std.proofs.Common.{◌≡◌, ℕ, Bool, true, false, cond, List, [], ◌∷◌, ◌++◌, Option, Some, None, nat_cmp, bytes_eq, map, append_assoc, append-nil, refl, sym, ap, ◌∙◌}
+use Rattle.std.proofs.Common.{◌≡◌, ℕ, Bool, true, false, cond, List, [], ◌∷◌, ◌++◌, Option, Some, None, bytes_eq, map, append_assoc, append-nil, refl, sym, ap, ◌∙◌}
 use Rattle.std.proofs.Math.Path.{fun_ext}
 use Rattle.std.specs.Prelude.{is_some, option_map, flat_map}
-use Rattle.std.specs.Ordering.{is_eq, match_ordering}
-use Rattle.std.specs.declared.cmp.Ordering.{Ordering}
-use Rattle.std.specs.declared.cmp.Ordering.TheVariants.{Less, Equal, Greater}
-use Rattle.std.specs.Cmp.Lexicographic.{slice_cmp}
-use Rattle.std.specs.BTreeMap.{BTreeMap, insert_entry}
+use Rattle.std.specs.Map.{lookup}
+use Rattle.std.specs.HashMap.{get}
 use Rattle.std.proofs.lemmas.Slice.Eq.{bytes_eq-Decides}
-use Rattle.std.proofs.lemmas.Map.Text.{is_eq-slice_cmp}
-use Rattle.shared_text.specs.declared.atom.Atom.{Atom}
 use Rattle.lalrpop_norm_tree_names.specs.declared.names.NonterminalString.{NonterminalString}
 use Rattle.lalrpop_norm_tree.specs.Items.{ItemData, match_item, extern_item, intern_item, rule_item, use_item}
 use Rattle.lalrpop_norm_faults.specs.declared.kind.FaultKind.TheVariants.{NameDeclaredTwice}
@@ -17,40 +12,14 @@ use Rattle.lalrpop_norm_faults.specs.Faults.{Fault, fault_if}
 use Rattle.lalrpop_norm_model.specs.Scopes.{Definition, a_rule, a_macro, a_terminal, Global, definition_of, an_argument, global_sense, is_argument, sense_of, resolved_alternative, resolved_item}
 use Rattle.lalrpop_norm_resolve.specs.declared.resolve.Def.{Def}
 use Rattle.lalrpop_norm_resolve.specs.NameFaults.{repeated_faults, repeated_argument_faults, alternative_name_faults, item_name_faults}
-use Rattle.lalrpop_norm_resolve.specs.NameTables.{sense_seen, def_of, NameRow, found_def, sense_beside, with_def, all_rows, row_faults, rows_faults, items_globals, names_faults, item_faults_in, resolved_item_in}
-use Rattle.lalrpop_norm_theory.proofs.SameLemmas.{text_turned}
+use Rattle.lalrpop_norm_resolve.specs.NameTables.{sense_seen, def_of, NameRows, GlobalMap, rows_of, sense_beside, with_def, with_all, all_rows, row_faults, rows_faults, items_globals, names_faults, item_faults_in, resolved_item_in}
 use Rattle.lalrpop_norm_faults.proofs.FaultLemmas.{none_ahead}
 
--- ---- what is found after a row is added
-
-swapped : (a b : Bool) (x y z : Option Def) → (a ≡ true → b ≡ true → ⊥) → cond b y (cond a x z) ≡ cond a x (cond b y z)
-swapped true true x y z h = absurd (h refl refl)
-swapped true false x y z h = refl
-swapped false b x y z h = refl
-
-twice : (b : Bool) (x y z : Option Def) → cond b x z ≡ cond b x (cond b y z)
-twice true x y z = refl
-twice false x y z = refl
-
-module _ (q name : List ℕ) (d : Def) where
-  found_inserted : (rows : List NameRow) → found_def q (insert_entry (slice_cmp nat_cmp) rows name d) ≡ cond (bytes_eq q name) (Some d) (found_def q rows)
-  found_inserted [] = refl
-  found_inserted (r ∷ rows) = by (slice_cmp nat_cmp name r.0) (found_inserted rows) (sym (is_eq-slice_cmp name r.0))
-    where
-      by : (o : Ordering) → found_def q (insert_entry (slice_cmp nat_cmp) rows name d) ≡ cond (bytes_eq q name) (Some d) (found_def q rows) → bytes_eq name r.0 ≡ is_eq o →
-          found_def q (match_ordering o ((name, d) ∷ r ∷ rows) ((r.0, d) ∷ rows) (r ∷ insert_entry (slice_cmp nat_cmp) rows name d)) ≡ cond (bytes_eq q name) (Some d) (cond (bytes_eq q r.0) (Some r.1) (found_def q rows))
-      by Less rest e = refl
-      by Equal rest e =
-          let same : name ≡ r.0 = (bytes_eq-Decides name r.0).0 e in
-          rw same (twice (bytes_eq q r.0) (Some d) (Some r.1) (found_def q rows))
-      by Greater rest e =
-          ap (λ o. cond (bytes_eq q r.0) (Some r.1) o) rest
-          ∙ swapped (bytes_eq q name) (bytes_eq q r.0) (Some d) (Some r.1) (found_def q rows)
-          (λ f g. let other : name ≡ r.0 = sym ((bytes_eq-Decides q name).0 f) ∙ (bytes_eq-Decides q r.0).0 g in absurd (cc ((bytes_eq-Decides name r.0).1 other, e)))
-
-pub found_more : (q name : List ℕ) (d : Def) (rows : List NameRow) → found_def q (with_def rows name d) ≡ cond (bytes_eq q name) (Some d) (found_def q rows)
-unfolding with_def
-found_more q name d rows = found_inserted q name d rows
+-- what a map has after a definition was put into it
+pub rows_added : (old new : GlobalMap) (name : List ℕ) (d : Def) →
+    ((q : List ℕ) → get bytes_eq new q ≡ cond (bytes_eq name q) (Some d) (get bytes_eq old q)) → rows_of new ≡ with_def (rows_of old) name d
+unfolding rows_of with_def
+rows_added old new name d h = fun_ext h
 
 -- ---- what a list defines after a definition is added
 
@@ -73,8 +42,8 @@ defined_more (x ∷ ds) d q =
 -- ---- names that are defined
 
 -- the table has the names that are defined
-abbrev HasNames : List NameRow → List Global → Type 0
-HasNames rows ds = (q : List ℕ) → is_some (found_def q rows) ≡ is_some (definition_of ds q)
+abbrev HasNames : NameRows → List Global → Type 0
+HasNames rows ds = (q : List ℕ) → is_some (rows q) ≡ is_some (definition_of ds q)
 
 some_added : (b : Bool) (x : Def) (y : Definition) (o : Option Def) (p : Option Definition) → is_some o ≡ is_some p →
     is_some (cond b (Some x) o) ≡ is_some (or_else p (cond b (Some y) None))
@@ -83,15 +52,14 @@ some_added true x y o None e = refl
 some_added false x y o (Some z) e = e
 some_added false x y o None e = e
 
-names_more : (rows : List NameRow) (ds : List Global) (d : Global) → HasNames rows ds → HasNames (with_def rows d.name (def_of d.definition)) (ds ++ d ∷ [])
+names_more : (rows : NameRows) (ds : List Global) (d : Global) → HasNames rows ds → HasNames (with_def rows d.name (def_of d.definition)) (ds ++ d ∷ [])
+unfolding with_def
 names_more rows ds d h q =
-    ap (λ o. is_some o) (found_more q d.name (def_of d.definition) rows)
-    ∙ ap (λ b. is_some (cond b (Some (def_of d.definition)) (found_def q rows))) (text_turned q d.name)
-    ∙ some_added (bytes_eq d.name q) (def_of d.definition) d.definition (found_def q rows) (definition_of ds q) (h q)
+    some_added (bytes_eq d.name q) (def_of d.definition) d.definition (rows q) (definition_of ds q) (h q)
     ∙ ap (λ o. is_some o) (sym (defined_more ds d q))
 
 -- the faults of a table that grows are those of the list
-pub faults_repeated : (rows : List NameRow) (before ds : List Global) → HasNames rows before → rows_faults rows ds ≡ repeated_faults before ds
+pub faults_repeated : (rows : NameRows) (before ds : List Global) → HasNames rows before → rows_faults rows ds ≡ repeated_faults before ds
 unfolding row_faults
 faults_repeated rows before [] h = refl
 faults_repeated rows before (d ∷ ds) h =
@@ -102,8 +70,8 @@ faults_repeated rows before (d ∷ ds) h =
 -- ---- what they are defined as
 
 -- the table says what is defined
-abbrev Says : List NameRow → List Global → Type 0
-Says rows ds = (q : List ℕ) → found_def q rows ≡ option_map def_of (definition_of ds q)
+abbrev Says : NameRows → List Global → Type 0
+Says rows ds = (q : List ℕ) → rows q ≡ option_map def_of (definition_of ds q)
 
 said_new : (b : Bool) (y : Definition) (o : Option Def) (p : Option Definition) → (b ≡ true → is_some p ≡ false) → o ≡ option_map def_of p →
     cond b (Some (def_of y)) o ≡ option_map def_of (or_else p (cond b (Some y) None))
@@ -112,12 +80,11 @@ said_new true y o None n e = refl
 said_new false y o (Some z) n e = e
 said_new false y o None n e = e
 
-said_more : (rows : List NameRow) (ds : List Global) (d : Global) → is_some (definition_of ds d.name) ≡ false → Says rows ds →
+said_more : (rows : NameRows) (ds : List Global) (d : Global) → is_some (definition_of ds d.name) ≡ false → Says rows ds →
     Says (with_def rows d.name (def_of d.definition)) (ds ++ d ∷ [])
+unfolding with_def
 said_more rows ds d new h q =
-    found_more q d.name (def_of d.definition) rows
-    ∙ ap (λ b. cond b (Some (def_of d.definition)) (found_def q rows)) (text_turned q d.name)
-    ∙ said_new (bytes_eq d.name q) d.definition (found_def q rows) (definition_of ds q)
+    said_new (bytes_eq d.name q) d.definition (rows q) (definition_of ds q)
     (λ e. ap (λ n. is_some (definition_of ds n)) (sym ((bytes_eq-Decides d.name q).0 e)) ∙ new) (h q)
     ∙ ap (λ o. option_map def_of o) (sym (defined_more ds d q))
 
@@ -125,7 +92,7 @@ pub later : (b : Bool) (f : Fault) (fs : List Fault) → fault_if b f ++ fs ≡ 
 later true f fs h = cc
 later false f fs h = h
 
-pub all_said : (rows : List NameRow) (before ds : List Global) → repeated_faults before ds ≡ [] → Says rows before → Says (all_rows rows ds) (before ++ ds)
+pub all_said : (rows : NameRows) (before ds : List Global) → repeated_faults before ds ≡ [] → Says rows before → Says (with_all rows ds) (before ++ ds)
 all_said rows before [] none h = rw (append-nil before) h
 all_said rows before (d ∷ ds) none h =
     let f : Fault = (NameDeclaredTwice, d.span) in
@@ -142,22 +109,30 @@ seen_as (Some a_rule) = refl
 seen_as (Some (a_macro n)) = refl
 seen_as (Some a_terminal) = refl
 
--- a table without repeated names gives each name its meaning
-pub sense_said : (m : BTreeMap Atom Def) (ds : List Global) (args : List NonterminalString) → m.entries ≡ all_rows [] ds → repeated_faults [] ds ≡ [] → sense_beside m (is_argument args) ≡ sense_of ds args
-sense_said m ds args e none =
+-- a table of definitions gives each name its meaning
+pub sense_said : (m : GlobalMap) (ds : List Global) (args : List NonterminalString) → rows_of m ≡ all_rows [] ds → sense_beside m (is_argument args) ≡ sense_of ds args
+sense_said m ds args e =
     fun_ext (λ q. ap (λ o. cond (is_argument args q) (Some an_argument) o)
-    (ap (λ rows. sense_seen (found_def q rows)) e ∙ ap (λ o. sense_seen o) (all_said [] [] ds none (λ n. refl) q) ∙ seen_as (definition_of ds q)))
+    (ap (λ (rows : NameRows). sense_seen (rows q)) e ∙ seen_as (definition_of ds q)))
+
+-- ---- the table of some definitions, one after the other
+
+nothing : (m : GlobalMap) (q : List ℕ) → m.entries ≡ [] → rows_of m q ≡ None
+unfolding rows_of
+nothing m q e = ap (λ es. lookup (bytes_eq q) es) e
+
+pub faults_listed : (m : GlobalMap) (ds : List Global) → m.entries ≡ [] → rows_faults (rows_of m) ds ≡ repeated_faults [] ds
+faults_listed m ds e = faults_repeated (rows_of m) [] ds (λ q. ap (λ o. is_some o) (nothing m q e))
+
+pub rows_listed : (m : GlobalMap) (ds : List Global) → m.entries ≡ [] → rows_faults (rows_of m) ds ≡ [] → with_all (rows_of m) ds ≡ all_rows [] ds
+rows_listed m ds e none = fun_ext (all_said (rows_of m) [] ds (sym (faults_listed m ds e) ∙ none) (λ q. nothing m q e))
 
 -- ---- items by the table
 
--- the faults of the table of some items are those of their definitions
-pub faults_listed : (is : List ItemData) → rows_faults [] (items_globals is) ≡ repeated_faults [] (items_globals is)
-faults_listed is = faults_repeated [] [] (items_globals is) (λ q. refl)
-
-module _ (m : BTreeMap Atom Def) (ds : List Global) (e : m.entries ≡ all_rows [] ds) (none : repeated_faults [] ds ≡ []) where
+module _ (m : GlobalMap) (ds : List Global) (e : rows_of m ≡ all_rows [] ds) where
   item_faults_same : (i : ItemData) → item_faults_in m i ≡ item_name_faults ds i
   unfolding item_faults_in
-  item_faults_same (rule_item r) = ap (λ sense. repeated_argument_faults r.span r.args ++ flat_map (alternative_name_faults sense) r.alternatives) (sense_said m ds r.args e none)
+  item_faults_same (rule_item r) = ap (λ sense. repeated_argument_faults r.span r.args ++ flat_map (alternative_name_faults sense) r.alternatives) (sense_said m ds r.args e)
   item_faults_same (match_item t) = refl
   item_faults_same (extern_item t) = refl
   item_faults_same (intern_item t) = refl
@@ -165,7 +140,7 @@ module _ (m : BTreeMap Atom Def) (ds : List Global) (e : m.entries ≡ all_rows 
 
   resolved_item_same : (i : ItemData) → resolved_item_in m i ≡ resolved_item ds i
   unfolding resolved_item_in
-  resolved_item_same (rule_item r) = ap (λ sense. rule_item (record r { alternatives = map (resolved_alternative sense) r.alternatives })) (sense_said m ds r.args e none)
+  resolved_item_same (rule_item r) = ap (λ sense. rule_item (record r { alternatives = map (resolved_alternative sense) r.alternatives })) (sense_said m ds r.args e)
   resolved_item_same (match_item t) = refl
   resolved_item_same (extern_item t) = refl
   resolved_item_same (intern_item t) = refl
@@ -178,12 +153,7 @@ module _ (m : BTreeMap Atom Def) (ds : List Global) (e : m.entries ≡ all_rows 
   resolved_items_same is = ap (λ f. map f is) (fun_ext resolved_item_same)
 
 -- once no definition is repeated, the faults of names are those in the items
-pub faults_in_items : (m : BTreeMap Atom Def) (is : List ItemData) → m.entries ≡ all_rows [] (items_globals is) → rows_faults [] (items_globals is) ≡ [] →
+pub faults_in_items : (m : GlobalMap) (is : List ItemData) → rows_of m ≡ all_rows [] (items_globals is) → repeated_faults [] (items_globals is) ≡ [] →
     names_faults is ≡ flat_map (item_faults_in m) is
 faults_in_items m is e none =
-    let listed = sym (faults_listed is) ∙ none in
-    ap (λ fs. fs ++ flat_map (item_name_faults (items_globals is)) is) listed ∙ sym (items_faults_same m (items_globals is) e listed is)
-
-pub resolved_by_table : (m : BTreeMap Atom Def) (is : List ItemData) → m.entries ≡ all_rows [] (items_globals is) → rows_faults [] (items_globals is) ≡ [] →
-    map (resolved_item_in m) is ≡ map (resolved_item (items_globals is)) is
-resolved_by_table m is e none = resolved_items_same m (items_globals is) e (sym (faults_listed is) ∙ none) is
+    ap (λ fs. fs ++ flat_map (item_name_faults (items_globals is)) is) none ∙ sym (items_faults_same m (items_globals is) e is)

@@ -1,17 +1,11 @@
--- Names, their number, and what a map of them holds.
-use Rattle.std.specs.Cmp.Lexicographic.{slice_cmp}
-use Rattle.std.specs.Map.{lookup}
-use Rattle.std.specs.BTreeMap.{is_at}
-use Rattle.std.proofs.lemmas.Map.Text.{is_eq-slice_cmp}
-use Rattle.std.proofs.Common.{◌≡◌, ◌<◌, ℕ, zero, suc, Option, Some, cond, nat_cmp, bytes_eq, List, [], ◌∷◌, map, length, refl, ap, arith}
-use Rattle.shared_text.specs.declared.atom.Atom.{Atom}
+-- Names, and their number.
+use Rattle.std.proofs.Common.{◌≡◌, ◌<◌, ℕ, zero, suc, Option, List, [], ◌∷◌, map, length, refl, ap, arith}
 use Rattle.lalrpop_norm_tree.specs.declared.symbol.Symbol.{Symbol}
 use Rattle.lalrpop_norm_tree.specs.Symbols.{part_and, parts_of, symbol_view, parts_view}
 use Rattle.lalrpop_norm_model.specs.Scopes.{Sense, rule_definition, resolved_part, resolved_parts}
-use Rattle.lalrpop_norm_resolve.specs.declared.resolve.Def.{Def}
 use Rattle.lalrpop_norm_resolve.specs.declared.resolve.Def.TheVariants.{Macro}
 use Rattle.lalrpop_norm_resolve.specs.NameFaults.{parts_count}
-use Rattle.lalrpop_norm_resolve.specs.NameTables.{def_of, found_def}
+use Rattle.lalrpop_norm_resolve.specs.NameTables.{def_of}
 
 pub count_length : (ss : List Symbol) → parts_count (parts_view ss) ≡ length ss
 count_length [] = refl
@@ -21,10 +15,6 @@ count_length (s ∷ ss) = ap suc (count_length ss)
 pub macro_def : (n : ℕ) → 0 < n → def_of (rule_definition n) ≡ Macro n
 macro_def zero h = absurd (omega arith)
 macro_def (suc n) h = refl
-
-pub found_rows : (k : List ℕ) (es : List (Atom × Def)) → lookup (is_at (λ (q : Atom). slice_cmp nat_cmp k q)) es ≡ found_def k es
-found_rows k [] = refl
-found_rows k (e ∷ es) = rw (is_eq-slice_cmp k e.0) (ap (λ o. cond (bytes_eq k e.0) (Some e.1) o) (found_rows k es))
 
 pub resolved_one_by_one : (sense : List ℕ → Option Sense) (ss : List Symbol) →
     parts_of (map (λ s. resolved_part sense (symbol_view s)) ss) ≡ resolved_parts sense (parts_view ss)

@@ -1,8 +1,12 @@
 -- Where names that are made are new, none is defined twice in a list that defines them too.
 use Rattle.std.proofs.Common.{◌≡◌, ◌≤◌, ◌<◌, ◌+◌, ◌&&◌, ℕ, Bool, true, false, cond, length, drop, get_or, List, [], ◌∷◌, ◌++◌, Option, Some, None, bytes_eq, append_assoc, append-nil, refl, sym, ap, ◌∙◌, subst, arith}
 use Rattle.std.specs.Prelude.{is_some, is_none, option_map}
+use Rattle.std.specs.HashSet.{HashSet, contains}
+use Rattle.std.proofs.Math.Path.{fun_ext}
 use Rattle.std.proofs.lemmas.Bool.{and_parts}
 use Rattle.std.proofs.lemmas.Slice.Eq.{bytes_eq-Decides}
+use Rattle.shared_text.specs.declared.atom.Atom.{Atom}
+use Rattle.lalrpop_norm_names.specs.declared.seeded.Seeded.{Seeded}
 use Rattle.lalrpop_norm_faults.specs.declared.kind.FaultKind.TheVariants.{NameDeclaredTwice}
 use Rattle.lalrpop_norm_faults.specs.Faults.{Fault, fault_if}
 use Rattle.lalrpop_norm_faults.proofs.FaultLemmas.{at_drop_item, none_ahead}
@@ -10,10 +14,9 @@ use Rattle.lalrpop_norm_model.specs.Scopes.{Definition, Global, definition_of}
 use Rattle.lalrpop_norm_resolve.specs.declared.resolve.Def.{Def}
 use Rattle.lalrpop_norm_resolve.specs.declared.resolve.Def.TheVariants.{Rule}
 use Rattle.lalrpop_norm_resolve.specs.NameFaults.{repeated_faults}
-use Rattle.lalrpop_norm_resolve.specs.NameTables.{def_of, NameRow, found_def, with_def, all_rows}
-use Rattle.lalrpop_norm_resolve.specs.NewNames.{are_new}
-use Rattle.lalrpop_norm_resolve.proofs.GlobalLemmas.{found_more, later, all_said}
-use Rattle.lalrpop_norm_theory.proofs.SameLemmas.{text_turned}
+use Rattle.lalrpop_norm_resolve.specs.NameTables.{def_of, NameRows, with_def, all_rows}
+use Rattle.lalrpop_norm_resolve.specs.NewNames.{with_made, are_new}
+use Rattle.lalrpop_norm_resolve.proofs.GlobalLemmas.{later}
 
 -- ---- how often a name stands in a list
 
@@ -96,16 +99,16 @@ none_repeated before (d ∷ ds) h =
 
 -- ---- names that are made
 
-module _ (rows : List NameRow) (count : List ℕ → ℕ) (n : List ℕ) (known : (q : List ℕ) → is_none (found_def q rows) ≡ true → count q ≡ 0) where
-  known_more : (q : List ℕ) → is_none (found_def q (with_def rows n Rule)) ≡ true → count q + cond (bytes_eq n q) 1 0 ≡ 0
-  known_more q h =
-      by (bytes_eq n q) (sym (ap (λ o. is_none o) (found_more q n Rule rows ∙ ap (λ b. cond b (Some Rule) (found_def q rows)) (text_turned q n))) ∙ h)
+module _ (rows : NameRows) (count : List ℕ → ℕ) (n : List ℕ) (known : (q : List ℕ) → is_none (rows q) ≡ true → count q ≡ 0) where
+  known_more : (q : List ℕ) → is_none (with_def rows n Rule q) ≡ true → count q + cond (bytes_eq n q) 1 0 ≡ 0
+  unfolding with_def
+  known_more q h = by (bytes_eq n q) h
     where
-      by : (b : Bool) → is_none (cond b (Some Rule) (found_def q rows)) ≡ true → count q + cond b 1 0 ≡ 0
+      by : (b : Bool) → is_none (cond b (Some Rule) (rows q)) ≡ true → count q + cond b 1 0 ≡ 0
       by true e = absurd (cc e)
       by false e = let none = known q e in omega arith
 
-  once_more : is_none (found_def n rows) ≡ true → ((q : List ℕ) → count q ≤ 1) → (q : List ℕ) → count q + cond (bytes_eq n q) 1 0 ≤ 1
+  once_more : is_none (rows n) ≡ true → ((q : List ℕ) → count q ≤ 1) → (q : List ℕ) → count q + cond (bytes_eq n q) 1 0 ≤ 1
   once_more new once q = by (bytes_eq n q) refl
     where
       by : (b : Bool) → bytes_eq n q ≡ b → count q + cond b 1 0 ≤ 1
@@ -114,7 +117,7 @@ module _ (rows : List NameRow) (count : List ℕ → ℕ) (n : List ℕ) (known 
           omega arith
       by false e = let most = once q in omega arith
 
-made_once : (rows : List NameRow) (count : List ℕ → ℕ) → ((q : List ℕ) → is_none (found_def q rows) ≡ true → count q ≡ 0) → ((q : List ℕ) → count q ≤ 1) →
+made_once : (rows : NameRows) (count : List ℕ → ℕ) → ((q : List ℕ) → is_none (rows q) ≡ true → count q ≡ 0) → ((q : List ℕ) → count q ≤ 1) →
     (ns : List (List ℕ)) → are_new rows ns ≡ true → (q : List ℕ) → count q + times same_name q ns ≤ 1
 made_once rows count known once [] h q = let most = once q in omega arith
 made_once rows count known once (n ∷ ns) h q =
@@ -132,18 +135,36 @@ all_once ds ns none new =
     by q None e h = ap (λ o. is_some o) e
     by q (Some d) e h = absurd (cc h)
 
-    known : (q : List ℕ) → is_none (found_def q (all_rows [] ds)) ≡ true → times name_of q ds ≡ 0
-    known q h =
-        not_defined ds q (by q (definition_of ds q) refl (sym (ap (λ o. is_none o) (all_said [] [] ds none (λ n. refl) q)) ∙ h))
+    known : (q : List ℕ) → is_none (all_rows [] ds q) ≡ true → times name_of q ds ≡ 0
+    known q h = not_defined ds q (by q (definition_of ds q) refl h)
 
--- a name that is new is added, and the names behind it are looked for
-pub new_step : (rows new : List NameRow) (ns : List (List ℕ)) (i : ℕ) (n : List ℕ) (end : Bool) → i < length ns → n ≡ get_or ns i n →
-    is_some (found_def n rows) ≡ false → new ≡ with_def rows n Rule → are_new rows (drop i ns) ≡ end → are_new new (drop (i + 1) ns) ≡ end
-new_step rows new ns i n end lt is absent added h =
-    ap (λ rs. are_new rs (drop (i + 1) ns)) added
-    ∙ sym (ap (λ b. b && are_new (with_def rows n Rule) (drop (i + 1) ns)) (by (found_def n rows) absent))
-    ∙ sym (at_drop_item (are_new rows) ns i n lt is) ∙ h
+-- ---- names that are read
+
+-- a name that is read is in the table from then on
+made_added : (rows : NameRows) (old new : HashSet Atom Seeded) (n : List ℕ) →
+    ((q : List ℕ) → contains bytes_eq new q ≡ cond (bytes_eq n q) true (contains bytes_eq old q)) → with_made rows new ≡ with_def (with_made rows old) n Rule
+unfolding with_def
+made_added rows old new n added = fun_ext (λ q. ap (λ b. cond b (Some Rule) (rows q)) (added q) ∙ either (bytes_eq n q) (contains bytes_eq old q) (rows q))
+  where
+    either : (a b : Bool) (o : Option Def) → cond (cond a true b) (Some Rule) o ≡ cond a (Some Rule) (cond b (Some Rule) o)
+    either true b o = refl
+    either false b o = refl
+
+-- it was not there before
+made_absent : (rows : NameRows) (old : HashSet Atom Seeded) (n : List ℕ) → is_some (rows n) ≡ false → contains bytes_eq old n ≡ false →
+    is_none (with_made rows old n) ≡ true
+made_absent rows old n absent unread = ap (λ b. is_none (cond b (Some Rule) (rows n))) unread ∙ by (rows n) absent
   where
     by : (o : Option Def) → is_some o ≡ false → is_none o ≡ true
     by None e = refl
     by (Some d) e = absurd (cc e)
+
+-- and the names behind it are looked for
+pub new_step : (rows : NameRows) (old new : HashSet Atom Seeded) (ns : List (List ℕ)) (i : ℕ) (n : List ℕ) (end : Bool) → i < length ns → n ≡ get_or ns i n →
+    is_some (rows n) ≡ false → contains bytes_eq old n ≡ false → ((q : List ℕ) → contains bytes_eq new q ≡ cond (bytes_eq n q) true (contains bytes_eq old q)) →
+    are_new (with_made rows old) (drop i ns) ≡ end → are_new (with_made rows new) (drop (i + 1) ns) ≡ end
+new_step rows old new ns i n end lt is absent unread added h =
+    let behind = drop (i + 1) ns in
+    ap (λ rs. are_new rs behind) (made_added rows old new n added)
+    ∙ sym (ap (λ b. b && are_new (with_def (with_made rows old) n Rule) behind) (made_absent rows old n absent unread))
+    ∙ sym (at_drop_item (are_new (with_made rows old)) ns i n lt is) ∙ h

@@ -4,22 +4,24 @@ ghost use Rattle.lalrpop_norm_tree.specs.Items.{grammar_view, item_view};
 ghost use Rattle.lalrpop_norm_faults.specs.Faults.{Refuses, RefusesOr};
 ghost use Rattle.lalrpop_norm_model.specs.Scopes.{globals, resolved_item, resolved_grammar};
 ghost use Rattle.lalrpop_norm_resolve.specs.NameFaults.{resolve_faults};
-ghost use Rattle.lalrpop_norm_resolve.specs.NameTables.{all_rows, with_def, items_globals, names_faults};
-ghost use Rattle.lalrpop_norm_resolve.specs.NewNames.{table_rows, are_new};
+ghost use Rattle.lalrpop_norm_resolve.specs.NameTables.{rows_of, all_rows, items_globals, names_faults};
+ghost use Rattle.lalrpop_norm_resolve.specs.NewNames.{table_rows, with_made, are_new};
 
-use crate::resolve::Def;
+use crate::resolve::GlobalTable;
 use crate::resolve::globals::globals_of;
 use crate::resolve::items::resolve_items;
+use crate::resolve::seed::seeded_by_names;
 use crate::resolve::symbols::global;
 use lalrpop_norm_faults::NormResult;
+use lalrpop_norm_names::Seeded;
 use lalrpop_norm_tree::grammar::parse_tree::{Atom, Grammar, GrammarItem, NoMemory};
 use std::alloc::Global;
-use std::collections::BTreeMap;
+use std::collections::HashSet;
 
 /// The global names of a grammar.
 #[derive(Drop)]
 pub struct GlobalNames {
-    pub(crate) table: BTreeMap<Atom, Def>,
+    pub(crate) table: GlobalTable,
 }
 
 /// A grammar whose names are resolved, and its global names.
@@ -49,31 +51,26 @@ fn resolve_in_place(alloc: Global, items: &mut [GrammarItem]) -> NormResult<Glob
 }
 
 /// Whether none of some names is among the global ones, nor stands there twice.
-pub fn are_new(names: GlobalNames, made: &[Atom]) -> Result<bool, NoMemory>
+pub fn are_new(alloc: Global, names: GlobalNames, made: &[Atom]) -> Result<bool, NoMemory>
     ensures { IfOk result (λ new. new ≡ are_new (table_rows names) made.now) }
 {
-    let mut table = names.table;
-    let new = add_each(&mut table, made)?;
+    let mut read = HashSet::with_hasher(alloc, seeded_by_names(made));
+    let new = read_each(&names.table, &mut read, made)?;
     Ok(new)
 }
 
-/// Adds names to a table up to one that it has.
-fn add_each(table: &mut BTreeMap<Atom, Def>, made: &[Atom]) -> Result<bool, NoMemory>
-    ensures { IfOk result (λ new. new ≡ are_new table.old.entries made.now) }
+/// Reads names up to one that the table has, or that was read.
+fn read_each(
+    table: &GlobalTable,
+    read: &mut HashSet<Atom, Seeded>,
+    made: &[Atom],
+) -> Result<bool, NoMemory>
+    ensures { IfOk result (λ new. new ≡ are_new (with_made (rows_of table.now) read.old) made.now) }
 {
     for name in made {
-        if global(table, name).is_some() {
+        if global(table, name).is_some() || !read.insert(name.again())? {
             return Ok(false);
         }
-        add(table, name)?;
     }
     Ok(true)
-}
-
-#[tactic(auto, unfolding(crate::specs::NameTables::with_def))]
-fn add(table: &mut BTreeMap<Atom, Def>, name: &Atom) -> Result<(), NoMemory>
-    ensures { OnOk result (table.new.entries ≡ with_def table.old.entries name.now Def.Rule) }
-{
-    table.insert(name.again(), Def::Rule)?;
-    Ok(())
 }

@@ -11,13 +11,16 @@ ghost use Rattle.lalrpop_norm_resolve.specs.NameFaults.{repeated_faults, resolve
 pub(crate) mod globals;
 pub(crate) mod items;
 mod rules;
+pub(crate) mod seed;
 pub(crate) mod symbols;
 
 use crate::names::resolve_names;
 use globals::globals_of;
 use lalrpop_norm_faults::NormResult;
-use lalrpop_norm_tree::grammar::parse_tree::Grammar;
+use lalrpop_norm_names::Seeded;
+use lalrpop_norm_tree::grammar::parse_tree::{Atom, Grammar};
 use std::alloc::Global;
+use std::collections::HashMap;
 
 /// What a name stands for.
 #[derive(Clone, Copy, Debug, PartialEq, Eq)]
@@ -42,6 +45,9 @@ impl Def {
     }
 }
 
+/// What each global name stands for.
+pub(crate) type GlobalTable = HashMap<Atom, Def, Seeded>;
+
 /// The grammar with each identifier in its alternatives as the nonterminal or bare terminal that it means, all else as it was.
 ///
 /// A grammar is refused by the first of its faults of names (F25 to F32): a name that is defined twice, at the later definition;
@@ -59,7 +65,6 @@ pub fn resolve(alloc: Global, grammar: Grammar) -> NormResult<Grammar>
 /// Looks for a name that is defined twice among the global ones (F25), and refuses it at the later definition.
 ///
 /// The other error is want of memory.
-#[tactic(auto, using(crate::proofs::GlobalLemmas::faults_listed))]
 pub fn check_globals(alloc: Global, grammar: &Grammar) -> NormResult<()>
     ensures { Refuses result (repeated_faults [] (globals (grammar_view grammar.now))) }
 {

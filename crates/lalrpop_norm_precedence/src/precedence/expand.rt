@@ -45,7 +45,7 @@ fn check_made(alloc: Global, names: GlobalNames, made: &[Atom], leveled: &Gramma
     requires { are_new (table_rows names) made.now ≡ true → repeated_faults [] (globals (grammar_view leveled.now)) ≡ [] }
     ensures { Refuses result (repeated_faults [] (globals (grammar_view leveled.now))) }
 {
-    if are_new(names, made)? {
+    if are_new(alloc, names, made)? {
         return Ok(());
     }
     check_globals(alloc, leveled)?;

@@ -1,59 +1,69 @@
 //! Global names.
-ghost use Rattle.std.specs.Prelude.{◌≡◌, [], OnOk, flat_map, map, option_map};
+ghost use Rattle.std.specs.Prelude.{◌≡◌, [], ◌∷◌, OnOk, flat_map, map, option_map};
 ghost use Rattle.lalrpop_norm_tree.specs.Items.{conversion_view, enum_token_view, item_view, match_contents_view};
-ghost use Rattle.lalrpop_norm_faults.specs.Faults.{Refuses, RefusesOr};
+ghost use Rattle.lalrpop_norm_faults.specs.Faults.{IsFirst, Refuses, RefusesOr};
 ghost use Rattle.lalrpop_norm_model.specs.Scopes.{rule_definition, bare_global, match_global, conversions_in, rule_globals, conversion_globals, match_globals};
-ghost use Rattle.lalrpop_norm_resolve.specs.NameTables.{def_of, with_def, all_rows, row_faults, rows_faults, items_globals, conversion_global};
+ghost use Rattle.lalrpop_norm_resolve.specs.NameFaults.{repeated_faults};
+ghost use Rattle.lalrpop_norm_resolve.specs.NameTables.{rows_of, def_of, with_def, with_all, all_rows, row_faults, rows_faults, items_globals, conversion_global};
 
-use super::Def;
-use super::symbols::global;
-use lalrpop_norm_faults::{FaultKind, NormResult, refusal};
+use super::seed::seeded_by;
+use super::{Def, GlobalTable};
+use lalrpop_norm_faults::{FaultKind, NormFailure, NormResult, refusal};
 use lalrpop_norm_tree::grammar::parse_tree::{
     Atom, Conversion, EnumToken, GrammarItem, MatchContents, MatchItem, MatchMapping, Span,
     TerminalString,
 };
 use std::alloc::Global;
-use std::collections::BTreeMap;
+use std::collections::HashMap;
 
 /// The global names of a grammar.
-#[tactic(auto, using(crate::proofs::TableLemmas::faults_more, crate::proofs::TableLemmas::rows_more))]
-pub(crate) fn globals_of(alloc: Global, items: &[GrammarItem]) -> NormResult<BTreeMap<Atom, Def>>
-    ensures { RefusesOr result (rows_faults [] (items_globals (map item_view items.now))) (λ m. m.entries ≡ all_rows [] (items_globals (map item_view items.now))) }
+pub(crate) fn globals_of(alloc: Global, items: &[GrammarItem]) -> NormResult<GlobalTable>
+    ensures { RefusesOr result (repeated_faults [] (items_globals (map item_view items.now))) (λ m. rows_of m ≡ all_rows [] (items_globals (map item_view items.now))) }
 {
-    let mut globals = BTreeMap::new(alloc);
-    declare_rules(alloc, &mut globals, items)?;
-    declare_externs(alloc, &mut globals, items)?;
-    declare_matches(alloc, &mut globals, items)?;
+    let mut globals = HashMap::with_capacity_and_hasher(alloc, items.len(), seeded_by(items))?;
+    declare_items(alloc, &mut globals, items)?;
     Ok(globals)
 }
 
-#[tactic(auto, unfolding(crate::specs::NameTables::row_faults, crate::specs::NameTables::with_def))]
+#[tactic(auto, using(crate::proofs::TableLemmas::faults_more, crate::proofs::TableLemmas::rows_more))]
+fn declare_items(alloc: Global, globals: &mut GlobalTable, items: &[GrammarItem]) -> NormResult<()>
+    ensures refuses { Refuses result (rows_faults (rows_of globals.old) (items_globals (map item_view items.now))) }
+    ensures declares { OnOk result (rows_of globals.new ≡ with_all (rows_of globals.old) (items_globals (map item_view items.now))) }
+{
+    declare_rules(alloc, globals, items)?;
+    declare_externs(alloc, globals, items)?;
+    declare_matches(alloc, globals, items)?;
+    Ok(())
+}
+
+fn declared_twice(alloc: Global, span: Span, name: &Atom, earlier: Def, def: Def) -> NormFailure
+    ensures { IsFirst ((FaultKind.NameDeclaredTwice, span) ∷ []) result }
+{
+    let earlier = earlier.description();
+    let what = def.description();
+    refusal(
+        FaultKind::NameDeclaredTwice,
+        span,
+        format!(in alloc;
+            "`{name}` is the name of a {earlier} already, and this {what} has it too: rename one of them"
+        ),
+    )
+}
+
+#[tactic(auto, unfolding(crate::specs::NameTables::row_faults, crate::specs::NameTables::rows_of))]
 fn declare(
     alloc: Global,
-    globals: &mut BTreeMap<Atom, Def>,
+    globals: &mut GlobalTable,
     span: Span,
     name: &Atom,
     def: Def,
 ) -> NormResult<()>
-    ensures refuses { Refuses result (row_faults globals.old.entries name.now span) }
-    ensures declares { OnOk result (globals.new.entries ≡ with_def globals.old.entries name.now def) }
+    ensures refuses { Refuses result (row_faults (rows_of globals.old) name.now span) }
+    ensures declares { OnOk result (rows_of globals.new ≡ with_def (rows_of globals.old) name.now def) }
 {
-    match global(globals, name) {
-        Some(earlier) => {
-            let earlier = earlier.description();
-            let what = def.description();
-            Err(refusal(
-                FaultKind::NameDeclaredTwice,
-                span,
-                format!(in alloc;
-                    "`{name}` is the name of a {earlier} already, and this {what} has it too: rename one of them"
-                ),
-            ))
-        }
-        None => {
-            globals.insert(name.again(), def)?;
-            Ok(())
-        }
+    match globals.insert(name.again(), def)? {
+        Some(earlier) => Err(declared_twice(alloc, span, name, earlier, def)),
+        None => Ok(()),
     }
 }
 
@@ -69,13 +79,9 @@ fn rule_def(arity: usize) -> Def
     }
 }
 
-fn declare_rule(
-    alloc: Global,
-    globals: &mut BTreeMap<Atom, Def>,
-    item: &GrammarItem,
-) -> NormResult<()>
-    ensures refuses { Refuses result (rows_faults globals.old.entries (rule_globals (item_view item.now))) }
-    ensures declares { OnOk result (globals.new.entries ≡ all_rows globals.old.entries (rule_globals (item_view item.now))) }
+fn declare_rule(alloc: Global, globals: &mut GlobalTable, item: &GrammarItem) -> NormResult<()>
+    ensures refuses { Refuses result (rows_faults (rows_of globals.old) (rule_globals (item_view item.now))) }
+    ensures declares { OnOk result (rows_of globals.new ≡ with_all (rows_of globals.old) (rule_globals (item_view item.now))) }
 {
     match item {
         GrammarItem::Nonterminal(rule) => {
@@ -95,13 +101,9 @@ fn declare_rule(
     }
 }
 
-fn declare_rules(
-    alloc: Global,
-    globals: &mut BTreeMap<Atom, Def>,
-    items: &[GrammarItem],
-) -> NormResult<()>
-    ensures refuses { Refuses result (rows_faults globals.old.entries (flat_map rule_globals (map item_view items.now))) }
-    ensures declares { OnOk result (globals.new.entries ≡ all_rows globals.old.entries (flat_map rule_globals (map item_view items.now))) }
+fn declare_rules(alloc: Global, globals: &mut GlobalTable, items: &[GrammarItem]) -> NormResult<()>
+    ensures refuses { Refuses result (rows_faults (rows_of globals.old) (flat_map rule_globals (map item_view items.now))) }
+    ensures declares { OnOk result (rows_of globals.new ≡ with_all (rows_of globals.old) (flat_map rule_globals (map item_view items.now))) }
 {
     for item in items {
         declare_rule(alloc, globals, item)?;
@@ -112,12 +114,12 @@ fn declare_rules(
 /// The name of a bare terminal.
 fn declare_terminal(
     alloc: Global,
-    globals: &mut BTreeMap<Atom, Def>,
+    globals: &mut GlobalTable,
     terminal: &TerminalString,
     span: Span,
 ) -> NormResult<()>
-    ensures refuses { Refuses result (rows_faults globals.old.entries (bare_global terminal.now span)) }
-    ensures declares { OnOk result (globals.new.entries ≡ all_rows globals.old.entries (bare_global terminal.now span)) }
+    ensures refuses { Refuses result (rows_faults (rows_of globals.old) (bare_global terminal.now span)) }
+    ensures declares { OnOk result (rows_of globals.new ≡ with_all (rows_of globals.old) (bare_global terminal.now span)) }
 {
     match terminal {
         TerminalString::Bare(name) => {
@@ -130,11 +132,11 @@ fn declare_terminal(
 
 fn declare_conversions(
     alloc: Global,
-    globals: &mut BTreeMap<Atom, Def>,
+    globals: &mut GlobalTable,
     conversions: &[Conversion],
 ) -> NormResult<()>
-    ensures refuses { Refuses result (rows_faults globals.old.entries (flat_map conversion_global (map conversion_view conversions.now))) }
-    ensures declares { OnOk result (globals.new.entries ≡ all_rows globals.old.entries (flat_map conversion_global (map conversion_view conversions.now))) }
+    ensures refuses { Refuses result (rows_faults (rows_of globals.old) (flat_map conversion_global (map conversion_view conversions.now))) }
+    ensures declares { OnOk result (rows_of globals.new ≡ with_all (rows_of globals.old) (flat_map conversion_global (map conversion_view conversions.now))) }
 {
     for conversion in conversions {
         declare_terminal(alloc, globals, &conversion.from, conversion.span)?;
@@ -144,11 +146,11 @@ fn declare_conversions(
 
 fn declare_enum(
     alloc: Global,
-    globals: &mut BTreeMap<Atom, Def>,
+    globals: &mut GlobalTable,
     tokens: &Option<EnumToken>,
 ) -> NormResult<()>
-    ensures refuses { Refuses result (rows_faults globals.old.entries (flat_map conversion_global (conversions_in (option_map enum_token_view tokens.now)))) }
-    ensures declares { OnOk result (globals.new.entries ≡ all_rows globals.old.entries (flat_map conversion_global (conversions_in (option_map enum_token_view tokens.now)))) }
+    ensures refuses { Refuses result (rows_faults (rows_of globals.old) (flat_map conversion_global (conversions_in (option_map enum_token_view tokens.now)))) }
+    ensures declares { OnOk result (rows_of globals.new ≡ with_all (rows_of globals.old) (flat_map conversion_global (conversions_in (option_map enum_token_view tokens.now)))) }
 {
     match tokens {
         Some(tokens) => {
@@ -159,13 +161,9 @@ fn declare_enum(
     }
 }
 
-fn declare_extern(
-    alloc: Global,
-    globals: &mut BTreeMap<Atom, Def>,
-    item: &GrammarItem,
-) -> NormResult<()>
-    ensures refuses { Refuses result (rows_faults globals.old.entries (conversion_globals (item_view item.now))) }
-    ensures declares { OnOk result (globals.new.entries ≡ all_rows globals.old.entries (conversion_globals (item_view item.now))) }
+fn declare_extern(alloc: Global, globals: &mut GlobalTable, item: &GrammarItem) -> NormResult<()>
+    ensures refuses { Refuses result (rows_faults (rows_of globals.old) (conversion_globals (item_view item.now))) }
+    ensures declares { OnOk result (rows_of globals.new ≡ with_all (rows_of globals.old) (conversion_globals (item_view item.now))) }
 {
     match item {
         GrammarItem::ExternToken(token) => {
@@ -181,11 +179,11 @@ fn declare_extern(
 
 fn declare_externs(
     alloc: Global,
-    globals: &mut BTreeMap<Atom, Def>,
+    globals: &mut GlobalTable,
     items: &[GrammarItem],
 ) -> NormResult<()>
-    ensures refuses { Refuses result (rows_faults globals.old.entries (flat_map conversion_globals (map item_view items.now))) }
-    ensures declares { OnOk result (globals.new.entries ≡ all_rows globals.old.entries (flat_map conversion_globals (map item_view items.now))) }
+    ensures refuses { Refuses result (rows_faults (rows_of globals.old) (flat_map conversion_globals (map item_view items.now))) }
+    ensures declares { OnOk result (rows_of globals.new ≡ with_all (rows_of globals.old) (flat_map conversion_globals (map item_view items.now))) }
 {
     for item in items {
         declare_extern(alloc, globals, item)?;
@@ -193,13 +191,9 @@ fn declare_externs(
     Ok(())
 }
 
-fn declare_mapping(
-    alloc: Global,
-    globals: &mut BTreeMap<Atom, Def>,
-    item: &MatchItem,
-) -> NormResult<()>
-    ensures refuses { Refuses result (rows_faults globals.old.entries (match_global item.now)) }
-    ensures declares { OnOk result (globals.new.entries ≡ all_rows globals.old.entries (match_global item.now)) }
+fn declare_mapping(alloc: Global, globals: &mut GlobalTable, item: &MatchItem) -> NormResult<()>
+    ensures refuses { Refuses result (rows_faults (rows_of globals.old) (match_global item.now)) }
+    ensures declares { OnOk result (rows_of globals.new ≡ with_all (rows_of globals.old) (match_global item.now)) }
 {
     match item {
         MatchItem::Mapped(_, MatchMapping::Terminal(terminal), span) => {
@@ -212,13 +206,9 @@ fn declare_mapping(
     }
 }
 
-fn declare_mappings(
-    alloc: Global,
-    globals: &mut BTreeMap<Atom, Def>,
-    items: &[MatchItem],
-) -> NormResult<()>
-    ensures refuses { Refuses result (rows_faults globals.old.entries (flat_map match_global items.now)) }
-    ensures declares { OnOk result (globals.new.entries ≡ all_rows globals.old.entries (flat_map match_global items.now)) }
+fn declare_mappings(alloc: Global, globals: &mut GlobalTable, items: &[MatchItem]) -> NormResult<()>
+    ensures refuses { Refuses result (rows_faults (rows_of globals.old) (flat_map match_global items.now)) }
+    ensures declares { OnOk result (rows_of globals.new ≡ with_all (rows_of globals.old) (flat_map match_global items.now)) }
 {
     for item in items {
         declare_mapping(alloc, globals, item)?;
@@ -226,13 +216,9 @@ fn declare_mappings(
     Ok(())
 }
 
-fn declare_group(
-    alloc: Global,
-    globals: &mut BTreeMap<Atom, Def>,
-    group: &MatchContents,
-) -> NormResult<()>
-    ensures refuses { Refuses result (rows_faults globals.old.entries (flat_map match_global (match_contents_view group.now))) }
-    ensures declares { OnOk result (globals.new.entries ≡ all_rows globals.old.entries (flat_map match_global (match_contents_view group.now))) }
+fn declare_group(alloc: Global, globals: &mut GlobalTable, group: &MatchContents) -> NormResult<()>
+    ensures refuses { Refuses result (rows_faults (rows_of globals.old) (flat_map match_global (match_contents_view group.now))) }
+    ensures declares { OnOk result (rows_of globals.new ≡ with_all (rows_of globals.old) (flat_map match_global (match_contents_view group.now))) }
 {
     declare_mappings(alloc, globals, &group.items)?;
     Ok(())
@@ -240,11 +226,11 @@ fn declare_group(
 
 fn declare_groups(
     alloc: Global,
-    globals: &mut BTreeMap<Atom, Def>,
+    globals: &mut GlobalTable,
     groups: &[MatchContents],
 ) -> NormResult<()>
-    ensures refuses { Refuses result (rows_faults globals.old.entries (flat_map (flat_map match_global) (map match_contents_view groups.now))) }
-    ensures declares { OnOk result (globals.new.entries ≡ all_rows globals.old.entries (flat_map (flat_map match_global) (map match_contents_view groups.now))) }
+    ensures refuses { Refuses result (rows_faults (rows_of globals.old) (flat_map (flat_map match_global) (map match_contents_view groups.now))) }
+    ensures declares { OnOk result (rows_of globals.new ≡ with_all (rows_of globals.old) (flat_map (flat_map match_global) (map match_contents_view groups.now))) }
 {
     for group in groups {
         declare_group(alloc, globals, group)?;
@@ -252,13 +238,9 @@ fn declare_groups(
     Ok(())
 }
 
-fn declare_match(
-    alloc: Global,
-    globals: &mut BTreeMap<Atom, Def>,
-    item: &GrammarItem,
-) -> NormResult<()>
-    ensures refuses { Refuses result (rows_faults globals.old.entries (match_globals (item_view item.now))) }
-    ensures declares { OnOk result (globals.new.entries ≡ all_rows globals.old.entries (match_globals (item_view item.now))) }
+fn declare_match(alloc: Global, globals: &mut GlobalTable, item: &GrammarItem) -> NormResult<()>
+    ensures refuses { Refuses result (rows_faults (rows_of globals.old) (match_globals (item_view item.now))) }
+    ensures declares { OnOk result (rows_of globals.new ≡ with_all (rows_of globals.old) (match_globals (item_view item.now))) }
 {
     match item {
         GrammarItem::MatchToken(token) => {
@@ -274,11 +256,11 @@ fn declare_match(
 
 fn declare_matches(
     alloc: Global,
-    globals: &mut BTreeMap<Atom, Def>,
+    globals: &mut GlobalTable,
     items: &[GrammarItem],
 ) -> NormResult<()>
-    ensures refuses { Refuses result (rows_faults globals.old.entries (flat_map match_globals (map item_view items.now))) }
-    ensures declares { OnOk result (globals.new.entries ≡ all_rows globals.old.entries (flat_map match_globals (map item_view items.now))) }
+    ensures refuses { Refuses result (rows_faults (rows_of globals.old) (flat_map match_globals (map item_view items.now))) }
+    ensures declares { OnOk result (rows_of globals.new ≡ with_all (rows_of globals.old) (flat_map match_globals (map item_view items.now))) }
 {
     for item in items {
         declare_match(alloc, globals, item)?;

@@ -4,19 +4,14 @@ ghost use Rattle.lalrpop_norm_tree.specs.Items.{item_view};
 ghost use Rattle.lalrpop_norm_faults.specs.Faults.{Refuses};
 ghost use Rattle.lalrpop_norm_resolve.specs.NameTables.{item_faults_in, resolved_item_in};
 
-use super::Def;
+use super::GlobalTable;
 use super::rules::resolve_rule;
 use lalrpop_norm_faults::NormResult;
-use lalrpop_norm_tree::grammar::parse_tree::{Atom, GrammarItem};
+use lalrpop_norm_tree::grammar::parse_tree::GrammarItem;
 use std::alloc::Global;
-use std::collections::BTreeMap;
 
 #[tactic(auto, unfolding(crate::specs::NameTables::item_faults_in, crate::specs::NameTables::resolved_item_in))]
-fn resolve_item(
-    alloc: Global,
-    globals: &BTreeMap<Atom, Def>,
-    item: &mut GrammarItem,
-) -> NormResult<()>
+fn resolve_item(alloc: Global, globals: &GlobalTable, item: &mut GrammarItem) -> NormResult<()>
     ensures refuses { Refuses result (item_faults_in globals.now (item_view item.old)) }
     ensures resolves { OnOk result (item_view item.new ≡ resolved_item_in globals.now (item_view item.old)) }
 {
@@ -34,7 +29,7 @@ fn resolve_item(
 
 pub(crate) fn resolve_items(
     alloc: Global,
-    globals: &BTreeMap<Atom, Def>,
+    globals: &GlobalTable,
     items: &mut [GrammarItem],
 ) -> NormResult<()>
     ensures refuses { Refuses result (flat_map (item_faults_in globals.now) (map item_view items.old)) }

@@ -9,14 +9,14 @@ ghost use Rattle.lalrpop_norm_model.specs.Scopes.{is_argument, resolved_alternat
 ghost use Rattle.lalrpop_norm_resolve.specs.NameFaults.{has_repeated_argument, repeated_argument_faults, tested_faults, condition_faults, alternative_name_faults};
 ghost use Rattle.lalrpop_norm_resolve.specs.NameTables.{sense_seen, sense_in, rule_faults_in, resolved_rule_in};
 
-use super::Def;
 use super::symbols::{def, resolve_each, unknown};
+use super::{Def, GlobalTable};
 use lalrpop_norm_faults::{FaultKind, NormFailure, NormResult, refusal};
 use lalrpop_norm_tree::grammar::parse_tree::{
     Alternative, Atom, Condition, NoMemory, NonterminalData, NonterminalString, Span,
 };
 use std::alloc::Global;
-use std::collections::{BTreeMap, BTreeSet};
+use std::collections::BTreeSet;
 
 /// The names of arguments, and the first argument that is named again.
 fn read_arguments(
@@ -78,7 +78,7 @@ fn check_tested(alloc: Global, span: Span, name: &Atom, def: Option<Def>) -> Nor
 
 fn check_condition(
     alloc: Global,
-    globals: &BTreeMap<Atom, Def>,
+    globals: &GlobalTable,
     args: &BTreeSet<Atom>,
     condition: &Option<Condition>,
 ) -> NormResult<()>
@@ -96,7 +96,7 @@ fn check_condition(
 #[tactic(auto, unfolding(crate::specs::NameFaults::alternative_name_faults))]
 fn resolve_alternative(
     alloc: Global,
-    globals: &BTreeMap<Atom, Def>,
+    globals: &GlobalTable,
     args: &BTreeSet<Atom>,
     alternative: &mut Alternative,
 ) -> NormResult<()>
@@ -110,7 +110,7 @@ fn resolve_alternative(
 
 fn resolve_alternatives(
     alloc: Global,
-    globals: &BTreeMap<Atom, Def>,
+    globals: &GlobalTable,
     args: &BTreeSet<Atom>,
     alternatives: &mut [Alternative],
 ) -> NormResult<()>
@@ -126,7 +126,7 @@ fn resolve_alternatives(
 
 pub(crate) fn resolve_rule(
     alloc: Global,
-    globals: &BTreeMap<Atom, Def>,
+    globals: &GlobalTable,
     rule: &mut NonterminalData,
 ) -> NormResult<()>
     ensures refuses { Refuses result (rule_faults_in globals.now (rule_view rule.old)) }

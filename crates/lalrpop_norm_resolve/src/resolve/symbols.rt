@@ -4,25 +4,26 @@ ghost use Rattle.lalrpop_norm_tree.specs.Symbols.{kind_view, symbol_view, repeat
 ghost use Rattle.lalrpop_norm_faults.specs.Faults.{IsFirst, Refuses, RefusesOr};
 ghost use Rattle.lalrpop_norm_model.specs.Scopes.{by_sense, resolved_kind, resolved_part, resolved_parts};
 ghost use Rattle.lalrpop_norm_resolve.specs.NameFaults.{id_faults, nonterminal_faults, macro_name_faults, parts_count, kind_name_faults, part_name_faults, parts_name_faults};
-ghost use Rattle.lalrpop_norm_resolve.specs.NameTables.{found_def, sense_seen, sense_in};
+ghost use Rattle.lalrpop_norm_resolve.specs.NameTables.{rows_of, sense_seen, sense_in};
 
-use super::Def;
+use super::{Def, GlobalTable};
 use lalrpop_norm_faults::{FaultKind, NormFailure, NormResult, refusal};
 use lalrpop_norm_tree::grammar::parse_tree::{
     Atom, NonterminalString, RepeatSymbol, Span, Symbol, SymbolKind, TerminalString,
 };
 use std::alloc::Global;
-use std::collections::{BTreeMap, BTreeSet};
+use std::collections::BTreeSet;
 
-pub(crate) fn global(globals: &BTreeMap<Atom, Def>, name: &Atom) -> Option<Def>
-    ensures { result ≡ found_def name.now globals.now.entries }
+#[tactic(auto, unfolding(crate::specs::NameTables::rows_of))]
+pub(crate) fn global(globals: &GlobalTable, name: &Atom) -> Option<Def>
+    ensures { result ≡ rows_of globals.now name.now }
 {
     globals.get(name).copied()
 }
 
 /// What the name means in a rule with these arguments.
 #[tactic(auto, unfolding(crate::specs::NameTables::sense_in))]
-pub(crate) fn def(globals: &BTreeMap<Atom, Def>, args: &BTreeSet<Atom>, name: &Atom) -> Option<Def>
+pub(crate) fn def(globals: &GlobalTable, args: &BTreeSet<Atom>, name: &Atom) -> Option<Def>
     ensures { sense_seen result ≡ sense_in globals.now args.now name.now }
 {
     if args.contains(name) {
@@ -153,7 +154,7 @@ fn check_macro(
 /// What an identifier stands for in a rule with these arguments.
 fn identified(
     alloc: Global,
-    globals: &BTreeMap<Atom, Def>,
+    globals: &GlobalTable,
     args: &BTreeSet<Atom>,
     span: Span,
     id: &Atom,
@@ -169,7 +170,7 @@ fn identified(
 #[tactic(auto, using(crate::proofs::NameLemmas::count_length))]
 fn check_call(
     alloc: Global,
-    globals: &BTreeMap<Atom, Def>,
+    globals: &GlobalTable,
     args: &BTreeSet<Atom>,
     span: Span,
     name: &Atom,
@@ -183,7 +184,7 @@ fn check_call(
 #[cycle(resolve)]
 pub(crate) fn resolve_each(
     alloc: Global,
-    globals: &BTreeMap<Atom, Def>,
+    globals: &GlobalTable,
     args: &BTreeSet<Atom>,
     symbols: &mut [Symbol],
 ) -> NormResult<()>
@@ -199,7 +200,7 @@ pub(crate) fn resolve_each(
 #[cycle(resolve)]
 fn resolve_symbol(
     alloc: Global,
-    globals: &BTreeMap<Atom, Def>,
+    globals: &GlobalTable,
     args: &BTreeSet<Atom>,
     symbol: &mut Symbol,
 ) -> NormResult<()>
@@ -212,7 +213,7 @@ fn resolve_symbol(
 #[cycle(resolve)]
 fn resolve_kind(
     alloc: Global,
-    globals: &BTreeMap<Atom, Def>,
+    globals: &GlobalTable,
     args: &BTreeSet<Atom>,
     span: Span,
     kind: &mut SymbolKind,
@@ -251,7 +252,7 @@ fn resolve_kind(
 #[cycle(resolve)]
 fn resolve_boxed(
     alloc: Global,
-    globals: &BTreeMap<Atom, Def>,
+    globals: &GlobalTable,
     args: &BTreeSet<Atom>,
     symbol: &mut Box<Symbol>,
 ) -> NormResult<()>
@@ -264,7 +265,7 @@ fn resolve_boxed(
 #[cycle(resolve)]
 fn resolve_repeat(
     alloc: Global,
-    globals: &BTreeMap<Atom, Def>,
+    globals: &GlobalTable,
     args: &BTreeSet<Atom>,
     repeat: &mut Box<RepeatSymbol>,
 ) -> NormResult<()>

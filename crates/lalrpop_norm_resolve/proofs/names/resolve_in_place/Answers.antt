@@ -1,17 +1,10 @@
-use Rattle.std.proofs.Common.{[], ◌++◌, append-nil, map, sym, ap, ◌∙◌}
+use Rattle.std.proofs.Common.{[], append-nil, map, sym, ◌∙◌}
 use Rattle.std.specs.List.{flat_map}
 use Rattle.lalrpop_norm_tree.specs.Items.{item_view}
 use Rattle.lalrpop_norm_faults.proofs.FaultLemmas.{exit_at}
-use Rattle.lalrpop_norm_resolve.specs.NameFaults.{item_name_faults}
-use Rattle.lalrpop_norm_resolve.specs.NameTables.{items_globals, rows_faults, item_faults_in}
-use Rattle.lalrpop_norm_resolve.proofs.GlobalLemmas.{faults_listed, faults_in_items, resolved_by_table}
+use Rattle.lalrpop_norm_resolve.specs.NameTables.{items_globals, item_faults_in}
+use Rattle.lalrpop_norm_resolve.proofs.GlobalLemmas.{faults_in_items, resolved_items_same}
 use Rattle.lalrpop_norm_resolve.proofs.names.resolve_in_place.Goals as goal
-
-pub returns-in_err-globals-clause-refuses : goal.returns-in_err-globals-clause-refuses
-returns-in_err-globals-clause-refuses c =
-    let is = map item_view c.args.items.now in
-    exit_at _ _ (rows_faults [] (items_globals is)) (flat_map (item_name_faults (items_globals is)) is) _ c.from_residual.ensures.1 c.in_err-globals.ensures
-    (sym (ap (λ fs. fs ++ flat_map (item_name_faults (items_globals is)) is) (faults_listed is)))
 
 pub returns-in_err-resolve_items-clause-refuses : goal.returns-in_err-resolve_items-clause-refuses
 returns-in_err-resolve_items-clause-refuses c =
@@ -28,5 +21,5 @@ returns-clause-refuses c =
 
 pub returns-clause-resolves : goal.returns-clause-resolves
 returns-clause-resolves c =
-    let told = c.in_ok-globals.ensures in
-    c.in_ok-resolve_items.ensures.resolves ∙ resolved_by_table c.in_ok-globals.globals (map item_view c.args.items.now) told.1 told.0
+    let is = map item_view c.args.items.now in
+    c.in_ok-resolve_items.ensures.resolves ∙ resolved_items_same c.in_ok-globals.globals (items_globals is) c.in_ok-globals.ensures.1 is

@@ -1,6 +1,7 @@
 use Rattle.std.proofs.Common.{refl, arith}
 use Rattle.std.specs.List.{flat_map}
 use Rattle.lalrpop_norm_model.specs.Scopes.{match_global}
+use Rattle.lalrpop_norm_resolve.specs.NameTables.{rows_of}
 use Rattle.lalrpop_norm_resolve.proofs.TableLemmas.{step_rows, step_faults, exit_faults}
 use Rattle.lalrpop_norm_resolve.proofs.resolve.globals.declare_mappings.Goals as goal
 
@@ -8,10 +9,10 @@ pub loop-item-preserved : goal.loop-item-preserved
 loop-item-preserved c =
     let told = c.in_ok-declare_mapping.ensures in
     record {
-      sound = step_faults (λ ys. flat_map match_global ys) (λ y. match_global y) (λ y ys. refl) c.args.items.now c.loop-item.item-index c.item-item.result c.loop-item.globals.entries _ (omega arith) c.item-item.is _ told.refuses told.declares c.loop-item.invariant.sound;
-      done = step_rows (λ ys. flat_map match_global ys) (λ y. match_global y) (λ y ys. refl) c.args.items.now c.loop-item.item-index c.item-item.result c.loop-item.globals.entries _ (omega arith) c.item-item.is _ told.declares c.loop-item.invariant.done;
+      sound = step_faults (λ ys. flat_map match_global ys) (λ y. match_global y) (λ y ys. refl) c.args.items.now c.loop-item.item-index c.item-item.result (rows_of c.loop-item.globals) _ (omega arith) c.item-item.is _ told.refuses told.declares c.loop-item.invariant.sound;
+      done = step_rows (λ ys. flat_map match_global ys) (λ y. match_global y) (λ y ys. refl) c.args.items.now c.loop-item.item-index c.item-item.result (rows_of c.loop-item.globals) _ (omega arith) c.item-item.is _ told.declares c.loop-item.invariant.done;
     }
 
 pub returns-in_err-declare_mapping-clause-refuses : goal.returns-in_err-declare_mapping-clause-refuses
 returns-in_err-declare_mapping-clause-refuses c =
-    exit_faults (λ ys. flat_map match_global ys) (λ y. match_global y) (λ y ys. refl) c.args.items.now c.loop-item.item-index c.item-item.result c.loop-item.globals.entries c.loop-item.globals.entries (omega arith) c.item-item.is _ _ _ c.from_residual.ensures.1 c.in_err-declare_mapping.ensures.refuses c.loop-item.invariant.sound
+    exit_faults (λ ys. flat_map match_global ys) (λ y. match_global y) (λ y ys. refl) c.args.items.now c.loop-item.item-index c.item-item.result (rows_of c.loop-item.globals) (rows_of c.loop-item.globals) (omega arith) c.item-item.is _ _ _ c.from_residual.ensures.1 c.in_err-declare_mapping.ensures.refuses c.loop-item.invariant.sound

@@ -1,0 +1,69 @@
+//! The seeds of hashes of names: digests of all that are put into a table.
+
+use lalrpop_norm_names::Seeded;
+use lalrpop_norm_tree::grammar::parse_tree::{
+    Atom, EnumToken, GrammarItem, MatchContents, MatchItem, MatchMapping, TerminalString,
+};
+use std::hash::{DefaultHasher, Hash};
+
+fn read_terminal(terminal: &TerminalString, reader: &mut DefaultHasher) {
+    match terminal {
+        TerminalString::Bare(name) => name.hash(reader),
+        TerminalString::Literal(_) | TerminalString::Error => {}
+    }
+}
+
+fn read_enum(tokens: &Option<EnumToken>, reader: &mut DefaultHasher) {
+    match tokens {
+        Some(tokens) => {
+            for conversion in &tokens.conversions {
+                read_terminal(&conversion.from, reader);
+            }
+        }
+        None => {}
+    }
+}
+
+fn read_mapping(item: &MatchItem, reader: &mut DefaultHasher) {
+    match item {
+        MatchItem::Mapped(_, MatchMapping::Terminal(terminal), _) => {
+            read_terminal(terminal, reader)
+        }
+        MatchItem::Mapped(_, MatchMapping::Skip, _)
+        | MatchItem::Unmapped(_, _)
+        | MatchItem::CatchAll(_) => {}
+    }
+}
+
+fn read_groups(groups: &[MatchContents], reader: &mut DefaultHasher) {
+    for group in groups {
+        for item in &group.items {
+            read_mapping(item, reader);
+        }
+    }
+}
+
+fn read_item(item: &GrammarItem, reader: &mut DefaultHasher) {
+    match item {
+        GrammarItem::Nonterminal(rule) => rule.name.0.hash(reader),
+        GrammarItem::ExternToken(token) => read_enum(&token.enum_token, reader),
+        GrammarItem::MatchToken(token) => read_groups(&token.contents, reader),
+        GrammarItem::InternToken(_) | GrammarItem::Use(_) => {}
+    }
+}
+
+/// The hashes of the global names of these items.
+pub(crate) fn seeded_by(items: &[GrammarItem]) -> Seeded {
+    let mut reader = DefaultHasher::new();
+    for item in items {
+        read_item(item, &mut reader);
+    }
+    Seeded::after(reader)
+}
+
+/// The hashes of names.
+pub(crate) fn seeded_by_names(names: &[Atom]) -> Seeded {
+    let mut reader = DefaultHasher::new();
+    Atom::hash_slice(names, &mut reader);
+    Seeded::after(reader)
+}
