@@ -13,34 +13,32 @@ ghost use Rattle.lalrpop_norm_lower.specs.Made.{alternatives_faults, made_action
 
 use crate::bodies::made_action;
 use crate::placeholders::check_code;
+use crate::state::LowerState;
 use crate::symbols::lowered_symbols;
 use lalrpop_norm_faults::NormResult;
 use lalrpop_norm_lower_steps::refusals::next_action;
-use lalrpop_norm_repr::grammar::repr::{
-    ActionFn, ActionFnDefn, Production, Symbol, TypeRepr, Types,
-};
+use lalrpop_norm_repr::grammar::repr::{ActionFn, ActionFnDefn, Production, Symbol, TypeRepr};
 use lalrpop_norm_tree::grammar::parse_tree::{Alternative, NoMemory, NonterminalString, Span};
 use std::alloc::Global;
 
 /// The production of an alternative of a rule of that type. Its action is added.
 pub(crate) fn lower_alternative(
-    alloc: Global,
-    prefix: &str,
-    types: &Types,
+    state: &mut LowerState,
     name: &NonterminalString,
     ty: &TypeRepr,
     alternative: &Alternative,
-    actions: &mut Vec<ActionFnDefn>,
 ) -> NormResult<Production>
-    ensures refuses { Refuses result (code_faults (alternative_view alternative.now) ++ action_number_faults (vec_len actions.old) alternative.now.span) }
+    ensures refuses { Refuses result (code_faults (alternative_view alternative.now) ++ action_number_faults (vec_len state.old.actions) alternative.now.span) }
     ensures lowered { IfOk result (λ p.
-        production_view p ≡ production_of name.now (vec_len actions.old) (alternative_view alternative.now)) }
-    ensures adds { OnOk result (map action_defn_view actions.new.items
-        ≡ map action_defn_view actions.old.items ++ made_action prefix.now (type_table types.now) (repr_view ty.now) (alternative_view alternative.now) ∷ []) }
-    ensures count { OnOk result (vec_len actions.new ≡ vec_len actions.old + 1) }
+        production_view p ≡ production_of name.now (vec_len state.old.actions) (alternative_view alternative.now)) }
+    ensures adds { OnOk result (map action_defn_view state.new.actions.items
+        ≡ map action_defn_view state.old.actions.items ++ made_action state.old.prefix.now (type_table state.old.types.now) (repr_view ty.now) (alternative_view alternative.now) ∷ []) }
+    ensures count { OnOk result (vec_len state.new.actions ≡ vec_len state.old.actions + 1) }
+    ensures given { OnOk result ((state.new.prefix ≡ state.old.prefix) × (state.new.types ≡ state.old.types)) }
+    ensures table { OnOk result (state.new.nonterminals ≡ state.old.nonterminals) }
 {
-    let action = action_of(alloc, alternative, actions)?;
-    Ok(add_production(alloc, prefix, types, name, ty, alternative, action, actions)?)
+    let action = action_of(state.alloc, alternative, &state.actions)?;
+    Ok(add_production(state, name, ty, alternative, action)?)
 }
 
 /// The number of an alternative's action.
@@ -59,45 +57,43 @@ fn action_of(
 
 /// The production of an alternative whose action has that number. The action is added.
 fn add_production(
-    alloc: Global,
-    prefix: &str,
-    types: &Types,
+    state: &mut LowerState,
     name: &NonterminalString,
     ty: &TypeRepr,
     alternative: &Alternative,
     action: ActionFn,
-    actions: &mut Vec<ActionFnDefn>,
 ) -> Result<Production, NoMemory>
     requires counted { code_faults (alternative_view alternative.now) ≡ [] }
     ensures lowered { IfOk result (λ p. production_view p
         ≡ record { nonterminal = name.now; symbols = lowered_symbols (expr_view alternative.now.expr); action = action; span = alternative.now.span }) }
-    ensures adds { OnOk result (map action_defn_view actions.new.items
-        ≡ map action_defn_view actions.old.items ++ made_action prefix.now (type_table types.now) (repr_view ty.now) (alternative_view alternative.now) ∷ []) }
-    ensures count { OnOk result (vec_len actions.new ≡ vec_len actions.old + 1) }
+    ensures adds { OnOk result (map action_defn_view state.new.actions.items
+        ≡ map action_defn_view state.old.actions.items ++ made_action state.old.prefix.now (type_table state.old.types.now) (repr_view ty.now) (alternative_view alternative.now) ∷ []) }
+    ensures count { OnOk result (vec_len state.new.actions ≡ vec_len state.old.actions + 1) }
+    ensures given { OnOk result ((state.new.prefix ≡ state.old.prefix) × (state.new.types ≡ state.old.types)) }
+    ensures table { OnOk result (state.new.nonterminals ≡ state.old.nonterminals) }
 {
-    let symbols = lowered_symbols(alloc, &alternative.expr.symbols)?;
-    add_made_action(alloc, prefix, types, ty, alternative, &symbols, actions)?;
+    let symbols = lowered_symbols(state.alloc, &alternative.expr.symbols)?;
+    add_made_action(state, ty, alternative, &symbols)?;
     production_with(name, symbols, action, alternative.span)
 }
 
 /// Adds the action of an alternative with these symbols.
 fn add_made_action(
-    alloc: Global,
-    prefix: &str,
-    types: &Types,
+    state: &mut LowerState,
     ty: &TypeRepr,
     alternative: &Alternative,
     symbols: &[Symbol],
-    actions: &mut Vec<ActionFnDefn>,
 ) -> Result<(), NoMemory>
     requires symbols { symbols.now ≡ lowered_symbols (expr_view alternative.now.expr) }
     requires counted { code_faults (alternative_view alternative.now) ≡ [] }
-    ensures adds { OnOk result (map action_defn_view actions.new.items
-        ≡ map action_defn_view actions.old.items ++ made_action prefix.now (type_table types.now) (repr_view ty.now) (alternative_view alternative.now) ∷ []) }
-    ensures count { OnOk result (vec_len actions.new ≡ vec_len actions.old + 1) }
+    ensures adds { OnOk result (map action_defn_view state.new.actions.items
+        ≡ map action_defn_view state.old.actions.items ++ made_action state.old.prefix.now (type_table state.old.types.now) (repr_view ty.now) (alternative_view alternative.now) ∷ []) }
+    ensures count { OnOk result (vec_len state.new.actions ≡ vec_len state.old.actions + 1) }
+    ensures given { OnOk result ((state.new.prefix ≡ state.old.prefix) × (state.new.types ≡ state.old.types)) }
+    ensures table { OnOk result (state.new.nonterminals ≡ state.old.nonterminals) }
 {
-    let defn = made_action(alloc, prefix, types, ty, alternative, symbols)?;
-    actions.push(defn)?;
+    let defn = made_action(state, ty, alternative, symbols)?;
+    state.actions.push(defn)?;
     Ok(())
 }
 
@@ -120,24 +116,23 @@ fn production_with(
 
 /// The productions of a rule's alternatives, in order.
 pub(crate) fn lower_alternatives(
-    alloc: Global,
-    prefix: &str,
-    types: &Types,
+    state: &mut LowerState,
     name: &NonterminalString,
     ty: &TypeRepr,
     alternatives: &[Alternative],
-    actions: &mut Vec<ActionFnDefn>,
 ) -> NormResult<Vec<Production>>
-    ensures refuses { Refuses result (alternatives_faults (vec_len actions.old) (map alternative_view alternatives.now)) }
+    ensures refuses { Refuses result (alternatives_faults (vec_len state.old.actions) (map alternative_view alternatives.now)) }
     ensures lowered { IfOk result (λ ps. map production_view ps.items
-        ≡ productions_from name.now (vec_len actions.old) (map alternative_view alternatives.now)) }
-    ensures adds { OnOk result (map action_defn_view actions.new.items
-        ≡ map action_defn_view actions.old.items ++ map (made_action prefix.now (type_table types.now) (repr_view ty.now)) (map alternative_view alternatives.now)) }
-    ensures count { OnOk result (vec_len actions.new ≡ vec_len actions.old + length alternatives.now) }
+        ≡ productions_from name.now (vec_len state.old.actions) (map alternative_view alternatives.now)) }
+    ensures adds { OnOk result (map action_defn_view state.new.actions.items
+        ≡ map action_defn_view state.old.actions.items ++ map (made_action state.old.prefix.now (type_table state.old.types.now) (repr_view ty.now)) (map alternative_view alternatives.now)) }
+    ensures count { OnOk result (vec_len state.new.actions ≡ vec_len state.old.actions + length alternatives.now) }
+    ensures given { OnOk result ((state.new.prefix ≡ state.old.prefix) × (state.new.types ≡ state.old.types)) }
+    ensures table { OnOk result (state.new.nonterminals ≡ state.old.nonterminals) }
 {
-    let mut productions = Vec::with_capacity(alloc, alternatives.len())?;
+    let mut productions = Vec::with_capacity(state.alloc, alternatives.len())?;
     for alternative in alternatives {
-        let production = lower_alternative(alloc, prefix, types, name, ty, alternative, actions)?;
+        let production = lower_alternative(state, name, ty, alternative)?;
         productions.push(production)?;
     }
     Ok(productions)

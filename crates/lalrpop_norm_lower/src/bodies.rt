@@ -11,21 +11,18 @@ ghost use Rattle.lalrpop_norm_lower.specs.Made.{made_action, body, user_body};
 
 use crate::actions::symbol_types;
 use crate::arguments::arguments_of;
+use crate::state::LowerState;
 use lalrpop_norm_lower_steps::code::{is_fallible, written_code};
 use lalrpop_norm_lower_steps::placeholders::filled;
 use lalrpop_norm_repr::grammar::repr::{
-    ActionFnDefn, ActionFnDefnKind, LookaroundActionFnDefn, Symbol, TypeRepr, Types,
-    UserActionFnDefn,
+    ActionFnDefn, ActionFnDefnKind, LookaroundActionFnDefn, Symbol, TypeRepr, UserActionFnDefn,
 };
 use lalrpop_norm_session::norm_util::has_name_value;
 use lalrpop_norm_tree::grammar::parse_tree::{ActionKind, Alternative, NoMemory};
-use std::alloc::Global;
 
 /// The action of an alternative of a rule of that type, which it answers.
 pub(crate) fn made_action(
-    alloc: Global,
-    prefix: &str,
-    types: &Types,
+    state: &LowerState,
     ty: &TypeRepr,
     alternative: &Alternative,
     symbols: &[Symbol],
@@ -33,9 +30,9 @@ pub(crate) fn made_action(
     requires symbols { symbols.now ≡ lowered_symbols (expr_view alternative.now.expr) }
     requires counted { code_faults (alternative_view alternative.now) ≡ [] }
     ensures { IfOk result (λ d.
-        action_defn_view d ≡ made_action prefix.now (type_table types.now) (repr_view ty.now) (alternative_view alternative.now)) }
+        action_defn_view d ≡ made_action state.now.prefix.now (type_table state.now.types.now) (repr_view ty.now) (alternative_view alternative.now)) }
 {
-    let kind = body(alloc, prefix, types, ty, alternative, symbols)?;
+    let kind = body(state, ty, alternative, symbols)?;
     let ret_type = ty.clone()?;
     let fallible = is_fallible(&alternative.action);
     Ok(ActionFnDefn {
@@ -46,9 +43,7 @@ pub(crate) fn made_action(
 }
 
 fn body(
-    alloc: Global,
-    prefix: &str,
-    types: &Types,
+    state: &LowerState,
     ty: &TypeRepr,
     alternative: &Alternative,
     symbols: &[Symbol],
@@ -56,7 +51,7 @@ fn body(
     requires symbols { symbols.now ≡ lowered_symbols (expr_view alternative.now.expr) }
     requires counted { code_faults (alternative_view alternative.now) ≡ [] }
     ensures { IfOk result (λ k. action_kind_view k
-        ≡ body prefix.now (type_table types.now) (repr_view ty.now) (alternative_view alternative.now) (option_map action_view alternative.now.action)) }
+        ≡ body state.now.prefix.now (type_table state.now.types.now) (repr_view ty.now) (alternative_view alternative.now) (option_map action_view alternative.now.action)) }
 {
     match &alternative.action {
         Some(ActionKind::Lookahead) => Ok(ActionFnDefnKind::Lookaround(
@@ -65,17 +60,15 @@ fn body(
         Some(ActionKind::Lookbehind) => Ok(ActionFnDefnKind::Lookaround(
             LookaroundActionFnDefn::Lookbehind,
         )),
-        Some(ActionKind::User(_)) => user_body(alloc, prefix, types, ty, alternative, symbols),
-        Some(ActionKind::Fallible(_)) => user_body(alloc, prefix, types, ty, alternative, symbols),
-        None => user_body(alloc, prefix, types, ty, alternative, symbols),
+        Some(ActionKind::User(_)) => user_body(state, ty, alternative, symbols),
+        Some(ActionKind::Fallible(_)) => user_body(state, ty, alternative, symbols),
+        None => user_body(state, ty, alternative, symbols),
     }
 }
 
 /// Code over one argument for each symbol.
 fn user_body(
-    alloc: Global,
-    prefix: &str,
-    types: &Types,
+    state: &LowerState,
     ty: &TypeRepr,
     alternative: &Alternative,
     symbols: &[Symbol],
@@ -83,13 +76,13 @@ fn user_body(
     requires symbols { symbols.now ≡ lowered_symbols (expr_view alternative.now.expr) }
     requires counted { code_faults (alternative_view alternative.now) ≡ [] }
     ensures { IfOk result (λ k.
-        action_kind_view k ≡ user_body prefix.now (type_table types.now) (repr_view ty.now) (alternative_view alternative.now)) }
+        action_kind_view k ≡ user_body state.now.prefix.now (type_table state.now.types.now) (repr_view ty.now) (alternative_view alternative.now)) }
 {
-    let arguments = arguments_of(alloc, prefix, &alternative.expr.symbols)?;
+    let arguments = arguments_of(state.alloc, state.prefix, &alternative.expr.symbols)?;
     let is_named = has_name_value(&alternative.expr.symbols);
     let written = written_code(ty, &arguments.names, &alternative.action);
-    let code = filled(alloc, is_named, &arguments.names, written)?;
-    let arg_types = symbol_types(alloc, types, symbols)?;
+    let code = filled(state.alloc, is_named, &arguments.names, written)?;
+    let arg_types = symbol_types(state.alloc, state.types, symbols)?;
     Ok(ActionFnDefnKind::User(UserActionFnDefn {
         arg_patterns: arguments.patterns,
         arg_types,

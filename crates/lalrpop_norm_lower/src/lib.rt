@@ -13,6 +13,7 @@ mod placeholders;
 mod recovery;
 mod rules;
 mod starts;
+mod state;
 mod symbols;
 mod tokens;
 mod typing;

@@ -14,109 +14,86 @@ ghost use Rattle.lalrpop_norm_lower.specs.Typing.{start_types};
 
 use crate::alternatives::{lower_alternative, lower_alternatives};
 use crate::starts::{Start, insert, rule_type};
+use crate::state::LowerState;
 use crate::typing::unit_type;
 use lalrpop_norm_faults::NormResult;
 use lalrpop_norm_lower_steps::refusals::check_start;
 use lalrpop_norm_lower_steps::starts::{start_alternative, start_data};
-use lalrpop_norm_repr::grammar::repr::{ActionFnDefn, NonterminalData, Production, Types};
+use lalrpop_norm_repr::grammar::repr::{NonterminalData, Production};
 use lalrpop_norm_tree::grammar::parse_tree as pt;
-use lalrpop_norm_tree::grammar::parse_tree::{NoMemory, NonterminalString};
+use lalrpop_norm_tree::grammar::parse_tree::NoMemory;
 use lalrpop_norm_tree_parts::attribute::copy::copy_attributes;
 use std::alloc::Global;
-use std::collections::BTreeMap;
 
 /// The start symbol of a public rule.
-fn lower_start(
-    alloc: Global,
-    prefix: &str,
-    types: &Types,
-    start: &Start,
-    actions: &mut Vec<ActionFnDefn>,
-) -> NormResult<NonterminalData>
-    requires name { start.now.name ≡ start_name prefix.now start.now.rule.now.name }
-    requires ty { repr_view start.now.ty ≡ rule_type (type_table types.now) (start_rule start.now) }
-    ensures refuses { Refuses result (start_faults prefix.now (types_by_name (type_table types.now)) (start_rule start.now) ++ action_number_faults (vec_len actions.old) start.now.rule.now.span) }
+fn lower_start(state: &mut LowerState, start: &Start) -> NormResult<NonterminalData>
+    requires name { start.now.name ≡ start_name state.old.prefix.now start.now.rule.now.name }
+    requires ty { repr_view start.now.ty ≡ rule_type (type_table state.old.types.now) (start_rule start.now) }
+    ensures refuses { Refuses result (start_faults state.old.prefix.now (types_by_name (type_table state.old.types.now)) (start_rule start.now) ++ action_number_faults (vec_len state.old.actions) start.now.rule.now.span) }
     ensures lowered { IfOk result (λ n.
-        nonterminal_data_view n ≡ start_entry prefix.now (vec_len actions.old) (start_rule start.now)) }
-    ensures adds { OnOk result (map action_defn_view actions.new.items ≡ map action_defn_view actions.old.items
-        ++ made_action prefix.now (type_table types.now) (rule_type (type_table types.now) (start_rule start.now)) (start_alternative (start_rule start.now)) ∷ []) }
-    ensures count { OnOk result (vec_len actions.new ≡ vec_len actions.old + 1) }
+        nonterminal_data_view n ≡ start_entry state.old.prefix.now (vec_len state.old.actions) (start_rule start.now)) }
+    ensures adds { OnOk result (map action_defn_view state.new.actions.items ≡ map action_defn_view state.old.actions.items
+        ++ made_action state.old.prefix.now (type_table state.old.types.now) (rule_type (type_table state.old.types.now) (start_rule start.now)) (start_alternative (start_rule start.now)) ∷ []) }
+    ensures count { OnOk result (vec_len state.new.actions ≡ vec_len state.old.actions + 1) }
+    ensures given { OnOk result ((state.new.prefix ≡ state.old.prefix) × (state.new.types ≡ state.old.types)) }
+    ensures table { OnOk result (state.new.nonterminals ≡ state.old.nonterminals) }
 {
-    check_start(alloc, prefix, types, start.rule, &start.name)?;
-    let production = start_production(alloc, prefix, types, start, actions)?;
-    Ok(start_data(alloc, start.rule, production)?)
+    check_start(
+        state.alloc,
+        state.prefix,
+        state.types,
+        start.rule,
+        &start.name,
+    )?;
+    let production = start_production(state, start)?;
+    Ok(start_data(state.alloc, start.rule, production)?)
 }
 
 /// The production of a start symbol. Its action is added.
-fn start_production(
-    alloc: Global,
-    prefix: &str,
-    types: &Types,
-    start: &Start,
-    actions: &mut Vec<ActionFnDefn>,
-) -> NormResult<Production>
-    ensures refuses { Refuses result (action_number_faults (vec_len actions.old) start.now.rule.now.span) }
+fn start_production(state: &mut LowerState, start: &Start) -> NormResult<Production>
+    ensures refuses { Refuses result (action_number_faults (vec_len state.old.actions) start.now.rule.now.span) }
     ensures lowered { IfOk result (λ p.
-        production_view p ≡ production_of start.now.name (vec_len actions.old) (start_alternative (start_rule start.now))) }
-    ensures adds { OnOk result (map action_defn_view actions.new.items ≡ map action_defn_view actions.old.items
-        ++ made_action prefix.now (type_table types.now) (repr_view start.now.ty) (start_alternative (start_rule start.now)) ∷ []) }
-    ensures count { OnOk result (vec_len actions.new ≡ vec_len actions.old + 1) }
+        production_view p ≡ production_of start.now.name (vec_len state.old.actions) (start_alternative (start_rule start.now))) }
+    ensures adds { OnOk result (map action_defn_view state.new.actions.items ≡ map action_defn_view state.old.actions.items
+        ++ made_action state.old.prefix.now (type_table state.old.types.now) (repr_view start.now.ty) (start_alternative (start_rule start.now)) ∷ []) }
+    ensures count { OnOk result (vec_len state.new.actions ≡ vec_len state.old.actions + 1) }
+    ensures given { OnOk result ((state.new.prefix ≡ state.old.prefix) × (state.new.types ≡ state.old.types)) }
+    ensures table { OnOk result (state.new.nonterminals ≡ state.old.nonterminals) }
 {
-    let alternative = start_alternative(alloc, start.rule)?;
-    lower_alternative(
-        alloc,
-        prefix,
-        types,
-        &start.name,
-        &start.ty,
-        &alternative,
-        actions,
-    )
+    let alternative = start_alternative(state.alloc, start.rule)?;
+    lower_alternative(state, &start.name, &start.ty, &alternative)
 }
 
 /// The nonterminal of a rule.
-fn lower_rule(
-    alloc: Global,
-    prefix: &str,
-    types: &Types,
-    rule: &pt::NonterminalData,
-    actions: &mut Vec<ActionFnDefn>,
-) -> NormResult<NonterminalData>
-    ensures refuses { Refuses result (alternatives_faults (vec_len actions.old) (rule_view rule.now).alternatives) }
-    ensures lowered { IfOk result (λ n. nonterminal_data_view n ≡ rule_entry (vec_len actions.old) (rule_view rule.now)) }
-    ensures adds { OnOk result (map action_defn_view actions.new.items ≡ map action_defn_view actions.old.items
-        ++ map (made_action prefix.now (type_table types.now) (rule_type (type_table types.now) (rule_view rule.now))) (rule_view rule.now).alternatives) }
-    ensures count { OnOk result (vec_len actions.new ≡ vec_len actions.old + length (rule_view rule.now).alternatives) }
+fn lower_rule(state: &mut LowerState, rule: &pt::NonterminalData) -> NormResult<NonterminalData>
+    ensures refuses { Refuses result (alternatives_faults (vec_len state.old.actions) (rule_view rule.now).alternatives) }
+    ensures lowered { IfOk result (λ n. nonterminal_data_view n ≡ rule_entry (vec_len state.old.actions) (rule_view rule.now)) }
+    ensures adds { OnOk result (map action_defn_view state.new.actions.items ≡ map action_defn_view state.old.actions.items
+        ++ map (made_action state.old.prefix.now (type_table state.old.types.now) (rule_type (type_table state.old.types.now) (rule_view rule.now))) (rule_view rule.now).alternatives) }
+    ensures count { OnOk result (vec_len state.new.actions ≡ vec_len state.old.actions + length (rule_view rule.now).alternatives) }
+    ensures given { OnOk result ((state.new.prefix ≡ state.old.prefix) × (state.new.types ≡ state.old.types)) }
+    ensures table { OnOk result (state.new.nonterminals ≡ state.old.nonterminals) }
 {
-    let productions = rule_productions(alloc, prefix, types, rule, actions)?;
-    Ok(rule_data(alloc, rule, productions)?)
+    let productions = rule_productions(state, rule)?;
+    Ok(rule_data(state.alloc, rule, productions)?)
 }
 
 /// The productions of a rule. Their actions are added.
 fn rule_productions(
-    alloc: Global,
-    prefix: &str,
-    types: &Types,
+    state: &mut LowerState,
     rule: &pt::NonterminalData,
-    actions: &mut Vec<ActionFnDefn>,
 ) -> NormResult<Vec<Production>>
-    ensures refuses { Refuses result (alternatives_faults (vec_len actions.old) (rule_view rule.now).alternatives) }
-    ensures lowered { IfOk result (λ ps. map production_view ps.items ≡ productions_from rule.now.name (vec_len actions.old) (rule_view rule.now).alternatives) }
-    ensures adds { OnOk result (map action_defn_view actions.new.items ≡ map action_defn_view actions.old.items
-        ++ map (made_action prefix.now (type_table types.now) (rule_type (type_table types.now) (rule_view rule.now))) (rule_view rule.now).alternatives) }
-    ensures count { OnOk result (vec_len actions.new ≡ vec_len actions.old + length (rule_view rule.now).alternatives) }
+    ensures refuses { Refuses result (alternatives_faults (vec_len state.old.actions) (rule_view rule.now).alternatives) }
+    ensures lowered { IfOk result (λ ps. map production_view ps.items ≡ productions_from rule.now.name (vec_len state.old.actions) (rule_view rule.now).alternatives) }
+    ensures adds { OnOk result (map action_defn_view state.new.actions.items ≡ map action_defn_view state.old.actions.items
+        ++ map (made_action state.old.prefix.now (type_table state.old.types.now) (rule_type (type_table state.old.types.now) (rule_view rule.now))) (rule_view rule.now).alternatives) }
+    ensures count { OnOk result (vec_len state.new.actions ≡ vec_len state.old.actions + length (rule_view rule.now).alternatives) }
+    ensures given { OnOk result ((state.new.prefix ≡ state.old.prefix) × (state.new.types ≡ state.old.types)) }
+    ensures table { OnOk result (state.new.nonterminals ≡ state.old.nonterminals) }
 {
-    let unit = unit_type(alloc);
-    let ty = rule_type(types, rule, &unit);
-    lower_alternatives(
-        alloc,
-        prefix,
-        types,
-        &rule.name,
-        ty,
-        &rule.alternatives,
-        actions,
-    )
+    let unit = unit_type(state.alloc);
+    let ty = rule_type(state.types, rule, &unit);
+    lower_alternatives(state, &rule.name, ty, &rule.alternatives)
 }
 
 /// The nonterminal of a rule with these productions.
@@ -137,49 +114,37 @@ fn rule_data(
 }
 
 /// The start symbols of the public rules.
-pub(crate) fn lower_starts(
-    alloc: Global,
-    prefix: &str,
-    types: &Types,
-    starts: &[Start],
-    actions: &mut Vec<ActionFnDefn>,
-    nonterminals: &mut BTreeMap<NonterminalString, NonterminalData>,
-) -> NormResult<()>
-    requires { map start_typed starts.now ≡ start_types prefix.now (type_table types.now) (map start_rule starts.now) }
-    ensures refuses { Refuses result (made_starts_faults prefix.now (type_table types.now) (vec_len actions.old) (map start_rule starts.now)) }
-    ensures table { OnOk result (rows nonterminal_data_view nonterminals.new
-        ≡ sorted_onto (rows nonterminal_data_view nonterminals.old) (start_rows prefix.now (vec_len actions.old) (map start_rule starts.now))) }
-    ensures adds { OnOk result (map action_defn_view actions.new.items
-        ≡ map action_defn_view actions.old.items ++ made_starts prefix.now (type_table types.now) (map start_rule starts.now)) }
-    ensures count { OnOk result (vec_len actions.new ≡ vec_len actions.old + length starts.now) }
+pub(crate) fn lower_starts(state: &mut LowerState, starts: &[Start]) -> NormResult<()>
+    requires { map start_typed starts.now ≡ start_types state.old.prefix.now (type_table state.old.types.now) (map start_rule starts.now) }
+    ensures refuses { Refuses result (made_starts_faults state.old.prefix.now (type_table state.old.types.now) (vec_len state.old.actions) (map start_rule starts.now)) }
+    ensures table { OnOk result (rows nonterminal_data_view state.new.nonterminals
+        ≡ sorted_onto (rows nonterminal_data_view state.old.nonterminals) (start_rows state.old.prefix.now (vec_len state.old.actions) (map start_rule starts.now))) }
+    ensures adds { OnOk result (map action_defn_view state.new.actions.items
+        ≡ map action_defn_view state.old.actions.items ++ made_starts state.old.prefix.now (type_table state.old.types.now) (map start_rule starts.now)) }
+    ensures count { OnOk result (vec_len state.new.actions ≡ vec_len state.old.actions + length starts.now) }
+    ensures given { OnOk result ((state.new.prefix ≡ state.old.prefix) × (state.new.types ≡ state.old.types)) }
 {
     for start in starts {
         let name = start.name.clone()?;
-        let data = lower_start(alloc, prefix, types, start, actions)?;
-        insert(nonterminals, name, data)?;
+        let data = lower_start(state, start)?;
+        insert(&mut state.nonterminals, name, data)?;
     }
     Ok(())
 }
 
 /// The nonterminals of the rules.
-pub(crate) fn lower_rules(
-    alloc: Global,
-    prefix: &str,
-    types: &Types,
-    rules: &[&pt::NonterminalData],
-    actions: &mut Vec<ActionFnDefn>,
-    nonterminals: &mut BTreeMap<NonterminalString, NonterminalData>,
-) -> NormResult<()>
-    ensures refuses { Refuses result (made_rules_faults (vec_len actions.old) (map (λ r. rule_view r.now) rules.now)) }
-    ensures table { OnOk result (rows nonterminal_data_view nonterminals.new
-        ≡ sorted_onto (rows nonterminal_data_view nonterminals.old) (rule_rows (vec_len actions.old) (map (λ r. rule_view r.now) rules.now))) }
-    ensures adds { OnOk result (map action_defn_view actions.new.items
-        ≡ map action_defn_view actions.old.items ++ made_actions prefix.now (type_table types.now) (map (λ r. rule_view r.now) rules.now)) }
+pub(crate) fn lower_rules(state: &mut LowerState, rules: &[&pt::NonterminalData]) -> NormResult<()>
+    ensures refuses { Refuses result (made_rules_faults (vec_len state.old.actions) (map (λ r. rule_view r.now) rules.now)) }
+    ensures table { OnOk result (rows nonterminal_data_view state.new.nonterminals
+        ≡ sorted_onto (rows nonterminal_data_view state.old.nonterminals) (rule_rows (vec_len state.old.actions) (map (λ r. rule_view r.now) rules.now))) }
+    ensures adds { OnOk result (map action_defn_view state.new.actions.items
+        ≡ map action_defn_view state.old.actions.items ++ made_actions state.old.prefix.now (type_table state.old.types.now) (map (λ r. rule_view r.now) rules.now)) }
+    ensures given { OnOk result ((state.new.prefix ≡ state.old.prefix) × (state.new.types ≡ state.old.types)) }
 {
     for rule in rules {
         let name = rule.name.clone()?;
-        let data = lower_rule(alloc, prefix, types, rule, actions)?;
-        insert(nonterminals, name, data)?;
+        let data = lower_rule(state, rule)?;
+        insert(&mut state.nonterminals, name, data)?;
     }
     Ok(())
 }

@@ -23,6 +23,7 @@ use crate::nonterminals::{lower_rules, lower_starts};
 use crate::recovery::uses_recovery;
 use crate::rules::{public_rules, rules_of};
 use crate::starts::{Start, start_table, starts_of};
+use crate::state::LowerState;
 use crate::tokens::terminals_of;
 use crate::typing::add_start_types;
 use lalrpop_norm_faults::NormResult;
@@ -153,19 +154,17 @@ fn produce(
         ≡ sorted_onto (sorted_onto [] (start_rows prefix.now 0 (map start_rule starts.now)))
         (rule_rows (length (map start_rule starts.now)) (map (λ r. written.rule_view r.now) rules.now))) }
 {
-    let mut actions = Vec::new(alloc);
-    let mut nonterminals = BTreeMap::new(alloc);
-    lower_starts(
+    let mut state = LowerState {
         alloc,
         prefix,
         types,
-        starts,
-        &mut actions,
-        &mut nonterminals,
-    )?;
-    lower_rules(alloc, prefix, types, rules, &mut actions, &mut nonterminals)?;
+        actions: Vec::new(alloc),
+        nonterminals: BTreeMap::new(alloc),
+    };
+    lower_starts(&mut state, starts)?;
+    lower_rules(&mut state, rules)?;
     Ok(Produced {
-        actions,
-        nonterminals,
+        actions: state.actions,
+        nonterminals: state.nonterminals,
     })
 }

@@ -10,7 +10,10 @@ use Rattle.lalrpop_norm_lower.proofs.alternatives.lower_alternatives.Given as go
 
 abbrev pub invariant-loop-alternative : goal.invariant-loop-alternative
 invariant-loop-alternative l =
-    (vec_len l.actions ≡ vec_len l.initial.actions + l.alternative-index)
-    × (alternatives_faults (vec_len l.actions) (map alternative_view (drop l.alternative-index l.alternatives)) ≡ alternatives_faults (vec_len l.initial.actions) (map alternative_view l.alternatives))
-    × (map production_view l.productions.items ++ productions_from l.name (vec_len l.actions) (map alternative_view (drop l.alternative-index l.alternatives)) ≡ productions_from l.name (vec_len l.initial.actions) (map alternative_view l.alternatives))
-    × (map action_defn_view l.actions.items ++ map (made_action l.prefix (type_table l.types) (repr_view l.ty)) (map alternative_view (drop l.alternative-index l.alternatives)) ≡ map action_defn_view l.initial.actions.items ++ map (made_action l.prefix (type_table l.types) (repr_view l.ty)) (map alternative_view l.alternatives))
+    (vec_len l.state.actions ≡ vec_len l.initial.state.actions + l.alternative-index)
+    × (alternatives_faults (vec_len l.state.actions) (map alternative_view (drop l.alternative-index l.alternatives)) ≡ alternatives_faults (vec_len l.initial.state.actions) (map alternative_view l.alternatives))
+    × (map production_view l.productions.items ++ productions_from l.name (vec_len l.state.actions) (map alternative_view (drop l.alternative-index l.alternatives)) ≡ productions_from l.name (vec_len l.initial.state.actions) (map alternative_view l.alternatives))
+    × (map action_defn_view l.state.actions.items ++ map (made_action l.initial.state.prefix.now (type_table l.initial.state.types.now) (repr_view l.ty)) (map alternative_view (drop l.alternative-index l.alternatives)) ≡ map action_defn_view l.initial.state.actions.items ++ map (made_action l.initial.state.prefix.now (type_table l.initial.state.types.now) (repr_view l.ty)) (map alternative_view l.alternatives))
+    × (l.state.prefix ≡ l.initial.state.prefix)
+    × (l.state.types ≡ l.initial.state.types)
+    × (l.state.nonterminals ≡ l.initial.state.nonterminals)

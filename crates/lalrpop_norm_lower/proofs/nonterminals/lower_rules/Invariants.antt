@@ -9,6 +9,8 @@ use Rattle.lalrpop_norm_lower.proofs.nonterminals.lower_rules.Given as goal
 
 abbrev pub invariant-loop-rule : goal.invariant-loop-rule
 invariant-loop-rule l =
-    (made_rules_faults (vec_len l.actions) (map (λ r. rule_view r.now) (drop l.rule-index l.rules)) ≡ made_rules_faults (vec_len l.initial.actions) (map (λ r. rule_view r.now) l.rules))
-    × (sorted_onto (rows nonterminal_data_view l.nonterminals) (rule_rows (vec_len l.actions) (map (λ r. rule_view r.now) (drop l.rule-index l.rules))) ≡ sorted_onto (rows nonterminal_data_view l.initial.nonterminals) (rule_rows (vec_len l.initial.actions) (map (λ r. rule_view r.now) l.rules)))
-    × (map action_defn_view l.actions.items ++ made_actions l.prefix (type_table l.types) (map (λ r. rule_view r.now) (drop l.rule-index l.rules)) ≡ map action_defn_view l.initial.actions.items ++ made_actions l.prefix (type_table l.types) (map (λ r. rule_view r.now) l.rules))
+    (made_rules_faults (vec_len l.state.actions) (map (λ r. rule_view r.now) (drop l.rule-index l.rules)) ≡ made_rules_faults (vec_len l.initial.state.actions) (map (λ r. rule_view r.now) l.rules))
+    × (sorted_onto (rows nonterminal_data_view l.state.nonterminals) (rule_rows (vec_len l.state.actions) (map (λ r. rule_view r.now) (drop l.rule-index l.rules))) ≡ sorted_onto (rows nonterminal_data_view l.initial.state.nonterminals) (rule_rows (vec_len l.initial.state.actions) (map (λ r. rule_view r.now) l.rules)))
+    × (map action_defn_view l.state.actions.items ++ made_actions l.initial.state.prefix.now (type_table l.initial.state.types.now) (map (λ r. rule_view r.now) (drop l.rule-index l.rules)) ≡ map action_defn_view l.initial.state.actions.items ++ made_actions l.initial.state.prefix.now (type_table l.initial.state.types.now) (map (λ r. rule_view r.now) l.rules))
+    × (l.state.prefix ≡ l.initial.state.prefix)
+    × (l.state.types ≡ l.initial.state.types)

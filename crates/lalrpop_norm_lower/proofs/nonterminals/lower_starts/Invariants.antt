@@ -10,8 +10,10 @@ use Rattle.lalrpop_norm_lower.proofs.nonterminals.lower_starts.Given as goal
 
 abbrev pub invariant-loop-start : goal.invariant-loop-start
 invariant-loop-start l =
-    (vec_len l.actions ≡ vec_len l.initial.actions + l.start-index)
-    × (made_starts_faults l.prefix (type_table l.types) (vec_len l.actions) (map start_rule (drop l.start-index l.starts)) ≡ made_starts_faults l.prefix (type_table l.types) (vec_len l.initial.actions) (map start_rule l.starts))
-    × (sorted_onto (rows nonterminal_data_view l.nonterminals) (start_rows l.prefix (vec_len l.actions) (map start_rule (drop l.start-index l.starts))) ≡ sorted_onto (rows nonterminal_data_view l.initial.nonterminals) (start_rows l.prefix (vec_len l.initial.actions) (map start_rule l.starts)))
-    × (map action_defn_view l.actions.items ++ made_starts l.prefix (type_table l.types) (map start_rule (drop l.start-index l.starts)) ≡ map action_defn_view l.initial.actions.items ++ made_starts l.prefix (type_table l.types) (map start_rule l.starts))
-    × (map start_typed (drop l.start-index l.starts) ≡ start_types l.prefix (type_table l.types) (map start_rule (drop l.start-index l.starts)))
+    (vec_len l.state.actions ≡ vec_len l.initial.state.actions + l.start-index)
+    × (made_starts_faults l.initial.state.prefix.now (type_table l.initial.state.types.now) (vec_len l.state.actions) (map start_rule (drop l.start-index l.starts)) ≡ made_starts_faults l.initial.state.prefix.now (type_table l.initial.state.types.now) (vec_len l.initial.state.actions) (map start_rule l.starts))
+    × (sorted_onto (rows nonterminal_data_view l.state.nonterminals) (start_rows l.initial.state.prefix.now (vec_len l.state.actions) (map start_rule (drop l.start-index l.starts))) ≡ sorted_onto (rows nonterminal_data_view l.initial.state.nonterminals) (start_rows l.initial.state.prefix.now (vec_len l.initial.state.actions) (map start_rule l.starts)))
+    × (map action_defn_view l.state.actions.items ++ made_starts l.initial.state.prefix.now (type_table l.initial.state.types.now) (map start_rule (drop l.start-index l.starts)) ≡ map action_defn_view l.initial.state.actions.items ++ made_starts l.initial.state.prefix.now (type_table l.initial.state.types.now) (map start_rule l.starts))
+    × (map start_typed (drop l.start-index l.starts) ≡ start_types l.initial.state.prefix.now (type_table l.initial.state.types.now) (map start_rule (drop l.start-index l.starts)))
+    × (l.state.prefix ≡ l.initial.state.prefix)
+    × (l.state.types ≡ l.initial.state.types)

@@ -1,0 +1,15 @@
+//! The state of lowering.
+use lalrpop_norm_repr::grammar::repr::{ActionFnDefn, NonterminalData, NonterminalString, Types};
+use std::alloc::Global;
+use std::collections::BTreeMap;
+
+/// What rules are lowered by, and what was made of them so far.
+#[derive(Drop)]
+pub(crate) struct LowerState<'g> {
+    pub(crate) alloc: Global,
+    pub(crate) prefix: &'g str,
+    pub(crate) types: &'g Types,
+    /// By their numbers.
+    pub(crate) actions: Vec<ActionFnDefn>,
+    pub(crate) nonterminals: BTreeMap<NonterminalString, NonterminalData>,
+}
