@@ -17,10 +17,10 @@ returns-clause-counts c =
     let x = c.in_ok-expanded.expanded in
     let symbols = made_symbols comparison (grammar_view c.args.grammar) c.args.limit in
     let instances =
-    c.counted.ensures.instances ∙ sym (length-map x.made.items (λ m. part_at (wholes_in x.table) m.number))
+    c.counted-counts.ensures.instances ∙ sym (length-map x.made.items (λ m. part_at (wholes_in x.table) m.number))
     ∙ ap length c.in_ok-expanded.ensures.made.symbols ∙ length-map symbols unplaced in
     record {
       instances = instances;
-      rounds = rw c.counted.ensures.rounds c.in_ok-expanded.ensures.rounds;
-      texts = c.counted.ensures.texts ∙ c.in_ok-expanded.ensures.seen ∙ sym instances;
+      rounds = rw c.counted-counts.ensures.rounds c.in_ok-expanded.ensures.rounds;
+      texts = c.counted-counts.ensures.texts ∙ c.in_ok-expanded.ensures.seen ∙ sym instances;
     }

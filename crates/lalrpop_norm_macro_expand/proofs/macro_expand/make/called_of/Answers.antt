@@ -39,8 +39,8 @@ returns-in_err-unread-in-Some-clause-refuses c =
     ∙ ap₂ (λ (o : Option RuleData) (ps : Parts). called_faults o ps) found (ap (λ (v : Vec Symbol Global). parts_view v.items) (sym c.replace-arguments.ensures.value)) in
     err_same _ _ _ _ same c.from_residual.ensures.1 c.in_err-unread-in-Some.ensures.refuses
 
-pub returns-in-Some-clause-kept : goal.returns-in-Some-clause-kept
-returns-in-Some-clause-kept c =
+pub returns-in_ok-unread-in-Some-clause-kept : goal.returns-in_ok-unread-in-Some-clause-kept
+returns-in_ok-unread-in-Some-clause-kept c =
     let m : MacroSymbol = c.args.instance.now in
     let ms : List RuleData = macros_in c.args.macros.now in
     let d : RuleData = rule_view c.in-Some.definition.now in
