@@ -9,7 +9,7 @@ use Rattle.lalrpop_norm_conditions.specs.Conditions.{comparison}
 use Rattle.lalrpop_norm_model.specs.MadeRules.{macro_named}
 use Rattle.lalrpop_norm_model.specs.PlainRules.{macros_of, expansion_round, made_symbols}
 use Rattle.lalrpop_norm_model.specs.Replaced.{all_replaced}
-use Rattle.lalrpop_norm_nodes.specs.Apart.{unplaced}
+use Rattle.lalrpop_norm_nodes.specs.Apart.{nowhere, unplaced}
 use Rattle.lalrpop_norm_nodes.specs.declared.table.Table.{Table}
 use Rattle.lalrpop_norm_nodes.specs.declared.table.Waiting.{Waiting}
 use Rattle.lalrpop_norm_nodes.specs.NodeParts.{AreWaiting}
@@ -73,7 +73,7 @@ module _ (ws vs : List Whole) (grows : Grows ws vs) where
 
   parts_later : (us : List (ℕ × List ℕ)) → AllStand ws us → map (λ u. part_at vs u.0) us ≡ map (λ u. part_at ws u.0) us
   parts_later [] h = refl
-  parts_later (u ∷ us) h = ap₂ (λ (k : Kind) (ps : List Part). at _ k ∷ ps) (kind_stays u.0 h.0) (parts_later us h.1)
+  parts_later (u ∷ us) h = ap₂ (λ (k : Kind) (ps : List Part). at nowhere k ∷ ps) (kind_stays u.0 h.0) (parts_later us h.1)
 
 -- ---- round by round
 

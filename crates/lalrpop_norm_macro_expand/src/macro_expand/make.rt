@@ -269,10 +269,9 @@ fn add_rule(
     ensures made { OnOk result (map made_view made.new.items ≡ map made_view made.old.items ++ made_for (macros_in macros.now) waiting ∷ []) }
 {
     let number = waiting.number;
-    let making = pending_rule(alloc, macros, table, waiting)?;
-    let kept = making.kept;
+    let Making { pending: rule, kept } = pending_rule(alloc, macros, table, waiting)?;
     made.push(MadeSymbol { number, kept })?;
-    match making.pending {
+    match rule {
         Some(rule) => {
             pending.push(rule)?;
             Ok(())
