@@ -98,7 +98,7 @@ fn wake_one(
     next.add(other)
 }
 
-/// Visits the rule at a place. Where it takes a type, the rules of the clauses that have all types now wait.
+/// Visits the rule at a place. Where it takes a type, the rules of the clauses that have all types now; else none.
 fn step(
     alloc: Global,
     parameters: &[TypeParameter],
@@ -106,19 +106,16 @@ fn step(
     stops: &mut Stops,
     rule: &PlainRule,
     place: usize,
-    now: &mut Waiting,
-    next: &mut Waiting,
-) -> Result<(), NoMemory>
+) -> Result<Vec<usize>, NoMemory>
     requires sound { IsStops stops.old }
     requires within { place < length stops.old.typed.items }
-    ensures { OnOk result (VisitsOne parameters.now (type_table types.old) (type_table types.new) (rule_seen rule.now) place stops.old stops.new now.old now.new next.old next.new) }
+    ensures { IfOk result (λ ready. VisitsOne parameters.now (type_table types.old) (type_table types.new) (rule_seen rule.now) place stops.old stops.new ready.items) }
 {
     let took = visit(alloc, parameters, types, rule)?;
     if took {
-        let ready = stops.give_type(alloc, place)?;
-        return wake(&ready, place, now, next);
+        return stops.give_type(alloc, place);
     }
-    Ok(())
+    Ok(Vec::new(alloc))
 }
 
 /// A round over the rules in order, of which only those at some places may take a type; the places of which that holds in the
@@ -142,16 +139,8 @@ fn round(
     // No code reads it: the invariant and the measure of the loop speak of it.
     let mut from = 0;
     while let Some(place) = now.take_least() {
-        step(
-            alloc,
-            parameters,
-            types,
-            stops,
-            &rules[place],
-            place,
-            now,
-            &mut next,
-        )?;
+        let ready = step(alloc, parameters, types, stops, &rules[place], place)?;
+        wake(&ready, place, now, &mut next)?;
         from = place + 1;
     }
     Ok(next)
@@ -164,12 +153,13 @@ fn rounds_from(
     types: &mut Types,
     rules: &[PlainRule],
     stops: &mut Stops,
+    mut now: Waiting,
 ) -> Result<(), NoMemory>
     requires distinct { IsDistinct (names_seen (map rule_seen rules.now)) }
     requires watches { Watches parameters.now (type_table types.old) (map rule_seen rules.now) stops.old }
+    requires waits { Waits parameters.now (type_table types.old) (map rule_seen rules.now) now }
     ensures { OnOk result (EndsRounds parameters.now (type_table types.old) (type_table types.new) (map rule_seen rules.now) (length rules.now)) }
 {
-    let mut now = Waiting::below(alloc, rules.len())?;
     // No code reads `count`: the invariant speaks of it.
     for count in 0..rules.len() {
         now = round(alloc, parameters, types, rules, stops, &mut now)?;
@@ -192,6 +182,8 @@ pub(crate) fn run_rounds(
     ensures { OnOk result (EndsRounds parameters.now (type_table types.old) (type_table types.new) (map rule_seen rules.now) (length rules.now)) }
 {
     let needs = needs_of(alloc, parameters, rules)?;
-    let mut stops = Stops::of(alloc, &needs, rules.len())?;
-    rounds_from(alloc, parameters, types, rules, &mut stops)
+    let mut stops = Stops::new(alloc, rules.len())?;
+    let ready = stops.begin(alloc, &needs)?;
+    let first = Waiting::of(alloc, &ready)?;
+    rounds_from(alloc, parameters, types, rules, &mut stops, first)
 }

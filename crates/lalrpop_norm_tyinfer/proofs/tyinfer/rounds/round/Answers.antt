@@ -19,7 +19,8 @@ loop-place-preserved c =
     let lt : c.in-Some.place < length rules = omega arith in
     let there : slice_get (map rule_seen rules) c.in-Some.place ≡ Some (rule_seen rule) =
     slice_get-map rule_seen rules c.in-Some.place ∙ ap (option_map rule_seen) (slice_get_read rules (length rules) c.in-Some.place rule refl lt c.index-rules-place.is) in
-    midway_next _ _ _ _ _ _ _ _ _ _ _ _ _ _ _ c.requires.distinct c.loop-place.invariant c.in-Some.ensures there c.in_ok-step.ensures
+    let woken = rw c.deref.ensures.value at c.in_ok-wake.ensures in
+    midway_next _ _ _ _ _ _ _ _ _ _ _ _ _ _ _ _ c.requires.distinct c.loop-place.invariant c.in-Some.ensures there c.in_ok-ready.ensures woken
 
 pub returns-clause-passes : goal.returns-clause-passes
 returns-clause-passes c =

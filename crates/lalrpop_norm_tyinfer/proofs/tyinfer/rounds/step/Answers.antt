@@ -1,17 +1,16 @@
 use Rattle.lalrpop_norm_repr.specs.Tables.{type_table}
 use Rattle.lalrpop_norm_tyinfer_table.specs.Visits.{rule_seen}
 use Rattle.lalrpop_norm_tyinfer_table.proofs.RoundLemmas.{steps_still, steps_taken}
+use Rattle.lalrpop_norm_tyinfer_table.proofs.StopLemmas.{if_ok}
 use Rattle.lalrpop_norm_tyinfer.proofs.tyinfer.rounds.step.Goals as goal
 
 pub returns-then-took : goal.returns-then-took
 returns-then-took c =
     let takes = rw c.if-took.true at c.in_ok-took.ensures in
-    let woken = rw c.deref.ensures.value at c.wake.ensures in
-    steps_taken c.args.parameters.now (type_table c.args.types.now) (type_table c.visit.new.types) (rule_seen c.args.rule.now) c.args.place c.args.stops.now c.give_type.new.self
-    c.args.now.now c.wake.new.now c.args.next.now c.wake.new.next c.in_ok-ready.ready.items c.wake.result takes c.in_ok-ready.ensures woken
+    if_ok c.give_type.result c.give_type.ensures
+    (λ ready g. steps_taken c.args.parameters.now (type_table c.args.types.now) (type_table c.visit.new.types) (rule_seen c.args.rule.now) c.args.place c.args.stops.now c.give_type.new.self ready.items takes g)
 
 pub returns : goal.returns
 returns c =
     let takes = rw c.if-took.false at c.in_ok-took.ensures in
-    steps_still c.args.parameters.now (type_table c.args.types.now) (type_table c.visit.new.types) (rule_seen c.args.rule.now) c.args.place c.args.stops.now
-    c.args.now.now c.args.next.now takes
+    steps_still c.args.parameters.now (type_table c.args.types.now) (type_table c.visit.new.types) (rule_seen c.args.rule.now) c.args.place c.args.stops.now takes
