@@ -1,10 +1,10 @@
 -- A round in which only the rules that wait are visited is a round.
-use Rattle.std.proofs.Common.{◌≡◌, ◌≤◌, ◌<◌, ◌+◌, ◌-◌, ◌⊎◌, ◌==◌, ◌||◌, inl, inr, ℕ, zero, suc, Bool, true, false, List, [], ◌∷◌, ◌++◌, Option, Some, None, length, take, slice_get, refl, sym, ap, subst, ◌∙◌, if◌then◌else◌, arith}
+use Rattle.std.proofs.Common.{◌≡◌, ◌≤◌, ◌<◌, ◌+◌, ◌-◌, ◌⊎◌, ◌==◌, ◌||◌, inl, inr, ℕ, zero, suc, Bool, true, false, List, [], ◌∷◌, ◌++◌, Option, Some, None, length, map, take, get_or, slice_get, refl, sym, ap, subst, ◌∙◌, if◌then◌else◌, arith}
 use Rattle.std.specs.Prelude.{is_some, option_map}
 use Rattle.std.proofs.lemmas.Bool.{both_ways, false_from_ne_true}
 use Rattle.std.proofs.lemmas.Bool.Decides.{eqb_tells, leb_tells}
 use Rattle.std.proofs.lemmas.List.{take_more, take_all}
-use Rattle.std.proofs.lemmas.Option.{slice_get-map, slice_get_cases, slice_get_within, get_or_from_slice_get}
+use Rattle.std.proofs.lemmas.Option.{slice_get-map, slice_get_cases, slice_get_within, slice_get_read, get_or_from_slice_get}
 use Rattle.lalrpop_norm_tree_names.specs.declared.names.TypeParameter.{TypeParameter}
 use Rattle.lalrpop_norm_tree_parts.specs.Reprs.{ReprData}
 use Rattle.lalrpop_norm_theory.specs.Rounds.{In, IsDistinct}
@@ -12,13 +12,14 @@ use Rattle.lalrpop_norm_theory.proofs.RoundsLemmas.{in_left, in_right, in_cases}
 use Rattle.lalrpop_norm_repr.specs.Tables.{TypeTable}
 use Rattle.lalrpop_norm_model.specs.TypeRelation.{TypeClause}
 use Rattle.lalrpop_norm_tyinfer_table.specs.declared.needs.Need.{Need}
+use Rattle.lalrpop_norm_tyinfer_table.specs.declared.rules.PlainRule.{PlainRule}
 use Rattle.lalrpop_norm_tyinfer_table.specs.declared.stops.Stops.{Stops}
 use Rattle.lalrpop_norm_tyinfer_table.specs.declared.waiting.Waiting.{Waiting}
 use Rattle.lalrpop_norm_tyinfer_table.specs.Clauses.{clause_in, first_in}
 use Rattle.lalrpop_norm_tyinfer_table.specs.Needs.{needed_in, names_seen, AreRuleNumbers, IsNeedOf, AreNeeds}
 use Rattle.lalrpop_norm_tyinfer_table.specs.Stops.{typed_at, is_typed, AreTyped, StopsAt, GivesType, BeginsUntyped}
 use Rattle.lalrpop_norm_tyinfer_table.specs.TableValues.{type_by_name}
-use Rattle.lalrpop_norm_tyinfer_table.specs.Visits.{Seen, TakesType, Passes}
+use Rattle.lalrpop_norm_tyinfer_table.specs.Visits.{Seen, rule_seen, TakesType, Passes}
 use Rattle.lalrpop_norm_tyinfer_table.specs.Waiting.{has, TakesLeast, IsQuiet, Waits, Wakes, Watches, VisitsOne}
 use Rattle.lalrpop_norm_tyinfer_table.proofs.NeedLemmas.{at_of, of_mapped_at, one_place}
 use Rattle.lalrpop_norm_tyinfer_table.proofs.NeededLemmas.{clause_same, clause_lacks, none_of, none_from}
@@ -50,9 +51,12 @@ kept_is : (before after : TypeTable) (n : List ℕ) (v : Option ReprData) (a : B
 kept_is before after n v a t m None e some = absurd cc
 kept_is before after n v a t m (Some x) e some = t.kept m x e ∙ sym e
 
-not_some : {A : Type 0} (o : Option A) → is_some o ≡ false → o ≡ None
+pub not_some : {A : Type 0} (o : Option A) → is_some o ≡ false → o ≡ None
 not_some None e = refl
 not_some (Some x) e = absurd cc
+
+pub rule_there : (rules : List PlainRule) (place : ℕ) (rule : PlainRule) → place < length rules → rule ≡ get_or rules place rule → slice_get (map rule_seen rules) place ≡ Some (rule_seen rule)
+rule_there rules place rule lt is = slice_get-map rule_seen rules place ∙ ap (option_map rule_seen) (slice_get_read rules (length rules) place rule refl lt is)
 
 name_at : (ss : List Seen) (k : ℕ) (s : Seen) → slice_get ss k ≡ Some s → slice_get (names_seen ss) k ≡ Some s.0.name.0
 name_at ss k s here = slice_get-map (λ (q : Seen). q.0.name.0) ss k ∙ ap (option_map (λ (q : Seen). q.0.name.0)) here

@@ -41,7 +41,7 @@ impl<'n> Stops<'n> {
     }
 
     /// Whether a number has a type.
-    fn is_typed(&self, number: usize) -> bool
+    pub fn is_typed(&self, number: usize) -> bool
         requires { number < length self.now.typed.items }
         ensures { result ≡ typed_at self.now number }
     {

@@ -1,12 +1,12 @@
 //! Rounds in which rules take their types.
-ghost use Rattle.std.specs.Prelude.{◌≡◌, ◌<◌, [], ◌∷◌, ℕ, List, None, Some, IfOk, OnOk, length, map};
+ghost use Rattle.std.specs.Prelude.{◌≡◌, ◌<◌, [], ◌∷◌, ℕ, List, None, Some, IfOk, OnOk, is_some, length, map};
 ghost use Rattle.lalrpop_norm_theory.specs.Rounds.{IsDistinct};
 ghost use Rattle.lalrpop_norm_tree_names.specs.declared.names.NonterminalString.{NonterminalString};
 ghost use Rattle.lalrpop_norm_tree_parts.specs.Reprs.{repr_view};
 ghost use Rattle.lalrpop_norm_repr.specs.Tables.{type_table, type_of};
 ghost use Rattle.lalrpop_norm_tyinfer_table.specs.Clauses.{clause_view, first_in};
 ghost use Rattle.lalrpop_norm_tyinfer_table.specs.Needs.{names_seen};
-ghost use Rattle.lalrpop_norm_tyinfer_table.specs.Stops.{IsStops};
+ghost use Rattle.lalrpop_norm_tyinfer_table.specs.Stops.{IsStops, typed_at};
 ghost use Rattle.lalrpop_norm_tyinfer_table.specs.TableValues.{type_by_name};
 ghost use Rattle.lalrpop_norm_tyinfer_table.specs.Visits.{rule_seen, EndsRounds, Passes, TakesType};
 ghost use Rattle.lalrpop_norm_tyinfer_table.specs.Waiting.{VisitsOne, Waits, Wakes, Watches};
@@ -39,7 +39,7 @@ fn take_first(
     types: &mut Types,
     rule: &PlainRule,
 ) -> Result<bool, NoMemory>
-    requires { type_of rule.now.data.now.name (type_table types.old) ≡ None }
+    requires { type_by_name (type_table types.old) rule.now.data.now.name.0 ≡ None }
     ensures { IfOk result (λ added. TakesType (type_table types.old) (type_table types.new) rule.now.data.now.name.0
         (first_in parameters.now (type_table types.old) (map clause_view rule.now.clauses.items)) added) }
 {
@@ -50,23 +50,6 @@ fn take_first(
         }
         None => Ok(false),
     }
-}
-
-/// The visit of a rule; whether it takes a type.
-fn visit(
-    alloc: Global,
-    parameters: &[TypeParameter],
-    types: &mut Types,
-    rule: &PlainRule,
-) -> Result<bool, NoMemory>
-    ensures { IfOk result (λ added. TakesType (type_table types.old) (type_table types.new) rule.now.data.now.name.0
-        (first_in parameters.now (type_table types.old) (map clause_view rule.now.clauses.items)) added) }
-{
-    let is_typed = types.lookup_nonterminal_type(&rule.data.name).is_some();
-    if is_typed {
-        return Ok(false);
-    }
-    take_first(alloc, parameters, types, rule)
 }
 
 /// Lets some places wait for a visit: those behind the place in this round, the others in the next one.
@@ -109,9 +92,13 @@ fn step(
 ) -> Result<Vec<usize>, NoMemory>
     requires sound { IsStops stops.old }
     requires within { place < length stops.old.typed.items }
+    requires told { typed_at stops.old place ≡ is_some (type_by_name (type_table types.old) rule.now.data.now.name.0) }
     ensures { IfOk result (λ ready. VisitsOne parameters.now (type_table types.old) (type_table types.new) (rule_seen rule.now) place stops.old stops.new ready.items) }
 {
-    let took = visit(alloc, parameters, types, rule)?;
+    if stops.is_typed(place) {
+        return Ok(Vec::new(alloc));
+    }
+    let took = take_first(alloc, parameters, types, rule)?;
     if took {
         return stops.give_type(alloc, place);
     }
