@@ -14,4 +14,5 @@ mod StopLemmas
 pub mod TokenLemmas
 pub mod ValueLemmas
 pub mod VisitLemmas
+mod WaitingLemmas
 mod WrittenSymbols

@@ -29,14 +29,12 @@ taken_kept tt n v x e = record {
   rest = refl;
 }
 
-pub taken_typed : {X : Type 0} (f : X → ReprData) (o : Option X) (tt : TypeTable) (n : List ℕ) (v : Option ReprData) → option_map f o ≡ type_by_name tt n →
-    is_some o ≡ true → TakesType tt tt n v false
-taken_typed f None tt n v e some = absurd cc
-taken_typed f (Some x) tt n v e some = taken_kept tt n v (f x) e
+typed_case : (tt : TypeTable) (n : List ℕ) (v o : Option ReprData) → type_by_name tt n ≡ o → is_some o ≡ true → TakesType tt tt n v false
+typed_case tt n v None e some = absurd cc
+typed_case tt n v (Some x) e some = taken_kept tt n v x (sym e)
 
-pub untyped_none : {X : Type 0} (f : X → ReprData) (o : Option X) (w : Option ReprData) → option_map f o ≡ w → is_some o ≡ false → w ≡ None
-untyped_none f None w e none = sym e
-untyped_none f (Some x) w e none = absurd cc
+pub taken_typed : (tt : TypeTable) (n : List ℕ) (v : Option ReprData) → is_some (type_by_name tt n) ≡ true → TakesType tt tt n v false
+taken_typed tt n v some = typed_case tt n v (type_by_name tt n) refl some
 
 -- one for which nothing is made has none yet
 pub taken_none : (tt : TypeTable) (n : List ℕ) (v : Option ReprData) → type_by_name tt n ≡ None → None ≡ v → TakesType tt tt n v false

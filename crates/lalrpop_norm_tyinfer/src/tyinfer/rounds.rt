@@ -1,12 +1,12 @@
 //! Rounds in which rules take their types.
-ghost use Rattle.std.specs.Prelude.{◌≡◌, ◌<◌, [], ◌∷◌, ℕ, List, None, Some, IfOk, OnOk, length, map};
+ghost use Rattle.std.specs.Prelude.{◌≡◌, ◌<◌, [], ◌∷◌, ℕ, List, None, Some, IfOk, OnOk, is_some, length, map};
 ghost use Rattle.lalrpop_norm_theory.specs.Rounds.{IsDistinct};
 ghost use Rattle.lalrpop_norm_tree_names.specs.declared.names.NonterminalString.{NonterminalString};
 ghost use Rattle.lalrpop_norm_tree_parts.specs.Reprs.{repr_view};
 ghost use Rattle.lalrpop_norm_repr.specs.Tables.{type_table, type_of};
 ghost use Rattle.lalrpop_norm_tyinfer_table.specs.Clauses.{clause_view, first_in};
 ghost use Rattle.lalrpop_norm_tyinfer_table.specs.Needs.{names_seen};
-ghost use Rattle.lalrpop_norm_tyinfer_table.specs.Stops.{IsStops};
+ghost use Rattle.lalrpop_norm_tyinfer_table.specs.Stops.{IsStops, typed_at};
 ghost use Rattle.lalrpop_norm_tyinfer_table.specs.TableValues.{type_by_name};
 ghost use Rattle.lalrpop_norm_tyinfer_table.specs.Visits.{rule_seen, EndsRounds, Passes, TakesType};
 ghost use Rattle.lalrpop_norm_tyinfer_table.specs.Waiting.{VisitsOne, Waits, Wakes, Watches};
@@ -39,7 +39,7 @@ fn take_first(
     types: &mut Types,
     rule: &PlainRule,
 ) -> Result<bool, NoMemory>
-    requires { type_of rule.now.data.now.name (type_table types.old) ≡ None }
+    requires { type_by_name (type_table types.old) rule.now.data.now.name.0 ≡ None }
     ensures { IfOk result (λ added. TakesType (type_table types.old) (type_table types.new) rule.now.data.now.name.0
         (first_in parameters.now (type_table types.old) (map clause_view rule.now.clauses.items)) added) }
 {
@@ -50,23 +50,6 @@ fn take_first(
         }
         None => Ok(false),
     }
-}
-
-/// The visit of a rule; whether it takes a type.
-fn visit(
-    alloc: Global,
-    parameters: &[TypeParameter],
-    types: &mut Types,
-    rule: &PlainRule,
-) -> Result<bool, NoMemory>
-    ensures { IfOk result (λ added. TakesType (type_table types.old) (type_table types.new) rule.now.data.now.name.0
-        (first_in parameters.now (type_table types.old) (map clause_view rule.now.clauses.items)) added) }
-{
-    let is_typed = types.lookup_nonterminal_type(&rule.data.name).is_some();
-    if is_typed {
-        return Ok(false);
-    }
-    take_first(alloc, parameters, types, rule)
 }
 
 /// Lets some places wait for a visit: those behind the place in this round, the others in the next one.
@@ -98,7 +81,7 @@ fn wake_one(
     next.add(other)
 }
 
-/// Visits the rule at a place. Where it takes a type, the rules of the clauses that have all types now wait.
+/// Visits the rule at a place. Where it takes a type, the rules of the clauses that have all types now; else none.
 fn step(
     alloc: Global,
     parameters: &[TypeParameter],
@@ -106,19 +89,20 @@ fn step(
     stops: &mut Stops,
     rule: &PlainRule,
     place: usize,
-    now: &mut Waiting,
-    next: &mut Waiting,
-) -> Result<(), NoMemory>
+) -> Result<Vec<usize>, NoMemory>
     requires sound { IsStops stops.old }
     requires within { place < length stops.old.typed.items }
-    ensures { OnOk result (VisitsOne parameters.now (type_table types.old) (type_table types.new) (rule_seen rule.now) place stops.old stops.new now.old now.new next.old next.new) }
+    requires told { typed_at stops.old place ≡ is_some (type_by_name (type_table types.old) rule.now.data.now.name.0) }
+    ensures { IfOk result (λ ready. VisitsOne parameters.now (type_table types.old) (type_table types.new) (rule_seen rule.now) place stops.old stops.new ready.items) }
 {
-    let took = visit(alloc, parameters, types, rule)?;
-    if took {
-        let ready = stops.give_type(alloc, place)?;
-        return wake(&ready, place, now, next);
+    if stops.is_typed(place) {
+        return Ok(Vec::new(alloc));
     }
-    Ok(())
+    let took = take_first(alloc, parameters, types, rule)?;
+    if took {
+        return stops.give_type(alloc, place);
+    }
+    Ok(Vec::new(alloc))
 }
 
 /// A round over the rules in order, of which only those at some places may take a type; the places of which that holds in the
@@ -142,16 +126,8 @@ fn round(
     // No code reads it: the invariant and the measure of the loop speak of it.
     let mut from = 0;
     while let Some(place) = now.take_least() {
-        step(
-            alloc,
-            parameters,
-            types,
-            stops,
-            &rules[place],
-            place,
-            now,
-            &mut next,
-        )?;
+        let ready = step(alloc, parameters, types, stops, &rules[place], place)?;
+        wake(&ready, place, now, &mut next)?;
         from = place + 1;
     }
     Ok(next)
@@ -164,12 +140,13 @@ fn rounds_from(
     types: &mut Types,
     rules: &[PlainRule],
     stops: &mut Stops,
+    mut now: Waiting,
 ) -> Result<(), NoMemory>
     requires distinct { IsDistinct (names_seen (map rule_seen rules.now)) }
     requires watches { Watches parameters.now (type_table types.old) (map rule_seen rules.now) stops.old }
+    requires waits { Waits parameters.now (type_table types.old) (map rule_seen rules.now) now }
     ensures { OnOk result (EndsRounds parameters.now (type_table types.old) (type_table types.new) (map rule_seen rules.now) (length rules.now)) }
 {
-    let mut now = Waiting::below(alloc, rules.len())?;
     // No code reads `count`: the invariant speaks of it.
     for count in 0..rules.len() {
         now = round(alloc, parameters, types, rules, stops, &mut now)?;
@@ -192,6 +169,8 @@ pub(crate) fn run_rounds(
     ensures { OnOk result (EndsRounds parameters.now (type_table types.old) (type_table types.new) (map rule_seen rules.now) (length rules.now)) }
 {
     let needs = needs_of(alloc, parameters, rules)?;
-    let mut stops = Stops::of(alloc, &needs, rules.len())?;
-    rounds_from(alloc, parameters, types, rules, &mut stops)
+    let mut stops = Stops::new(alloc, rules.len())?;
+    let ready = stops.begin(alloc, &needs)?;
+    let first = Waiting::of(alloc, &ready)?;
+    rounds_from(alloc, parameters, types, rules, &mut stops, first)
 }
