@@ -7,6 +7,7 @@ mod MisfitLemmas
 pub mod NeedLemmas
 mod NeededLemmas
 mod NumberLemmas
+mod NumberedLemmas
 mod ReadLemmas
 pub mod RoundLemmas
 mod SameLemmas
