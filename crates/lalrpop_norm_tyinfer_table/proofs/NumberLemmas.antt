@@ -1,6 +1,5 @@
 -- The numbers that a table gives to names are numbers of rules.
 use Rattle.std.proofs.Common.{◌≡◌, ◌+◌, inl, inr, ℕ, suc, Bool, true, false, cond, List, [], ◌∷◌, Option, Some, None, slice_get, bytes_eq, refl, sym, ap, subst, ◌∙◌, arith}
-use Rattle.std.specs.Prelude.{Result, Ok, Err, IfOk}
 use Rattle.std.specs.List.{position_from}
 use Rattle.std.proofs.lemmas.Iterator.Adapters.{position_from-zero}
 use Rattle.std.proofs.lemmas.Slice.Eq.{bytes_eq-Decides}
@@ -44,7 +43,3 @@ numbering_is names d is = record {
       subst (λ j. slice_get names j ≡ Some n) here r.2;
   all = λ n e h. lacks n names 0 (sym (first_from names d is n) ∙ e) h;
 }
-
-pub numbering_tells : {E : Type 0} (names : List (List ℕ)) (r : Result Names E) → IfOk r (IsNumbering names) → IfOk r (λ d. AreRuleNumbers (number_in_table d) names)
-numbering_tells names (Ok d) is = numbering_is names d is
-numbering_tells names (Err e) is = is

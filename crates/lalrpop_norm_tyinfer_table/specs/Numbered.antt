@@ -1,5 +1,5 @@
 -- The types of rules by number, as a type table.
-use Rattle.std.specs.Prelude.{◌≡◌, ◌++◌, ◌∷◌, ℕ, List, [], map, Option, Some, None, option_map, slice_get}
+use Rattle.std.specs.Prelude.{◌≡◌, ◌<◌, ◌++◌, ◌∷◌, ℕ, List, [], length, map, Option, Some, None, option_map, slice_get}
 use Rattle.std.specs.HashMap.{keys}
 use Rattle.lalrpop_norm_names.specs.Numbers.{number_in_table}
 use Rattle.lalrpop_norm_tree_names.specs.declared.names.NonterminalString.{NonterminalString}
@@ -7,7 +7,9 @@ use Rattle.lalrpop_norm_tree_parts.specs.declared.lowered.TypeRepr.{TypeRepr}
 use Rattle.lalrpop_norm_tree_parts.specs.Reprs.{ReprData, repr_view}
 use Rattle.lalrpop_norm_repr.specs.Tables.{TypeTable, type_table}
 use Rattle.lalrpop_norm_tyinfer_table.specs.declared.numbered.Numbered.{Numbered}
+use Rattle.lalrpop_norm_tyinfer_table.specs.Needs.{names_seen, AreRuleNumbers}
 use Rattle.lalrpop_norm_tyinfer_table.specs.TableValues.{named_by, type_by_name}
+use Rattle.lalrpop_norm_tyinfer_table.specs.Visits.{Seen}
 
 -- the names, each at its number
 abbrev pub names_numbered : Numbered → List (List ℕ)
@@ -47,6 +49,24 @@ pub record PutsType (t after : Numbered) (number : ℕ) (x : ReprData) : Type 0 
   pub tokens : after.tokens ≡ t.tokens
   pub here : type_at after.rules.items (Some number) ≡ Some x
   pub others : (q : ℕ) → (number ≡ q → ⊥) → type_at after.rules.items (Some q) ≡ type_at t.rules.items (Some q)
+
+-- numbers, names and tokens stay
+pub record HasSameNumbers (t after : Numbered) : Type 0 where
+  pub names : after.names ≡ t.names
+  pub listed : names_numbered after ≡ names_numbered t
+  pub tokens : after.tokens ≡ t.tokens
+
+-- the number of that name, and of no other
+pub record IsNumberOf (t : Numbered) (n : List ℕ) (number : ℕ) : Type 0 where
+  pub is : number_in_table t.names n ≡ Some number
+  pub alone : (m : List ℕ) → number_in_table t.names m ≡ Some number → m ≡ n
+  pub within : number < length t.rules.items
+
+-- these rules have their places as numbers, and their names alone may have types
+pub record IsNumbered (t : Numbered) (ss : List Seen) : Type 0 where
+  pub numbers : AreRuleNumbers (number_in_table t.names) (names_seen ss)
+  pub listed : names_numbered t ≡ names_seen ss
+  pub tokens : (type_table t.tokens).nonterminals ≡ []
 
 -- the name takes the type, if there is one
 pub record PutsRow (before after : TypeTable) (n : List ℕ) (v : Option ReprData) : Type 0 where

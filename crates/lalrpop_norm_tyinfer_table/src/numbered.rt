@@ -1,16 +1,19 @@
 //! The types of rules by number.
 ghost use Rattle.std.specs.Prelude.{◌≡◌, ◌<◌, [], ℕ, List, Option, None, Some, IfOk, OnOk, length, map, option_map};
+ghost use Rattle.std.specs.List.Sorted.{IsStrictlySortedBy};
+ghost use Rattle.std.specs.Map.{keys_of};
 ghost use Rattle.lalrpop_norm_names.specs.Numbers.{number_in_table};
 ghost use Rattle.lalrpop_norm_theory.specs.Rounds.{IsDistinct};
 ghost use Rattle.lalrpop_norm_tree_parts.specs.Reprs.{repr_view};
-ghost use Rattle.lalrpop_norm_repr.specs.Tables.{type_table, type_of};
+ghost use Rattle.lalrpop_norm_repr.specs.Orders.{name_cmp, terminal_cmp};
+ghost use Rattle.lalrpop_norm_repr.specs.Tables.{type_table, type_of, type_of_terminal};
 ghost use Rattle.lalrpop_norm_tyinfer_table.specs.Needs.{AreRuleNumbers};
 ghost use Rattle.lalrpop_norm_tyinfer_table.specs.Numbered.{names_numbered, type_at, type_by_number, numbered_table, PutsType, PutsRow};
 ghost use Rattle.lalrpop_norm_tyinfer_table.specs.TableValues.{type_by_name};
 
 use lalrpop_norm_names::Names;
 use lalrpop_norm_repr::grammar::repr::{TypeRepr, Types};
-use lalrpop_norm_tree::grammar::parse_tree::{NoMemory, NonterminalString};
+use lalrpop_norm_tree::grammar::parse_tree::{NoMemory, NonterminalString, TerminalString};
 use std::alloc::Global;
 
 /// Rules by number, each with its name and its type, if it has one yet; beside them the types that need no inference.
@@ -81,6 +84,13 @@ impl Numbered {
         }
     }
 
+    /// The type of a terminal: the type of a token where it has none of its own.
+    pub fn terminal_type(&self, terminal: &TerminalString) -> &TypeRepr
+        ensures { repr_view result.now ≡ type_of_terminal terminal.now (numbered_table self.now) }
+    {
+        self.tokens.terminal_type(terminal)
+    }
+
     /// The type of the error terminal.
     pub fn error_recovery_type(&self) -> &TypeRepr
         ensures { repr_view result.now ≡ (numbered_table self.now).recovery }
@@ -102,6 +112,8 @@ impl Numbered {
         requires tokens { (type_table self.tokens).nonterminals ≡ [] }
         ensures same { IfOk result (λ t. (n : List ℕ) → type_by_name (type_table t) n ≡ type_by_name (numbered_table self) n) }
         ensures rest { IfOk result (λ t. type_table t ≡ record (numbered_table self) { nonterminals = (type_table t).nonterminals }) }
+        ensures names_in_order { IfOk result (λ t. IsStrictlySortedBy name_cmp (keys_of (type_table t).nonterminals)) }
+        ensures terminals_in_order { IfOk result (λ t. IsStrictlySortedBy terminal_cmp (keys_of (type_table t).terminals)) }
     {
         let Numbered {
             names: _names,
@@ -111,6 +123,8 @@ impl Numbered {
         for rule in rules {
             put_row(&mut tokens, rule.0, rule.1)?;
         }
+        // A law, which does nothing: it gives the order of the rows.
+        tokens.rows_ascend();
         Ok(tokens)
     }
 }
