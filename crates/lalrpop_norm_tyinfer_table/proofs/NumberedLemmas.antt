@@ -13,14 +13,12 @@ use Rattle.lalrpop_norm_tree_parts.specs.declared.lowered.TypeRepr.{TypeRepr}
 use Rattle.lalrpop_norm_tree_parts.specs.Reprs.{ReprData, repr_view}
 use Rattle.lalrpop_norm_repr.specs.Tables.{TypeTable, found, type_table}
 use Rattle.lalrpop_norm_model.proofs.LevelLemmas.{at_in}
+use Rattle.lalrpop_norm_model.proofs.ListLemmas.{texts_differ}
 use Rattle.lalrpop_norm_tyinfer_table.proofs.NeedLemmas.{of_mapped_at}
 use Rattle.lalrpop_norm_tyinfer_table.specs.declared.numbered.Numbered.{Numbered}
 use Rattle.lalrpop_norm_tyinfer_table.specs.Needs.{AreRuleNumbers}
 use Rattle.lalrpop_norm_tyinfer_table.specs.Numbered.{names_numbered, type_of_rule, type_at, type_by_number, row_if, typed_rows, numbered_table, PutsType, PutsRow}
 use Rattle.lalrpop_norm_tyinfer_table.specs.TableValues.{named_by, type_by_name}
-
-not_same : (n m : List ℕ) → bytes_eq n m ≡ false → n ≡ m → ⊥
-not_same n m e same = let is : bytes_eq n m ≡ true = (bytes_eq-Decides n m).1 same in absurd cc
 
 -- ---- a row for each name
 
@@ -40,7 +38,7 @@ module _ (f : List ℕ → Option ReprData) (n : List ℕ) where
   has_row x m ns some rest (inl same) None e b is = let clash : Some x ≡ None = sym some ∙ (ap f same ∙ e) in absurd cc
   has_row x m ns some rest (inr h) None e b is = rest h
   has_row x m ns some rest h (Some y) e true is = rw is (sym e ∙ (ap f (sym ((bytes_eq-Decides n m).0 is)) ∙ some))
-  has_row x m ns some rest (inl same) (Some y) e false is = absurd (not_same n m is same)
+  has_row x m ns some rest (inl same) (Some y) e false is = absurd (texts_differ n m is same)
   has_row x m ns some rest (inr h) (Some y) e false is = rw is (rest h)
 
   found_some : (ns : List (List ℕ)) (x : ReprData) → f n ≡ Some x → In n ns → found (named_by n) (typed_rows f ns) ≡ Some x
@@ -181,8 +179,8 @@ puts_case before tt after r rest rules p row n true e =
     ap (λ o. or_else o (first_typed n rest)) (ap (type_by_name after) same ∙ row.here)
     ∙ (sym (or_twice n r.0.0 (option_map repr_view r.1) (first_typed n rest) same) ∙ (sym (ap (λ o. or_else o (first_typed n (r ∷ rest))) none) ∙ p.types n))
 puts_case before tt after r rest rules p row n false e =
-    ap (λ o. or_else o (first_typed n rest)) (row.others n (not_same n r.0.0 e))
-    ∙ (sym (ap (or_else (type_by_name tt n)) (typed_behind n r rest (not_same n r.0.0 e) false e)) ∙ p.types n)
+    ap (λ o. or_else o (first_typed n rest)) (row.others n (texts_differ n r.0.0 e))
+    ∙ (sym (ap (or_else (type_by_name tt n)) (typed_behind n r rest (texts_differ n r.0.0 e) false e)) ∙ p.types n)
 
 pub puts_more : (before tt after : TypeTable) (r : NonterminalString × Option TypeRepr) (rest rules : List (NonterminalString × Option TypeRepr)) → PutsRules before tt (r ∷ rest) rules →
     PutsRow tt after r.0.0 (option_map repr_view r.1) → PutsRules before after rest rules
