@@ -1,5 +1,5 @@
 -- Clauses that stop, and the lists that they stand in.
-use Rattle.std.proofs.Common.{◌≡◌, ◌<◌, ◌==◌, ◌||◌, ◌++◌, inl, inr, ◌⊎◌, ℕ, zero, suc, Bool, true, false, List, [], ◌∷◌, Option, Some, None, Vec, Global, length, set, get_or, slice_get, Result, Ok, Err, OnOk, IfOk, refl, sym, ap, ◌∙◌, subst, arith}
+use Rattle.std.proofs.Common.{◌≡◌, ◌<◌, ◌==◌, ◌||◌, ◌++◌, inl, inr, ◌⊎◌, ℕ, Bool, true, false, List, [], ◌∷◌, Option, Some, None, Vec, Global, length, set, get_or, slice_get, Result, Ok, Err, OnOk, IfOk, refl, sym, ap, ◌∙◌, subst, arith}
 use Rattle.std.proofs.lemmas.Bool.Decides.{eqb_tells, leb_tells}
 use Rattle.std.proofs.lemmas.List.{get_or-set_same, get_or-set_other, length-set}
 use Rattle.std.proofs.lemmas.Option.{slice_get_read}
@@ -168,7 +168,6 @@ given_at xs number q lt = elim (eqb_tells number q) [
   | inl s ↦ rw s.0 (subst (λ k. get_or (set xs number true) k false ≡ true) s.1 (get_or-set_same xs number true false lt))
   | inr s ↦ rw s.0 (get_or-set_other xs number q true false (λ e. s.1 (sym e)))
 ]
-
 
 module _ (w given out after : Stops) (number : ℕ) (taken : List Stop) (ready : List ℕ) (st : IsStops w) (lt : number < length w.typed.items)
     (typed : given.typed.items ≡ set w.typed.items number true) (same : given.stopped ≡ w.stopped) (t : TakesOut given out number taken) (m : MovesOn out after taken ready) where

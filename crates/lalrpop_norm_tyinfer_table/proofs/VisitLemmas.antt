@@ -1,7 +1,6 @@
 -- Visits, rounds of them, and the rounds of the model.
-use Rattle.std.proofs.Common.{◌≡◌, ◌≤◌, ◌+◌, ◌-◌, ℕ, zero, suc, Bool, true, false, List, [], ◌∷◌, ◌++◌, Option, Some, None, map, length, slice_get, take, get_or, ◌<◌, refl, sym, ap, subst, ◌∙◌, bytes_eq, if◌then◌else◌, arith}
+use Rattle.std.proofs.Common.{◌≡◌, ◌≤◌, ◌+◌, ◌-◌, ℕ, zero, suc, Bool, true, false, List, [], ◌∷◌, ◌++◌, Option, Some, None, map, slice_get, refl, sym, ap, subst, ◌∙◌, bytes_eq, if◌then◌else◌, arith}
 use Rattle.std.specs.Prelude.{option_map, is_some}
-use Rattle.std.proofs.lemmas.List.{map-append, take_more}
 use Rattle.std.proofs.lemmas.Slice.Eq.{bytes_eq-Decides}
 use Rattle.lalrpop_norm_tree_names.specs.declared.names.NonterminalString.{NonterminalString}
 use Rattle.lalrpop_norm_tree_names.specs.declared.names.TypeParameter.{TypeParameter}
@@ -10,10 +9,9 @@ use Rattle.lalrpop_norm_tree_parts.specs.Reprs.{ReprData}
 use Rattle.lalrpop_norm_repr.specs.Tables.{TypeTable, type_of}
 use Rattle.lalrpop_norm_model.specs.PlainRules.{all_rules}
 use Rattle.lalrpop_norm_model.specs.TypeRounds.{TypeRow, table_of, first_value, taken, visit, visits, type_rounds}
-use Rattle.lalrpop_norm_tyinfer_table.specs.declared.rules.PlainRule.{PlainRule}
 use Rattle.lalrpop_norm_tyinfer_table.specs.Clauses.{first_in}
 use Rattle.lalrpop_norm_tyinfer_table.specs.TableValues.{named_by, type_by_name}
-use Rattle.lalrpop_norm_tyinfer_table.specs.Visits.{Seen, rule_seen, with_clauses, visit_seen, visits_seen, rounds_seen, HasRows, IsReadBy, TakesType, Passes, EndsRounds}
+use Rattle.lalrpop_norm_tyinfer_table.specs.Visits.{Seen, with_clauses, visit_seen, visits_seen, rounds_seen, HasRows, IsReadBy, TakesType, Passes, EndsRounds}
 use Rattle.lalrpop_norm_tyinfer_table.specs.Waiting.{IsQuiet}
 use Rattle.lalrpop_norm_tyinfer_table.proofs.ReadLemmas.{first_at, kept_read, rest_after}
 
