@@ -7,6 +7,8 @@ mod MisfitLemmas
 pub mod NeedLemmas
 mod NeededLemmas
 mod NumberLemmas
+pub mod NumberedLemmas
+pub mod NumberedRounds
 mod ReadLemmas
 pub mod RoundLemmas
 mod SameLemmas

@@ -58,10 +58,10 @@ not_some (Some x) e = absurd cc
 pub rule_there : (rules : List PlainRule) (place : ℕ) (rule : PlainRule) → place < length rules → rule ≡ get_or rules place rule → slice_get (map rule_seen rules) place ≡ Some (rule_seen rule)
 rule_there rules place rule lt is = slice_get-map rule_seen rules place ∙ ap (option_map rule_seen) (slice_get_read rules (length rules) place rule refl lt is)
 
-name_at : (ss : List Seen) (k : ℕ) (s : Seen) → slice_get ss k ≡ Some s → slice_get (names_seen ss) k ≡ Some s.0.name.0
+pub name_at : (ss : List Seen) (k : ℕ) (s : Seen) → slice_get ss k ≡ Some s → slice_get (names_seen ss) k ≡ Some s.0.name.0
 name_at ss k s here = slice_get-map (λ (q : Seen). q.0.name.0) ss k ∙ ap (option_map (λ (q : Seen). q.0.name.0)) here
 
-name_in : (ss : List Seen) (k : ℕ) (s : Seen) → slice_get ss k ≡ Some s → In s.0.name.0 (names_seen ss)
+pub name_in : (ss : List Seen) (k : ℕ) (s : Seen) → slice_get ss k ≡ Some s → In s.0.name.0 (names_seen ss)
 name_in ss k s here = at_in (names_seen ss) k s.0.name.0 (name_at ss k s here)
 
 module _ (ps : List TypeParameter) (tt : TypeTable) (ss : List Seen) (stops : Stops) (w : Watches ps tt ss stops) where

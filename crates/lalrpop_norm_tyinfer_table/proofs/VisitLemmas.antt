@@ -162,13 +162,3 @@ visits_are g rows (r ∷ rs) = visits_are g (visit g rows r) rs
 pub rounds_are : (g : GrammarData) (k : ℕ) → rounds_seen g (map with_clauses (all_rules g)) k ≡ type_rounds g k
 rounds_are g zero = refl
 rounds_are g (suc k) = ap (λ rows. visits_seen g rows (map with_clauses (all_rules g))) (rounds_are g k) ∙ visits_are g (type_rounds g k) (all_rules g)
-
--- ---- loops over rules
-
--- ---- names with the same text
-
-pub same_name : (a b : NonterminalString) → a.0 ≡ b.0 → a ≡ b
-same_name a b e = ap named_by e
-
-pub type_of_same : (a b : NonterminalString) (tt : TypeTable) (o : Option ReprData) → a.0 ≡ b.0 → type_of a tt ≡ o → type_of b tt ≡ o
-type_of_same a b tt o e h = ap (λ (n : NonterminalString). type_of n tt) (sym (same_name a b e)) ∙ h
