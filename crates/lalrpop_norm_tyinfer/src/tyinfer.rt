@@ -9,7 +9,7 @@ ghost use Rattle.lalrpop_norm_model.specs.InferenceFaults.{inference_faults};
 ghost use Rattle.lalrpop_norm_model.specs.PlainRules.{all_rules};
 ghost use Rattle.lalrpop_norm_tyinfer_table.specs.Filled.{HasAllRows, table_faults};
 ghost use Rattle.lalrpop_norm_tyinfer_table.specs.Inferred.{IsInferred};
-ghost use Rattle.lalrpop_norm_tyinfer_table.specs.Numbered.{numbered_table, IsNumbered};
+ghost use Rattle.lalrpop_norm_tyinfer_table.specs.Numbered.{numbered_table, NumbersRules};
 ghost use Rattle.lalrpop_norm_tyinfer_table.specs.Visits.{rule_seen, with_clauses};
 
 mod agreement;
@@ -70,7 +70,7 @@ fn filled_table(
     requires seen { map rule_seen rules.now ≡ map with_clauses (all_rules (grammar_view grammar.now)) }
     requires distinct { IsDistinct (rule_names (grammar_view grammar.now)) }
     ensures filled { IfOk result (λ t. HasAllRows (grammar_view grammar.now) (numbered_table t)) }
-    ensures numbered { IfOk result (λ t. IsNumbered t (map rule_seen rules.now)) }
+    ensures numbered { IfOk result (λ t. NumbersRules t (map rule_seen rules.now)) }
 {
     let tokens = token_types(alloc, grammar)?;
     let names = names_of_rules(alloc, rules)?;

@@ -13,7 +13,7 @@ use Rattle.lalrpop_norm_repr.specs.declared.types.Types.{Types}
 use Rattle.lalrpop_norm_repr.specs.Tables.{type_table, type_of}
 use Rattle.lalrpop_norm_tyinfer_table.specs.declared.numbered.Numbered.{Numbered}
 use Rattle.lalrpop_norm_tyinfer_table.specs.Needs.{names_seen, AreRuleNumbers}
-use Rattle.lalrpop_norm_tyinfer_table.specs.Numbered.{names_numbered, type_at, type_by_number, typed_rows, numbered_table, PutsType, HasSameNumbers, IsNumberOf, IsNumbered}
+use Rattle.lalrpop_norm_tyinfer_table.specs.Numbered.{names_numbered, type_at, type_by_number, typed_rows, numbered_table, PutsType, HasSameNumbers, IsNumberOf, NumbersRules}
 use Rattle.lalrpop_norm_tyinfer_table.specs.TableValues.{named_by, type_by_name}
 use Rattle.lalrpop_norm_tyinfer_table.specs.Visits.{Seen, TakesType}
 use Rattle.lalrpop_norm_tyinfer_table.proofs.NeedLemmas.{one_place}
@@ -50,14 +50,14 @@ nothing_put t = record { names = refl; listed = refl; tokens = refl }
 
 -- ---- numbers of rules
 
-pub still_numbered : (t after : Numbered) (ss : List Seen) → HasSameNumbers t after → IsNumbered t ss → IsNumbered after ss
+pub still_numbered : (t after : Numbered) (ss : List Seen) → HasSameNumbers t after → NumbersRules t ss → NumbersRules after ss
 still_numbered t after ss same is = record {
   numbers = subst (λ (d : Names). AreRuleNumbers (number_in_table d) (names_seen ss)) (sym same.names) is.numbers;
   listed = same.listed ∙ is.listed;
   tokens = ap (λ (u : Types). (type_table u).nonterminals) same.tokens ∙ is.tokens;
 }
 
-module _ (t : Numbered) (ss : List Seen) (k : ℕ) (s : Seen) (is : IsNumbered t ss) (distinct : IsDistinct (names_seen ss)) (here : slice_get ss k ≡ Some s) where
+module _ (t : Numbered) (ss : List Seen) (k : ℕ) (s : Seen) (is : NumbersRules t ss) (distinct : IsDistinct (names_seen ss)) (here : slice_get ss k ≡ Some s) where
   number_case : (o : Option ℕ) → number_in_table t.names s.0.name.0 ≡ o → number_in_table t.names s.0.name.0 ≡ Some k
   number_case None e = absurd (is.numbers.all s.0.name.0 e (name_in ss k s here))
   number_case (Some j) e = e ∙ ap Some (one_place (names_seen ss) s.0.name.0 j k distinct (is.numbers.right s.0.name.0 j e) (name_at ss k s here))

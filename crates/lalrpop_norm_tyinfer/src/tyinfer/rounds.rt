@@ -3,7 +3,7 @@ ghost use Rattle.std.specs.Prelude.{◌≡◌, ◌<◌, [], ◌∷◌, ℕ, List
 ghost use Rattle.lalrpop_norm_theory.specs.Rounds.{IsDistinct};
 ghost use Rattle.lalrpop_norm_tyinfer_table.specs.Clauses.{clause_view, first_in};
 ghost use Rattle.lalrpop_norm_tyinfer_table.specs.Needs.{names_seen};
-ghost use Rattle.lalrpop_norm_tyinfer_table.specs.Numbered.{numbered_table, HasSameNumbers, IsNumberOf, IsNumbered};
+ghost use Rattle.lalrpop_norm_tyinfer_table.specs.Numbered.{numbered_table, HasSameNumbers, IsNumberOf, NumbersRules};
 ghost use Rattle.lalrpop_norm_tyinfer_table.specs.Stops.{IsStops, typed_at};
 ghost use Rattle.lalrpop_norm_tyinfer_table.specs.TableValues.{type_by_name};
 ghost use Rattle.lalrpop_norm_tyinfer_table.specs.Visits.{rule_seen, EndsRounds, Passes, TakesType};
@@ -107,10 +107,10 @@ fn round(
     now: &mut Waiting,
 ) -> Result<Waiting, NoMemory>
     requires distinct { IsDistinct (names_seen (map rule_seen rules.now)) }
-    requires numbered { IsNumbered types.old (map rule_seen rules.now) }
+    requires numbered { NumbersRules types.old (map rule_seen rules.now) }
     requires watches { Watches parameters.now (numbered_table types.old) (map rule_seen rules.now) stops.old }
     requires waits { Waits parameters.now (numbered_table types.old) (map rule_seen rules.now) now.old }
-    ensures numbered { IfOk result (λ next. IsNumbered types.new (map rule_seen rules.now)) }
+    ensures numbered { IfOk result (λ next. NumbersRules types.new (map rule_seen rules.now)) }
     ensures passes { IfOk result (λ next. Passes parameters.now (numbered_table types.old) (numbered_table types.new) (map rule_seen rules.now)) }
     ensures waits { IfOk result (λ next. Waits parameters.now (numbered_table types.new) (map rule_seen rules.now) next) }
     ensures watches { IfOk result (λ next. Watches parameters.now (numbered_table types.new) (map rule_seen rules.now) stops.new) }
@@ -136,10 +136,10 @@ fn rounds_from(
     mut now: Waiting,
 ) -> Result<(), NoMemory>
     requires distinct { IsDistinct (names_seen (map rule_seen rules.now)) }
-    requires numbered { IsNumbered types.old (map rule_seen rules.now) }
+    requires numbered { NumbersRules types.old (map rule_seen rules.now) }
     requires watches { Watches parameters.now (numbered_table types.old) (map rule_seen rules.now) stops.old }
     requires waits { Waits parameters.now (numbered_table types.old) (map rule_seen rules.now) now }
-    ensures numbered { OnOk result (IsNumbered types.new (map rule_seen rules.now)) }
+    ensures numbered { OnOk result (NumbersRules types.new (map rule_seen rules.now)) }
     ensures ends { OnOk result (EndsRounds parameters.now (numbered_table types.old) (numbered_table types.new) (map rule_seen rules.now) (length rules.now)) }
 {
     // No code reads `count`: the invariant speaks of it.
@@ -160,9 +160,9 @@ pub(crate) fn run_rounds(
     rules: &[PlainRule],
 ) -> Result<(), NoMemory>
     requires distinct { IsDistinct (names_seen (map rule_seen rules.now)) }
-    requires numbered { IsNumbered types.old (map rule_seen rules.now) }
+    requires numbered { NumbersRules types.old (map rule_seen rules.now) }
     requires untyped { (n : List ℕ) → type_by_name (numbered_table types.old) n ≡ None }
-    ensures numbered { OnOk result (IsNumbered types.new (map rule_seen rules.now)) }
+    ensures numbered { OnOk result (NumbersRules types.new (map rule_seen rules.now)) }
     ensures ends { OnOk result (EndsRounds parameters.now (numbered_table types.old) (numbered_table types.new) (map rule_seen rules.now) (length rules.now)) }
 {
     let needs = needs_of(alloc, parameters, &types.names, rules)?;

@@ -1,5 +1,5 @@
 use Rattle.std.proofs.Common.{◌-◌, length, map}
-use Rattle.lalrpop_norm_tyinfer_table.specs.Numbered.{numbered_table, IsNumbered}
+use Rattle.lalrpop_norm_tyinfer_table.specs.Numbered.{numbered_table, NumbersRules}
 use Rattle.lalrpop_norm_tyinfer_table.specs.Visits.{rule_seen}
 use Rattle.lalrpop_norm_tyinfer_table.proofs.RoundLemmas.{Midway}
 use Rattle.lalrpop_norm_tyinfer.proofs.tyinfer.rounds.round.Given as goal
@@ -7,7 +7,7 @@ use Rattle.lalrpop_norm_tyinfer.proofs.tyinfer.rounds.round.Given as goal
 abbrev pub invariant-loop-place : goal.invariant-loop-place
 invariant-loop-place l = record {
   midway : Midway l.parameters (numbered_table l.initial.types) (numbered_table l.types) (map rule_seen l.rules) l.stops l.from l.now l.next;
-  numbered : IsNumbered l.types (map rule_seen l.rules);
+  numbered : NumbersRules l.types (map rule_seen l.rules);
 }
 
 abbrev pub decreases-loop-place : goal.decreases-loop-place
