@@ -35,4 +35,4 @@ rounds_from-requires-clause-waits c =
     let count = c.in_ok-stops.ensures.count ∙ sym (length-map c.args.rules.now rule_seen) in
     begins_waiting have.number c.args.parameters.now (type_table c.args.types.now) (map rule_seen c.args.rules.now) c.in_ok-needs.needs.items c.begin.new.self c.in_ok-ready.ready.items have.numbers have.needs_are
     (subst (λ k. BeginsUntyped c.begin.new.self k c.in_ok-needs.needs.items c.in_ok-ready.ready.items) count begun) c.requires.untyped
-    c.in_ok-first.first c.in_ok-first.ensures.all c.in_ok-first.ensures.only
+    c.in_ok-first.first (rw c.deref-2.ensures.value at c.in_ok-first.ensures.all) (rw c.deref-2.ensures.value at c.in_ok-first.ensures.only)

@@ -13,8 +13,8 @@ take_first-requires c =
 
 pub returns-then-is_typed : goal.returns-then-is_typed
 returns-then-is_typed c =
-    steps_still c.args.parameters.now (type_table c.args.types.now) (type_table c.args.types.now) (rule_seen c.args.rule.now) c.args.place c.args.stops.now
-    (taken_typed (type_table c.args.types.now) c.args.rule.now.data.now.name.0 _ (sym c.requires.told ∙ (sym c.is_typed.ensures ∙ c.if-is_typed.true)))
+    rw c.new.ensures.items (steps_still c.args.parameters.now (type_table c.args.types.now) (type_table c.args.types.now) (rule_seen c.args.rule.now) c.args.place c.args.stops.now
+    (taken_typed (type_table c.args.types.now) c.args.rule.now.data.now.name.0 _ (sym c.requires.told ∙ (sym c.is_typed.ensures ∙ c.if-is_typed.true))))
 
 pub returns-then-took : goal.returns-then-took
 returns-then-took c =
@@ -25,4 +25,4 @@ returns-then-took c =
 pub returns : goal.returns
 returns c =
     let takes = rw c.if-took.false at c.in_ok-took.ensures in
-    steps_still c.args.parameters.now (type_table c.args.types.now) (type_table c.take_first.new.types) (rule_seen c.args.rule.now) c.args.place c.args.stops.now takes
+    rw c.new-2.ensures.items (steps_still c.args.parameters.now (type_table c.args.types.now) (type_table c.take_first.new.types) (rule_seen c.args.rule.now) c.args.place c.args.stops.now takes)
