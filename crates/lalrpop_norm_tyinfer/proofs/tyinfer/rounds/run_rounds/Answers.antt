@@ -34,4 +34,4 @@ rounds_from-requires-clause-waits c =
     let count = c.in_ok-stops.ensures.count ∙ sym (length-map c.args.rules.now rule_seen) in
     begins_waiting (number_in_table c.args.types.now.names) c.args.parameters.now (numbered_table c.args.types.now) (map rule_seen c.args.rules.now) c.in_ok-needs.needs.items c.begin.new.self c.in_ok-ready.ready.items
     c.requires.numbered.numbers c.in_ok-needs.ensures (subst (λ k. BeginsUntyped c.begin.new.self k c.in_ok-needs.needs.items c.in_ok-ready.ready.items) count begun) c.requires.untyped
-    c.in_ok-first.first c.in_ok-first.ensures.all c.in_ok-first.ensures.only
+    c.in_ok-first.first (rw c.deref-2.ensures.value at c.in_ok-first.ensures.all) (rw c.deref-2.ensures.value at c.in_ok-first.ensures.only)

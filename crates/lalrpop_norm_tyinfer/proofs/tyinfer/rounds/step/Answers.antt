@@ -14,8 +14,8 @@ take_first-requires-clause-untyped c =
 
 pub returns-then-is_typed-clause-visits : goal.returns-then-is_typed-clause-visits
 returns-then-is_typed-clause-visits c =
-    steps_still c.args.parameters.now (numbered_table c.args.types.now) (numbered_table c.args.types.now) (rule_seen c.args.rule.now) c.args.place c.args.stops.now
-    (taken_typed (numbered_table c.args.types.now) c.args.rule.now.data.now.name.0 _ (sym c.requires.told ∙ (sym c.is_typed.ensures ∙ c.if-is_typed.true)))
+    rw c.new.ensures.items (steps_still c.args.parameters.now (numbered_table c.args.types.now) (numbered_table c.args.types.now) (rule_seen c.args.rule.now) c.args.place c.args.stops.now
+    (taken_typed (numbered_table c.args.types.now) c.args.rule.now.data.now.name.0 _ (sym c.requires.told ∙ (sym c.is_typed.ensures ∙ c.if-is_typed.true))))
 
 pub returns-then-is_typed-clause-numbers : goal.returns-then-is_typed-clause-numbers
 returns-then-is_typed-clause-numbers c = nothing_put c.args.types.now
@@ -32,7 +32,7 @@ returns-then-took-clause-numbers c = if_ok c.give_type.result c.give_type.ensure
 pub returns-clause-visits : goal.returns-clause-visits
 returns-clause-visits c =
     let takes = rw c.if-took.false at c.in_ok-took.ensures.takes in
-    steps_still c.args.parameters.now (numbered_table c.args.types.now) (numbered_table c.take_first.new.types) (rule_seen c.args.rule.now) c.args.place c.args.stops.now takes
+    rw c.new-2.ensures.items (steps_still c.args.parameters.now (numbered_table c.args.types.now) (numbered_table c.take_first.new.types) (rule_seen c.args.rule.now) c.args.place c.args.stops.now takes)
 
 pub returns-clause-numbers : goal.returns-clause-numbers
 returns-clause-numbers c = c.in_ok-took.ensures.numbers
