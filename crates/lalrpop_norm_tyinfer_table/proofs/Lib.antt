@@ -12,7 +12,7 @@ pub mod NumberedRounds
 mod ReadLemmas
 pub mod RoundLemmas
 mod SameLemmas
-mod StopLemmas
+pub mod StopLemmas
 pub mod TokenLemmas
 pub mod ValueLemmas
 pub mod VisitLemmas
