@@ -9,6 +9,7 @@ ghost use Rattle.lalrpop_norm_model.specs.InferenceFaults.{inference_faults};
 ghost use Rattle.lalrpop_norm_model.specs.PlainRules.{all_rules};
 ghost use Rattle.lalrpop_norm_tyinfer_table.specs.Filled.{HasAllRows, table_faults};
 ghost use Rattle.lalrpop_norm_tyinfer_table.specs.Inferred.{IsInferred};
+ghost use Rattle.lalrpop_norm_tyinfer_table.specs.Numbered.{numbered_table, NumbersRules};
 ghost use Rattle.lalrpop_norm_tyinfer_table.specs.Visits.{rule_seen, with_clauses};
 
 mod agreement;
@@ -21,8 +22,9 @@ use lalrpop_norm_faults::NormResult;
 use lalrpop_norm_repr::grammar::repr::Types;
 use lalrpop_norm_tree::grammar::parse_tree::{Grammar, NoMemory, TypeParameter};
 use lalrpop_norm_tyinfer_table::grounded::{check_clauses, check_typed};
+use lalrpop_norm_tyinfer_table::numbered::Numbered;
 use lalrpop_norm_tyinfer_table::patterns::check_patterns;
-use lalrpop_norm_tyinfer_table::rules::{PlainRule, plain_rules};
+use lalrpop_norm_tyinfer_table::rules::{PlainRule, names_of_rules, plain_rules};
 use rounds::run_rounds;
 use std::alloc::Global;
 use tokens::token_types;
@@ -55,19 +57,25 @@ fn infer(alloc: Global, grammar: &Grammar, rules: &[PlainRule]) -> NormResult<Ty
     check_clauses(alloc, rules)?;
     let types = filled_table(alloc, grammar, rules)?;
     check_table(alloc, &grammar.type_parameters, &types, rules)?;
-    Ok(types)
+    let listed = types.by_name()?;
+    Ok(listed)
 }
 
 /// The table where the rounds end.
-fn filled_table(alloc: Global, grammar: &Grammar, rules: &[PlainRule]) -> Result<Types, NoMemory>
+fn filled_table(
+    alloc: Global,
+    grammar: &Grammar,
+    rules: &[PlainRule],
+) -> Result<Numbered, NoMemory>
     requires seen { map rule_seen rules.now ≡ map with_clauses (all_rules (grammar_view grammar.now)) }
     requires distinct { IsDistinct (rule_names (grammar_view grammar.now)) }
-    ensures { IfOk result (λ t. HasAllRows (grammar_view grammar.now) (type_table t)) }
+    ensures filled { IfOk result (λ t. HasAllRows (grammar_view grammar.now) (numbered_table t)) }
+    ensures numbered { IfOk result (λ t. NumbersRules t (map rule_seen rules.now)) }
 {
-    let mut types = token_types(alloc, grammar)?;
+    let tokens = token_types(alloc, grammar)?;
+    let names = names_of_rules(alloc, rules)?;
+    let mut types = Numbered::new(alloc, &names, tokens)?;
     run_rounds(alloc, &grammar.type_parameters, &mut types, rules)?;
-    // A law, which does nothing: it gives the order of the rows.
-    types.rows_ascend();
     Ok(types)
 }
 
@@ -75,10 +83,10 @@ fn filled_table(alloc: Global, grammar: &Grammar, rules: &[PlainRule]) -> Result
 fn check_table(
     alloc: Global,
     parameters: &[TypeParameter],
-    types: &Types,
+    types: &Numbered,
     rules: &[PlainRule],
 ) -> NormResult<()>
-    ensures { Refuses result (table_faults parameters.now (type_table types.now) (map (λ r. rule_view r.data.now) rules.now)) }
+    ensures { Refuses result (table_faults parameters.now (numbered_table types.now) (map (λ r. rule_view r.data.now) rules.now)) }
 {
     check_typed(alloc, types, rules)?;
     check_agreement(alloc, parameters, types, rules)?;

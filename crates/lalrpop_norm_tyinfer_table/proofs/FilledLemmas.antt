@@ -39,24 +39,17 @@ use Rattle.lalrpop_norm_theory.proofs.ListLemmas.{flat_same}
 
 -- ---- the table
 
--- after as many rounds as there are rules the table is filled, if its rows stand in order
+-- after as many rounds as there are rules the table is filled
 pub filled : (g : GrammarData) (before types : TypeTable) (ss : List Seen) (n : ℕ) → AddsTerminals (base_table g) before (rows_with (extern_enum g) g) →
-    EndsRounds g.type_parameters before types ss n → ss ≡ map with_clauses (all_rules g) → length ss ≡ n →
-    IsStrictlySortedBy name_cmp (keys_of types.nonterminals) → IsStrictlySortedBy terminal_cmp (keys_of types.terminals) → HasAllRows g types
-filled g before types ss n added ends same long names terminals =
+    EndsRounds g.type_parameters before types ss n → ss ≡ map with_clauses (all_rules g) → length ss ≡ n → HasAllRows g types
+filled g before types ss n added ends same long =
     let read : IsReadBy g g.type_parameters before = record { parameters = refl; tokens = added_tokens g before added } in
     let none : HasRows before [] = λ m. ap (found (named_by m)) (added_names g before added) in
     let count : n ≡ length (all_rules g) = sym long ∙ (ap length same ∙ length-map (all_rules g) with_clauses) in
     record {
       names = subst (λ rows. HasRows types rows) (ap (λ s. rounds_seen g s n) same ∙ (rounds_are g n ∙ ap (type_rounds g) count)) (ends.table g read none);
-      names_in_order = names;
       tokens = (kept_read g g.type_parameters before types read ends.rest).tokens;
-      terminals_in_order = terminals;
     }
-
--- at first no name has a type
-pub none_typed : (g : GrammarData) (before : TypeTable) → AddsTerminals (base_table g) before (rows_with (extern_enum g) g) → (n : List ℕ) → type_by_name before n ≡ None
-none_typed g before added n = ap (found (named_by n)) (added_names g before added)
 
 names_with : (rs : List RuleData) → names_seen (map with_clauses rs) ≡ map (λ (r : RuleData). r.name.0) rs
 names_with [] = refl
@@ -171,17 +164,25 @@ table_only g tt full rs seen none =
     ∙ ap₂ (λ xs ys. xs ++ ys) (ap (flat_map lacking_seen) (sym seen) ∙ none) (ap (table_faults g.type_parameters tt) (sym (rules_are rs (all_rules g) seen)))
 
 -- where there is no fault the filled table has the types of the grammar
-pub filled_inferred : (g : GrammarData) (tt : TypeTable) → HasAllRows g tt → IsDistinct (rule_names g) → inference_faults g ≡ [] → IsInferred g tt
-filled_inferred g tt full distinct none =
+pub filled_inferred : (g : GrammarData) (tt : TypeTable) → HasAllRows g tt → IsStrictlySortedBy name_cmp (keys_of tt.nonterminals) → IsStrictlySortedBy terminal_cmp (keys_of tt.terminals) →
+    IsDistinct (rule_names g) → inference_faults g ≡ [] → IsInferred g tt
+filled_inferred g tt full names terminals distinct none =
     let typable = (typable_exactly g distinct).1 none in
     let types = inferred_types g typable.one_type in
     record {
       names = λ n x. ((λ e. (types n.0 x).0 (sym (full.names n.0) ∙ e)), λ h. full.names n.0 ∙ (types n.0 x).1 h);
-      names_in_order = full.names_in_order;
+      names_in_order = names;
       terminals = full.tokens.terminals;
-      terminals_in_order = full.terminals_in_order;
+      terminals_in_order = terminals;
       rest = full.tokens.rest;
     }
+
+-- a table with the same types, and the same beside names, is filled too
+pub filled_same : (g : GrammarData) (tt types : TypeTable) → HasAllRows g tt → ((n : List ℕ) → type_by_name types n ≡ type_by_name tt n) → types ≡ record tt { nonterminals = types.nonterminals } → HasAllRows g types
+filled_same g tt types full same rest = record {
+  names = λ n. same n ∙ full.names n;
+  tokens = (kept_read g g.type_parameters tt types (record { parameters = refl; tokens = full.tokens }) rest).tokens;
+}
 
 -- ---- the exits of inference
 
@@ -207,5 +208,7 @@ module _ (g : GrammarData) (tt : TypeTable) (full : HasAllRows g tt) (ps : List 
   pub none_refused : table_faults ps tt (map (λ (r : PlainRule). (rule_seen r).0) rs) ≡ [] → inference_faults g ≡ []
   none_refused empty = by_table ∙ empty
 
-  pub none_inferred : IsDistinct (rule_names g) → table_faults ps tt (map (λ (r : PlainRule). (rule_seen r).0) rs) ≡ [] → IsInferred g tt
-  none_inferred distinct empty = filled_inferred g tt full distinct (by_table ∙ empty)
+  pub none_inferred : (types : TypeTable) → ((n : List ℕ) → type_by_name types n ≡ type_by_name tt n) → types ≡ record tt { nonterminals = types.nonterminals } →
+      IsStrictlySortedBy name_cmp (keys_of types.nonterminals) → IsStrictlySortedBy terminal_cmp (keys_of types.terminals) → IsDistinct (rule_names g) →
+      table_faults ps tt (map (λ (r : PlainRule). (rule_seen r).0) rs) ≡ [] → IsInferred g types
+  none_inferred types same rest names terminals distinct empty = filled_inferred g types (filled_same g tt types full same rest) names terminals distinct (by_table ∙ empty)

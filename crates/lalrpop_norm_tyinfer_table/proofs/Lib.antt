@@ -7,11 +7,14 @@ mod MisfitLemmas
 pub mod NeedLemmas
 mod NeededLemmas
 mod NumberLemmas
+pub mod NumberedLemmas
+pub mod NumberedRounds
 mod ReadLemmas
 pub mod RoundLemmas
 mod SameLemmas
-mod StopLemmas
+pub mod StopLemmas
 pub mod TokenLemmas
 pub mod ValueLemmas
 pub mod VisitLemmas
+mod WaitingLemmas
 mod WrittenSymbols

@@ -1,6 +1,5 @@
 -- The numbers that a table gives to names are numbers of rules.
 use Rattle.std.proofs.Common.{◌≡◌, ◌+◌, inl, inr, ℕ, suc, Bool, true, false, cond, List, [], ◌∷◌, Option, Some, None, slice_get, bytes_eq, refl, sym, ap, subst, ◌∙◌, arith}
-use Rattle.std.specs.Prelude.{Result, Ok, Err, IfOk}
 use Rattle.std.specs.List.{position_from}
 use Rattle.std.proofs.lemmas.Iterator.Adapters.{position_from-zero}
 use Rattle.std.proofs.lemmas.Slice.Eq.{bytes_eq-Decides}
@@ -35,8 +34,8 @@ lacks n (m ∷ names) i e h = lacks_case n m names i (λ f g. lacks n names (i +
 first_from : (names : List (List ℕ)) (d : Names) → IsNumbering names d → (n : List ℕ) → number_in_table d n ≡ place_from n 0 names
 first_from names d is n = is n ∙ position_from-zero (λ stands. bytes_eq stands n) names
 
-pub numbering_tells : {E : Type 0} (names : List (List ℕ)) (r : Result Names E) → IfOk r (IsNumbering names) → IfOk r (λ d. AreRuleNumbers (number_in_table d) names)
-numbering_tells names (Ok d) is = record {
+pub numbering_is : (names : List (List ℕ)) (d : Names) → IsNumbering names d → AreRuleNumbers (number_in_table d) names
+numbering_is names d is = record {
   right = λ n k e.
       let r = stands_at n names 0 k (sym (first_from names d is n) ∙ e) in
       let at = r.1 in
@@ -44,4 +43,3 @@ numbering_tells names (Ok d) is = record {
       subst (λ j. slice_get names j ≡ Some n) here r.2;
   all = λ n e h. lacks n names 0 (sym (first_from names d is n) ∙ e) h;
 }
-numbering_tells names (Err e) is = is

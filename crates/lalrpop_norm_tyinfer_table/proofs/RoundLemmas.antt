@@ -1,10 +1,10 @@
 -- A round in which only the rules that wait are visited is a round.
-use Rattle.std.proofs.Common.{◌≡◌, ◌≤◌, ◌<◌, ◌+◌, ◌-◌, ◌⊎◌, ◌==◌, ◌||◌, inl, inr, ℕ, zero, suc, Bool, true, false, List, [], ◌∷◌, ◌++◌, Option, Some, None, length, take, slice_get, refl, sym, ap, subst, ◌∙◌, arith}
-use Rattle.std.specs.Prelude.{is_some, option_map, Result, Ok, Err, OnOk}
+use Rattle.std.proofs.Common.{◌≡◌, ◌≤◌, ◌<◌, ◌+◌, ◌-◌, ◌⊎◌, ◌==◌, ◌||◌, inl, inr, ℕ, zero, suc, Bool, true, false, List, [], ◌∷◌, ◌++◌, Option, Some, None, length, map, take, get_or, slice_get, refl, sym, ap, subst, ◌∙◌, arith}
+use Rattle.std.specs.Prelude.{is_some, option_map}
 use Rattle.std.proofs.lemmas.Bool.{both_ways, false_from_ne_true}
 use Rattle.std.proofs.lemmas.Bool.Decides.{eqb_tells, leb_tells}
 use Rattle.std.proofs.lemmas.List.{take_more, take_all}
-use Rattle.std.proofs.lemmas.Option.{slice_get-map, slice_get_cases, slice_get_within, get_or_from_slice_get}
+use Rattle.std.proofs.lemmas.Option.{slice_get-map, slice_get_cases, slice_get_within, slice_get_read, get_or_from_slice_get}
 use Rattle.lalrpop_norm_tree_names.specs.declared.names.TypeParameter.{TypeParameter}
 use Rattle.lalrpop_norm_tree_parts.specs.Reprs.{ReprData}
 use Rattle.lalrpop_norm_theory.specs.Rounds.{In, IsDistinct}
@@ -12,13 +12,14 @@ use Rattle.lalrpop_norm_theory.proofs.RoundsLemmas.{in_left, in_right, in_cases}
 use Rattle.lalrpop_norm_repr.specs.Tables.{TypeTable}
 use Rattle.lalrpop_norm_model.specs.TypeRelation.{TypeClause}
 use Rattle.lalrpop_norm_tyinfer_table.specs.declared.needs.Need.{Need}
+use Rattle.lalrpop_norm_tyinfer_table.specs.declared.rules.PlainRule.{PlainRule}
 use Rattle.lalrpop_norm_tyinfer_table.specs.declared.stops.Stops.{Stops}
 use Rattle.lalrpop_norm_tyinfer_table.specs.declared.waiting.Waiting.{Waiting}
 use Rattle.lalrpop_norm_tyinfer_table.specs.Clauses.{clause_in, first_in}
 use Rattle.lalrpop_norm_tyinfer_table.specs.Needs.{needed_in, names_seen, AreRuleNumbers, IsNeedOf, AreNeeds}
 use Rattle.lalrpop_norm_tyinfer_table.specs.Stops.{typed_at, is_typed, AreTyped, StopsAt, GivesType, BeginsUntyped}
 use Rattle.lalrpop_norm_tyinfer_table.specs.TableValues.{type_by_name}
-use Rattle.lalrpop_norm_tyinfer_table.specs.Visits.{Seen, TakesType, Passes}
+use Rattle.lalrpop_norm_tyinfer_table.specs.Visits.{Seen, rule_seen, TakesType, Passes}
 use Rattle.lalrpop_norm_tyinfer_table.specs.Waiting.{has, TakesLeast, IsQuiet, Waits, Wakes, Watches, VisitsOne}
 use Rattle.lalrpop_norm_tyinfer_table.proofs.NeedLemmas.{at_of, of_mapped_at, one_place}
 use Rattle.lalrpop_norm_tyinfer_table.proofs.NeededLemmas.{clause_same, clause_lacks, none_of, none_from}
@@ -50,14 +51,17 @@ kept_is : (before after : TypeTable) (n : List ℕ) (v : Option ReprData) (a : B
 kept_is before after n v a t m None e some = absurd cc
 kept_is before after n v a t m (Some x) e some = t.kept m x e ∙ sym e
 
-not_some : {A : Type 0} (o : Option A) → is_some o ≡ false → o ≡ None
+pub not_some : {A : Type 0} (o : Option A) → is_some o ≡ false → o ≡ None
 not_some None e = refl
 not_some (Some x) e = absurd cc
 
-name_at : (ss : List Seen) (k : ℕ) (s : Seen) → slice_get ss k ≡ Some s → slice_get (names_seen ss) k ≡ Some s.0.name.0
+pub rule_there : (rules : List PlainRule) (place : ℕ) (rule : PlainRule) → place < length rules → rule ≡ get_or rules place rule → slice_get (map rule_seen rules) place ≡ Some (rule_seen rule)
+rule_there rules place rule lt is = slice_get-map rule_seen rules place ∙ ap (option_map rule_seen) (slice_get_read rules (length rules) place rule refl lt is)
+
+pub name_at : (ss : List Seen) (k : ℕ) (s : Seen) → slice_get ss k ≡ Some s → slice_get (names_seen ss) k ≡ Some s.0.name.0
 name_at ss k s here = slice_get-map (λ (q : Seen). q.0.name.0) ss k ∙ ap (option_map (λ (q : Seen). q.0.name.0)) here
 
-name_in : (ss : List Seen) (k : ℕ) (s : Seen) → slice_get ss k ≡ Some s → In s.0.name.0 (names_seen ss)
+pub name_in : (ss : List Seen) (k : ℕ) (s : Seen) → slice_get ss k ≡ Some s → In s.0.name.0 (names_seen ss)
 name_in ss k s here = at_in (names_seen ss) k s.0.name.0 (name_at ss k s here)
 
 module _ (ps : List TypeParameter) (tt : TypeTable) (ss : List Seen) (stops : Stops) (w : Watches ps tt ss stops) where
@@ -172,16 +176,6 @@ skipped_to ps before tt ss from to le p quiet =
 
 -- ---- places that are added
 
-pub wakes_none : (place : ℕ) (now next : Waiting) → Wakes [] place now now next next
-wakes_none place now next = record {
-  kept_now = λ k h. h;
-  kept_next = λ k h. h;
-  behind = λ k no. absurd no;
-  before = λ k no. absurd no;
-  only_now = λ k h. inl h;
-  only_next = λ k h. inl h;
-}
-
 pub wakes_more : (xs ys : List ℕ) (place : ℕ) (now now_mid now_after next next_mid next_after : Waiting) → Wakes xs place now now_mid next next_mid →
     Wakes ys place now_mid now_after next_mid next_after → Wakes (xs ++ ys) place now now_after next next_after
 wakes_more xs ys place now now_mid now_after next next_mid next_after one two = record {
@@ -229,34 +223,34 @@ pub record Midway (ps : List TypeParameter) (before tt : TypeTable) (ss : List S
   pub within_now : (k : ℕ) → has now k ≡ true → k < length ss
   pub within_next : (k : ℕ) → has next k ≡ true → k < length ss
 
-module _ (ps : List TypeParameter) (before after : TypeTable) (ss : List Seen) (place : ℕ) (s : Seen) (stops stops_after : Stops) (now now_after next next_after : Waiting)
-    (w : Watches ps before ss stops) (distinct : IsDistinct (names_seen ss)) (there : slice_get ss place ≡ Some s) (st : VisitsOne ps before after s place stops stops_after now now_after next next_after) where
+module _ (ps : List TypeParameter) (before after : TypeTable) (ss : List Seen) (place : ℕ) (s : Seen) (stops stops_after : Stops) (ready : List ℕ)
+    (w : Watches ps before ss stops) (distinct : IsDistinct (names_seen ss)) (there : slice_get ss place ≡ Some s) (st : VisitsOne ps before after s place stops stops_after ready) where
   watches_case : (b : Bool) → st.added ≡ b → Watches ps after ss stops_after
   watches_case true e =
-      given_watches ps before after ss stops stops_after place s (first_in ps before s.1) st.ready w distinct there (subst (TakesType before after s.0.name.0 (first_in ps before s.1)) e st.takes) (st.gives e)
+      given_watches ps before after ss stops stops_after place s (first_in ps before s.1) ready w distinct there (subst (TakesType before after s.0.name.0 (first_in ps before s.1)) e st.takes) (st.gives e)
   watches_case false e = subst (Watches ps after ss) (sym (st.still e)) (subst (λ u. Watches ps u ss stops) (sym (st.takes.still e)) w)
 
-  quiet_case_on : (b : Bool) → st.added ≡ b → (k : ℕ) (r : Seen) → slice_get ss k ≡ Some r → IsQuiet ps before r → (In k st.ready → ⊥) → IsQuiet ps after r
+  quiet_case_on : (b : Bool) → st.added ≡ b → (k : ℕ) (r : Seen) → slice_get ss k ≡ Some r → IsQuiet ps before r → (In k ready → ⊥) → IsQuiet ps after r
   quiet_case_on true e =
-      given_quiet ps before after ss stops stops_after place s (first_in ps before s.1) st.ready w distinct there (subst (TakesType before after s.0.name.0 (first_in ps before s.1)) e st.takes) (st.gives e)
+      given_quiet ps before after ss stops stops_after place s (first_in ps before s.1) ready w distinct there (subst (TakesType before after s.0.name.0 (first_in ps before s.1)) e st.takes) (st.gives e)
   quiet_case_on false e = λ k r here quiet late. subst (λ u. IsQuiet ps u r) (sym (st.takes.still e)) quiet
 
-  within_case : (b : Bool) → st.added ≡ b → (k : ℕ) → In k st.ready → k < length ss
+  within_case : (b : Bool) → st.added ≡ b → (k : ℕ) → In k ready → k < length ss
   within_case true e k h = subst (λ c. k < c) w.count ((st.gives e).within k h)
   within_case false e k h = absurd (subst (In k) (st.none e) h)
 
   pub visited_watches : Watches ps after ss stops_after
   visited_watches = watches_case st.added refl
 
-  quiet_on : (k : ℕ) (r : Seen) → slice_get ss k ≡ Some r → IsQuiet ps before r → (In k st.ready → ⊥) → IsQuiet ps after r
+  quiet_on : (k : ℕ) (r : Seen) → slice_get ss k ≡ Some r → IsQuiet ps before r → (In k ready → ⊥) → IsQuiet ps after r
   quiet_on = quiet_case_on st.added refl
 
-  ready_within : (k : ℕ) → In k st.ready → k < length ss
+  ready_within : (k : ℕ) → In k ready → k < length ss
   ready_within = within_case st.added refl
 
-module _ (ps : List TypeParameter) (before mid after : TypeTable) (ss : List Seen) (from place : ℕ) (s : Seen) (stops stops_after : Stops) (now left now_after next next_after : Waiting)
+module _ (ps : List TypeParameter) (before mid after : TypeTable) (ss : List Seen) (from place : ℕ) (s : Seen) (stops stops_after : Stops) (ready : List ℕ) (now left now_after next next_after : Waiting)
     (distinct : IsDistinct (names_seen ss)) (m : Midway ps before mid ss stops from now next) (t : TakesLeast now left place) (there : slice_get ss place ≡ Some s)
-    (st : VisitsOne ps mid after s place stops stops_after left now_after next next_after) where
+    (st : VisitsOne ps mid after s place stops stops_after ready) (wakes : Wakes ready place left now_after next next_after) where
   high : from ≤ place
   high = m.ahead place t.there
 
@@ -271,9 +265,9 @@ module _ (ps : List TypeParameter) (before mid after : TypeTable) (ss : List See
   behind_here k r here low out =
       let lt : place < k = omega arith in
       let le : from ≤ k = let h = high in omega arith in
-      let out_left : has left k ≡ false = false_from_ne_true _ (λ h. both_ways (has now_after k) out (st.wakes.kept_now k h)) in
-      quiet_on ps mid after ss place s stops stops_after left now_after next next_after m.watches distinct there st k r here (m.behind k r here le (rest_false now left place t k lt out_left))
-      (λ woken. both_ways (has now_after k) out (st.wakes.behind k woken lt))
+      let out_left : has left k ≡ false = false_from_ne_true _ (λ h. both_ways (has now_after k) out (wakes.kept_now k h)) in
+      quiet_on ps mid after ss place s stops stops_after ready m.watches distinct there st k r here (m.behind k r here le (rest_false now left place t k lt out_left))
+      (λ woken. both_ways (has now_after k) out (wakes.behind k woken lt))
 
   quiet_before : (k : ℕ) (r : Seen) → slice_get ss k ≡ Some r → k < place → has next k ≡ false → IsQuiet ps mid r
   quiet_before k r here lt out = elim (leb_tells from k) [ inl w ↦ before_place k r here w.1 lt | inr w ↦ m.earlier k r here w.1 out ]
@@ -287,29 +281,29 @@ module _ (ps : List TypeParameter) (before mid after : TypeTable) (ss : List See
         let apart = w.1 in
         let less : k < place = omega arith in
         let le : k ≤ place = omega arith in
-        let out_next : has next k ≡ false = false_from_ne_true _ (λ h. both_ways (has next_after k) out (st.wakes.kept_next k h)) in
-        quiet_on ps mid after ss place s stops stops_after left now_after next next_after m.watches distinct there st k r here (quiet_before k r here less out_next)
-        (λ woken. both_ways (has next_after k) out (st.wakes.before k woken le))
+        let out_next : has next k ≡ false = false_from_ne_true _ (λ h. both_ways (has next_after k) out (wakes.kept_next k h)) in
+        quiet_on ps mid after ss place s stops stops_after ready m.watches distinct there st k r here (quiet_before k r here less out_next)
+        (λ woken. both_ways (has next_after k) out (wakes.before k woken le))
   ]
 
   -- the rule at the least place is visited
   pub midway_next : Midway ps before after ss stops_after (place + 1) now_after next_after
   midway_next = record {
     passes = passes_here;
-    watches = visited_watches ps mid after ss place s stops stops_after left now_after next next_after m.watches distinct there st;
+    watches = visited_watches ps mid after ss place s stops stops_after ready m.watches distinct there st;
     behind = behind_here;
     earlier = earlier_here;
-    ahead = λ k h. elim (st.wakes.only_now k h) [
+    ahead = λ k h. elim (wakes.only_now k h) [
       | inl g ↦ let low = (rest_true now left place t k g).1 in omega arith
       | inr w ↦ let low = w.0 in omega arith
     ];
-    within_now = λ k h. elim (st.wakes.only_now k h) [
+    within_now = λ k h. elim (wakes.only_now k h) [
       | inl g ↦ m.within_now k (rest_true now left place t k g).0
-      | inr w ↦ ready_within ps mid after ss place s stops stops_after left now_after next next_after m.watches distinct there st k w.1
+      | inr w ↦ ready_within ps mid after ss place s stops stops_after ready m.watches distinct there st k w.1
     ];
-    within_next = λ k h. elim (st.wakes.only_next k h) [
+    within_next = λ k h. elim (wakes.only_next k h) [
       | inl g ↦ m.within_next k g
-      | inr i ↦ ready_within ps mid after ss place s stops stops_after left now_after next next_after m.watches distinct there st k i
+      | inr i ↦ ready_within ps mid after ss place s stops stops_after ready m.watches distinct there st k i
     ];
   }
 
@@ -323,49 +317,53 @@ midway_passes ps before tt ss stops from now next m none =
 
 -- ---- the visit of a rule that waits
 
-pub steps_still : (ps : List TypeParameter) (before after : TypeTable) (s : Seen) (place : ℕ) (stops : Stops) (now next : Waiting) →
-    TakesType before after s.0.name.0 (first_in ps before s.1) false → VisitsOne ps before after s place stops stops now now next next
-steps_still ps before after s place stops now next t = record {
+pub steps_still : (ps : List TypeParameter) (before after : TypeTable) (s : Seen) (place : ℕ) (stops : Stops) → TakesType before after s.0.name.0 (first_in ps before s.1) false →
+    VisitsOne ps before after s place stops stops []
+steps_still ps before after s place stops t = record {
   added = false;
   takes = t;
-  ready = [];
   gives = λ no. absurd cc;
   still = λ _. refl;
   none = λ _. refl;
-  wakes = wakes_none place now next;
 }
 
-pub steps_taken : {T E : Type 0} (ps : List TypeParameter) (before after : TypeTable) (s : Seen) (place : ℕ) (stops stops_after : Stops) (now now_after next next_after : Waiting) (ready : List ℕ) →
-    (r : Result T E) → TakesType before after s.0.name.0 (first_in ps before s.1) true → GivesType stops stops_after place ready → OnOk r (Wakes ready place now now_after next next_after) →
-    OnOk r (VisitsOne ps before after s place stops stops_after now now_after next next_after)
-steps_taken ps before after s place stops stops_after now now_after next next_after ready (Ok x) t g w = record {
+pub steps_taken : (ps : List TypeParameter) (before after : TypeTable) (s : Seen) (place : ℕ) (stops stops_after : Stops) (ready : List ℕ) →
+    TakesType before after s.0.name.0 (first_in ps before s.1) true → GivesType stops stops_after place ready → VisitsOne ps before after s place stops stops_after ready
+steps_taken ps before after s place stops stops_after ready t g = record {
   added = true;
   takes = t;
-  ready = ready;
   gives = λ _. g;
   still = λ no. absurd cc;
   none = λ no. absurd cc;
-  wakes = w;
-}
-steps_taken ps before after s place stops stops_after now now_after next next_after ready (Err e) t g w = w
-
--- in the first round all rules are visited
-pub all_wait : (ps : List TypeParameter) (tt : TypeTable) (ss : List Seen) (now : Waiting) (count : ℕ) → count ≡ length ss → ((k : ℕ) → k < count → has now k ≡ true) →
-    ((k : ℕ) → has now k ≡ true → k < count) → Waits ps tt ss now
-all_wait ps tt ss now count long all only = record {
-  quiet = λ k s here out. let lt = slice_get_within ss k s here in absurd (both_ways (has now k) out (all k (omega arith)));
-  within = λ k h. let lt = only k h in omega arith;
 }
 
--- at first no name has a type
-pub begins_watching : (f : List ℕ → Option ℕ) (ps : List TypeParameter) (tt : TypeTable) (ss : List Seen) (needs : List Need) (stops : Stops) → AreRuleNumbers f (names_seen ss) → AreNeeds f ps ss needs →
-    BeginsUntyped stops (length ss) needs → ((n : List ℕ) → type_by_name tt n ≡ None) → Watches ps tt ss stops
-begins_watching f ps tt ss needs stops numbers are b none = record {
-  number = f;
-  numbers = numbers;
-  sound = b.stops;
-  count = b.count;
-  tells = λ k s here. b.none k ∙ ap is_some (sym (none s.0.name.0));
-  only = λ n _. none n;
-  settled = λ k s c here i. let x = are.all k s c here i in (x.0, x.2, b.settled x.0 x.1);
-}
+-- ---- at first
+
+module _ (f : List ℕ → Option ℕ) (ps : List TypeParameter) (tt : TypeTable) (ss : List Seen) (needs : List Need) (stops : Stops) (ready : List ℕ) (numbers : AreRuleNumbers f (names_seen ss))
+    (are : AreNeeds f ps ss needs) (b : BeginsUntyped stops (length ss) needs ready) (none : (n : List ℕ) → type_by_name tt n ≡ None) where
+  -- no name has a type
+  abbrev pub begins_watching : Watches ps tt ss stops
+  begins_watching = record {
+    number = f;
+    numbers = numbers;
+    sound = b.stops;
+    count = b.count;
+    tells = λ k s here. b.none k ∙ ap is_some (sym (none s.0.name.0));
+    only = λ n _. none n;
+    settled = λ k s c here i.
+        let x = are.all k s c here i in
+        (x.0, x.2, elim (b.settled x.0 x.1) [ inl stop ↦ inl stop | inr all ↦ inr all.0 ]);
+  }
+
+  begins_case : (k : ℕ) (c : TypeClause) (n : Need) → (In k ready → ⊥) → IsNeedOf f ps c k n → StopsAt stops n ⊎ (AreTyped stops n.numbers.items × In n.rule ready) → clause_in ps tt c ≡ None
+  begins_case k c n late is (inl stop) = stopped_none ps tt ss stops begins_watching c k n is stop
+  begins_case k c n late is (inr all) = absurd (late (subst (λ q. In q ready) is.rule_is all.1))
+
+  -- a rule of which each clause stopped is quiet
+  pub begins_waiting : (now : Waiting) → ((k : ℕ) → In k ready → has now k ≡ true) → ((k : ℕ) → has now k ≡ true → In k ready) → Waits ps tt ss now
+  begins_waiting now all only = record {
+    quiet = λ k s here out _. none_from ps tt s.1 (λ c i.
+        let x = are.all k s c here i in
+        begins_case k c x.0 (λ h. both_ways (has now k) out (all k h)) x.2 (b.settled x.0 x.1));
+    within = λ k h. b.within k (only k h);
+  }

@@ -11,7 +11,7 @@ use Rattle.lalrpop_norm_model.proofs.LevelLemmas.{at_in}
 use Rattle.lalrpop_norm_tyinfer_table.specs.declared.needs.Need.{Need}
 use Rattle.lalrpop_norm_tyinfer_table.specs.declared.stops.Stop.{Stop}
 use Rattle.lalrpop_norm_tyinfer_table.specs.declared.stops.Stops.{Stops}
-use Rattle.lalrpop_norm_tyinfer_table.specs.Stops.{typed_at, is_typed, stopped_at, AreTypedFrom, AreTypedBelow, AreTyped, IsFirstUntyped, StopsAt, Settled, NeedsBelow, IsStops, PutsUnder, TakesOut, Puts, Seeks, MovesOn, GivesType, BeginsUntyped}
+use Rattle.lalrpop_norm_tyinfer_table.specs.Stops.{typed_at, is_typed, stopped_at, AreTypedFrom, AreTypedBelow, AreTyped, IsFirstUntyped, StopsAt, Settled, NeedsBelow, IsStops, PutsUnder, TakesOut, Puts, Seeks, MovesOn, GivesType, AreUntyped, AreAtBeginnings, BeginsUntyped}
 
 pub on_ok : {T E : Type 0} (r : Result T E) {P Q : Type 0} → OnOk r P → (P → Q) → OnOk r Q
 on_ok (Ok x) p f = f p
@@ -266,30 +266,46 @@ module _ (w given out : Stops) (number : ℕ) (taken : List Stop) (st : IsStops 
 -- ---- at first
 
 pub begins_empty : (w : Stops) (count : ℕ) → length w.stopped.items ≡ length w.typed.items → length w.typed.items ≡ count → ((q : ℕ) → typed_at w q ≡ false) →
-    ((q : ℕ) → stopped_at w q ≡ []) → BeginsUntyped w count []
+    ((q : ℕ) → stopped_at w q ≡ []) → AreUntyped w count
 begins_empty w count lists long none empty = record {
   stops = record { lists = lists; fits = λ q e h. absurd (subst (λ xs. In e xs) (empty q) h) };
   count = long;
   none = none;
-  settled = λ n no. absurd no;
 }
 
-begun : (w after : Stops) (n : Need) (stop : Stop) (all : Bool) → stop.need.now ≡ n → stop.next ≡ 0 → Seeks w after stop all → Settled after n
-begun w after n stop true of at s = inr (λ j o here. same_at w after s.typed o ∙ subst (λ (x : Need). AreTypedFrom w x.numbers.items stop.next) of (s.ready refl) j o (rw at (omega arith)) here)
-begun w after n stop false of at s = inl (subst (StopsAt after) of (s.stopped refl (λ j o lt here. absurd (let low : j < 0 = subst (λ k. j < k) at lt in omega arith))))
+pub beginnings_none : AreAtBeginnings [] []
+beginnings_none = record { all = λ n no. absurd no; only = λ e no. absurd no }
 
-settled_stays : (w after : Stops) (n : Need) → after.typed ≡ w.typed → ((q : ℕ) (e : Stop) → In e (stopped_at w q) → In e (stopped_at after q)) → Settled w n → Settled after n
-settled_stays w after n same kept (inl s) = inl (stays w after n same kept s)
-settled_stays w after n same kept (inr all) = inr (λ j o here. same_at w after same o ∙ all j o here)
-
-pub begins_more : (w after : Stops) (count : ℕ) (ns : List Need) (n : Need) (stop : Stop) (all : Bool) → BeginsUntyped w count ns → stop.need.now ≡ n → stop.next ≡ 0 → Seeks w after stop all →
-    BeginsUntyped after count (ns ++ n ∷ [])
-begins_more w after count ns n stop all b of at s = record {
-  stops = s.stops;
-  count = count_same w after s.typed ∙ b.count;
-  none = λ q. same_at w after s.typed (Some q) ∙ b.none q;
-  settled = λ m h. elim (in_cases m ns (n ∷ []) h) [
-    | inl i ↦ settled_stays w after m s.typed s.kept (b.settled m i)
-    | inr i ↦ subst (Settled after) (sym (in_one m n i)) (begun w after n stop all of at s)
+pub beginnings_more : (ns : List Need) (n : Need) (es : List Stop) (e : Stop) → e.need.now ≡ n → e.next ≡ 0 → AreAtBeginnings ns es → AreAtBeginnings (ns ++ n ∷ []) (es ++ e ∷ [])
+beginnings_more ns n es e of at f = record {
+  all = λ m h. elim (in_cases m ns (n ∷ []) h) [
+    | inl i ↦ let r = f.all m i in (r.0, in_left r.0 es (e ∷ []) r.1, r.2, r.3)
+    | inr i ↦ (e, in_right e es (e ∷ []) (inl refl), of ∙ sym (in_one m n i), at)
   ];
+  only = λ d h. elim (in_cases d es (e ∷ []) h) [
+    | inl i ↦ in_left d.need.now ns (n ∷ []) (f.only d i)
+    | inr i ↦ in_right d.need.now ns (n ∷ []) (inl (ap (λ (x : Stop). x.need.now) (in_one d e i) ∙ of))
+  ];
+}
+
+nothing_before : (w : Stops) (os : List (Option ℕ)) (k : ℕ) → k ≡ 0 → AreTypedBelow w os k
+nothing_before w os k e j o lt here = let low : j < 0 = subst (λ i. j < i) e lt in absurd (omega arith)
+
+pub begins : (w after : Stops) (needs : List Need) (es : List Stop) (ready : List ℕ) → AreUntyped w (length w.typed.items) → AreAtBeginnings needs es → MovesOn w after es ready →
+    BeginsUntyped after (length w.typed.items) needs ready
+begins w after needs es ready untyped first m = record {
+  stops = m.stops;
+  count = count_same w after m.typed;
+  none = λ q. same_at w after m.typed (Some q) ∙ untyped.none q;
+  settled = λ n i.
+      let r = first.all n i in
+      elim (m.moved r.0 r.1 (nothing_before w r.0.need.now.numbers.items r.0.next r.3)) [
+        | inl s ↦ inl (subst (StopsAt after) r.2 s)
+        | inr t ↦
+            inr (
+              subst (λ (x : Need). AreTyped after x.numbers.items) r.2 (λ j o here. same_at w after m.typed o ∙ t.0 j o here),
+              subst (λ (x : Need). In x.rule ready) r.2 t.1,
+            )
+      ];
+  within = m.within;
 }

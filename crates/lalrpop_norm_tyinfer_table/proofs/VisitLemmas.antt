@@ -29,14 +29,12 @@ taken_kept tt n v x e = record {
   rest = refl;
 }
 
-pub taken_typed : {X : Type 0} (f : X → ReprData) (o : Option X) (tt : TypeTable) (n : List ℕ) (v : Option ReprData) → option_map f o ≡ type_by_name tt n →
-    is_some o ≡ true → TakesType tt tt n v false
-taken_typed f None tt n v e some = absurd cc
-taken_typed f (Some x) tt n v e some = taken_kept tt n v (f x) e
+typed_case : (tt : TypeTable) (n : List ℕ) (v o : Option ReprData) → type_by_name tt n ≡ o → is_some o ≡ true → TakesType tt tt n v false
+typed_case tt n v None e some = absurd cc
+typed_case tt n v (Some x) e some = taken_kept tt n v x (sym e)
 
-pub untyped_none : {X : Type 0} (f : X → ReprData) (o : Option X) (w : Option ReprData) → option_map f o ≡ w → is_some o ≡ false → w ≡ None
-untyped_none f None w e none = sym e
-untyped_none f (Some x) w e none = absurd cc
+pub taken_typed : (tt : TypeTable) (n : List ℕ) (v : Option ReprData) → is_some (type_by_name tt n) ≡ true → TakesType tt tt n v false
+taken_typed tt n v some = typed_case tt n v (type_by_name tt n) refl some
 
 -- one for which nothing is made has none yet
 pub taken_none : (tt : TypeTable) (n : List ℕ) (v : Option ReprData) → type_by_name tt n ≡ None → None ≡ v → TakesType tt tt n v false
@@ -164,13 +162,3 @@ visits_are g rows (r ∷ rs) = visits_are g (visit g rows r) rs
 pub rounds_are : (g : GrammarData) (k : ℕ) → rounds_seen g (map with_clauses (all_rules g)) k ≡ type_rounds g k
 rounds_are g zero = refl
 rounds_are g (suc k) = ap (λ rows. visits_seen g rows (map with_clauses (all_rules g))) (rounds_are g k) ∙ visits_are g (type_rounds g k) (all_rules g)
-
--- ---- loops over rules
-
--- ---- names with the same text
-
-pub same_name : (a b : NonterminalString) → a.0 ≡ b.0 → a ≡ b
-same_name a b e = ap named_by e
-
-pub type_of_same : (a b : NonterminalString) (tt : TypeTable) (o : Option ReprData) → a.0 ≡ b.0 → type_of a tt ≡ o → type_of b tt ≡ o
-type_of_same a b tt o e h = ap (λ (n : NonterminalString). type_of n tt) (sym (same_name a b e)) ∙ h

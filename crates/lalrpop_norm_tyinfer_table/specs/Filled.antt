@@ -1,11 +1,8 @@
 -- A type table that the rounds have filled, and its faults.
 use Rattle.std.specs.Prelude.{List, ◌++◌, flat_map}
-use Rattle.std.specs.List.Sorted.{IsStrictlySortedBy}
-use Rattle.std.specs.Map.{keys_of}
 use Rattle.lalrpop_norm_tree_names.specs.declared.names.TypeParameter.{TypeParameter}
 use Rattle.lalrpop_norm_tree.specs.Items.{RuleData, GrammarData}
 use Rattle.lalrpop_norm_faults.specs.Faults.{Fault}
-use Rattle.lalrpop_norm_repr.specs.Orders.{name_cmp, terminal_cmp}
 use Rattle.lalrpop_norm_repr.specs.Tables.{TypeTable}
 use Rattle.lalrpop_norm_model.specs.TuplePatterns.{rule_misfits}
 use Rattle.lalrpop_norm_model.specs.TypeRounds.{inferred}
@@ -14,12 +11,10 @@ use Rattle.lalrpop_norm_tyinfer_table.specs.TableValues.{type_by_name}
 use Rattle.lalrpop_norm_tyinfer_table.specs.TokenTypes.{HasTokens}
 use Rattle.lalrpop_norm_tyinfer_table.specs.Visits.{HasRows}
 
--- the table has the types where the rounds end, and those that need no inference, in the order of their keys
+-- the table has the types where the rounds end, and those that need no inference
 pub record HasAllRows (g : GrammarData) (types : TypeTable) : Type 0 where
   pub names : HasRows types (inferred g)
-  pub names_in_order : IsStrictlySortedBy name_cmp (keys_of types.nonterminals)
   pub tokens : HasTokens g types
-  pub terminals_in_order : IsStrictlySortedBy terminal_cmp (keys_of types.terminals)
 
 -- F49, then F50, then F51 to F53 by a table
 abbrev pub table_faults : List TypeParameter → TypeTable → List RuleData → List Fault

@@ -3,6 +3,7 @@ pub mod Filled
 pub mod Inferred
 pub mod Literals
 pub mod Needs
+pub mod Numbered
 pub mod SameApplied
 pub mod Stops
 pub mod TableFaults

@@ -68,9 +68,3 @@ pub record AddsNeeds (number : List ℕ → Option ℕ) (ps : List TypeParameter
 pub record AreNeeds (number : List ℕ → Option ℕ) (ps : List TypeParameter) (ss : List Seen) (needs : List Need) : Type 0 where
   pub all : (k : ℕ) (s : Seen) (c : TypeClause) → slice_get ss k ≡ Some s → In c s.1 → (n : Need) × In n needs × IsNeedOf number ps c k n
   pub only : (n : Need) → In n needs → (n.rule < length ss) × ((c : TypeClause) × IsNeedOf number ps c n.rule n)
-
--- the same by some numbers of theirs
-pub record HaveNeeds (ps : List TypeParameter) (ss : List Seen) (needs : List Need) : Type 0 where
-  pub number : List ℕ → Option ℕ
-  pub numbers : AreRuleNumbers number (names_seen ss)
-  pub needs_are : AreNeeds number ps ss needs

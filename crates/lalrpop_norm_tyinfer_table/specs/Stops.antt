@@ -107,9 +107,21 @@ pub record GivesType (w after : Stops) (number : ℕ) (ready : List ℕ) : Type 
       StopsAt after n ⊎ (AreTyped after n.numbers.items × (AreTyped w n.numbers.items ⊎ In n.rule ready))
   pub within : (k : ℕ) → In k ready → k < length w.typed.items
 
--- no number has a type, and the clauses are settled
-pub record BeginsUntyped (w : Stops) (numbers : ℕ) (needs : List Need) : Type 0 where
+-- so many numbers without types, and no clause
+pub record AreUntyped (w : Stops) (numbers : ℕ) : Type 0 where
   pub stops : IsStops w
   pub count : length w.typed.items ≡ numbers
   pub none : (q : ℕ) → typed_at w q ≡ false
-  pub settled : (n : Need) → In n needs → Settled w n
+
+-- the clauses, each at its beginning
+pub record AreAtBeginnings (needs : List Need) (stops : List Stop) : Type 0 where
+  pub all : (n : Need) → In n needs → (e : Stop) × In e stops × (e.need.now ≡ n) × (e.next ≡ 0)
+  pub only : (e : Stop) → In e stops → In e.need.now needs
+
+-- no number has a type, and each clause stopped, or has no name and its rule is ready
+pub record BeginsUntyped (w : Stops) (numbers : ℕ) (needs : List Need) (ready : List ℕ) : Type 0 where
+  pub stops : IsStops w
+  pub count : length w.typed.items ≡ numbers
+  pub none : (q : ℕ) → typed_at w q ≡ false
+  pub settled : (n : Need) → In n needs → StopsAt w n ⊎ (AreTyped w n.numbers.items × In n.rule ready)
+  pub within : (k : ℕ) → In k ready → k < numbers

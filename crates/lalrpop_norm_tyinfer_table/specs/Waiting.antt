@@ -61,13 +61,11 @@ pub record Watches (ps : List TypeParameter) (tt : TypeTable) (ss : List Seen) (
   pub settled : (k : ℕ) (s : Seen) (c : TypeClause) → slice_get ss k ≡ Some s → In c s.1 →
       (n : Need) × IsNeedOf number ps c k n × Settled stops n
 
--- The rule at the place is visited. Where it takes a type, the rules of the clauses that have all types now wait.
+-- The rule at the place is visited. Where it takes a type, the rules of the clauses that have all types now are ready.
 pub record VisitsOne (ps : List TypeParameter) (before after : TypeTable) (s : Seen) (place : ℕ) (stops stops_after : Stops)
-    (now now_after next next_after : Waiting) : Type 0 where
+    (ready : List ℕ) : Type 0 where
   pub added : Bool
   pub takes : TakesType before after s.0.name.0 (first_in ps before s.1) added
-  pub ready : List ℕ
   pub gives : added ≡ true → GivesType stops stops_after place ready
   pub still : added ≡ false → stops_after ≡ stops
   pub none : added ≡ false → ready ≡ []
-  pub wakes : Wakes ready place now now_after next next_after

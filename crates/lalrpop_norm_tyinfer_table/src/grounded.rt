@@ -2,14 +2,14 @@
 ghost use Rattle.std.specs.Prelude.{flat_map, map};
 ghost use Rattle.lalrpop_norm_tree.specs.Items.{alternative_view, rule_view};
 ghost use Rattle.lalrpop_norm_faults.specs.Faults.{Refuses, IsFirst};
-ghost use Rattle.lalrpop_norm_repr.specs.Tables.{type_table};
 ghost use Rattle.lalrpop_norm_model.specs.InferenceFaults.{lack_of};
+ghost use Rattle.lalrpop_norm_tyinfer_table.specs.Numbered.{numbered_table};
 ghost use Rattle.lalrpop_norm_tyinfer_table.specs.TableFaults.{lacking_seen, untyped_in};
 ghost use Rattle.lalrpop_norm_tyinfer_table.specs.Visits.{rule_seen};
 
+use crate::numbered::Numbered;
 use crate::rules::PlainRule;
 use lalrpop_norm_faults::{FaultKind, NormFailure, NormResult, refusal};
-use lalrpop_norm_repr::grammar::repr::Types;
 use lalrpop_norm_tree::grammar::parse_tree::{Alternative, NonterminalData};
 use std::alloc::Global;
 
@@ -59,8 +59,8 @@ fn lack(alloc: Global, rule: &NonterminalData, alternatives: &[Alternative]) -> 
 }
 
 /// Refuses a rule without a type in the table.
-pub fn check_typed(alloc: Global, types: &Types, rules: &[PlainRule]) -> NormResult<()>
-    ensures { Refuses result (flat_map (untyped_in (type_table types.now)) (map (λ r. rule_view r.data.now) rules.now)) }
+pub fn check_typed(alloc: Global, types: &Numbered, rules: &[PlainRule]) -> NormResult<()>
+    ensures { Refuses result (flat_map (untyped_in (numbered_table types.now)) (map (λ r. rule_view r.data.now) rules.now)) }
 {
     for rule in rules {
         check_type(alloc, types, rule.data)?;
@@ -68,8 +68,8 @@ pub fn check_typed(alloc: Global, types: &Types, rules: &[PlainRule]) -> NormRes
     Ok(())
 }
 
-fn check_type(alloc: Global, types: &Types, rule: &NonterminalData) -> NormResult<()>
-    ensures { Refuses result (untyped_in (type_table types.now) (rule_view rule.now)) }
+fn check_type(alloc: Global, types: &Numbered, rule: &NonterminalData) -> NormResult<()>
+    ensures { Refuses result (untyped_in (numbered_table types.now) (rule_view rule.now)) }
 {
     let name = &rule.name;
     match types.lookup_nonterminal_type(name) {

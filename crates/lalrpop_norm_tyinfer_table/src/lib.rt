@@ -4,6 +4,7 @@
 pub mod grounded;
 mod named;
 pub mod needs;
+pub mod numbered;
 pub mod patterns;
 pub mod rules;
 pub mod same;

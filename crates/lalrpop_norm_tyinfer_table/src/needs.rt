@@ -7,10 +7,10 @@ ghost use Rattle.lalrpop_norm_tree_parts.specs.Paths.{path_view};
 ghost use Rattle.lalrpop_norm_model.specs.Expanded.{names_in, names_in_kind};
 ghost use Rattle.lalrpop_norm_model.specs.TypeRelation.{associated_in};
 ghost use Rattle.lalrpop_norm_tyinfer_table.specs.Clauses.{clause_view};
-ghost use Rattle.lalrpop_norm_tyinfer_table.specs.Needs.{needed_in, needed_type, needed_types, needed_return, needed_path, names_seen, AreRuleNumbers, AddsNeeds, IsNeedOf, AreNeeds, HaveNeeds};
+ghost use Rattle.lalrpop_norm_tyinfer_table.specs.Needs.{needed_in, needed_type, needed_types, needed_return, needed_path, AddsNeeds, IsNeedOf, AreNeeds};
 ghost use Rattle.lalrpop_norm_tyinfer_table.specs.Visits.{rule_seen};
 
-use crate::rules::{PlainRule, names_of_rules};
+use crate::rules::PlainRule;
 use crate::type_sources::TypeSource;
 use crate::values::associated;
 use lalrpop_norm_names::Names;
@@ -217,7 +217,7 @@ fn add_needs(
 }
 
 /// What the clauses of some rules need, by these numbers.
-fn needs_by(
+pub fn needs_of(
     alloc: Global,
     parameters: &[TypeParameter],
     names: &Names,
@@ -237,24 +237,4 @@ fn needs_by(
         )?;
     }
     Ok(needs)
-}
-
-/// The number of each rule, which is its place, by its name; of several the first.
-fn numbers_of(alloc: Global, rules: &[PlainRule]) -> Result<Names, NoMemory>
-    ensures { IfOk result (λ d. AreRuleNumbers (number_in_table d) (names_seen (map rule_seen rules.now))) }
-{
-    let names = names_of_rules(alloc, rules)?;
-    Names::of(alloc, &names)
-}
-
-/// What the clauses of some rules need.
-pub fn needs_of(
-    alloc: Global,
-    parameters: &[TypeParameter],
-    rules: &[PlainRule],
-) -> Result<Vec<Need>, NoMemory>
-    ensures { IfOk result (λ ns. HaveNeeds parameters.now (map rule_seen rules.now) ns.items) }
-{
-    let names = numbers_of(alloc, rules)?;
-    needs_by(alloc, parameters, &names, rules)
 }

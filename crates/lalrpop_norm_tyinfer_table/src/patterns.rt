@@ -5,22 +5,23 @@ ghost use Rattle.lalrpop_norm_tree_parts.specs.Reprs.{repr_view, reprs_view};
 ghost use Rattle.lalrpop_norm_tree.specs.Symbols.{argument_pattern_view, argument_patterns_view, several, tuple_view, symbol_view, kind_view, parts_view, expr_view};
 ghost use Rattle.lalrpop_norm_faults.specs.Faults.{Refuses};
 ghost use Rattle.lalrpop_norm_faults.specs.declared.kind.FaultKind.TheVariants.{TupleLength};
-ghost use Rattle.lalrpop_norm_repr.specs.Tables.{type_table};
 ghost use Rattle.lalrpop_norm_model.specs.TuplePatterns.{as_many, misfits, misfits_of, symbol_misfits, alternative_misfits, rule_misfits};
+ghost use Rattle.lalrpop_norm_tyinfer_table.specs.Numbered.{numbered_table};
 ghost use Rattle.lalrpop_norm_tyinfer_table.specs.TableFaults.{faults_at, kind_misfits, parts_misfits, types_in_tuple};
 ghost use Rattle.lalrpop_norm_tyinfer_table.specs.TableValues.{type_by_name};
 
+use crate::numbered::Numbered;
 use crate::rules::PlainRule;
 use lalrpop_norm_faults::{FaultKind, NormResult, refusal};
-use lalrpop_norm_repr::grammar::repr::{TypeRepr, Types};
+use lalrpop_norm_repr::grammar::repr::TypeRepr;
 use lalrpop_norm_tree::grammar::parse_tree::{
     Alternative, ArgPattern, ExprSymbol, NonterminalData, Span, Symbol, SymbolKind, Tuple,
 };
 use std::alloc::Global;
 
 /// Refuses a tuple pattern that does not fit the type of its symbol.
-pub fn check_patterns(alloc: Global, types: &Types, rules: &[PlainRule]) -> NormResult<()>
-    ensures { Refuses result (flat_map (rule_misfits (type_by_name (type_table types.now))) (map (λ r. rule_view r.data.now) rules.now)) }
+pub fn check_patterns(alloc: Global, types: &Numbered, rules: &[PlainRule]) -> NormResult<()>
+    ensures { Refuses result (flat_map (rule_misfits (type_by_name (numbered_table types.now))) (map (λ r. rule_view r.data.now) rules.now)) }
 {
     for rule in rules {
         check_rule(alloc, types, rule.data)?;
@@ -28,14 +29,14 @@ pub fn check_patterns(alloc: Global, types: &Types, rules: &[PlainRule]) -> Norm
     Ok(())
 }
 
-fn check_rule(alloc: Global, types: &Types, rule: &NonterminalData) -> NormResult<()>
-    ensures { Refuses result (rule_misfits (type_by_name (type_table types.now)) (rule_view rule.now)) }
+fn check_rule(alloc: Global, types: &Numbered, rule: &NonterminalData) -> NormResult<()>
+    ensures { Refuses result (rule_misfits (type_by_name (numbered_table types.now)) (rule_view rule.now)) }
 {
     check_alternatives(alloc, types, &rule.alternatives)
 }
 
-fn check_alternatives(alloc: Global, types: &Types, alternatives: &[Alternative]) -> NormResult<()>
-    ensures { Refuses result (flat_map (alternative_misfits (type_by_name (type_table types.now))) (map alternative_view alternatives.now)) }
+fn check_alternatives(alloc: Global, types: &Numbered, alternatives: &[Alternative]) -> NormResult<()>
+    ensures { Refuses result (flat_map (alternative_misfits (type_by_name (numbered_table types.now))) (map alternative_view alternatives.now)) }
 {
     for alternative in alternatives {
         check_alternative(alloc, types, alternative)?;
@@ -43,20 +44,20 @@ fn check_alternatives(alloc: Global, types: &Types, alternatives: &[Alternative]
     Ok(())
 }
 
-fn check_alternative(alloc: Global, types: &Types, alternative: &Alternative) -> NormResult<()>
-    ensures { Refuses result (alternative_misfits (type_by_name (type_table types.now)) (alternative_view alternative.now)) }
+fn check_alternative(alloc: Global, types: &Numbered, alternative: &Alternative) -> NormResult<()>
+    ensures { Refuses result (alternative_misfits (type_by_name (numbered_table types.now)) (alternative_view alternative.now)) }
 {
     check_expr(alloc, types, &alternative.expr)
 }
 
-fn check_expr(alloc: Global, types: &Types, expr: &ExprSymbol) -> NormResult<()>
-    ensures { Refuses result (parts_misfits (type_by_name (type_table types.now)) (expr_view expr.now)) }
+fn check_expr(alloc: Global, types: &Numbered, expr: &ExprSymbol) -> NormResult<()>
+    ensures { Refuses result (parts_misfits (type_by_name (numbered_table types.now)) (expr_view expr.now)) }
 {
     check_symbols(alloc, types, &expr.symbols)
 }
 
-fn check_symbols(alloc: Global, types: &Types, symbols: &[Symbol]) -> NormResult<()>
-    ensures { Refuses result (parts_misfits (type_by_name (type_table types.now)) (parts_view symbols.now)) }
+fn check_symbols(alloc: Global, types: &Numbered, symbols: &[Symbol]) -> NormResult<()>
+    ensures { Refuses result (parts_misfits (type_by_name (numbered_table types.now)) (parts_view symbols.now)) }
 {
     for symbol in symbols {
         check_kind(alloc, types, &symbol.kind)?;
@@ -64,8 +65,8 @@ fn check_symbols(alloc: Global, types: &Types, symbols: &[Symbol]) -> NormResult
     Ok(())
 }
 
-fn check_kind(alloc: Global, types: &Types, kind: &SymbolKind) -> NormResult<()>
-    ensures { Refuses result (kind_misfits (type_by_name (type_table types.now)) (kind_view kind.now)) }
+fn check_kind(alloc: Global, types: &Numbered, kind: &SymbolKind) -> NormResult<()>
+    ensures { Refuses result (kind_misfits (type_by_name (numbered_table types.now)) (kind_view kind.now)) }
 {
     match kind {
         SymbolKind::Tuple(tuple, symbol) => check_symbol(alloc, types, tuple, symbol),
@@ -84,8 +85,8 @@ fn check_kind(alloc: Global, types: &Types, kind: &SymbolKind) -> NormResult<()>
 }
 
 /// A tuple of names before a symbol.
-fn check_symbol(alloc: Global, types: &Types, tuple: &Tuple, symbol: &Symbol) -> NormResult<()>
-    ensures { Refuses result (symbol_misfits (type_by_name (type_table types.now)) (tuple_view tuple.now, symbol_view symbol.now)) }
+fn check_symbol(alloc: Global, types: &Numbered, tuple: &Tuple, symbol: &Symbol) -> NormResult<()>
+    ensures { Refuses result (symbol_misfits (type_by_name (numbered_table types.now)) (tuple_view tuple.now, symbol_view symbol.now)) }
 {
     match &symbol.kind {
         SymbolKind::Nonterminal(name) => match types.lookup_nonterminal_type(name) {

@@ -51,7 +51,7 @@ pub fn plain_rules(alloc: Global, items: &[GrammarItem]) -> Result<Vec<PlainRule
 }
 
 /// The names of some rules.
-pub(crate) fn names_of_rules(
+pub fn names_of_rules(
     alloc: Global,
     rules: &[PlainRule],
 ) -> Result<Vec<NonterminalString>, NoMemory>

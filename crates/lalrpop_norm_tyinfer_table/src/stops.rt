@@ -1,9 +1,9 @@
 //! Clauses that wait for the type of a name.
-ghost use Rattle.std.specs.Prelude.{◌≡◌, ◌<◌, ◌≤◌, ◌==◌, ◌||◌, [], ℕ, true, false, IfOk, OnOk, length, slice_get, Some, None, MatchOption};
+ghost use Rattle.std.specs.Prelude.{◌≡◌, ◌<◌, ◌≤◌, ◌==◌, ◌||◌, ℕ, true, false, IfOk, OnOk, length, slice_get, Some, None, MatchOption};
 ghost use Rattle.lalrpop_norm_theory.specs.Rounds.{In};
 ghost use Rattle.lalrpop_norm_tyinfer_table.specs.declared.needs.Need.{Need};
 ghost use Rattle.lalrpop_norm_tyinfer_table.specs.declared.stops.Stop.{Stop};
-ghost use Rattle.lalrpop_norm_tyinfer_table.specs.Stops.{typed_at, is_typed, AreTypedFrom, IsFirstUntyped, IsStops, NeedsBelow, Seeks, Puts, PutsUnder, TakesOut, MovesOn, GivesType, BeginsUntyped};
+ghost use Rattle.lalrpop_norm_tyinfer_table.specs.Stops.{typed_at, is_typed, AreTypedFrom, IsFirstUntyped, IsStops, NeedsBelow, Seeks, Puts, PutsUnder, TakesOut, MovesOn, GivesType, AreUntyped, AreAtBeginnings, BeginsUntyped};
 
 use crate::needs::Need;
 use lalrpop_norm_tree::grammar::parse_tree::NoMemory;
@@ -28,8 +28,8 @@ pub struct Stops<'n> {
 
 impl<'n> Stops<'n> {
     /// Of so many numbers, none of which has a type, with no clause.
-    fn new(alloc: Global, count: usize) -> Result<Stops<'n>, NoMemory>
-        ensures { IfOk result (λ w. BeginsUntyped w count []) }
+    pub fn new(alloc: Global, count: usize) -> Result<Stops<'n>, NoMemory>
+        ensures { IfOk result (λ w. AreUntyped w count) }
     {
         let mut typed = Vec::with_capacity(alloc, count)?;
         let mut stopped = Vec::with_capacity(alloc, count)?;
@@ -40,20 +40,8 @@ impl<'n> Stops<'n> {
         Ok(Stops { typed, stopped })
     }
 
-    /// Of so many numbers, none of which has a type: each clause stops at its first name, if it has one.
-    pub fn of(alloc: Global, needs: &'n [Need], count: usize) -> Result<Stops<'n>, NoMemory>
-        requires { (n : Need) → In n needs.now → NeedsBelow count n }
-        ensures { IfOk result (λ w. BeginsUntyped w count needs.now) }
-    {
-        let mut stops = Stops::new(alloc, count)?;
-        for need in needs {
-            let _ready = stops.seek(Stop { need, next: 0 })?;
-        }
-        Ok(stops)
-    }
-
     /// Whether a number has a type.
-    fn is_typed(&self, number: usize) -> bool
+    pub fn is_typed(&self, number: usize) -> bool
         requires { number < length self.now.typed.items }
         ensures { result ≡ typed_at self.now number }
     {
@@ -147,4 +135,25 @@ impl<'n> Stops<'n> {
         }
         Ok(ready)
     }
+
+    /// Lets clauses stop at their first names, while no number has a type. The rules of those that have no name.
+    pub fn begin(&mut self, alloc: Global, needs: &'n [Need]) -> Result<Vec<usize>, NoMemory>
+        requires untyped { AreUntyped self.old (length self.old.typed.items) }
+        requires fits { (n : Need) → In n needs.now → NeedsBelow (length self.old.typed.items) n }
+        ensures { IfOk result (λ ready. BeginsUntyped self.new (length self.old.typed.items) needs.now ready.items) }
+    {
+        let stops = at_beginnings(alloc, needs)?;
+        self.move_on(alloc, &stops)
+    }
+}
+
+/// Clauses at their beginnings.
+fn at_beginnings<'n>(alloc: Global, needs: &'n [Need]) -> Result<Vec<Stop<'n>>, NoMemory>
+    ensures { IfOk result (λ es. AreAtBeginnings needs.now es.items) }
+{
+    let mut stops = Vec::with_capacity(alloc, needs.len())?;
+    for need in needs {
+        stops.push(Stop { need, next: 0 })?;
+    }
+    Ok(stops)
 }

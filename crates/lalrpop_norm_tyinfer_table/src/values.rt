@@ -6,13 +6,14 @@ ghost use Rattle.lalrpop_norm_tree_parts.specs.Reprs.{repr_view, reprs_view, app
 ghost use Rattle.lalrpop_norm_tree.specs.LoweredTypes.{named_path};
 ghost use Rattle.lalrpop_norm_tree.specs.Symbols.{kind_view, symbol_view};
 ghost use Rattle.lalrpop_norm_tree.specs.Types.{type_view, types_view, maybe_of};
-ghost use Rattle.lalrpop_norm_repr.specs.Tables.{type_table};
 ghost use Rattle.lalrpop_norm_model.specs.TypeRelation.{associated_in, is_parameter_of, is_type_parameter};
 ghost use Rattle.lalrpop_norm_model.specs.TypeTables.{path_value, both};
+ghost use Rattle.lalrpop_norm_tyinfer_table.specs.Numbered.{numbered_table};
 ghost use Rattle.lalrpop_norm_tyinfer_table.specs.TableValues.{kind_in, part_in, type_in, types_in, return_in};
 
+use crate::numbered::Numbered;
 use crate::same::is_same_name;
-use lalrpop_norm_repr::grammar::repr::{NominalTypeRepr, TypeRepr, Types};
+use lalrpop_norm_repr::grammar::repr::{NominalTypeRepr, TypeRepr};
 use lalrpop_norm_tree::grammar::parse_tree::{
     Atom, Lifetime, NoMemory, Path, Symbol, SymbolKind, TypeParameter, TypeRef,
 };
@@ -22,8 +23,8 @@ use std::alloc::Global;
 
 /// A copy of the type that a symbol gives, if it gives one by the table.
 #[cycle(kind)]
-pub fn kind_value(types: &Types, kind: &SymbolKind) -> Result<Option<TypeRepr>, NoMemory>
-    ensures { IfOk result (λ o. option_map repr_view o ≡ kind_in (type_table types.now) (kind_view kind.now)) }
+pub fn kind_value(types: &Numbered, kind: &SymbolKind) -> Result<Option<TypeRepr>, NoMemory>
+    ensures { IfOk result (λ o. option_map repr_view o ≡ kind_in (numbered_table types.now) (kind_view kind.now)) }
 {
     match kind {
         SymbolKind::Terminal(terminal) => Ok(copy_of(Some(types.terminal_type(terminal)))?),
@@ -42,8 +43,8 @@ pub fn kind_value(types: &Types, kind: &SymbolKind) -> Result<Option<TypeRepr>, 
 }
 
 #[cycle(kind)]
-fn symbol_value(types: &Types, symbol: &Symbol) -> Result<Option<TypeRepr>, NoMemory>
-    ensures { IfOk result (λ o. option_map repr_view o ≡ part_in (type_table types.now) (symbol_view symbol.now)) }
+fn symbol_value(types: &Numbered, symbol: &Symbol) -> Result<Option<TypeRepr>, NoMemory>
+    ensures { IfOk result (λ o. option_map repr_view o ≡ part_in (numbered_table types.now) (symbol_view symbol.now)) }
 {
     kind_value(types, &symbol.kind)
 }
@@ -92,10 +93,10 @@ pub(crate) fn associated<'a>(
 pub fn type_value(
     alloc: Global,
     parameters: &[TypeParameter],
-    types: &Types,
+    types: &Numbered,
     written: &TypeRef,
 ) -> Result<Option<TypeRepr>, NoMemory>
-    ensures { IfOk result (λ o. option_map repr_view o ≡ type_in parameters.now (type_table types.now) (type_view written.now)) }
+    ensures { IfOk result (λ o. option_map repr_view o ≡ type_in parameters.now (numbered_table types.now) (type_view written.now)) }
 {
     match written {
         TypeRef::Tuple(inner) => tuple_value(alloc, parameters, types, inner),
@@ -131,10 +132,10 @@ pub fn type_value(
 fn boxed_value(
     alloc: Global,
     parameters: &[TypeParameter],
-    types: &Types,
+    types: &Numbered,
     written: &TypeRef,
 ) -> Result<Option<Box<TypeRepr>>, NoMemory>
-    ensures { IfOk result (λ o. option_map (λ b. repr_view b.value) o ≡ type_in parameters.now (type_table types.now) (type_view written.now)) }
+    ensures { IfOk result (λ o. option_map (λ b. repr_view b.value) o ≡ type_in parameters.now (numbered_table types.now) (type_view written.now)) }
 {
     match type_value(alloc, parameters, types, written)? {
         Some(ty) => Ok(Some(Box::new(alloc, ty)?)),
@@ -146,10 +147,10 @@ fn boxed_value(
 fn slice_value(
     alloc: Global,
     parameters: &[TypeParameter],
-    types: &Types,
+    types: &Numbered,
     inner: &TypeRef,
 ) -> Result<Option<TypeRepr>, NoMemory>
-    ensures { IfOk result (λ o. option_map repr_view o ≡ option_map lowered.slice (type_in parameters.now (type_table types.now) (type_view inner.now))) }
+    ensures { IfOk result (λ o. option_map repr_view o ≡ option_map lowered.slice (type_in parameters.now (numbered_table types.now) (type_view inner.now))) }
 {
     match boxed_value(alloc, parameters, types, inner)? {
         Some(ty) => Ok(Some(TypeRepr::Slice(ty))),
@@ -161,13 +162,13 @@ fn slice_value(
 fn reference_value(
     alloc: Global,
     parameters: &[TypeParameter],
-    types: &Types,
+    types: &Numbered,
     lifetime: &Option<Lifetime>,
     mutable: bool,
     inner: &TypeRef,
 ) -> Result<Option<TypeRepr>, NoMemory>
     ensures { IfOk result (λ o. option_map repr_view o
-        ≡ option_map (lowered.reference lifetime.now mutable) (type_in parameters.now (type_table types.now) (type_view inner.now))) }
+        ≡ option_map (lowered.reference lifetime.now mutable) (type_in parameters.now (numbered_table types.now) (type_view inner.now))) }
 {
     match boxed_value(alloc, parameters, types, inner)? {
         Some(referent) => Ok(Some(reference_type(lifetime, mutable, referent)?)),
@@ -179,10 +180,10 @@ fn reference_value(
 fn tuple_value(
     alloc: Global,
     parameters: &[TypeParameter],
-    types: &Types,
+    types: &Numbered,
     inner: &[TypeRef],
 ) -> Result<Option<TypeRepr>, NoMemory>
-    ensures { IfOk result (λ o. option_map repr_view o ≡ option_map lowered.tuple (types_in parameters.now (type_table types.now) (types_view inner.now))) }
+    ensures { IfOk result (λ o. option_map repr_view o ≡ option_map lowered.tuple (types_in parameters.now (numbered_table types.now) (types_view inner.now))) }
 {
     match all_values(alloc, parameters, types, inner)? {
         Some(inner) => Ok(Some(TypeRepr::Tuple(inner))),
@@ -195,13 +196,13 @@ fn tuple_value(
 fn path_value(
     alloc: Global,
     parameters: &[TypeParameter],
-    types: &Types,
+    types: &Numbered,
     path: &Path,
     inner: &[TypeRef],
 ) -> Result<Option<TypeRepr>, NoMemory>
     ensures { IfOk result (λ o. option_map repr_view o
         ≡ path_value (associated_in parameters.now (path_view path.now).ids) (path_view path.now)
-        (types_in parameters.now (type_table types.now) (types_view inner.now))) }
+        (types_in parameters.now (numbered_table types.now) (types_view inner.now))) }
 {
     match associated(parameters, path) {
         Some((parameter, id)) => Ok(Some(associated_type(parameter, id)?)),
@@ -213,12 +214,12 @@ fn path_value(
 fn applied_value(
     alloc: Global,
     parameters: &[TypeParameter],
-    types: &Types,
+    types: &Numbered,
     path: &Path,
     inner: &[TypeRef],
 ) -> Result<Option<NominalTypeRepr>, NoMemory>
     ensures { IfOk result (λ o. option_map applied_view o
-        ≡ option_map (λ xs. (path_view path.now, xs)) (types_in parameters.now (type_table types.now) (types_view inner.now))) }
+        ≡ option_map (λ xs. (path_view path.now, xs)) (types_in parameters.now (numbered_table types.now) (types_view inner.now))) }
 {
     match all_values(alloc, parameters, types, inner)? {
         Some(types) => Ok(Some(applied_to(path, types)?)),
@@ -230,12 +231,12 @@ fn applied_value(
 fn nominal_value(
     alloc: Global,
     parameters: &[TypeParameter],
-    types: &Types,
+    types: &Numbered,
     path: &Path,
     inner: &[TypeRef],
 ) -> Result<Option<TypeRepr>, NoMemory>
     ensures { IfOk result (λ o. option_map repr_view o
-        ≡ option_map (lowered.nominal (path_view path.now)) (types_in parameters.now (type_table types.now) (types_view inner.now))) }
+        ≡ option_map (lowered.nominal (path_view path.now)) (types_in parameters.now (numbered_table types.now) (types_view inner.now))) }
 {
     match applied_value(alloc, parameters, types, path, inner)? {
         Some(applied) => Ok(Some(TypeRepr::Nominal(applied))),
@@ -247,12 +248,12 @@ fn nominal_value(
 fn object_value(
     alloc: Global,
     parameters: &[TypeParameter],
-    types: &Types,
+    types: &Numbered,
     path: &Path,
     inner: &[TypeRef],
 ) -> Result<Option<TypeRepr>, NoMemory>
     ensures { IfOk result (λ o. option_map repr_view o
-        ≡ option_map (lowered.trait_object (path_view path.now)) (types_in parameters.now (type_table types.now) (types_view inner.now))) }
+        ≡ option_map (lowered.trait_object (path_view path.now)) (types_in parameters.now (numbered_table types.now) (types_view inner.now))) }
 {
     match applied_value(alloc, parameters, types, path, inner)? {
         Some(applied) => Ok(Some(TypeRepr::TraitObject(applied))),
@@ -292,11 +293,11 @@ fn function_of(
 fn return_value(
     alloc: Global,
     parameters: &[TypeParameter],
-    types: &Types,
+    types: &Numbered,
     ret: &Option<Box<TypeRef>>,
 ) -> Result<Option<Option<Box<TypeRepr>>>, NoMemory>
     ensures { IfOk result (λ o. option_map (λ r. maybe_repr_of (option_map (λ b. repr_view b.value) r)) o
-        ≡ return_in parameters.now (type_table types.now) (maybe_of (option_map (λ b. type_view b.value) ret.now))) }
+        ≡ return_in parameters.now (numbered_table types.now) (maybe_of (option_map (λ b. type_view b.value) ret.now))) }
 {
     match ret {
         None => Ok(Some(None)),
@@ -312,10 +313,10 @@ fn return_value(
 fn all_values(
     alloc: Global,
     parameters: &[TypeParameter],
-    types: &Types,
+    types: &Numbered,
     written: &[TypeRef],
 ) -> Result<Option<Vec<TypeRepr>>, NoMemory>
-    ensures { IfOk result (λ o. option_map (λ ts. reprs_view ts.items) o ≡ types_in parameters.now (type_table types.now) (types_view written.now)) }
+    ensures { IfOk result (λ o. option_map (λ ts. reprs_view ts.items) o ≡ types_in parameters.now (numbered_table types.now) (types_view written.now)) }
 {
     let mut values = Vec::with_capacity(alloc, written.len())?;
     for inner in written {

@@ -1,6 +1,7 @@
 //! Places of rules that wait for a visit.
-ghost use Rattle.std.specs.Prelude.{◌≡◌, ◌==◌, ◌<◌, ◌||◌, ℕ, true, false, IfOk, OnOk, MatchOption};
+ghost use Rattle.std.specs.Prelude.{◌≡◌, ◌==◌, ◌||◌, ℕ, true, false, IfOk, OnOk, MatchOption};
 ghost use Rattle.std.specs.Bool.{OnTrue, OnFalse};
+ghost use Rattle.lalrpop_norm_theory.specs.Rounds.{In};
 ghost use Rattle.lalrpop_norm_tyinfer_table.specs.Waiting.{has, TakesLeast};
 
 use lalrpop_norm_tree::grammar::parse_tree::NoMemory;
@@ -23,16 +24,16 @@ impl Waiting {
         }
     }
 
-    /// All places below a number.
-    pub fn below(alloc: Global, count: usize) -> Result<Waiting, NoMemory>
-        ensures all { IfOk result (λ p. (k : ℕ) → k < count → has p k ≡ true) }
-        ensures only { IfOk result (λ p. (k : ℕ) → has p k ≡ true → k < count) }
+    /// These places.
+    pub fn of(alloc: Global, places: &[usize]) -> Result<Waiting, NoMemory>
+        ensures all { IfOk result (λ p. (k : ℕ) → In k places.now → has p k ≡ true) }
+        ensures only { IfOk result (λ p. (k : ℕ) → has p k ≡ true → In k places.now) }
     {
-        let mut places = Waiting::new(alloc);
-        for place in 0..count {
-            places.add(place)?;
+        let mut waiting = Waiting::new(alloc);
+        for place in places {
+            waiting.add(*place)?;
         }
-        Ok(places)
+        Ok(waiting)
     }
 
     /// Whether there is none.

@@ -4,16 +4,17 @@ ghost use Rattle.lalrpop_norm_tree.specs.Items.{alternative_view, rule_view};
 ghost use Rattle.lalrpop_norm_tree_parts.specs.Reprs.{repr_view};
 ghost use Rattle.lalrpop_norm_faults.specs.Faults.{Refuses, fault_if};
 ghost use Rattle.lalrpop_norm_faults.specs.declared.kind.FaultKind.TheVariants.{Disagreement};
-ghost use Rattle.lalrpop_norm_repr.specs.Tables.{type_table};
 ghost use Rattle.lalrpop_norm_model.specs.InferenceFaults.{is_other};
+ghost use Rattle.lalrpop_norm_tyinfer_table.specs.Numbered.{numbered_table};
 ghost use Rattle.lalrpop_norm_tyinfer_table.specs.TableFaults.{other_in, others_in};
 
 use crate::tyinfer::type_sources::clause_value;
 use lalrpop_norm_faults::{FaultKind, NormResult, refusal};
-use lalrpop_norm_repr::grammar::repr::{TypeRepr, Types};
+use lalrpop_norm_repr::grammar::repr::TypeRepr;
 use lalrpop_norm_tree::grammar::parse_tree::{
     Alternative, NonterminalData, NonterminalString, Span, TypeParameter,
 };
+use lalrpop_norm_tyinfer_table::numbered::Numbered;
 use lalrpop_norm_tyinfer_table::rules::PlainRule;
 use lalrpop_norm_tyinfer_table::same::is_same_type;
 use lalrpop_norm_tyinfer_table::type_sources::alternative_clause;
@@ -23,10 +24,10 @@ use std::alloc::Global;
 pub(crate) fn check_agreement(
     alloc: Global,
     parameters: &[TypeParameter],
-    types: &Types,
+    types: &Numbered,
     rules: &[PlainRule],
 ) -> NormResult<()>
-    ensures { Refuses result (flat_map (others_in parameters.now (type_table types.now)) (map (λ r. rule_view r.data.now) rules.now)) }
+    ensures { Refuses result (flat_map (others_in parameters.now (numbered_table types.now)) (map (λ r. rule_view r.data.now) rules.now)) }
 {
     for rule in rules {
         check_rule(alloc, parameters, types, rule.data)?;
@@ -37,10 +38,10 @@ pub(crate) fn check_agreement(
 fn check_rule(
     alloc: Global,
     parameters: &[TypeParameter],
-    types: &Types,
+    types: &Numbered,
     rule: &NonterminalData,
 ) -> NormResult<()>
-    ensures { Refuses result (others_in parameters.now (type_table types.now) (rule_view rule.now)) }
+    ensures { Refuses result (others_in parameters.now (numbered_table types.now) (rule_view rule.now)) }
 {
     match &rule.type_decl {
         Some(_) => Ok(()),
@@ -51,11 +52,11 @@ fn check_rule(
 fn check_alternatives(
     alloc: Global,
     parameters: &[TypeParameter],
-    types: &Types,
+    types: &Numbered,
     name: &NonterminalString,
     alternatives: &[Alternative],
 ) -> NormResult<()>
-    ensures { Refuses result (flat_map (other_in parameters.now (type_table types.now) name.now.0) (map alternative_view alternatives.now)) }
+    ensures { Refuses result (flat_map (other_in parameters.now (numbered_table types.now) name.now.0) (map alternative_view alternatives.now)) }
 {
     for alternative in alternatives {
         check_alternative(alloc, parameters, types, name, alternative)?;
@@ -66,11 +67,11 @@ fn check_alternatives(
 fn check_alternative(
     alloc: Global,
     parameters: &[TypeParameter],
-    types: &Types,
+    types: &Numbered,
     name: &NonterminalString,
     alternative: &Alternative,
 ) -> NormResult<()>
-    ensures { Refuses result (other_in parameters.now (type_table types.now) name.now.0 (alternative_view alternative.now)) }
+    ensures { Refuses result (other_in parameters.now (numbered_table types.now) name.now.0 (alternative_view alternative.now)) }
 {
     match alternative_clause(alloc, alternative)? {
         Some(clause) => {

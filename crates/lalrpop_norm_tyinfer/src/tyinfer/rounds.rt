@@ -1,72 +1,44 @@
 //! Rounds in which rules take their types.
-ghost use Rattle.std.specs.Prelude.{◌≡◌, ◌<◌, [], ◌∷◌, ℕ, List, None, Some, IfOk, OnOk, length, map};
+ghost use Rattle.std.specs.Prelude.{◌≡◌, ◌<◌, [], ◌∷◌, ℕ, List, None, IfOk, OnOk, is_some, length, map};
 ghost use Rattle.lalrpop_norm_theory.specs.Rounds.{IsDistinct};
-ghost use Rattle.lalrpop_norm_tree_names.specs.declared.names.NonterminalString.{NonterminalString};
-ghost use Rattle.lalrpop_norm_tree_parts.specs.Reprs.{repr_view};
-ghost use Rattle.lalrpop_norm_repr.specs.Tables.{type_table, type_of};
 ghost use Rattle.lalrpop_norm_tyinfer_table.specs.Clauses.{clause_view, first_in};
 ghost use Rattle.lalrpop_norm_tyinfer_table.specs.Needs.{names_seen};
-ghost use Rattle.lalrpop_norm_tyinfer_table.specs.Stops.{IsStops};
+ghost use Rattle.lalrpop_norm_tyinfer_table.specs.Numbered.{numbered_table, HasSameNumbers, IsNumberOf, NumbersRules};
+ghost use Rattle.lalrpop_norm_tyinfer_table.specs.Stops.{IsStops, typed_at};
 ghost use Rattle.lalrpop_norm_tyinfer_table.specs.TableValues.{type_by_name};
 ghost use Rattle.lalrpop_norm_tyinfer_table.specs.Visits.{rule_seen, EndsRounds, Passes, TakesType};
 ghost use Rattle.lalrpop_norm_tyinfer_table.specs.Waiting.{VisitsOne, Waits, Wakes, Watches};
 
 use crate::tyinfer::type_sources::first_value;
-use lalrpop_norm_repr::grammar::repr::{TypeRepr, Types};
-use lalrpop_norm_tree::grammar::parse_tree::{NoMemory, NonterminalString, TypeParameter};
+use lalrpop_norm_tree::grammar::parse_tree::{NoMemory, TypeParameter};
 use lalrpop_norm_tyinfer_table::needs::needs_of;
+use lalrpop_norm_tyinfer_table::numbered::Numbered;
 use lalrpop_norm_tyinfer_table::rules::PlainRule;
 use lalrpop_norm_tyinfer_table::stops::Stops;
 use lalrpop_norm_tyinfer_table::waiting::Waiting;
 use std::alloc::Global;
 
-/// Gives a nonterminal that has no type yet its type.
-fn put_type(types: &mut Types, name: &NonterminalString, ty: TypeRepr) -> Result<(), NoMemory>
-    requires { type_of name.now (type_table types.old) ≡ None }
-    ensures added { OnOk result (type_of name.now (type_table types.new) ≡ Some (repr_view ty)) }
-    ensures others { OnOk result ((other : NonterminalString) → (other ≡ name.now → ⊥) → type_of other (type_table types.new) ≡ type_of other (type_table types.old)) }
-    ensures rest { OnOk result (type_table types.new ≡ record (type_table types.old) { nonterminals = (type_table types.new).nonterminals }) }
-{
-    let name = name.clone()?;
-    types.add_type(name, ty)?;
-    Ok(())
-}
-
 /// Gives a rule without a type the type that its first clause makes that makes one; whether there is one.
 fn take_first(
     alloc: Global,
     parameters: &[TypeParameter],
-    types: &mut Types,
+    types: &mut Numbered,
     rule: &PlainRule,
+    place: usize,
 ) -> Result<bool, NoMemory>
-    requires { type_of rule.now.data.now.name (type_table types.old) ≡ None }
-    ensures { IfOk result (λ added. TakesType (type_table types.old) (type_table types.new) rule.now.data.now.name.0
-        (first_in parameters.now (type_table types.old) (map clause_view rule.now.clauses.items)) added) }
+    requires number { IsNumberOf types.old rule.now.data.now.name.0 place }
+    requires untyped { type_by_name (numbered_table types.old) rule.now.data.now.name.0 ≡ None }
+    ensures takes { IfOk result (λ added. TakesType (numbered_table types.old) (numbered_table types.new) rule.now.data.now.name.0
+        (first_in parameters.now (numbered_table types.old) (map clause_view rule.now.clauses.items)) added) }
+    ensures numbers { IfOk result (λ added. HasSameNumbers types.old types.new) }
 {
     match first_value(alloc, parameters, types, &rule.clauses)? {
         Some(ty) => {
-            put_type(types, &rule.data.name, ty)?;
+            types.put(place, ty);
             Ok(true)
         }
         None => Ok(false),
     }
-}
-
-/// The visit of a rule; whether it takes a type.
-fn visit(
-    alloc: Global,
-    parameters: &[TypeParameter],
-    types: &mut Types,
-    rule: &PlainRule,
-) -> Result<bool, NoMemory>
-    ensures { IfOk result (λ added. TakesType (type_table types.old) (type_table types.new) rule.now.data.now.name.0
-        (first_in parameters.now (type_table types.old) (map clause_view rule.now.clauses.items)) added) }
-{
-    let is_typed = types.lookup_nonterminal_type(&rule.data.name).is_some();
-    if is_typed {
-        return Ok(false);
-    }
-    take_first(alloc, parameters, types, rule)
 }
 
 /// Lets some places wait for a visit: those behind the place in this round, the others in the next one.
@@ -98,27 +70,30 @@ fn wake_one(
     next.add(other)
 }
 
-/// Visits the rule at a place. Where it takes a type, the rules of the clauses that have all types now wait.
+/// Visits the rule at a place. Where it takes a type, the rules of the clauses that have all types now; else none.
 fn step(
     alloc: Global,
     parameters: &[TypeParameter],
-    types: &mut Types,
+    types: &mut Numbered,
     stops: &mut Stops,
     rule: &PlainRule,
     place: usize,
-    now: &mut Waiting,
-    next: &mut Waiting,
-) -> Result<(), NoMemory>
+) -> Result<Vec<usize>, NoMemory>
     requires sound { IsStops stops.old }
     requires within { place < length stops.old.typed.items }
-    ensures { OnOk result (VisitsOne parameters.now (type_table types.old) (type_table types.new) (rule_seen rule.now) place stops.old stops.new now.old now.new next.old next.new) }
+    requires number { IsNumberOf types.old rule.now.data.now.name.0 place }
+    requires told { typed_at stops.old place ≡ is_some (type_by_name (numbered_table types.old) rule.now.data.now.name.0) }
+    ensures visits { IfOk result (λ ready. VisitsOne parameters.now (numbered_table types.old) (numbered_table types.new) (rule_seen rule.now) place stops.old stops.new ready.items) }
+    ensures numbers { IfOk result (λ ready. HasSameNumbers types.old types.new) }
 {
-    let took = visit(alloc, parameters, types, rule)?;
-    if took {
-        let ready = stops.give_type(alloc, place)?;
-        return wake(&ready, place, now, next);
+    if stops.is_typed(place) {
+        return Ok(Vec::new(alloc));
     }
-    Ok(())
+    let took = take_first(alloc, parameters, types, rule, place)?;
+    if took {
+        return stops.give_type(alloc, place);
+    }
+    Ok(Vec::new(alloc))
 }
 
 /// A round over the rules in order, of which only those at some places may take a type; the places of which that holds in the
@@ -126,32 +101,26 @@ fn step(
 fn round(
     alloc: Global,
     parameters: &[TypeParameter],
-    types: &mut Types,
+    types: &mut Numbered,
     rules: &[PlainRule],
     stops: &mut Stops,
     now: &mut Waiting,
 ) -> Result<Waiting, NoMemory>
     requires distinct { IsDistinct (names_seen (map rule_seen rules.now)) }
-    requires watches { Watches parameters.now (type_table types.old) (map rule_seen rules.now) stops.old }
-    requires waits { Waits parameters.now (type_table types.old) (map rule_seen rules.now) now.old }
-    ensures passes { IfOk result (λ next. Passes parameters.now (type_table types.old) (type_table types.new) (map rule_seen rules.now)) }
-    ensures waits { IfOk result (λ next. Waits parameters.now (type_table types.new) (map rule_seen rules.now) next) }
-    ensures watches { IfOk result (λ next. Watches parameters.now (type_table types.new) (map rule_seen rules.now) stops.new) }
+    requires numbered { NumbersRules types.old (map rule_seen rules.now) }
+    requires watches { Watches parameters.now (numbered_table types.old) (map rule_seen rules.now) stops.old }
+    requires waits { Waits parameters.now (numbered_table types.old) (map rule_seen rules.now) now.old }
+    ensures numbered { IfOk result (λ next. NumbersRules types.new (map rule_seen rules.now)) }
+    ensures passes { IfOk result (λ next. Passes parameters.now (numbered_table types.old) (numbered_table types.new) (map rule_seen rules.now)) }
+    ensures waits { IfOk result (λ next. Waits parameters.now (numbered_table types.new) (map rule_seen rules.now) next) }
+    ensures watches { IfOk result (λ next. Watches parameters.now (numbered_table types.new) (map rule_seen rules.now) stops.new) }
 {
     let mut next = Waiting::new(alloc);
     // No code reads it: the invariant and the measure of the loop speak of it.
     let mut from = 0;
     while let Some(place) = now.take_least() {
-        step(
-            alloc,
-            parameters,
-            types,
-            stops,
-            &rules[place],
-            place,
-            now,
-            &mut next,
-        )?;
+        let ready = step(alloc, parameters, types, stops, &rules[place], place)?;
+        wake(&ready, place, now, &mut next)?;
         from = place + 1;
     }
     Ok(next)
@@ -161,15 +130,18 @@ fn round(
 fn rounds_from(
     alloc: Global,
     parameters: &[TypeParameter],
-    types: &mut Types,
+    types: &mut Numbered,
     rules: &[PlainRule],
     stops: &mut Stops,
+    mut now: Waiting,
 ) -> Result<(), NoMemory>
     requires distinct { IsDistinct (names_seen (map rule_seen rules.now)) }
-    requires watches { Watches parameters.now (type_table types.old) (map rule_seen rules.now) stops.old }
-    ensures { OnOk result (EndsRounds parameters.now (type_table types.old) (type_table types.new) (map rule_seen rules.now) (length rules.now)) }
+    requires numbered { NumbersRules types.old (map rule_seen rules.now) }
+    requires watches { Watches parameters.now (numbered_table types.old) (map rule_seen rules.now) stops.old }
+    requires waits { Waits parameters.now (numbered_table types.old) (map rule_seen rules.now) now }
+    ensures numbered { OnOk result (NumbersRules types.new (map rule_seen rules.now)) }
+    ensures ends { OnOk result (EndsRounds parameters.now (numbered_table types.old) (numbered_table types.new) (map rule_seen rules.now) (length rules.now)) }
 {
-    let mut now = Waiting::below(alloc, rules.len())?;
     // No code reads `count`: the invariant speaks of it.
     for count in 0..rules.len() {
         now = round(alloc, parameters, types, rules, stops, &mut now)?;
@@ -184,14 +156,18 @@ fn rounds_from(
 pub(crate) fn run_rounds(
     alloc: Global,
     parameters: &[TypeParameter],
-    types: &mut Types,
+    types: &mut Numbered,
     rules: &[PlainRule],
 ) -> Result<(), NoMemory>
     requires distinct { IsDistinct (names_seen (map rule_seen rules.now)) }
-    requires untyped { (n : List ℕ) → type_by_name (type_table types.old) n ≡ None }
-    ensures { OnOk result (EndsRounds parameters.now (type_table types.old) (type_table types.new) (map rule_seen rules.now) (length rules.now)) }
+    requires numbered { NumbersRules types.old (map rule_seen rules.now) }
+    requires untyped { (n : List ℕ) → type_by_name (numbered_table types.old) n ≡ None }
+    ensures numbered { OnOk result (NumbersRules types.new (map rule_seen rules.now)) }
+    ensures ends { OnOk result (EndsRounds parameters.now (numbered_table types.old) (numbered_table types.new) (map rule_seen rules.now) (length rules.now)) }
 {
-    let needs = needs_of(alloc, parameters, rules)?;
-    let mut stops = Stops::of(alloc, &needs, rules.len())?;
-    rounds_from(alloc, parameters, types, rules, &mut stops)
+    let needs = needs_of(alloc, parameters, &types.names, rules)?;
+    let mut stops = Stops::new(alloc, rules.len())?;
+    let ready = stops.begin(alloc, &needs)?;
+    let first = Waiting::of(alloc, &ready)?;
+    rounds_from(alloc, parameters, types, rules, &mut stops, first)
 }

@@ -2,12 +2,13 @@
 ghost use Rattle.std.specs.Prelude.{◌≡◌, IfOk, map, option_map};
 ghost use Rattle.lalrpop_norm_tree_parts.specs.Reprs.{repr_view, reprs_view};
 ghost use Rattle.lalrpop_norm_tree.specs.Symbols.{kind_view};
-ghost use Rattle.lalrpop_norm_repr.specs.Tables.{type_table};
 ghost use Rattle.lalrpop_norm_tyinfer_table.specs.Clauses.{kinds_in, sources_in, clause_view, clause_in, first_in};
+ghost use Rattle.lalrpop_norm_tyinfer_table.specs.Numbered.{numbered_table};
 
-use lalrpop_norm_repr::grammar::repr::{TypeRepr, Types};
+use lalrpop_norm_repr::grammar::repr::TypeRepr;
 use lalrpop_norm_tree::grammar::parse_tree::{NoMemory, Symbol, TypeParameter};
 use lalrpop_norm_tree_parts::lowered::copy::copy_of;
+use lalrpop_norm_tyinfer_table::numbered::Numbered;
 use lalrpop_norm_tyinfer_table::type_sources::TypeSource;
 use lalrpop_norm_tyinfer_table::values::{kind_value, type_value};
 use std::alloc::Global;
@@ -16,10 +17,10 @@ use std::alloc::Global;
 pub(crate) fn clause_value(
     alloc: Global,
     parameters: &[TypeParameter],
-    types: &Types,
+    types: &Numbered,
     clause: &TypeSource,
 ) -> Result<Option<TypeRepr>, NoMemory>
-    ensures { IfOk result (λ o. option_map repr_view o ≡ clause_in parameters.now (type_table types.now) (clause_view clause.now)) }
+    ensures { IfOk result (λ o. option_map repr_view o ≡ clause_in parameters.now (numbered_table types.now) (clause_view clause.now)) }
 {
     match clause {
         TypeSource::Declared(written) => type_value(alloc, parameters, types, written),
@@ -28,8 +29,8 @@ pub(crate) fn clause_value(
     }
 }
 
-fn location_value(types: &Types) -> Result<Option<TypeRepr>, NoMemory>
-    ensures { IfOk result (λ o. option_map repr_view o ≡ (type_table types.now).location) }
+fn location_value(types: &Numbered) -> Result<Option<TypeRepr>, NoMemory>
+    ensures { IfOk result (λ o. option_map repr_view o ≡ (numbered_table types.now).location) }
 {
     Ok(copy_of(types.opt_terminal_loc_type())?)
 }
@@ -37,10 +38,10 @@ fn location_value(types: &Types) -> Result<Option<TypeRepr>, NoMemory>
 /// The type of the values of these symbols, each with its place: one bare, any other number of them as a tuple.
 fn sources_value(
     alloc: Global,
-    types: &Types,
+    types: &Numbered,
     sources: &[(usize, &Symbol)],
 ) -> Result<Option<TypeRepr>, NoMemory>
-    ensures { IfOk result (λ o. option_map repr_view o ≡ sources_in (type_table types.now) (map (λ t. kind_view t.1.now.kind) sources.now)) }
+    ensures { IfOk result (λ o. option_map repr_view o ≡ sources_in (numbered_table types.now) (map (λ t. kind_view t.1.now.kind) sources.now)) }
 {
     match sources {
         [source] => kind_value(types, &source.1.kind),
@@ -53,10 +54,10 @@ fn sources_value(
 
 fn all_values(
     alloc: Global,
-    types: &Types,
+    types: &Numbered,
     sources: &[(usize, &Symbol)],
 ) -> Result<Option<Vec<TypeRepr>>, NoMemory>
-    ensures { IfOk result (λ o. option_map (λ ts. reprs_view ts.items) o ≡ kinds_in (type_table types.now) (map (λ t. kind_view t.1.now.kind) sources.now)) }
+    ensures { IfOk result (λ o. option_map (λ ts. reprs_view ts.items) o ≡ kinds_in (numbered_table types.now) (map (λ t. kind_view t.1.now.kind) sources.now)) }
 {
     let mut values = Vec::with_capacity(alloc, sources.len())?;
     for source in sources {
@@ -72,10 +73,10 @@ fn all_values(
 pub(crate) fn first_value(
     alloc: Global,
     parameters: &[TypeParameter],
-    types: &Types,
+    types: &Numbered,
     clauses: &[TypeSource],
 ) -> Result<Option<TypeRepr>, NoMemory>
-    ensures { IfOk result (λ o. option_map repr_view o ≡ first_in parameters.now (type_table types.now) (map clause_view clauses.now)) }
+    ensures { IfOk result (λ o. option_map repr_view o ≡ first_in parameters.now (numbered_table types.now) (map clause_view clauses.now)) }
 {
     for clause in clauses {
         if let Some(ty) = clause_value(alloc, parameters, types, clause)? {

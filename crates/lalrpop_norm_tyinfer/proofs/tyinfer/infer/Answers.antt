@@ -1,6 +1,12 @@
+use Rattle.std.proofs.Common.{ℕ, List, map, sym, subst}
+use Rattle.lalrpop_norm_names.specs.Numbers.{number_in_table}
+use Rattle.lalrpop_norm_theory.specs.Rounds.{IsDistinct}
 use Rattle.lalrpop_norm_tree.specs.Items.{grammar_view}
 use Rattle.lalrpop_norm_repr.specs.Tables.{type_table}
-use Rattle.lalrpop_norm_tyinfer_table.proofs.FilledLemmas.{clauses_refused, table_refused, none_refused, none_inferred}
+use Rattle.lalrpop_norm_tyinfer_table.specs.Needs.{AreRuleNumbers}
+use Rattle.lalrpop_norm_tyinfer_table.specs.Visits.{rule_seen}
+use Rattle.lalrpop_norm_tyinfer_table.specs.Numbered.{numbered_table}
+use Rattle.lalrpop_norm_tyinfer_table.proofs.FilledLemmas.{names_distinct, clauses_refused, table_refused, none_refused, none_inferred}
 use Rattle.lalrpop_norm_tyinfer.proofs.tyinfer.infer.Goals as goal
 
 pub returns-in_err-check_clauses-clause-refuses : goal.returns-in_err-check_clauses-clause-refuses
@@ -9,15 +15,28 @@ returns-in_err-check_clauses-clause-refuses c =
 
 pub returns-in_err-check_table-clause-refuses : goal.returns-in_err-check_table-clause-refuses
 returns-in_err-check_table-clause-refuses c =
-    table_refused (grammar_view c.args.grammar.now) (type_table c.in_ok-types.types) c.in_ok-types.ensures c.deref.result.now c.deref.ensures.value c.args.rules.now c.requires.seen c.in_ok-check_clauses.ensures
+    table_refused (grammar_view c.args.grammar.now) (numbered_table c.in_ok-types.types) c.in_ok-types.ensures.filled c.deref.result.now c.deref.ensures.value c.args.rules.now c.requires.seen c.in_ok-check_clauses.ensures
     _ _ c.from_residual-in_err-check_table.ensures.1 c.in_err-check_table.ensures
 
 pub returns-clause-refuses : goal.returns-clause-refuses
 returns-clause-refuses c =
-    none_refused (grammar_view c.args.grammar.now) (type_table c.in_ok-types.types) c.in_ok-types.ensures c.deref.result.now c.deref.ensures.value c.args.rules.now c.requires.seen c.in_ok-check_clauses.ensures
+    none_refused (grammar_view c.args.grammar.now) (numbered_table c.in_ok-types.types) c.in_ok-types.ensures.filled c.deref.result.now c.deref.ensures.value c.args.rules.now c.requires.seen c.in_ok-check_clauses.ensures
     c.in_ok-check_table.ensures
+
+pub by_name-requires-clause-numbers : goal.by_name-requires-clause-numbers
+by_name-requires-clause-numbers c =
+    subst (AreRuleNumbers (number_in_table c.in_ok-types.types.names)) (sym c.in_ok-types.ensures.numbered.listed) c.in_ok-types.ensures.numbered.numbers
+
+pub by_name-requires-clause-distinct : goal.by_name-requires-clause-distinct
+by_name-requires-clause-distinct c =
+    subst (λ (ns : List (List ℕ)). IsDistinct ns) (sym c.in_ok-types.ensures.numbered.listed)
+    (names_distinct (grammar_view c.args.grammar.now) (map rule_seen c.args.rules.now) c.requires.seen c.requires.distinct)
+
+pub by_name-requires-clause-tokens : goal.by_name-requires-clause-tokens
+by_name-requires-clause-tokens c = c.in_ok-types.ensures.numbered.tokens
 
 pub returns-clause-inferred : goal.returns-clause-inferred
 returns-clause-inferred c =
-    none_inferred (grammar_view c.args.grammar.now) (type_table c.in_ok-types.types) c.in_ok-types.ensures c.deref.result.now c.deref.ensures.value c.args.rules.now c.requires.seen c.in_ok-check_clauses.ensures
-    c.requires.distinct c.in_ok-check_table.ensures
+    let listed = c.in_ok-listed.ensures in
+    none_inferred (grammar_view c.args.grammar.now) (numbered_table c.in_ok-types.types) c.in_ok-types.ensures.filled c.deref.result.now c.deref.ensures.value c.args.rules.now c.requires.seen c.in_ok-check_clauses.ensures
+    (type_table c.in_ok-listed.listed) listed.same listed.rest listed.names_in_order listed.terminals_in_order c.requires.distinct c.in_ok-check_table.ensures

@@ -1,6 +1,6 @@
 use Rattle.std.proofs.Common.{arith}
 use Rattle.lalrpop_norm_tree.specs.Items.{rule_view}
-use Rattle.lalrpop_norm_repr.specs.Tables.{type_table}
+use Rattle.lalrpop_norm_tyinfer_table.specs.Numbered.{numbered_table}
 use Rattle.lalrpop_norm_model.specs.TuplePatterns.{rule_misfits}
 use Rattle.lalrpop_norm_tyinfer_table.specs.declared.rules.PlainRule.{PlainRule}
 use Rattle.lalrpop_norm_tyinfer_table.specs.TableValues.{type_by_name}
@@ -9,5 +9,5 @@ use Rattle.lalrpop_norm_tyinfer_table.proofs.patterns.check_patterns.Goals as go
 
 pub returns-in_err-check_rule : goal.returns-in_err-check_rule
 returns-in_err-check_rule c =
-    exit_loop (λ (r : PlainRule). rule_view r.data.now) (rule_misfits (type_by_name (type_table c.args.types.now))) c.args.rules.now c.loop-rule.rule-index c.rule-item.result _ _
+    exit_loop (λ (r : PlainRule). rule_view r.data.now) (rule_misfits (type_by_name (numbered_table c.args.types.now))) c.args.rules.now c.loop-rule.rule-index c.rule-item.result _ _
     (omega arith) c.rule-item.is c.from_residual.ensures.1 c.in_err-check_rule.ensures c.loop-rule.invariant

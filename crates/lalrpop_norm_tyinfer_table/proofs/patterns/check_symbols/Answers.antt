@@ -1,7 +1,7 @@
 use Rattle.std.proofs.Common.{drop, List, sym, ◌∙◌, ◌+◌, arith}
 use Rattle.lalrpop_norm_tree.specs.declared.symbol.Symbol.{Symbol}
 use Rattle.lalrpop_norm_tree.specs.Symbols.{kind_view, parts_view}
-use Rattle.lalrpop_norm_repr.specs.Tables.{type_table}
+use Rattle.lalrpop_norm_tyinfer_table.specs.Numbered.{numbered_table}
 use Rattle.lalrpop_norm_faults.proofs.FaultLemmas.{exit_at, at_drop_item}
 use Rattle.lalrpop_norm_tyinfer_table.proofs.MisfitLemmas.{first_part}
 use Rattle.lalrpop_norm_tyinfer_table.specs.TableFaults.{kind_misfits, parts_misfits}
@@ -10,7 +10,7 @@ use Rattle.lalrpop_norm_tyinfer_table.proofs.patterns.check_symbols.Goals as goa
 
 pub returns-in_err-check_kind : goal.returns-in_err-check_kind
 returns-in_err-check_kind c =
-    let f = type_by_name (type_table c.args.types.now) in
+    let f = type_by_name (numbered_table c.args.types.now) in
     let xs = c.args.symbols.now in
     let i = c.loop-symbol.symbol-index in
     let x = c.symbol-item.result in

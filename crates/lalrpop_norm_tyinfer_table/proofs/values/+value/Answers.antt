@@ -1,7 +1,7 @@
 use Rattle.std.proofs.Common.{List, refl, arith, sym}
 use Rattle.lalrpop_norm_tree.specs.declared.types.TypeRef.{TypeRef}
 use Rattle.lalrpop_norm_tree.specs.Types.{type_view, types_view}
-use Rattle.lalrpop_norm_repr.specs.Tables.{type_table}
+use Rattle.lalrpop_norm_tyinfer_table.specs.Numbered.{numbered_table}
 use Rattle.lalrpop_norm_tyinfer_table.specs.TableValues.{type_in, types_in}
 use Rattle.lalrpop_norm_tree.proofs.WrittenTextLemmas.{view_slice, view_reference, view_object}
 use Rattle.lalrpop_norm_tyinfer_table.proofs.LoweredViews.{tuple_seen, nominal_seen, symbol_type_seen, value_as}
@@ -11,7 +11,7 @@ use Rattle.lalrpop_norm_tyinfer_table.proofs.values.+value.Goals as goal
 pub all_values-loop-inner-preserved : goal.all_values-loop-inner-preserved
 all_values-loop-inner-preserved t c =
     let ps = c.args.parameters.now in
-    let tt = type_table c.args.types.now in
+    let tt = numbered_table c.args.types.now in
     rw c.in_ok-push-in-Some.ensures.items
     (next_value (λ (ts : List TypeRef). types_in ps tt (types_view ts)) (λ (t : TypeRef). type_in ps tt (type_view t)) (λ t ts. refl)
     c.args.written.now c.loop-inner.inner-index c.inner-item.result c.loop-inner.values.items c.in-Some.ty _
@@ -20,7 +20,7 @@ all_values-loop-inner-preserved t c =
 pub all_values-returns : goal.all_values-returns
 all_values-returns t c =
     let ps = c.args.parameters.now in
-    let tt = type_table c.args.types.now in
+    let tt = numbered_table c.args.types.now in
     last_value (λ (ts : List TypeRef). types_in ps tt (types_view ts)) (λ (t : TypeRef). type_in ps tt (type_view t)) refl
     c.args.written.now c.loop-inner.inner-index c.loop-inner.values.items _ c.loop-inner-test.false c.loop-inner.invariant
 

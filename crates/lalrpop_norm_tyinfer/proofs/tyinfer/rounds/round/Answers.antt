@@ -1,27 +1,45 @@
-use Rattle.std.proofs.Common.{◌≡◌, ◌<◌, Some, length, map, slice_get, refl, sym, ap, subst, ◌∙◌, arith}
-use Rattle.std.specs.Prelude.{option_map}
+use Rattle.std.proofs.Common.{◌≡◌, ◌<◌, length, map, sym, subst, arith}
 use Rattle.std.proofs.lemmas.List.{length-map}
-use Rattle.std.proofs.lemmas.Option.{slice_get-map, slice_get_read}
 use Rattle.lalrpop_norm_tyinfer_table.specs.Visits.{rule_seen}
-use Rattle.lalrpop_norm_tyinfer_table.proofs.RoundLemmas.{midway_next, midway_passes}
+use Rattle.lalrpop_norm_tyinfer_table.proofs.NumberedRounds.{number_of, still_numbered}
+use Rattle.lalrpop_norm_tyinfer_table.proofs.RoundLemmas.{midway_next, midway_passes, rule_there}
 use Rattle.lalrpop_norm_tyinfer.proofs.tyinfer.rounds.round.Goals as goal
 
 pub step-requires-clause-within : goal.step-requires-clause-within
 step-requires-clause-within c =
-    subst (λ n. c.in-Some.place < n) (sym c.loop-place.invariant.watches.count) (c.loop-place.invariant.within_now c.in-Some.place c.in-Some.ensures.there)
+    subst (λ n. c.in-Some.place < n) (sym c.loop-place.invariant.midway.watches.count) (c.loop-place.invariant.midway.within_now c.in-Some.place c.in-Some.ensures.there)
+
+pub step-requires-clause-number : goal.step-requires-clause-number
+step-requires-clause-number c =
+    let rules = c.args.rules.now in
+    let long = length-map rules rule_seen in
+    let low = c.loop-place.invariant.midway.within_now c.in-Some.place c.in-Some.ensures.there in
+    let lt : c.in-Some.place < length rules = omega arith in
+    number_of c.loop-place.types (map rule_seen rules) c.in-Some.place (rule_seen c.index-rules-place.result) c.loop-place.invariant.numbered c.requires.distinct
+    (rule_there rules c.in-Some.place c.index-rules-place.result lt c.index-rules-place.is)
+
+pub step-requires-clause-told : goal.step-requires-clause-told
+step-requires-clause-told c =
+    let rules = c.args.rules.now in
+    let long = length-map rules rule_seen in
+    let low = c.loop-place.invariant.midway.within_now c.in-Some.place c.in-Some.ensures.there in
+    let lt : c.in-Some.place < length rules = omega arith in
+    c.loop-place.invariant.midway.watches.tells c.in-Some.place (rule_seen c.index-rules-place.result) (rule_there rules c.in-Some.place c.index-rules-place.result lt c.index-rules-place.is)
 
 pub loop-place-preserved : goal.loop-place-preserved
 loop-place-preserved c =
     let rules = c.args.rules.now in
-    let rule = c.index-rules-place.result in
     let long = length-map rules rule_seen in
-    let low = c.loop-place.invariant.within_now c.in-Some.place c.in-Some.ensures.there in
+    let low = c.loop-place.invariant.midway.within_now c.in-Some.place c.in-Some.ensures.there in
     let lt : c.in-Some.place < length rules = omega arith in
-    let there : slice_get (map rule_seen rules) c.in-Some.place ≡ Some (rule_seen rule) =
-    slice_get-map rule_seen rules c.in-Some.place ∙ ap (option_map rule_seen) (slice_get_read rules (length rules) c.in-Some.place rule refl lt c.index-rules-place.is) in
-    midway_next _ _ _ _ _ _ _ _ _ _ _ _ _ _ _ c.requires.distinct c.loop-place.invariant c.in-Some.ensures there c.in_ok-step.ensures
+    let there = rule_there rules c.in-Some.place c.index-rules-place.result lt c.index-rules-place.is in
+    let woken = rw c.deref.ensures.value at c.in_ok-wake.ensures in
+    record {
+      midway = midway_next _ _ _ _ _ _ _ _ _ _ _ _ _ _ _ _ c.requires.distinct c.loop-place.invariant.midway c.in-Some.ensures there c.in_ok-ready.ensures.visits woken;
+      numbered = still_numbered c.loop-place.types c.step.new.types (map rule_seen rules) c.in_ok-ready.ensures.numbers c.loop-place.invariant.numbered;
+    }
 
 pub returns-clause-passes : goal.returns-clause-passes
 returns-clause-passes c =
     let none = rw c.in_default.is at c.take_least.ensures in
-    midway_passes _ _ _ _ _ _ _ _ c.loop-place.invariant none
+    midway_passes _ _ _ _ _ _ _ _ c.loop-place.invariant.midway none

@@ -1,24 +1,37 @@
-use Rattle.std.proofs.Common.{◌≡◌, ℕ, length, map, sym, subst}
+use Rattle.std.proofs.Common.{◌≡◌, ℕ, length, map, sym, subst, ◌∙◌}
 use Rattle.std.proofs.lemmas.List.{length-map}
-use Rattle.lalrpop_norm_repr.specs.Tables.{type_table}
+use Rattle.lalrpop_norm_names.specs.Numbers.{number_in_table}
 use Rattle.lalrpop_norm_theory.specs.Rounds.{In}
 use Rattle.lalrpop_norm_tyinfer_table.specs.declared.needs.Need.{Need}
-use Rattle.lalrpop_norm_tyinfer_table.specs.Stops.{NeedsBelow, BeginsUntyped}
+use Rattle.lalrpop_norm_tyinfer_table.specs.Numbered.{numbered_table}
+use Rattle.lalrpop_norm_tyinfer_table.specs.Stops.{NeedsBelow, AreUntyped, BeginsUntyped}
 use Rattle.lalrpop_norm_tyinfer_table.specs.Visits.{rule_seen}
 use Rattle.lalrpop_norm_tyinfer_table.proofs.NeedLemmas.{need_fits}
-use Rattle.lalrpop_norm_tyinfer_table.proofs.RoundLemmas.{begins_watching}
+use Rattle.lalrpop_norm_tyinfer_table.proofs.RoundLemmas.{begins_watching, begins_waiting}
 use Rattle.lalrpop_norm_tyinfer.proofs.tyinfer.rounds.run_rounds.Goals as goal
 
-pub of-requires : goal.of-requires
-of-requires c =
-    let have = c.in_ok-needs.ensures in
-    let fit : (n : Need) → In n c.in_ok-needs.needs.items → NeedsBelow (length c.args.rules.now) n = λ n h.
-    subst (λ k. NeedsBelow k n) (length-map c.args.rules.now rule_seen) (need_fits have.number c.args.parameters.now (map rule_seen c.args.rules.now) c.in_ok-needs.needs.items have.numbers have.needs_are n h) in
+pub begin-requires-clause-untyped : goal.begin-requires-clause-untyped
+begin-requires-clause-untyped c = subst (AreUntyped c.in_ok-stops.stops) (sym c.in_ok-stops.ensures.count) c.in_ok-stops.ensures
+
+pub begin-requires-clause-fits : goal.begin-requires-clause-fits
+begin-requires-clause-fits c =
+    let count = length-map c.args.rules.now rule_seen ∙ sym c.in_ok-stops.ensures.count in
+    let fit : (n : Need) → In n c.in_ok-needs.needs.items → NeedsBelow (length c.in_ok-stops.stops.typed.items) n = λ n h.
+    subst (λ k. NeedsBelow k n) count
+    (need_fits (number_in_table c.args.types.now.names) c.args.parameters.now (map rule_seen c.args.rules.now) c.in_ok-needs.needs.items c.requires.numbered.numbers c.in_ok-needs.ensures n h) in
     rw c.deref.ensures.value fit
 
 pub rounds_from-requires-clause-watches : goal.rounds_from-requires-clause-watches
 rounds_from-requires-clause-watches c =
-    let have = c.in_ok-needs.ensures in
-    let begun = rw c.deref.ensures.value at c.in_ok-stops.ensures in
-    begins_watching have.number c.args.parameters.now (type_table c.args.types.now) (map rule_seen c.args.rules.now) c.in_ok-needs.needs.items c.in_ok-stops.stops have.numbers have.needs_are
-    (subst (λ k. BeginsUntyped c.in_ok-stops.stops k c.in_ok-needs.needs.items) (sym (length-map c.args.rules.now rule_seen)) begun) c.requires.untyped
+    let begun = rw c.deref.ensures.value at c.in_ok-ready.ensures in
+    let count = c.in_ok-stops.ensures.count ∙ sym (length-map c.args.rules.now rule_seen) in
+    begins_watching (number_in_table c.args.types.now.names) c.args.parameters.now (numbered_table c.args.types.now) (map rule_seen c.args.rules.now) c.in_ok-needs.needs.items c.begin.new.self c.in_ok-ready.ready.items
+    c.requires.numbered.numbers c.in_ok-needs.ensures (subst (λ k. BeginsUntyped c.begin.new.self k c.in_ok-needs.needs.items c.in_ok-ready.ready.items) count begun) c.requires.untyped
+
+pub rounds_from-requires-clause-waits : goal.rounds_from-requires-clause-waits
+rounds_from-requires-clause-waits c =
+    let begun = rw c.deref.ensures.value at c.in_ok-ready.ensures in
+    let count = c.in_ok-stops.ensures.count ∙ sym (length-map c.args.rules.now rule_seen) in
+    begins_waiting (number_in_table c.args.types.now.names) c.args.parameters.now (numbered_table c.args.types.now) (map rule_seen c.args.rules.now) c.in_ok-needs.needs.items c.begin.new.self c.in_ok-ready.ready.items
+    c.requires.numbered.numbers c.in_ok-needs.ensures (subst (λ k. BeginsUntyped c.begin.new.self k c.in_ok-needs.needs.items c.in_ok-ready.ready.items) count begun) c.requires.untyped
+    c.in_ok-first.first (rw c.deref-2.ensures.value at c.in_ok-first.ensures.all) (rw c.deref-2.ensures.value at c.in_ok-first.ensures.only)

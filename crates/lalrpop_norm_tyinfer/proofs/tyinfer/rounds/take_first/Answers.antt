@@ -1,18 +1,26 @@
 use Rattle.lalrpop_norm_tree_parts.specs.Reprs.{repr_view}
-use Rattle.lalrpop_norm_repr.specs.Tables.{type_table}
-use Rattle.lalrpop_norm_tyinfer_table.proofs.VisitLemmas.{taken_new, taken_none}
+use Rattle.lalrpop_norm_tyinfer_table.specs.Numbered.{numbered_table}
+use Rattle.lalrpop_norm_tyinfer_table.proofs.NumberedRounds.{put_taken, put_same, nothing_put}
+use Rattle.lalrpop_norm_tyinfer_table.proofs.VisitLemmas.{taken_none}
 use Rattle.lalrpop_norm_tyinfer.proofs.tyinfer.rounds.take_first.Goals as goal
 
-pub returns-in_ok-put_type-in-Some : goal.returns-in_ok-put_type-in-Some
-returns-in_ok-put_type-in-Some c =
+pub put-requires : goal.put-requires
+put-requires c = c.requires.number.within
+
+pub returns-in-Some-clause-takes : goal.returns-in-Some-clause-takes
+returns-in-Some-clause-takes c =
     let value = rw c.deref.ensures.value at c.in_ok-ty.ensures in
     let first = rw c.in-Some.is at value in
-    let put = c.in_ok-put_type-in-Some.ensures in
-    taken_new (type_table c.args.types.now) (type_table c.put_type.new.types) c.args.rule.now.data.now.name.0 _ (repr_view c.in-Some.ty)
-    c.requires first put.added put.others put.rest
+    put_taken c.args.types.now c.put.new.self c.args.rule.now.data.now.name.0 c.args.place (repr_view c.in-Some.ty) c.requires.number c.put.ensures _ c.requires.untyped first
 
-pub returns-in-None : goal.returns-in-None
-returns-in-None c =
+pub returns-in-Some-clause-numbers : goal.returns-in-Some-clause-numbers
+returns-in-Some-clause-numbers c = put_same c.args.types.now c.put.new.self c.args.rule.now.data.now.name.0 c.args.place (repr_view c.in-Some.ty) c.requires.number c.put.ensures
+
+pub returns-in-None-clause-takes : goal.returns-in-None-clause-takes
+returns-in-None-clause-takes c =
     let value = rw c.deref.ensures.value at c.in_ok-ty.ensures in
     let first = rw c.in-None.is at value in
-    taken_none (type_table c.args.types.now) c.args.rule.now.data.now.name.0 _ c.requires first
+    taken_none (numbered_table c.args.types.now) c.args.rule.now.data.now.name.0 _ c.requires.untyped first
+
+pub returns-in-None-clause-numbers : goal.returns-in-None-clause-numbers
+returns-in-None-clause-numbers c = nothing_put c.args.types.now

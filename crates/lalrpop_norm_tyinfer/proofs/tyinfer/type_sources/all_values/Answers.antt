@@ -1,7 +1,7 @@
 use Rattle.std.proofs.Common.{List, Bor, ℕ, map, refl, arith}
 use Rattle.lalrpop_norm_tree.specs.declared.symbol.Symbol.{Symbol}
 use Rattle.lalrpop_norm_tree.specs.Symbols.{kind_view}
-use Rattle.lalrpop_norm_repr.specs.Tables.{type_table}
+use Rattle.lalrpop_norm_tyinfer_table.specs.Numbered.{numbered_table}
 use Rattle.lalrpop_norm_tyinfer_table.specs.Clauses.{kinds_in}
 use Rattle.lalrpop_norm_tyinfer_table.specs.TableValues.{kind_in}
 use Rattle.lalrpop_norm_tyinfer_table.proofs.ValueLemmas.{next_value, last_value}
@@ -9,7 +9,7 @@ use Rattle.lalrpop_norm_tyinfer.proofs.tyinfer.type_sources.all_values.Goals as 
 
 pub loop-source-preserved : goal.loop-source-preserved
 loop-source-preserved c =
-    let tt = type_table c.args.types.now in
+    let tt = numbered_table c.args.types.now in
     rw c.in_ok-push-in-Some.ensures.items
     (next_value (λ (ts : List (ℕ × Bor Symbol)). kinds_in tt (map (λ (t : ℕ × Bor Symbol). kind_view t.1.now.kind) ts)) (λ (t : ℕ × Bor Symbol). kind_in tt (kind_view t.1.now.kind)) (λ t ts. refl)
     c.args.sources.now c.loop-source.source-index c.source-item.result c.loop-source.values.items c.in-Some.ty _
@@ -17,6 +17,6 @@ loop-source-preserved c =
 
 pub returns : goal.returns
 returns c =
-    let tt = type_table c.args.types.now in
+    let tt = numbered_table c.args.types.now in
     last_value (λ (ts : List (ℕ × Bor Symbol)). kinds_in tt (map (λ (t : ℕ × Bor Symbol). kind_view t.1.now.kind) ts)) (λ (t : ℕ × Bor Symbol). kind_in tt (kind_view t.1.now.kind)) refl
     c.args.sources.now c.loop-source.source-index c.loop-source.values.items _ c.loop-source-test.false c.loop-source.invariant

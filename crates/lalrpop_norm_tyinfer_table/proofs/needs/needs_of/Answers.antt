@@ -3,7 +3,7 @@ use Rattle.std.proofs.lemmas.List.{length-map, length-take-le, take_all}
 use Rattle.lalrpop_norm_names.specs.Numbers.{number_in_table}
 use Rattle.lalrpop_norm_tyinfer_table.specs.Visits.{rule_seen}
 use Rattle.lalrpop_norm_tyinfer_table.proofs.NeedLemmas.{needs_none, needs_more, mapped_more}
-use Rattle.lalrpop_norm_tyinfer_table.proofs.needs.needs_by.Goals as goal
+use Rattle.lalrpop_norm_tyinfer_table.proofs.needs.needs_of.Goals as goal
 
 pub loop-rule-init : goal.loop-rule-init
 loop-rule-init c = rw c.in_ok-needs.ensures.items (needs_none (number_in_table c.args.names.now) c.args.parameters.now)
