@@ -17,3 +17,4 @@ pub mod TokenCounts
 pub mod SymbolCases
 pub mod MadeLemmas
 pub mod RowLemmas
+pub mod NumberLemmas

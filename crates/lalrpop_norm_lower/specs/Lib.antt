@@ -3,6 +3,8 @@ pub mod Arguments
 pub mod Naming
 pub mod Lowering
 pub mod Typing
+pub mod Numbered
+pub mod State
 pub mod Starts
 pub mod Conversions
 pub mod Carried

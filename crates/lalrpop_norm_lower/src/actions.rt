@@ -1,21 +1,22 @@
 //! The types of what the code of an action gets.
 ghost use Rattle.std.specs.Prelude.{◌≡◌, IfOk, map};
 ghost use Rattle.lalrpop_norm_tree_parts.specs.Reprs.{repr_view};
-ghost use Rattle.lalrpop_norm_repr.specs.Tables.{type_table};
 ghost use Rattle.lalrpop_norm_lower.specs.Lowering.{type_or_unit};
+ghost use Rattle.lalrpop_norm_lower.specs.State.{numbered_table};
 
+use crate::numbered::NumberedTypes;
 use crate::typing::unit_type;
-use lalrpop_norm_repr::grammar::repr::{Symbol, TypeRepr, Types};
+use lalrpop_norm_repr::grammar::repr::{Symbol, TypeRepr};
 use lalrpop_norm_tree::grammar::parse_tree::NoMemory;
 use std::alloc::Global;
 
 /// The type of each symbol.
 pub(crate) fn symbol_types(
     alloc: Global,
-    types: &Types,
+    types: &NumberedTypes,
     symbols: &[Symbol],
 ) -> Result<Vec<TypeRepr>, NoMemory>
-    ensures { IfOk result (λ ts. map repr_view ts.items ≡ map (type_or_unit (type_table types.now)) symbols.now) }
+    ensures { IfOk result (λ ts. map repr_view ts.items ≡ map (type_or_unit (numbered_table types.now)) symbols.now) }
 {
     let mut found = Vec::with_capacity(alloc, symbols.len())?;
     for symbol in symbols {
@@ -25,12 +26,12 @@ pub(crate) fn symbol_types(
 }
 
 /// The symbol's type. Each symbol of a plain grammar has one.
-fn type_or_unit(alloc: Global, types: &Types, symbol: &Symbol) -> Result<TypeRepr, NoMemory>
-    ensures { IfOk result (λ t. repr_view t ≡ type_or_unit (type_table types.now) symbol.now) }
+fn type_or_unit(alloc: Global, types: &NumberedTypes, symbol: &Symbol) -> Result<TypeRepr, NoMemory>
+    ensures { IfOk result (λ t. repr_view t ≡ type_or_unit (numbered_table types.now) symbol.now) }
 {
     match symbol {
-        Symbol::Terminal(terminal) => Ok(types.terminal_type(terminal).clone()?),
-        Symbol::Nonterminal(name) => match types.lookup_nonterminal_type(name) {
+        Symbol::Terminal(terminal) => Ok(types.table.terminal_type(terminal).clone()?),
+        Symbol::Nonterminal(name) => match types.nonterminal(name) {
             Some(ty) => Ok(ty.clone()?),
             None => Ok(unit_type(alloc)),
         },

@@ -8,6 +8,7 @@ mod bodies;
 mod clauses;
 mod head;
 mod nonterminals;
+mod numbered;
 mod patterns;
 mod placeholders;
 mod recovery;

@@ -3,13 +3,15 @@ ghost use Rattle.std.specs.Prelude.{◌≡◌, [], ◌++◌, IfOk, OnOk, map, st
 ghost use Rattle.lalrpop_norm_tree.specs.Items.{rule_view};
 ghost use Rattle.lalrpop_norm_tree_parts.specs.Reprs.{repr_view, unit_type};
 ghost use Rattle.lalrpop_norm_repr.specs.Productions.{nonterminal_data_view};
-ghost use Rattle.lalrpop_norm_repr.specs.Tables.{type_table, rows};
+ghost use Rattle.lalrpop_norm_repr.specs.Tables.{rows};
 ghost use Rattle.lalrpop_norm_lower.specs.Lowering.{rule_type, start_name, start_names, with_entry, sorted_onto};
 ghost use Rattle.lalrpop_norm_lower.specs.Starts.{start_rule, start_named, start_typed};
+ghost use Rattle.lalrpop_norm_lower.specs.State.{numbered_table};
 ghost use Rattle.lalrpop_norm_lower.specs.Typing.{start_types};
 
+use crate::numbered::NumberedTypes;
 use crate::typing::unit_type;
-use lalrpop_norm_repr::grammar::repr::{NonterminalData, TypeRepr, Types};
+use lalrpop_norm_repr::grammar::repr::{NonterminalData, TypeRepr};
 use lalrpop_norm_tree::grammar::parse_tree as pt;
 use lalrpop_norm_tree::grammar::parse_tree::{Atom, NoMemory, NonterminalString};
 use std::alloc::Global;
@@ -27,13 +29,13 @@ pub(crate) struct Start<'g> {
 pub(crate) fn starts_of<'g>(
     alloc: Global,
     prefix: &str,
-    types: &Types,
+    types: &NumberedTypes,
     public: &[&'g pt::NonterminalData],
 ) -> Result<Vec<Start<'g>>, NoMemory>
     ensures rules { IfOk result (λ ss. map start_rule ss.items ≡ map (λ r. rule_view r.now) public.now) }
     ensures names { IfOk result (λ ss. map start_named ss.items ≡ start_names prefix.now (map (λ r. rule_view r.now) public.now)) }
     ensures types { IfOk result (λ ss. map start_typed ss.items
-        ≡ start_types prefix.now (type_table types.now) (map (λ r. rule_view r.now) public.now)) }
+        ≡ start_types prefix.now (numbered_table types.now) (map (λ r. rule_view r.now) public.now)) }
 {
     let mut starts = Vec::with_capacity(alloc, public.len())?;
     for rule in public {
@@ -45,29 +47,42 @@ pub(crate) fn starts_of<'g>(
 fn start_of<'g>(
     alloc: Global,
     prefix: &str,
-    types: &Types,
+    types: &NumberedTypes,
     rule: &'g pt::NonterminalData,
 ) -> Result<Start<'g>, NoMemory>
     ensures rule { IfOk result (λ s. s.rule.now ≡ rule.now) }
     ensures name { IfOk result (λ s. s.name ≡ start_name prefix.now rule.now.name) }
-    ensures ty { IfOk result (λ s. repr_view s.ty ≡ rule_type (type_table types.now) (rule_view rule.now)) }
+    ensures ty { IfOk result (λ s. repr_view s.ty ≡ rule_type (numbered_table types.now) (rule_view rule.now)) }
 {
     let name = start_name(alloc, prefix, &rule.name)?;
-    let unit = unit_type(alloc);
-    let ty = rule_type(types, rule, &unit).clone()?;
+    let ty = type_of_rule(alloc, types, rule)?;
     Ok(Start { rule, name, ty })
+}
+
+/// A copy of the rule's type.
+fn type_of_rule(
+    alloc: Global,
+    types: &NumberedTypes,
+    rule: &pt::NonterminalData,
+) -> Result<TypeRepr, NoMemory>
+    ensures { IfOk result (λ t. repr_view t ≡ rule_type (numbered_table types.now) (rule_view rule.now)) }
+{
+    match types.nonterminal(&rule.name) {
+        Some(ty) => Ok(ty.clone()?),
+        None => Ok(unit_type(alloc)),
+    }
 }
 
 /// The type of a rule. Each rule of a plain grammar has one; where there is none, it is `unit`.
 pub(crate) fn rule_type<'t>(
-    types: &'t Types,
+    types: &NumberedTypes<'t>,
     rule: &pt::NonterminalData,
     unit: &'t TypeRepr,
 ) -> &'t TypeRepr
     requires { repr_view unit.now ≡ unit_type }
-    ensures { repr_view result.now ≡ rule_type (type_table types.now) (rule_view rule.now) }
+    ensures { repr_view result.now ≡ rule_type (numbered_table types.now) (rule_view rule.now) }
 {
-    match types.lookup_nonterminal_type(&rule.name) {
+    match types.nonterminal(&rule.name) {
         Some(ty) => ty,
         None => unit,
     }

@@ -1,5 +1,6 @@
 //! The state of lowering.
-use lalrpop_norm_repr::grammar::repr::{ActionFnDefn, NonterminalData, NonterminalString, Types};
+use crate::numbered::NumberedTypes;
+use lalrpop_norm_repr::grammar::repr::{ActionFnDefn, NonterminalData, NonterminalString};
 use std::alloc::Global;
 use std::collections::BTreeMap;
 
@@ -8,7 +9,7 @@ use std::collections::BTreeMap;
 pub(crate) struct LowerState<'g> {
     pub(crate) alloc: Global,
     pub(crate) prefix: &'g str,
-    pub(crate) types: &'g Types,
+    pub(crate) types: &'g NumberedTypes<'g>,
     /// By their numbers.
     pub(crate) actions: Vec<ActionFnDefn>,
     pub(crate) nonterminals: BTreeMap<NonterminalString, NonterminalData>,

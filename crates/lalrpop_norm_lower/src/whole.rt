@@ -12,14 +12,16 @@ ghost use Rattle.lalrpop_norm_repr.specs.Productions.{nonterminal_data_view};
 ghost use Rattle.lalrpop_norm_repr.specs.Closed.{IsClosed};
 ghost use Rattle.lalrpop_norm_repr.specs.Tables.{type_table, rows};
 ghost use Rattle.lalrpop_norm_lower.specs.Active.{active_grammar};
-ghost use Rattle.lalrpop_norm_lower.specs.Lowering.{rules_among, public_rules_in, start_rows, rule_rows, sorted_onto};
+ghost use Rattle.lalrpop_norm_lower.specs.Lowering.{rules_among, public_rules_in, start_names, start_rows, rule_rows, sorted_onto};
 ghost use Rattle.lalrpop_norm_lower.specs.Made.{types_by_name, made_faults, made_starts_faults, made_rules_faults, made_starts, made_actions, IsMade};
 ghost use Rattle.lalrpop_norm_lower.specs.Shape.{IsLoweringOf};
-ghost use Rattle.lalrpop_norm_lower.specs.Starts.{start_rule, start_typed};
+ghost use Rattle.lalrpop_norm_lower.specs.Starts.{start_rule, start_named, start_typed};
+ghost use Rattle.lalrpop_norm_lower.specs.State.{numbered_table};
 ghost use Rattle.lalrpop_norm_lower.specs.Typing.{start_types};
 
 use crate::head::{head_of, signature_of};
 use crate::nonterminals::{lower_rules, lower_starts};
+use crate::numbered::NumberedTypes;
 use crate::recovery::uses_recovery;
 use crate::rules::{public_rules, rules_of};
 use crate::starts::{Start, start_table, starts_of};
@@ -100,9 +102,7 @@ fn lower_over<L>(
     ensures refuses { Refuses result (made_faults (written.grammar_view grammar.now).prefix (type_table types) (rules_among (written.grammar_view grammar.now).items)) }
     ensures lowered { IfOk result (λ l. IsMade (features_view session.now.features) (written.grammar_view grammar.now) (type_table types) (lowered.lowered_grammar_view l)) }
 {
-    let prefix = grammar.prefix.as_str();
-    let starts = starts_of(alloc, prefix, &types, public)?;
-    let produced = produce(alloc, prefix, &types, rules, &starts)?;
+    let (starts, produced) = started(alloc, grammar.prefix.as_str(), &types, rules, public)?;
     let head = head_of(alloc, grammar)?;
     let signature = signature_of(alloc, grammar)?;
     let start_nonterminals = start_table(alloc, &starts)?;
@@ -137,19 +137,45 @@ struct Produced {
     nonterminals: BTreeMap<NonterminalString, NonterminalData>,
 }
 
-fn produce(
+/// The public rules with their start symbols, and what is made of these and of the rules.
+fn started<'g>(
     alloc: Global,
     prefix: &str,
     types: &Types,
     rules: &[&pt::NonterminalData],
+    public: &[&'g pt::NonterminalData],
+) -> NormResult<(Vec<Start<'g>>, Produced)>
+    ensures refuses { Refuses result (made_starts_faults prefix.now (type_table types.now) 0 (map (λ r. written.rule_view r.now) public.now)
+        ++ made_rules_faults (length (map (λ r. written.rule_view r.now) public.now)) (map (λ r. written.rule_view r.now) rules.now)) }
+    ensures names { IfOk result (λ p. map start_named p.0.items ≡ start_names prefix.now (map (λ r. written.rule_view r.now) public.now)) }
+    ensures types { IfOk result (λ p. map start_typed p.0.items
+        ≡ start_types prefix.now (type_table types.now) (map (λ r. written.rule_view r.now) public.now)) }
+    ensures actions { IfOk result (λ p. map action_defn_view p.1.actions.items
+        ≡ made_starts prefix.now (type_table types.now) (map (λ r. written.rule_view r.now) public.now)
+        ++ made_actions prefix.now (type_table types.now) (map (λ r. written.rule_view r.now) rules.now)) }
+    ensures nonterminals { IfOk result (λ p. rows nonterminal_data_view p.1.nonterminals
+        ≡ sorted_onto (sorted_onto [] (start_rows prefix.now 0 (map (λ r. written.rule_view r.now) public.now)))
+        (rule_rows (length (map (λ r. written.rule_view r.now) public.now)) (map (λ r. written.rule_view r.now) rules.now))) }
+{
+    let types = NumberedTypes::of(alloc, types, rules)?;
+    let starts = starts_of(alloc, prefix, &types, public)?;
+    let produced = produce(alloc, prefix, &types, rules, &starts)?;
+    Ok((starts, produced))
+}
+
+fn produce(
+    alloc: Global,
+    prefix: &str,
+    types: &NumberedTypes,
+    rules: &[&pt::NonterminalData],
     starts: &[Start],
 ) -> NormResult<Produced>
-    requires { map start_typed starts.now ≡ start_types prefix.now (type_table types.now) (map start_rule starts.now) }
-    ensures refuses { Refuses result (made_starts_faults prefix.now (type_table types.now) 0 (map start_rule starts.now)
+    requires { map start_typed starts.now ≡ start_types prefix.now (numbered_table types.now) (map start_rule starts.now) }
+    ensures refuses { Refuses result (made_starts_faults prefix.now (numbered_table types.now) 0 (map start_rule starts.now)
         ++ made_rules_faults (length (map start_rule starts.now)) (map (λ r. written.rule_view r.now) rules.now)) }
     ensures actions { IfOk result (λ p. map action_defn_view p.actions.items
-        ≡ made_starts prefix.now (type_table types.now) (map start_rule starts.now)
-        ++ made_actions prefix.now (type_table types.now) (map (λ r. written.rule_view r.now) rules.now)) }
+        ≡ made_starts prefix.now (numbered_table types.now) (map start_rule starts.now)
+        ++ made_actions prefix.now (numbered_table types.now) (map (λ r. written.rule_view r.now) rules.now)) }
     ensures nonterminals { IfOk result (λ p. rows nonterminal_data_view p.nonterminals
         ≡ sorted_onto (sorted_onto [] (start_rows prefix.now 0 (map start_rule starts.now)))
         (rule_rows (length (map start_rule starts.now)) (map (λ r. written.rule_view r.now) rules.now))) }

@@ -1,0 +1,6 @@
+-- The table of types that rules are lowered by.
+use Rattle.lalrpop_norm_repr.specs.Tables.{TypeTable, type_table}
+use Rattle.lalrpop_norm_lower.specs.declared.numbered.NumberedTypes.{NumberedTypes}
+
+abbrev pub numbered_table : NumberedTypes → TypeTable
+numbered_table types = type_table types.table.now

@@ -1,0 +1,91 @@
+//! The types of rules, found by the numbers of their names.
+ghost use Rattle.std.specs.Prelude.{◌≡◌, IfOk, map, option_map};
+ghost use Rattle.lalrpop_norm_tree_parts.specs.Reprs.{repr_view};
+ghost use Rattle.lalrpop_norm_names.specs.Numbers.{IsNumbering};
+ghost use Rattle.lalrpop_norm_repr.specs.Tables.{type_table, type_of};
+ghost use Rattle.lalrpop_norm_lower.specs.Numbered.{AreByNumber};
+
+use lalrpop_norm_names::Names;
+use lalrpop_norm_repr::grammar::repr::{TypeRepr, Types};
+use lalrpop_norm_tree::grammar::parse_tree::{NoMemory, NonterminalData, NonterminalString};
+use std::alloc::Global;
+
+/// A table of types, with what it has for each rule at the number of the rule's name.
+#[derive(Drop)]
+pub(crate) struct NumberedTypes<'t> {
+    pub(crate) table: &'t Types,
+    names: Names,
+    by_number: Vec<Option<&'t TypeRepr>>,
+    ghost numbered: { ∥ AreByNumber (type_table table.now) names (map (option_map (λ t. repr_view t.now)) by_number.items) ∥₁ },
+}
+
+impl<'t> NumberedTypes<'t> {
+    /// Each rule is looked up in the table once.
+    pub(crate) fn of(
+        alloc: Global,
+        table: &'t Types,
+        rules: &[&NonterminalData],
+    ) -> Result<NumberedTypes<'t>, NoMemory>
+        ensures { IfOk result (λ n. n.table.now ≡ table.now) }
+    {
+        let names = names_of_rules(alloc, rules)?;
+        numbered_by(alloc, table, &names)
+    }
+
+    /// The type of a nonterminal, if it has one. One that is no rule is looked up in the table.
+    pub(crate) fn nonterminal(&self, name: &NonterminalString) -> Option<&'t TypeRepr>
+        ensures { option_map (λ t. repr_view t.now) result ≡ type_of name.now (type_table self.now.table.now) }
+    {
+        match self.names.number(name) {
+            Some(number) => self.by_number[number],
+            None => self.table.lookup_nonterminal_type(name),
+        }
+    }
+}
+
+/// The names of the rules.
+fn names_of_rules(
+    alloc: Global,
+    rules: &[&NonterminalData],
+) -> Result<Vec<NonterminalString>, NoMemory>
+    ensures { IfOk result (λ ns. ns.items ≡ map (λ r. r.now.name) rules.now) }
+{
+    let mut names = Vec::with_capacity(alloc, rules.len())?;
+    for rule in rules {
+        names.push(rule.name.clone()?)?;
+    }
+    Ok(names)
+}
+
+/// By these names, each of which has the first place at which it stands among them as its number.
+fn numbered_by<'t>(
+    alloc: Global,
+    table: &'t Types,
+    names: &[NonterminalString],
+) -> Result<NumberedTypes<'t>, NoMemory>
+    ensures { IfOk result (λ n. n.table.now ≡ table.now) }
+{
+    let by_number = types_of(alloc, table, names)?;
+    let names = Names::of(alloc, names)?;
+    Ok(NumberedTypes {
+        table,
+        names,
+        by_number,
+    })
+}
+
+/// What the table has for each name.
+fn types_of<'t>(
+    alloc: Global,
+    table: &'t Types,
+    names: &[NonterminalString],
+) -> Result<Vec<Option<&'t TypeRepr>>, NoMemory>
+    ensures { IfOk result (λ ts.
+        map (option_map (λ t. repr_view t.now)) ts.items ≡ map (λ n. type_of n (type_table table.now)) names.now) }
+{
+    let mut types = Vec::with_capacity(alloc, names.len())?;
+    for name in names {
+        types.push(table.lookup_nonterminal_type(name))?;
+    }
+    Ok(types)
+}
