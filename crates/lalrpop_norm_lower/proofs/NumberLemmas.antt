@@ -14,7 +14,7 @@ use Rattle.lalrpop_norm_names.specs.declared.table.Names.{Names}
 use Rattle.lalrpop_norm_model.specs.SameTypes.{same_type}
 use Rattle.lalrpop_norm_model.proofs.SameTypeLemmas.{type_sound, type_same}
 use Rattle.lalrpop_norm_repr.specs.Tables.{TypeTable, type_of}
-use Rattle.lalrpop_norm_lower.specs.Numbered.{AreByNumber}
+use Rattle.lalrpop_norm_lower.specs.Numbered.{AreTypesByNumber}
 
 -- ---- a table that was made of names
 
@@ -28,7 +28,7 @@ of_text name (Some n) e = let same : n.0 ≡ name.0 = cc in ap (λ t. Some (reco
 of_text name None e = absurd (cc e)
 
 pub are_by_number : (types : TypeTable) (listed : List NonterminalString) (names : Names) → IsNumbering (map (λ n. n.0) listed) names →
-    AreByNumber types names (map (λ n. type_of n types) listed)
+    AreTypesByNumber types names (map (λ n. type_of n types) listed)
 are_by_number types listed names numbering name k e =
     let text = text_at (map (λ n. n.0) listed) name.0 k (sym (numbering name.0) ∙ e) in
     let here = of_text name (slice_get listed k) (sym (slice_get-map (λ n. n.0) listed k) ∙ text) in
@@ -53,7 +53,7 @@ found_set : IsSet (Option ReprData)
 found_set = hedberg found_decided
 
 module _ {X : Type 0} (view : X → Option ReprData) (types : TypeTable) (names : Names) (list : List X) (name : NonterminalString) (k : ℕ)
-    (numbered : ∥ AreByNumber types names (map view list) ∥₁) (number : number_in_table names name.0 ≡ Some k) where
+    (numbered : ∥ AreTypesByNumber types names (map view list) ∥₁) (number : number_in_table names name.0 ≡ Some k) where
   pub number_within : k < length list
   number_within = ∥∥₁_elim numbered le_prop (λ known. subst (λ n. k < n) (length-map list view) (slice_get_within (map view list) k (type_of name types) (known name k number)))
 

@@ -2,7 +2,7 @@
 ghost use Rattle.std.specs.Prelude.{◌≡◌, IfOk, map};
 ghost use Rattle.lalrpop_norm_tree_parts.specs.Reprs.{repr_view};
 ghost use Rattle.lalrpop_norm_lower.specs.Lowering.{type_or_unit};
-ghost use Rattle.lalrpop_norm_lower.specs.State.{numbered_table};
+ghost use Rattle.lalrpop_norm_lower.specs.State.{table_by_number};
 
 use crate::numbered::NumberedTypes;
 use crate::typing::unit_type;
@@ -16,7 +16,7 @@ pub(crate) fn symbol_types(
     types: &NumberedTypes,
     symbols: &[Symbol],
 ) -> Result<Vec<TypeRepr>, NoMemory>
-    ensures { IfOk result (λ ts. map repr_view ts.items ≡ map (type_or_unit (numbered_table types.now)) symbols.now) }
+    ensures { IfOk result (λ ts. map repr_view ts.items ≡ map (type_or_unit (table_by_number types.now)) symbols.now) }
 {
     let mut found = Vec::with_capacity(alloc, symbols.len())?;
     for symbol in symbols {
@@ -27,7 +27,7 @@ pub(crate) fn symbol_types(
 
 /// The symbol's type. Each symbol of a plain grammar has one.
 fn type_or_unit(alloc: Global, types: &NumberedTypes, symbol: &Symbol) -> Result<TypeRepr, NoMemory>
-    ensures { IfOk result (λ t. repr_view t ≡ type_or_unit (numbered_table types.now) symbol.now) }
+    ensures { IfOk result (λ t. repr_view t ≡ type_or_unit (table_by_number types.now) symbol.now) }
 {
     match symbol {
         Symbol::Terminal(terminal) => Ok(types.table.terminal_type(terminal).clone()?),

@@ -9,7 +9,7 @@ ghost use Rattle.lalrpop_norm_repr.specs.Actions.{action_defn_view};
 ghost use Rattle.lalrpop_norm_repr.specs.Productions.{production_view};
 ghost use Rattle.lalrpop_norm_lower.specs.Lowering.{lowered_symbols, production_of, productions_from};
 ghost use Rattle.lalrpop_norm_lower.specs.Made.{alternatives_faults, made_action};
-ghost use Rattle.lalrpop_norm_lower.specs.State.{numbered_table};
+ghost use Rattle.lalrpop_norm_lower.specs.State.{table_by_number};
 
 use crate::bodies::made_action;
 use crate::placeholders::check_code;
@@ -32,7 +32,7 @@ pub(crate) fn lower_alternative(
     ensures lowered { IfOk result (λ p.
         production_view p ≡ production_of name.now (vec_len state.old.actions) (alternative_view alternative.now)) }
     ensures adds { OnOk result (map action_defn_view state.new.actions.items
-        ≡ map action_defn_view state.old.actions.items ++ made_action state.old.prefix.now (numbered_table state.old.types.now) (repr_view ty.now) (alternative_view alternative.now) ∷ []) }
+        ≡ map action_defn_view state.old.actions.items ++ made_action state.old.prefix.now (table_by_number state.old.types.now) (repr_view ty.now) (alternative_view alternative.now) ∷ []) }
     ensures count { OnOk result (vec_len state.new.actions ≡ vec_len state.old.actions + 1) }
     ensures given { OnOk result ((state.new.prefix ≡ state.old.prefix) × (state.new.types ≡ state.old.types)) }
     ensures table { OnOk result (state.new.nonterminals ≡ state.old.nonterminals) }
@@ -67,7 +67,7 @@ fn add_production(
     ensures lowered { IfOk result (λ p. production_view p
         ≡ record { nonterminal = name.now; symbols = lowered_symbols (expr_view alternative.now.expr); action = action; span = alternative.now.span }) }
     ensures adds { OnOk result (map action_defn_view state.new.actions.items
-        ≡ map action_defn_view state.old.actions.items ++ made_action state.old.prefix.now (numbered_table state.old.types.now) (repr_view ty.now) (alternative_view alternative.now) ∷ []) }
+        ≡ map action_defn_view state.old.actions.items ++ made_action state.old.prefix.now (table_by_number state.old.types.now) (repr_view ty.now) (alternative_view alternative.now) ∷ []) }
     ensures count { OnOk result (vec_len state.new.actions ≡ vec_len state.old.actions + 1) }
     ensures given { OnOk result ((state.new.prefix ≡ state.old.prefix) × (state.new.types ≡ state.old.types)) }
     ensures table { OnOk result (state.new.nonterminals ≡ state.old.nonterminals) }
@@ -87,7 +87,7 @@ fn add_made_action(
     requires symbols { symbols.now ≡ lowered_symbols (expr_view alternative.now.expr) }
     requires counted { code_faults (alternative_view alternative.now) ≡ [] }
     ensures adds { OnOk result (map action_defn_view state.new.actions.items
-        ≡ map action_defn_view state.old.actions.items ++ made_action state.old.prefix.now (numbered_table state.old.types.now) (repr_view ty.now) (alternative_view alternative.now) ∷ []) }
+        ≡ map action_defn_view state.old.actions.items ++ made_action state.old.prefix.now (table_by_number state.old.types.now) (repr_view ty.now) (alternative_view alternative.now) ∷ []) }
     ensures count { OnOk result (vec_len state.new.actions ≡ vec_len state.old.actions + 1) }
     ensures given { OnOk result ((state.new.prefix ≡ state.old.prefix) × (state.new.types ≡ state.old.types)) }
     ensures table { OnOk result (state.new.nonterminals ≡ state.old.nonterminals) }
@@ -125,7 +125,7 @@ pub(crate) fn lower_alternatives(
     ensures lowered { IfOk result (λ ps. map production_view ps.items
         ≡ productions_from name.now (vec_len state.old.actions) (map alternative_view alternatives.now)) }
     ensures adds { OnOk result (map action_defn_view state.new.actions.items
-        ≡ map action_defn_view state.old.actions.items ++ map (made_action state.old.prefix.now (numbered_table state.old.types.now) (repr_view ty.now)) (map alternative_view alternatives.now)) }
+        ≡ map action_defn_view state.old.actions.items ++ map (made_action state.old.prefix.now (table_by_number state.old.types.now) (repr_view ty.now)) (map alternative_view alternatives.now)) }
     ensures count { OnOk result (vec_len state.new.actions ≡ vec_len state.old.actions + length alternatives.now) }
     ensures given { OnOk result ((state.new.prefix ≡ state.old.prefix) × (state.new.types ≡ state.old.types)) }
     ensures table { OnOk result (state.new.nonterminals ≡ state.old.nonterminals) }

@@ -7,7 +7,7 @@ ghost use Rattle.lalrpop_norm_model.specs.LoweringFaults.{code_faults};
 ghost use Rattle.lalrpop_norm_repr.specs.Actions.{action_defn_view, action_kind_view};
 ghost use Rattle.lalrpop_norm_lower.specs.Lowering.{lowered_symbols};
 ghost use Rattle.lalrpop_norm_lower.specs.Made.{made_action, body, user_body};
-ghost use Rattle.lalrpop_norm_lower.specs.State.{numbered_table};
+ghost use Rattle.lalrpop_norm_lower.specs.State.{table_by_number};
 
 use crate::actions::symbol_types;
 use crate::arguments::arguments_of;
@@ -30,7 +30,7 @@ pub(crate) fn made_action(
     requires symbols { symbols.now ≡ lowered_symbols (expr_view alternative.now.expr) }
     requires counted { code_faults (alternative_view alternative.now) ≡ [] }
     ensures { IfOk result (λ d.
-        action_defn_view d ≡ made_action state.now.prefix.now (numbered_table state.now.types.now) (repr_view ty.now) (alternative_view alternative.now)) }
+        action_defn_view d ≡ made_action state.now.prefix.now (table_by_number state.now.types.now) (repr_view ty.now) (alternative_view alternative.now)) }
 {
     let kind = body(state, ty, alternative, symbols)?;
     let ret_type = ty.clone()?;
@@ -51,7 +51,7 @@ fn body(
     requires symbols { symbols.now ≡ lowered_symbols (expr_view alternative.now.expr) }
     requires counted { code_faults (alternative_view alternative.now) ≡ [] }
     ensures { IfOk result (λ k. action_kind_view k
-        ≡ body state.now.prefix.now (numbered_table state.now.types.now) (repr_view ty.now) (alternative_view alternative.now) (option_map action_view alternative.now.action)) }
+        ≡ body state.now.prefix.now (table_by_number state.now.types.now) (repr_view ty.now) (alternative_view alternative.now) (option_map action_view alternative.now.action)) }
 {
     match &alternative.action {
         Some(ActionKind::Lookahead) => Ok(ActionFnDefnKind::Lookaround(
@@ -76,7 +76,7 @@ fn user_body(
     requires symbols { symbols.now ≡ lowered_symbols (expr_view alternative.now.expr) }
     requires counted { code_faults (alternative_view alternative.now) ≡ [] }
     ensures { IfOk result (λ k.
-        action_kind_view k ≡ user_body state.now.prefix.now (numbered_table state.now.types.now) (repr_view ty.now) (alternative_view alternative.now)) }
+        action_kind_view k ≡ user_body state.now.prefix.now (table_by_number state.now.types.now) (repr_view ty.now) (alternative_view alternative.now)) }
 {
     let arguments = arguments_of(state.alloc, state.prefix, &alternative.expr.symbols)?;
     let is_named = has_name_value(&alternative.expr.symbols);

@@ -9,7 +9,7 @@ ghost use Rattle.lalrpop_norm_repr.specs.Productions.{nonterminal_data_view, pro
 ghost use Rattle.lalrpop_norm_repr.specs.Tables.{rows};
 ghost use Rattle.lalrpop_norm_lower.specs.Lowering.{rule_type, rule_entry, rule_rows, start_entry, start_rows, start_name, start_alternative, production_of, productions_from, sorted_onto};
 ghost use Rattle.lalrpop_norm_lower.specs.Made.{types_by_name, alternatives_faults, made_starts_faults, made_rules_faults, made_action, made_starts, made_actions};
-ghost use Rattle.lalrpop_norm_lower.specs.State.{numbered_table};
+ghost use Rattle.lalrpop_norm_lower.specs.State.{table_by_number};
 ghost use Rattle.lalrpop_norm_lower.specs.Starts.{start_rule, start_typed};
 ghost use Rattle.lalrpop_norm_lower.specs.Typing.{start_types};
 
@@ -29,12 +29,12 @@ use std::alloc::Global;
 /// The start symbol of a public rule.
 fn lower_start(state: &mut LowerState, start: &Start) -> NormResult<NonterminalData>
     requires name { start.now.name ≡ start_name state.old.prefix.now start.now.rule.now.name }
-    requires ty { repr_view start.now.ty ≡ rule_type (numbered_table state.old.types.now) (start_rule start.now) }
-    ensures refuses { Refuses result (start_faults state.old.prefix.now (types_by_name (numbered_table state.old.types.now)) (start_rule start.now) ++ action_number_faults (vec_len state.old.actions) start.now.rule.now.span) }
+    requires ty { repr_view start.now.ty ≡ rule_type (table_by_number state.old.types.now) (start_rule start.now) }
+    ensures refuses { Refuses result (start_faults state.old.prefix.now (types_by_name (table_by_number state.old.types.now)) (start_rule start.now) ++ action_number_faults (vec_len state.old.actions) start.now.rule.now.span) }
     ensures lowered { IfOk result (λ n.
         nonterminal_data_view n ≡ start_entry state.old.prefix.now (vec_len state.old.actions) (start_rule start.now)) }
     ensures adds { OnOk result (map action_defn_view state.new.actions.items ≡ map action_defn_view state.old.actions.items
-        ++ made_action state.old.prefix.now (numbered_table state.old.types.now) (rule_type (numbered_table state.old.types.now) (start_rule start.now)) (start_alternative (start_rule start.now)) ∷ []) }
+        ++ made_action state.old.prefix.now (table_by_number state.old.types.now) (rule_type (table_by_number state.old.types.now) (start_rule start.now)) (start_alternative (start_rule start.now)) ∷ []) }
     ensures count { OnOk result (vec_len state.new.actions ≡ vec_len state.old.actions + 1) }
     ensures given { OnOk result ((state.new.prefix ≡ state.old.prefix) × (state.new.types ≡ state.old.types)) }
     ensures table { OnOk result (state.new.nonterminals ≡ state.old.nonterminals) }
@@ -56,7 +56,7 @@ fn start_production(state: &mut LowerState, start: &Start) -> NormResult<Product
     ensures lowered { IfOk result (λ p.
         production_view p ≡ production_of start.now.name (vec_len state.old.actions) (start_alternative (start_rule start.now))) }
     ensures adds { OnOk result (map action_defn_view state.new.actions.items ≡ map action_defn_view state.old.actions.items
-        ++ made_action state.old.prefix.now (numbered_table state.old.types.now) (repr_view start.now.ty) (start_alternative (start_rule start.now)) ∷ []) }
+        ++ made_action state.old.prefix.now (table_by_number state.old.types.now) (repr_view start.now.ty) (start_alternative (start_rule start.now)) ∷ []) }
     ensures count { OnOk result (vec_len state.new.actions ≡ vec_len state.old.actions + 1) }
     ensures given { OnOk result ((state.new.prefix ≡ state.old.prefix) × (state.new.types ≡ state.old.types)) }
     ensures table { OnOk result (state.new.nonterminals ≡ state.old.nonterminals) }
@@ -70,7 +70,7 @@ fn lower_rule(state: &mut LowerState, rule: &pt::NonterminalData) -> NormResult<
     ensures refuses { Refuses result (alternatives_faults (vec_len state.old.actions) (rule_view rule.now).alternatives) }
     ensures lowered { IfOk result (λ n. nonterminal_data_view n ≡ rule_entry (vec_len state.old.actions) (rule_view rule.now)) }
     ensures adds { OnOk result (map action_defn_view state.new.actions.items ≡ map action_defn_view state.old.actions.items
-        ++ map (made_action state.old.prefix.now (numbered_table state.old.types.now) (rule_type (numbered_table state.old.types.now) (rule_view rule.now))) (rule_view rule.now).alternatives) }
+        ++ map (made_action state.old.prefix.now (table_by_number state.old.types.now) (rule_type (table_by_number state.old.types.now) (rule_view rule.now))) (rule_view rule.now).alternatives) }
     ensures count { OnOk result (vec_len state.new.actions ≡ vec_len state.old.actions + length (rule_view rule.now).alternatives) }
     ensures given { OnOk result ((state.new.prefix ≡ state.old.prefix) × (state.new.types ≡ state.old.types)) }
     ensures table { OnOk result (state.new.nonterminals ≡ state.old.nonterminals) }
@@ -87,7 +87,7 @@ fn rule_productions(
     ensures refuses { Refuses result (alternatives_faults (vec_len state.old.actions) (rule_view rule.now).alternatives) }
     ensures lowered { IfOk result (λ ps. map production_view ps.items ≡ productions_from rule.now.name (vec_len state.old.actions) (rule_view rule.now).alternatives) }
     ensures adds { OnOk result (map action_defn_view state.new.actions.items ≡ map action_defn_view state.old.actions.items
-        ++ map (made_action state.old.prefix.now (numbered_table state.old.types.now) (rule_type (numbered_table state.old.types.now) (rule_view rule.now))) (rule_view rule.now).alternatives) }
+        ++ map (made_action state.old.prefix.now (table_by_number state.old.types.now) (rule_type (table_by_number state.old.types.now) (rule_view rule.now))) (rule_view rule.now).alternatives) }
     ensures count { OnOk result (vec_len state.new.actions ≡ vec_len state.old.actions + length (rule_view rule.now).alternatives) }
     ensures given { OnOk result ((state.new.prefix ≡ state.old.prefix) × (state.new.types ≡ state.old.types)) }
     ensures table { OnOk result (state.new.nonterminals ≡ state.old.nonterminals) }
@@ -116,12 +116,12 @@ fn rule_data(
 
 /// The start symbols of the public rules.
 pub(crate) fn lower_starts(state: &mut LowerState, starts: &[Start]) -> NormResult<()>
-    requires { map start_typed starts.now ≡ start_types state.old.prefix.now (numbered_table state.old.types.now) (map start_rule starts.now) }
-    ensures refuses { Refuses result (made_starts_faults state.old.prefix.now (numbered_table state.old.types.now) (vec_len state.old.actions) (map start_rule starts.now)) }
+    requires { map start_typed starts.now ≡ start_types state.old.prefix.now (table_by_number state.old.types.now) (map start_rule starts.now) }
+    ensures refuses { Refuses result (made_starts_faults state.old.prefix.now (table_by_number state.old.types.now) (vec_len state.old.actions) (map start_rule starts.now)) }
     ensures table { OnOk result (rows nonterminal_data_view state.new.nonterminals
         ≡ sorted_onto (rows nonterminal_data_view state.old.nonterminals) (start_rows state.old.prefix.now (vec_len state.old.actions) (map start_rule starts.now))) }
     ensures adds { OnOk result (map action_defn_view state.new.actions.items
-        ≡ map action_defn_view state.old.actions.items ++ made_starts state.old.prefix.now (numbered_table state.old.types.now) (map start_rule starts.now)) }
+        ≡ map action_defn_view state.old.actions.items ++ made_starts state.old.prefix.now (table_by_number state.old.types.now) (map start_rule starts.now)) }
     ensures count { OnOk result (vec_len state.new.actions ≡ vec_len state.old.actions + length starts.now) }
     ensures given { OnOk result ((state.new.prefix ≡ state.old.prefix) × (state.new.types ≡ state.old.types)) }
 {
@@ -139,7 +139,7 @@ pub(crate) fn lower_rules(state: &mut LowerState, rules: &[&pt::NonterminalData]
     ensures table { OnOk result (rows nonterminal_data_view state.new.nonterminals
         ≡ sorted_onto (rows nonterminal_data_view state.old.nonterminals) (rule_rows (vec_len state.old.actions) (map (λ r. rule_view r.now) rules.now))) }
     ensures adds { OnOk result (map action_defn_view state.new.actions.items
-        ≡ map action_defn_view state.old.actions.items ++ made_actions state.old.prefix.now (numbered_table state.old.types.now) (map (λ r. rule_view r.now) rules.now)) }
+        ≡ map action_defn_view state.old.actions.items ++ made_actions state.old.prefix.now (table_by_number state.old.types.now) (map (λ r. rule_view r.now) rules.now)) }
     ensures given { OnOk result ((state.new.prefix ≡ state.old.prefix) × (state.new.types ≡ state.old.types)) }
 {
     for rule in rules {

@@ -3,7 +3,7 @@ ghost use Rattle.std.specs.Prelude.{◌≡◌, IfOk, map, option_map};
 ghost use Rattle.lalrpop_norm_tree_parts.specs.Reprs.{repr_view};
 ghost use Rattle.lalrpop_norm_names.specs.Numbers.{IsNumbering};
 ghost use Rattle.lalrpop_norm_repr.specs.Tables.{type_table, type_of};
-ghost use Rattle.lalrpop_norm_lower.specs.Numbered.{AreByNumber};
+ghost use Rattle.lalrpop_norm_lower.specs.Numbered.{AreTypesByNumber};
 
 use lalrpop_norm_names::Names;
 use lalrpop_norm_repr::grammar::repr::{TypeRepr, Types};
@@ -16,7 +16,7 @@ pub(crate) struct NumberedTypes<'t> {
     pub(crate) table: &'t Types,
     names: Names,
     by_number: Vec<Option<&'t TypeRepr>>,
-    ghost numbered: { ∥ AreByNumber (type_table table.now) names (map (option_map (λ t. repr_view t.now)) by_number.items) ∥₁ },
+    ghost numbered: { ∥ AreTypesByNumber (type_table table.now) names (map (option_map (λ t. repr_view t.now)) by_number.items) ∥₁ },
 }
 
 impl<'t> NumberedTypes<'t> {

@@ -6,7 +6,7 @@ ghost use Rattle.lalrpop_norm_repr.specs.Productions.{nonterminal_data_view};
 ghost use Rattle.lalrpop_norm_repr.specs.Tables.{rows};
 ghost use Rattle.lalrpop_norm_lower.specs.Lowering.{rule_type, start_name, start_names, with_entry, sorted_onto};
 ghost use Rattle.lalrpop_norm_lower.specs.Starts.{start_rule, start_named, start_typed};
-ghost use Rattle.lalrpop_norm_lower.specs.State.{numbered_table};
+ghost use Rattle.lalrpop_norm_lower.specs.State.{table_by_number};
 ghost use Rattle.lalrpop_norm_lower.specs.Typing.{start_types};
 
 use crate::numbered::NumberedTypes;
@@ -35,7 +35,7 @@ pub(crate) fn starts_of<'g>(
     ensures rules { IfOk result (λ ss. map start_rule ss.items ≡ map (λ r. rule_view r.now) public.now) }
     ensures names { IfOk result (λ ss. map start_named ss.items ≡ start_names prefix.now (map (λ r. rule_view r.now) public.now)) }
     ensures types { IfOk result (λ ss. map start_typed ss.items
-        ≡ start_types prefix.now (numbered_table types.now) (map (λ r. rule_view r.now) public.now)) }
+        ≡ start_types prefix.now (table_by_number types.now) (map (λ r. rule_view r.now) public.now)) }
 {
     let mut starts = Vec::with_capacity(alloc, public.len())?;
     for rule in public {
@@ -52,7 +52,7 @@ fn start_of<'g>(
 ) -> Result<Start<'g>, NoMemory>
     ensures rule { IfOk result (λ s. s.rule.now ≡ rule.now) }
     ensures name { IfOk result (λ s. s.name ≡ start_name prefix.now rule.now.name) }
-    ensures ty { IfOk result (λ s. repr_view s.ty ≡ rule_type (numbered_table types.now) (rule_view rule.now)) }
+    ensures ty { IfOk result (λ s. repr_view s.ty ≡ rule_type (table_by_number types.now) (rule_view rule.now)) }
 {
     let name = start_name(alloc, prefix, &rule.name)?;
     let ty = type_of_rule(alloc, types, rule)?;
@@ -65,7 +65,7 @@ fn type_of_rule(
     types: &NumberedTypes,
     rule: &pt::NonterminalData,
 ) -> Result<TypeRepr, NoMemory>
-    ensures { IfOk result (λ t. repr_view t ≡ rule_type (numbered_table types.now) (rule_view rule.now)) }
+    ensures { IfOk result (λ t. repr_view t ≡ rule_type (table_by_number types.now) (rule_view rule.now)) }
 {
     match types.nonterminal(&rule.name) {
         Some(ty) => Ok(ty.clone()?),
@@ -80,7 +80,7 @@ pub(crate) fn rule_type<'t>(
     unit: &'t TypeRepr,
 ) -> &'t TypeRepr
     requires { repr_view unit.now ≡ unit_type }
-    ensures { repr_view result.now ≡ rule_type (numbered_table types.now) (rule_view rule.now) }
+    ensures { repr_view result.now ≡ rule_type (table_by_number types.now) (rule_view rule.now) }
 {
     match types.nonterminal(&rule.name) {
         Some(ty) => ty,

@@ -16,7 +16,7 @@ ghost use Rattle.lalrpop_norm_lower.specs.Lowering.{rules_among, public_rules_in
 ghost use Rattle.lalrpop_norm_lower.specs.Made.{types_by_name, made_faults, made_starts_faults, made_rules_faults, made_starts, made_actions, IsMade};
 ghost use Rattle.lalrpop_norm_lower.specs.Shape.{IsLoweringOf};
 ghost use Rattle.lalrpop_norm_lower.specs.Starts.{start_rule, start_named, start_typed};
-ghost use Rattle.lalrpop_norm_lower.specs.State.{numbered_table};
+ghost use Rattle.lalrpop_norm_lower.specs.State.{table_by_number};
 ghost use Rattle.lalrpop_norm_lower.specs.Typing.{start_types};
 
 use crate::head::{head_of, signature_of};
@@ -170,12 +170,12 @@ fn produce(
     rules: &[&pt::NonterminalData],
     starts: &[Start],
 ) -> NormResult<Produced>
-    requires { map start_typed starts.now ≡ start_types prefix.now (numbered_table types.now) (map start_rule starts.now) }
-    ensures refuses { Refuses result (made_starts_faults prefix.now (numbered_table types.now) 0 (map start_rule starts.now)
+    requires { map start_typed starts.now ≡ start_types prefix.now (table_by_number types.now) (map start_rule starts.now) }
+    ensures refuses { Refuses result (made_starts_faults prefix.now (table_by_number types.now) 0 (map start_rule starts.now)
         ++ made_rules_faults (length (map start_rule starts.now)) (map (λ r. written.rule_view r.now) rules.now)) }
     ensures actions { IfOk result (λ p. map action_defn_view p.actions.items
-        ≡ made_starts prefix.now (numbered_table types.now) (map start_rule starts.now)
-        ++ made_actions prefix.now (numbered_table types.now) (map (λ r. written.rule_view r.now) rules.now)) }
+        ≡ made_starts prefix.now (table_by_number types.now) (map start_rule starts.now)
+        ++ made_actions prefix.now (table_by_number types.now) (map (λ r. written.rule_view r.now) rules.now)) }
     ensures nonterminals { IfOk result (λ p. rows nonterminal_data_view p.nonterminals
         ≡ sorted_onto (sorted_onto [] (start_rows prefix.now 0 (map start_rule starts.now)))
         (rule_rows (length (map start_rule starts.now)) (map (λ r. written.rule_view r.now) rules.now))) }

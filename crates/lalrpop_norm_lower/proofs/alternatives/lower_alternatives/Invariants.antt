@@ -5,7 +5,7 @@ use Rattle.lalrpop_norm_repr.specs.Actions.{action_defn_view}
 use Rattle.lalrpop_norm_repr.specs.Productions.{production_view}
 use Rattle.lalrpop_norm_lower.specs.Lowering.{productions_from}
 use Rattle.lalrpop_norm_lower.specs.Made.{alternatives_faults, made_action}
-use Rattle.lalrpop_norm_lower.specs.State.{numbered_table}
+use Rattle.lalrpop_norm_lower.specs.State.{table_by_number}
 use Rattle.lalrpop_norm_lower.proofs.alternatives.lower_alternatives.Given as goal
 
 abbrev pub invariant-loop-alternative : goal.invariant-loop-alternative
@@ -13,7 +13,7 @@ invariant-loop-alternative l =
     (vec_len l.state.actions ≡ vec_len l.initial.state.actions + l.alternative-index)
     × (alternatives_faults (vec_len l.state.actions) (map alternative_view (drop l.alternative-index l.alternatives)) ≡ alternatives_faults (vec_len l.initial.state.actions) (map alternative_view l.alternatives))
     × (map production_view l.productions.items ++ productions_from l.name (vec_len l.state.actions) (map alternative_view (drop l.alternative-index l.alternatives)) ≡ productions_from l.name (vec_len l.initial.state.actions) (map alternative_view l.alternatives))
-    × (map action_defn_view l.state.actions.items ++ map (made_action l.initial.state.prefix.now (numbered_table l.initial.state.types.now) (repr_view l.ty)) (map alternative_view (drop l.alternative-index l.alternatives)) ≡ map action_defn_view l.initial.state.actions.items ++ map (made_action l.initial.state.prefix.now (numbered_table l.initial.state.types.now) (repr_view l.ty)) (map alternative_view l.alternatives))
+    × (map action_defn_view l.state.actions.items ++ map (made_action l.initial.state.prefix.now (table_by_number l.initial.state.types.now) (repr_view l.ty)) (map alternative_view (drop l.alternative-index l.alternatives)) ≡ map action_defn_view l.initial.state.actions.items ++ map (made_action l.initial.state.prefix.now (table_by_number l.initial.state.types.now) (repr_view l.ty)) (map alternative_view l.alternatives))
     × (l.state.prefix ≡ l.initial.state.prefix)
     × (l.state.types ≡ l.initial.state.types)
     × (l.state.nonterminals ≡ l.initial.state.nonterminals)

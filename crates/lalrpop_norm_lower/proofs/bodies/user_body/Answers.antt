@@ -11,7 +11,7 @@ use Rattle.lalrpop_norm_lower.proofs.bodies.user_body.Goals as goal
 pub filled-requires : goal.filled-requires
 filled-requires c =
     let parts = fold_out-ExprSymbol Kind Parts Call Again Part kind_step expr_step macro_step repeat_step symbol_step c.args.alternative.now.expr in
-    enough_at c.args.prefix.now (repr_view c.args.ty.now) c.deref-3.result.now (alternative_view c.args.alternative.now) _ _ _ c.requires.counted
+    enough_at c.args.state.now.prefix.now (repr_view c.args.ty.now) c.deref-3.result.now (alternative_view c.args.alternative.now) _ _ _ c.requires.counted
     (c.has_name_value-is_named.ensures ∙ ap (λ ss. some_name_value (parts_view ss)) c.deref-2.ensures.value ∙ ap some_name_value (sym parts))
-    (c.deref-4.ensures.value ∙ c.in_ok-arguments.ensures.names ∙ ap (λ ss. source_names c.args.prefix.now (parts_view ss)) c.deref.ensures.value ∙ ap (source_names c.args.prefix.now) (sym parts))
+    (c.deref-4.ensures.value ∙ c.in_ok-arguments.ensures.names ∙ ap (λ ss. source_names c.args.state.now.prefix.now (parts_view ss)) c.deref.ensures.value ∙ ap (source_names c.args.state.now.prefix.now) (sym parts))
     c.written_code-written.ensures
