@@ -62,11 +62,7 @@ fn infer(alloc: Global, grammar: &Grammar, rules: &[PlainRule]) -> NormResult<Ty
 }
 
 /// The table where the rounds end.
-fn filled_table(
-    alloc: Global,
-    grammar: &Grammar,
-    rules: &[PlainRule],
-) -> Result<Numbered, NoMemory>
+fn filled_table(alloc: Global, grammar: &Grammar, rules: &[PlainRule]) -> Result<Numbered, NoMemory>
     requires seen { map rule_seen rules.now ≡ map with_clauses (all_rules (grammar_view grammar.now)) }
     requires distinct { IsDistinct (rule_names (grammar_view grammar.now)) }
     ensures filled { IfOk result (λ t. HasAllRows (grammar_view grammar.now) (numbered_table t)) }

@@ -145,11 +145,7 @@ fn untyped(
 }
 
 /// Gives a nonterminal that has no type yet its type, if there is one.
-fn put_row(
-    types: &mut Types,
-    name: NonterminalString,
-    ty: Option<TypeRepr>,
-) -> Result<(), NoMemory>
+fn put_row(types: &mut Types, name: NonterminalString, ty: Option<TypeRepr>) -> Result<(), NoMemory>
     requires { type_by_name (type_table types.old) name.0 ≡ None }
     ensures { OnOk result (PutsRow (type_table types.old) (type_table types.new) name.0 (option_map repr_view ty)) }
 {

@@ -35,7 +35,11 @@ fn check_rule(alloc: Global, types: &Numbered, rule: &NonterminalData) -> NormRe
     check_alternatives(alloc, types, &rule.alternatives)
 }
 
-fn check_alternatives(alloc: Global, types: &Numbered, alternatives: &[Alternative]) -> NormResult<()>
+fn check_alternatives(
+    alloc: Global,
+    types: &Numbered,
+    alternatives: &[Alternative],
+) -> NormResult<()>
     ensures { Refuses result (flat_map (alternative_misfits (type_by_name (numbered_table types.now))) (map alternative_view alternatives.now)) }
 {
     for alternative in alternatives {

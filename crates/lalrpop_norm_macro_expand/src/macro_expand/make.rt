@@ -269,7 +269,10 @@ fn add_rule(
     ensures made { OnOk result (map made_view made.new.items ≡ map made_view made.old.items ++ made_for (macros_in macros.now) waiting ∷ []) }
 {
     let number = waiting.number;
-    let Making { pending: rule, kept } = pending_rule(alloc, macros, table, waiting)?;
+    let Making {
+        pending: rule,
+        kept,
+    } = pending_rule(alloc, macros, table, waiting)?;
     made.push(MadeSymbol { number, kept })?;
     match rule {
         Some(rule) => {
