@@ -1,7 +1,7 @@
 -- What each macro call, group, repeat and lookaround is made into: a rule, as a function of the symbol where it was first met.
 -- The symbols of its alternatives are written ones, with the arguments substituted; nothing in them is a name yet of what it is made
 -- into. A symbol whose type is put into a declared type stands there replaced.
-use Rattle.std.specs.Prelude.{ℕ, zero, suc, Bool, true, false, ◌||◌, List, [], ◌∷◌, map, Option, Some, None, option_map, codes}
+use Rattle.std.specs.Prelude.{ℕ, replicate, Bool, true, false, ◌||◌, List, [], ◌∷◌, map, Option, Some, None, option_map, codes}
 use Rattle.std.specs.Prelude.{bytes_eq, if◌then◌else◌}
 use Rattle.lalrpop_norm_tree_names.specs.declared.names.Span.{Span}
 use Rattle.lalrpop_norm_tree_names.specs.declared.names.NonterminalString.{NonterminalString}
@@ -11,7 +11,7 @@ use Rattle.lalrpop_norm_tree_parts.specs.Attributes.{Attributes, attribute, empt
 use Rattle.lalrpop_norm_tree_parts.specs.Paths.{PathData}
 use Rattle.lalrpop_norm_tree_parts.specs.Accessors.{path_of}
 use Rattle.lalrpop_norm_tree.specs.Symbols.{Kind, Part, Parts, group, ambiguous_id, terminal, nonterminal, call, repeated, chosen}
-use Rattle.lalrpop_norm_tree.specs.Symbols.{named, tupled, lookahead, lookbehind, error_terminal, at, no_parts, part_and}
+use Rattle.lalrpop_norm_tree.specs.Symbols.{named, tupled, lookahead, lookbehind, error_terminal, at, no_parts, part_and, parts_of}
 use Rattle.lalrpop_norm_tree.specs.Types.{TypeData, TypesData, MaybeType, tuple, slice, nominal, reference, trait_object}
 use Rattle.lalrpop_norm_tree.specs.Types.{of_lifetime, id, of_symbol, function, no_types, type_and, no_type, returns, types_of}
 use Rattle.lalrpop_norm_tree.specs.Items.{Action, user_code, lookahead_code, lookbehind_code, AlternativeData, RuleData, private}
@@ -106,8 +106,7 @@ only_part p = part_and p no_parts
 
 -- one symbol so many times
 abbrev pub so_many : ℕ → Part → Parts
-so_many zero p = no_parts
-so_many (suc n) p = part_and p (so_many n p)
+so_many n p = parts_of (replicate n p)
 
 -- a symbol with a name of its own, at s
 abbrev pub with_name : Span → List ℕ → Part → Part
