@@ -1,6 +1,6 @@
 -- The plain rules of a grammar with levels are the rules of the symbols that the expansion of the written grammar makes.
 use Rattle.std.proofs.Common.{◌≡◌, inl, inr, ℕ, ◌<◌, List, [], ◌∷◌, ◌++◌, map, length, Bool, true, false, not, ◌&&◌, ◌||◌, Option, Some, None, refl, sym, ap, ap₂, ◌∙◌, subst, arith}
-use Rattle.std.specs.Prelude.{codes, flat_map, option_map, if◌then◌else◌}
+use Rattle.std.specs.Prelude.{codes, flat_map, option_map, if◌then◌else◌, decimal}
 use Rattle.std.proofs.Math.Path.{fun_ext}
 use Rattle.std.proofs.lemmas.List.{map-append}
 use Rattle.std.proofs.lemmas.List.Elements.{filter-append}

@@ -7,13 +7,13 @@ use Rattle.lalrpop_norm_tree.specs.Items.{match_item, extern_item, intern_item, 
 use Rattle.lalrpop_norm_faults.specs.Faults.{Fault, first}
 use Rattle.lalrpop_norm_prevalidate.specs.CfgFaults.{attribute_cfg_faults}
 
-abbrev pub place_of : Option Fault → List Span
-place_of None = []
-place_of (Some f) = f.1 ∷ []
+abbrev pub told_place : Option Fault → List Span
+told_place None = []
+told_place (Some f) = f.1 ∷ []
 
 -- of one attribute: its first fault, if it has one
 abbrev pub malformed_at : AttributeData → List Span
-malformed_at a = place_of (first (attribute_cfg_faults a))
+malformed_at a = told_place (first (attribute_cfg_faults a))
 
 abbrev pub malformed_among : Attributes → List Span
 malformed_among no_attributes = []
