@@ -28,8 +28,8 @@ use lalrpop_norm_nodes::parts::{given_by_call, repeated_number};
 use lalrpop_norm_nodes::table::{Table, Waiting};
 use lalrpop_norm_session::norm_util::{has_name_value, names_value};
 use lalrpop_norm_tree::grammar::parse_tree::{
-    ActionKind, ExprSymbol, MacroSymbol, NoMemory, NonterminalData, NonterminalString, RepeatOp,
-    RepeatSymbol, Symbol, SymbolKind,
+    ActionKind, Atom, ExprSymbol, MacroSymbol, NoMemory, NonterminalData, NonterminalString, RepeatOp,
+    RepeatSymbol, Span, Symbol, SymbolKind,
 };
 use std::alloc::Global;
 use std::mem;
@@ -57,11 +57,12 @@ fn group_of(alloc: Global, head: Head, expr: &mut ExprSymbol) -> NormResult<Nont
 /// Looks for a name before what is repeated so many times.
 fn check_times(
     alloc: Global,
-    head: &Head,
+    name: &Atom,
+    span: Span,
     op: RepeatOp,
     symbol: &Symbol,
 ) -> NormResult<()>
-    ensures { Refuses result (unmade_repeat head.now.span op (symbol_view symbol.now)) }
+    ensures { Refuses result (unmade_repeat span op (symbol_view symbol.now)) }
 {
     match op {
         RepeatOp::Star | RepeatOp::Plus | RepeatOp::Question => Ok(()),
@@ -69,10 +70,9 @@ fn check_times(
             if names_value(symbol) {
                 return Err(refusal(
                     FaultKind::NamedInTimes,
-                    head.span,
+                    span,
                     format!(in alloc;
-                        "the symbol repeated in `{}` has a name: leave it out, or write a rule with code for the symbol",
-                        head.name
+                        "the symbol repeated in `{name}` has a name: leave it out, or write a rule with code for the symbol"
                     ),
                 ));
             }
@@ -98,7 +98,7 @@ fn repeat_of(
         ≡ repeat_pending head.name head.span repeat.old.op (repeated_kind (kind_at (wholes_in table.now) number)) (symbol_view repeat.old.symbol)) }
     ensures readable { IfOk result (λ o. IsReadable (wholes_in table.now) (Unread o)) }
 {
-    check_times(alloc, &head, repeat.op, &repeat.symbol)?;
+    check_times(alloc, &head.name, head.span, repeat.op, &repeat.symbol)?;
     let number = repeated_number(table, number);
     let nothing = Symbol::new(head.span, SymbolKind::Error);
     let symbol = mem::replace(&mut repeat.symbol, nothing);
