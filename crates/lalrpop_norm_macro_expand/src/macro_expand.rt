@@ -133,7 +133,7 @@ fn expand_rounds(alloc: Global, grammar: Grammar, limit: u16) -> NormResult<(Gra
 /// Resolves the names of a grammar (`resolve`), and makes its macro calls, groups, repeats and lookarounds into rules
 /// (`expand_resolved`). The grammar is consumed, also where it is refused.
 ///
-/// Errors: the faults of names, F25 to F32; then those of the expansion, F33 to F37; `Memory`.
+/// Errors: the faults of names, F25 to F32; then those of the expansion, F33 to F37 and F57; `Memory`.
 pub fn expand_macros(alloc: Global, grammar: Grammar, limit: u16) -> NormResult<Grammar>
     // Ok exactly where no fault stands, and a refusal names the first one, memory aside.
     ensures refuses { Refuses result (macro_faults comparison (grammar_view grammar) limit) }
