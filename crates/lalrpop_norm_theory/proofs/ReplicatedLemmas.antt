@@ -12,9 +12,10 @@ module _ (M : Meaning) (x : ClosedSymbol) where
   -- so many trees of one symbol are one tree for each of so many symbols, and the other way round
   pub one_for_each : (ts : WrittenTrees) (n : ℕ) → tree_count ts ≡ n → EachTreeOf M ts x → AreTreesOf M ts (replicated n x)
   one_for_each no_trees zero e h = tt
-  one_for_each no_trees (suc n) e h = absurd (omega arith)
-  one_for_each (tree_and t ts) zero e h = absurd (omega arith)
-  one_for_each (tree_and t ts) (suc n) e h = let left : tree_count ts ≡ n = omega arith in (h.0, one_for_each ts n left h.1)
+  one_for_each no_trees (suc n) e h = let none : 0 ≡ suc n = e in absurd (omega arith)
+  one_for_each (tree_and t ts) zero e h = let some : suc (tree_count ts) ≡ 0 = e in absurd (omega arith)
+  one_for_each (tree_and t ts) (suc n) e h =
+      let all : suc (tree_count ts) ≡ suc n = e in let left : tree_count ts ≡ n = omega arith in (h.0, one_for_each ts n left h.1)
 
   pub each_of_one : (ts : WrittenTrees) (n : ℕ) → AreTreesOf M ts (replicated n x) → (tree_count ts ≡ n) × EachTreeOf M ts x
   each_of_one no_trees zero h = (refl, tt)
@@ -26,10 +27,10 @@ module _ (M : Meaning) (x : ClosedSymbol) where
   pub lowered_one_by_one : (name : ClosedSymbol → Name) (ts : WrittenTrees) (n : ℕ) → tree_count ts ≡ n →
       lowered_all M name ts (replicated n x) ≡ lowered_each M name ts x
   lowered_one_by_one name no_trees zero e = refl
-  lowered_one_by_one name no_trees (suc n) e = absurd (omega arith)
-  lowered_one_by_one name (tree_and t ts) zero e = absurd (omega arith)
+  lowered_one_by_one name no_trees (suc n) e = let none : 0 ≡ suc n = e in absurd (omega arith)
+  lowered_one_by_one name (tree_and t ts) zero e = let some : suc (tree_count ts) ≡ 0 = e in absurd (omega arith)
   lowered_one_by_one name (tree_and t ts) (suc n) e =
-      let left : tree_count ts ≡ n = omega arith in ap (lowered_and (lowered_tree M name t x)) (lowered_one_by_one name ts n left)
+      let all : suc (tree_count ts) ≡ suc n = e in let left : tree_count ts ≡ n = omega arith in ap (lowered_and (lowered_tree M name t x)) (lowered_one_by_one name ts n left)
 
 pub leveled_replicated : (l : Name → ℕ → Name) (n : ℕ) (x : ClosedSymbol) → leveled_symbols l (replicated n x) ≡ replicated n (leveled_symbol l x)
 leveled_replicated l zero x = refl
