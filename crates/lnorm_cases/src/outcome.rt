@@ -16,6 +16,7 @@ use lalrpop_norm_tree::grammar::parse_tree::{Grammar, Span};
 use lnorm_texts::faults::push_told;
 use lnorm_texts::lowered::push_lowered_copy;
 use lnorm_texts::print::lowered::{push_lowered, push_whole_lowered};
+use lnorm_texts::print::symbols::push_span;
 use lnorm_texts::print::tables::{push_types, push_whole_types};
 use lnorm_texts::print::trees::{push_tree, push_whole_tree};
 use lnorm_texts::texts::push_texts;
@@ -337,9 +338,7 @@ fn push_malformed(alloc: Global, text: &mut String, tree: &Grammar) -> Result<()
 fn push_spans(text: &mut String, spans: &Vec<Span>) -> Result<(), AllocError> {
     text.push_str("malformed:")?;
     for span in spans {
-        let from = span.0;
-        let to = span.1;
-        write!(text, " {from}..{to}")?;
+        push_span(text, *span)?;
     }
     text.push_str("\n")
 }
