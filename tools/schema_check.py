@@ -17,7 +17,7 @@ import schema_words
 SHAPES = "crates/lalrpop_norm_json_shapes/specs/Shapes.antt"
 READER = "crates/lalrpop_norm_json/src/tree"
 FORMATS = "docs/use/FORMATS.md"
-GREATEST = 2 ** 64 - 1
+GREATEST, GREATEST_SHORT = 2 ** 64 - 1, 2 ** 16 - 1
 
 
 class Unread(Exception):
@@ -25,7 +25,7 @@ class Unread(Exception):
 
 
 class Form:
-    """What a value may be, for each kind of JSON value: `basic` of null, truth, number, text; `names` are the texts that it may
+    """What a value may be, for each kind of JSON value: `basic` of null, truth, number, short number, text; `names` are the texts that it may
     be; `items` is what an array holds, `row` what it has at each place; `fields` are those of an object, `cases` those of which
     an object has one."""
 
@@ -44,7 +44,7 @@ class Maybe:
 
 
 BASIC = {"text": Form({"text"}), "natural": Form({"number"}), "truth": Form({"truth"}),
-         "number": Form({"number"}), "bool": Form({"truth"})}
+         "number": Form({"number"}), "short": Form({"short"}), "bool": Form({"truth"})}
 
 
 class Table:
@@ -114,7 +114,7 @@ def of_shapes(path):
     names = re.search(r"^pub data ShapeName .*\n((?:  \w+ : ShapeName\n)+)", text, re.M).group(1)
     forms = {}
     words = {
-        "a_text": BASIC["text"], "a_natural": BASIC["natural"], "a_truth": BASIC["truth"],
+        "a_text": BASIC["text"], "a_natural": BASIC["natural"], "a_short": BASIC["short"], "a_truth": BASIC["truth"],
         "one": lambda name: name, "maybe": Maybe, "many": lambda name: Form(items=name),
         "each": lambda name: Form(items=name), "row": lambda places: Form(row=places), "arrayed": lambda array: array,
         "field": lambda place: place, "several": lambda places: Form(row=places), "named": lambda rows: Form(fields=dict(rows)),
@@ -152,8 +152,10 @@ def of_schema(schema):
         kind = node.get("type")
         if words == {"type"} and kind in ("null", "string", "boolean"):
             return Form({{"null": "null", "string": "text", "boolean": "truth"}[kind]})
-        if kind == "integer" and words == {"type", "minimum", "maximum"} and (node["minimum"], node["maximum"]) == (0, GREATEST):
-            return Form({"number"})
+        if kind == "integer" and words == {"type", "minimum", "maximum"} and node["minimum"] == 0:
+            for number, greatest in (("number", GREATEST), ("short", GREATEST_SHORT)):
+                if node["maximum"] == greatest:
+                    return Form({number})
         if kind == "array" and words == {"type", "items"} and node["items"]:
             return Form(items=place(node["items"]))
         if kind == "array" and words == {"type", "prefixItems", "items", "minItems"} and node["items"] is False \
@@ -408,7 +410,8 @@ def fits(table, place, value, used=None):
     if isinstance(value, bool):
         return "truth" in form.basic and use("truth")
     if isinstance(value, (int, float)):
-        return "number" in form.basic and type(value) is int and 0 <= value <= GREATEST
+        greatest = GREATEST if "number" in form.basic else GREATEST_SHORT if "short" in form.basic else -1
+        return type(value) is int and 0 <= value <= greatest
     if isinstance(value, str):
         return "text" in form.basic or form.names is not None and value in form.names and use(value)
     if isinstance(value, list):
@@ -429,7 +432,7 @@ def smallest(table, place):
     form = table.form(place)
     if form.names:
         return sorted(form.names)[0]
-    for kind, value in (("null", None), ("text", "x"), ("number", 0), ("truth", False)):
+    for kind, value in (("null", None), ("text", "x"), ("number", 0), ("short", 0), ("truth", False)):
         if kind in form.basic:
             return value
     if form.row is not None:
@@ -496,7 +499,7 @@ def chosen_trees(table, trees):
 
 
 OTHERS = [None, True, 7, 1.5, "further", [], [0, 0], {}, {"Id": "x"}]
-NO_NATURALS = [-1, GREATEST + 1]
+NO_NATURALS = [-1, GREATEST_SHORT, GREATEST_SHORT + 1, GREATEST + 1]
 
 
 def changed(tree, vocabulary):

@@ -12,7 +12,7 @@ OPERATORS = {"==": "Equals", "!=": "NotEquals", "~~": "Match", "!~": "NotMatch"}
 REPEATS = {"*": "Star", "+": "Plus", "?": "Question"}
 SHOWN = {"name": "a name", "call": "a name and `<`", "escape": "a name in backquotes", "lifetime": "a lifetime", "string": "a text",
          "regex": "a regular expression", "char": "a character", "code": "`=>`", "fallible": "`=>?`", "use": "`use`",
-         "shebang": "`#![..]`", "end": "the end"}
+         "shebang": "`#![..]`", "count": "a count", "end": "the end"}
 
 
 def shown(kind):
@@ -306,10 +306,17 @@ class Reader:
         start = self.peek().start
         kind = self.kind()
         found = {"span": self.span(start), "kind": kind}
-        while self.peek().kind in REPEATS:
-            op = REPEATS[self.take().kind]
+        while self.peek().kind in (*REPEATS, "count"):
+            op = self.count_of() if self.sees("count") else REPEATS[self.take().kind]
             found = {"span": self.span(start), "kind": {"Repeat": {"op": op, "symbol": found}}}
         return found
+
+    def count_of(self):
+        """`{N}`, so often and no oftener."""
+        token = self.take("count")
+        if int(token.said) > 65535:
+            raise Wrong("a count is at most 65535", token.start, token.end)
+        return {"Times": int(token.said)}
 
     def kind(self):
         if self.sees("call"):

@@ -13,6 +13,7 @@ A token holds its kind, what it says, and where it stands. The kind of a sign or
     fallible    the same of `=>?`
     use         `use` and the path behind it, up to the semicolon
     shebang     `#![..]`, the whole of it
+    count       {N}, decimal digits in braces; what is said are the digits
     end         behind the last token
 
 Places are numbers of characters; the reader of rules makes byte offsets of them.
@@ -20,8 +21,9 @@ Places are numbers of characters; the reader of rules makes byte offsets of them
 Where LALRPOP's tokenizer does what one might not think, this one does the same. A block comment may stand in another one, also in code.
 A raw name, `r#NAME`, is a name with its `r#`, and `r#_` is `_`; in code an `r` with `#` behind it, the last letter of `for` too, begins
 such a name or a text `r#".."#`, and nothing else. `=>@` goes on with `L` or `R`. The character behind `#![..]` is passed over, whatever
-it is: `#![x]#[y]` is read as `#![x] [y]`.
+it is: `#![x]#[y]` is read as `#![x] [y]`. Of LALRPOP's grammars none has a count: no token of theirs begins with a digit.
 """
+import re
 from collections import namedtuple
 
 Token = namedtuple("Token", "kind said start end")
@@ -31,6 +33,8 @@ KEYWORDS = {"dyn", "else", "enum", "extern", "for", "grammar", "if", "in", "matc
 # longer signs before those that they begin with
 SIGNS = ["!=", "!~", "::", "..", "==", "->", "@L", "@R", "~~",
          "!", "#", "&", "(", ")", "*", "+", ",", ":", ";", "<", "=", ">", "?", "[", "]", "{", "}"]
+
+COUNT = re.compile(r"\{([0-9]+)\}")
 
 OPENING, CLOSING = "([{", ")]}"
 
@@ -275,6 +279,9 @@ class Scanner:
             return self.arrow(start)
         if pair == "#!" and self.char(start + 2) == "[":
             return self.shebang(start)
+        count = COUNT.match(self.text, start, self.end)
+        if count:
+            return self.token("count", start, count.end(), count.group(1))
         for sign in SIGNS:
             if pair.startswith(sign):
                 return self.token(sign, start, start + len(sign))

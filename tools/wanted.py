@@ -28,7 +28,7 @@ from wanted_shapes import beginnings, cut_trees, debug_tree, listed_parts, readi
 from wanted_tokens import (KNOWN_ATTRIBUTES, CheckOnly, NoMemory, Scripted, blocks_of, check_tokens, extern_enum, is_expanded, item_parts,
                            named_terminals, terminals_used)
 from wanted_types import LOOKAROUNDS, Types, sources, text_of
-from wanted_written import braces, check_levels, check_written, first_of, first_pair
+from wanted_written import braces, check_levels, check_written, first_of, first_pair, malformed_cfgs
 
 
 # ---- what is asked of a tree
@@ -335,6 +335,11 @@ def repeat_rule(span, repeat):
     if repeat["op"] == "Question":
         return nominal(["Option"], of_inner), [new_alternative(span, [inner], "Some(<>)"), new_alternative(span, [], "None")], True
     vec = nominal(["alloc", "vec", "Vec"], of_inner)
+    name, count = one(repeat["op"])
+    if name == "Times":
+        if one(inner["kind"])[0] in ("Name", "Tuple"):
+            raise Refused("F57 " + place(span))
+        return vec, [new_alternative(span, [copy.deepcopy(inner) for _ in range(count)], "alloc::vec![<>]")], True
     if repeat["op"] == "Star":
         return vec, [new_alternative(span, [], "alloc::vec![]"), new_alternative(span, [bound(span, "v", plus)], "v")], True
     push = [bound(span, "v", copy.deepcopy(plus)), bound(span, "e", inner)]
@@ -712,7 +717,7 @@ def counts_of(data):
 PASSES = ("read", "validate", "check_globals", "remove_disabled_decls", "resolve", "expand_levels", "expand_precedence",
           "expand_macros", "token_check")
 LAST = ("token_check_scripted", "infer_types", "normalize", "lowered_copy", "copy", "lower", "is_typed", "ask", "texts",
-        "normalize_scripted", "without_memory", "expand_macros_counted")
+        "normalize_scripted", "without_memory", "expand_macros_counted", "malformed_cfgs")
 
 
 def passes_answer(data, call, words):
@@ -741,6 +746,8 @@ def passes_answer(data, call, words):
         resolve(tree)
         text = types_text(tree)
         return text if last == "infer_types" else "typed: %s\n" % str(is_typed(tree, features)).lower()
+    if last == "malformed_cfgs":
+        return "malformed:%s\n" % "".join(" " + p for p in malformed_cfgs(tree))
     if last in ("ask", "texts"):
         return asked(tree, features) if last == "ask" else texts_of(tree)
     told = counted(tree, limit) if last == "expand_macros_counted" else ""

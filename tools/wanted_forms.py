@@ -70,6 +70,12 @@ LOOKAROUNDS = {"Lookahead": "@L", "Lookbehind": "@R"}
 OPERATORS = {"Equals": "==", "NotEquals": "!=", "Match": "~~", "NotMatch": "!~"}
 
 
+def sign(op):
+    """That of a repeat."""
+    name, count = one(op)
+    return REPEATS[name] if count is None else "{%d}" % count
+
+
 def path(value):
     return ("::" if value["absolute"] else "") + "::".join(value["ids"])
 
@@ -172,7 +178,7 @@ def canonical(value):
     if name == "Macro":
         return content["name"] + "<" + ", ".join(canonical(s["kind"]) for s in content["args"]) + ">"
     if name == "Repeat":
-        return canonical(content["symbol"]["kind"]) + REPEATS[content["op"]]
+        return canonical(content["symbol"]["kind"]) + sign(content["op"])
     if name == "Choose":
         return "<" + canonical(content["kind"]) + ">"
     if name == "Name":
@@ -205,7 +211,7 @@ def kind(value):
     if name == "Macro":
         return rule_name(content["name"]) + "<" + symbols(content["args"]) + " >"
     if name == "Repeat":
-        return symbol(content["symbol"]) + REPEATS[content["op"]]
+        return symbol(content["symbol"]) + sign(content["op"])
     if name == "Choose":
         return "<" + symbol(content) + ">"
     if name == "Name":

@@ -48,7 +48,7 @@ Argument: Empty | Paren ([Attribute]) | Equal (text)
 Code: User (text) | Fallible (text) | Lookahead | Lookbehind
 Kind: Expr (Symbols) | AmbiguousId (text) | Terminal (Terminal) | Nonterminal (name) | Macro (Call) | Repeat (Repeat) | Choose
     (Symbol) | Name (Name, Symbol) | Tuple (Tuple, Symbol) | Lookahead | Lookbehind | Error
-Repeated: Star | Plus | Question
+Repeated: Star | Plus | Question | Times (short)
 ArgPattern: Name (Name) | Tuple (Tuple)
 Terminal: Literal (Literal) | Bare (text) | Error
 Literal: Quoted (text) | Regex (text)
@@ -85,6 +85,7 @@ PLAIN = {
     "name": lambda v: isinstance(v, str),
     "bool": lambda v: isinstance(v, bool),
     "number": lambda v: type(v) is int and 0 <= v < 2**64,
+    "short": lambda v: type(v) is int and 0 <= v < 2**16,
     "Span": lambda v: isinstance(v, list) and len(v) == 2 and all(map(PLAIN["number"], v)),
 }
 
@@ -244,6 +245,7 @@ SHOWN = {
     "name": str,
     "bool": lambda v: str(v).lower(),
     "number": str,
+    "short": str,
     "Span": lambda v: "Span(%d, %d)" % tuple(v),
     "Terminal": lambda v: terminal(v, False),
     "Literal": literal,

@@ -76,7 +76,7 @@ def check_lowest(pairs):
             refuse("F12f", side["id_span"])
 
 
-# ---- attributes of rules
+# ---- attributes
 
 def check_condition(value):
     """A part of a `cfg`."""
@@ -90,6 +90,15 @@ def check_condition(value):
         check_condition(part)
 
 
+def check_cfg(value):
+    """An attribute, if it is a `cfg`."""
+    name, content = one(value["arg"])
+    if value["id"] == "cfg":
+        if name != "Paren" or not content:
+            refuse("F11", value["id_span"])
+        check_condition(content[0])
+
+
 def check_rule_attributes(rule):
     found = set()
     for a in rule["attributes"]:
@@ -100,11 +109,7 @@ def check_rule_attributes(rule):
         found.add(a["id"])
         if a["id"] == "inline" and rule["visibility"] != "Priv":
             refuse("F10", a["id_span"])
-        if a["id"] == "cfg":
-            name, content = one(a["arg"])
-            if name != "Paren" or not content:
-                refuse("F11", a["id_span"])
-            check_condition(content[0])
+        check_cfg(a)
 
 
 # ---- the whole
@@ -167,6 +172,8 @@ class Written:
                 refuse("F22", c["span"])
             if symbols_in(c["to"]):
                 refuse("F23", c["span"])
+            for a in c["attributes"]:
+                check_cfg(a)
 
     def check_rule(self, rule):
         if rule["visibility"] != "Priv" and rule["args"]:
@@ -184,6 +191,7 @@ class Written:
         for a in value["attributes"]:
             if a["id"] not in ("precedence", "assoc", "cfg"):
                 refuse("F13", a["id_span"])
+            check_cfg(a)
         named, parts = sources(values)
         code = one(value["action"])[1] if value["action"] else None
         if value["action"] in LOOKAROUNDS:
@@ -226,3 +234,26 @@ class Written:
 
 def check_written(tree):
     Written(tree).check()
+
+
+# ---- all that is malformed
+
+def parts_with_attributes(tree):
+    """Rules, alternatives and conversions, as they stand."""
+    for name, content in map(one, tree["items"]):
+        if name == "Nonterminal":
+            yield from [content] + content["alternatives"]
+        elif name == "ExternToken" and content["enum_token"]:
+            yield from content["enum_token"]["conversions"]
+
+
+def malformed_cfgs(tree):
+    """The places of F11, one for each `cfg` that fails."""
+    found = []
+    for part in parts_with_attributes(tree):
+        for a in part["attributes"]:
+            try:
+                check_cfg(a)
+            except Refused as fault:
+                found.append(str(fault)[4:])
+    return found

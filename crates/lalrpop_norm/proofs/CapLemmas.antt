@@ -7,7 +7,7 @@ use Rattle.lalrpop_norm_tree_names.specs.declared.names.Span.{Span}
 use Rattle.lalrpop_norm_tree.specs.Symbols.{Part, at}
 use Rattle.lalrpop_norm_tree.specs.SymbolTexts.{part_text}
 use Rattle.lalrpop_norm_tree.specs.Items.{RuleData, GrammarData}
-use Rattle.lalrpop_norm_faults.specs.declared.kind.FaultKind.TheVariants.{RecursionCap, SharedName, ConditionArgument, ConditionPattern, NamedInGroup}
+use Rattle.lalrpop_norm_faults.specs.declared.kind.FaultKind.TheVariants.{RecursionCap, SharedName, ConditionArgument, ConditionPattern, NamedInGroup, NamedInTimes}
 use Rattle.lalrpop_norm_faults.specs.Faults.{Fault, fault_if, first}
 use Rattle.lalrpop_norm_theory.specs.Laws.{RoundsAreShortestChains}
 use Rattle.lalrpop_norm_theory.specs.Met.{rule_meets, expansion}
@@ -45,6 +45,9 @@ not_argument e = absurd (cc e)
 not_pattern : (RecursionCap ≡ ConditionPattern) → ⊥
 not_pattern e = absurd (cc e)
 
+not_times : (RecursionCap ≡ NamedInTimes) → ⊥
+not_times e = absurd (cc e)
+
 abbrev cap_at : Span → Fault
 cap_at t = (RecursionCap, t)
 
@@ -57,7 +60,7 @@ not_shared names met (x ∷ xs) t i =
     ]
 
 none_unmade : (macros : List RuleData) (ps : List Part) (t : Span) → In (cap_at t) (flat_map (unmade macros) ps) → ⊥
-none_unmade macros ps t i = none_made RecursionCap not_group not_argument not_pattern macros ps t i
+none_unmade macros ps t i = none_made RecursionCap not_group not_argument not_pattern not_times macros ps t i
 
 -- ---- the cap stands at the last round alone
 

@@ -1,18 +1,18 @@
 -- The terminals of made rules are among those of the rules and macros that they are made of, and made rules have neither arguments nor
 -- conditions.
-use Rattle.std.proofs.Common.{◌≡◌, inl, inr, ℕ, Bool, true, false, Option, Some, None, List, [], ◌∷◌, ◌++◌, refl, sym, subst}
+use Rattle.std.proofs.Common.{◌≡◌, inl, inr, ℕ, zero, suc, Bool, true, false, Option, Some, None, List, [], ◌∷◌, ◌++◌, refl, sym, subst}
 use Rattle.std.specs.Prelude.{bytes_eq, if◌then◌else◌}
 use Rattle.lalrpop_norm_tree_names.specs.declared.names.NonterminalString.{NonterminalString}
 use Rattle.lalrpop_norm_tree_names.specs.declared.names.Span.{Span}
 use Rattle.lalrpop_norm_tree_names.specs.declared.names.TerminalString.{TerminalString}
-use Rattle.lalrpop_norm_tree.specs.declared.symbol.RepeatOp.TheVariants.{Star, Plus, Question}
+use Rattle.lalrpop_norm_tree.specs.declared.symbol.RepeatOp.TheVariants.{Star, Plus, Question, Times}
 use Rattle.lalrpop_norm_tree.specs.Symbols.{Kind, Part, Parts, group, ambiguous_id, terminal, nonterminal, call, repeated, chosen, named, tupled, lookahead, lookbehind, error_terminal, at, no_parts, part_and}
 use Rattle.lalrpop_norm_tree.specs.Items.{AlternativeData, RuleData, lookahead_code, lookbehind_code}
 use Rattle.lalrpop_norm_theory.specs.Rounds.{In}
 use Rattle.lalrpop_norm_theory.proofs.RoundsLemmas.{in_cases}
 use Rattle.lalrpop_norm_model.specs.Grammars.{ConditionValue, is_true}
 use Rattle.lalrpop_norm_model.specs.Reading.{read_all}
-use Rattle.lalrpop_norm_model.specs.MadeRules.{group_rule, star_rule, plus_rule, question_rule, location_rule, argument_kind, or_name, substituted, kind_substituted, all_substituted, flat_reader, instance_alternative, instance_alternatives, instance_rule, instance_of, macro_named, made_rules}
+use Rattle.lalrpop_norm_model.specs.MadeRules.{group_rule, star_rule, plus_rule, question_rule, so_many, times_rule, location_rule, argument_kind, or_name, substituted, kind_substituted, all_substituted, flat_reader, instance_alternative, instance_alternatives, instance_rule, instance_of, macro_named, made_rules}
 use Rattle.lalrpop_norm_model.specs.PlainRules.{met, all_met}
 use Rattle.lalrpop_norm.proofs.ExpandedScopes.{IsOverKind, IsOver, AreOver}
 use Rattle.lalrpop_norm.proofs.ExpandedSymbols.{named_listed}
@@ -119,6 +119,10 @@ module _ (P : TerminalString → Type 0) where
       by true o rest = ((refl, o), rest)
       by false o rest = rest
 
+  many_over : (n : ℕ) (p : Part) → IsOver P p → AreOver P (so_many n p)
+  many_over zero p h = tt
+  many_over (suc n) p h = (h, many_over n p h)
+
   module _ (value : ConditionValue) (macros : List RuleData) (over : (d : RuleData) → In d macros → (a : AlternativeData) → In a d.alternatives → AreOver P a.parts) where
     pub made_fit : (p : Part) → IsOver P p → (r : RuleData) → In r (made_rules value macros p) → IsFitMade r
     made_fit (at s (group ps)) h r i = only_fit (group_rule s ps) r refl ((refl, h), tt) i
@@ -130,6 +134,7 @@ module _ (P : TerminalString → Type 0) where
     made_fit (at s (repeated Star p)) h r i = only_fit (star_rule s p) r refl ((refl, tt), ((refl, (h, tt)), tt)) i
     made_fit (at s (repeated Plus p)) h r i = only_fit (plus_rule s p) r refl ((refl, (h, tt)), ((refl, (h, (h, tt))), tt)) i
     made_fit (at s (repeated Question p)) h r i = only_fit (question_rule s p) r refl ((refl, (h, tt)), ((refl, tt), tt)) i
+    made_fit (at s (repeated (Times n) p)) h r i = only_fit (times_rule s n p) r refl ((refl, many_over n p h), tt) i
     made_fit (at s lookahead) h r i = only_fit (location_rule s lookahead lookahead_code) r refl ((refl, tt), tt) i
     made_fit (at s lookbehind) h r i = only_fit (location_rule s lookbehind lookbehind_code) r refl ((refl, tt), tt) i
     made_fit (at s (ambiguous_id a)) h r i = absurd i

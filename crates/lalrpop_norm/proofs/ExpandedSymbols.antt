@@ -5,7 +5,7 @@ use Rattle.std.specs.Prelude.{flat_map, option_map, option_to_list, bytes_eq, if
 use Rattle.lalrpop_norm_tree_names.specs.declared.names.NonterminalString.{NonterminalString}
 use Rattle.lalrpop_norm_tree_names.specs.declared.names.Span.{Span}
 use Rattle.lalrpop_norm_tree_names.specs.declared.names.TerminalString.{TerminalString}
-use Rattle.lalrpop_norm_tree.specs.declared.symbol.RepeatOp.TheVariants.{Star, Plus, Question}
+use Rattle.lalrpop_norm_tree.specs.declared.symbol.RepeatOp.TheVariants.{Star, Plus, Question, Times}
 use Rattle.lalrpop_norm_tree.specs.Symbols.{Kind, Part, Parts, group, ambiguous_id, terminal, nonterminal, call, repeated, chosen, named, tupled, lookahead, lookbehind, error_terminal, at, no_parts, part_and}
 use Rattle.lalrpop_norm_tree.specs.SymbolTexts.{kind_text, part_text}
 use Rattle.lalrpop_norm_tree.specs.Types.{TypeData, TypesData, MaybeType, tuple, slice, nominal, reference, trait_object, of_lifetime, id, of_symbol, function, no_types, type_and, no_type, returns, types_of}
@@ -14,7 +14,7 @@ use Rattle.lalrpop_norm_theory.specs.Rounds.{In}
 use Rattle.lalrpop_norm_theory.proofs.RoundsLemmas.{in_left, in_right, in_cases}
 use Rattle.lalrpop_norm_theory.proofs.ListLemmas.{in_one}
 use Rattle.lalrpop_norm_model.specs.Grammars.{ConditionValue}
-use Rattle.lalrpop_norm_model.specs.MadeRules.{kind_of, chosen_kinds, all_kinds, if_any, group_sources, type_of_kind, bare_or_tuple, group_rule, star_rule, plus_rule, question_rule, location_rule, argument_kind, type_of_name, type_substituted, types_substituted, returned_substituted, instance_rule, instance_of, macro_named, made_rules}
+use Rattle.lalrpop_norm_model.specs.MadeRules.{kind_of, chosen_kinds, all_kinds, if_any, group_sources, type_of_kind, bare_or_tuple, group_rule, star_rule, plus_rule, question_rule, times_rule, location_rule, argument_kind, type_of_name, type_substituted, types_substituted, returned_substituted, instance_rule, instance_of, macro_named, made_rules}
 use Rattle.lalrpop_norm_model.specs.Replaced.{replaced_kind, replaced, all_replaced}
 use Rattle.lalrpop_norm_model.specs.PlainRules.{met, all_met}
 use Rattle.lalrpop_norm_model.specs.Expanded.{is_plain_terminal, is_plain_kind, names_in_kind, names_in, names_in_parts, symbols_in, symbols_in_all, symbols_in_return, declared_symbols}
@@ -229,6 +229,7 @@ module _ (P : TerminalString → Type 0) (plain : (t : TerminalString) → P t �
   made_settled value macros bare (at s (repeated Star p)) h c r i k j = of_only (star_rule s p) r (one_symbol p h (covered_left (met p) (at s (repeated Star p) ∷ []) c)) i k j
   made_settled value macros bare (at s (repeated Plus p)) h c r i k j = of_only (plus_rule s p) r (one_symbol p h (covered_left (met p) (at s (repeated Plus p) ∷ []) c)) i k j
   made_settled value macros bare (at s (repeated Question p)) h c r i k j = of_only (question_rule s p) r (one_symbol p h (covered_left (met p) (at s (repeated Question p) ∷ []) c)) i k j
+  made_settled value macros bare (at s (repeated (Times n) p)) h c r i k j = of_only (times_rule s n p) r (one_symbol p h (covered_left (met p) (at s (repeated (Times n) p) ∷ []) c)) i k j
   made_settled value macros bare (at s lookahead) h c r i k j = of_only (location_rule s lookahead lookahead_code) r (λ x m. absurd m) i k j
   made_settled value macros bare (at s lookbehind) h c r i k j = of_only (location_rule s lookbehind lookbehind_code) r (λ x m. absurd m) i k j
   made_settled value macros bare (at s (ambiguous_id a)) h c r i k j = absurd i

@@ -204,8 +204,8 @@ associated_bare before (a ∷ ts) h t (inr i) = associated_bare _ ts (both_empty
 conversion_free : (cv : ConversionData) → conversion_faults cv ≡ [] → (terminal_faults cv.span cv.from ≡ []) × (pattern_holds cv.to ≡ false)
 unfolding conversion_faults
 conversion_free cv h =
-    let two = both_empty (terminal_faults cv.span cv.from) (fault_if (pattern_holds cv.to) _) h in
-    (two.0, not_fault (pattern_holds cv.to) _ two.1)
+    let two = both_empty (terminal_faults cv.span cv.from) _ h in
+    (two.0, not_fault (pattern_holds cv.to) _ (both_empty (fault_if (pattern_holds cv.to) _) _ two.1).0)
 
 not_error : (s : Span) (t : TerminalString) → terminal_faults s t ≡ [] → t ≡ Error → ⊥
 unfolding terminal_faults

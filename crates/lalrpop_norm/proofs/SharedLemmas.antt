@@ -6,7 +6,7 @@ use Rattle.lalrpop_norm_tree_names.specs.declared.names.Span.{Span}
 use Rattle.lalrpop_norm_tree.specs.Symbols.{Part, at}
 use Rattle.lalrpop_norm_tree.specs.SymbolTexts.{part_text}
 use Rattle.lalrpop_norm_tree.specs.Items.{GrammarData}
-use Rattle.lalrpop_norm_faults.specs.declared.kind.FaultKind.TheVariants.{RecursionCap, SharedName, ConditionArgument, ConditionPattern, NamedInGroup}
+use Rattle.lalrpop_norm_faults.specs.declared.kind.FaultKind.TheVariants.{RecursionCap, SharedName, ConditionArgument, ConditionPattern, NamedInGroup, NamedInTimes}
 use Rattle.lalrpop_norm_faults.specs.Faults.{Fault, fault_if, first}
 use Rattle.lalrpop_norm_theory.specs.Symbols.{ClosedSymbol, Name}
 use Rattle.lalrpop_norm_theory.specs.Same.{same_symbol}
@@ -224,6 +224,9 @@ not_argument e = absurd (cc e)
 not_pattern : (SharedName ≡ ConditionPattern) → ⊥
 not_pattern e = absurd (cc e)
 
+not_times : (SharedName ≡ NamedInTimes) → ⊥
+not_times e = absurd (cc e)
+
 not_past : (xs : List Part) (t : Span) → In (shared_at t) (past_cap xs) → ⊥
 not_past [] t i = i
 not_past (x ∷ []) t (inl e) = not_cap (ap (λ (f : Fault). f.0) e)
@@ -264,7 +267,7 @@ module _ (value : ConditionValue) (g : GrammarData) where
   names = rule_names g
 
   not_unmade : (k : ℕ) (t : Span) → In (shared_at t) (unmade_in value g k) → ⊥
-  not_unmade k t i = none_made SharedName not_group not_argument not_pattern (macros_of g) (rules_made (expansion_round value g k)) t i
+  not_unmade k t i = none_made SharedName not_group not_argument not_pattern not_times (macros_of g) (rules_made (expansion_round value g k)) t i
 
   to_round : (k left : ℕ) (t : Span) → In (shared_at t) (faults_from value g k left) →
       (j : ℕ) × (j ≤ k + left) × In (shared_at t) (shared_in value g j)

@@ -3,7 +3,7 @@
 use Rattle.std.proofs.Common.{◌≡◌, ◌+◌, inl, inr, ℕ, List, [], ◌∷◌, ◌++◌, map, refl, sym, ap, ap₂, ◌∙◌, subst}
 use Rattle.std.specs.Prelude.{flat_map}
 use Rattle.std.proofs.lemmas.List.{map-append}
-use Rattle.lalrpop_norm_theory.specs.Symbols.{Name, ClosedSymbol, ClosedSymbols, terminal, error, reference, call, group, star, plus, question, wrapped, lookahead, lookbehind, no_symbols, symbol_and}
+use Rattle.lalrpop_norm_theory.specs.Symbols.{Name, ClosedSymbol, ClosedSymbols, terminal, error, reference, call, group, star, plus, question, times, wrapped, lookahead, lookbehind, no_symbols, symbol_and}
 use Rattle.lalrpop_norm_theory.specs.Meaning.{Meaning, HasCounts, HasLevels}
 use Rattle.lalrpop_norm_theory.specs.LoweredTrees.{Origin}
 use Rattle.lalrpop_norm_theory.specs.Clauses.{Clause, IsNonterminal, clauses, symbols_of}
@@ -56,6 +56,7 @@ module _ (M L : Meaning) (l : Name → ℕ → Name) (origin : Name → ℕ → 
   leveled_read (star x) r = refl
   leveled_read (plus x) r = refl
   leveled_read (question x) r = refl
+  leveled_read (times n x) r = read_at (times n x) tt r
   leveled_read lookahead r = refl
   leveled_read lookbehind r = refl
 
@@ -75,6 +76,8 @@ module _ (l : Name → ℕ → Name) where
     meets_leveled (plus x) = map-append (leveled_symbol l) (meets x) (plus x ∷ []) ∙ ap (λ hs. hs ++ plus (leveled_symbol l x) ∷ []) (meets_leveled x)
     meets_leveled (question x) =
         map-append (leveled_symbol l) (meets x) (question x ∷ []) ∙ ap (λ hs. hs ++ question (leveled_symbol l x) ∷ []) (meets_leveled x)
+    meets_leveled (times n x) =
+        map-append (leveled_symbol l) (meets x) (times n x ∷ []) ∙ ap (λ hs. hs ++ times n (leveled_symbol l x) ∷ []) (meets_leveled x)
     meets_leveled (wrapped w g) = meets_leveled g
     meets_leveled lookahead = refl
     meets_leveled lookbehind = refl

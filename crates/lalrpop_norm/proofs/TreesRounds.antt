@@ -1,7 +1,7 @@
 -- The rounds of an expansion in a grammar with levels: those of the written grammar, each bounded reference as the name of its level.
 use Rattle.std.proofs.Common.{◌≡◌, inl, inr, ℕ, zero, suc, List, [], ◌∷◌, ◌++◌, Bool, true, false, reverse, refl, sym, ap, ap₂, ◌∙◌, subst}
-use Rattle.std.specs.Prelude.{flat_map, ◌&&◌, ◌||◌, Option, None, bytes_eq, if◌then◌else◌}
-use Rattle.lalrpop_norm_theory.specs.Symbols.{Name, ClosedSymbol, ClosedSymbols, terminal, error, reference, call, group, star, plus, question, wrapped, lookahead, lookbehind, no_symbols, symbol_and}
+use Rattle.std.specs.Prelude.{flat_map, ◌&&◌, ◌||◌, Option, None, bytes_eq, nat_eq, if◌then◌else◌}
+use Rattle.lalrpop_norm_theory.specs.Symbols.{Name, ClosedSymbol, ClosedSymbols, terminal, error, reference, call, group, star, plus, question, times, wrapped, lookahead, lookbehind, no_symbols, symbol_and}
 use Rattle.lalrpop_norm_theory.specs.Rounds.{In, is_in, fresh_of, Round, rounds, next_round, all_rules_made, IsTest}
 use Rattle.lalrpop_norm_theory.specs.Same.{same_symbol, same_symbols, same_wrapper}
 use Rattle.lalrpop_norm_theory.specs.Met.{IsResolvedIn, AreResolvedIn}
@@ -89,6 +89,7 @@ module _ (l : Name → ℕ → Name) (declared : List ClosedSymbol)
     symbol_alike (star g) (star h) i j = symbol_alike g h i j
     symbol_alike (plus g) (plus h) i j = symbol_alike g h i j
     symbol_alike (question g) (question h) i j = symbol_alike g h i j
+    symbol_alike (times n g) (times m h) i j = ap (λ x. nat_eq n m && x) (symbol_alike g h i j)
     symbol_alike (wrapped v g) (wrapped w h) i j = ap (λ x. same_wrapper v w && x) (symbol_alike g h i j)
     symbol_alike (terminal a) (terminal b) i j = refl
     symbol_alike error error i j = refl

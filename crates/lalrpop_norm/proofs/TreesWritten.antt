@@ -1,6 +1,6 @@
 -- The plain rules of a grammar with levels are the rules of the symbols that the expansion of the written grammar makes.
 use Rattle.std.proofs.Common.{◌≡◌, inl, inr, ℕ, ◌<◌, List, [], ◌∷◌, ◌++◌, map, length, Bool, true, false, not, ◌&&◌, ◌||◌, Option, Some, None, refl, sym, ap, ap₂, ◌∙◌, subst, arith}
-use Rattle.std.specs.Prelude.{codes, flat_map, option_map, if◌then◌else◌}
+use Rattle.std.specs.Prelude.{codes, flat_map, option_map, if◌then◌else◌, decimal}
 use Rattle.std.proofs.Math.Path.{fun_ext}
 use Rattle.std.proofs.lemmas.List.{map-append}
 use Rattle.std.proofs.lemmas.List.Elements.{filter-append}
@@ -9,7 +9,7 @@ use Rattle.lalrpop_norm_tree.specs.Items.{RuleData, GrammarData}
 use Rattle.lalrpop_norm_tree.specs.Symbols as written
 use Rattle.lalrpop_norm_tree.specs.Symbols.{Kind, Part, Parts, at, no_parts, part_and}
 use Rattle.lalrpop_norm_tree_names.specs.Texts.{joined}
-use Rattle.lalrpop_norm_theory.specs.Symbols.{Name, ClosedSymbol, ClosedSymbols, terminal, error, reference, call, group, star, plus, question, wrapped, lookahead, lookbehind, no_symbols, symbol_and}
+use Rattle.lalrpop_norm_theory.specs.Symbols.{Name, ClosedSymbol, ClosedSymbols, terminal, error, reference, call, group, star, plus, question, times, wrapped, lookahead, lookbehind, no_symbols, symbol_and}
 use Rattle.lalrpop_norm_theory.specs.Meaning.{Meaning}
 use Rattle.lalrpop_norm_theory.specs.Clauses.{Clause, numbered, step_clauses, clauses}
 use Rattle.lalrpop_norm_theory.specs.Rounds.{In, IsDistinct}
@@ -278,6 +278,7 @@ module _ (low ws : List WrittenRule) (l : Name → ℕ → Name) (same : (n : Na
     text_leveled (star x) = ap (λ t. t ++ codes "*") (text_leveled x)
     text_leveled (plus x) = ap (λ t. t ++ codes "+") (text_leveled x)
     text_leveled (question x) = ap (λ t. t ++ codes "?") (text_leveled x)
+    text_leveled (times n x) = ap (λ t. t ++ codes "{" ++ decimal n ++ codes "}") (text_leveled x)
     text_leveled (wrapped w g) = ap (wrapped_text w) (text_leveled g)
     text_leveled lookahead = refl
     text_leveled lookbehind = refl

@@ -1,19 +1,21 @@
--- The faults of new symbols that no rule is made of have three numbers, and no other.
+-- The faults of new symbols that no rule is made of have four numbers, and no other.
 use Rattle.std.proofs.Common.{Option, Some, None, ◌≡◌, inl, inr, ℕ, Bool, true, false, List, [], ◌∷◌, ap}
 use Rattle.std.specs.Prelude.{flat_map}
 use Rattle.lalrpop_norm_tree_names.specs.declared.names.Span.{Span}
+use Rattle.lalrpop_norm_tree.specs.declared.symbol.RepeatOp.{RepeatOp}
+use Rattle.lalrpop_norm_tree.specs.declared.symbol.RepeatOp.TheVariants.{Star, Plus, Question, Times}
 use Rattle.lalrpop_norm_tree.specs.Symbols.{Kind, Part, Parts, group, ambiguous_id, terminal, nonterminal, call, repeated, chosen, named, tupled, lookahead, lookbehind, error_terminal, at}
 use Rattle.lalrpop_norm_tree.specs.Items.{AlternativeData, RuleData}
 use Rattle.lalrpop_norm_tree.specs.declared.items.Condition.{Condition}
 use Rattle.lalrpop_norm_faults.specs.declared.kind.FaultKind.{FaultKind}
-use Rattle.lalrpop_norm_faults.specs.declared.kind.FaultKind.TheVariants.{ConditionArgument, ConditionPattern, NamedInGroup}
+use Rattle.lalrpop_norm_faults.specs.declared.kind.FaultKind.TheVariants.{ConditionArgument, ConditionPattern, NamedInGroup, NamedInTimes}
 use Rattle.lalrpop_norm_faults.specs.Faults.{Fault, fault_if}
 use Rattle.lalrpop_norm_theory.specs.Rounds.{In}
 use Rattle.lalrpop_norm_theory.proofs.RoundsLemmas.{in_cases}
-use Rattle.lalrpop_norm_model.specs.MadeRules.{some_name_value, argument_kind, macro_named}
+use Rattle.lalrpop_norm_model.specs.MadeRules.{some_name_value, names_value, argument_kind, macro_named}
 use Rattle.lalrpop_norm_conditions.specs.Conditions.{lacks_reading}
 use Rattle.lalrpop_norm_macro_expand_rules.specs.Conditions.{quoted_text, comparison_faults, value_faults, called_faults}
-use Rattle.lalrpop_norm_macro_expand.specs.Expansion.{unmade}
+use Rattle.lalrpop_norm_macro_expand.specs.Expansion.{unmade, unmade_repeat}
 
 -- a fault that may stand is that fault
 pub not_if : (b : Bool) (f g : Fault) → (g ≡ f → ⊥) → In g (fault_if b f) → ⊥
@@ -22,7 +24,7 @@ not_if true f g unlike (inr i) = i
 not_if false f g unlike i = i
 
 module _ (number : FaultKind) (not_group : number ≡ NamedInGroup → ⊥) (not_argument : number ≡ ConditionArgument → ⊥)
-    (not_pattern : number ≡ ConditionPattern → ⊥) where
+    (not_pattern : number ≡ ConditionPattern → ⊥) (not_times : number ≡ NamedInTimes → ⊥) where
   not_tested : (c : Condition) (o : Option (List ℕ)) (t : Span) → In (number, t) (comparison_faults c o) → ⊥
   not_tested c None t (inl e) = not_argument (ap (λ (f : Fault). f.0) e)
   not_tested c None t (inr i) = i
@@ -46,11 +48,18 @@ module _ (number : FaultKind) (not_group : number ≡ NamedInGroup → ⊥) (not
   not_called None ps t i = i
   not_called (Some d) ps t i = not_conditions (argument_kind d.args ps) d.alternatives t i
 
+  not_repeated : (s : Span) (op : RepeatOp) (p : Part) (t : Span) → In (number, t) (unmade_repeat s op p) → ⊥
+  not_repeated s Star p t i = i
+  not_repeated s Plus p t i = i
+  not_repeated s Question p t i = i
+  not_repeated s (Times n) p t i =
+      not_if (names_value p) (NamedInTimes, s) (number, t) (λ e. not_times (ap (λ (f : Fault). f.0) e)) i
+
   not_made : (macros : List RuleData) (p : Part) (t : Span) → In (number, t) (unmade macros p) → ⊥
   not_made macros (at s (group ps)) t i =
       not_if (some_name_value ps) (NamedInGroup, s) (number, t) (λ e. not_group (ap (λ (f : Fault). f.0) e)) i
   not_made macros (at s (call n ps)) t i = not_called (macro_named macros n) ps t i
-  not_made macros (at s (repeated op p)) t i = i
+  not_made macros (at s (repeated op p)) t i = not_repeated s op p t i
   not_made macros (at s (ambiguous_id a)) t i = i
   not_made macros (at s (terminal u)) t i = i
   not_made macros (at s (nonterminal n)) t i = i

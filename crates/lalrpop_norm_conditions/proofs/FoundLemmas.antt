@@ -9,7 +9,7 @@ use Rattle.regex_hir.specs.Text.{is_boundary}
 use Rattle.regex.specs.Patterns.{Re, Match, Matches, find_str}
 use Rattle.regex.proofs.ForCallers.{find_str_sound, find_str_complete}
 use Rattle.regex.proofs.Utf8Lemmas.{IsCharBoundary-of_test}
-use Rattle.lalrpop_norm_theory.specs.Symbols.{Name, quoted, regex, bare, error_terminal, ClosedSymbol, terminal, error, reference, call, group, star, plus, question, wrapped, lookahead, lookbehind}
+use Rattle.lalrpop_norm_theory.specs.Symbols.{Name, quoted, regex, bare, error_terminal, ClosedSymbol, terminal, error, reference, call, group, star, plus, question, times, wrapped, lookahead, lookbehind}
 use Rattle.lalrpop_norm_conditions.specs.Patterns.{reading, occurs, is_found, MatchesSomewhere}
 use Rattle.lalrpop_norm_conditions.specs.Conditions.{literal_in, comparison}
 use Rattle.lalrpop_norm_conditions.specs.Laws.{Says, ValuesAreOfLiterals}
@@ -69,6 +69,7 @@ literal_of (group parts) text e = absurd (none-some text e)
 literal_of (star x) text e = absurd (none-some text e)
 literal_of (plus x) text e = absurd (none-some text e)
 literal_of (question x) text e = absurd (none-some text e)
+literal_of (times n x) text e = absurd (none-some text e)
 literal_of (wrapped w x) text e = absurd (none-some text e)
 literal_of lookahead text e = absurd (none-some text e)
 literal_of lookbehind text e = absurd (none-some text e)

@@ -22,7 +22,7 @@ use Rattle.lalrpop_norm_faults.specs.declared.kind.FaultKind.TheVariants.{NoPatt
 use Rattle.lalrpop_norm_faults.specs.declared.kind.FaultKind.TheVariants.{InputLifetime, InputParameter, NoAlternatives}
 use Rattle.lalrpop_norm_faults.specs.declared.kind.FaultKind.TheVariants.{OnlyCoded, NotGrounded, Disagreement, TupleOverSymbol}
 use Rattle.lalrpop_norm_faults.specs.declared.kind.FaultKind.TheVariants.{TupleOverType, TupleLength, Placeholders, StartTaken}
-use Rattle.lalrpop_norm_faults.specs.declared.kind.FaultKind.TheVariants.{TooManyActions}
+use Rattle.lalrpop_norm_faults.specs.declared.kind.FaultKind.TheVariants.{TooManyActions, NamedInTimes}
 use Rattle.std.specs.declared.alloc.AllocError.{AllocError}
 use Rattle.std.specs.declared.alloc.Global.{Global}
 use Rattle.lalrpop_norm_faults.specs.declared.failure.NormError.{NormError}
@@ -181,3 +181,4 @@ code_of TupleLength = codes "F53"
 code_of Placeholders = codes "F54"
 code_of StartTaken = codes "F55"
 code_of TooManyActions = codes "F56"
+code_of NamedInTimes = codes "F57"

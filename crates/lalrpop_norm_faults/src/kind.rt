@@ -127,10 +127,12 @@ pub enum FaultKind {
     StartTaken,
     /// F56: more than 4294967296 actions.
     TooManyActions,
+    /// F57: a named or tuple symbol that is repeated so many times.
+    NamedInTimes,
 }
 
 impl FaultKind {
-    /// Its number: `F1` to `F56`, that of levels and sides with a letter.
+    /// Its number: `F1` to `F57`, that of levels and sides with a letter.
     pub fn code(self) -> &'static str
         ensures { result.now ≡ code_of self }
     {
@@ -196,6 +198,7 @@ impl FaultKind {
             FaultKind::Placeholders => "F54",
             FaultKind::StartTaken => "F55",
             FaultKind::TooManyActions => "F56",
+            FaultKind::NamedInTimes => "F57",
         }
     }
 }

@@ -1,5 +1,5 @@
 -- What has not the parts of a shape does not have the shape.
-use Rattle.std.proofs.Common.{◌≡◌, ℕ, suc, ◌<◌, ◌≤◌, map, List, [], ◌∷◌, ◌++◌, Option, Some, None, is_some, option_and_then, Bool, true, false, ◌&&◌, refl, sym, ap, ◌∙◌, arith}
+use Rattle.std.proofs.Common.{◌≡◌, ℕ, suc, ◌^◌, ◌<◌, ◌≤◌, le-ltb, map, List, [], ◌∷◌, ◌++◌, Option, Some, None, is_some, option_and_then, Bool, true, false, ◌&&◌, refl, sym, ap, ◌∙◌, arith}
 use Rattle.std.specs.List.{list_all}
 use Rattle.std.specs.Str.{bytes_eq}
 use Rattle.serde_json.specs.Data.{Data, null, boolean, number, unsigned, negative, float, string, array, object, Items, no_items, item, Members, no_members, member}
@@ -9,7 +9,7 @@ use Rattle.lalrpop_norm_json_shapes.specs.Weight.{weight, items_weight}
 use Rattle.json_document.proofs.Keyed.{and_no}
 use Rattle.json_document.specs.Fields.{are_keys, has_fields, has_one_member}
 use Rattle.lalrpop_norm_json_shapes.specs.Parts.{is_null, is_pair, is_triple, is_variant}
-use Rattle.lalrpop_norm_json_shapes.specs.Shapes.{ShapeName, natural, Slot, Held, Arrays, struct_of, each, row, slot, fits, fits_items, fits_members, struct, variants, arrayed, optional, Shape, is}
+use Rattle.lalrpop_norm_json_shapes.specs.Shapes.{ShapeName, natural, short, Slot, Held, Arrays, struct_of, each, row, slot, fits, fits_items, fits_members, struct, variants, arrayed, optional, Shape, is}
 
 pub no_array_pair : (d : Data) → as_array d ≡ None → is_pair d ≡ false
 no_array_pair null e = refl
@@ -46,6 +46,19 @@ not_natural (boolean b) e = refl
 not_natural (string s) e = refl
 not_natural (array ds) e = refl
 not_natural (object ms) e = refl
+
+pub not_short : (d : Data) → is natural d ≡ false → is short d ≡ false
+not_short (number (unsigned m)) e = absurd (cc e)
+not_short (number (negative z)) e = refl
+not_short (number (float x)) e = refl
+not_short null e = refl
+not_short (boolean b) e = refl
+not_short (string s) e = refl
+not_short (array ds) e = refl
+not_short (object ms) e = refl
+
+pub past_short : (d : Data) (n : ℕ) → d ≡ number (unsigned n) → 2 ^ 16 ≤ n → is short d ≡ false
+past_short d n e h = ap (is short) e ∙ le-ltb n (2 ^ 16) h
 
 -- ---- parts of which one is refused
 

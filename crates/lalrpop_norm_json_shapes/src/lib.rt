@@ -15,7 +15,7 @@ use json_document::{Document, NotParted, OpenError, Scratch};
 use std::alloc::Global;
 pub use value::{
     Case, TreeError, case_of, counted_items, eight_fields, five_fields, four_fields, items,
-    natural, only_field, pair, present, seven_fields, text, three_fields, triple, truth,
+    natural, only_field, pair, present, seven_fields, short, text, three_fields, triple, truth,
     two_fields,
 };
 

@@ -4,7 +4,7 @@ ghost use Rattle.std.specs.List.{list_all};
 ghost use Rattle.serde_json.specs.Data.{null, boolean, number, unsigned, string, array, object, item, no_items, member, no_members};
 ghost use Rattle.serde_json.specs.Find.{as_array};
 ghost use Rattle.json_document.specs.View.{view, items_view};
-ghost use Rattle.lalrpop_norm_json_shapes.specs.Shapes.{is, text, truth, natural};
+ghost use Rattle.lalrpop_norm_json_shapes.specs.Shapes.{is, text, truth, natural, short};
 ghost use Rattle.json_document.specs.Fields.{has_fields};
 ghost use Rattle.json_document.specs.Number.{how_many};
 ghost use Rattle.lalrpop_norm_json_shapes.specs.Parts.{is_variant, is_pair, is_triple, is_null, case_form};
@@ -380,6 +380,20 @@ pub fn natural(value: Value<'_, '_>) -> Result<usize, TreeError>
         Some(n) => Ok(n as usize),
         None => Err(TreeError::NotATree),
     }
+}
+
+/// A natural number below 2 ^ 16, written without point or exponent.
+#[tactic(auto, using(crate::proofs::Refusals::not_short, crate::proofs::Refusals::past_short))]
+pub fn short(value: Value<'_, '_>) -> Result<u16, TreeError>
+    ensures ok { IfOk result (λ n. view value.entry ≡ number (unsigned n)) }
+    ensures below { IfOk result (λ n. n < 2 ^ 16) }
+    ensures err { IsErrOf result TreeError.NotATree → is short (view value.entry) ≡ false }
+{
+    let number = natural(value)?;
+    if number < 65536 {
+        return Ok(number as u16);
+    }
+    Err(TreeError::NotATree)
 }
 
 /// The value, unless it is null.

@@ -5,7 +5,7 @@ use Rattle.std.proofs.lemmas.List.{map-append}
 use Rattle.std.proofs.lemmas.Slice.Eq.{bytes_eq-Decides}
 use Rattle.lalrpop_norm_tree_names.specs.declared.names.Span.{Span}
 use Rattle.lalrpop_norm_tree.specs.declared.symbol.RepeatOp.{RepeatOp}
-use Rattle.lalrpop_norm_tree.specs.declared.symbol.RepeatOp.TheVariants.{Star, Plus, Question}
+use Rattle.lalrpop_norm_tree.specs.declared.symbol.RepeatOp.TheVariants.{Star, Plus, Question, Times}
 use Rattle.lalrpop_norm_tree.specs.Symbols.{Part, Parts, group, ambiguous_id, terminal, nonterminal, call, repeated, chosen, named, tupled, lookahead, lookbehind, error_terminal, at}
 use Rattle.lalrpop_norm_tree.specs.Items.{RuleData, GrammarData}
 use Rattle.lalrpop_norm_tree.specs.SymbolTexts.{part_text, kind_text}
@@ -111,6 +111,7 @@ module _ (value : ConditionValue) (ms : List RuleData) where
   named_repeat s Star p = inr refl
   named_repeat s Plus p = inr refl
   named_repeat s Question p = inr refl
+  named_repeat s (Times n) p = inr refl
 
   named_call : (s : Span) (n : List ℕ) (ps : Parts) (o : Option RuleData) → ((d : RuleData) → o ≡ Some d → name_of d ≡ n) →
       (map name_of (instance_of value s o ps) ≡ []) ⊎ (map name_of (instance_of value s o ps) ≡ kind_text (call n ps) ∷ [])

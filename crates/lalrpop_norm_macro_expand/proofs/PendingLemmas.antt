@@ -10,12 +10,12 @@ use Rattle.lalrpop_norm_tree_names.specs.declared.names.NonterminalString.{Nonte
 use Rattle.lalrpop_norm_tree_names.specs.declared.names.TerminalString.TheVariants.{Literal, Bare, Error}
 use Rattle.lalrpop_norm_tree_names.specs.declared.names.TerminalLiteral.TheVariants.{Quoted, Regex}
 use Rattle.lalrpop_norm_tree.specs.declared.symbol.RepeatOp.{RepeatOp}
-use Rattle.lalrpop_norm_tree.specs.declared.symbol.RepeatOp.TheVariants.{Star, Plus, Question}
+use Rattle.lalrpop_norm_tree.specs.declared.symbol.RepeatOp.TheVariants.{Star, Plus, Question, Times}
 use Rattle.lalrpop_norm_tree.specs.declared.items.Condition.{Condition}
 use Rattle.lalrpop_norm_tree.specs.Symbols.{Kind, Part, Parts, group, ambiguous_id, terminal, nonterminal, call, repeated, chosen, named, tupled, lookahead, lookbehind, error_terminal, at, no_parts, part_and}
 use Rattle.lalrpop_norm_tree.specs.Items.{AlternativeData, RuleData, ItemData, rule_item, lookahead_code, lookbehind_code}
 use Rattle.lalrpop_norm_tree.specs.SymbolTexts.{kind_text}
-use Rattle.lalrpop_norm_faults.specs.declared.kind.FaultKind.TheVariants.{NamedInGroup}
+use Rattle.lalrpop_norm_faults.specs.declared.kind.FaultKind.TheVariants.{NamedInGroup, NamedInTimes}
 use Rattle.lalrpop_norm_faults.specs.Faults.{Fault, fault_if}
 use Rattle.lalrpop_norm_conditions.specs.Conditions.{comparison}
 use Rattle.lalrpop_norm_theory.specs.Rounds.{In}
@@ -33,7 +33,7 @@ use Rattle.lalrpop_norm_nodes.proofs.ShallowReadings.{copied, shown_in_each, met
 use Rattle.lalrpop_norm_nodes.proofs.ShallowRules.{argument_replaced, argument_unplaced, group_replaced}
 use Rattle.lalrpop_norm_macro_expand_rules.specs.Conditions.{quoted_text, comparison_faults, value_faults, instance_faults, called_faults}
 use Rattle.lalrpop_norm_macro_expand_rules.specs.Pending.{PendingData, finished_rule, unread_rule, met_in_pending, shown_in_pending, pending_read, read_filled}
-use Rattle.lalrpop_norm_macro_expand.specs.Expansion.{unmade}
+use Rattle.lalrpop_norm_macro_expand.specs.Expansion.{unmade, unmade_repeat}
 use Rattle.lalrpop_norm_macro_expand.specs.Making.{kept_of, instance_shape, call_pending, hole, hole_name, repeat_pending, pending_of}
 use Rattle.lalrpop_norm_macro_expand_rules.proofs.MacroLemmas.{named_so}
 
@@ -78,6 +78,8 @@ repeat_read_so s Plus sp k whole =
     ap rule_item (repeat_read (λ x. true) [] s Plus sp k (record { 0 = hole_name }) (argument_kind hole (only_part (at sp (replaced_kind k)))) (argument_replaced hole (only_part (at sp k))))
 repeat_read_so s Question sp k whole =
     ap rule_item (repeat_read (λ x. true) [] s Question sp k (record { 0 = hole_name }) (argument_kind hole (only_part (at sp (replaced_kind k)))) (argument_replaced hole (only_part (at sp k))))
+repeat_read_so s (Times n) sp k whole =
+    ap rule_item (repeat_read (λ x. true) [] s (Times n) sp k (record { 0 = hole_name }) (argument_kind hole (only_part (at sp (replaced_kind k)))) (argument_replaced hole (only_part (at sp k))))
 
 one_read : (macros : List RuleData) (p : Part) → map pending_read (pending_by macros p) ≡ replaced_rules (made_rules comparison macros p)
 one_read macros (at s (group ps)) = ap (λ r. rule_item r ∷ []) (sym (group_replaced s ps))
@@ -202,10 +204,16 @@ called_replaced : (o : Option RuleData) (ps : Parts) → called_faults o (all_re
 called_replaced None ps = refl
 called_replaced (Some d) ps = values_replaced d.args ps d.alternatives
 
+repeat_unmade : (s : Span) (op : RepeatOp) (p : Part) → unmade_repeat s op (replaced p) ≡ unmade_repeat s op p
+repeat_unmade s Star p = refl
+repeat_unmade s Plus p = refl
+repeat_unmade s Question p = refl
+repeat_unmade s (Times n) p = ap (λ b. fault_if b (NamedInTimes, s)) (name_replaced p)
+
 unmade_replaced : (macros : List RuleData) (p : Part) → unmade macros (parts_replaced p) ≡ unmade macros p
 unmade_replaced macros (at s (group ps)) = ap (λ b. fault_if b (NamedInGroup, s)) (some_replaced ps)
 unmade_replaced macros (at s (call n ps)) = called_replaced (macro_named macros n) ps
-unmade_replaced macros (at s (repeated op p)) = refl
+unmade_replaced macros (at s (repeated op p)) = repeat_unmade s op p
 unmade_replaced macros (at s lookahead) = refl
 unmade_replaced macros (at s lookbehind) = refl
 unmade_replaced macros (at s (ambiguous_id a)) = refl

@@ -1,15 +1,18 @@
 -- The faults of an expansion, round by round: what `expand_macros` refuses.
 use Rattle.std.specs.Prelude.{ℕ, zero, suc, Bool, not, ◌&&◌, ◌||◌, List, [], ◌∷◌, ◌++◌, flat_map, bytes_eq}
 use Rattle.std.specs.List.{list_any}
+use Rattle.lalrpop_norm_tree.specs.declared.symbol.RepeatOp.{RepeatOp}
+use Rattle.lalrpop_norm_tree.specs.declared.symbol.RepeatOp.TheVariants.{Star, Plus, Question, Times}
+use Rattle.lalrpop_norm_tree_names.specs.declared.names.Span.{Span}
 use Rattle.lalrpop_norm_tree.specs.Symbols.{Part, group, ambiguous_id, terminal, nonterminal, call, repeated, chosen, named}
 use Rattle.lalrpop_norm_tree.specs.Symbols.{tupled, lookahead, lookbehind, error_terminal, at}
 use Rattle.lalrpop_norm_tree.specs.SymbolTexts.{part_text}
 use Rattle.lalrpop_norm_tree.specs.Items.{RuleData, GrammarData}
-use Rattle.lalrpop_norm_faults.specs.declared.kind.FaultKind.TheVariants.{NamedInGroup, RecursionCap, SharedName}
+use Rattle.lalrpop_norm_faults.specs.declared.kind.FaultKind.TheVariants.{NamedInGroup, NamedInTimes, RecursionCap, SharedName}
 use Rattle.lalrpop_norm_faults.specs.Faults.{Fault, fault_if}
 use Rattle.lalrpop_norm_theory.specs.Rounds.{rules_made}
 use Rattle.lalrpop_norm_model.specs.Grammars.{ConditionValue}
-use Rattle.lalrpop_norm_model.specs.MadeRules.{macro_named, some_name_value}
+use Rattle.lalrpop_norm_model.specs.MadeRules.{macro_named, names_value, some_name_value}
 use Rattle.lalrpop_norm_model.specs.PlainRules.{met_in_rule, met_by_made, rules_without_arguments, macros_of}
 use Rattle.lalrpop_norm_model.specs.PlainRules.{same_apart_from_spans, expansion_round}
 use Rattle.lalrpop_norm_model.specs.Expanded.{rule_names}
@@ -46,13 +49,20 @@ met_before value g (suc k) = met_before value g k ++ meetings value g k
 abbrev pub shared_in : ConditionValue → GrammarData → ℕ → List Fault
 shared_in value g k = shared_names (rule_names g) (met_before value g k) (meetings value g k)
 
--- ---- F33, F34, F35: no rule is made
+-- ---- F33, F34, F35, F57: no rule is made
 
--- a group with a named or tuple symbol in it; a call of a macro with a condition that has no value
+-- a named or tuple symbol that is repeated so many times
+abbrev pub unmade_repeat : Span → RepeatOp → Part → List Fault
+unmade_repeat s Star p = []
+unmade_repeat s Plus p = []
+unmade_repeat s Question p = []
+unmade_repeat s (Times n) p = fault_if (names_value p) (NamedInTimes, s)
+
+-- a group with a named or tuple symbol in it; such a repeat; a call of a macro with a condition that has no value
 abbrev pub unmade : List RuleData → Part → List Fault
 unmade macros (at s (group ps)) = fault_if (some_name_value ps) (NamedInGroup, s)
 unmade macros (at s (call n ps)) = called_faults (macro_named macros n) ps
-unmade macros (at s (repeated op p)) = []
+unmade macros (at s (repeated op p)) = unmade_repeat s op p
 unmade macros (at s (ambiguous_id a)) = []
 unmade macros (at s (terminal t)) = []
 unmade macros (at s (nonterminal n)) = []

@@ -178,7 +178,7 @@ fn expand_counted(alloc: Global, grammar: Grammar, limit: u16) -> NormResult<(Gr
 /// Resolves the names of a grammar (`resolve`), and makes its macro calls, groups, repeats and lookarounds into rules
 /// (`expand_resolved`). The grammar is consumed, also where it is refused.
 ///
-/// Errors: the faults of names, F25 to F32; then those of the expansion, F33 to F37; `Memory`.
+/// Errors: the faults of names, F25 to F32; then those of the expansion, F33 to F37 and F57; `Memory`.
 pub fn expand_macros(alloc: Global, grammar: Grammar, limit: u16) -> NormResult<Grammar>
     // Ok exactly where no fault stands, and a refusal names the first one, memory aside.
     ensures refuses { Refuses result (macro_faults comparison (grammar_view grammar) limit) }
@@ -217,9 +217,9 @@ pub fn expand_macros_counted(
 ///
 /// Errors: F37 (`SharedName`) at a symbol whose text is the name of a rule or macro, or the text of another symbol that was met
 /// before and is not the same; F36 (`RecursionCap`) at the last new symbol of the round after `limit` rounds; F35
-/// (`NamedInGroup`) at a group with a named or tuple symbol in it; F33 (`ConditionArgument`) at a condition of a called macro
-/// whose left side is bound to no quoted literal; F34 (`ConditionPattern`) at one that asks for a pattern without a reading;
-/// `Memory`, also where such a pattern passes the size limit of `regex`.
+/// (`NamedInGroup`) at a group with a named or tuple symbol in it; F57 (`NamedInTimes`) at a repeat of one so many times; F33
+/// (`ConditionArgument`) at a condition of a called macro whose left side is bound to no quoted literal; F34 (`ConditionPattern`)
+/// at one that asks for a pattern without a reading; `Memory`, also where such a pattern passes the size limit of `regex`.
 pub fn expand_resolved(alloc: Global, grammar: Grammar, limit: u16) -> NormResult<Grammar>
     // Ok exactly where no fault stands, and a refusal names the first one, memory aside.
     ensures refuses { Refuses result (expansion_faults comparison (grammar_view grammar) limit) }

@@ -5,10 +5,10 @@ use Rattle.std.proofs.lemmas.Bool.{and_parts}
 use Rattle.lalrpop_norm_tree_names.specs.declared.names.NonterminalString.{NonterminalString}
 use Rattle.lalrpop_norm_tree.specs.declared.items.Condition.{Condition}
 use Rattle.lalrpop_norm_tree.specs.declared.symbol.RepeatOp.{RepeatOp}
-use Rattle.lalrpop_norm_tree.specs.declared.symbol.RepeatOp.TheVariants.{Star, Plus, Question}
+use Rattle.lalrpop_norm_tree.specs.declared.symbol.RepeatOp.TheVariants.{Star, Plus, Question, Times}
 use Rattle.lalrpop_norm_tree.specs.Symbols as written
 use Rattle.lalrpop_norm_tree.specs.Symbols.{Kind, Part, Parts, at, no_parts, part_and}
-use Rattle.lalrpop_norm_theory.specs.Symbols.{Name, quoted, regex, bare, error_terminal, ClosedSymbol, ClosedSymbols, terminal, error, reference, call, group, star, plus, question, wrapped, lookahead, lookbehind}
+use Rattle.lalrpop_norm_theory.specs.Symbols.{Name, quoted, regex, bare, error_terminal, ClosedSymbol, ClosedSymbols, terminal, error, reference, call, group, star, plus, question, times, wrapped, lookahead, lookbehind}
 use Rattle.lalrpop_norm_model.specs.Scopes.{is_argument}
 use Rattle.lalrpop_norm_model.specs.Levels.{Side, left, right, neither, every, Leveled, previous_level}
 use Rattle.lalrpop_norm_model.specs.WrittenRules.{WrittenRule, rule_named}
@@ -54,6 +54,7 @@ module _ (rs : List WrittenRule) (r : WrittenRule) (a : Leveled) (f : ℕ → �
   repeat_bounds Star x = refl
   repeat_bounds Plus x = refl
   repeat_bounds Question x = refl
+  repeat_bounds (Times n) x = refl
 
   mutual
     kind_bounds : (before after : ℕ) (k : Kind) → is_scoped_kind rs r.args k ≡ true →
@@ -149,6 +150,7 @@ true_of value c params args (Some (group gs)) e h = absurd (cc h)
 true_of value c params args (Some (star x)) e h = absurd (cc h)
 true_of value c params args (Some (plus x)) e h = absurd (cc h)
 true_of value c params args (Some (question x)) e h = absurd (cc h)
+true_of value c params args (Some (times n x)) e h = absurd (cc h)
 true_of value c params args (Some (wrapped w g)) e h = absurd (cc h)
 true_of value c params args (Some lookahead) e h = absurd (cc h)
 true_of value c params args (Some lookbehind) e h = absurd (cc h)

@@ -1,14 +1,15 @@
 -- Closed symbols of small written ones, and their texts.
-use Rattle.std.proofs.Common.{◌≡◌, [], ◌∷◌, refl}
+use Rattle.std.proofs.Common.{◌≡◌, [], ◌∷◌, refl, arith}
 use Rattle.std.specs.Prelude.{true, false, Some, None, codes, bytes_eq, if◌then◌else◌}
 use Rattle.std.specs.Fmt.{digits}
 use Rattle.std.specs.Str.{chars}
+use Rattle.std.proofs.lemmas.Fmt.{decimal_digit}
 use lib.Utf8.{encode}
 use Rattle.lalrpop_norm_tree_names.specs.declared.names.TerminalString.TheVariants.{Literal, Error}
 use Rattle.lalrpop_norm_tree_names.specs.declared.names.TerminalLiteral.TheVariants.{Regex}
 use Rattle.lalrpop_norm_tree.specs.Symbols as written
 use Rattle.lalrpop_norm_tree.specs.Symbols.{Kind, argument_patterns_of, one_name, several}
-use Rattle.lalrpop_norm_theory.specs.Symbols.{Name, quoted, regex, bare, error_terminal, ClosedPatterns, name_pattern, tuple_pattern, no_patterns, pattern_and, chosen, named, tuple, ClosedSymbol, terminal, error, reference, call, group, star, plus, question, wrapped, lookahead, lookbehind, no_symbols, symbol_and, only}
+use Rattle.lalrpop_norm_theory.specs.Symbols.{Name, quoted, regex, bare, error_terminal, ClosedPatterns, name_pattern, tuple_pattern, no_patterns, pattern_and, chosen, named, tuple, ClosedSymbol, terminal, error, reference, call, group, star, plus, question, times, wrapped, lookahead, lookbehind, no_symbols, symbol_and, only}
 use Rattle.lalrpop_norm_model.specs.Reading.{Reader, read_kind}
 use Rattle.lalrpop_norm_model.specs.MadeRules.{flat_reader}
 use Rattle.lalrpop_norm_model.specs.ClosedTexts.{closed_text, level_name, text_in}
@@ -56,6 +57,9 @@ text_of_empty_group = refl
 text_of_repeats : text (star (question (plus (literal (codes "a"))))) ≡ codes "\"a\"+?*"
 unfolding chars encode
 text_of_repeats = refl
+
+text_of_times : text (times 2 (reference (codes "X") None)) ≡ codes "X{2}"
+text_of_times = rw (decimal_digit 2 (omega arith)) refl
 
 -- ---- wrappers
 

@@ -5,7 +5,7 @@ use Rattle.std.proofs.lemmas.Bool.{eq-eqb, true_from_ne_false}
 use Rattle.lalrpop_norm_tree_names.specs.declared.names.NonterminalString.{NonterminalString}
 use Rattle.lalrpop_norm_tree.specs.declared.items.Condition.{Condition}
 use Rattle.lalrpop_norm_tree.specs.Items.{AlternativeData, RuleData, GrammarData}
-use Rattle.lalrpop_norm_theory.specs.Symbols.{Name, ClosedSymbol, ClosedSymbols, terminal, error, reference, call, group, star, plus, question, wrapped, lookahead, lookbehind, no_symbols, symbol_and}
+use Rattle.lalrpop_norm_theory.specs.Symbols.{Name, ClosedSymbol, ClosedSymbols, terminal, error, reference, call, group, star, plus, question, times, wrapped, lookahead, lookbehind, no_symbols, symbol_and}
 use Rattle.lalrpop_norm_theory.specs.Rounds.{In}
 use Rattle.lalrpop_norm_theory.specs.Leveled.{leveled_symbol, leveled_symbols}
 use Rattle.lalrpop_norm_model.specs.Enabled.{all_places, present}
@@ -58,6 +58,7 @@ value_leveled value l c (Some (group xs)) = refl
 value_leveled value l c (Some (star x)) = refl
 value_leveled value l c (Some (plus x)) = refl
 value_leveled value l c (Some (question x)) = refl
+value_leveled value l c (Some (times n x)) = refl
 value_leveled value l c (Some (wrapped w x)) = refl
 value_leveled value l c (Some lookahead) = refl
 value_leveled value l c (Some lookbehind) = refl

@@ -1,17 +1,17 @@
 -- The rules of a grammar and the rules that are made hold the clauses of their symbols.
-use Rattle.std.proofs.Common.{◌≡◌, inl, inr, ℕ, ◌+◌, List, [], ◌∷◌, ◌++◌, map, Option, Some, None, Bool, true, false, not, ◌&&◌, refl, sym, ap, ap₂, ◌∙◌, subst, arith, append-nil}
+use Rattle.std.proofs.Common.{◌≡◌, inl, inr, ℕ, zero, suc, ◌+◌, List, [], ◌∷◌, ◌++◌, map, Option, Some, None, Bool, true, false, not, ◌&&◌, refl, sym, ap, ap₂, ◌∙◌, subst, arith, append-nil}
 use Rattle.std.specs.Prelude.{slice_get, filter, flat_map, bytes_eq, if◌then◌else◌}
 use Rattle.std.proofs.lemmas.Bool.{and_parts}
 use Rattle.std.proofs.lemmas.Slice.Eq.{bytes_eq-Decides}
 use Rattle.lalrpop_norm_tree_names.specs.declared.names.Span.{Span}
 use Rattle.lalrpop_norm_tree_names.specs.declared.names.NonterminalString.{NonterminalString}
 use Rattle.lalrpop_norm_tree.specs.declared.symbol.RepeatOp.{RepeatOp}
-use Rattle.lalrpop_norm_tree.specs.declared.symbol.RepeatOp.TheVariants.{Star, Plus, Question}
+use Rattle.lalrpop_norm_tree.specs.declared.symbol.RepeatOp.TheVariants.{Star, Plus, Question, Times}
 use Rattle.lalrpop_norm_tree.specs.Symbols as written
 use Rattle.lalrpop_norm_tree.specs.Symbols.{Part, Parts, at, no_parts, part_and}
 use Rattle.lalrpop_norm_tree.specs.Items.{lookahead_code, lookbehind_code, AlternativeData, RuleData, ItemData, GrammarData, match_item, extern_item, intern_item, rule_item, use_item}
 use Rattle.lalrpop_norm_tree.specs.SymbolTexts.{kind_text, part_text}
-use Rattle.lalrpop_norm_theory.specs.Symbols.{Name, ClosedSymbols, reference, call, plus, no_symbols, symbol_and}
+use Rattle.lalrpop_norm_theory.specs.Symbols.{Name, ClosedSymbols, reference, call, plus, replicated, no_symbols, symbol_and}
 use Rattle.lalrpop_norm_theory.specs.Rounds.{In, IsDistinct}
 use Rattle.lalrpop_norm_theory.specs.Meaning.{Meaning}
 use Rattle.lalrpop_norm_theory.specs.Clauses.{Clause, numbered, step_clauses, clauses}
@@ -24,7 +24,7 @@ use Rattle.lalrpop_norm_model.specs.Occurrences.{count_part}
 use Rattle.lalrpop_norm_model.specs.Reading.{read_parts, read_all}
 use Rattle.lalrpop_norm_model.specs.Grammars.{is_nil, is_own_level, bound_of, own_bound_in, rule_reader, parts_at, rule_parts, place_count, previous_bound, arguments_fit, is_true, instance_at, instance_parts, instance_count, ConditionValue, meaning, references}
 use Rattle.lalrpop_norm_model.specs.Scoped.{takes, is_macro_for, is_scoped, are_scoped}
-use Rattle.lalrpop_norm_model.specs.MadeRules.{argument_kind, flat_reader, instance_alternative, instance_alternatives, instance_rule, instance_of, macro_named, group_rule, star_rule, plus_rule, question_rule, location_rule, made_rules}
+use Rattle.lalrpop_norm_model.specs.MadeRules.{argument_kind, flat_reader, instance_alternative, instance_alternatives, instance_rule, instance_of, macro_named, group_rule, star_rule, plus_rule, question_rule, so_many, times_rule, location_rule, made_rules}
 use Rattle.lalrpop_norm_model.specs.PlainRules.{rule_of_item, all_rules, macros_of}
 use Rattle.lalrpop_norm_model.specs.PlainTables.{closed, closed_parts, unwrapped, all_unwrapped, IsRuleOf}
 use Rattle.lalrpop_norm_model.specs.Laws.{MadeRulesAreRead, RulesAreRead}
@@ -188,6 +188,11 @@ whole_rule : (M : Meaning) (p : Part) (r : RuleData) → r.name.0 ≡ part_text 
     map closed_parts r.alternatives ≡ map (λ (c : Clause). c.parts) (clauses M (closed p)) → IsRuleOf M p r
 whole_rule M p r n e = record { name = n; clauses_held = held r.alternatives (clauses M (closed p)) e; held_as_they_are = λ i. e }
 
+many_read : (n before after : ℕ) (p : Part) → read_parts flat_reader before after (so_many n p) ≡ replicated n (closed p)
+many_read zero before after p = refl
+many_read (suc n) before after p =
+    ap₂ symbol_and (flat_part before _ 0 0 p) (many_read n (before + count_part flat_reader.is_own p) after p)
+
 module _ (value : ConditionValue) (ds : List RuleData) where
   abbrev pub meaning_read : Meaning
   meaning_read = meaning value (map flat_of ds)
@@ -285,6 +290,11 @@ module _ (value : ConditionValue) (ds : List RuleData) where
     },
   )
   repeat_made s Question p = (question_rule s p, refl, whole_rule meaning_read (at s (written.repeated Question p)) (question_rule s p) refl refl)
+  repeat_made s (Times n) p = (
+    times_rule s n p,
+    refl,
+    whole_rule meaning_read (at s (written.repeated (Times n) p)) (times_rule s n p) refl (ap (λ gs. gs ∷ []) (many_read n 0 0 p)),
+  )
 
   pub rule_made : (p : Part) → is_scoped (map flat_of ds) [] p ≡ true → BecomesRule (closed p) → OneRule p
   rule_made (at s (written.group ps)) h e = (group_rule s ps, refl, whole_rule meaning_read _ _ refl refl)

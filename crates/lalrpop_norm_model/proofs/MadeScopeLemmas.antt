@@ -1,11 +1,11 @@
 -- In what is met, and so in the made rules, each name has a meaning and no argument is left.
-use Rattle.std.proofs.Common.{◌≡◌, inl, inr, List, [], ◌∷◌, ◌++◌, map, Option, Some, None, Bool, true, false, not, ◌||◌, ◌&&◌, refl, sym, ap, ap₂, ◌∙◌, subst}
+use Rattle.std.proofs.Common.{◌≡◌, inl, inr, ℕ, zero, suc, List, [], ◌∷◌, ◌++◌, map, Option, Some, None, Bool, true, false, not, ◌||◌, ◌&&◌, refl, sym, ap, ap₂, ◌∙◌, subst}
 use Rattle.std.specs.Prelude.{flat_map, bytes_eq, if◌then◌else◌}
 use Rattle.std.proofs.lemmas.Bool.{and_parts}
 use Rattle.lalrpop_norm_tree_names.specs.declared.names.Span.{Span}
 use Rattle.lalrpop_norm_tree_names.specs.declared.names.NonterminalString.{NonterminalString}
 use Rattle.lalrpop_norm_tree.specs.declared.symbol.RepeatOp.{RepeatOp}
-use Rattle.lalrpop_norm_tree.specs.declared.symbol.RepeatOp.TheVariants.{Star, Plus, Question}
+use Rattle.lalrpop_norm_tree.specs.declared.symbol.RepeatOp.TheVariants.{Star, Plus, Question, Times}
 use Rattle.lalrpop_norm_tree.specs.Symbols as written
 use Rattle.lalrpop_norm_tree.specs.Symbols.{Kind, Part, Parts, at, no_parts, part_and}
 use Rattle.lalrpop_norm_tree.specs.Items.{lookahead_code, lookbehind_code, AlternativeData, RuleData}
@@ -19,7 +19,7 @@ use Rattle.lalrpop_norm_model.specs.WrittenRules.{WrittenRule, rule_named}
 use Rattle.lalrpop_norm_model.specs.Reading.{read_all}
 use Rattle.lalrpop_norm_model.specs.Grammars.{is_nil, is_true, ConditionValue}
 use Rattle.lalrpop_norm_model.specs.Scoped.{is_rule, takes, is_macro_for, is_scoped_kind, is_scoped, are_scoped, IsScoped}
-use Rattle.lalrpop_norm_model.specs.MadeRules.{kind_of, argument_kind, or_name, kind_substituted, substituted, all_substituted, flat_reader, instance_alternative, instance_alternatives, instance_rule, instance_of, group_rule, star_rule, plus_rule, question_rule, location_rule, made_rules}
+use Rattle.lalrpop_norm_model.specs.MadeRules.{kind_of, argument_kind, or_name, kind_substituted, substituted, all_substituted, flat_reader, instance_alternative, instance_alternatives, instance_rule, instance_of, group_rule, star_rule, plus_rule, question_rule, so_many, times_rule, location_rule, made_rules}
 use Rattle.lalrpop_norm_model.specs.PlainRules.{met, all_met, met_in_rule, met_by_made}
 use Rattle.lalrpop_norm_model.specs.PlainTables.{closed}
 use Rattle.lalrpop_norm_model.proofs.LevelLemmas.{in_map}
@@ -43,6 +43,11 @@ module _ (rs : List WrittenRule) where
   repeat_expanded s Star p = tt
   repeat_expanded s Plus p = tt
   repeat_expanded s Question p = tt
+  repeat_expanded s (Times n) p = tt
+
+  many_scoped : (n : ℕ) (p : Part) → is_scoped rs [] p ≡ true → are_scoped rs [] (so_many n p) ≡ true
+  many_scoped zero p h = refl
+  many_scoped (suc n) p h = ap₂ ◌&&◌ h (many_scoped n p h)
 
   mutual
     met_made : (p : Part) → is_scoped rs [] p ≡ true → (q : Part) → In q (met p) → IsMade q
@@ -205,6 +210,8 @@ module _ (value : ConditionValue) (ds : List RuleData) (S : IsScoped (map flat_o
   made_rule_scoped (at s (written.repeated Star p)) h r i = only_scoped (map flat_of ds) (star_rule s p) r (refl, (rw h.0 refl, tt)) i
   made_rule_scoped (at s (written.repeated Plus p)) h r i = only_scoped (map flat_of ds) (plus_rule s p) r (rw h.0 refl, (rw h.0 refl, tt)) i
   made_rule_scoped (at s (written.repeated Question p)) h r i = only_scoped (map flat_of ds) (question_rule s p) r (rw h.0 refl, (refl, tt)) i
+  made_rule_scoped (at s (written.repeated (Times n) p)) h r i =
+      only_scoped (map flat_of ds) (times_rule s n p) r (many_scoped (map flat_of ds) n p h.0, tt) i
   made_rule_scoped (at s written.lookahead) h r i = only_scoped (map flat_of ds) (location_rule s written.lookahead lookahead_code) r (refl, tt) i
   made_rule_scoped (at s written.lookbehind) h r i = only_scoped (map flat_of ds) (location_rule s written.lookbehind lookbehind_code) r (refl, tt) i
   made_rule_scoped (at s (written.ambiguous_id a)) h r i = absurd i

@@ -3,11 +3,11 @@ use Rattle.std.proofs.Common.{◌≡◌, inl, inr, ℕ, ◌+◌, List, [], ◌�
 use Rattle.std.specs.Prelude.{flat_map, None}
 use Rattle.std.proofs.lemmas.List.{map-append}
 use Rattle.lalrpop_norm_tree.specs.declared.symbol.RepeatOp.{RepeatOp}
-use Rattle.lalrpop_norm_tree.specs.declared.symbol.RepeatOp.TheVariants.{Star, Plus, Question}
+use Rattle.lalrpop_norm_tree.specs.declared.symbol.RepeatOp.TheVariants.{Star, Plus, Question, Times}
 use Rattle.lalrpop_norm_tree.specs.Symbols as written
 use Rattle.lalrpop_norm_tree.specs.Symbols.{Part, Parts, at, no_parts, part_and}
 use Rattle.lalrpop_norm_tree.specs.Items.{AlternativeData, RuleData}
-use Rattle.lalrpop_norm_theory.specs.Symbols.{ClosedSymbol, ClosedSymbols, terminal, error, reference, call, group, star, plus, question, wrapped, lookahead, lookbehind, no_symbols, symbol_and}
+use Rattle.lalrpop_norm_theory.specs.Symbols.{ClosedSymbol, ClosedSymbols, terminal, error, reference, call, group, star, plus, question, times, wrapped, lookahead, lookbehind, no_symbols, symbol_and}
 use Rattle.lalrpop_norm_theory.specs.Rounds.{In}
 use Rattle.lalrpop_norm_theory.specs.Meaning.{Meaning}
 use Rattle.lalrpop_norm_theory.specs.Clauses.{Clause, clauses}
@@ -34,6 +34,7 @@ repeat_meets : (op : RepeatOp) (g : ClosedSymbol) → meets g ++ repeat_of op g 
 repeat_meets Star g = refl
 repeat_meets Plus g = refl
 repeat_meets Question g = refl
+repeat_meets (Times n) g = refl
 
 mutual
   pub met_read : (before after : ℕ) (p : Part) → map closed (met p) ≡ meets (read_part flat_reader before after p)
@@ -73,6 +74,7 @@ unwrapped_meets (group gs) = refl
 unwrapped_meets (star g) = refl
 unwrapped_meets (plus g) = refl
 unwrapped_meets (question g) = refl
+unwrapped_meets (times n g) = refl
 unwrapped_meets lookahead = refl
 unwrapped_meets lookbehind = refl
 

@@ -3,12 +3,12 @@ use Rattle.std.proofs.Common.{◌≡◌, inl, inr, ℕ, ◌+◌, List, [], ◌�
 use Rattle.std.specs.Prelude.{flat_map, drop, None}
 use Rattle.std.proofs.lemmas.List.{length-append, length-map}
 use Rattle.lalrpop_norm_tree.specs.declared.symbol.RepeatOp.{RepeatOp}
-use Rattle.lalrpop_norm_tree.specs.declared.symbol.RepeatOp.TheVariants.{Star, Plus, Question}
+use Rattle.lalrpop_norm_tree.specs.declared.symbol.RepeatOp.TheVariants.{Star, Plus, Question, Times}
 use Rattle.lalrpop_norm_tree.specs.Symbols as written
 use Rattle.lalrpop_norm_tree.specs.Symbols.{Kind, Part, Parts, at, no_parts, part_and}
 use Rattle.lalrpop_norm_tree.specs.Items.{AlternativeData, RuleData, GrammarData}
 use Rattle.lalrpop_norm_tree.specs.SymbolTexts.{kind_text}
-use Rattle.lalrpop_norm_theory.specs.Symbols.{Name, ClosedSymbol, ClosedSymbols, terminal, error, reference, call, group, star, plus, question, wrapped, lookahead, lookbehind, no_symbols, symbol_and}
+use Rattle.lalrpop_norm_theory.specs.Symbols.{Name, ClosedSymbol, ClosedSymbols, terminal, error, reference, call, group, star, plus, question, times, wrapped, lookahead, lookbehind, no_symbols, symbol_and}
 use Rattle.lalrpop_norm_theory.specs.Rounds.{In}
 use Rattle.lalrpop_norm_theory.specs.Meaning.{Meaning}
 use Rattle.lalrpop_norm_theory.specs.LoweredTrees.{nonterminal_symbol, Origin}
@@ -42,6 +42,7 @@ module _ (rs : List WrittenRule) where
   repeat_named Star g = refl
   repeat_named Plus g = refl
   repeat_named Question g = refl
+  repeat_named (Times n) g = refl
 
   mutual
     kind_lowered : (before after : ℕ) (k : Kind) → plain_symbol_kind (replaced_kind k) ≡ symbol_of (text_in rs) (read_kind flat_reader before after k)
@@ -79,6 +80,7 @@ module _ (name : ClosedSymbol → Name) where
   unwrapped_symbol (star g) = refl
   unwrapped_symbol (plus g) = refl
   unwrapped_symbol (question g) = refl
+  unwrapped_symbol (times n g) = refl
   unwrapped_symbol lookahead = refl
   unwrapped_symbol lookbehind = refl
 

@@ -4,7 +4,7 @@ use Rattle.std.specs.Prelude.{not, if◌then◌else◌}
 use Rattle.std.proofs.lemmas.Bool.{and_parts}
 use Rattle.lalrpop_norm_tree_names.specs.declared.names.NonterminalString.{NonterminalString}
 use Rattle.lalrpop_norm_tree.specs.declared.symbol.RepeatOp.{RepeatOp}
-use Rattle.lalrpop_norm_tree.specs.declared.symbol.RepeatOp.TheVariants.{Star, Plus, Question}
+use Rattle.lalrpop_norm_tree.specs.declared.symbol.RepeatOp.TheVariants.{Star, Plus, Question, Times}
 use Rattle.lalrpop_norm_tree.specs.Symbols as written
 use Rattle.lalrpop_norm_tree.specs.Symbols.{Kind, Part, Parts, at, no_parts, part_and}
 use Rattle.lalrpop_norm_theory.specs.Symbols.{Name, chosen, named, tuple, ClosedSymbol, call, group, wrapped, symbol_and}
@@ -20,6 +20,7 @@ repeat_leveled : (l : Name → ℕ → Name) (op : RepeatOp) (x : ClosedSymbol) 
 repeat_leveled l Star x = refl
 repeat_leveled l Plus x = refl
 repeat_leveled l Question x = refl
+repeat_leveled l (Times n) x = refl
 
 -- R reads the symbols with bounds, Q what the grammar with levels has in their place
 module _ (rs : List WrittenRule) (args : List NonterminalString) (l : Name → ℕ → Name) (R Q : Reader) (level : ℕ → ℕ → Name)

@@ -2,7 +2,7 @@
 use Rattle.std.proofs.Common.{◌≡◌, ℕ, suc, ◌+◌, List, [], ◌∷◌, ◌++◌, map, length, Option, Some, None, Bool, true, false, ◌&&◌, refl, sym, ap, ap₂, ◌∙◌, arith}
 use Rattle.std.specs.Prelude.{option_map, slice_get, if◌then◌else◌}
 use Rattle.std.proofs.lemmas.List.{map-append}
-use Rattle.lalrpop_norm_theory.specs.Symbols.{Name, ClosedSymbol, ClosedSymbols, terminal, error, reference, call, group, star, plus, question, wrapped, lookahead, lookbehind}
+use Rattle.lalrpop_norm_theory.specs.Symbols.{Name, ClosedSymbol, ClosedSymbols, terminal, error, reference, call, group, star, plus, question, times, wrapped, lookahead, lookbehind}
 use Rattle.lalrpop_norm_theory.specs.LoweredTrees.{written}
 use Rattle.lalrpop_norm_theory.specs.Clauses.{Clause, clause, clause_and, numbered, step_clauses, clauses}
 use Rattle.lalrpop_norm_model.specs.Enabled.{present}
@@ -174,6 +174,7 @@ clauses_ranked value rs (group gs) = refl
 clauses_ranked value rs (star x) = refl
 clauses_ranked value rs (plus x) = refl
 clauses_ranked value rs (question x) = refl
+clauses_ranked value rs (times n x) = refl
 clauses_ranked value rs lookahead = refl
 clauses_ranked value rs lookbehind = refl
 

@@ -1,13 +1,13 @@
 -- Where a grammar only renumbers another, its trees are those of the other, renumbered.
-use Rattle.std.proofs.Common.{◌≡◌, ℕ, List, ◌∷◌, ◌++◌, map, Option, Some, refl, sym, ap, ap₂, ◌∙◌, subst}
+use Rattle.std.proofs.Common.{◌≡◌, ℕ, suc, List, ◌∷◌, ◌++◌, map, Option, Some, refl, sym, ap, ap₂, ◌∙◌, subst}
 use Rattle.std.proofs.lemmas.List.{map-append}
-use Rattle.lalrpop_norm_theory.specs.Symbols.{Name, ClosedSymbol, ClosedSymbols, terminal, error, reference, call, group, star, plus, question, wrapped, lookahead, lookbehind, no_symbols, symbol_and}
+use Rattle.lalrpop_norm_theory.specs.Symbols.{Name, ClosedSymbol, ClosedSymbols, terminal, error, reference, call, group, star, plus, question, times, wrapped, lookahead, lookbehind, no_symbols, symbol_and}
 use Rattle.lalrpop_norm_theory.specs.Meaning.{Meaning}
 use Rattle.lalrpop_norm_theory.specs.LoweredTrees.{ProductionTable}
 use Rattle.lalrpop_norm_theory.specs.Met.{IsResolvedIn}
 use Rattle.lalrpop_norm_theory.specs.Pairs.{Pairs}
 use Rattle.lalrpop_norm_theory.specs.Laws.{OneToOne, LevelsAreTwoSteps}
-use Rattle.lalrpop_norm_theory.specs.WrittenTrees.{WrittenTree, WrittenTrees, leaf, nothing, list, node, no_trees, tree_and, IsNonempty, IsAtMostOne, IsTreeOf, AreTreesOf, EachTreeOf, yield, yields, alternatives, alternatives_of}
+use Rattle.lalrpop_norm_theory.specs.WrittenTrees.{WrittenTree, WrittenTrees, leaf, nothing, list, node, no_trees, tree_and, IsNonempty, IsAtMostOne, tree_count, IsTreeOf, AreTreesOf, EachTreeOf, yield, yields, alternatives, alternatives_of}
 use Rattle.lalrpop_norm_model.specs.WrittenRules.{written_rules, leveled_rules}
 use Rattle.lalrpop_norm_model.specs.Grammars.{meaning}
 use Rattle.lalrpop_norm_model.specs.Renumbered.{prepared_grammar, rank_by, AreRanked, IsRenumbered, renumbered, renumbered_trees, ranked, TreesAreRenumbered, OneToOneByRank}
@@ -48,6 +48,10 @@ module _ (rank : Name → ℕ → ℕ) where
   one_left (tree_and t no_trees) h = h
   one_left (tree_and t (tree_and s ts)) h = h
 
+  count_left : (ts : WrittenTrees) → tree_count (renumbered_trees rank ts) ≡ tree_count ts
+  count_left no_trees = refl
+  count_left (tree_and t ts) = ap suc (count_left ts)
+
   some_before : (ts : WrittenTrees) → IsNonempty (renumbered_trees rank ts) → IsNonempty ts
   some_before no_trees h = h
   some_before (tree_and t ts) h = h
@@ -69,6 +73,7 @@ module _ (M N : Meaning) (rank : Name → ℕ → ℕ) (R : IsRenumbered M N ran
     tree_down (list ts) (star x) h = each_down ts x h
     tree_down (list ts) (plus x) h = (some_left rank ts h.0, each_down ts x h.1)
     tree_down (list ts) (question x) h = (one_left rank ts h.0, each_down ts x h.1)
+    tree_down (list ts) (times n x) h = (count_left rank ts ∙ h.0, each_down ts x h.1)
     tree_down (node n k ts) (reference m b) (same, parts, e, hs) =
         (same, parts, rw same ((R.rules m b).kept k parts e), trees_down ts parts hs)
     tree_down (node n k ts) (call m args) (same, parts, e, hs) =
@@ -110,6 +115,9 @@ module _ (M N : Meaning) (rank : Name → ℕ → ℕ) (R : IsRenumbered M N ran
     tree_up (list us) (question x) h =
         let (ts, i, e) = each_up us x h.1 in
         (list ts, (one_before rank ts (subst IsAtMostOne (sym e) h.0), i), ap list e)
+    tree_up (list us) (times n x) h =
+        let (ts, i, e) = each_up us x h.1 in
+        (list ts, (sym (count_left rank ts) ∙ ap tree_count e ∙ h.0, i), ap list e)
     tree_up (node n j us) (reference m b) (same, parts, e, hs) =
         let (k, q, unique) = (R.rules m b).reached j parts e in
         let (ts, i, f) = trees_up us parts hs in
@@ -178,6 +186,7 @@ module _ (M N : Meaning) (rank : Name → ℕ → ℕ) (R : IsRenumbered M N ran
     one_tree (list ts) (list rs) (star x) h i e = ap list (each_one ts rs x h i (ap (children_in) e))
     one_tree (list ts) (list rs) (plus x) h i e = ap list (each_one ts rs x h.1 i.1 (ap (children_in) e))
     one_tree (list ts) (list rs) (question x) h i e = ap list (each_one ts rs x h.1 i.1 (ap (children_in) e))
+    one_tree (list ts) (list rs) (times n x) h i e = ap list (each_one ts rs x h.1 i.1 (ap (children_in) e))
     one_tree (node n k ts) (node m l rs) (reference p b) (same, parts, there, hs) (like, others, here, is) e =
         let ranks : rank p k ≡ rank p l = ap (λ (x : Name). rank x k) (sym same) ∙ ap number_in e ∙ ap (λ (x : Name). rank x l) like in
         let one = one_number (M.reference_parts p b) (N.reference_parts p b) (rank p) (R.rules p b) k l parts others there here ranks in

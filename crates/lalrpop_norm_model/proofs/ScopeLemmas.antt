@@ -5,7 +5,7 @@ use Rattle.std.proofs.lemmas.Bool.{and_parts}
 use Rattle.std.proofs.lemmas.Slice.Eq.{bytes_eq-Decides}
 use Rattle.lalrpop_norm_tree_names.specs.declared.names.NonterminalString.{NonterminalString}
 use Rattle.lalrpop_norm_tree.specs.declared.symbol.RepeatOp.{RepeatOp}
-use Rattle.lalrpop_norm_tree.specs.declared.symbol.RepeatOp.TheVariants.{Star, Plus, Question}
+use Rattle.lalrpop_norm_tree.specs.declared.symbol.RepeatOp.TheVariants.{Star, Plus, Question, Times}
 use Rattle.lalrpop_norm_tree.specs.Symbols as written
 use Rattle.lalrpop_norm_tree.specs.Symbols.{Kind, Part, Parts, at, no_parts, part_and}
 use Rattle.lalrpop_norm_theory.specs.Symbols.{Name, ClosedSymbol, ClosedSymbols, reference, no_symbols, symbol_and}
@@ -98,6 +98,7 @@ module _ (rs : List WrittenRule) (S : IsScoped rs) where
     repeat_resolved Star x h = h
     repeat_resolved Plus x h = h
     repeat_resolved Question x h = h
+    repeat_resolved (Times n) x h = h
 
     mutual
       kind_resolved : (before after : ℕ) (k : Kind) → is_scoped_kind rs args k ≡ true → IsResolvedIn (references rs) (read_kind R before after k)

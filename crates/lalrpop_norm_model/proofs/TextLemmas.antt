@@ -6,7 +6,7 @@ use Rattle.lalrpop_norm_tree_names.specs.declared.names.TerminalString.TheVarian
 use Rattle.lalrpop_norm_tree_names.specs.declared.names.TerminalLiteral.{TerminalLiteral}
 use Rattle.lalrpop_norm_tree_names.specs.declared.names.TerminalLiteral.TheVariants.{Quoted, Regex}
 use Rattle.lalrpop_norm_tree.specs.declared.symbol.RepeatOp.{RepeatOp}
-use Rattle.lalrpop_norm_tree.specs.declared.symbol.RepeatOp.TheVariants.{Star, Plus, Question}
+use Rattle.lalrpop_norm_tree.specs.declared.symbol.RepeatOp.TheVariants.{Star, Plus, Question, Times}
 use Rattle.lalrpop_norm_tree.specs.Symbols.{ArgumentPattern, one_name, several, ArgumentPatterns, no_arguments, argument_and, Kind, group, ambiguous_id, terminal, nonterminal, call, repeated, chosen, named, tupled, lookahead, lookbehind, error_terminal, Part, at, Parts, no_parts, part_and}
 use Rattle.lalrpop_norm_tree_names.specs.Texts as displayed
 use Rattle.lalrpop_norm_tree_names.specs.Texts.{joined}
@@ -42,6 +42,7 @@ module _ (name : Name → Option ℕ → Name) (by_name : (n : Name) → name n 
   repeat_displayed Star x = refl
   repeat_displayed Plus x = refl
   repeat_displayed Question x = refl
+  repeat_displayed (Times n) x = refl
 
   mutual
     pub kind_displayed : (before after : ℕ) (k : Kind) → closed_text name (read_kind flat_reader before after k) ≡ kind_text k

@@ -5,7 +5,7 @@ use Rattle.std.proofs.Math.Path.{fun_ext}
 use Rattle.std.proofs.lemmas.Option.{slice_get-map}
 use Rattle.lalrpop_norm_tree.specs.Items.{GrammarData}
 use Rattle.lalrpop_norm_theory.specs.Symbols.{Name, ClosedSymbol, ClosedSymbols, reference, call}
-use Rattle.lalrpop_norm_theory.specs.LoweredTrees.{Origin, from_start, written, level_step, from_group, star_empty, star_some, plus_one, plus_more, question_some, question_empty, from_lookahead, from_lookbehind}
+use Rattle.lalrpop_norm_theory.specs.LoweredTrees.{Origin, from_start, written, level_step, from_group, star_empty, star_some, plus_one, plus_more, question_some, question_empty, from_times, from_lookahead, from_lookbehind}
 use Rattle.lalrpop_norm_theory.specs.Meaning.{Meaning}
 use Rattle.lalrpop_norm_theory.specs.Clauses.{Clause, clause, clauses}
 use Rattle.lalrpop_norm_theory.specs.Rounds.{In}
@@ -71,6 +71,7 @@ unwritten plus_one = refl
 unwritten plus_more = refl
 unwritten question_some = refl
 unwritten question_empty = refl
+unwritten from_times = refl
 unwritten from_lookahead = refl
 unwritten from_lookbehind = refl
 

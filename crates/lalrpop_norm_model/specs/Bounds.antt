@@ -5,7 +5,7 @@ use Rattle.std.specs.Prelude.{bytes_eq, if◌then◌else◌}
 use Rattle.lalrpop_norm_tree_names.specs.declared.names.NonterminalString.{NonterminalString}
 use Rattle.lalrpop_norm_tree.specs.declared.items.Condition.{Condition}
 use Rattle.lalrpop_norm_theory.specs.Symbols.{Name, quoted, ClosedSymbol, ClosedSymbols, terminal, error, reference, call, group}
-use Rattle.lalrpop_norm_theory.specs.Symbols.{star, plus, question, wrapped, lookahead, lookbehind, no_symbols, symbol_and}
+use Rattle.lalrpop_norm_theory.specs.Symbols.{star, plus, question, times, wrapped, lookahead, lookbehind, no_symbols, symbol_and}
 use Rattle.lalrpop_norm_model.specs.Levels.{Side, left, right, neither, every}
 use Rattle.lalrpop_norm_model.specs.Grammars.{ConditionValue, bound_argument}
 
@@ -18,6 +18,7 @@ abbrev mutual
   bounds_to n (star x) = bounds_to n x
   bounds_to n (plus x) = bounds_to n x
   bounds_to n (question x) = bounds_to n x
+  bounds_to n (times k x) = bounds_to n x
   bounds_to n (wrapped w x) = bounds_to n x
   bounds_to n (terminal t) = []
   bounds_to n error = []

@@ -5,7 +5,7 @@ use Rattle.lalrpop_norm_tree_names.specs.Texts.{escape, joined}
 use Rattle.lalrpop_norm_theory.specs.Symbols.{Name, Terminal, quoted, regex, bare, error_terminal, ClosedPattern, ClosedPatterns}
 use Rattle.lalrpop_norm_theory.specs.Symbols.{name_pattern, tuple_pattern, no_patterns, pattern_and, Wrapper, chosen, named}
 use Rattle.lalrpop_norm_theory.specs.Symbols.{tuple, ClosedSymbol, ClosedSymbols, terminal, error, reference, call, group, star}
-use Rattle.lalrpop_norm_theory.specs.Symbols.{plus, question, wrapped, lookahead, lookbehind, no_symbols, symbol_and}
+use Rattle.lalrpop_norm_theory.specs.Symbols.{plus, question, times, wrapped, lookahead, lookbehind, no_symbols, symbol_and}
 use Rattle.lalrpop_norm_model.specs.Levels.{highest_level}
 use Rattle.lalrpop_norm_model.specs.WrittenRules.{WrittenRule, rule_named}
 
@@ -42,6 +42,7 @@ abbrev mutual
   closed_text name (star x) = closed_text name x ++ codes "*"
   closed_text name (plus x) = closed_text name x ++ codes "+"
   closed_text name (question x) = closed_text name x ++ codes "?"
+  closed_text name (times n x) = closed_text name x ++ codes "{" ++ decimal n ++ codes "}"
   closed_text name (wrapped w g) = wrapped_text w (closed_text name g)
   closed_text name lookahead = codes "@L"
   closed_text name lookbehind = codes "@R"

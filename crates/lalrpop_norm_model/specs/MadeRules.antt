@@ -1,17 +1,17 @@
 -- What each macro call, group, repeat and lookaround is made into: a rule, as a function of the symbol where it was first met.
 -- The symbols of its alternatives are written ones, with the arguments substituted; nothing in them is a name yet of what it is made
 -- into. A symbol whose type is put into a declared type stands there replaced.
-use Rattle.std.specs.Prelude.{ℕ, Bool, true, false, ◌||◌, List, [], ◌∷◌, map, Option, Some, None, option_map, codes}
+use Rattle.std.specs.Prelude.{ℕ, replicate, Bool, true, false, ◌||◌, List, [], ◌∷◌, map, Option, Some, None, option_map, codes}
 use Rattle.std.specs.Prelude.{bytes_eq, if◌then◌else◌}
 use Rattle.lalrpop_norm_tree_names.specs.declared.names.Span.{Span}
 use Rattle.lalrpop_norm_tree_names.specs.declared.names.NonterminalString.{NonterminalString}
 use Rattle.lalrpop_norm_tree.specs.declared.symbol.RepeatOp.{RepeatOp}
-use Rattle.lalrpop_norm_tree.specs.declared.symbol.RepeatOp.TheVariants.{Star, Plus, Question}
+use Rattle.lalrpop_norm_tree.specs.declared.symbol.RepeatOp.TheVariants.{Star, Plus, Question, Times}
 use Rattle.lalrpop_norm_tree_parts.specs.Attributes.{Attributes, attribute, empty, no_attributes, attribute_and}
 use Rattle.lalrpop_norm_tree_parts.specs.Paths.{PathData}
 use Rattle.lalrpop_norm_tree_parts.specs.Accessors.{path_of}
 use Rattle.lalrpop_norm_tree.specs.Symbols.{Kind, Part, Parts, group, ambiguous_id, terminal, nonterminal, call, repeated, chosen}
-use Rattle.lalrpop_norm_tree.specs.Symbols.{named, tupled, lookahead, lookbehind, error_terminal, at, no_parts, part_and}
+use Rattle.lalrpop_norm_tree.specs.Symbols.{named, tupled, lookahead, lookbehind, error_terminal, at, no_parts, part_and, parts_of}
 use Rattle.lalrpop_norm_tree.specs.Types.{TypeData, TypesData, MaybeType, tuple, slice, nominal, reference, trait_object}
 use Rattle.lalrpop_norm_tree.specs.Types.{of_lifetime, id, of_symbol, function, no_types, type_and, no_type, returns, types_of}
 use Rattle.lalrpop_norm_tree.specs.Items.{Action, user_code, lookahead_code, lookbehind_code, AlternativeData, RuleData, private}
@@ -104,6 +104,10 @@ group_rule s ps =
 abbrev pub only_part : Part → Parts
 only_part p = part_and p no_parts
 
+-- one symbol so many times
+abbrev pub so_many : ℕ → Part → Parts
+so_many n p = parts_of (replicate n p)
+
 -- a symbol with a name of its own, at s
 abbrev pub with_name : Span → List ℕ → Part → Part
 with_name s n p = at s (named (record { mutable = false; name = n }) p)
@@ -139,10 +143,17 @@ question_rule s p =
     private_rule s (repeated Question p) (inline_at s) (Some (holding option_path p))
     (coded s (only_part p) (codes "Some(<>)") ∷ coded s no_parts (codes "None") ∷ [])
 
+-- `X{n}`: n times `X`
+abbrev pub times_rule : Span → ℕ → Part → RuleData
+times_rule s n p =
+    private_rule s (repeated (Times n) p) (inline_at s) (Some (holding vector_path p))
+    (coded s (so_many n p) (codes "alloc::vec![<>]") ∷ [])
+
 abbrev pub repeat_rule : Span → RepeatOp → Part → RuleData
 repeat_rule s Star p = star_rule s p
 repeat_rule s Plus p = plus_rule s p
 repeat_rule s Question p = question_rule s p
+repeat_rule s (Times n) p = times_rule s n p
 
 -- ---- lookarounds
 

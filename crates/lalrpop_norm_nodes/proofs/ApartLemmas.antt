@@ -6,10 +6,10 @@ use Rattle.lalrpop_norm_tree_names.specs.declared.names.TerminalString.TheVarian
 use Rattle.lalrpop_norm_tree_names.specs.declared.names.TerminalLiteral.{TerminalLiteral}
 use Rattle.lalrpop_norm_tree_names.specs.declared.names.TerminalLiteral.TheVariants.{Quoted, Regex}
 use Rattle.lalrpop_norm_tree.specs.declared.symbol.RepeatOp.{RepeatOp}
-use Rattle.lalrpop_norm_tree.specs.declared.symbol.RepeatOp.TheVariants.{Star, Plus, Question}
+use Rattle.lalrpop_norm_tree.specs.declared.symbol.RepeatOp.TheVariants.{Star, Plus, Question, Times}
 use Rattle.lalrpop_norm_tree.specs.Symbols as written
 use Rattle.lalrpop_norm_tree.specs.Symbols.{Kind, Part, Parts, at, no_parts, part_and}
-use Rattle.lalrpop_norm_theory.specs.Symbols.{Terminal, quoted, regex, bare, error_terminal, ClosedPattern, ClosedPatterns, name_pattern, tuple_pattern, no_patterns, pattern_and, Wrapper, chosen, named, tuple, ClosedSymbol, ClosedSymbols, terminal, error, reference, call, group, star, plus, question, wrapped, lookahead, lookbehind, no_symbols, symbol_and}
+use Rattle.lalrpop_norm_theory.specs.Symbols.{Terminal, quoted, regex, bare, error_terminal, ClosedPattern, ClosedPatterns, name_pattern, tuple_pattern, no_patterns, pattern_and, Wrapper, chosen, named, tuple, ClosedSymbol, ClosedSymbols, terminal, error, reference, call, group, star, plus, question, times, wrapped, lookahead, lookbehind, no_symbols, symbol_and}
 use Rattle.lalrpop_norm_theory.proofs.SameLemmas.{symbol_test}
 use Rattle.lalrpop_norm_theory.proofs.BoolLemmas.{both_ways}
 use Rattle.lalrpop_norm_model.specs.Occurrences.{count_part, count_parts}
@@ -77,6 +77,7 @@ mutual
   kind_back (star g) = written.repeated Star (at nowhere (kind_back g))
   kind_back (plus g) = written.repeated Plus (at nowhere (kind_back g))
   kind_back (question g) = written.repeated Question (at nowhere (kind_back g))
+  kind_back (times n g) = written.repeated (Times n) (at nowhere (kind_back g))
   kind_back (wrapped w g) = wrapped_back w (at nowhere (kind_back g))
   kind_back lookahead = written.lookahead
   kind_back lookbehind = written.lookbehind
@@ -112,6 +113,7 @@ unfolding kind_back
 repeat_is Star g = refl
 repeat_is Plus g = refl
 repeat_is Question g = refl
+repeat_is (Times n) g = refl
 
 mutual
   unfolding kind_back parts_back wrapped_back

@@ -1,7 +1,7 @@
 -- The numbers that nodes have for what their symbols are made of.
 use Rattle.std.proofs.Common.{◌≡◌, ℕ, List, [], ◌∷◌, true, false, map, Some, None, slice_get, refl, sym, ap, ◌∙◌}
 use Rattle.lalrpop_norm_tree.specs.Symbols.{Kind, Part, parts_of, call, repeated}
-use Rattle.lalrpop_norm_tree.specs.declared.symbol.RepeatOp.TheVariants.{Star, Plus, Question}
+use Rattle.lalrpop_norm_tree.specs.declared.symbol.RepeatOp.TheVariants.{Star, Plus, Question, Times}
 use Rattle.lalrpop_norm_model.specs.MadeRules.{kind_of, all_kinds}
 use Rattle.lalrpop_norm_nodes.specs.declared.node.Node.{Node}
 use Rattle.lalrpop_norm_nodes.specs.declared.node.Node.TheVariants as node
@@ -49,6 +49,7 @@ call_of ws (node.Unary unary.Group l) k h e holds = no_call ws _ k _ refl e hold
 call_of ws (node.Unary unary.Star n) k h e holds = no_call ws _ k _ refl e holds
 call_of ws (node.Unary unary.Plus n) k h e holds = no_call ws _ k _ refl e holds
 call_of ws (node.Unary unary.Question n) k h e holds = no_call ws _ k _ refl e holds
+call_of ws (node.Unary (unary.Times c) n) k h e holds = no_call ws _ k _ refl e holds
 call_of ws (node.Unary unary.Chosen n) k h e holds = no_call ws _ k _ refl e holds
 call_of ws (node.Unary unary.Several l) k h e holds = absurd (cc e)
 call_of ws (node.Binary binary.Symbols l n) k h e holds = absurd (cc e)
@@ -67,6 +68,7 @@ repeat_of : (ws : List Whole) (n : Node) (k : Kind) → RepeatOf ws n k
 repeat_of ws (node.Unary unary.Star n) k h e holds = let same : repeated Star (part_at ws n) ≡ k = cc e in h ∙ ap (λ (j : Kind). Some (one_symbol (repeated_kind j))) same
 repeat_of ws (node.Unary unary.Plus n) k h e holds = let same : repeated Plus (part_at ws n) ≡ k = cc e in h ∙ ap (λ (j : Kind). Some (one_symbol (repeated_kind j))) same
 repeat_of ws (node.Unary unary.Question n) k h e holds = let same : repeated Question (part_at ws n) ≡ k = cc e in h ∙ ap (λ (j : Kind). Some (one_symbol (repeated_kind j))) same
+repeat_of ws (node.Unary (unary.Times c) n) k h e holds = let same : repeated (Times c) (part_at ws n) ≡ k = cc e in h ∙ ap (λ (j : Kind). Some (one_symbol (repeated_kind j))) same
 repeat_of ws (node.Unary unary.Group l) k h e holds = no_repeat ws _ k _ refl e holds
 repeat_of ws (node.Unary unary.Chosen n) k h e holds = no_repeat ws _ k _ refl e holds
 repeat_of ws (node.Unary unary.Several l) k h e holds = absurd (cc e)
@@ -106,6 +108,7 @@ row_of ws (node.Unary unary.Group l) ps h e = absurd (cc e)
 row_of ws (node.Unary unary.Star n) ps h e = absurd (cc e)
 row_of ws (node.Unary unary.Plus n) ps h e = absurd (cc e)
 row_of ws (node.Unary unary.Question n) ps h e = absurd (cc e)
+row_of ws (node.Unary (unary.Times c) n) ps h e = absurd (cc e)
 row_of ws (node.Unary unary.Chosen n) ps h e = absurd (cc e)
 row_of ws (node.Unary unary.Several l) ps h e = absurd (cc e)
 row_of ws (node.NamedUnary named_unary.Call a l) ps h e = absurd (cc e)

@@ -65,6 +65,7 @@ unary_sound unary.Group unary.Group e = refl
 unary_sound unary.Star unary.Star e = refl
 unary_sound unary.Plus unary.Plus e = refl
 unary_sound unary.Question unary.Question e = refl
+unary_sound (unary.Times m) (unary.Times n) e = ap unary.Times (eqb-true m n e)
 unary_sound unary.Chosen unary.Chosen e = refl
 unary_sound unary.Several unary.Several e = refl
 unary_sound _ _ e = absurd (cc e)
@@ -128,6 +129,7 @@ unary_complete unary.Group = refl
 unary_complete unary.Star = refl
 unary_complete unary.Plus = refl
 unary_complete unary.Question = refl
+unary_complete (unary.Times n) = eq-eqb n n refl
 unary_complete unary.Chosen = refl
 unary_complete unary.Several = refl
 

@@ -2,7 +2,7 @@
 use Rattle.std.proofs.Common.{◌≡◌, ℕ, ◌<◌, suc, zero, List, [], ◌∷◌, ◌++◌, length, Some, slice_get, refl, sym, ap, ap₂, ◌∙◌, subst, arith, if◌then◌else◌, true, false, get_or}
 use Rattle.std.proofs.lemmas.Option.{slice_get_within, slice_get-get_or}
 use Rattle.std.proofs.lemmas.List.{length-append}
-use Rattle.lalrpop_norm_tree.specs.declared.symbol.RepeatOp.TheVariants.{Star, Plus, Question}
+use Rattle.lalrpop_norm_tree.specs.declared.symbol.RepeatOp.TheVariants.{Star, Plus, Question, Times}
 use Rattle.lalrpop_norm_tree.specs.Symbols.{ArgumentPattern, ArgumentPatterns, one_name, several, argument_patterns_of, Kind, Part, Parts, parts_of, group, ambiguous_id, terminal, nonterminal, call, repeated, chosen, named, tupled, lookahead, lookbehind, error_terminal, at}
 use Rattle.lalrpop_norm_nodes.specs.Apart.{nowhere}
 use Rattle.lalrpop_norm_nodes.proofs.ListedLemmas.{parts_apart, patterns_apart}
@@ -83,6 +83,7 @@ module _ (ws more : List Whole) where
   built_stays (node.Unary unary.Star n) h = ap (λ (k : Kind). one_symbol (repeated Star (at nowhere k))) (symbol_stays n h)
   built_stays (node.Unary unary.Plus n) h = ap (λ (k : Kind). one_symbol (repeated Plus (at nowhere k))) (symbol_stays n h)
   built_stays (node.Unary unary.Question n) h = ap (λ (k : Kind). one_symbol (repeated Question (at nowhere k))) (symbol_stays n h)
+  built_stays (node.Unary (unary.Times c) n) h = ap (λ (k : Kind). one_symbol (repeated (Times c) (at nowhere k))) (symbol_stays n h)
   built_stays (node.Unary unary.Chosen n) h = ap (λ (k : Kind). one_symbol (chosen (at nowhere k))) (symbol_stays n h)
   built_stays (node.NamedUnary named_unary.Named a n) h = ap (λ (k : Kind). one_symbol (named (record { mutable = false; name = a }) (at nowhere k))) (symbol_stays n h)
   built_stays (node.NamedUnary named_unary.NamedMut a n) h = ap (λ (k : Kind). one_symbol (named (record { mutable = true; name = a }) (at nowhere k))) (symbol_stays n h)
@@ -106,6 +107,7 @@ module _ (ws more : List Whole) where
   fits_stays (node.Unary unary.Star n) h = is_kind_stays n h
   fits_stays (node.Unary unary.Plus n) h = is_kind_stays n h
   fits_stays (node.Unary unary.Question n) h = is_kind_stays n h
+  fits_stays (node.Unary (unary.Times c) n) h = is_kind_stays n h
   fits_stays (node.Unary unary.Chosen n) h = is_kind_stays n h
   fits_stays (node.NamedUnary named_unary.Named a n) h = is_kind_stays n h
   fits_stays (node.NamedUnary named_unary.NamedMut a n) h = is_kind_stays n h
@@ -196,6 +198,7 @@ IsNodeOf ws (one_symbol (call a ps)) n = OfSymbols ws (node.NamedUnary named_una
 IsNodeOf ws (one_symbol (repeated Star p)) n = OfPart ws (node.Unary unary.Star) p n
 IsNodeOf ws (one_symbol (repeated Plus p)) n = OfPart ws (node.Unary unary.Plus) p n
 IsNodeOf ws (one_symbol (repeated Question p)) n = OfPart ws (node.Unary unary.Question) p n
+IsNodeOf ws (one_symbol (repeated (Times c) p)) n = OfPart ws (node.Unary (unary.Times c)) p n
 IsNodeOf ws (one_symbol (chosen p)) n = OfPart ws (node.Unary unary.Chosen) p n
 IsNodeOf ws (one_symbol (named a p)) n = OfPart ws (node.NamedUnary (if a.mutable then named_unary.NamedMut else named_unary.Named) a.name) p n
 IsNodeOf ws (one_symbol (tupled ps p)) n = OfTuple ws ps p n
@@ -228,6 +231,7 @@ is_node_of ws (node.NamedUnary named_unary.Call a l) h = (l, symbols_at ws l, re
 is_node_of ws (node.Unary unary.Star n) h = (n, kind_at ws n, refl, h, refl)
 is_node_of ws (node.Unary unary.Plus n) h = (n, kind_at ws n, refl, h, refl)
 is_node_of ws (node.Unary unary.Question n) h = (n, kind_at ws n, refl, h, refl)
+is_node_of ws (node.Unary (unary.Times c) n) h = (n, kind_at ws n, refl, h, refl)
 is_node_of ws (node.Unary unary.Chosen n) h = (n, kind_at ws n, refl, h, refl)
 is_node_of ws (node.NamedUnary named_unary.Named a n) h = (n, kind_at ws n, refl, h, refl)
 is_node_of ws (node.NamedUnary named_unary.NamedMut a n) h = (n, kind_at ws n, refl, h, refl)
@@ -284,6 +288,7 @@ module _ (ns : List Node) (ws : List Whole) (rows : AreRows ns ws) where
   one_node (one_symbol (repeated Star p)) m n h k = one_of_part (node.Unary unary.Star) p m n h k
   one_node (one_symbol (repeated Plus p)) m n h k = one_of_part (node.Unary unary.Plus) p m n h k
   one_node (one_symbol (repeated Question p)) m n h k = one_of_part (node.Unary unary.Question) p m n h k
+  one_node (one_symbol (repeated (Times c) p)) m n h k = one_of_part (node.Unary (unary.Times c)) p m n h k
   one_node (one_symbol (chosen p)) m n h k = one_of_part (node.Unary unary.Chosen) p m n h k
   one_node (one_symbol (named a p)) m n h k = one_of_part (node.NamedUnary (if a.mutable then named_unary.NamedMut else named_unary.Named) a.name) p m n h k
   one_node (one_symbol (tupled ps p)) m n h k = one_of_tuple ps p m n h k

@@ -3,7 +3,7 @@ use Rattle.std.proofs.Common.{◌≡◌, ℕ, List, [], ◌∷◌, Bool, true, f
 use Rattle.std.specs.Prelude.{filter}
 use Rattle.lalrpop_norm_tree_names.specs.declared.names.NonterminalString.{NonterminalString}
 use Rattle.lalrpop_norm_tree.specs.declared.items.Condition.{Condition}
-use Rattle.lalrpop_norm_tree.specs.declared.symbol.RepeatOp.TheVariants.{Star, Plus, Question}
+use Rattle.lalrpop_norm_tree.specs.declared.symbol.RepeatOp.TheVariants.{Star, Plus, Question, Times}
 use Rattle.lalrpop_norm_tree.specs.Items.{AlternativeData}
 use Rattle.lalrpop_norm_tree.specs.Symbols.{Kind, group, ambiguous_id, terminal, nonterminal, call, repeated, chosen, named, tupled, lookahead, lookbehind, error_terminal, at, Parts, no_parts, part_and}
 use Rattle.lalrpop_norm_model.specs.Grammars.{ConditionValue, bound_argument, is_true, value_of}
@@ -21,6 +21,7 @@ module _ (value : ConditionValue) where
   said_replaced c b a d e (repeated Star p) = refl
   said_replaced c b a d e (repeated Plus p) = refl
   said_replaced c b a d e (repeated Question p) = refl
+  said_replaced c b a d e (repeated (Times n) p) = refl
   said_replaced c b a d e (chosen p) = refl
   said_replaced c b a d e (named n p) = refl
   said_replaced c b a d e (tupled ns p) = refl

@@ -1,16 +1,16 @@
 -- The rules that symbols are made into, from these with their parts replaced.
-use Rattle.std.proofs.Common.{◌≡◌, ℕ, List, [], ◌∷◌, Bool, true, false, cond, map, Option, Some, None, option_map, bytes_eq, codes, refl, sym, ap, ap₂, ◌∙◌}
+use Rattle.std.proofs.Common.{◌≡◌, ℕ, zero, suc, List, [], ◌∷◌, Bool, true, false, cond, map, Option, Some, None, option_map, bytes_eq, codes, refl, sym, ap, ap₂, ◌∙◌}
 use Rattle.lalrpop_norm_tree_names.specs.declared.names.NonterminalString.{NonterminalString}
 use Rattle.lalrpop_norm_tree_names.specs.declared.names.Span.{Span}
 use Rattle.lalrpop_norm_tree.specs.declared.symbol.RepeatOp.{RepeatOp}
-use Rattle.lalrpop_norm_tree.specs.declared.symbol.RepeatOp.TheVariants.{Star, Plus, Question}
+use Rattle.lalrpop_norm_tree.specs.declared.symbol.RepeatOp.TheVariants.{Star, Plus, Question, Times}
 use Rattle.lalrpop_norm_tree.specs.Items.{AlternativeData, RuleData, private}
 use Rattle.lalrpop_norm_tree.specs.Symbols.{Kind, Parts, group, nonterminal, call, repeated, at, no_parts, part_and}
 use Rattle.lalrpop_norm_tree.specs.SymbolTexts.{kind_text}
 use Rattle.lalrpop_norm_tree.specs.Types.{TypeData, of_symbol, nominal, no_types, type_and}
 use Rattle.lalrpop_norm_model.specs.Grammars.{ConditionValue, is_true}
 use Rattle.lalrpop_norm_model.specs.Reading.{read_all}
-use Rattle.lalrpop_norm_model.specs.MadeRules.{inline_at, coded, type_of_kind, bare_or_tuple, group_sources, bare_or_tuple_code, group_rule, only_part, with_name, vector_path, option_path, repeat_rule, argument_kind, or_name, type_substituted, flat_reader, instance_alternative, instance_alternatives, instance_rule}
+use Rattle.lalrpop_norm_model.specs.MadeRules.{inline_at, coded, type_of_kind, bare_or_tuple, group_sources, bare_or_tuple_code, group_rule, only_part, so_many, with_name, vector_path, option_path, repeat_rule, argument_kind, or_name, all_substituted, type_substituted, flat_reader, instance_alternative, instance_alternatives, instance_rule}
 use Rattle.lalrpop_norm_model.specs.PlainRules.{replaced_rule}
 use Rattle.lalrpop_norm_model.specs.Replaced.{replaced_kind, all_replaced}
 use Rattle.lalrpop_norm_nodes.specs.Apart.{unplaced_kind, all_unplaced}
@@ -64,6 +64,12 @@ group_replaced s ps =
 
 -- ---- repeats
 
+-- so many symbols of one name
+many_bound : (c : ℕ) (sp : Span) (n : List ℕ) (f : List ℕ → Option Kind) →
+    all_substituted f (so_many c (at sp (nonterminal n))) ≡ so_many c (at sp (or_name n (f n)))
+many_bound zero sp n f = refl
+many_bound (suc c) sp n f = ap (part_and (at sp (or_name n (f n)))) (many_bound c sp n f)
+
 -- the alternatives over a name that is bound to the symbol
 pub repeat_bound : (s : Span) (op : RepeatOp) (sp : Span) (n : List ℕ) (k : Kind) (f : List ℕ → Option Kind) → f n ≡ Some k →
     map (instance_alternative s f) (repeat_rule s op (at sp (nonterminal n))).alternatives ≡ (repeat_rule s op (at sp k)).alternatives
@@ -75,6 +81,8 @@ repeat_bound s Plus sp n k f e =
     (codes "{ let mut v = v; v.push(e); v }") ∷ []) e
 repeat_bound s Question sp n k f e =
     ap (λ o. coded s (only_part (at sp (or_name n o))) (codes "Some(<>)") ∷ coded s no_parts (codes "None") ∷ []) e
+repeat_bound s (Times c) sp n k f e =
+    ap (λ ps. coded s ps (codes "alloc::vec![<>]") ∷ []) (many_bound c sp n f ∙ ap (λ o. so_many c (at sp (or_name n o))) e)
 
 -- over a name, they are as where no argument is bound
 pub repeat_unbound : (s : Span) (op : RepeatOp) (sp : Span) (n : List ℕ) →
@@ -82,6 +90,7 @@ pub repeat_unbound : (s : Span) (op : RepeatOp) (sp : Span) (n : List ℕ) →
 repeat_unbound s Star sp n = refl
 repeat_unbound s Plus sp n = refl
 repeat_unbound s Question sp n = refl
+repeat_unbound s (Times c) sp n = ap (λ ps. coded s ps (codes "alloc::vec![<>]") ∷ []) (many_bound c sp n (λ m. None))
 
 -- all else of the rule is as of the symbol replaced
 pub repeat_replaced : (s : Span) (op : RepeatOp) (sp : Span) (k : Kind) →
@@ -100,6 +109,10 @@ repeat_replaced s Question sp k =
     let deep : RuleData = repeat_rule s Question (at sp k) in
     ap₂ (λ (t : List ℕ) (j : Kind). let r : RuleData = record deep { name = record { 0 = t }; type_decl = Some (nominal option_path (type_and (of_symbol j) no_types)) } in r)
     (sym (inside_text (repeated Question (at sp k)))) (sym (kind_twice k))
+repeat_replaced s (Times c) sp k =
+    let deep : RuleData = repeat_rule s (Times c) (at sp k) in
+    ap₂ (λ (t : List ℕ) (j : Kind). let r : RuleData = record deep { name = record { 0 = t }; type_decl = Some (nominal vector_path (type_and (of_symbol j) no_types)) } in r)
+    (sym (inside_text (repeated (Times c) (at sp k)))) (sym (kind_twice k))
 
 -- ---- macros
 

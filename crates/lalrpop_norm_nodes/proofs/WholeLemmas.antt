@@ -4,7 +4,7 @@ use Rattle.std.specs.List.{flat_map}
 use Rattle.std.proofs.lemmas.Grind.{flat_map-append}
 use Rattle.std.proofs.lemmas.List.{map-append}
 use Rattle.lalrpop_norm_tree_names.specs.declared.names.Span.{Span}
-use Rattle.lalrpop_norm_tree.specs.declared.symbol.RepeatOp.TheVariants.{Star, Plus, Question}
+use Rattle.lalrpop_norm_tree.specs.declared.symbol.RepeatOp.TheVariants.{Star, Plus, Question, Times}
 use Rattle.lalrpop_norm_tree.specs.Symbols.{Kind, Part, Parts, argument_patterns_of, part_and, parts_of, group, ambiguous_id, terminal, nonterminal, call, repeated, chosen, named, tupled, lookahead, lookbehind, error_terminal, at}
 use Rattle.lalrpop_norm_tree.specs.SymbolTexts.{kind_text}
 use Rattle.lalrpop_norm_model.specs.PlainRules.{met, all_met}
@@ -51,6 +51,7 @@ module _ (names : List ℕ → Bool) (ws : List Whole) (seen : List Part)
   inner_met (node.Unary unary.Star n) h = all n _ h
   inner_met (node.Unary unary.Plus n) h = all n _ h
   inner_met (node.Unary unary.Question n) h = all n _ h
+  inner_met (node.Unary (unary.Times c) n) h = all n _ h
   inner_met (node.Unary unary.Chosen n) h = all n _ h
   inner_met (node.Unary unary.Several l) h = refl
   inner_met (node.NamedUnary named_unary.Call a l) h = all l _ h
@@ -89,6 +90,7 @@ module _ (ws : List Whole) (all : (i : ℕ) (w : Whole) → StandsFor ws i w →
   bare_built (node.Unary unary.Star n) h = ap (repeated Star) (bare_at n h)
   bare_built (node.Unary unary.Plus n) h = ap (repeated Plus) (bare_at n h)
   bare_built (node.Unary unary.Question n) h = ap (repeated Question) (bare_at n h)
+  bare_built (node.Unary (unary.Times c) n) h = ap (repeated (Times c)) (bare_at n h)
   bare_built (node.Unary unary.Chosen n) h = ap chosen (bare_at n h)
   bare_built (node.Unary unary.Several l) h = tt
   bare_built (node.NamedUnary named_unary.Call a l) h = ap (call a) (bare_list (symbols_at ws l) (all l _ h))

@@ -41,6 +41,7 @@ abbrev pub part_of_repeat : Node → ℕ
 part_of_repeat (node.Unary unary.Star n) = n
 part_of_repeat (node.Unary unary.Plus n) = n
 part_of_repeat (node.Unary unary.Question n) = n
+part_of_repeat (node.Unary (unary.Times c) n) = n
 part_of_repeat _ = 0
 
 abbrev pub last_in_row : Node → Option (ℕ × ℕ)

@@ -1,7 +1,7 @@
 -- What reading a symbol gives: its node, and what is put in its place.
 use Rattle.std.specs.Prelude.{◌≡◌, ℕ, List, map, if◌then◌else◌}
 use Rattle.lalrpop_norm_tree.specs.declared.symbol.RepeatOp.{RepeatOp}
-use Rattle.lalrpop_norm_tree.specs.declared.symbol.RepeatOp.TheVariants.{Star, Plus, Question}
+use Rattle.lalrpop_norm_tree.specs.declared.symbol.RepeatOp.TheVariants.{Star, Plus, Question, Times}
 use Rattle.lalrpop_norm_nodes.specs.declared.node.Node.TheVariants as node
 use Rattle.lalrpop_norm_nodes.specs.declared.node.Unary.TheVariants as unary
 use Rattle.lalrpop_norm_nodes.specs.declared.node.NamedUnary.TheVariants as named_unary
@@ -49,6 +49,7 @@ abbrev pub repeat_node : RepeatOp → ℕ → Node
 repeat_node Star n = node.Unary unary.Star n
 repeat_node Plus n = node.Unary unary.Plus n
 repeat_node Question n = node.Unary unary.Question n
+repeat_node (Times c) n = node.Unary (unary.Times c) n
 
 abbrev pub named_node : Name → ℕ → Node
 named_node a n = node.NamedUnary (if a.mutable then named_unary.NamedMut else named_unary.Named) a.name n

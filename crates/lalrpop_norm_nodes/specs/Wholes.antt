@@ -1,6 +1,6 @@
 -- What the numbers of nodes stand for.
 use Rattle.std.specs.Prelude.{◌≡◌, ⊤, ℕ, true, false, List, [], ◌∷◌, ◌++◌, map, length, Option, Some, slice_get}
-use Rattle.lalrpop_norm_tree.specs.declared.symbol.RepeatOp.TheVariants.{Star, Plus, Question}
+use Rattle.lalrpop_norm_tree.specs.declared.symbol.RepeatOp.TheVariants.{Star, Plus, Question, Times}
 use Rattle.lalrpop_norm_tree.specs.Symbols.{ArgumentPattern, one_name, several, argument_patterns_of, Kind, Part, parts_of, group}
 use Rattle.lalrpop_norm_tree.specs.Symbols.{terminal, nonterminal, call, repeated, chosen, named, tupled, lookahead}
 use Rattle.lalrpop_norm_tree.specs.Symbols.{lookbehind, error_terminal, at}
@@ -69,6 +69,7 @@ built ws (node.NamedUnary named_unary.Call a l) = one_symbol (call a (parts_of (
 built ws (node.Unary unary.Star n) = one_symbol (repeated Star (part_at ws n))
 built ws (node.Unary unary.Plus n) = one_symbol (repeated Plus (part_at ws n))
 built ws (node.Unary unary.Question n) = one_symbol (repeated Question (part_at ws n))
+built ws (node.Unary (unary.Times c) n) = one_symbol (repeated (Times c) (part_at ws n))
 built ws (node.Unary unary.Chosen n) = one_symbol (chosen (part_at ws n))
 built ws (node.NamedUnary named_unary.Named a n) = one_symbol (named (record { mutable = false; name = a }) (part_at ws n))
 built ws (node.NamedUnary named_unary.NamedMut a n) = one_symbol (named (record { mutable = true; name = a }) (part_at ws n))
@@ -106,6 +107,7 @@ Fits ws (node.NamedUnary named_unary.Call a l) = AreSymbols ws l
 Fits ws (node.Unary unary.Star n) = IsKind ws n
 Fits ws (node.Unary unary.Plus n) = IsKind ws n
 Fits ws (node.Unary unary.Question n) = IsKind ws n
+Fits ws (node.Unary (unary.Times c) n) = IsKind ws n
 Fits ws (node.Unary unary.Chosen n) = IsKind ws n
 Fits ws (node.NamedUnary named_unary.Named a n) = IsKind ws n
 Fits ws (node.NamedUnary named_unary.NamedMut a n) = IsKind ws n

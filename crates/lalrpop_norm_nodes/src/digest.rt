@@ -71,6 +71,10 @@ fn read_op(op: RepeatOp, reader: &mut DefaultHasher)
         RepeatOp::Star => reader.write_u8(8),
         RepeatOp::Plus => reader.write_u8(9),
         RepeatOp::Question => reader.write_u8(10),
+        RepeatOp::Times(count) => {
+            reader.write_u8(22);
+            reader.write_u16(count);
+        }
     }
 }
 

@@ -44,6 +44,8 @@ pub enum Unary {
     Plus,
     /// `X?`.
     Question,
+    /// `X{n}`.
+    Times(u16),
     /// `<X>`.
     Chosen,
     /// `(x, y)`, the pattern of patterns in a row.

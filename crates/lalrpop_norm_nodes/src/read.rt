@@ -107,6 +107,7 @@ fn repeat_node(op: RepeatOp, number: usize) -> Node
         RepeatOp::Star => Node::Unary(Unary::Star, number),
         RepeatOp::Plus => Node::Unary(Unary::Plus, number),
         RepeatOp::Question => Node::Unary(Unary::Question, number),
+        RepeatOp::Times(count) => Node::Unary(Unary::Times(count), number),
     }
 }
 

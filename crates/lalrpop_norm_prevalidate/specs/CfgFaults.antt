@@ -47,3 +47,12 @@ abbrev mutual
 -- a `cfg` is judged as `not` is: its first argument, which has to be there
 abbrev pub cfg_faults : Span → Argument → List Fault
 cfg_faults s x = test_argument_faults Not s x
+
+-- of an attribute, if it is a `cfg`
+abbrev pub attribute_cfg_faults : AttributeData → List Fault
+attribute_cfg_faults (attribute s name x) = if bytes_eq name (codes "cfg") then cfg_faults s x else []
+
+-- of each `cfg` among attributes
+abbrev pub all_cfg_faults : Attributes → List Fault
+all_cfg_faults no_attributes = []
+all_cfg_faults (attribute_and a rest) = attribute_cfg_faults a ++ all_cfg_faults rest

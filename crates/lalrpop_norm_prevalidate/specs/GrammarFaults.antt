@@ -27,7 +27,7 @@ use Rattle.lalrpop_norm_prevalidate.specs.declared.prevalidate.Surroundings.{Sur
 use Rattle.lalrpop_norm_prevalidate.specs.declared.prevalidate.Blocks.{Blocks}
 use Rattle.lalrpop_norm_prevalidate.specs.SymbolFaults.{terminal_faults}
 use Rattle.lalrpop_norm_prevalidate.specs.AlternativeFaults.{alternative_faults}
-use Rattle.lalrpop_norm_prevalidate.specs.CfgFaults.{cfg_faults}
+use Rattle.lalrpop_norm_prevalidate.specs.CfgFaults.{cfg_faults, all_cfg_faults}
 use Rattle.lalrpop_norm_precedence_steps.specs.LevelFaults.{level_faults}
 use Rattle.lalrpop_norm_prevalidate.specs.TypeFaults.{some_holds, clause_holds, pattern_holds}
 
@@ -100,9 +100,10 @@ types_faults ts =
     each_after (λ (before : List AssociatedTypeData) t. associated_faults
     (map (λ (b : AssociatedTypeData). b.type_name) before) t) [] ts
 
--- F22, F23
+-- F22, F23, then each `cfg`: F11
 unfoldable pub conversion_faults : ConversionData → List Fault
-conversion_faults c = terminal_faults c.span c.from ++ fault_if (pattern_holds c.to) (WrittenOfSymbol, c.span)
+conversion_faults c =
+    terminal_faults c.span c.from ++ (fault_if (pattern_holds c.to) (WrittenOfSymbol, c.span) ++ all_cfg_faults c.attributes)
 
 abbrev pub enum_faults : Option EnumTokenData → List Fault
 enum_faults None = []

@@ -4,4 +4,5 @@ pub mod AlternativeFaults
 pub mod CfgFaults
 pub mod TypeFaults
 pub mod GrammarFaults
+pub mod MalformedCfgs
 pub mod Walks

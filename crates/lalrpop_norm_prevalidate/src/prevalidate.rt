@@ -10,6 +10,7 @@ ghost use Rattle.lalrpop_norm_prevalidate.specs.GrammarFaults.{is_match, is_exte
 
 mod alternatives;
 mod cfg;
+mod malformed;
 mod rules;
 mod symbols;
 mod tokens;
@@ -20,6 +21,7 @@ use lalrpop_norm_tree::grammar::parse_tree::{
     Attribute, ExternToken, Grammar, GrammarItem, Parameter, Span, TypeRef, WhereClause,
     is_known_attribute,
 };
+pub use malformed::malformed_cfgs;
 use rules::{check_type, validate_rule};
 use std::alloc::Global;
 use tokens::{validate_extern, validate_match};

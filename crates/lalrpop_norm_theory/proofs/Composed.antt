@@ -2,12 +2,12 @@
 use Rattle.std.proofs.Common.{◌≡◌, ℕ, List, refl, sym, ap, ap₂, ◌∙◌, subst}
 use Rattle.std.specs.Prelude.{slice_get, Some}
 use Rattle.std.proofs.lemmas.Option.{slice_get-map}
-use Rattle.lalrpop_norm_theory.specs.Symbols.{Name, ClosedSymbol, ClosedSymbols, reference, call, group, star, plus, question, lookahead, lookbehind}
+use Rattle.lalrpop_norm_theory.specs.Symbols.{Name, ClosedSymbol, ClosedSymbols, reference, call, group, star, plus, question, times, lookahead, lookbehind}
 use Rattle.lalrpop_norm_theory.specs.Meaning.{Meaning, HasCounts, HasLevels}
 use Rattle.lalrpop_norm_theory.specs.WrittenTrees.{WrittenTree, WrittenTrees, list, no_trees, tree_and, append}
 use Rattle.lalrpop_norm_theory.specs.LoweredTrees.{LoweredTree, LoweredTrees, lowered_node, no_lowered, lowered_and, ProductionTable, Origin, IsDerivation}
 use Rattle.lalrpop_norm_theory.specs.Clauses.{Clause, clauses, symbol_of, IsNonterminal}
-use Rattle.lalrpop_norm_theory.specs.Pairs.{Pairs, AllPairs, terminal_pair, error_pair, wrapped_pair, lookahead_pair, lookbehind_pair, group_pair, rule_pair, step_pair, call_pair, star_empty_pair, star_some_pair, plus_one_pair, plus_more_pair, question_some_pair, question_empty_pair, no_pairs, pair_and}
+use Rattle.lalrpop_norm_theory.specs.Pairs.{Pairs, AllPairs, terminal_pair, error_pair, wrapped_pair, lookahead_pair, lookbehind_pair, group_pair, rule_pair, step_pair, call_pair, star_empty_pair, star_some_pair, plus_one_pair, plus_more_pair, question_some_pair, question_empty_pair, times_pair, no_pairs, pair_and}
 use Rattle.lalrpop_norm_theory.specs.Translations.{made_by, written_tree, written_each, lowered_tree}
 use Rattle.lalrpop_norm_theory.specs.Met.{IsResolvedIn, IsResolved}
 use Rattle.lalrpop_norm_theory.specs.Tables.{AllKnown, Realizes}
@@ -71,6 +71,8 @@ module _ (L : Meaning) (name : ClosedSymbol → Name) (P : ProductionTable) (ori
         composed_node (question x) tt k 0 _ refl (lowered_and u no_lowered) (tree_and (unleveled_tree origin t) no_trees)
         (ap (λ r. tree_and r no_trees) (written_composed h (R.parts_known (question x) 0 _ k refl).0))
     written_composed (question_empty_pair x) k = composed_node (question x) tt k 1 _ refl no_lowered _ refl
+    written_composed (times_pair n x ts us h) k =
+        composed_node (times n x) tt k 0 _ refl us _ (written_composed_all h (R.parts_known (times n x) 0 _ k refl))
 
     written_composed_all : {gs : ClosedSymbols} {ts : WrittenTrees} {us : LoweredTrees} → AllPairs L name gs ts us → AllKnown Known gs →
         written_each (recomposed origin P) us ≡ unleveled_each origin ts

@@ -1,7 +1,7 @@
 -- The rounds of an expansion: new are the shortest chains, in the order of first meeting; where nothing is new it is whole.
 use Rattle.std.proofs.Common.{◌≡◌, inl, inr, ℕ, zero, suc, List, [], ◌∷◌, ◌++◌, subst, arith}
 use Rattle.std.specs.Prelude.{flat_map, slice_get, Some}
-use Rattle.lalrpop_norm_theory.specs.Symbols.{ClosedSymbol, ClosedSymbols, terminal, error, reference, call, group, star, plus, question, wrapped, lookahead, lookbehind, no_symbols, symbol_and}
+use Rattle.lalrpop_norm_theory.specs.Symbols.{ClosedSymbol, ClosedSymbols, terminal, error, reference, call, group, star, plus, question, times, wrapped, lookahead, lookbehind, no_symbols, symbol_and}
 use Rattle.lalrpop_norm_theory.specs.Meaning.{Meaning}
 use Rattle.lalrpop_norm_theory.specs.Clauses.{Clause, clauses}
 use Rattle.lalrpop_norm_theory.specs.Rounds.{In, Chain}
@@ -57,6 +57,10 @@ mutual
   meets_expanded (question x) h i = elim (in_cases h (meets x) _ i) [
     | inl j ↦ meets_expanded x h j
     | inr j ↦ met_itself (question x) h tt j
+  ]
+  meets_expanded (times n x) h i = elim (in_cases h (meets x) _ i) [
+    | inl j ↦ meets_expanded x h j
+    | inr j ↦ met_itself (times n x) h tt j
   ]
   meets_expanded lookahead h i = met_itself lookahead h tt i
   meets_expanded lookbehind h i = met_itself lookbehind h tt i

@@ -2,9 +2,9 @@
 use Rattle.std.proofs.Common.{◌≡◌, ◌≤◌, ◌<◌, ◌+◌, inl, inr, ℕ, zero, suc, List, [], ◌∷◌, length, map, refl, sym, ap, ap₂, ◌∙◌, subst, arith, append-nil}
 use Rattle.std.specs.Prelude.{slice_get, Option, Some, None, option_map}
 use Rattle.std.proofs.lemmas.Option.{slice_get-map, slice_get_cases}
-use Rattle.lalrpop_norm_theory.specs.Symbols.{Name, ClosedSymbol, ClosedSymbols, terminal, error, reference, call, group, star, plus, question, wrapped, lookahead, lookbehind, no_symbols, symbol_and}
+use Rattle.lalrpop_norm_theory.specs.Symbols.{Name, ClosedSymbol, ClosedSymbols, terminal, error, reference, call, group, star, plus, question, times, wrapped, lookahead, lookbehind, no_symbols, symbol_and}
 use Rattle.lalrpop_norm_theory.specs.Meaning.{Meaning, HasCounts, HasLevels}
-use Rattle.lalrpop_norm_theory.specs.LoweredTrees.{Origin, ProductionTable, LoweredTree, LoweredTrees, lowered_leaf, lowered_node, no_lowered, lowered_and, LoweredSymbol, IsDerivation, AreDerivations, written}
+use Rattle.lalrpop_norm_theory.specs.LoweredTrees.{Origin, from_times, ProductionTable, LoweredTree, LoweredTrees, lowered_leaf, lowered_node, no_lowered, lowered_and, LoweredSymbol, IsDerivation, AreDerivations, written}
 use Rattle.lalrpop_norm_theory.specs.Clauses.{Clause, clause, clause_and, clauses, numbered, own_clauses, symbol_of, symbols_of, clause_production, IsNonterminal}
 use Rattle.lalrpop_norm_theory.specs.Rounds.{In}
 use Rattle.lalrpop_norm_theory.specs.Met.{IsResolvedIn, AreResolvedIn, IsResolved}
@@ -14,6 +14,7 @@ use Rattle.lalrpop_norm_theory.specs.Laws.{level_named}
 use Rattle.lalrpop_norm_theory.proofs.TableLemmas.{nonterminal_of}
 use Rattle.lalrpop_norm_theory.proofs.ResolvedLemmas.{clause_resolved}
 use Rattle.lalrpop_norm_theory.proofs.CallLemmas.{mapped_at}
+use Rattle.lalrpop_norm_theory.proofs.ReplicatedLemmas.{leveled_replicated}
 
 abbrev pub leveled_parts : (Name → ℕ → Name) → Clause → ClosedSymbols
 leveled_parts l c = leveled_symbols l c.parts
@@ -103,6 +104,7 @@ module _ (M L : Meaning) (l : Name → ℕ → Name) (origin : Name → ℕ → 
   leveled_clauses (star x) n r = refl
   leveled_clauses (plus x) n r = refl
   leveled_clauses (question x) n r = refl
+  leveled_clauses (times m x) n r = ap (λ gs. clause from_times gs ∷ []) (sym (leveled_replicated l m x))
   leveled_clauses lookahead n r = refl
   leveled_clauses lookbehind n r = refl
 
@@ -116,6 +118,7 @@ leveled_nonterminal l (group gs) n = n
 leveled_nonterminal l (star x) n = n
 leveled_nonterminal l (plus x) n = n
 leveled_nonterminal l (question x) n = n
+leveled_nonterminal l (times m x) n = n
 leveled_nonterminal l lookahead n = n
 leveled_nonterminal l lookbehind n = n
 
@@ -131,6 +134,7 @@ symbol_named l name (group gs) = refl
 symbol_named l name (star x) = refl
 symbol_named l name (plus x) = refl
 symbol_named l name (question x) = refl
+symbol_named l name (times n x) = refl
 symbol_named l name lookahead = refl
 symbol_named l name lookbehind = refl
 

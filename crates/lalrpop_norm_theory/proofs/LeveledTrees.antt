@@ -1,14 +1,14 @@
 -- Written trees and their trees in the grammar with levels: forward, and what a pair of them is.
 use Rattle.std.proofs.Common.{◌≡◌, ◌≤◌, le_refl, inl, inr, ℕ, zero, suc, ◌+◌, ◌<◌, ◌++◌, append-nil, refl, sym, ap, ap₂, ◌∙◌, subst, arith}
 use Rattle.std.specs.Prelude.{List, slice_get, unwrap_or, Option, Some, None, length}
-use Rattle.lalrpop_norm_theory.specs.Symbols.{Name, ClosedSymbol, ClosedSymbols, terminal, error, lookahead, lookbehind, reference, call, group, star, plus, question, wrapped, no_symbols, symbol_and, only}
+use Rattle.lalrpop_norm_theory.specs.Symbols.{Name, ClosedSymbol, ClosedSymbols, terminal, error, lookahead, lookbehind, reference, call, group, star, plus, question, times, wrapped, no_symbols, symbol_and, only}
 use Rattle.lalrpop_norm_theory.specs.Meaning.{Meaning, HasLevels, HasCounts}
 use Rattle.lalrpop_norm_theory.specs.WrittenTrees.{WrittenTree, WrittenTrees, leaf, nothing, list, node, no_trees, tree_and, IsTreeOf, AreTreesOf, EachTreeOf, yield, yields}
 use Rattle.lalrpop_norm_theory.specs.LoweredTrees.{Origin, written}
 use Rattle.lalrpop_norm_theory.specs.Clauses.{Clause, clause, clauses, own_clauses, step_clauses}
 use Rattle.lalrpop_norm_theory.specs.Translations.{lowered_place}
 use Rattle.lalrpop_norm_theory.specs.Leveled.{level_reference, leveled_symbols, IsLeveled}
-use Rattle.lalrpop_norm_theory.specs.Steps.{Steps, AllSteps, EachSteps, terminal_kept, error_kept, wrapped_kept, lookahead_kept, lookbehind_kept, group_kept, star_kept, plus_kept, question_kept, call_kept, at_level, below_level, all_done, all_and, each_done, each_and, own_level, step_level, tree_through_levels, clause_number, leveled_tree, leveled_all, leveled_each}
+use Rattle.lalrpop_norm_theory.specs.Steps.{Steps, AllSteps, EachSteps, terminal_kept, error_kept, wrapped_kept, lookahead_kept, lookbehind_kept, group_kept, star_kept, plus_kept, question_kept, times_kept, call_kept, at_level, below_level, all_done, all_and, each_done, each_and, own_level, step_level, tree_through_levels, clause_number, leveled_tree, leveled_all, leveled_each}
 use Rattle.lalrpop_norm_theory.proofs.Numbered.{numbered_complete, own_clause_at, step_clause_last, left_at}
 use Rattle.lalrpop_norm_theory.proofs.PairSides.{raised}
 use Rattle.lalrpop_norm_theory.proofs.PairTranslations.{place_is}
@@ -28,6 +28,7 @@ module _ (M L : Meaning) (l : Name → ℕ → Name) (V : HasLevels M) where
     bounded_tree (star_kept x ts ms h) = bounded_each h
     bounded_tree (plus_kept x ts ms n h) = (n, bounded_each h)
     bounded_tree (question_kept x ts ms n h) = (n, bounded_each h)
+    bounded_tree (times_kept n x ts ms e h) = (e, bounded_each h)
     bounded_tree (call_kept n k j p args parts ts ms e at there h) = (refl, parts, e, bounded_trees h)
     bounded_tree (at_level n k p b parts ts ms e i h) = (refl, parts, V.own n b k parts e, bounded_trees h)
     bounded_tree (below_level n p b c t m e i h) = raised M V n b c e t (bounded_tree h)
@@ -99,6 +100,7 @@ module _ (M L : Meaning) (l : Name → ℕ → Name) (origin : Name → ℕ → 
     steps_leveled (list ts) (star x) h = star_kept x ts _ (steps_leveled_each ts x h)
     steps_leveled (list ts) (plus x) h = plus_kept x ts _ h.0 (steps_leveled_each ts x h.1)
     steps_leveled (list ts) (question x) h = question_kept x ts _ h.0 (steps_leveled_each ts x h.1)
+    steps_leveled (list ts) (times n x) h = times_kept n x ts _ h.0 (steps_leveled_each ts x h.1)
     steps_leveled (node n k ts) (reference m b) (same, parts, e, hs) =
         rw same (level_rule_stepped m k (λ gs. leveled_all M L l ts gs) ts parts (steps_leveled_all ts parts hs) (M.depth m b) b (le_refl (M.depth m b)) e)
     steps_leveled (node n k ts) (call m args) (same, parts, e, hs) =
@@ -201,6 +203,7 @@ module _ (M L : Meaning) (l : Name → ℕ → Name) (V : HasLevels M) where
     leveled_to (star_kept x ts ms h) = ap list (leveled_to_each h)
     leveled_to (plus_kept x ts ms n h) = ap list (leveled_to_each h)
     leveled_to (question_kept x ts ms n h) = ap list (leveled_to_each h)
+    leveled_to (times_kept n x ts ms e h) = ap list (leveled_to_each h)
     leveled_to (call_kept n k j p args parts ts ms e at there h) =
         ap₂ (λ q us. node n q us)
         (ap (λ q. clause_number (slice_get (clauses L (call n (leveled_symbols l args))) q)) (place_is n k p (M.call_parts n args) (M.call_count n) parts at)
@@ -239,6 +242,7 @@ module _ (M L : Meaning) (l : Name → ℕ → Name) where
     steps_yield (star_kept x ts ms h) = steps_yield_each h
     steps_yield (plus_kept x ts ms n h) = steps_yield_each h
     steps_yield (question_kept x ts ms n h) = steps_yield_each h
+    steps_yield (times_kept n x ts ms e h) = steps_yield_each h
     steps_yield (call_kept n k j p args parts ts ms e at there h) = steps_yields h
     steps_yield (at_level n k p b parts ts ms e i h) = steps_yields h
     steps_yield (below_level n p b c t m e i h) = steps_yield h ∙ sym (append-nil (yield m))

@@ -2,6 +2,7 @@ pub mod BoolLemmas
 pub mod ListTests
 pub mod ListLemmas
 pub mod Numbered
+pub mod ReplicatedLemmas
 pub mod PairSides
 pub mod PairTranslations
 pub mod PairTotal

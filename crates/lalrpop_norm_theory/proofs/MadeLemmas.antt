@@ -3,7 +3,7 @@ use Rattle.std.proofs.Common.{◌≡◌, ◌⊎◌, ◌<◌, inl, inr, ℕ, zero
 use Rattle.std.specs.Prelude.{flat_map}
 use Rattle.std.proofs.lemmas.Bool.{cases_Bool}
 use mathlib.Core.List.{reverse-cons}
-use Rattle.lalrpop_norm_theory.specs.Symbols.{ClosedSymbol, ClosedSymbols, terminal, error, reference, call, group, star, plus, question, wrapped, lookahead, lookbehind, no_symbols, symbol_and}
+use Rattle.lalrpop_norm_theory.specs.Symbols.{ClosedSymbol, ClosedSymbols, terminal, error, reference, call, group, star, plus, question, times, wrapped, lookahead, lookbehind, no_symbols, symbol_and}
 use Rattle.lalrpop_norm_theory.specs.Meaning.{Meaning}
 use Rattle.lalrpop_norm_theory.specs.Clauses.{Clause, clauses}
 use Rattle.lalrpop_norm_theory.specs.Rounds.{In, is_in, fresh_of, rounds, all_rules_made, IsDistinct, NewIn, IsTest}
@@ -119,6 +119,10 @@ mutual
   meets_parts (question y) h x j i = elim (in_cases h (meets y) _ j) [
     | inl r ↦ in_left x (meets y) _ (meets_parts y h x r i)
     | inr r ↦ itself (question y) h x r i
+  ]
+  meets_parts (times n y) h x j i = elim (in_cases h (meets y) _ j) [
+    | inl r ↦ in_left x (meets y) _ (meets_parts y h x r i)
+    | inr r ↦ itself (times n y) h x r i
   ]
   meets_parts lookahead h x j i = itself lookahead h x j i
   meets_parts lookbehind h x j i = itself lookbehind h x j i

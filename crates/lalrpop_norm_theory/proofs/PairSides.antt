@@ -2,13 +2,14 @@
 use Rattle.std.proofs.Common.{◌≡◌, ℕ, refl}
 use Rattle.std.specs.Prelude.{slice_get, Option, Some}
 use Rattle.std.proofs.lemmas.Option.{slice_get-map}
-use Rattle.lalrpop_norm_theory.specs.Symbols.{Name, ClosedSymbol, ClosedSymbols, reference, call, group, star, plus, question, lookahead, lookbehind}
+use Rattle.lalrpop_norm_theory.specs.Symbols.{Name, ClosedSymbol, ClosedSymbols, reference, call, group, star, plus, question, times, lookahead, lookbehind}
 use Rattle.lalrpop_norm_theory.specs.Meaning.{Meaning, HasLevels}
 use Rattle.lalrpop_norm_theory.specs.WrittenTrees.{WrittenTree, WrittenTrees, leaf, nothing, list, node, no_trees, tree_and, IsNonempty, IsTreeOf, AreTreesOf, EachTreeOf, append}
 use Rattle.lalrpop_norm_theory.specs.LoweredTrees.{LoweredTree, LoweredTrees, lowered_node, no_lowered, lowered_and, ProductionTable, nonterminal_symbol, IsDerivation, AreDerivations}
 use Rattle.lalrpop_norm_theory.specs.Clauses.{Clause, clauses, symbol_of, symbols_of, clause_production, IsNonterminal}
-use Rattle.lalrpop_norm_theory.specs.Pairs.{Pairs, AllPairs, terminal_pair, error_pair, wrapped_pair, lookahead_pair, lookbehind_pair, group_pair, rule_pair, step_pair, call_pair, star_empty_pair, star_some_pair, plus_one_pair, plus_more_pair, question_some_pair, question_empty_pair, no_pairs, pair_and}
+use Rattle.lalrpop_norm_theory.specs.Pairs.{Pairs, AllPairs, terminal_pair, error_pair, wrapped_pair, lookahead_pair, lookbehind_pair, group_pair, rule_pair, step_pair, call_pair, star_empty_pair, star_some_pair, plus_one_pair, plus_more_pair, question_some_pair, question_empty_pair, times_pair, no_pairs, pair_and}
 use Rattle.lalrpop_norm_theory.specs.Tables.{AllKnown, Realizes}
+use Rattle.lalrpop_norm_theory.proofs.ReplicatedLemmas.{each_of_one}
 
 nonempty_append : (ts : WrittenTrees) (t : WrittenTree) → IsNonempty (append ts (tree_and t no_trees))
 nonempty_append no_trees t = tt
@@ -46,6 +47,7 @@ module _ (M : Meaning) (name : ClosedSymbol → Name) (V : HasLevels M) where
         (nonempty_append ts t, each_append M x ts t (tree_of h).1 (tree_of i))
     tree_of (question_some_pair x t u h) = (tt, (tree_of h, tt))
     tree_of (question_empty_pair x) = (tt, tt)
+    tree_of (times_pair n x ts us h) = each_of_one M x ts n (trees_of h)
 
     pub trees_of : {gs : ClosedSymbols} {ts : WrittenTrees} {us : LoweredTrees} → AllPairs M name gs ts us → AreTreesOf M ts gs
     trees_of no_pairs = tt
@@ -97,6 +99,8 @@ module _ (M : Meaning) (name : ClosedSymbol → Name) (P : ProductionTable) (Kno
         node_derived (question x) tt k 0 _ refl (lowered_and u no_lowered)
         (derivation_of h (R.parts_known (question x) 0 _ k refl).0, tt)
     derivation_of (question_empty_pair x) k = node_derived (question x) tt k 1 _ refl no_lowered tt
+    derivation_of (times_pair n x ts us h) k =
+        node_derived (times n x) tt k 0 _ refl us (derivations_of h (R.parts_known (times n x) 0 _ k refl))
 
     pub derivations_of : {gs : ClosedSymbols} {ts : WrittenTrees} {us : LoweredTrees} → AllPairs M name gs ts us → AllKnown Known gs → AreDerivations P us (symbols_of name gs)
     derivations_of no_pairs k = tt

@@ -2,16 +2,17 @@
 use Rattle.std.proofs.Common.{◌≤◌, le_refl, inl, inr, ◌≡◌, ℕ, zero, suc, ◌+◌, ◌<◌, refl, sym, ap, ◌∙◌, subst, arith}
 use Rattle.std.specs.Prelude.{slice_get, Option, Some, None, option_map, length}
 use Rattle.std.proofs.lemmas.Option.{slice_get-map}
-use Rattle.lalrpop_norm_theory.specs.Symbols.{Name, Terminal, error_terminal, error, ClosedSymbol, ClosedSymbols, terminal, reference, call, group, star, plus, question, wrapped, lookahead, lookbehind, no_symbols, symbol_and, only}
+use Rattle.lalrpop_norm_theory.specs.Symbols.{Name, Terminal, error_terminal, error, ClosedSymbol, ClosedSymbols, terminal, reference, call, group, star, plus, question, times, wrapped, lookahead, lookbehind, no_symbols, symbol_and, only, replicated}
 use Rattle.lalrpop_norm_theory.specs.Meaning.{Meaning, HasLevels, HasCounts}
 use Rattle.lalrpop_norm_theory.specs.WrittenTrees.{WrittenTree, WrittenTrees, leaf, nothing, list, node, no_trees, tree_and, IsNonempty, IsAtMostOne, IsTreeOf, AreTreesOf, EachTreeOf, append}
 use Rattle.lalrpop_norm_theory.specs.LoweredTrees.{LoweredTree, LoweredTrees, lowered_leaf, lowered_node, no_lowered, lowered_and, ProductionTable, Production, terminal_symbol, nonterminal_symbol, IsDerivation, AreDerivations, level_step}
 use Rattle.lalrpop_norm_theory.specs.Clauses.{Clause, clause, clauses, numbered, own_clauses, step_clauses, symbol_of, symbols_of, clause_production, IsNonterminal}
-use Rattle.lalrpop_norm_theory.specs.Pairs.{Pairs, AllPairs, terminal_pair, error_pair, wrapped_pair, lookahead_pair, lookbehind_pair, group_pair, rule_pair, step_pair, call_pair, star_empty_pair, star_some_pair, plus_one_pair, plus_more_pair, question_some_pair, question_empty_pair, no_pairs, pair_and}
+use Rattle.lalrpop_norm_theory.specs.Pairs.{Pairs, AllPairs, terminal_pair, error_pair, wrapped_pair, lookahead_pair, lookbehind_pair, group_pair, rule_pair, step_pair, call_pair, star_empty_pair, star_some_pair, plus_one_pair, plus_more_pair, question_some_pair, question_empty_pair, times_pair, no_pairs, pair_and}
 use Rattle.lalrpop_norm_theory.specs.Translations.{first_tree, elements, made_by, made_at, written_tree, written_each, lowered_place, lowered_rule, lowered_star, lowered_question, extended, left_leaning, lowered_tree, lowered_all, lowered_each}
 use Rattle.lalrpop_norm_theory.specs.Tables.{AllKnown, Realizes}
 use Rattle.lalrpop_norm_theory.proofs.Numbered.{alternative_clause, Numbered, numbered_sound, numbered_complete, left_at, right_at, split_at}
 use Rattle.lalrpop_norm_theory.proofs.PairSides.{tree_of}
+use Rattle.lalrpop_norm_theory.proofs.ReplicatedLemmas.{one_for_each, lowered_one_by_one}
 
 module _ (M : Meaning) (name : ClosedSymbol → Name) (C : HasCounts M) where
   own_paired : (m : Name) (k : ℕ) (b : Option ℕ) (parts : ClosedSymbols) (ts : WrittenTrees) (us : LoweredTrees) →
@@ -116,6 +117,10 @@ module _ (M : Meaning) (name : ClosedSymbol → Name) (C : HasCounts M) (V : Has
     pairs_lowered (list ts) (star x) h = star_paired M name x ts _ (pairs_lowered_each ts x h)
     pairs_lowered (list ts) (plus x) h = plus_paired M name x ts _ h.0 (pairs_lowered_each ts x h.1)
     pairs_lowered (list ts) (question x) h = question_paired M name x ts _ h.0 (pairs_lowered_each ts x h.1)
+    pairs_lowered (list ts) (times n x) h =
+        times_pair n x ts _
+        (subst (AllPairs M name (replicated n x) ts) (lowered_one_by_one M x name ts n h.0)
+        (pairs_lowered_all ts (replicated n x) (one_for_each M x ts n h.0 h.1)))
     pairs_lowered (node n k ts) (reference m b) (same, parts, e, hs) =
         rw same (rule_paired M name C V m k (λ gs. lowered_all M name ts gs) ts parts (pairs_lowered_all ts parts hs) (M.depth m b) b (le_refl (M.depth m b)) e)
     pairs_lowered (node n k ts) (call m args) (same, parts, e, hs) =
@@ -147,6 +152,7 @@ module _ (M : Meaning) (name : ClosedSymbol → Name) where
   leaf_written a (star n) h = absurd (nonterminal≢terminal _ _ h)
   leaf_written a (plus n) h = absurd (nonterminal≢terminal _ _ h)
   leaf_written a (question n) h = absurd (nonterminal≢terminal _ _ h)
+  leaf_written a (times n x) h = absurd (nonterminal≢terminal _ _ h)
   leaf_written a lookahead h = absurd (nonterminal≢terminal _ _ h)
   leaf_written a lookbehind h = absurd (nonterminal≢terminal _ _ h)
 
@@ -253,6 +259,8 @@ module _ (M : Meaning) (name : ClosedSymbol → Name) (P : ProductionTable) (Kno
   node_read us ih (suc p) lookbehind n k d = absurd d
   node_read us ih zero (group gs) n k d = group_pair gs _ us (ih gs d (R.parts_known (group gs) 0 _ k refl))
   node_read us ih (suc p) (group gs) n k d = absurd d
+  node_read us ih zero (times m x) n k d = times_pair m x _ us (ih (replicated m x) d (R.parts_known (times m x) 0 _ k refl))
+  node_read us ih (suc p) (times m x) n k d = absurd d
   node_read no_lowered ih zero (star x) n k d = star_empty_pair x
   node_read (lowered_and u us) ih zero (star x) n k d = absurd d
   node_read no_lowered ih (suc zero) (star x) n k d = absurd d
@@ -307,6 +315,7 @@ module _ (M : Meaning) (name : ClosedSymbol → Name) (P : ProductionTable) (Kno
   node_derivation us ih n p (star x) k s q at d = rule_node_read us ih n p (star x) tt k s q at d
   node_derivation us ih n p (plus x) k s q at d = rule_node_read us ih n p (plus x) tt k s q at d
   node_derivation us ih n p (question x) k s q at d = rule_node_read us ih n p (question x) tt k s q at d
+  node_derivation us ih n p (times m x) k s q at d = rule_node_read us ih n p (times m x) tt k s q at d
   node_derivation us ih n p lookahead k s q at d = rule_node_read us ih n p lookahead tt k s q at d
   node_derivation us ih n p lookbehind k s q at d = rule_node_read us ih n p lookbehind tt k s q at d
 

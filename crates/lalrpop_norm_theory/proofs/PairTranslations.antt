@@ -1,16 +1,17 @@
 -- A pair's sides are what the translations make of one another; they have one word and the same alternatives.
 use Rattle.std.proofs.Common.{◌≡◌, ◌≤◌, ℕ, zero, suc, ◌+◌, ◌<◌, List, [], ◌++◌, refl, sym, ap, ap₂, ◌∙◌, arith, append_assoc, append-nil}
 use Rattle.std.specs.Prelude.{slice_get, Option, Some, None, length}
-use Rattle.lalrpop_norm_theory.specs.Symbols.{Name, error_terminal, ClosedSymbol, ClosedSymbols, reference, call, group, star, plus, question, lookahead, lookbehind, only}
+use Rattle.lalrpop_norm_theory.specs.Symbols.{Name, error_terminal, ClosedSymbol, ClosedSymbols, reference, call, group, star, plus, question, times, lookahead, lookbehind, only, replicated}
 use Rattle.lalrpop_norm_theory.specs.Meaning.{Meaning, HasLevels}
 use Rattle.lalrpop_norm_theory.specs.WrittenTrees.{WrittenTree, WrittenTrees, leaf, nothing, list, node, no_trees, tree_and, IsNonempty, IsTreeOf, yield, yields, alternatives, alternatives_of, append}
 use Rattle.lalrpop_norm_theory.specs.LoweredTrees.{LoweredTree, LoweredTrees, lowered_leaf, lowered_node, no_lowered, lowered_and, ProductionTable, Origin, lowered_yield, lowered_yields, written_origins, written_origins_of, written_of, written}
 use Rattle.lalrpop_norm_theory.specs.Clauses.{Clause, clauses, numbered, own_clauses, IsNonterminal}
-use Rattle.lalrpop_norm_theory.specs.Pairs.{Pairs, AllPairs, terminal_pair, error_pair, wrapped_pair, lookahead_pair, lookbehind_pair, group_pair, rule_pair, step_pair, call_pair, star_empty_pair, star_some_pair, plus_one_pair, plus_more_pair, question_some_pair, question_empty_pair, no_pairs, pair_and}
+use Rattle.lalrpop_norm_theory.specs.Pairs.{Pairs, AllPairs, terminal_pair, error_pair, wrapped_pair, lookahead_pair, lookbehind_pair, group_pair, rule_pair, step_pair, call_pair, star_empty_pair, star_some_pair, plus_one_pair, plus_more_pair, question_some_pair, question_empty_pair, times_pair, no_pairs, pair_and}
 use Rattle.lalrpop_norm_theory.specs.Translations.{made_by, written_tree, written_each, lowered_place, own_node, step_node, lowered_rule, lowered_star, extended, left_leaning, lowered_tree, lowered_all, lowered_each}
 use Rattle.lalrpop_norm_theory.specs.Tables.{AllKnown, Realizes}
 use Rattle.lalrpop_norm_theory.proofs.Numbered.{alternative_clause, Numbered, numbered_sound, own_clause_at, step_clause_last}
-use Rattle.lalrpop_norm_theory.proofs.PairSides.{tree_of, production_at}
+use Rattle.lalrpop_norm_theory.proofs.PairSides.{tree_of, trees_of, production_at}
+use Rattle.lalrpop_norm_theory.proofs.ReplicatedLemmas.{each_of_one, lowered_one_by_one}
 
 module _ (M : Meaning) (name : ClosedSymbol → Name) (P : ProductionTable) (Known : ClosedSymbol → Type 0)
     (R : Realizes M name P Known) where
@@ -50,6 +51,8 @@ module _ (M : Meaning) (name : ClosedSymbol → Name) (P : ProductionTable) (Kno
         written_node (question x) tt k 0 _ refl (lowered_and u no_lowered) (tree_and t no_trees)
         (ap (λ r. tree_and r no_trees) (written_back h (R.parts_known (question x) 0 _ k refl).0))
     written_back (question_empty_pair x) k = written_node (question x) tt k 1 _ refl no_lowered _ refl
+    written_back (times_pair n x ts us h) k =
+        written_node (times n x) tt k 0 _ refl us ts (written_back_all h (R.parts_known (times n x) 0 _ k refl))
 
     pub written_back_all : {gs : ClosedSymbols} {ts : WrittenTrees} {us : LoweredTrees} → AllPairs M name gs ts us → AllKnown Known gs → written_each P us ≡ ts
     written_back_all no_pairs k = refl
@@ -193,6 +196,9 @@ module _ (M : Meaning) (name : ClosedSymbol → Name) (V : HasLevels M) where
         ap₂ (λ r s. lowered_node (name (plus x)) 1 (lowered_and r (lowered_and s no_lowered))) (lowered_to h) (lowered_to i)
     lowered_to (question_some_pair x t u h) = ap (λ r. lowered_node (name (question x)) 0 (lowered_and r no_lowered)) (lowered_to h)
     lowered_to (question_empty_pair x) = refl
+    lowered_to (times_pair n x ts us h) =
+        ap (λ r. lowered_node (name (times n x)) 0 r)
+        (sym (lowered_one_by_one M x name ts n (each_of_one M x ts n (trees_of M name V h)).0) ∙ lowered_to_all h)
 
     pub lowered_to_all : {gs : ClosedSymbols} {ts : WrittenTrees} {us : LoweredTrees} → AllPairs M name gs ts us → lowered_all M name ts gs ≡ us
     lowered_to_all no_pairs = refl
@@ -225,6 +231,7 @@ module _ (M : Meaning) (name : ClosedSymbol → Name) where
         yields_more ts t ∙ ap₂ (λ a b. a ++ b) (same_yield h) (same_yield i ∙ sym (append-nil (lowered_yield w)))
     same_yield (question_some_pair x t u h) = ap (λ w. w ++ []) (same_yield h)
     same_yield (question_empty_pair x) = refl
+    same_yield (times_pair n x ts us h) = same_yields h
 
     pub same_yields : {gs : ClosedSymbols} {ts : WrittenTrees} {us : LoweredTrees} → AllPairs M name gs ts us → yields ts ≡ lowered_yields us
     same_yields no_pairs = refl
@@ -268,6 +275,8 @@ module _ (M : Meaning) (name : ClosedSymbol → Name) (P : ProductionTable) (Kno
         node_origins (question x) tt k 0 _ refl (lowered_and u no_lowered) (alternatives t ++ [])
         (ap (λ w. w ++ []) (same_alternatives h (R.parts_known (question x) 0 _ k refl).0))
     same_alternatives (question_empty_pair x) k = node_origins (question x) tt k 1 _ refl no_lowered [] refl
+    same_alternatives (times_pair n x ts us h) k =
+        node_origins (times n x) tt k 0 _ refl us (alternatives_of ts) (all_alternatives h (R.parts_known (times n x) 0 _ k refl))
 
     pub all_alternatives : {gs : ClosedSymbols} {ts : WrittenTrees} {us : LoweredTrees} → AllPairs M name gs ts us → AllKnown Known gs → alternatives_of ts ≡ written_origins_of P us
     all_alternatives no_pairs k = refl

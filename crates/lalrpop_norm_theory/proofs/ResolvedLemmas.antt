@@ -1,7 +1,7 @@
 -- In a resolved grammar the rules of resolved symbols have resolved parts.
 use Rattle.std.proofs.Common.{◌≡◌, ℕ, zero, suc, inl, inr, List, [], ◌∷◌, refl, sym, subst, arith}
 use Rattle.std.specs.Prelude.{slice_get, flat_map, Some}
-use Rattle.lalrpop_norm_theory.specs.Symbols.{ClosedSymbol, ClosedSymbols, terminal, error, reference, call, group, star, plus, question, wrapped, lookahead, lookbehind, no_symbols, symbol_and}
+use Rattle.lalrpop_norm_theory.specs.Symbols.{ClosedSymbol, ClosedSymbols, terminal, error, reference, call, group, star, plus, question, times, wrapped, lookahead, lookbehind, no_symbols, symbol_and}
 use Rattle.lalrpop_norm_theory.specs.Meaning.{Meaning, HasLevels}
 use Rattle.lalrpop_norm_theory.specs.Clauses.{Clause, clauses, own_clauses, step_clauses}
 use Rattle.lalrpop_norm_theory.specs.Rounds.{In, Chain}
@@ -9,6 +9,7 @@ use Rattle.lalrpop_norm_theory.specs.Met.{meets, meets_all, clauses_meet, rule_m
 use Rattle.lalrpop_norm_theory.proofs.Numbered.{split_at}
 use Rattle.lalrpop_norm_theory.proofs.PairTotal.{numbered_clause_at, step_clause_at}
 use Rattle.lalrpop_norm_theory.proofs.RoundsLemmas.{in_cases, of_flat}
+use Rattle.lalrpop_norm_theory.proofs.ReplicatedLemmas.{replicated_resolved}
 
 -- what is resolved is declared
 pub declared_from : (declared : List ClosedSymbol) (g : ClosedSymbol) → IsResolvedIn declared g → IsDeclaredIn declared g
@@ -21,6 +22,7 @@ declared_from declared (group gs) r = tt
 declared_from declared (star x) r = tt
 declared_from declared (plus x) r = tt
 declared_from declared (question x) r = tt
+declared_from declared (times n x) r = tt
 declared_from declared lookahead r = tt
 declared_from declared lookbehind r = tt
 
@@ -59,6 +61,10 @@ mutual
   met_resolved declared (question x) h r i = elim (in_cases h (meets x) _ i) [
     | inl j ↦ met_resolved declared x h r j
     | inr j ↦ met_itself declared (question x) h r j
+  ]
+  met_resolved declared (times n x) h r i = elim (in_cases h (meets x) _ i) [
+    | inl j ↦ met_resolved declared x h r j
+    | inr j ↦ met_itself declared (times n x) h r j
   ]
   met_resolved declared lookahead h r i = met_itself declared lookahead h r i
   met_resolved declared lookbehind h r i = met_itself declared lookbehind h r i
@@ -100,12 +106,14 @@ module _ (M : Meaning) (declared : List ClosedSymbol) (D : IsResolved M declared
   clause_resolved (plus x) (suc zero) c r e = of_clause declared _ c (r, (r, tt)) e
   clause_resolved (question x) zero c r e = of_clause declared _ c (r, tt) e
   clause_resolved (question x) (suc zero) c r e = of_clause declared _ c tt e
+  clause_resolved (times n x) zero c r e = of_clause declared _ c (replicated_resolved declared n x r) e
   clause_resolved lookahead zero c r e = of_clause declared _ c tt e
   clause_resolved lookbehind zero c r e = of_clause declared _ c tt e
   clause_resolved (group gs) (suc p) c r e = absurd (grind arith)
   clause_resolved (star x) (suc (suc p)) c r e = absurd (grind arith)
   clause_resolved (plus x) (suc (suc p)) c r e = absurd (grind arith)
   clause_resolved (question x) (suc (suc p)) c r e = absurd (grind arith)
+  clause_resolved (times n x) (suc p) c r e = absurd (grind arith)
   clause_resolved lookahead (suc p) c r e = absurd (grind arith)
   clause_resolved lookbehind (suc p) c r e = absurd (grind arith)
 

@@ -4,7 +4,7 @@ use Rattle.std.specs.Prelude.{Bool, true, false, bytes_eq, Option, Some, None}
 use Rattle.std.proofs.lemmas.Bool.{eqb-true, eq-eqb, and_parts, and_from}
 use Rattle.std.proofs.lemmas.Bool.Decides.{same_from_decides}
 use Rattle.std.proofs.lemmas.Slice.Eq.{bytes_eq-Decides}
-use Rattle.lalrpop_norm_theory.specs.Symbols.{Terminal, quoted, regex, bare, error_terminal, ClosedPattern, ClosedPatterns, name_pattern, tuple_pattern, no_patterns, pattern_and, Wrapper, chosen, named, tuple, ClosedSymbol, ClosedSymbols, terminal, error, reference, call, group, star, plus, question, wrapped, lookahead, lookbehind, no_symbols, symbol_and}
+use Rattle.lalrpop_norm_theory.specs.Symbols.{Terminal, quoted, regex, bare, error_terminal, ClosedPattern, ClosedPatterns, name_pattern, tuple_pattern, no_patterns, pattern_and, Wrapper, chosen, named, tuple, ClosedSymbol, ClosedSymbols, terminal, error, reference, call, group, star, plus, question, times, wrapped, lookahead, lookbehind, no_symbols, symbol_and}
 use Rattle.lalrpop_norm_theory.specs.Rounds.{IsTest}
 use Rattle.lalrpop_norm_theory.specs.Same.{same_closed_terminal, same_flag, same_bound, same_pattern, same_patterns, same_wrapper, same_symbol, same_symbols}
 
@@ -91,6 +91,7 @@ mutual
   symbol_sound (star x) (star y) e = ap star (symbol_sound x y e)
   symbol_sound (plus x) (plus y) e = ap plus (symbol_sound x y e)
   symbol_sound (question x) (question y) e = ap question (symbol_sound x y e)
+  symbol_sound (times n x) (times m y) e = let r = and_parts _ _ e in ap₂ times (eqb-true n m r.0) (symbol_sound x y r.1)
   symbol_sound (wrapped v x) (wrapped w y) e =
       let r = and_parts _ _ e in ap₂ wrapped (wrapper_sound v w r.0) (symbol_sound x y r.1)
   symbol_sound lookahead lookahead e = refl
@@ -113,6 +114,7 @@ mutual
   symbol_same (star x) = symbol_same x
   symbol_same (plus x) = symbol_same x
   symbol_same (question x) = symbol_same x
+  symbol_same (times n x) = and_from _ _ (eq-eqb n n refl) (symbol_same x)
   symbol_same (wrapped w x) = and_from _ _ (wrapper_same w) (symbol_same x)
   symbol_same lookahead = refl
   symbol_same lookbehind = refl

@@ -1,16 +1,16 @@
 -- Written trees and the trees of the grammar with levels stand one to one.
-use Rattle.std.proofs.Common.{◌≡◌, inl, inr, List, ℕ, ◌+◌, ◌∷◌, ◌++◌, append-nil, refl, sym, ap, ap₂, ◌∙◌, subst, arith}
+use Rattle.std.proofs.Common.{◌≡◌, inl, inr, List, ℕ, suc, ◌+◌, ◌∷◌, ◌++◌, append-nil, refl, sym, ap, ap₂, ◌∙◌, subst, arith}
 use Rattle.std.specs.Prelude.{slice_get, Option, Some, None, option_map}
-use Rattle.lalrpop_norm_theory.specs.Symbols.{Name, ClosedSymbol, ClosedSymbols, terminal, error, lookahead, lookbehind, reference, call, group, star, plus, question, wrapped, no_symbols, symbol_and, only}
+use Rattle.lalrpop_norm_theory.specs.Symbols.{Name, ClosedSymbol, ClosedSymbols, terminal, error, lookahead, lookbehind, reference, call, group, star, plus, question, times, wrapped, no_symbols, symbol_and, only}
 use Rattle.lalrpop_norm_theory.specs.Meaning.{Meaning, HasLevels, HasCounts}
-use Rattle.lalrpop_norm_theory.specs.WrittenTrees.{WrittenTree, WrittenTrees, leaf, nothing, list, node, no_trees, tree_and, IsNonempty, IsAtMostOne, IsTreeOf, AreTreesOf, EachTreeOf, alternatives, alternatives_of}
+use Rattle.lalrpop_norm_theory.specs.WrittenTrees.{WrittenTree, WrittenTrees, leaf, nothing, list, node, no_trees, tree_and, IsNonempty, IsAtMostOne, tree_count, IsTreeOf, AreTreesOf, EachTreeOf, alternatives, alternatives_of}
 use Rattle.lalrpop_norm_theory.specs.LoweredTrees.{Origin, written, level_step}
 use Rattle.lalrpop_norm_theory.specs.Clauses.{Clause, clause, clauses, own_clauses, step_clauses}
 use Rattle.lalrpop_norm_theory.specs.Translations.{first_tree, made_by, lowered_place}
 use Rattle.lalrpop_norm_theory.specs.Rounds.{In}
 use Rattle.lalrpop_norm_theory.specs.Met.{IsResolvedIn, AreResolvedIn, IsResolved}
 use Rattle.lalrpop_norm_theory.specs.Leveled.{level_reference, leveled_symbol, leveled_symbols, IsLeveled}
-use Rattle.lalrpop_norm_theory.specs.Steps.{Steps, AllSteps, EachSteps, terminal_kept, error_kept, wrapped_kept, lookahead_kept, lookbehind_kept, group_kept, star_kept, plus_kept, question_kept, call_kept, at_level, below_level, all_done, all_and, each_done, each_and, unleveled_tree, unleveled_each, leveled_tree, written_alternatives, written_alternatives_of}
+use Rattle.lalrpop_norm_theory.specs.Steps.{Steps, AllSteps, EachSteps, terminal_kept, error_kept, wrapped_kept, lookahead_kept, lookbehind_kept, group_kept, star_kept, plus_kept, question_kept, times_kept, call_kept, at_level, below_level, all_done, all_and, each_done, each_and, unleveled_tree, unleveled_each, leveled_tree, written_alternatives, written_alternatives_of}
 use Rattle.lalrpop_norm_theory.specs.Laws.{StepsAreOneToOne}
 use Rattle.lalrpop_norm_theory.proofs.Numbered.{numbered_complete, split_at}
 use Rattle.lalrpop_norm_theory.proofs.PairTotal.{numbered_clause_at, step_clause_at}
@@ -29,6 +29,10 @@ same_most M L l (tree_and t no_trees) (tree_and m (tree_and o ms)) (each_and _ _
 same_most M L l no_trees (tree_and m ms) h n = elim h [ ]
 same_most M L l (tree_and t no_trees) no_trees h n = elim h [ ]
 
+same_count : (M L : Meaning) (l : Name → ℕ → Name) {x : ClosedSymbol} {ts ms : WrittenTrees} → EachSteps M L l x ts ms → tree_count ts ≡ tree_count ms
+same_count M L l (each_done x) = refl
+same_count M L l (each_and x t ts m ms h hs) = ap suc (same_count M L l hs)
+
 un_nonempty : (origin : Name → ℕ → Origin) (ms : WrittenTrees) → IsNonempty ms → IsNonempty (unleveled_each origin ms)
 un_nonempty origin no_trees n = n
 un_nonempty origin (tree_and m ms) n = tt
@@ -37,6 +41,10 @@ un_most : (origin : Name → ℕ → Origin) (ms : WrittenTrees) → IsAtMostOne
 un_most origin no_trees n = tt
 un_most origin (tree_and m no_trees) n = tt
 un_most origin (tree_and m (tree_and o ms)) n = absurd n
+
+un_count : (origin : Name → ℕ → Origin) (ms : WrittenTrees) → tree_count (unleveled_each origin ms) ≡ tree_count ms
+un_count origin no_trees = refl
+un_count origin (tree_and m ms) = ap suc (un_count origin ms)
 
 some_clause : (l : Name → ℕ → Name) (o : Option Clause) (parts : ClosedSymbols) → option_map (λ (c : Clause). leveled_symbols l c.parts) o ≡ Some parts →
     (c : Clause) × (o ≡ Some c) × (parts ≡ leveled_symbols l c.parts)
@@ -61,6 +69,7 @@ module _ (M L : Meaning) (l : Name → ℕ → Name) (origin : Name → ℕ → 
     level_tree (star_kept x ts ms h) r = level_each h r
     level_tree (plus_kept x ts ms n h) r = (same_nonempty M L l h n, level_each h r)
     level_tree (question_kept x ts ms n h) r = (same_most M L l ts ms h n, level_each h r)
+    level_tree (times_kept n x ts ms e h) r = (sym (same_count M L l h) ∙ e, level_each h r)
     level_tree (call_kept n k j p args parts ts ms e at there h) r = (
       refl,
       leveled_symbols l parts,
@@ -94,6 +103,7 @@ module _ (M L : Meaning) (l : Name → ℕ → Name) (origin : Name → ℕ → 
     unleveled_to (star_kept x ts ms h) r = ap list (unleveled_to_each h r)
     unleveled_to (plus_kept x ts ms n h) r = ap list (unleveled_to_each h r)
     unleveled_to (question_kept x ts ms n h) r = ap list (unleveled_to_each h r)
+    unleveled_to (times_kept n x ts ms e h) r = ap list (unleveled_to_each h r)
     unleveled_to (call_kept n k j p args parts ts ms e at there h) r =
         rw (call_origin M L l origin declared I n args p k j parts at there) (ap (node n k) (unleveled_to_all h (D.macros n args k parts r e)))
     unleveled_to (at_level n k p b parts ts ms e i h) r =
@@ -123,6 +133,7 @@ module _ (M L : Meaning) (l : Name → ℕ → Name) (origin : Name → ℕ → 
     steps_alternatives (star_kept x ts ms h) r = steps_alternatives_each h r
     steps_alternatives (plus_kept x ts ms n h) r = steps_alternatives_each h r
     steps_alternatives (question_kept x ts ms n h) r = steps_alternatives_each h r
+    steps_alternatives (times_kept n x ts ms e h) r = steps_alternatives_each h r
     steps_alternatives (call_kept n k j p args parts ts ms e at there h) r =
         rw (call_origin M L l origin declared I n args p k j parts at there) (ap (λ z. (n, k) ∷ z) (steps_alternatives_all h (D.macros n args k parts r e)))
     steps_alternatives (at_level n k p b parts ts ms e i h) r =
@@ -187,6 +198,7 @@ module _ (M L : Meaning) (l : Name → ℕ → Name) (origin : Name → ℕ → 
     steps_unleveled (list ms) (star x) h r = star_kept x _ ms (steps_unleveled_each ms x h r)
     steps_unleveled (list ms) (plus x) h r = plus_kept x _ ms (un_nonempty origin ms h.0) (steps_unleveled_each ms x h.1 r)
     steps_unleveled (list ms) (question x) h r = question_kept x _ ms (un_most origin ms h.0) (steps_unleveled_each ms x h.1 r)
+    steps_unleveled (list ms) (times n x) h r = times_kept n x _ ms (un_count origin ms ∙ h.0) (steps_unleveled_each ms x h.1 r)
     steps_unleveled (node n p ms) (reference m b) (same, parts, e, h) r =
         let (c, at, is) = some_clause l (slice_get (clauses M (reference m b)) p) parts (rw (I.rules m b p r) at e) in
         let h' = rw is at h in

@@ -2,7 +2,7 @@
 use Rattle.std.proofs.Common.{◌≡◌, ◌⊎◌, inl, inr, ℕ, zero, suc, List, [], ◌∷◌, ◌++◌, map, refl, sym, ap, ◌∙◌, subst, arith}
 use Rattle.std.specs.Prelude.{slice_get, Some, bytes_eq, true}
 use Rattle.std.proofs.lemmas.Bool.{cases_Bool}
-use Rattle.lalrpop_norm_theory.specs.Symbols.{Name, ClosedSymbol, ClosedSymbols, terminal, error, reference, call, group, star, plus, question, wrapped, lookahead, lookbehind, no_symbols, symbol_and}
+use Rattle.lalrpop_norm_theory.specs.Symbols.{Name, ClosedSymbol, ClosedSymbols, terminal, error, reference, call, group, star, plus, question, times, wrapped, lookahead, lookbehind, no_symbols, symbol_and}
 use Rattle.lalrpop_norm_theory.specs.Meaning.{Meaning}
 use Rattle.lalrpop_norm_theory.specs.Clauses.{Clause, clauses, clause_production, IsNonterminal}
 use Rattle.lalrpop_norm_theory.specs.Rounds.{In, IsDistinct}
@@ -47,6 +47,7 @@ known_from declared met (group gs) f r = f _ (in_right _ (meets_all gs) _ (inl r
 known_from declared met (star x) f r = f _ (in_right _ (meets x) _ (inl refl))
 known_from declared met (plus x) f r = f _ (in_right _ (meets x) _ (inl refl))
 known_from declared met (question x) f r = f _ (in_right _ (meets x) _ (inl refl))
+known_from declared met (times n x) f r = f _ (in_right _ (meets x) _ (inl refl))
 known_from declared met lookahead f r = f _ (inl refl)
 known_from declared met lookbehind f r = f _ (inl refl)
 
@@ -82,6 +83,7 @@ known_more roots declared met (group gs) k = k
 known_more roots declared met (star x) k = k
 known_more roots declared met (plus x) k = k
 known_more roots declared met (question x) k = k
+known_more roots declared met (times n x) k = k
 known_more roots declared met lookahead k = k
 known_more roots declared met lookbehind k = k
 

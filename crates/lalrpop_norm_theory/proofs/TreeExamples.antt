@@ -1,11 +1,11 @@
 -- Small trees and rules, computed: what holds of them, and what does not.
 use Rattle.std.proofs.Common.{◌≡◌, ℕ, zero, suc, List, [], ◌∷◌, refl, ap, arith}
 use Rattle.std.specs.Prelude.{Some, None}
-use Rattle.lalrpop_norm_theory.specs.Symbols.{Name, error_terminal, chosen, ClosedSymbol, ClosedSymbols, terminal, error, reference, call, group, star, plus, question, wrapped, no_symbols, symbol_and, only}
+use Rattle.lalrpop_norm_theory.specs.Symbols.{Name, error_terminal, chosen, ClosedSymbol, ClosedSymbols, terminal, error, reference, call, group, star, plus, question, times, wrapped, no_symbols, symbol_and, only}
 use Rattle.lalrpop_norm_theory.specs.WrittenTrees.{WrittenTree, leaf, list, node, no_trees, tree_and, IsTreeOf, yield, alternatives}
-use Rattle.lalrpop_norm_theory.specs.LoweredTrees.{LoweredTree, lowered_leaf, lowered_node, no_lowered, lowered_and, ProductionTable, written, level_step, from_group, star_empty, star_some, plus_one, plus_more, question_some, question_empty, IsDerivation, nonterminal_symbol, lowered_yield, written_origins}
+use Rattle.lalrpop_norm_theory.specs.LoweredTrees.{LoweredTree, lowered_leaf, lowered_node, no_lowered, lowered_and, ProductionTable, written, level_step, from_group, star_empty, star_some, plus_one, plus_more, question_some, question_empty, from_times, IsDerivation, nonterminal_symbol, lowered_yield, written_origins}
 use Rattle.lalrpop_norm_theory.specs.Clauses.{Clause, clause, clauses}
-use Rattle.lalrpop_norm_theory.specs.Pairs.{Pairs, terminal_pair, plus_one_pair, plus_more_pair}
+use Rattle.lalrpop_norm_theory.specs.Pairs.{Pairs, terminal_pair, plus_one_pair, plus_more_pair, times_pair, no_pairs, pair_and}
 use Rattle.lalrpop_norm_theory.specs.Translations.{lowered_tree, written_tree}
 use Rattle.lalrpop_norm_theory.specs.Tables.{table, rule_of_symbol}
 use Rattle.lalrpop_norm_theory.proofs.ExampleGrammar.{none_some, expression, pick, number, sign, within, sum_parts, grammar}
@@ -61,7 +61,7 @@ error_is_no_number h = cc h
 error_is_other : error ≡ terminal error_terminal → ⊥
 error_is_other h = cc h
 
--- two numbers are a tree of `"n"+` and of `<"n">*`, and none of `"n"?`
+-- two numbers are a tree of `"n"+`, of `<"n">*` and of `"n"{2}`, and none of `"n"?` or `"n"{3}`
 abbrev two_numbers : WrittenTree
 two_numbers = list (tree_and (leaf number) (tree_and (leaf number) no_trees))
 
@@ -70,6 +70,18 @@ two_are_some = (tt, (refl, (refl, tt)))
 
 two_are_chosen : IsTreeOf grammar two_numbers (star (wrapped chosen (terminal number)))
 two_are_chosen = (refl, (refl, tt))
+
+two_are_two : IsTreeOf grammar two_numbers (times 2 (terminal number))
+two_are_two = (refl, (refl, (refl, tt)))
+
+two_are_not_three : IsTreeOf grammar two_numbers (times 3 (terminal number)) → ⊥
+two_are_not_three h = absurd (differ 2 h.0 refl)
+  where
+    differ : (k : ℕ) → k ≡ 3 → k ≡ 2 → ⊥
+    differ k e f = omega arith
+
+none_are_none : IsTreeOf grammar (list no_trees) (times 0 (terminal number))
+none_are_none = (refl, tt)
 
 two_are_too_many : IsTreeOf grammar two_numbers (question (terminal number)) → ⊥
 two_are_too_many h = h.0
@@ -101,6 +113,14 @@ plus_is_not_doubled h = let same : terminal number ≡ plus (terminal number) = 
 question_clauses : clauses grammar (question (terminal number)) ≡
     clause question_some (only (terminal number)) ∷ (clause question_empty no_symbols ∷ [])
 question_clauses = refl
+
+-- so many symbols in one clause; without symbols it is there as well
+times_clauses : clauses grammar (times 2 (terminal number)) ≡
+    clause from_times (symbol_and (terminal number) (only (terminal number))) ∷ []
+times_clauses = refl
+
+no_times_clauses : clauses grammar (times 0 (terminal number)) ≡ clause from_times no_symbols ∷ []
+no_times_clauses = refl
 
 group_clauses : clauses grammar (group (symbol_and error (only (terminal sign)))) ≡
     clause from_group (symbol_and error (only (terminal sign))) ∷ []
@@ -135,6 +155,18 @@ left_leaning_two = lowered_node (43 ∷ []) 1
 two_pair : Pairs grammar name (plus (terminal number)) two_numbers left_leaning_two
 two_pair = plus_more_pair (terminal number) (tree_and (leaf number) no_trees) (leaf number) _ _
     (plus_one_pair (terminal number) (leaf number) (lowered_leaf number) (terminal_pair number)) (terminal_pair number)
+
+-- under `"n"{2}` both stand at one node
+abbrev side_by_side : LoweredTree
+side_by_side = lowered_node [] 0 (lowered_and (lowered_leaf number) (lowered_and (lowered_leaf number) no_lowered))
+
+two_times_pair : Pairs grammar name (times 2 (terminal number)) two_numbers side_by_side
+two_times_pair =
+    times_pair 2 (terminal number) _ _
+    (pair_and _ _ _ _ _ _ (terminal_pair number) (pair_and _ _ _ _ _ _ (terminal_pair number) no_pairs))
+
+two_times_lowered : lowered_tree grammar name two_numbers (times 2 (terminal number)) ≡ side_by_side
+two_times_lowered = refl
 
 two_lowered : lowered_tree grammar name two_numbers (plus (terminal number)) ≡ left_leaning_two
 two_lowered = refl

@@ -1,12 +1,12 @@
 -- The rule of a closed symbol: its clauses, each with its origin, and the productions that they become under given names.
 use Rattle.std.specs.Prelude.{ℕ, zero, suc, List, [], ◌∷◌, ◌++◌, Option, Some, None}
 use Rattle.lalrpop_norm_theory.specs.Symbols.{Name, error_terminal, ClosedSymbol, ClosedSymbols, terminal, error, reference, call}
-use Rattle.lalrpop_norm_theory.specs.Symbols.{group, star, plus, question, wrapped, lookahead, lookbehind, no_symbols, symbol_and}
-use Rattle.lalrpop_norm_theory.specs.Symbols.{only}
+use Rattle.lalrpop_norm_theory.specs.Symbols.{group, star, plus, question, times, wrapped, lookahead, lookbehind, no_symbols}
+use Rattle.lalrpop_norm_theory.specs.Symbols.{symbol_and, only, replicated}
 use Rattle.lalrpop_norm_theory.specs.Meaning.{Meaning}
 use Rattle.lalrpop_norm_theory.specs.LoweredTrees.{Origin, LoweredSymbol, Production, terminal_symbol, nonterminal_symbol}
 use Rattle.lalrpop_norm_theory.specs.LoweredTrees.{written, level_step, from_group, star_empty, star_some, plus_one, plus_more}
-use Rattle.lalrpop_norm_theory.specs.LoweredTrees.{question_some, question_empty, from_lookahead, from_lookbehind}
+use Rattle.lalrpop_norm_theory.specs.LoweredTrees.{question_some, question_empty, from_times, from_lookahead, from_lookbehind}
 
 -- an alternative of a rule: where it comes from, and its symbols
 pub record Clause : Type 0 where
@@ -47,6 +47,7 @@ clauses M (group gs) = clause from_group gs ∷ []
 clauses M (star x) = clause star_empty no_symbols ∷ (clause star_some (only (plus x)) ∷ [])
 clauses M (plus x) = clause plus_one (only x) ∷ (clause plus_more (symbol_and (plus x) (only x)) ∷ [])
 clauses M (question x) = clause question_some (only x) ∷ (clause question_empty no_symbols ∷ [])
+clauses M (times n x) = clause from_times (replicated n x) ∷ []
 clauses M lookahead = clause from_lookahead no_symbols ∷ []
 clauses M lookbehind = clause from_lookbehind no_symbols ∷ []
 

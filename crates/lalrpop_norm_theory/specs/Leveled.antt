@@ -1,7 +1,7 @@
 -- The grammar with levels, where each level of a rule is a rule of its own: its symbols, and how it stands to the written one.
 use Rattle.std.specs.Prelude.{◌≡◌, ℕ, List, map, slice_get, Option, Some, None, option_map}
 use Rattle.lalrpop_norm_theory.specs.Symbols.{Name, ClosedSymbol, ClosedSymbols, terminal, error, reference, call, group, star}
-use Rattle.lalrpop_norm_theory.specs.Symbols.{plus, question, wrapped, lookahead, lookbehind, no_symbols, symbol_and}
+use Rattle.lalrpop_norm_theory.specs.Symbols.{plus, question, times, wrapped, lookahead, lookbehind, no_symbols, symbol_and}
 use Rattle.lalrpop_norm_theory.specs.Meaning.{Meaning}
 use Rattle.lalrpop_norm_theory.specs.LoweredTrees.{Origin, Production, ProductionTable, written}
 use Rattle.lalrpop_norm_theory.specs.Clauses.{Clause, clause, clauses}
@@ -23,6 +23,7 @@ abbrev mutual
   leveled_symbol l (star x) = star (leveled_symbol l x)
   leveled_symbol l (plus x) = plus (leveled_symbol l x)
   leveled_symbol l (question x) = question (leveled_symbol l x)
+  leveled_symbol l (times n x) = times n (leveled_symbol l x)
   leveled_symbol l (wrapped w x) = wrapped w (leveled_symbol l x)
   leveled_symbol l lookahead = lookahead
   leveled_symbol l lookbehind = lookbehind

@@ -13,7 +13,7 @@ pub data Origin : Type 0 where
   from_start : Origin
   written : Name → ℕ → Origin
   level_step from_group : Origin
-  star_empty star_some plus_one plus_more question_some question_empty : Origin
+  star_empty star_some plus_one plus_more question_some question_empty from_times : Origin
   from_lookahead from_lookbehind : Origin
 
 -- a production: where it comes from, and its symbols

@@ -1,7 +1,7 @@
 -- What rules meet, and which symbols are known once nothing new is met.
 use Rattle.std.specs.Prelude.{◌≡◌, ℕ, Option, Some, List, [], ◌∷◌, ◌++◌, flat_map}
 use Rattle.lalrpop_norm_theory.specs.Symbols.{Name, ClosedSymbol, ClosedSymbols, terminal, error, reference, call, group, star}
-use Rattle.lalrpop_norm_theory.specs.Symbols.{plus, question, wrapped, lookahead, lookbehind, no_symbols, symbol_and}
+use Rattle.lalrpop_norm_theory.specs.Symbols.{plus, question, times, wrapped, lookahead, lookbehind, no_symbols, symbol_and}
 use Rattle.lalrpop_norm_theory.specs.Meaning.{Meaning}
 use Rattle.lalrpop_norm_theory.specs.Clauses.{Clause, clauses}
 use Rattle.lalrpop_norm_theory.specs.Rounds.{In, Round, rounds, all_rules_made}
@@ -19,6 +19,7 @@ abbrev mutual
   meets (star x) = meets x ++ star x ∷ []
   meets (plus x) = meets x ++ plus x ∷ []
   meets (question x) = meets x ++ question x ∷ []
+  meets (times n x) = meets x ++ times n x ∷ []
   meets (wrapped w g) = meets g
   meets lookahead = lookahead ∷ []
   meets lookbehind = lookbehind ∷ []
@@ -81,6 +82,7 @@ abbrev mutual
   IsResolvedIn declared (star x) = IsResolvedIn declared x
   IsResolvedIn declared (plus x) = IsResolvedIn declared x
   IsResolvedIn declared (question x) = IsResolvedIn declared x
+  IsResolvedIn declared (times n x) = IsResolvedIn declared x
   IsResolvedIn declared (wrapped w g) = IsResolvedIn declared g
   IsResolvedIn declared lookahead = Unit {0}
   IsResolvedIn declared lookbehind = Unit {0}

@@ -1,8 +1,8 @@
 -- The pairing of written and lowered trees of a closed symbol, a constructor for each case.
 use Rattle.std.specs.Prelude.{◌≡◌, ℕ, slice_get, Option, Some}
 use Rattle.lalrpop_norm_theory.specs.Symbols.{Name, Terminal, error_terminal, Wrapper, ClosedSymbol, ClosedSymbols, terminal}
-use Rattle.lalrpop_norm_theory.specs.Symbols.{error, reference, call, group, star, plus, question, wrapped, lookahead, lookbehind}
-use Rattle.lalrpop_norm_theory.specs.Symbols.{no_symbols, symbol_and, only}
+use Rattle.lalrpop_norm_theory.specs.Symbols.{error, reference, call, group, star, plus, question, times, wrapped, lookahead}
+use Rattle.lalrpop_norm_theory.specs.Symbols.{lookbehind, no_symbols, symbol_and, only, replicated}
 use Rattle.lalrpop_norm_theory.specs.Meaning.{Meaning}
 use Rattle.lalrpop_norm_theory.specs.WrittenTrees.{WrittenTree, WrittenTrees, leaf, nothing, list, node, no_trees, tree_and}
 use Rattle.lalrpop_norm_theory.specs.WrittenTrees.{append}
@@ -14,6 +14,7 @@ use Rattle.lalrpop_norm_theory.specs.Clauses.{clauses, clause}
 -- - A node of a rule stands at the production of its alternative (rule_pair), below a step for each level that the bound
 --   lies above it (step_pair).
 -- - A list under `X+` stands as a tree that leans to the left, its last element outermost (plus_one_pair, plus_more_pair).
+-- - A list under `X{n}` stands at its one production, a child for each element, in order (times_pair).
 mutual
   pub data Pairs (M : Meaning) (name : ClosedSymbol → Name) : ClosedSymbol → WrittenTree → LoweredTree → Type 0 where
     terminal_pair : (a : Terminal) → Pairs M name (terminal a) (leaf a) (lowered_leaf a)
@@ -52,6 +53,8 @@ mutual
         Pairs M name (question x) (list (tree_and t no_trees)) (lowered_node (name (question x)) 0 (lowered_and u no_lowered))
     question_empty_pair : (x : ClosedSymbol) → Pairs M name (question x) (list no_trees)
         (lowered_node (name (question x)) 1 no_lowered)
+    times_pair : (n : ℕ) (x : ClosedSymbol) (ts : WrittenTrees) (us : LoweredTrees) → AllPairs M name (replicated n x) ts us →
+        Pairs M name (times n x) (list ts) (lowered_node (name (times n x)) 0 us)
 
   -- the trees pair one by one
   pub data AllPairs (M : Meaning) (name : ClosedSymbol → Name) : ClosedSymbols → WrittenTrees →

@@ -3,7 +3,7 @@ use Rattle.std.specs.Prelude.{ℕ, Bool, true, false, not, nat_eq, bytes_eq, ◌
 use Rattle.lalrpop_norm_theory.specs.Symbols.{Terminal, quoted, regex, bare, error_terminal, ClosedPattern, ClosedPatterns}
 use Rattle.lalrpop_norm_theory.specs.Symbols.{name_pattern, tuple_pattern, no_patterns, pattern_and, Wrapper, chosen, named}
 use Rattle.lalrpop_norm_theory.specs.Symbols.{tuple, ClosedSymbol, ClosedSymbols, terminal, error, reference, call, group, star}
-use Rattle.lalrpop_norm_theory.specs.Symbols.{plus, question, wrapped, lookahead, lookbehind, no_symbols, symbol_and}
+use Rattle.lalrpop_norm_theory.specs.Symbols.{plus, question, times, wrapped, lookahead, lookbehind, no_symbols, symbol_and}
 
 -- the same kind, and the same text
 abbrev pub same_closed_terminal : Terminal → Terminal → Bool
@@ -54,6 +54,7 @@ abbrev mutual
   same_symbol (star x) (star y) = same_symbol x y
   same_symbol (plus x) (plus y) = same_symbol x y
   same_symbol (question x) (question y) = same_symbol x y
+  same_symbol (times n x) (times m y) = nat_eq n m && same_symbol x y
   same_symbol (wrapped v x) (wrapped w y) = same_wrapper v w && same_symbol x y
   same_symbol lookahead lookahead = true
   same_symbol lookbehind lookbehind = true

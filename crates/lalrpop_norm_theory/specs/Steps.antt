@@ -1,11 +1,11 @@
 -- The first of two steps: written trees within bounds, and the trees of the grammar with levels read without bounds.
 use Rattle.std.specs.Prelude.{◌≡◌, ℕ, zero, suc, List, [], ◌++◌, slice_get, length, Option, Some, None, unwrap_or}
 use Rattle.lalrpop_norm_theory.specs.Symbols.{Name, Terminal, error_terminal, Wrapper, ClosedSymbol, ClosedSymbols, terminal}
-use Rattle.lalrpop_norm_theory.specs.Symbols.{error, reference, call, group, star, plus, question, wrapped, lookahead, lookbehind}
-use Rattle.lalrpop_norm_theory.specs.Symbols.{no_symbols, symbol_and, only}
+use Rattle.lalrpop_norm_theory.specs.Symbols.{error, reference, call, group, star, plus, question, times, wrapped, lookahead}
+use Rattle.lalrpop_norm_theory.specs.Symbols.{lookbehind, no_symbols, symbol_and, only}
 use Rattle.lalrpop_norm_theory.specs.Meaning.{Meaning}
 use Rattle.lalrpop_norm_theory.specs.WrittenTrees.{WrittenTree, WrittenTrees, leaf, nothing, list, node, no_trees, tree_and}
-use Rattle.lalrpop_norm_theory.specs.WrittenTrees.{IsNonempty, IsAtMostOne}
+use Rattle.lalrpop_norm_theory.specs.WrittenTrees.{IsNonempty, IsAtMostOne, tree_count}
 use Rattle.lalrpop_norm_theory.specs.LoweredTrees.{Origin, written, level_step, written_of}
 use Rattle.lalrpop_norm_theory.specs.Clauses.{Clause, clause, clauses, own_clauses}
 use Rattle.lalrpop_norm_theory.specs.Translations.{made_by, lowered_place}
@@ -28,6 +28,8 @@ mutual
         Steps M L l (plus x) (list ts) (list ms)
     question_kept : (x : ClosedSymbol) (ts ms : WrittenTrees) → IsAtMostOne ts → EachSteps M L l x ts ms →
         Steps M L l (question x) (list ts) (list ms)
+    times_kept : (n : ℕ) (x : ClosedSymbol) (ts ms : WrittenTrees) → tree_count ts ≡ n → EachSteps M L l x ts ms →
+        Steps M L l (times n x) (list ts) (list ms)
     call_kept : (n : Name) (k j p : ℕ) (args parts : ClosedSymbols) (ts ms : WrittenTrees) →
         M.call_parts n args k ≡ Some parts →
         slice_get (clauses M (call n args)) p ≡ Some (clause (written n k) parts) →
@@ -116,6 +118,7 @@ abbrev mutual
   leveled_tree M L l (list ts) (star x) = list (leveled_each M L l ts x)
   leveled_tree M L l (list ts) (plus x) = list (leveled_each M L l ts x)
   leveled_tree M L l (list ts) (question x) = list (leveled_each M L l ts x)
+  leveled_tree M L l (list ts) (times n x) = list (leveled_each M L l ts x)
   leveled_tree M L l (node n k ts) (reference m b) = tree_through_levels M l m k (λ gs. leveled_all M L l ts gs) (M.depth m b) b
   leveled_tree M L l (node n k ts) (call m args) =
       node m (clause_number (slice_get (clauses L (call m (leveled_symbols l args))) (lowered_place (M.call_parts m args) 0 k)))

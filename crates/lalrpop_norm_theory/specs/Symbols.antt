@@ -1,6 +1,6 @@
 -- Closed symbols: what a written symbol is once the arguments of its macro are substituted and each of its references has a
 -- bound. Spans are no part of them, so two closed symbols are the same exactly where they are equal.
-use Rattle.std.specs.Prelude.{ℕ, Bool, List, Option}
+use Rattle.std.specs.Prelude.{ℕ, zero, suc, Bool, List, Option}
 
 -- a text, by its bytes
 abbrev pub Name : Type 0
@@ -37,6 +37,7 @@ mutual
     call : Name → ClosedSymbols → ClosedSymbol
     group : ClosedSymbols → ClosedSymbol
     star plus question : ClosedSymbol → ClosedSymbol
+    times : ℕ → ClosedSymbol → ClosedSymbol
     wrapped : Wrapper → ClosedSymbol → ClosedSymbol
     lookahead lookbehind : ClosedSymbol
 
@@ -47,3 +48,8 @@ mutual
 -- one symbol alone
 abbrev pub only : ClosedSymbol → ClosedSymbols
 only g = symbol_and g no_symbols
+
+-- one symbol so many times
+abbrev pub replicated : ℕ → ClosedSymbol → ClosedSymbols
+replicated zero g = no_symbols
+replicated (suc n) g = symbol_and g (replicated n g)

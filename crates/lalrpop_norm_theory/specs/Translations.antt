@@ -1,14 +1,15 @@
 -- The two translations as functions: forward, by the written tree and its symbol; back, by the origins alone.
 use Rattle.std.specs.Prelude.{ℕ, zero, suc, slice_get, Option, Some, None, unwrap_or, length}
 use Rattle.lalrpop_norm_theory.specs.Symbols.{Name, error_terminal, ClosedSymbol, ClosedSymbols, terminal, error, reference, call}
-use Rattle.lalrpop_norm_theory.specs.Symbols.{group, star, plus, question, wrapped, lookahead, lookbehind, no_symbols, symbol_and}
+use Rattle.lalrpop_norm_theory.specs.Symbols.{group, star, plus, question, times, wrapped, lookahead, lookbehind, no_symbols}
+use Rattle.lalrpop_norm_theory.specs.Symbols.{symbol_and}
 use Rattle.lalrpop_norm_theory.specs.Meaning.{Meaning}
 use Rattle.lalrpop_norm_theory.specs.WrittenTrees.{WrittenTree, WrittenTrees, leaf, nothing, list, node, no_trees, tree_and}
 use Rattle.lalrpop_norm_theory.specs.WrittenTrees.{append}
 use Rattle.lalrpop_norm_theory.specs.LoweredTrees.{LoweredTree, LoweredTrees, lowered_leaf, lowered_node, no_lowered, lowered_and}
 use Rattle.lalrpop_norm_theory.specs.LoweredTrees.{ProductionTable, Production, Origin, from_start, written, level_step}
 use Rattle.lalrpop_norm_theory.specs.LoweredTrees.{from_group, star_empty, star_some, plus_one, plus_more, question_some}
-use Rattle.lalrpop_norm_theory.specs.LoweredTrees.{question_empty, from_lookahead, from_lookbehind}
+use Rattle.lalrpop_norm_theory.specs.LoweredTrees.{question_empty, from_times, from_lookahead, from_lookbehind}
 use Rattle.lalrpop_norm_theory.specs.Clauses.{own_clauses}
 
 -- the first of a list of trees
@@ -39,6 +40,7 @@ made_by plus_one ts = list ts
 made_by plus_more ts = list (append (elements (first_tree ts)) (tree_and (second ts) no_trees))
 made_by question_some ts = list ts
 made_by question_empty ts = list no_trees
+made_by from_times ts = list ts
 made_by from_lookahead ts = nothing
 made_by from_lookbehind ts = nothing
 
@@ -122,6 +124,7 @@ abbrev mutual
   lowered_tree M name (list ts) (star x) = lowered_star name ts x (left_leaning name x (lowered_each M name ts x))
   lowered_tree M name (list ts) (plus x) = left_leaning name x (lowered_each M name ts x)
   lowered_tree M name (list ts) (question x) = lowered_question name x (lowered_each M name ts x)
+  lowered_tree M name (list ts) (times n x) = lowered_node (name (times n x)) 0 (lowered_each M name ts x)
   lowered_tree M name (node n k ts) (reference m b) =
       lowered_rule M name m k (λ gs. lowered_all M name ts gs) (M.depth m b) b
   lowered_tree M name (node n k ts) (call m args) =

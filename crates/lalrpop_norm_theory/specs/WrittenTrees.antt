@@ -1,8 +1,8 @@
 -- Written trees, and which of them are trees of a closed symbol.
-use Rattle.std.specs.Prelude.{◌≡◌, ℕ, List, [], ◌∷◌, ◌++◌, Some}
+use Rattle.std.specs.Prelude.{◌≡◌, ℕ, suc, List, [], ◌∷◌, ◌++◌, Some}
 use Rattle.lalrpop_norm_theory.specs.Symbols.{Name, Terminal, error_terminal, ClosedSymbol, ClosedSymbols, terminal, error}
-use Rattle.lalrpop_norm_theory.specs.Symbols.{reference, call, group, star, plus, question, wrapped, lookahead, lookbehind}
-use Rattle.lalrpop_norm_theory.specs.Symbols.{no_symbols, symbol_and}
+use Rattle.lalrpop_norm_theory.specs.Symbols.{reference, call, group, star, plus, question, times, wrapped, lookahead}
+use Rattle.lalrpop_norm_theory.specs.Symbols.{lookbehind, no_symbols, symbol_and}
 use Rattle.lalrpop_norm_theory.specs.Meaning.{Meaning}
 
 -- A leaf; nothing; a list of trees; or a node, with the name of its rule or macro, the number of its alternative, and its
@@ -29,6 +29,11 @@ IsAtMostOne no_trees = Unit {0}
 IsAtMostOne (tree_and t no_trees) = Unit {0}
 IsAtMostOne (tree_and t (tree_and s ts)) = ⊥
 
+-- how many trees there are
+abbrev pub tree_count : WrittenTrees → ℕ
+tree_count no_trees = 0
+tree_count (tree_and t ts) = suc (tree_count ts)
+
 -- The trees of a closed symbol, case by case: the first line takes the wrappers away, the last says that there are no others.
 abbrev mutual
   pub IsTreeOf : Meaning → WrittenTree → ClosedSymbol → Type 0
@@ -41,6 +46,7 @@ abbrev mutual
   IsTreeOf M (list ts) (star x) = EachTreeOf M ts x
   IsTreeOf M (list ts) (plus x) = IsNonempty ts × EachTreeOf M ts x
   IsTreeOf M (list ts) (question x) = IsAtMostOne ts × EachTreeOf M ts x
+  IsTreeOf M (list ts) (times n x) = (tree_count ts ≡ n) × EachTreeOf M ts x
   IsTreeOf M (node n k ts) (reference m b) =
       (n ≡ m) × (parts : ClosedSymbols) × (M.reference_parts m b k ≡ Some parts) × AreTreesOf M ts parts
   IsTreeOf M (node n k ts) (call m args) =

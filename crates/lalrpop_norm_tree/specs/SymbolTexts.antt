@@ -1,10 +1,10 @@
 -- The texts of symbols and of what a match block maps to, as bytes.
-use Rattle.std.specs.Prelude.{ℕ, List, [], ◌∷◌, ◌++◌, if◌then◌else◌, codes}
+use Rattle.std.specs.Prelude.{ℕ, List, [], ◌∷◌, ◌++◌, if◌then◌else◌, codes, decimal}
 use Rattle.lalrpop_norm_tree.specs.declared.items.MatchMapping.{MatchMapping}
 use Rattle.lalrpop_norm_tree.specs.declared.items.MatchMapping.TheVariants as mapping
 use Rattle.lalrpop_norm_tree.specs.declared.symbol.Name.{Name}
 use Rattle.lalrpop_norm_tree.specs.declared.symbol.RepeatOp.{RepeatOp}
-use Rattle.lalrpop_norm_tree.specs.declared.symbol.RepeatOp.TheVariants.{Star, Plus, Question}
+use Rattle.lalrpop_norm_tree.specs.declared.symbol.RepeatOp.TheVariants.{Star, Plus, Question, Times}
 use Rattle.lalrpop_norm_tree_names.specs.Texts.{terminal_text, joined}
 use Rattle.lalrpop_norm_tree.specs.Symbols.{ArgumentPattern, one_name, several, ArgumentPatterns, no_arguments, argument_and}
 use Rattle.lalrpop_norm_tree.specs.Symbols.{Kind, group, ambiguous_id, terminal, nonterminal, call, repeated, chosen, named}
@@ -22,6 +22,7 @@ abbrev pub op_text : RepeatOp → List ℕ
 op_text Star = codes "*"
 op_text Plus = codes "+"
 op_text Question = codes "?"
+op_text (Times n) = codes "{" ++ decimal n ++ codes "}"
 
 abbrev mutual
   pub argument_pattern_text : ArgumentPattern → List ℕ

@@ -91,6 +91,8 @@ pub(crate) enum Last {
     Ask,
     /// Texts of the tree's parts.
     Texts,
+    /// `malformed_cfgs`: where a `cfg` is of no known form.
+    MalformedCfgs,
     /// The copy of the lowered grammar.
     LoweredCopy,
     /// What calls answer that take no memory.
@@ -152,6 +154,7 @@ fn look_of(name: &str) -> Option<Last> {
         "copy" => Some(Last::Copy),
         "ask" => Some(Last::Ask),
         "texts" => Some(Last::Texts),
+        "malformed_cfgs" => Some(Last::MalformedCfgs),
         "without_memory" => Some(Last::WithoutMemory),
         _ => match pass_of(name) {
             Some(pass) => Some(Last::Pass(pass)),

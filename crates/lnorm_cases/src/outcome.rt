@@ -6,15 +6,17 @@ use crate::shown::{ended, push_or};
 use crate::without_memory::push_without_memory;
 use lalrpop_norm::grammar::repr;
 use lalrpop_norm::normalize::lower::is_typed;
+use lalrpop_norm::normalize::prevalidate::malformed_cfgs;
 use lalrpop_norm::normalize::{NormFailure, Session};
 use lalrpop_norm_json::{TreeError, read_tree};
 use lalrpop_norm_lexer::lexer::Lexer;
 use lalrpop_norm_macro_expand::macro_expand::Counts;
 use lalrpop_norm_repr::grammar::repr::Types;
-use lalrpop_norm_tree::grammar::parse_tree::Grammar;
+use lalrpop_norm_tree::grammar::parse_tree::{Grammar, Span};
 use lnorm_texts::faults::push_told;
 use lnorm_texts::lowered::push_lowered_copy;
 use lnorm_texts::print::lowered::{push_lowered, push_whole_lowered};
+use lnorm_texts::print::symbols::push_span;
 use lnorm_texts::print::tables::{push_types, push_whole_types};
 use lnorm_texts::print::trees::{push_tree, push_whole_tree};
 use lnorm_texts::texts::push_texts;
@@ -129,6 +131,10 @@ fn push_last<L: Lexer>(
         }
         Last::Texts => {
             let done = push_texts_or_memory(alloc, text, &tree);
+            ended(tree, done)
+        }
+        Last::MalformedCfgs => {
+            let done = push_malformed(alloc, text, &tree);
             ended(tree, done)
         }
         Last::WithoutMemory => push_typed_without_memory(text, session, typed(alloc, tree)),
@@ -317,6 +323,24 @@ fn push_texts_or_memory(
         Ok(()) => Ok(()),
         Err(_) => text.push_str("memory\n"),
     }
+}
+
+/// Where the `cfg` stand that are of no known form.
+fn push_malformed(alloc: Global, text: &mut String, tree: &Grammar) -> Result<(), AllocError> {
+    push_or(
+        text,
+        malformed_cfgs(alloc, tree),
+        |text, spans| push_spans(text, spans),
+        "memory\n",
+    )
+}
+
+fn push_spans(text: &mut String, spans: &Vec<Span>) -> Result<(), AllocError> {
+    text.push_str("malformed:")?;
+    for span in spans {
+        push_span(text, *span)?;
+    }
+    text.push_str("\n")
 }
 
 /// Why there is no answer.

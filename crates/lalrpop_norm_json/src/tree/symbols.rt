@@ -11,7 +11,7 @@ ghost use Rattle.lalrpop_norm_json.specs.SymbolForms.{op_form, name_form, argume
 use super::names::{atom, span, terminal};
 use json_document::Value;
 use lalrpop_norm_json_shapes::{
-    Case, TreeError, case_of, counted_items, only_field, pair, truth, two_fields,
+    Case, TreeError, case_of, counted_items, only_field, pair, short, truth, two_fields,
 };
 use lalrpop_norm_tree::grammar::parse_tree::{
     ArgPattern, ExprSymbol, MacroSymbol, Name, NonterminalString, RepeatOp, RepeatSymbol, Symbol,
@@ -31,8 +31,21 @@ fn repeat_op(value: Value<'_, '_>) -> Result<RepeatOp, TreeError>
             "Question" => Ok(RepeatOp::Question),
             _ => Err(TreeError::NotATree),
         },
-        Case::Of(_, _) => Err(TreeError::NotATree),
+        Case::Of(variant, held) => match variant {
+            "Times" => times(held),
+            _ => Err(TreeError::NotATree),
+        },
     }
+}
+
+/// The operator with that count.
+#[tactic(auto, using(lalrpop_norm_json_shapes::proofs::Refusals::refusals))]
+fn times(value: Value<'_, '_>) -> Result<RepeatOp, TreeError>
+    ensures ok { IfOk result (λ o. variant (codes "Times") (view value.entry) ≡ op_form o) }
+    ensures err { IsErrOf result TreeError.NotATree → is shape.repeat_operator (variant (codes "Times") (view value.entry)) ≡ false }
+{
+    let count = short(value)?;
+    Ok(RepeatOp::Times(count))
 }
 
 #[tactic(auto, using(lalrpop_norm_json_shapes::proofs::Refusals::refusals))]

@@ -14,7 +14,7 @@ ghost use Rattle.lalrpop_norm_macro_expand_rules.specs.Conditions.{called_faults
 ghost use Rattle.lalrpop_norm_macro_expand_rules.specs.Macros.{macros_in, AreByName};
 ghost use Rattle.lalrpop_norm_macro_expand_rules.specs.Pending.{unread_rule, pending_view, IsReadable, AreReadable};
 ghost use Rattle.lalrpop_norm_macro_expand_rules.specs.declared.pending.Pending.TheVariants.{Unread};
-ghost use Rattle.lalrpop_norm_macro_expand.specs.Expansion.{unmade};
+ghost use Rattle.lalrpop_norm_macro_expand.specs.Expansion.{unmade, unmade_repeat};
 ghost use Rattle.lalrpop_norm_macro_expand.specs.Kept.{kept_by, kept_by_call};
 ghost use Rattle.lalrpop_norm_macro_expand.specs.Made.{made_view, made_for};
 ghost use Rattle.lalrpop_norm_macro_expand.specs.Making.{instance_shape, call_pending, repeat_pending, pending_of, pending_for};
@@ -29,10 +29,10 @@ use lalrpop_norm_macro_expand_rules::rules::Head;
 use lalrpop_norm_nodes::given::Given;
 use lalrpop_norm_nodes::parts::{given_by_call, repeated_number};
 use lalrpop_norm_nodes::table::{Table, Waiting};
-use lalrpop_norm_session::norm_util::has_name_value;
+use lalrpop_norm_session::norm_util::{has_name_value, names_value};
 use lalrpop_norm_tree::grammar::parse_tree::{
-    ActionKind, ExprSymbol, MacroSymbol, NoMemory, NonterminalData, NonterminalString,
-    RepeatSymbol, Symbol, SymbolKind,
+    ActionKind, Atom, ExprSymbol, MacroSymbol, NoMemory, NonterminalData, NonterminalString, RepeatOp,
+    RepeatSymbol, Span, Symbol, SymbolKind,
 };
 use std::alloc::Global;
 use std::mem;
@@ -57,20 +57,51 @@ fn group_of(alloc: Global, head: Head, expr: &mut ExprSymbol) -> NormResult<Nont
     Ok(group_rule(alloc, head, symbols)?)
 }
 
+/// Looks for a name before what is repeated so many times.
+fn check_times(
+    alloc: Global,
+    name: &Atom,
+    span: Span,
+    op: RepeatOp,
+    symbol: &Symbol,
+) -> NormResult<()>
+    ensures { Refuses result (unmade_repeat span op (symbol_view symbol.now)) }
+{
+    match op {
+        RepeatOp::Star | RepeatOp::Plus | RepeatOp::Question => Ok(()),
+        RepeatOp::Times(_) => {
+            if names_value(symbol) {
+                return Err(refusal(
+                    FaultKind::NamedInTimes,
+                    span,
+                    format!(in alloc;
+                        "the symbol repeated in `{name}` has a name: leave it out, or write a rule with code for the symbol"
+                    ),
+                ));
+            }
+            Ok(())
+        }
+    }
+}
+
 /// The rule of a repeat, which takes what is repeated.
+///
+/// Errors: F57 (`NamedInTimes`) where a named or tuple symbol is repeated so many times; `Memory`.
 fn repeat_of(
     alloc: Global,
     table: &Table,
     number: usize,
     head: Head,
     repeat: &mut RepeatSymbol,
-) -> Result<UnreadRule, NoMemory>
+) -> NormResult<UnreadRule>
     requires table { IsNodeTable table.now }
     requires shallow { IsShallow (wholes_in table.now) number (repeated repeat.old.op (symbol_view repeat.old.symbol)) }
+    ensures refuses { Refuses result (unmade_repeat head.span repeat.old.op (symbol_view repeat.old.symbol)) }
     ensures pending { IfOk result (λ o. pending_view (wholes_in table.now) (Unread o)
         ≡ repeat_pending head.name head.span repeat.old.op (repeated_kind (kind_at (wholes_in table.now) number)) (symbol_view repeat.old.symbol)) }
     ensures readable { IfOk result (λ o. IsReadable (wholes_in table.now) (Unread o)) }
 {
+    check_times(alloc, &head.name, head.span, repeat.op, &repeat.symbol)?;
     let number = repeated_number(table, number);
     let nothing = Symbol::new(head.span, SymbolKind::Error);
     let symbol = mem::replace(&mut repeat.symbol, nothing);
@@ -166,8 +197,8 @@ fn called_of(
 
 /// The rule that a symbol is made into, if it is made into one; it takes the symbol's parts.
 ///
-/// Errors: F35 (`NamedInGroup`) at a group with a named or tuple symbol in it; at a condition of a macro that is called F33
-/// (`ConditionArgument`) or F34 (`ConditionPattern`); `Memory`.
+/// Errors: F35 (`NamedInGroup`) at a group with a named or tuple symbol in it; F57 (`NamedInTimes`) at a repeat of one so many
+/// times; at a condition of a macro that is called F33 (`ConditionArgument`) or F34 (`ConditionPattern`); `Memory`.
 fn rule_of(
     alloc: Global,
     macros: &Macros,

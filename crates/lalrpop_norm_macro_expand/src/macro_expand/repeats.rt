@@ -1,11 +1,11 @@
 //! The rules of repeats, in which a name stands for what is repeated.
-ghost use Rattle.std.specs.Prelude.{◌≡◌, IfOk, Some, codes, map};
+ghost use Rattle.std.specs.Prelude.{◌≡◌, ◌++◌, ◌∷◌, [], IfOk, OnOk, Some, codes, map};
 ghost use Rattle.lalrpop_norm_tree_parts.specs.Paths.{path_view};
 ghost use Rattle.lalrpop_norm_tree_parts.specs.Attributes.{attributes_view};
 ghost use Rattle.lalrpop_norm_tree.specs.Symbols.{part_and, at, nonterminal, repeated, symbol_view, parts_view};
 ghost use Rattle.lalrpop_norm_tree.specs.Types.{type_view};
 ghost use Rattle.lalrpop_norm_tree.specs.Items.{alternative_view, rule_view};
-ghost use Rattle.lalrpop_norm_model.specs.MadeRules.{only_part, with_name, holding, star_rule, plus_rule, question_rule};
+ghost use Rattle.lalrpop_norm_model.specs.MadeRules.{only_part, so_many, with_name, holding, star_rule, plus_rule, question_rule, times_rule};
 ghost use Rattle.lalrpop_norm_macro_expand.specs.Making.{hole_name, repeat_shape};
 
 use lalrpop_norm_macro_expand_rules::replaced::replaced_kind;
@@ -158,6 +158,43 @@ fn question_rule(
     Ok(private_rule(alloc, head, inline, Some(of_option), alternatives))
 }
 
+/// Adds one more of a symbol.
+fn add_copy(symbols: &mut Vec<Symbol>, symbol: &Symbol) -> Result<(), NoMemory>
+    ensures { OnOk result (map symbol_view symbols.new.items ≡ map symbol_view symbols.old.items ++ symbol_view symbol.now ∷ []) }
+{
+    symbols.push(symbol.clone()?)?;
+    Ok(())
+}
+
+/// `X` so many times, in a row.
+#[tactic(auto, using(std::proofs::lemmas::List::replicate_more))]
+fn so_many(alloc: Global, count: u16, symbol: &Symbol) -> Result<Vec<Symbol>, NoMemory>
+    ensures { IfOk result (λ v. parts_view v.items ≡ so_many count (symbol_view symbol.now)) }
+{
+    let mut symbols = Vec::with_capacity(alloc, count as usize)?;
+    for _copy in 0..count {
+        add_copy(&mut symbols, symbol)?;
+    }
+    Ok(symbols)
+}
+
+/// Of `X{n}`: `X` so many times.
+fn times_rule(
+    alloc: Global,
+    head: Head,
+    count: u16,
+    inner: &Symbol,
+    over: &Symbol,
+) -> Result<NonterminalData, NoMemory>
+    ensures { IfOk result (λ r. rule_view r ≡ repeat_shape head.name head.span (RepeatOp.Times count) (symbol_view inner.now) (symbol_view over.now)) }
+{
+    let of_vector = holding(alloc, Path::vec(alloc)?, inner)?;
+    let symbols = so_many(alloc, count, over)?;
+    let alternatives = vec![in alloc; coded(alloc, head.span, symbols, "alloc::vec![<>]")?]?;
+    let inline = inline_at(alloc, head.span)?;
+    Ok(private_rule(alloc, head, inline, Some(of_vector), alternatives))
+}
+
 /// The rule of a repeat of a symbol, in which a name stands for that symbol.
 pub(super) fn repeat_rule(
     alloc: Global,
@@ -172,5 +209,6 @@ pub(super) fn repeat_rule(
         RepeatOp::Star => star_rule(alloc, head, inner, &over),
         RepeatOp::Plus => plus_rule(alloc, head, inner, &over),
         RepeatOp::Question => question_rule(alloc, head, inner, &over),
+        RepeatOp::Times(count) => times_rule(alloc, head, count, inner, &over),
     }
 }

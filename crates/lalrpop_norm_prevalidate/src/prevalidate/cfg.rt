@@ -2,7 +2,7 @@
 ghost use Rattle.std.specs.Prelude.{◌≡◌, [], ◌∷◌};
 ghost use Rattle.lalrpop_norm_tree_parts.specs.Attributes.{argument_view, attribute_view, attributes_view};
 ghost use Rattle.lalrpop_norm_faults.specs.Faults.{Refuses, IsFirst};
-ghost use Rattle.lalrpop_norm_prevalidate.specs.CfgFaults.{test_of, test_faults, test_argument_faults, first_test_faults, empty_faults, tests_faults, cfg_faults};
+ghost use Rattle.lalrpop_norm_prevalidate.specs.CfgFaults.{test_of, test_faults, test_argument_faults, first_test_faults, empty_faults, tests_faults, cfg_faults, attribute_cfg_faults, all_cfg_faults};
 
 use lalrpop_norm_faults::{FaultKind, NormFailure, NormResult, refusal};
 use lalrpop_norm_tree::grammar::parse_tree::{Attribute, AttributeArg, Span};
@@ -110,4 +110,24 @@ pub(super) fn validate_cfg(alloc: Global, span: Span, arg: &AttributeArg) -> Nor
     ensures { Refuses result (cfg_faults span (argument_view arg.now)) }
 {
     check_arg(alloc, Test::Not, span, arg)
+}
+
+/// An attribute, if it is a `cfg`.
+pub(super) fn check_cfg(alloc: Global, attribute: &Attribute) -> NormResult<()>
+    ensures { Refuses result (attribute_cfg_faults (attribute_view attribute.now)) }
+{
+    if attribute.id.as_str() == "cfg" {
+        validate_cfg(alloc, attribute.id_span, &attribute.arg)?;
+    }
+    Ok(())
+}
+
+/// Each `cfg` among attributes.
+pub(super) fn check_cfgs(alloc: Global, attributes: &[Attribute]) -> NormResult<()>
+    ensures { Refuses result (all_cfg_faults (attributes_view attributes.now)) }
+{
+    for attribute in attributes {
+        check_cfg(alloc, attribute)?;
+    }
+    Ok(())
 }

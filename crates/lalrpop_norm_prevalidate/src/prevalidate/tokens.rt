@@ -6,6 +6,7 @@ ghost use Rattle.lalrpop_norm_model.specs.Features.{is_one_of};
 ghost use Rattle.lalrpop_norm_prevalidate.specs.GrammarFaults.{mapping_faults, match_beside_extern_faults, match_faults, is_known_type, associated_faults, types_faults, conversion_faults, enum_faults, extern_faults};
 
 use super::Blocks;
+use super::cfg::check_cfgs;
 use super::rules::check_type;
 use super::symbols::validate_terminal;
 use super::types::pattern_holds;
@@ -186,6 +187,7 @@ fn validate_conversion(alloc: Global, conversion: &Conversion) -> NormResult<()>
 {
     validate_terminal(alloc, conversion.span, &conversion.from)?;
     check_type(alloc, pattern_holds(&conversion.to), conversion.span)?;
+    check_cfgs(alloc, &conversion.attributes)?;
     Ok(())
 }
 
