@@ -4,7 +4,7 @@ use crate::call::{Call, Last, Pass, call_of};
 use crate::copies::push_copies;
 use crate::cuts::{push_cut_faults, push_cut_reads, push_cut_writes};
 use crate::library_call::push_counts_of;
-use crate::outcome::{Layout, push_outcome};
+use crate::outcome::{Layout, PassCall, push_outcome};
 use crate::readings::parts::push_parts;
 use crate::readings::twice::{push_beginnings, push_read_twice};
 use crate::runs::{push_cut_trees, push_run};
@@ -63,17 +63,22 @@ fn push_passes(
     words: &[String],
     bytes: &[u8],
 ) -> Result<(), AllocError> {
+    let (layout, words) = layout_of(words);
+    let call = PassCall {
+        passes,
+        last,
+        layout,
+    };
+    push_passed(alloc, text, &call, words, bytes)
+}
+
+/// The form that the first word names, and the other words; lines and all words, if it names none.
+fn layout_of(words: &[String]) -> (Layout, &[String]) {
     match words {
-        [first, words @ ..] if first.as_str() == "whole" => {
-            push_passed(alloc, text, passes, last, Layout::Whole, words, bytes)
-        }
-        [first, words @ ..] if first.as_str() == "told" => {
-            push_passed(alloc, text, passes, last, Layout::Told, words, bytes)
-        }
-        [first, words @ ..] if first.as_str() == "twice" => {
-            push_passed(alloc, text, passes, last, Layout::Twice, words, bytes)
-        }
-        _ => push_passed(alloc, text, passes, last, Layout::Lines, words, bytes),
+        [first, rest @ ..] if first.as_str() == "whole" => (Layout::Whole, rest),
+        [first, rest @ ..] if first.as_str() == "told" => (Layout::Told, rest),
+        [first, rest @ ..] if first.as_str() == "twice" => (Layout::Twice, rest),
+        _ => (Layout::Lines, words),
     }
 }
 
@@ -100,20 +105,18 @@ fn push_made(alloc: Global, text: &mut String) -> Result<(), NoMemory> {
 fn push_passed(
     alloc: Global,
     text: &mut String,
-    passes: &[Pass],
-    last: Last,
-    layout: Layout,
+    call: &PassCall,
     words: &[String],
     bytes: &[u8],
 ) -> Result<(), AllocError> {
-    match last {
+    match call.last {
         Last::TokenCheckScripted | Last::NormalizeScripted => {
             let session = scripted_session(alloc, words);
-            push_in_session(alloc, text, session, layout, passes, last, bytes)
+            push_in_session(alloc, text, session, call, bytes)
         }
         _ => {
             let session = session_of(alloc, words);
-            push_in_session(alloc, text, session, layout, passes, last, bytes)
+            push_in_session(alloc, text, session, call, bytes)
         }
     }
 }
@@ -122,15 +125,13 @@ fn push_in_session<L: Lexer + Drop>(
     alloc: Global,
     text: &mut String,
     session: Result<Session<L>, WordsError>,
-    layout: Layout,
-    passes: &[Pass],
-    last: Last,
+    call: &PassCall,
     bytes: &[u8],
 ) -> Result<(), AllocError> {
     match session {
-        Ok(session) => match layout {
-            Layout::Twice => push_twice(alloc, text, &session, passes, last, bytes),
-            _ => push_outcome(alloc, text, &session, layout, passes, last, bytes),
+        Ok(session) => match call.layout {
+            Layout::Twice => push_twice(alloc, text, &session, call, bytes),
+            _ => push_outcome(alloc, text, &session, call, bytes),
         },
         Err(WordsError::Usage) => text.push_str("usage\n"),
         Err(WordsError::Memory) => text.push_str("memory\n"),
@@ -142,10 +143,9 @@ fn push_twice<L: Lexer>(
     alloc: Global,
     text: &mut String,
     session: &Session<L>,
-    passes: &[Pass],
-    last: Last,
+    call: &PassCall,
     bytes: &[u8],
 ) -> Result<(), AllocError> {
-    push_outcome(alloc, text, session, Layout::Twice, passes, last, bytes)?;
-    push_outcome(alloc, text, session, Layout::Twice, passes, last, bytes)
+    push_outcome(alloc, text, session, call, bytes)?;
+    push_outcome(alloc, text, session, call, bytes)
 }

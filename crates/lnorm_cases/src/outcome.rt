@@ -35,20 +35,26 @@ pub(crate) enum Layout {
     Twice,
 }
 
-/// What the passes come to on the tree that the bytes are, in that form.
+/// Passes, what stands last behind them, and how the outcome is printed.
+#[derive(Clone, Copy)]
+pub(crate) struct PassCall<'a> {
+    pub(crate) passes: &'a [Pass],
+    pub(crate) last: Last,
+    pub(crate) layout: Layout,
+}
+
+/// What the passes come to on the tree that the bytes are.
 pub(crate) fn push_outcome<L: Lexer>(
     alloc: Global,
     text: &mut String,
     session: &Session<L>,
-    layout: Layout,
-    passes: &[Pass],
-    last: Last,
+    call: &PassCall,
     bytes: &[u8],
 ) -> Result<(), AllocError> {
     match read(alloc, bytes) {
         Ok(tree) => {
-            let answer = tree_after_all(alloc, session, passes, tree);
-            push_answered(alloc, text, session, layout, last, answer)
+            let answer = tree_after_all(alloc, session, call.passes, tree);
+            push_answered(alloc, text, session, call.layout, call.last, answer)
         }
         Err(TreeError::NotATree) => text.push_str("not a tree\n"),
         Err(TreeError::Memory) => text.push_str("memory\n"),
