@@ -278,7 +278,7 @@ module _ (low ws : List WrittenRule) (l : Name → ℕ → Name) (same : (n : Na
     text_leveled (star x) = ap (λ t. t ++ codes "*") (text_leveled x)
     text_leveled (plus x) = ap (λ t. t ++ codes "+") (text_leveled x)
     text_leveled (question x) = ap (λ t. t ++ codes "?") (text_leveled x)
-    text_leveled (times n x) = ap (λ t. t ++ codes "{" ++ decimal n ++ codes "}") (text_leveled x)
+    text_leveled (times n x) = ap (λ t. t ++ (codes "{" ++ decimal n ++ codes "}")) (text_leveled x)
     text_leveled (wrapped w g) = ap (wrapped_text w) (text_leveled g)
     text_leveled lookahead = refl
     text_leveled lookbehind = refl

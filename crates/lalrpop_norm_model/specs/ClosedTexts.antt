@@ -42,7 +42,7 @@ abbrev mutual
   closed_text name (star x) = closed_text name x ++ codes "*"
   closed_text name (plus x) = closed_text name x ++ codes "+"
   closed_text name (question x) = closed_text name x ++ codes "?"
-  closed_text name (times n x) = closed_text name x ++ codes "{" ++ decimal n ++ codes "}"
+  closed_text name (times n x) = closed_text name x ++ (codes "{" ++ decimal n ++ codes "}")
   closed_text name (wrapped w g) = wrapped_text w (closed_text name g)
   closed_text name lookahead = codes "@L"
   closed_text name lookbehind = codes "@R"

@@ -31,10 +31,8 @@ fn part_of_repeat(node: &Node) -> usize
     ensures { result ≡ part_of_repeat node.now }
 {
     match node {
-        Node::Unary(
-            Unary::Star | Unary::Plus | Unary::Question | Unary::Times(_),
-            number,
-        ) => *number,
+        Node::Unary(Unary::Star | Unary::Plus | Unary::Question | Unary::Times(_), number) =>
+            *number,
         Node::Unary(Unary::Group | Unary::Chosen | Unary::Several, _)
         | Node::Leaf(_)
         | Node::NamedLeaf(_, _)

@@ -31,8 +31,8 @@ use lalrpop_norm_nodes::parts::{given_by_call, repeated_number};
 use lalrpop_norm_nodes::table::{Table, Waiting};
 use lalrpop_norm_session::norm_util::{has_name_value, names_value};
 use lalrpop_norm_tree::grammar::parse_tree::{
-    ActionKind, Atom, ExprSymbol, MacroSymbol, NoMemory, NonterminalData, NonterminalString, RepeatOp,
-    RepeatSymbol, Span, Symbol, SymbolKind,
+    ActionKind, Atom, ExprSymbol, MacroSymbol, NoMemory, NonterminalData, NonterminalString,
+    RepeatOp, RepeatSymbol, Span, Symbol, SymbolKind,
 };
 use std::alloc::Global;
 use std::mem;

@@ -100,11 +100,7 @@ fn add_item(alloc: Global, item: &GrammarItem, spans: &mut Vec<Span>) -> Result<
     }
 }
 
-fn add_items(
-    alloc: Global,
-    items: &[GrammarItem],
-    spans: &mut Vec<Span>,
-) -> Result<(), NoMemory>
+fn add_items(alloc: Global, items: &[GrammarItem], spans: &mut Vec<Span>) -> Result<(), NoMemory>
     ensures { OnOk result (spans.new.items ≡ spans.old.items ++ flat_map malformed_in_item (map item_view items.now)) }
 {
     for item in items {
