@@ -65,18 +65,18 @@ named_so (x ∷ ds) n d e = by (bytes_eq x.name.0 n) refl e (named_so ds n d)
 
 -- ---- a place noted under a name that has none
 
-or_nothing : (o : Option ℕ) → o ≡ or_else o None
+or_nothing : {A : Type 0} (o : Option A) → o ≡ or_else o None
 or_nothing None = refl
-or_nothing (Some i) = refl
+or_nothing (Some x) = refl
 
-pub not_found : (o : Option ℕ) → is_some o ≡ false → o ≡ None
+pub not_found : {A : Type 0} (o : Option A) → is_some o ≡ false → o ≡ None
 not_found None h = refl
-not_found (Some i) h = absurd (cc h)
+not_found (Some x) h = absurd (cc h)
 
-pub noted : (old new : List ℕ → Option ℕ) (name : List ℕ) (k : ℕ) → old name ≡ None → new name ≡ Some k → ((m : List ℕ) → (name ≡ m → ⊥) → new m ≡ old m) →
-    (n : List ℕ) → new n ≡ or_else (old n) (cond (bytes_eq name n) (Some k) None)
-noted old new name k none here others n = by (bytes_eq name n) (bytes_eq-Decides name n)
+pub noted : {A : Type 0} (old new : List ℕ → Option A) (name : List ℕ) (x : A) → old name ≡ None → new name ≡ Some x → ((m : List ℕ) → (name ≡ m → ⊥) → new m ≡ old m) →
+    (n : List ℕ) → new n ≡ or_else (old n) (cond (bytes_eq name n) (Some x) None)
+noted old new name x none here others n = by (bytes_eq name n) (bytes_eq-Decides name n)
   where
-    by : (b : Bool) → Decides b (name ≡ n) → new n ≡ or_else (old n) (cond b (Some k) None)
-    by true d = subst (λ (m : List ℕ). new m ≡ or_else (old m) (Some k)) (d.0 refl) (here ∙ ap (λ o. or_else o (Some k)) (sym none))
+    by : (b : Bool) → Decides b (name ≡ n) → new n ≡ or_else (old n) (cond b (Some x) None)
+    by true d = subst (λ (m : List ℕ). new m ≡ or_else (old m) (Some x)) (d.0 refl) (here ∙ ap (λ o. or_else o (Some x)) (sym none))
     by false d = others n (λ e. absurd (cc (d.1 e))) ∙ or_nothing (old n)

@@ -10,7 +10,7 @@ use Rattle.lalrpop_norm_model.specs.Stated.{level_after, side_after, with_stated
 use Rattle.lalrpop_norm_model.specs.Laws.{LevelsAreHandedOn, DisabledAreNoMatter}
 use Rattle.lalrpop_norm_tree.proofs.FirstLemmas.{or_else_assoc}
 
-or_else_none : {A : Type 0} (a : Option A) → or_else a None ≡ a
+pub or_else_none : {A : Type 0} (a : Option A) → or_else a None ≡ a
 or_else_none None = refl
 or_else_none (Some x) = refl
 

@@ -28,7 +28,7 @@ use Rattle.lalrpop_norm_model.proofs.LevelGrammarLemmas.{no_levels_found, places
 
 -- ---- arguments
 
-fits_leveled : (l : Name → ℕ → Name) (params : List NonterminalString) (args : ClosedSymbols) → arguments_fit params (leveled_symbols l args) ≡ arguments_fit params args
+pub fits_leveled : (l : Name → ℕ → Name) (params : List NonterminalString) (args : ClosedSymbols) → arguments_fit params (leveled_symbols l args) ≡ arguments_fit params args
 fits_leveled l [] no_symbols = refl
 fits_leveled l [] (symbol_and x xs) = refl
 fits_leveled l (a ∷ params) no_symbols = refl
@@ -63,7 +63,7 @@ value_leveled value l c (Some (wrapped w x)) = refl
 value_leveled value l c (Some lookahead) = refl
 value_leveled value l c (Some lookbehind) = refl
 
-true_leveled : (value : ConditionValue) (l : Name → ℕ → Name) (params : List NonterminalString) (args : ClosedSymbols) (c : Option Condition) →
+pub true_leveled : (value : ConditionValue) (l : Name → ℕ → Name) (params : List NonterminalString) (args : ClosedSymbols) (c : Option Condition) →
     is_true value params (leveled_symbols l args) c ≡ is_true value params args c
 true_leveled value l params args None = refl
 true_leveled value l params args (Some c) =

@@ -158,7 +158,7 @@ references_are (d ∷ ds) = by (is_nil d.args) (references_are ds)
 
 -- ---- clauses
 
-fits_read : (params : List NonterminalString) (before after : ℕ) (ps : Parts) → arguments_fit params (read_parts flat_reader before after ps) ≡ takes params ps
+pub fits_read : (params : List NonterminalString) (before after : ℕ) (ps : Parts) → arguments_fit params (read_parts flat_reader before after ps) ≡ takes params ps
 fits_read [] before after no_parts = refl
 fits_read [] before after (part_and p ps) = refl
 fits_read (a ∷ params) before after no_parts = refl

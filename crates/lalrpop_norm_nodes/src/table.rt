@@ -91,7 +91,7 @@ impl Table {
     }
 
     /// The node of a number.
-    pub(crate) fn node(&self, number: usize) -> Option<&Node>
+    pub fn node(&self, number: usize) -> Option<&Node>
         ensures { option_map (λ n. n.now) result ≡ slice_get (nodes_of self.now.nodes) number }
     {
         match self.nodes.rows.get_index(number) {
