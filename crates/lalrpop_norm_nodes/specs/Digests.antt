@@ -1,6 +1,6 @@
 -- What decides the hashes of a table: the names of a grammar's rules, and the symbols of their alternatives, spans aside.
 use Rattle.std.specs.Prelude.{List, [], ◌++◌, flat_map}
-use Rattle.std.specs.Hash.{HashWrites, u8, bool, str}
+use Rattle.std.specs.Hash.{HashWrites, u8, u16, bool, str}
 use Rattle.std.specs.Hash.DefaultHasher.{initial}
 use Rattle.std.specs.declared.hash.DefaultHasher.{DefaultHasher}
 use Rattle.lalrpop_norm_tree_names.specs.declared.names.TerminalString.{TerminalString}
@@ -8,7 +8,7 @@ use Rattle.lalrpop_norm_tree_names.specs.declared.names.TerminalString.TheVarian
 use Rattle.lalrpop_norm_tree_names.specs.declared.names.TerminalLiteral.TheVariants.{Quoted, Regex}
 use Rattle.lalrpop_norm_tree.specs.declared.symbol.Name.{Name}
 use Rattle.lalrpop_norm_tree.specs.declared.symbol.RepeatOp.{RepeatOp}
-use Rattle.lalrpop_norm_tree.specs.declared.symbol.RepeatOp.TheVariants.{Star, Plus, Question}
+use Rattle.lalrpop_norm_tree.specs.declared.symbol.RepeatOp.TheVariants.{Star, Plus, Question, Times}
 use Rattle.lalrpop_norm_tree.specs.Symbols.{ArgumentPattern, ArgumentPatterns, one_name, several, no_arguments, argument_and}
 use Rattle.lalrpop_norm_tree.specs.Symbols.{Kind, Part, Parts, group, ambiguous_id, terminal, nonterminal, call, repeated, chosen}
 use Rattle.lalrpop_norm_tree.specs.Symbols.{named, tupled, lookahead, lookbehind, error_terminal, at, no_parts, part_and}
@@ -37,6 +37,7 @@ abbrev pub op_writes : RepeatOp → HashWrites
 op_writes Star = u8 8
 op_writes Plus = u8 9
 op_writes Question = u8 10
+op_writes (Times n) = u8 22 ++ u16 n
 
 abbrev mutual
   pub part_writes : Part → HashWrites
