@@ -2,6 +2,7 @@ mod BoundLemmas
 pub mod DistinctLemmas
 mod FreshLemmas
 mod MadeLemmas
+mod TracedLemmas
 mod PendingLemmas
 mod RoundLemmas
 mod WaitingLists

@@ -4,3 +4,4 @@ pub mod Kept
 pub mod Laws
 pub mod Made
 pub mod Making
+pub mod TracedRules

@@ -21,8 +21,11 @@ ghost use Rattle.lalrpop_norm_macro_expand.specs.Made.{made_view, made_for, AreM
 ghost use Rattle.lalrpop_norm_macro_expand.specs.Making.{pending_for};
 
 mod instance;
+mod made_origins;
 mod make;
 mod repeats;
+mod rule_lists;
+pub(crate) mod traced;
 
 use self::make::{MadeSymbol, make_rules};
 use lalrpop_norm_faults::{FaultKind, NormFailure, NormResult, refusal};
@@ -117,6 +120,7 @@ fn expand_rounds(alloc: Global, grammar: Grammar, limit: u16) -> NormResult<Expa
     // Which symbol each made rule stands for, and which alternatives of a macro it has.
     ensures made { IfOk result (λ x. AreMade (wholes_in x.table) (grammar_view grammar) limit x.made.items) }
     ensures rounds { IfOk result (λ x. IsLastRound comparison (grammar_view grammar) x.rounds) }
+    ensures table { IfOk result (λ x. IsNodeTable x.table) }
     ensures counted { IfOk result (λ x. IsCounted x.table) }
     ensures seen { IfOk result (λ x. length (seen_in x.table) ≡ length (made_symbols comparison (grammar_view grammar) limit)) }
 {

@@ -43,7 +43,7 @@ others_filled (g ∷ gs) a rest h =
     (sym (other_level g.0 a rest (λ e. let lt = h g.0 (inl refl) in absurd (omega arith))))
     (others_filled gs a rest (λ l i. h l (inr i)))
 
-in_got : (ls : List ℕ) (i l : ℕ) → slice_get ls i ≡ Some l → In l ls
+pub in_got : (ls : List ℕ) (i l : ℕ) → slice_get ls i ≡ Some l → In l ls
 in_got [] i l e = absurd (cc)
 in_got (m ∷ ls) zero l e = inl (cc)
 in_got (m ∷ ls) (suc i) l e = inr (in_got ls i l e)

@@ -13,3 +13,6 @@ pub mod SettledLemmas
 mod MadeNameLemmas
 pub mod PrecedenceLemmas
 pub mod PrecedenceExamples
+pub mod LevelListLemmas
+pub mod LevelListShapes
+mod LevelListExamples

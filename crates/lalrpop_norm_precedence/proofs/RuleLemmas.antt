@@ -31,7 +31,7 @@ in_front m [] ys i = absurd i
 in_front m (x ∷ xs) ys (inl e) = inl e
 in_front m (x ∷ xs) ys (inr i) = inr (in_front m xs ys i)
 
-rising_front : (xs ys : List ℕ) → IsRising (xs ++ ys) → IsRising xs
+pub rising_front : (xs ys : List ℕ) → IsRising (xs ++ ys) → IsRising xs
 rising_front [] ys r = tt
 rising_front (x ∷ xs) ys r = ((λ m i. r.0 m (in_front m xs ys i)), rising_front xs ys r.1)
 
@@ -53,7 +53,7 @@ none_below l (m ∷ ls) h =
     not_below m l (below l ls) (nat_lt m l) (Decides-ltb m l) (h m (inl refl)) ∙ none_below l ls (λ k i. h k (inr i))
 
 -- the levels below one are those before it
-below_is_front : (l : ℕ) (xs ys : List ℕ) → IsRising (xs ++ l ∷ ys) → below l (xs ++ l ∷ ys) ≡ xs
+pub below_is_front : (l : ℕ) (xs ys : List ℕ) → IsRising (xs ++ l ∷ ys) → below l (xs ++ l ∷ ys) ≡ xs
 below_is_front l [] ys r = none_below l (l ∷ ys) at_least
   where
     at_least : (m : ℕ) → In m (l ∷ ys) → l ≤ m
@@ -173,7 +173,7 @@ level_rules_made r h gs e is leveled =
     ∙ rules_made r ps [] (levels_of ps) refl (rising_rises (map (λ (a : Leveled). a.level) (present ps)))
     ∙ sym (ap (λ (b : Bool). if b then map (level_rule r ps) (levels_of ps) else r ∷ []) leveled)
 
-handed_count : (level : Option ℕ) (side : Option Side) (xs : List AlternativeData) → length (handed_levels level side xs) ≡ length xs
+pub handed_count : (level : Option ℕ) (side : Option Side) (xs : List AlternativeData) → length (handed_levels level side xs) ≡ length xs
 handed_count level side [] = refl
 handed_count level side (a ∷ xs) = ap suc (handed_count (level_after level (Some a)) (side_after side (Some a)) xs)
 

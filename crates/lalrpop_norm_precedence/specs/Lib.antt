@@ -5,3 +5,4 @@ pub mod Made
 pub mod MadeNames
 pub mod MacroLevels
 pub mod PrecedenceFaults
+pub mod LevelLists

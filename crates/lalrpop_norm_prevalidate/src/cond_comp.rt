@@ -1,15 +1,22 @@
 //! Conditional compilation: what the features of a session leave of a grammar.
-ghost use Rattle.std.specs.Prelude.{◌≡◌, IsOkAnd, map, filter, option_map};
+ghost use Rattle.std.specs.Prelude.{◌≡◌, [], IfOk, IsOkAnd, map, filter, option_map};
+ghost use Rattle.lalrpop_norm_faults.specs.Faults.{RefusesOr};
 ghost use Rattle.lalrpop_norm_tree.specs.Items.{conversion_view, enum_token_view, item_view, grammar_view};
 ghost use Rattle.lalrpop_norm_model.specs.Enabled.{enabled_enum, enabled_grammar};
 ghost use Rattle.lalrpop_norm_session.specs.Sessions.{features_view};
+ghost use Rattle.lalrpop_norm_origins.specs.Origins.{origin_lists};
+ghost use Rattle.lalrpop_norm_origins.specs.Shapes.{IsShaped};
+ghost use Rattle.lalrpop_norm_origins.specs.EnabledOrigins.{enabled_origins};
 ghost use Rattle.lalrpop_norm_prevalidate.specs.EnabledItems.{active_conversions, stays, trimmed};
 
 use lalrpop_norm_faults::NormResult;
+pub use lalrpop_norm_origins::Origin;
+use lalrpop_norm_origins::enabled_origins;
 use lalrpop_norm_precedence_steps::enabled::retain_alternatives;
 use lalrpop_norm_session::Session;
 pub use lalrpop_norm_session::cfg_active;
 use lalrpop_norm_tree::grammar::parse_tree::{Conversion, EnumToken, Grammar, GrammarItem};
+use std::alloc::Global;
 
 /// The grammar without the rules, alternatives and conversions that the features of the session turn off, all else as it
 /// was. It is always Ok: want of memory is none of its answers.
@@ -19,6 +26,22 @@ pub fn remove_disabled_decls<L>(session: &Session<L>, mut grammar: Grammar) -> N
     retain_items(session, &mut grammar.items);
     trim_items(session, &mut grammar.items);
     Ok(grammar)
+}
+
+/// The same grammar, and where the alternatives that are left come from: one list for each rule in item order, one origin
+/// for each alternative, which is the number of its written place. The only error is want of memory.
+pub fn remove_disabled_traced<L>(
+    alloc: Global,
+    session: &Session<L>,
+    grammar: Grammar,
+) -> NormResult<(Grammar, Vec<Vec<Origin>>)>
+    ensures grammar { RefusesOr result [] (λ r. grammar_view r.0 ≡ enabled_grammar (features_view session.now.features) (grammar_view grammar)) }
+    ensures origins { IfOk result (λ r. origin_lists r.1.items ≡ enabled_origins (features_view session.now.features) (grammar_view grammar)) }
+    ensures shaped { IfOk result (λ r. IsShaped (grammar_view r.0).items (origin_lists r.1.items)) }
+{
+    let origins = enabled_origins(alloc, session, &grammar)?;
+    let enabled = remove_disabled_decls(session, grammar)?;
+    Ok((enabled, origins))
 }
 
 fn retain_items<L>(session: &Session<L>, items: &mut Vec<GrammarItem>)

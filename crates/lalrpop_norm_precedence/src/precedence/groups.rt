@@ -83,7 +83,7 @@ fn distinct(alloc: Global, marked: &[Marked]) -> Result<BTreeSet<u32>, NoMemory>
     Ok(levels)
 }
 
-fn listed(alloc: Global, levels: &BTreeSet<u32>) -> Result<Vec<u32>, NoMemory>
+pub(super) fn listed(alloc: Global, levels: &BTreeSet<u32>) -> Result<Vec<u32>, NoMemory>
     ensures { IfOk result (λ list. list.items ≡ levels.now.keys) }
 {
     let mut list = Vec::new(alloc);
@@ -107,7 +107,7 @@ fn empty_groups(alloc: Global, levels: &[u32]) -> Result<Vec<Group>, NoMemory>
 }
 
 /// The place of a level in a rising list that has it.
-fn rank(levels: &[u32], level: u32) -> usize
+pub(super) fn rank(levels: &[u32], level: u32) -> usize
     requires rising { IsRising levels.now }
     requires there { In level levels.now }
     ensures { slice_get levels.now result ≡ Some level }

@@ -176,7 +176,10 @@ fn side_after(before: Option<Assoc>, level: Option<u32>, stated: Option<Assoc>) 
     }
 }
 
-fn hand_on(alloc: Global, alternatives: &[Alternative]) -> Result<Vec<AlternativeLevel>, AllocError>
+pub(super) fn hand_on(
+    alloc: Global,
+    alternatives: &[Alternative],
+) -> Result<Vec<AlternativeLevel>, AllocError>
     ensures { IfOk result (λ levels. map alternative_level_view levels.items ≡ handed_levels None None (map alternative_view alternatives.now)) }
 {
     let mut levels = Vec::new(alloc);

@@ -151,6 +151,9 @@ returns-then-is_empty-clause-seen c =
     t.round none (omega (arith, c.rounds.invariant.bound)) in
     last.long
 
+pub returns-then-is_empty-clause-table : goal.returns-then-is_empty-clause-table
+returns-then-is_empty-clause-table c = c.take_waiting-waiting.ensures.table
+
 pub returns-then-is_empty-clause-counted : goal.returns-then-is_empty-clause-counted
 returns-then-is_empty-clause-counted c = counted_still c.rounds.table c.take_waiting-waiting.new.self c.take_waiting-waiting.ensures.counted c.take_waiting-waiting.ensures.nodes c.rounds.invariant.counted
 
