@@ -1,0 +1,12 @@
+pub mod Roots
+pub mod Views
+pub mod Steps
+pub mod Derivations
+pub mod Back
+pub mod NoFault
+pub mod Ways
+pub mod Formed
+pub mod Examples
+pub mod WaySteps
+pub mod Lowered
+pub mod Calls

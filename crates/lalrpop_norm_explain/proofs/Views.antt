@@ -1,0 +1,26 @@
+-- One level of a tree's view.
+use Rattle.std.proofs.Common.{◌≡◌, List, ℕ, Vec, Global, ap, sym, ◌∙◌}
+use Rattle.lalrpop_norm_tree_names.specs.declared.names.NonterminalString.{NonterminalString}
+use Rattle.lalrpop_norm_theory.specs.LoweredTrees as lowered
+use Rattle.lalrpop_norm_theory.specs.LoweredTrees.{lowered_node}
+use Rattle.lalrpop_norm_theory.specs.WrittenTrees as written
+use Rattle.lalrpop_norm_theory.specs.WrittenTrees.{nothing, list}
+use Rattle.lalrpop_norm_explain.specs.declared.trees.LoweredTree.{LoweredTree}
+use Rattle.lalrpop_norm_explain.specs.declared.trees.LoweredTree.TheOpen.{LoweredTree-F}
+use Rattle.lalrpop_norm_explain.specs.declared.trees.LoweredTree.TheFolds.{fold-roll-LoweredTree}
+use Rattle.lalrpop_norm_explain.specs.declared.trees.LoweredTree.TheViews as lowered_rolls
+use Rattle.lalrpop_norm_explain.specs.declared.trees.WrittenTree.{WrittenTree}
+use Rattle.lalrpop_norm_explain.specs.declared.trees.WrittenTree.TheOpen.{WrittenTree-F}
+use Rattle.lalrpop_norm_explain.specs.declared.trees.WrittenTree.TheFolds.{fold-roll-WrittenTree}
+use Rattle.lalrpop_norm_explain.specs.declared.trees.WrittenTree.TheVariants as written_variant
+use Rattle.lalrpop_norm_explain.specs.declared.trees.WrittenTree.TheViews as written_rolls
+use Rattle.lalrpop_norm_explain.specs.Trees.{lowered_step, lowered_view, lowered_views, written_step, written_view, written_views}
+
+pub node_seen : (n : NonterminalString) (p : ℕ) (us : Vec LoweredTree Global) → lowered_view (lowered_rolls.Node n p us) ≡ lowered_node n.0 p (lowered_views us.items)
+node_seen n p us = ap lowered_view (sym (lowered_rolls.rolls-Node n p us)) ∙ fold-roll-LoweredTree lowered.LoweredTree lowered_step (LoweredTree-F.Node n p us)
+
+pub list_seen : (ts : Vec WrittenTree Global) → written_view (written_rolls.List ts) ≡ list (written_views ts.items)
+list_seen ts = ap written_view (sym (written_rolls.rolls-List ts)) ∙ fold-roll-WrittenTree written.WrittenTree written_step (WrittenTree-F.List ts)
+
+pub nothing_seen : written_view written_variant.Nothing ≡ nothing
+nothing_seen = ap written_view (sym written_rolls.rolls-Nothing) ∙ fold-roll-WrittenTree written.WrittenTree written_step WrittenTree-F.Nothing

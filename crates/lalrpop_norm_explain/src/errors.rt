@@ -1,0 +1,91 @@
+//! Why there is no answer.
+ghost use Rattle.std.specs.Prelude.{◌≡◌, List};
+ghost use Rattle.lalrpop_norm_explain.specs.TreeFaults.{Found, IsFoundUp, raised, Turned};
+
+use shared_text::NoMemory;
+use std::alloc::{AllocError, AllocFailed};
+
+/// What is wrong with a tree.
+#[derive(Clone, Copy, Debug, PartialEq, Eq)]
+pub enum ExplainFault {
+    /// X1: the root is no node, or its name is not that of an enabled written rule without arguments.
+    Root,
+    /// X2: the nonterminal has no production at that place.
+    Production,
+    /// X3: the number of children is not that of the production's symbols; or a child is not of its symbol, where the path leads
+    /// to the child.
+    Child,
+    /// X4: a written tree is none of its place, seen without its children; a wrong number of children is told at their node or
+    /// list.
+    Shape,
+}
+
+/// Why a tree is not translated.
+#[derive(Debug, Drop)]
+pub enum ExplainError {
+    /// The first fault, and the child places, from 0, that lead to it from the root.
+    Refused {
+        fault: ExplainFault,
+        path: Vec<usize>,
+    },
+    /// No memory was left.
+    Memory,
+}
+
+impl From<NoMemory> for ExplainError {
+    ghost use Rattle.lalrpop_norm_explain.specs.declared.errors.ExplainError.TheVariants.{Memory};
+
+    ghost from_gives = { λ _ e. e ≡ Memory };
+
+    fn from(_: NoMemory) -> ExplainError {
+        ExplainError::Memory
+    }
+}
+
+impl From<AllocError> for ExplainError {
+    ghost use Rattle.lalrpop_norm_explain.specs.declared.errors.ExplainError.TheVariants.{Memory};
+
+    ghost from_gives = { λ _ e. e ≡ Memory };
+
+    fn from(_: AllocError) -> ExplainError {
+        ExplainError::Memory
+    }
+}
+
+impl<T: Drop> From<AllocFailed<T>> for ExplainError {
+    ghost use Rattle.lalrpop_norm_explain.specs.declared.errors.ExplainError.TheVariants.{Memory};
+
+    ghost from_gives = { λ _ e. e ≡ Memory };
+
+    fn from(_: AllocFailed<T>) -> ExplainError {
+        ExplainError::Memory
+    }
+}
+
+impl ExplainError {
+    /// The error seen from the node whose child at that place has it, its path read upwards.
+    pub(crate) fn raised(self, place: usize) -> ExplainError
+        ensures { (fs : List Found) → IsFoundUp fs self → IsFoundUp (raised place fs) result }
+    {
+        match self {
+            ExplainError::Refused { fault, mut path } => match path.push(place) {
+                Ok(()) => ExplainError::Refused { fault, path },
+                Err(_) => ExplainError::Memory,
+            },
+            ExplainError::Memory => ExplainError::Memory,
+        }
+    }
+
+    /// The error with its path turned round.
+    pub(crate) fn turned(self) -> ExplainError
+        ensures { Turned self result }
+    {
+        match self {
+            ExplainError::Refused { fault, mut path } => {
+                path.reverse();
+                ExplainError::Refused { fault, path }
+            }
+            ExplainError::Memory => ExplainError::Memory,
+        }
+    }
+}

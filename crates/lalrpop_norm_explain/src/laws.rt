@@ -1,0 +1,38 @@
+//! What no fault means. Each function is a law: it does nothing, and its contract is a theorem.
+ghost use Rattle.lalrpop_norm_explain.specs.Laws.{FaultlessIsRooted, FaultlessIsPaired, FaultlessComesBack, TreesHaveNoFault, WaysAreInverse, RealizedIsFormed, RealizedCallsFit};
+
+/// A lowered tree has no fault exactly where it is a derivation tree of a name at which trees may begin.
+pub fn faultless_is_rooted()
+    ensures { FaultlessIsRooted }
+{}
+
+/// Where the grammar realizes a written one, what is read of a tree without a fault is a written tree, and pairs with it.
+pub fn faultless_is_paired()
+    ensures { FaultlessIsPaired }
+{}
+
+/// In a grammar that realizes a written one, a written tree without a fault is lowered to a derivation tree that reads as it.
+pub fn faultless_comes_back()
+    ensures { FaultlessComesBack }
+{}
+
+/// Where the grammar realizes a written one, a tree of a known symbol has no fault.
+pub fn trees_have_no_fault()
+    ensures { TreesHaveNoFault }
+{}
+
+/// Of a grammar that realizes a written one, the two ways answer what pairs, and each undoes the other.
+pub fn ways_are_inverse()
+    ensures { WaysAreInverse }
+{}
+
+/// A grammar that realizes a written one is formed, as far as names of known symbols are visited.
+pub fn realized_is_formed()
+    ensures { RealizedIsFormed }
+{}
+
+/// Of a grammar that realizes a written one, `explain` and `lower_tree` refuse what is no tree, answer what pairs with their
+/// arguments, and undo each other.
+pub fn realized_calls_fit()
+    ensures { RealizedCallsFit }
+{}

@@ -1,0 +1,18 @@
+//! The way back: from a derivation tree of a lowered grammar to the written tree that it stands for.
+#![tactic(auto)]
+
+mod errors;
+mod forms;
+pub mod laws;
+mod levels;
+mod lowering;
+mod reading;
+mod traced;
+mod trees;
+
+pub use errors::{ExplainError, ExplainFault};
+pub use lowering::lower_tree;
+pub use reading::explain;
+pub use traced::Traced;
+pub use traced::lookups::with_origins;
+pub use trees::{LoweredTree, WrittenTree};
