@@ -59,7 +59,7 @@ module _ (fs : Features) (g : GrammarData) (valid : validate_faults g ≡ []) wh
 
 -- macros have one level, and no fault of names stands in the grammar with levels
 module _ (fs : Features) (g : GrammarData) (leveled : leveled_faults (prepared_grammar fs g) ≡ []) where
-  flat : HasFlatMacros (prepared_grammar fs g)
+  pub flat : HasFlatMacros (prepared_grammar fs g)
   flat = (levels_settle_macros (prepared_grammar fs g) (resolved_once (enabled_grammar fs g)) leveled).0
 
   pub names_free : resolve_faults (grammar_with_levels fs g) ≡ []

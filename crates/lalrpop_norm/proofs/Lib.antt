@@ -32,6 +32,11 @@ pub mod RootSteps
 pub mod TwoSteps
 pub mod PlainTrees
 pub mod TreesFaithful
+pub mod TracedOrigins
 pub mod TreesMacros
 pub mod TreesStarts
+pub mod NarrowLevels
+pub mod WrittenCalls
+pub mod RootNames
+pub mod TracedLemmas
 pub mod StartExamples

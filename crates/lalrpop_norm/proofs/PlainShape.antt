@@ -20,7 +20,7 @@ use Rattle.lalrpop_norm_lower.specs.Shape.{IsLoweringOf, alternatives_in_order, 
 use Rattle.lalrpop_norm_model.specs.PlainTables.{plain_symbol_kind, lowered_part, lowered_parts, productions_with_origins, rules_from}
 use Rattle.lalrpop_norm_model.proofs.NumberedNames.{Named, of_rule, numbers_named, HaveOtherNames, passed, passed_all, traced_entry, behind, NoneNamed, HaveDistinctNames}
 use Rattle.lalrpop_norm_model.proofs.GrammarLemmas.{unlike}
-use Rattle.lalrpop_norm.specs.Derivations.{tree_symbol, traced, derivations}
+use Rattle.lalrpop_norm_explain.specs.Derivations.{tree_symbol, traced, derivations}
 use Rattle.lalrpop_norm.proofs.ShapeTrees.{tree_symbols, traced_each, starts_total, no_start_name, productions_at, AreFree, turned}
 use Rattle.lalrpop_norm_lower.proofs.SourceLemmas.{replicated}
 

@@ -15,7 +15,7 @@ use Rattle.lalrpop_norm_repr.specs.Tables.{TypeTable, found}
 use Rattle.lalrpop_norm_lower.specs.Lowering.{public_rules_in, lowered_symbols, production_of}
 use Rattle.lalrpop_norm_lower.specs.Shape.{IsLoweringOf, alternatives_in_order, start_clause, productions_named, start_entry_of, rule_entry_of}
 use Rattle.lalrpop_norm_model.proofs.NumberedNames.{Named, HaveOtherNames, traced_entry, NoneNamed, HaveDistinctNames, first_named}
-use Rattle.lalrpop_norm.specs.Derivations.{tree_symbol, traced}
+use Rattle.lalrpop_norm_explain.specs.Derivations.{tree_symbol, traced}
 
 abbrev pub tree_symbols : AlternativeData → List LoweredSymbol
 tree_symbols a = map tree_symbol (lowered_symbols a.parts)

@@ -14,7 +14,7 @@ use Rattle.lalrpop_norm_model.specs.Features.{Features}
 use Rattle.lalrpop_norm_model.specs.WrittenRules.{written_rules}
 use Rattle.lalrpop_norm_model.specs.PlainRules.{all_rules}
 use Rattle.lalrpop_norm_model.proofs.ExampleWords.{nowhere, rule_name, precedence, assoc, literal, name, symbols, alternative, rule, rules_alone}
-use Rattle.lalrpop_norm.specs.Derivations.{IsWrittenWord, IsWordOf}
+use Rattle.lalrpop_norm.specs.Words.{IsWrittenWord, IsWordOf}
 use Rattle.lalrpop_norm.specs.Faithful.{written_meaning, written_symbols, written_name, traced_derivations, HasFaithfulTrees, grammar_with_levels, grammar_of_plain_rules}
 use Rattle.lalrpop_norm.proofs.StartProductions.{start_written}
 use Rattle.lalrpop_norm.proofs.TreesFaithful.{rule_symbol}

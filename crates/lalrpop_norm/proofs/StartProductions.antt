@@ -21,7 +21,8 @@ use Rattle.lalrpop_norm_lower.specs.Lowering.{public_rules_in, start_name}
 use Rattle.lalrpop_norm_lower.specs.Shape.{OwnedAlternative, IsLoweringOf, alternatives_in_order, start_clause, start_entry_of, rule_entry_of, productions_named}
 use Rattle.lalrpop_norm_model.proofs.NumberedNames.{of_rule, numbers_named, HaveOtherNames, passed_all, traced_entry, ahead, NoneNamed, HaveDistinctNames}
 use Rattle.lalrpop_norm_model.proofs.GrammarLemmas.{unlike}
-use Rattle.lalrpop_norm.specs.Derivations.{traced, derivations, IsWrittenWord, IsWordOf}
+use Rattle.lalrpop_norm_explain.specs.Derivations.{traced, derivations}
+use Rattle.lalrpop_norm.specs.Words.{IsWrittenWord, IsWordOf}
 use Rattle.lalrpop_norm.proofs.ShapeTrees.{tree_symbols, traced_each, AreFree, none_in, turned}
 use Rattle.lalrpop_norm.proofs.PlainShape.{others_append, none_among}
 use Rattle.lalrpop_norm_lower.proofs.SourceLemmas.{replicated}

@@ -1,15 +1,15 @@
 -- The derivation trees of what a grammar is lowered to stand one to one with the written trees.
-use Rattle.std.proofs.Common.{append-nil, ◌≡◌, inl, inr, ℕ, List, [], ◌∷◌, ◌++◌, map, length, refl, sym, ap, ◌∙◌, subst}
+use Rattle.std.proofs.Common.{append-nil, ◌≡◌, inl, inr, ℕ, List, [], ◌∷◌, ◌++◌, length, refl, sym, ap, ◌∙◌, subst}
 use Rattle.std.specs.Prelude.{flat_map, Option, Some, None}
 use Rattle.std.proofs.lemmas.Grind.{flat_map-append}
 use Rattle.lalrpop_norm_tree.specs.Items.{RuleData, EnumTokenData, GrammarData, intern_item}
 use Rattle.lalrpop_norm_theory.specs.Symbols.{Name, ClosedSymbol}
 use Rattle.lalrpop_norm_theory.specs.Meaning.{Meaning}
 use Rattle.lalrpop_norm_theory.specs.LoweredTrees.{nonterminal_symbol, from_start}
-use Rattle.lalrpop_norm_theory.specs.Clauses.{IsNonterminal, clause_production, clauses, symbol_of}
+use Rattle.lalrpop_norm_theory.specs.Clauses.{symbol_of}
 use Rattle.lalrpop_norm_theory.specs.LoweredTrees.{ProductionTable}
 use Rattle.lalrpop_norm_theory.specs.Met.{expanded_symbols, IsKnown}
-use Rattle.lalrpop_norm_theory.specs.Tables.{table}
+use Rattle.lalrpop_norm_theory.specs.Tables.{Realizes, table}
 use Rattle.lalrpop_norm_theory.specs.Rounds.{In}
 use Rattle.lalrpop_norm_theory.specs.Laws.{OneToOne, PairsInTwoSteps, level_named}
 use Rattle.lalrpop_norm_theory.proofs.RoundsLemmas.{in_cases}
@@ -37,7 +37,7 @@ use Rattle.lalrpop_norm_model.proofs.ResolvedLemmas.{resolved_once}
 use Rattle.lalrpop_norm_model.proofs.PlainReadLemmas.{origins_counted, plain_rules_are_read}
 use Rattle.lalrpop_norm_model.proofs.WrittenLeveled.{names_written}
 use Rattle.lalrpop_norm_model.proofs.FaithfulLemmas.{plain_grammars_hold_plain_rules}
-use Rattle.lalrpop_norm.specs.Derivations.{derivations}
+use Rattle.lalrpop_norm_explain.specs.Derivations.{derivations}
 use Rattle.lalrpop_norm.specs.Faithful.{HasStart, lowered_name, start_of, traced_derivations, written_meaning, written_name, written_symbols}
 use Rattle.lalrpop_norm.specs.Laws.{HasFlatMacros, HasOwnNames, LoweredTreesAreFaithful}
 use Rattle.lalrpop_norm.proofs.ScopedLemmas.{names_once, leveled_scoped, settled, levels_resolved}
@@ -118,9 +118,8 @@ module _ {value : ConditionValue} {fs : Features} {g : GrammarData} {n : ℕ} {c
       shape_derivations checked (all_rules plain) types l shaped (distinct_listed (all_rules plain) W.names.once) free_names
       (plain_origins M (references ws) n) counted
 
-  pub lowered_productions : (s : ClosedSymbol) → IsNonterminal s → IsKnown (roots ws ++ references ws) (expanded_symbols M (references ws) n) s →
-      P (name s) ≡ map (clause_production name) (clauses M s)
-  lowered_productions = (has_rules value fs g W.levels W.settled n W.whole W.names.once P holds_rules).productions
+  pub lowered_realizes : Realizes M name P (IsKnown (roots ws ++ references ws) (expanded_symbols M (references ws) n))
+  lowered_realizes = has_rules value fs g W.levels W.settled n W.whole W.names.once P holds_rules
 
   pub lowered_trees : (s : ClosedSymbol) → In s (roots ws ++ references ws) → OneToOne M name P s
   lowered_trees = held_trees value fs g W.levels W.settled n W.whole W.names.once P holds_rules
@@ -200,7 +199,7 @@ lowered_trees_faithful fs g faults macros level_faults rounds whole names checke
     } in
     record {
       whole = written_whole comparison fs g lowered.levels lowered.settled rounds whole;
-      productions = lowered_productions lowered;
+      realized = lowered_realizes lowered;
       one_to_one = lowered_trees lowered;
       in_steps = λ s i. record {
         steps = lowered_in_steps lowered s i;

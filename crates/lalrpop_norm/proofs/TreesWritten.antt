@@ -373,11 +373,15 @@ module _ (value : ConditionValue) (fs : Features) (g : GrammarData) (N : HasLeve
       once_written lower_written read_written n
       ∙ (rounds_are_read value h S n).3.0 whole)
 
+  -- the symbols that are made into rules are those of the written grammar
+  pub made_written : (n : ℕ) → map (leveled_symbol ln) (expanded_symbols M (references ws) n) ≡ expanded_symbols (flat_meaning value h) (declared h) n
+  made_written n =
+      made_leveled M (flat_meaning value h) ln (references ws) (declared h) written_resolved (meaning_has_levels value ws) (declared_resolved ws)
+      once_written lower_written read_written n
+
   made_same : (n : ℕ) → plain_symbols (flat_meaning value h) (declared h) n ≡ map (leveled_symbol ln) (plain_symbols M (references ws) n)
   made_same n =
-      ap₂ ◌++◌ (sym lower_written)
-      (sym (made_leveled M (flat_meaning value h) ln (references ws) (declared h) written_resolved (meaning_has_levels value ws) (declared_resolved ws)
-      once_written lower_written read_written n))
+      ap₂ ◌++◌ (sym lower_written) (sym (made_written n))
       ∙ sym (map-append (leveled_symbol ln) (references ws) (expanded_symbols M (references ws) n))
 
   plain_resolved : (n : ℕ) (x : ClosedSymbol) → In x (plain_symbols M (references ws) n) → IsResolvedIn (references ws) x

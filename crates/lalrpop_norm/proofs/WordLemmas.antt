@@ -3,7 +3,7 @@ use Rattle.std.proofs.Common.{◌≡◌, ℕ, refl, sym, subst, Option}
 use Rattle.lalrpop_norm_theory.specs.Clauses.{symbol_of}
 use Rattle.lalrpop_norm_theory.specs.LoweredTrees.{nonterminal_symbol}
 use Rattle.lalrpop_norm_theory.specs.Symbols.{ClosedSymbol, Name, reference}
-use Rattle.lalrpop_norm.specs.Derivations.{derivations}
+use Rattle.lalrpop_norm_explain.specs.Derivations.{derivations}
 use Rattle.lalrpop_norm.specs.Faithful.{written_meaning, written_name}
 use Rattle.lalrpop_norm.specs.Laws.{WordsAreEqual}
 use Rattle.lalrpop_norm.proofs.StartProductions.{written_words}

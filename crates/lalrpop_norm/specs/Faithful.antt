@@ -1,5 +1,5 @@
 -- The headline: what a lowered grammar owes the written one.
-use Rattle.std.specs.Prelude.{◌≡◌, ◌↔◌, ℕ, true, List, [], ◌∷◌, ◌++◌, length, map, Option, Some}
+use Rattle.std.specs.Prelude.{◌≡◌, ◌↔◌, ℕ, true, List, [], ◌∷◌, ◌++◌, length, Option, Some}
 use Rattle.lalrpop_norm_tree_names.specs.declared.names.NonterminalString.{NonterminalString}
 use Rattle.lalrpop_norm_tree.specs.Accessors.{is_public}
 use Rattle.lalrpop_norm_tree.specs.Items.{RuleData, GrammarData}
@@ -9,8 +9,8 @@ use Rattle.lalrpop_norm_theory.specs.Meaning.{Meaning}
 use Rattle.lalrpop_norm_theory.specs.LoweredTrees as theory
 use Rattle.lalrpop_norm_theory.specs.LoweredTrees.{nonterminal_symbol, from_start}
 use Rattle.lalrpop_norm_theory.specs.Rounds.{In}
-use Rattle.lalrpop_norm_theory.specs.Clauses.{IsNonterminal, clause_production, clauses}
 use Rattle.lalrpop_norm_theory.specs.Met.{expansion, expanded_symbols, IsKnown}
+use Rattle.lalrpop_norm_theory.specs.Tables.{Realizes}
 use Rattle.lalrpop_norm_theory.specs.Laws.{OneToOne, PairsInTwoSteps, level_named}
 use Rattle.lalrpop_norm_conditions.specs.Conditions.{comparison}
 use Rattle.lalrpop_norm_model.specs.Features.{Features}
@@ -33,7 +33,8 @@ use Rattle.lalrpop_norm_repr.specs.Closed.{IsClosed}
 pub use Rattle.lalrpop_norm_tyinfer.specs.Inferred.{IsInferred}
 use Rattle.lalrpop_norm_lower.specs.Lowering.{public_rules_in, start_name}
 use Rattle.lalrpop_norm_lower.specs.Shape.{IsLoweringOf}
-use Rattle.lalrpop_norm.specs.Derivations.{derivations, IsWrittenWord, IsWordOf}
+use Rattle.lalrpop_norm_explain.specs.Derivations.{derivations}
+use Rattle.lalrpop_norm.specs.Words.{IsWrittenWord, IsWordOf}
 
 -- ---- the grammars on the way
 
@@ -71,6 +72,12 @@ module _ (fs : Features) (g : GrammarData) where
   abbrev pub grammar_of_plain_rules : ℕ → GrammarData
   grammar_of_plain_rules rounds = plain_grammar comparison grammar_with_levels rounds
 
+  -- the origins of the actions of a lowered grammar, in their order: those of the start symbols of its public plain rules come
+  -- first
+  abbrev pub origins_of_actions : ℕ → List theory.Origin
+  origins_of_actions rounds =
+      action_origins (length (public_rules_in (all_rules (grammar_of_plain_rules rounds)))) written_meaning written_references rounds
+
   -- the name that a written symbol has in the lowered grammar, and that of its start symbol
   abbrev pub lowered_name : ClosedSymbol → NonterminalString
   lowered_name s = record { 0 = written_name s }
@@ -101,7 +108,7 @@ module _ (fs : Features) (g : GrammarData) (rounds : ℕ) (l : LoweredGrammar) w
 
   -- the lowered grammar as trees see it, each production with its origin in the written grammar, or with that of start symbols
   abbrev pub traced_derivations : theory.ProductionTable
-  traced_derivations = derivations (action_origins (length public_rules) M (written_references fs g) rounds) l
+  traced_derivations = derivations (origins_of_actions fs g rounds) l
 
   -- each production with its origin in the grammar with levels
   abbrev pub leveled_derivations : theory.ProductionTable
@@ -130,9 +137,8 @@ module _ (fs : Features) (g : GrammarData) (rounds : ℕ) (l : LoweredGrammar) w
   -- production; where a public macro may be called, which `validate` refuses, that says it of the rules that its calls make too.
   pub record HasFaithfulTrees : Type 0 where
     pub whole : (expansion M (written_references fs g) rounds).fresh ≡ []
-    pub productions : (s : ClosedSymbol) → IsNonterminal s →
-        IsKnown (written_symbols fs g) (expanded_symbols M (written_references fs g) rounds) s →
-        traced_derivations (name s) ≡ map (clause_production name) (clauses M s)
+    pub realized : Realizes M name traced_derivations
+        (IsKnown (written_symbols fs g) (expanded_symbols M (written_references fs g) rounds))
     pub one_to_one : (s : ClosedSymbol) → In s (written_symbols fs g) → OneToOne M name traced_derivations s
     pub in_steps : (s : ClosedSymbol) → In s (written_symbols fs g) → IsMadeInSteps s
     pub starts : (r : RuleData) → In r (all_rules (enabled_grammar fs g)) → r.args ≡ [] →

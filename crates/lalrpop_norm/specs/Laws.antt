@@ -1,5 +1,5 @@
 -- What is proved of the whole way, each statement in one piece. The functions of the module `laws` carry them.
-use Rattle.std.specs.Prelude.{◌≡◌, ◌↔◌, ◌⊎◌, ◌++◌, ◌<◌, ◌≤◌, ◌∷◌, ℕ, suc, List, [], Some, Bool, false, map, flat_map}
+use Rattle.std.specs.Prelude.{◌≡◌, ◌↔◌, ◌⊎◌, ◌++◌, ◌<◌, ◌≤◌, ◌∷◌, ℕ, suc, List, [], Some, Bool, false, map, flat_map, replicate}
 use Rattle.std.specs.List.{range_with_len}
 use Rattle.lalrpop_norm_tree_names.specs.declared.names.Span.{Span}
 use Rattle.lalrpop_norm_faults.specs.declared.kind.FaultKind.TheVariants.{RecursionCap, SharedName}
@@ -10,7 +10,7 @@ use Rattle.lalrpop_norm_tree.specs.Items.{RuleData, GrammarData}
 use Rattle.lalrpop_norm_tree_parts.specs.Reprs.{ReprData}
 use Rattle.lalrpop_norm_theory.specs.Symbols.{ClosedSymbol, Name, Terminal}
 use Rattle.lalrpop_norm_theory.specs.Laws.{OneToOne}
-use Rattle.lalrpop_norm_theory.specs.LoweredTrees.{Origin}
+use Rattle.lalrpop_norm_theory.specs.LoweredTrees.{Origin, from_start}
 use Rattle.lalrpop_norm_theory.specs.Met.{rule_meets}
 use Rattle.lalrpop_norm_theory.specs.Rounds.{In, IsDistinct, Chain, NewIn}
 use Rattle.lalrpop_norm_tree.specs.declared.items.Condition.{Condition}
@@ -27,6 +27,7 @@ use Rattle.lalrpop_norm_model.specs.PlainTables.{IsSettled, IsRuleOf, flat_meani
 use Rattle.lalrpop_norm_model.specs.MadeRules.{span_of, made_rules}
 use Rattle.lalrpop_norm_model.specs.LevelRules.{leveled_grammar}
 use Rattle.lalrpop_norm_model.specs.PlainRules.{all_rules, macros_of, made_symbols, expansion_round, IsEnded}
+use Rattle.lalrpop_norm_model.specs.Origins.{action_origins}
 use Rattle.lalrpop_norm_model.specs.Renumbered.{prepared_grammar}
 use Rattle.lalrpop_norm_model.specs.Expanded.{rule_names}
 use Rattle.lalrpop_norm_model.specs.TypeTables.{Table}
@@ -35,13 +36,16 @@ use Rattle.lalrpop_norm_model.specs.CheckedTokens.{IsEntered}
 use Rattle.lalrpop_norm_resolve.specs.NameFaults.{resolve_faults}
 use Rattle.lalrpop_norm_precedence.specs.PrecedenceFaults.{leveled_faults}
 use Rattle.lalrpop_norm_macro_expand.specs.Expansion.{expansion_faults, macro_faults, met_before, past_cap, shared_in, unmade_in}
+use Rattle.lalrpop_norm_origins.specs.MadeOrigins.{in_one_list}
 use Rattle.lalrpop_norm_repr.specs.Lowered.{LoweredGrammar}
 use Rattle.lalrpop_norm_repr.specs.Tables.{TypeTable}
 use Rattle.lalrpop_norm_lower.specs.Lowering.{public_rules_in, start_name}
 use Rattle.lalrpop_norm_lower.specs.Shape.{IsLoweringOf}
-use Rattle.lalrpop_norm.specs.Derivations.{IsWrittenWord, IsWordOf, derivations}
+use Rattle.lalrpop_norm_explain.specs.Derivations.{derivations}
+use Rattle.lalrpop_norm.specs.Words.{IsWrittenWord, IsWordOf}
 use Rattle.lalrpop_norm.specs.Faithful.{HasFaithfulTrees, IsSymbolOf, written_meaning, written_name}
-use Rattle.lalrpop_norm.specs.Faithful.{grammar_with_levels, grammar_of_plain_rules}
+use Rattle.lalrpop_norm.specs.Faithful.{grammar_with_levels, grammar_of_plain_rules, written_references}
+use Rattle.lalrpop_norm.specs.TracedLists.{lists_of_plain_rules}
 
 -- no macro has two levels
 abbrev pub HasFlatMacros : GrammarData → Type 0
@@ -78,6 +82,16 @@ LoweredTreesAreFaithful =
     IsEntered (grammar_of_plain_rules fs g rounds) plain →
     (types : TypeTable) (l : LoweredGrammar) → IsLoweringOf plain (all_rules plain) types l →
     HasFaithfulTrees fs g rounds l
+
+-- The lists that the traced passes hand on, those of the plain rules in a row behind the origin of each start symbol, are the
+-- origins of the actions of a lowered grammar, where no fault of names stands in the enabled grammar and in the one with levels.
+abbrev pub ListsAreActionOrigins : Type 0
+ListsAreActionOrigins =
+    (fs : Features) (g : GrammarData) → resolve_faults (enabled_grammar fs g) ≡ [] →
+    HasFlatMacros (prepared_grammar fs g) →
+    resolve_faults (grammar_with_levels fs g) ≡ [] → (starts rounds : ℕ) →
+    replicate starts from_start ++ in_one_list (lists_of_plain_rules fs g rounds)
+    ≡ action_origins starts (written_meaning fs g) (written_references fs g) rounds
 
 -- the symbol is new in the round after the first `limit`: its shortest chain has one rule more than there are such rounds
 abbrev pub IsPastLimit : ConditionValue → GrammarData → ℕ → ClosedSymbol → Type 0

@@ -1,7 +1,10 @@
 pub mod Normalize
 pub mod Passed
-pub mod Derivations
+pub mod Words
 pub mod Faithful
+pub mod WayBack
+pub mod Roots
+pub mod TracedLists
 pub mod PlainLaws
 pub mod Laws
 pub mod Maps

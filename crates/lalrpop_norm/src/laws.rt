@@ -1,8 +1,9 @@
 //! What is proved of the definitions alone. Each function here is a law: it does nothing, and its contract is a theorem, whose
-//! statement stands in `specs/Laws.antt`, of maps in `specs/Maps.antt`.
+//! statement stands in `specs/Laws.antt`, of maps in `specs/Maps.antt`, of the way back in `specs/WayBack.antt`.
 ghost use Rattle.lalrpop_norm.specs.Laws.{CapIsExact, ConditionsHaveOneValue, FaultsAreByRound, LevelsSettleMacros, LoweredTreesAreFaithful, NamesAreOwn, WordsAreEqual};
-ghost use Rattle.lalrpop_norm.specs.Laws.{EachClassHasOneRule, ResolvedGrammarsAreSettled, SharedNamesStandExactly};
+ghost use Rattle.lalrpop_norm.specs.Laws.{EachClassHasOneRule, ListsAreActionOrigins, ResolvedGrammarsAreSettled, SharedNamesStandExactly};
 ghost use Rattle.lalrpop_norm.specs.Maps.{PatternsCompose, BoundsCompose};
+ghost use Rattle.lalrpop_norm.specs.WayBack.{LevelsAreNarrow, TracedCallsFit};
 
 /// The trees of what a grammar's plain rules are lowered to, once they have their tokens, stand one to one with the written trees,
 /// with the same words and the same written alternatives, for each rule by itself and within each of its levels. Each enabled public
@@ -14,6 +15,13 @@ ghost use Rattle.lalrpop_norm.specs.Maps.{PatternsCompose, BoundsCompose};
 /// two levels.
 pub fn lowered_trees_are_faithful()
     ensures { LoweredTreesAreFaithful }
+{}
+
+/// The lists of origins that the traced passes hand on, one after another, are the origins of the actions of a lowered grammar: with
+/// that of each start symbol in front, those of the plain rules in a row, rule by rule and alternative by alternative. It asks that
+/// no fault of names stands in the enabled grammar and in its grammar with levels, and that no macro has two levels.
+pub fn lists_are_action_origins()
+    ensures { ListsAreActionOrigins }
 {}
 
 /// Where the pass over levels finds no fault in a resolved grammar, no macro has two levels, since the step from a level to the one
@@ -71,6 +79,19 @@ pub fn shared_names_stand_exactly()
 /// faithful trees do, it has there the words that it has as written, whatever the origins of alternatives.
 pub fn words_are_equal()
     ensures { WordsAreEqual }
+{}
+
+/// The level of each reference to an enabled rule that is no macro is a number of 32 bits: so far `lower_tree` follows the steps of
+/// levels.
+pub fn levels_are_narrow()
+    ensures { LevelsAreNarrow }
+{}
+
+/// The way back. Over a lowered grammar with faithful trees, each action with its origin, `explain` and `lower_tree` refuse exactly
+/// what is no tree of an enabled written rule that is no macro, answer the tree of the other side that pairs with their argument,
+/// and each undoes the other.
+pub fn traced_calls_fit()
+    ensures { TracedCallsFit }
 {}
 
 /// A condition has one value: where what its left side is bound to gives it one, as `holds` of `lalrpop_norm_conditions` answers it, that

@@ -1,12 +1,14 @@
 //! LALRPOP's grammar normalization: from a written grammar to its lowered one.
 //!
 //! [`normalize::normalize`] is the whole way; the passes that can be used by themselves stand under the module [`normalize`] as
-//! well. The types of both sides stand under the module [`grammar`].
+//! well. The types of both sides stand under the module [`grammar`], the way back for trees under the module [`explain`].
 #![tactic(auto)]
 
+pub mod explain;
 pub mod grammar;
 pub mod laws;
 pub mod lexer;
 pub mod normalize;
 mod passes;
 pub mod plain_laws;
+mod traced;

@@ -1,23 +1,33 @@
 //! The passes, one after another.
-ghost use Rattle.std.specs.Prelude.{◌≡◌, IfOk};
+ghost use Rattle.std.specs.Prelude.{◌≡◌, [], IfOk, flat_map};
 ghost use Rattle.lalrpop_norm_faults.specs.Faults.{Refuses, RefusesAmong};
 ghost use Rattle.lalrpop_norm_tree.specs.Items as written;
 ghost use Rattle.lalrpop_norm_session.specs.Sessions.{features_view};
 ghost use Rattle.lalrpop_norm_repr.specs.Lowered as lowered;
 ghost use Rattle.lalrpop_norm_repr.specs.Closed.{IsClosed};
+ghost use Rattle.lalrpop_norm_model.specs.Enabled.{enabled_grammar};
 ghost use Rattle.lalrpop_norm_model.specs.Expanded.{IsExpanded};
 ghost use Rattle.lalrpop_norm_model.specs.LexerFaults.{StandsAtLexer};
-ghost use Rattle.lalrpop_norm.specs.Faithful.{IsFaithful, grammar_of_plain_rules};
+ghost use Rattle.lalrpop_norm_origins.specs.Origins.{origin_lists};
+ghost use Rattle.lalrpop_norm_explain.specs.Laws.{CallsFit};
+ghost use Rattle.lalrpop_norm_explain.specs.TracedGrammars.{grammar_in, grammar_of, is_root, origins_in};
+ghost use Rattle.lalrpop_norm.specs.Faithful.{IsFaithful, grammar_of_plain_rules, origins_of_actions, written_meaning, written_name};
 ghost use Rattle.lalrpop_norm.specs.Normalize.{normalize_findings, plain_findings, early_faults, late_faults, StandsThere};
 ghost use Rattle.lalrpop_norm.specs.Passed.{IsPlain, IsCheckedLowering, IsTypedLowering, IsTypedByInference};
 ghost use Rattle.lalrpop_norm.specs.PlainLaws.{PassesExpansion};
+ghost use Rattle.lalrpop_norm.specs.Roots.{plain_names, with_rule_names};
+ghost use Rattle.lalrpop_norm.specs.TracedLists.{lists_of_plain_rules};
+ghost use Rattle.lalrpop_norm.specs.WayBack.{AreRoots};
 
+use crate::traced::{Plain, names_of_rules, origins_in_order};
+use lalrpop_norm_explain::{Traced, with_origins};
 use lalrpop_norm_faults::NormResult;
 use lalrpop_norm_lexer::lexer::Lexer;
 use lalrpop_norm_lower::lower;
+use lalrpop_norm_macro_expand::expand_resolved_traced;
 use lalrpop_norm_macro_expand::macro_expand::expand_resolved;
-use lalrpop_norm_precedence::precedence::expand_precedence;
-use lalrpop_norm_prevalidate::cond_comp::remove_disabled_decls;
+use lalrpop_norm_precedence::precedence::{expand_precedence, expand_precedence_traced};
+use lalrpop_norm_prevalidate::cond_comp::{remove_disabled_decls, remove_disabled_traced};
 use lalrpop_norm_prevalidate::prevalidate::validate;
 use lalrpop_norm_repr::grammar::repr;
 use lalrpop_norm_session::Session;
@@ -48,6 +58,38 @@ pub fn normalize<L: Lexer>(
     check_and_lower(alloc, session, plain)
 }
 
+/// The same as [`normalize`], and where each production comes from: by that [`explain`](lalrpop_norm_explain::explain) and
+/// [`lower_tree`](lalrpop_norm_explain::lower_tree) translate trees.
+///
+/// Errors: those of `normalize`.
+pub fn normalize_traced<L: Lexer>(
+    alloc: Global,
+    session: &Session<L>,
+    grammar: parse_tree::Grammar,
+) -> NormResult<Traced>
+    ensures refuses { RefusesAmong (StandsThere (L.relations session.now.lexer) (features_view session.now.features) session.now.macro_recursion_limit (written.grammar_view grammar))
+        result (normalize_findings (features_view session.now.features) session.now.macro_recursion_limit (written.grammar_view grammar)) }
+    ensures closed { IfOk result (λ t. IsClosed (grammar_in t)) }
+    ensures faithful { IfOk result (λ t. IsFaithful (L.relations session.now.lexer) (features_view session.now.features) session.now.macro_recursion_limit (written.grammar_view grammar) (grammar_in t)) }
+    // Each action has the origin by which the trees are faithful.
+    ensures origins { IfOk result (λ t. origins_in t ≡ origins_of_actions (features_view session.now.features) (written.grammar_view grammar) session.now.macro_recursion_limit) }
+    // Trees may begin at the enabled written rules that are no macros.
+    ensures roots { IfOk result (λ t. AreRoots (features_view session.now.features) (written.grammar_view grammar) (is_root t)) }
+    // From there both translations refuse what is no tree, answer what pairs with their argument, and undo each other.
+    ensures calls { IfOk result (λ t. CallsFit (written_meaning (features_view session.now.features) (written.grammar_view grammar))
+        (written_name (features_view session.now.features) (written.grammar_view grammar)) (grammar_of t) (is_root t)) }
+{
+    let plain = expand_traced(alloc, session, grammar)?;
+    let Plain {
+        grammar: expanded,
+        origins: kept,
+        rules,
+    } = plain;
+    let origins = origins_in_order(alloc, &expanded.items, kept)?;
+    let lowered = check_and_lower(alloc, session, expanded)?;
+    Ok(with_origins(lowered, origins, rules))
+}
+
 /// The grammar of plain rules.
 fn expand<L>(
     alloc: Global,
@@ -66,6 +108,31 @@ fn expand<L>(
     // its meaning to a level's (law `levels_settle_macros`).
     expand_resolved(alloc, leveled, session.macro_recursion_limit)
     // From here on no macro, condition, group, repeat or lookaround (law `plain_grammars_are_expanded`).
+}
+
+/// The same, and where the alternatives come from.
+fn expand_traced<L>(
+    alloc: Global,
+    session: &Session<L>,
+    tree: parse_tree::Grammar,
+) -> NormResult<Plain>
+    ensures refuses { Refuses result (early_faults (features_view session.now.features) session.now.macro_recursion_limit (written.grammar_view tree)) }
+    ensures passes { IfOk result (λ p. PassesExpansion (features_view session.now.features) (written.grammar_view tree) session.now.macro_recursion_limit) }
+    ensures plain { IfOk result (λ p. written.grammar_view p.grammar ≡ grammar_of_plain_rules (features_view session.now.features) (written.grammar_view tree) session.now.macro_recursion_limit) }
+    ensures origins { IfOk result (λ p. origin_lists p.origins.items ≡ lists_of_plain_rules (features_view session.now.features) (written.grammar_view tree) session.now.macro_recursion_limit) }
+    ensures rules { IfOk result (λ p. p.rules.keys ≡ with_rule_names [] (flat_map plain_names (enabled_grammar (features_view session.now.features) (written.grammar_view tree)).items)) }
+{
+    validate(alloc, &tree)?;
+    let (enabled, kept) = remove_disabled_traced(alloc, session, tree)?;
+    let rules = names_of_rules(alloc, &enabled.items)?;
+    let (leveled, levels) = expand_precedence_traced(alloc, enabled, kept)?;
+    let limit = session.macro_recursion_limit;
+    let (grammar, origins) = expand_resolved_traced(alloc, leveled, limit, levels)?;
+    Ok(Plain {
+        grammar,
+        origins,
+        rules,
+    })
 }
 
 /// Gives plain rules their tokens, infers their types, and lowers them.
