@@ -555,14 +555,17 @@ JSON_CALLS = {"read_twice", "beginnings", "parts"}
 
 
 def wanted_readings(root):
-    """The names of the cases' trees, each with whether it is to be a tree, by the answers that are wanted: nothing, where no
-    answer says so."""
+    """The names of the cases' files, each with whether it is to be a tree, by the answers that are wanted: nothing, where no
+    answer says so, as of what is named beside a grammar."""
     with open(os.path.join(root, "crates/cases/stdout"), encoding="utf-8", errors="replace") as file:
         answers = re.split(r"^== ", file.read(), flags=re.M)[1:]
     found = {}
     for answer in answers:
         head, _, text = answer.partition("\n")
         name, call = (head.split() + [""])[:2]
+        name, _, beside = name.partition("+")
+        if beside:
+            found.setdefault(beside, set())
         text = text.strip("\n")
         if text in ("no file", "no case", "no such call", "usage", "memory") or text.startswith("standard error: lnorm: usage") \
                 or not call or call.startswith("cut_"):

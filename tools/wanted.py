@@ -20,6 +20,7 @@ import re
 import sys
 
 sys.dont_write_bytecode = True
+from wanted_back import NoTree, Refusal, explained, lowered_back, shown_lines, tree_of_lines
 from wanted_cuts import cut_faults, cut_reads, cut_writes
 from wanted_forms import (WRAPPERS, Refused, Unknown, argument, attributes, canonical, clause_lines, intern, lowered_clauses,
                           names_text, one, pattern, place, signature, terminal, tree_text, type_text, visibility)
@@ -193,6 +194,13 @@ def symbols_under(values):
         yield s
 
 
+def mark_origins(tree):
+    """Each alternative gets its rule and its number, from 0, as its origin."""
+    for rule in rules_of(tree):
+        for number, a in enumerate(rule["alternatives"]):
+            a["origin"] = (rule["name"], number)
+
+
 def remove_disabled(tree, features):
     tree["items"] = [i for i in tree["items"] if one(i)[0] != "Nonterminal" or is_active(one(i)[1]["attributes"], features)]
     for rule in rules_of(tree):
@@ -289,7 +297,8 @@ def level_rule(rule, level, below, highest):
             made["alternatives"].append(a)
     if lower:
         step = {"span": rule["span"], "kind": {"Nonterminal": lower}, "in_macro": bool(rule["args"])}
-        made["alternatives"].append({"span": rule["span"], "expr": {"symbols": [step]}, "condition": None, "action": None, "attributes": []})
+        made["alternatives"].append({"span": rule["span"], "expr": {"symbols": [step]}, "condition": None, "action": None, "attributes": [],
+                                     "origin": "step"})
     return {"Nonterminal": made}
 
 
@@ -311,8 +320,8 @@ def nominal(names, inner):
     return {"Nominal": {"path": {"absolute": False, "ids": names}, "types": [inner]}}
 
 
-def new_alternative(span, values, code):
-    return {"span": span, "expr": {"symbols": values}, "condition": None, "action": {"User": code}, "attributes": []}
+def new_alternative(span, values, code, origin):
+    return {"span": span, "expr": {"symbols": values}, "condition": None, "action": {"User": code}, "attributes": [], "origin": origin}
 
 
 def bound(span, name, inner):
@@ -325,7 +334,7 @@ def group_rule(span, group):
         raise Refused("F35 " + place(span))
     types = [{"OfSymbol": copy.deepcopy(s["kind"])} for _, _, s in parts]
     single = len(types) == 1
-    return types[0] if single else {"Tuple": types}, [new_alternative(span, group["symbols"], "<>" if single else "(<>)")], True
+    return types[0] if single else {"Tuple": types}, [new_alternative(span, group["symbols"], "<>" if single else "(<>)", "group")], True
 
 
 def repeat_rule(span, repeat):
@@ -333,17 +342,20 @@ def repeat_rule(span, repeat):
     of_inner = {"OfSymbol": copy.deepcopy(inner["kind"])}
     plus = {"span": span, "kind": {"Repeat": {"op": "Plus", "symbol": inner}}}
     if repeat["op"] == "Question":
-        return nominal(["Option"], of_inner), [new_alternative(span, [inner], "Some(<>)"), new_alternative(span, [], "None")], True
+        return nominal(["Option"], of_inner), [
+            new_alternative(span, [inner], "Some(<>)", "once"), new_alternative(span, [], "None", "empty")], True
     vec = nominal(["alloc", "vec", "Vec"], of_inner)
     name, count = one(repeat["op"])
     if name == "Times":
         if one(inner["kind"])[0] in ("Name", "Tuple"):
             raise Refused("F57 " + place(span))
-        return vec, [new_alternative(span, [copy.deepcopy(inner) for _ in range(count)], "alloc::vec![<>]")], True
+        return vec, [new_alternative(span, [copy.deepcopy(inner) for _ in range(count)], "alloc::vec![<>]", "times")], True
     if repeat["op"] == "Star":
-        return vec, [new_alternative(span, [], "alloc::vec![]"), new_alternative(span, [bound(span, "v", plus)], "v")], True
+        return vec, [
+            new_alternative(span, [], "alloc::vec![]", "empty"), new_alternative(span, [bound(span, "v", plus)], "v", "filled")], True
     push = [bound(span, "v", copy.deepcopy(plus)), bound(span, "e", inner)]
-    return vec, [new_alternative(span, [inner], "alloc::vec![<>]"), new_alternative(span, push, "{ let mut v = v; v.push(e); v }")], False
+    return vec, [new_alternative(span, [inner], "alloc::vec![<>]", "one"),
+                 new_alternative(span, push, "{ let mut v = v; v.push(e); v }", "more")], False
 
 
 def holds_of(condition, bound_to):
@@ -407,7 +419,8 @@ def made_rule(text, s, macros):
     if name == "Macro":
         seen, marks, ty, made = instance_rule(span, macros[content["name"]], content["args"])
     elif name in LOOKAROUNDS:
-        ty, made = None, [{"span": span, "expr": {"symbols": []}, "condition": None, "action": name, "attributes": []}]
+        ty, made = None, [{"span": span, "expr": {"symbols": []}, "condition": None, "action": name, "attributes": [],
+                           "origin": {"Lookahead": "@L", "Lookbehind": "@R"}[name]}]
     else:
         ty, made, inline = group_rule(span, content) if name == "Expr" else repeat_rule(span, content)
         marks = marks if inline else []
@@ -490,6 +503,14 @@ def lowered_symbol(value):
     return terminal(content, False) if name == "Terminal" else "error" if name == "Error" else content
 
 
+def symbol_of(value):
+    """A symbol as trees have it: whether it is a terminal, and that, or a name."""
+    name, content = one(value["kind"])
+    if name in WRAPPERS:
+        return symbol_of(WRAPPERS[name](content))
+    return (True, content) if name == "Terminal" else (True, "Error") if name == "Error" else (False, content)
+
+
 def conversions_of(tree):
     """The terminals of conversions or entries, with the patterns of their tokens."""
     enum = extern_enum(tree)
@@ -534,20 +555,25 @@ def asked_code(values):
 class Lowered:
     """A lowered grammar: its nonterminals by their names, its actions, its start symbols."""
 
-    def __init__(self, tree):
-        self.types, self.tree = Types(tree).infer(), tree
+    def __init__(self, tree, roots=()):
+        self.types, self.tree, self.roots = Types(tree).infer(), tree, roots
         self.found, self.actions, self.starts = {}, [], {}
+        # of each nonterminal the symbols and the origin of its productions
+        self.sources = {}
         for rule in rules_of(tree):
             if rule["visibility"] != "Priv":
                 self.start(rule)
         for rule in rules_of(tree):
             ty = self.types.known[rule["name"]]
-            made = [self.production(rule["name"], a["expr"]["symbols"], ty, a["action"], a["span"]) for a in rule["alternatives"]]
+            made = [self.production(rule["name"], a["expr"]["symbols"], ty, a["action"], a["span"], a.get("origin"))
+                    for a in rule["alternatives"]]
+            self.sources.setdefault(rule["name"], [])
             self.found[rule["name"]] = (rule, ty, rule["attributes"], made)
         self.recovers = any(name == "Error" for name, _ in every_kind(tree))
 
-    def production(self, name, values, ty, action, span):
+    def production(self, name, values, ty, action, span, origin):
         self.actions.append(action_text(self.types, values, ty, action, span))
+        self.sources.setdefault(name, []).append((list(map(symbol_of, values)), origin))
         shown = ", ".join(map(lowered_symbol, values))
         return "%s = %s => ActionFn(%d);" % (name, shown, len(self.actions) - 1), place(span)
 
@@ -557,7 +583,7 @@ class Lowered:
             raise Refused("F55 " + place(rule["span"]))
         self.types.known[name] = ty
         of_rule = {"span": rule["span"], "kind": {"Nonterminal": rule["name"]}}
-        self.found[name] = (rule, ty, [], [self.production(name, [of_rule], ty, None, rule["span"])])
+        self.found[name] = (rule, ty, [], [self.production(name, [of_rule], ty, None, rule["span"], "start")])
         self.starts[rule["name"]] = name
 
     def text(self):
@@ -596,10 +622,23 @@ class Lowered:
         """How many productions each nonterminal has."""
         return "".join("%s: %d\n" % (n, len(self.found[n][3])) for n in sorted(self.found, key=str.encode))
 
-    def lines(self):
+    def marked(self, name):
+        """The productions of a nonterminal, each with its origin in a word."""
+        for (line, _), (_, origin) in zip(self.found[name][3], self.sources[name]):
+            yield line, "%s %d" % origin if isinstance(origin, tuple) else {"filled": "some", "once": "some"}.get(origin, origin)
+
+    def traced(self):
+        """The nonterminals, with what is kept beside them for the way back."""
+        text = ""
+        for name in sorted(self.found, key=str.encode):
+            text += "%s, a written rule: %s\n" % (name, str(name in self.roots).lower())
+            text += "".join("    %s %s\n" % pair for pair in self.marked(name))
+        return text
+
+    def lines(self, origins=False):
         """What the program `lnorm` prints."""
         names = sorted(self.found, key=str.encode)
-        text = "".join(line + "\n" for n in names for line, _ in self.found[n][3])
+        text = "".join(line + (" [%s]\n" % origin if origins else "\n") for n in names for line, origin in self.marked(n))
         text += "".join("type %s: %s\n" % (n, text_of(self.found[n][1])) for n in names)
         return text + "".join("start %s = %s\n" % (n, self.starts[n]) for n in sorted(self.starts, key=str.encode))
 
@@ -611,19 +650,23 @@ class Usage(Exception):
 
 
 def settings(words):
-    features, limit = set(), 200
+    """Features, limit, and whether origins are asked for."""
+    features, limit, origins, rest = set(), 200, False, list(words)
     if words[:1] == ("told",):
         raise Unknown
-    for option, value in zip(words[::2], words[1::2]):
-        if option == "--feature":
-            features.add(value)
-        elif option == "--limit" and re.fullmatch(r"\+?[0-9]+", value) and int(value) < 65536:
-            limit = int(value)
+    while rest:
+        option = rest.pop(0)
+        if option == "--origins":
+            origins = True
+        elif not rest:
+            raise Usage
+        elif option == "--feature":
+            features.add(rest.pop(0))
+        elif option == "--limit" and re.fullmatch(r"\+?[0-9]+", rest[0]) and int(rest[0]) < 65536:
+            limit = int(rest.pop(0))
         else:
             raise Usage
-    if len(words) % 2:
-        raise Usage
-    return features, limit
+    return features, limit, origins
 
 
 class NotExpanded(Exception):
@@ -662,13 +705,15 @@ def every_kind(tree):
 
 def normalized(tree, features, limit, lexer=None):
     check_written(tree)
+    mark_origins(tree)
     remove_disabled(tree, features)
+    roots = {r["name"] for r in rules_of(tree) if not r["args"]}
     resolve(tree)
     expand_levels(tree)
     resolve(tree)
     expand_macros(tree, limit)
     check_tokens(tree, lexer or CheckOnly())
-    return Lowered(tree)
+    return Lowered(tree, roots)
 
 
 def counted(tree, limit):
@@ -692,13 +737,13 @@ def lines_of(data, words):
     """What `lnorm` prints."""
     tree = None
     try:
-        features, limit = settings(words)
+        features, limit, origins = settings(words)
         tree = tree_of(data)
         if tree is None:
             return "standard error: lnorm: not a tree\nstatus 2\n"
-        return normalized(tree, features, limit).lines() + "status 0\n"
+        return normalized(tree, features, limit).lines(origins) + "status 0\n"
     except Usage:
-        return "standard error: lnorm: usage: lnorm [--limit N] [--feature F]...\nstatus 2\n"
+        return "standard error: lnorm: usage: lnorm [--limit N] [--feature F]... [--origins]\nstatus 2\n"
     except Refused as fault:
         return "standard error: %s\nstatus 1\n" % fault
 
@@ -717,7 +762,26 @@ def counts_of(data):
 PASSES = ("read", "validate", "check_globals", "remove_disabled_decls", "resolve", "expand_levels", "expand_precedence",
           "expand_macros", "token_check")
 LAST = ("token_check_scripted", "infer_types", "normalize", "lowered_copy", "copy", "lower", "is_typed", "ask", "texts",
-        "normalize_scripted", "without_memory", "expand_macros_counted", "malformed_cfgs")
+        "normalize_scripted", "without_memory", "expand_macros_counted", "malformed_cfgs", "traced")
+BACK = ("explain", "lower_tree", "there_and_back")
+
+
+def back_answer(data, beside, call, words):
+    """What a call of the way back answers for the tree that is named beside the grammar."""
+    features, limit, _ = settings(words)
+    tree = tree_of(data)
+    if tree is None:
+        return "not a tree\n"
+    lowered = normalized(tree, features, limit)
+    try:
+        if call == "lower_tree":
+            return shown_lines(lowered_back(lowered, tree_of_lines(beside, "rule", "alternative")))
+        written = explained(lowered, tree_of_lines(beside, "nonterminal", "production"))
+        return shown_lines(lowered_back(lowered, written[0]) if call == "there_and_back" else written)
+    except NoTree:
+        return "no tree beside it\n"
+    except Refusal as fault:
+        return "%s\n" % fault
 
 
 def passes_answer(data, call, words):
@@ -728,7 +792,7 @@ def passes_answer(data, call, words):
     if last == "without_memory":
         raise Unknown
     lexer = Scripted(words) if last in ("token_check_scripted", "normalize_scripted") else CheckOnly()
-    features, limit = settings(() if isinstance(lexer, Scripted) else words)
+    features, limit, _ = settings(() if isinstance(lexer, Scripted) else words)
     tree = tree_of(data)
     if tree is None:
         return "not a tree\n"
@@ -736,9 +800,9 @@ def passes_answer(data, call, words):
         run_pass(one_pass, tree, features, limit)
     if whole and last in LAST[1:4] + ("lower",):
         raise Unknown
-    if last in ("normalize", "normalize_scripted", "lowered_copy"):
+    if last in ("normalize", "normalize_scripted", "lowered_copy", "traced"):
         lowered = normalized(tree, features, limit, lexer)
-        return lowered.copied() if last == "lowered_copy" else lowered.text()
+        return {"lowered_copy": lowered.copied, "traced": lowered.traced}.get(last, lowered.text)()
     if last == "lower":
         resolve(tree)
         return lowered_alone(tree, features)
@@ -758,12 +822,18 @@ def passes_answer(data, call, words):
     return told + (debug_tree(tree) if whole else tree_text(tree))
 
 
+def contents(data, name):
+    """What the files of a name hold: that of a tree, and of what is named beside it."""
+    for part in name.split("+", 1):
+        with open(os.path.join(data, part + ".json"), "rb") as opened:
+            yield opened.read()
+
+
 def answer(data, name, call, *words):
-    file = os.path.join(data, name + ".json")
-    if not os.path.exists(file):
+    try:
+        content, *beside = contents(data, name)
+    except OSError:
         return "no file\n"
-    with open(file, "rb") as opened:
-        content = opened.read()
     try:
         if call in ("values", "copies"):
             raise Unknown
@@ -773,15 +843,17 @@ def answer(data, name, call, *words):
         readers = {"read_twice": readings, "beginnings": beginnings, "cut_trees": cut_trees, "parts": listed_parts, "library": counts_of}
         if call in readers:
             return readers[call](content)
+        if call in BACK:
+            return by_passes(content, call, words, lambda: back_answer(content, b"".join(beside), call, words))
         return lines_of(content, words) if call == "lnorm" else by_passes(content, call, words)
     except Unknown:
         return "?\n"
 
 
-def by_passes(content, call, words):
+def by_passes(content, call, words, asked=None):
     """What passes answer, or why they answer nothing; twice where that is asked."""
     try:
-        told = passes_answer(content, call, words)
+        told = asked() if asked else passes_answer(content, call, words)
     except NotExpanded:
         told = "not expanded\n"
     except Usage:

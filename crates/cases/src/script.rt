@@ -23,13 +23,21 @@ fn push_case(rt: &HostRuntime, text: &mut String, line: &str) -> io::Result<()> 
     text.reserve(ROOM)?;
     let words = words_of(alloc, line)?;
     match words.as_slice() {
-        [name, call, words @ ..] => match tree_bytes(rt, name) {
-            Ok(bytes) => push_answer(alloc, text, call, words, &bytes)?,
+        [name, call, words @ ..] => match files_of(rt, name) {
+            Ok((bytes, beside)) => push_answer(alloc, text, call, words, &bytes, &beside)?,
             Err(_) => text.push_str("no file\n")?,
         },
         _ => text.push_str("no case\n")?,
     }
     Ok(())
+}
+
+/// What the file of a tree holds, and that of what is named beside it, behind a `+`.
+fn files_of(rt: &HostRuntime, name: &str) -> io::Result<(Vec<u8>, Vec<u8>)> {
+    match name.split_once("+") {
+        Some((tree, beside)) => Ok((tree_bytes(rt, tree)?, tree_bytes(rt, beside)?)),
+        None => Ok((tree_bytes(rt, name)?, Vec::new(rt.alloc()))),
+    }
 }
 
 /// What the file of a tree holds.

@@ -1,5 +1,6 @@
 //! The answer to a call.
 use crate::asks::push_no_feature;
+use crate::back::push_back;
 use crate::call::{Call, Last, Pass, call_of};
 use crate::copies::push_copies;
 use crate::cuts::{push_cut_faults, push_cut_reads, push_cut_writes};
@@ -10,23 +11,24 @@ use crate::readings::twice::{push_beginnings, push_read_twice};
 use crate::runs::{push_cut_trees, push_run};
 use crate::scripted::scripted_session;
 use lalrpop_norm::normalize::Session;
-use lalrpop_norm_lexer::lexer::Lexer;
-use lnorm_run::words::{WordsError, session_of};
+use lalrpop_norm_lexer::lexer::{CheckOnly, Lexer};
+use lnorm_run::words::{WordsError, asked_by};
 use lnorm_texts::values::push_values;
 use shared_text::NoMemory;
 use std::alloc::{AllocError, Global};
 
-/// Writes the answer to a call, with its words, on the tree that the bytes are. The only error is want of memory for the
-/// answer's text: a call that has no memory is answered `memory`.
+/// Writes the answer to a call, with its words, on the tree that the bytes are; `beside` is what the file holds that is named beside it,
+/// if one is. The only error is want of memory for the answer's text: a call that has no memory is answered `memory`.
 pub fn push_answer(
     alloc: Global,
     text: &mut String,
     call: &str,
     words: &[String],
     bytes: &[u8],
+    beside: &[u8],
 ) -> Result<(), AllocError> {
     match call_of(alloc, call)? {
-        Some(call) => push_called(alloc, text, &call, words, bytes),
+        Some(call) => push_called(alloc, text, &call, words, bytes, beside),
         None => text.push_str("no such call\n"),
     }
 }
@@ -37,6 +39,7 @@ fn push_called(
     call: &Call,
     words: &[String],
     bytes: &[u8],
+    beside: &[u8],
 ) -> Result<(), AllocError> {
     match call {
         Call::Lnorm => push_run(alloc, text, words, bytes),
@@ -50,6 +53,7 @@ fn push_called(
         Call::Parts => push_parts(alloc, text, bytes),
         Call::Values => push_or_memory(text, |text| push_made(alloc, text)),
         Call::Copies => push_or_memory(text, |text| push_copies(alloc, text)),
+        Call::Back(back) => push_back(alloc, text, *back, words, bytes, beside),
         Call::Passes(passes, last) => push_passes(alloc, text, passes, *last, words, bytes),
     }
 }
@@ -118,6 +122,14 @@ fn push_passed(
             let session = session_of(alloc, words);
             push_in_session(alloc, text, session, call, bytes)
         }
+    }
+}
+
+/// The session that words of `lnorm` ask for.
+fn session_of(alloc: Global, words: &[String]) -> Result<Session<CheckOnly>, WordsError> {
+    match asked_by(alloc, words) {
+        Ok(asked) => Ok(asked.session),
+        Err(error) => Err(error),
     }
 }
 

@@ -26,8 +26,21 @@ pub(crate) enum Call {
     Values,
     /// Copies of parts that no copy of a tree makes by themselves.
     Copies,
+    /// What the way back makes of the tree beside the grammar.
+    Back(Back),
     /// Passes one after another, and what is asked for the tree then.
     Passes(Vec<Pass>, Last),
+}
+
+/// A call of the way back.
+#[derive(Clone, Copy)]
+pub(crate) enum Back {
+    /// `explain`.
+    Explain,
+    /// `lower_tree`.
+    LowerTree,
+    /// `explain`, and `lower_tree` of what that answers.
+    ThereAndBack,
 }
 
 /// A pass that answers a tree, or no fault.
@@ -85,6 +98,8 @@ pub(crate) enum Last {
     Lower,
     /// `normalize`: the lowered grammar.
     Normalize,
+    /// `normalize_traced`: its nonterminals and their productions, with what was kept beside them.
+    Traced,
     /// The tree's `clone`.
     Copy,
     /// What accessors answer of the tree.
@@ -110,6 +125,9 @@ pub(crate) fn call_of(alloc: Global, name: &str) -> Result<Option<Call>, AllocEr
         "cut_trees" => Ok(Some(Call::CutTrees)),
         "values" => Ok(Some(Call::Values)),
         "copies" => Ok(Some(Call::Copies)),
+        "explain" => Ok(Some(Call::Back(Back::Explain))),
+        "lower_tree" => Ok(Some(Call::Back(Back::LowerTree))),
+        "there_and_back" => Ok(Some(Call::Back(Back::ThereAndBack))),
         "read_twice" => Ok(Some(Call::ReadTwice)),
         "beginnings" => Ok(Some(Call::Beginnings)),
         "parts" => Ok(Some(Call::Parts)),
@@ -144,6 +162,7 @@ fn last_of(name: &str) -> Option<Last> {
         "is_typed" => Some(Last::IsTyped),
         "lower" => Some(Last::Lower),
         "normalize" => Some(Last::Normalize),
+        "traced" => Some(Last::Traced),
         "lowered_copy" => Some(Last::LoweredCopy),
         _ => look_of(name),
     }

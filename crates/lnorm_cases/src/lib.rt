@@ -4,6 +4,7 @@
 
 pub mod answer;
 mod asks;
+mod back;
 mod call;
 mod copies;
 mod cut;

@@ -1,9 +1,13 @@
 //! What passes come to, and how it is printed.
 use crate::asks::push_asked;
+use crate::back::push_traced;
 use crate::call::{Last, Pass};
-use crate::passes::{Stopped, counted, lowered, normalized, tree_after, tree_after_all, typed};
+use crate::passes::{
+    Stopped, counted, lowered, normalized, traced, tree_after, tree_after_all, typed,
+};
 use crate::shown::{ended, push_or};
 use crate::without_memory::push_without_memory;
+use lalrpop_norm::explain::Traced;
 use lalrpop_norm::grammar::repr;
 use lalrpop_norm::normalize::lower::is_typed;
 use lalrpop_norm::normalize::prevalidate::malformed_cfgs;
@@ -126,6 +130,7 @@ fn push_last<L: Lexer>(
             layout,
             normalized(alloc, session, tree),
         ),
+        Last::Traced => push_kept(text, layout, traced(alloc, session, tree)),
         Last::LoweredCopy => push_copied(alloc, text, layout, normalized(alloc, session, tree)),
         Last::Copy => {
             let done = push_copy(text, layout, &tree);
@@ -278,6 +283,19 @@ fn push_normalized(
     })
 }
 
+fn push_kept(
+    text: &mut String,
+    layout: Layout,
+    answer: Result<Traced, Stopped>,
+) -> Result<(), AllocError> {
+    push_answer_of(
+        text,
+        layout,
+        answer,
+        |text, traced| push_traced(text, traced),
+    )
+}
+
 fn push_lowered_as(
     text: &mut String,
     layout: Layout,
@@ -369,7 +387,7 @@ fn push_failure(
     }
 }
 
-fn push_place(text: &mut String, failure: &NormFailure) -> Result<(), AllocError> {
+pub(crate) fn push_place(text: &mut String, failure: &NormFailure) -> Result<(), AllocError> {
     match failure {
         NormFailure::Refused(error) => {
             let code = error.fault.code();

@@ -6,6 +6,7 @@ ghost use Rattle.lalrpop_norm_tree.specs.Items.{grammar_view};
 
 use crate::call::Pass;
 use crate::shown::{beside, kept};
+use lalrpop_norm::explain::Traced;
 use lalrpop_norm::grammar::repr;
 use lalrpop_norm::normalize::cond_comp::remove_disabled_decls;
 use lalrpop_norm::normalize::lower::{is_typed, lower};
@@ -13,7 +14,7 @@ use lalrpop_norm::normalize::precedence::expand_precedence;
 use lalrpop_norm::normalize::prevalidate::validate;
 use lalrpop_norm::normalize::resolve::{check_globals, resolve};
 use lalrpop_norm::normalize::{
-    NormFailure, NormResult, Session, is_expanded, normalize, token_check,
+    NormFailure, NormResult, Session, is_expanded, normalize, normalize_traced, token_check,
 };
 use lalrpop_norm_lexer::lexer::Lexer;
 use lalrpop_norm_macro_expand::macro_expand::{Counts, expand_macros, expand_macros_counted};
@@ -108,6 +109,15 @@ pub(crate) fn normalized<L: Lexer>(
     tree: Grammar,
 ) -> Result<repr::Grammar, Stopped> {
     Ok(normalize(alloc, session, tree)?)
+}
+
+/// The lowered grammar, with where its productions come from.
+pub(crate) fn traced<L: Lexer>(
+    alloc: Global,
+    session: &Session<L>,
+    tree: Grammar,
+) -> Result<Traced, Stopped> {
+    Ok(normalize_traced(alloc, session, tree)?)
 }
 
 /// The tree with its names resolved, lowered over the types of its rules, where both are what `lower` takes.

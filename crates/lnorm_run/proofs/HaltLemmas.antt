@@ -1,14 +1,12 @@
 -- What the halt of an answer says of a run.
 use Rattle.std.proofs.Common.{ℕ, List, Option}
 use Rattle.std.specs.Io.KnownBytes.{Keeps}
-use Rattle.lalrpop_norm_faults.specs.declared.failure.NormFailure.{NormFailure}
 use Rattle.lalrpop_norm_faults.specs.declared.failure.NormFailure.TheVariants.{Refused, Memory as no_room}
-use Rattle.lalrpop_norm_faults.specs.Faults.{IsTold}
 use Rattle.lalrpop_norm_tree.specs.Items.{GrammarData}
-use Rattle.lnorm_run.specs.Answers.{IsFormOf, findings_of, StandsAtPlace}
+use Rattle.lnorm_run.specs.Answers.{IsFormOf}
 use Rattle.lnorm_run.specs.Settings.{Settings}
 use Rattle.lnorm_run.specs.Runs.{TakesInput}
-use Rattle.lnorm_run.specs.Halts.{Explains, Halts}
+use Rattle.lnorm_run.specs.Halts.{Explains, Halts, Tells}
 use Rattle.lnorm_streams.specs.declared.halt.Halt.{Halt}
 use Rattle.lnorm_streams.specs.declared.halt.Halt.TheVariants.{Usage, NotATree, Failed, Input, Output}
 
@@ -23,7 +21,10 @@ halts_explained Input words s bytes in_old in_new out_old out_new t k e = absurd
 halts_explained Output words s bytes in_old in_new out_old out_new t k e = absurd e
 
 -- where the passes refused the tree that the input is
-pub refused_explained : (s : Settings) (bytes : List ℕ) (tree : GrammarData) (e : NormFailure) → IsFormOf tree bytes → IsTold (StandsAtPlace s tree) (findings_of s tree) e
-    → Explains s bytes (Failed e)
-refused_explained s bytes tree (Refused x) form h = record { tree = tree; form = form; stands = h }
-refused_explained s bytes tree no_room form h = tt
+pub told_explained : (s : Settings) (bytes : List ℕ) (tree : GrammarData) (h : Halt) → IsFormOf tree bytes → Tells s tree h → Explains s bytes h
+told_explained s bytes tree Usage form t = absurd t
+told_explained s bytes tree NotATree form t = absurd t
+told_explained s bytes tree (Failed (Refused x)) form t = record { tree = tree; form = form; stands = t }
+told_explained s bytes tree (Failed no_room) form t = tt
+told_explained s bytes tree Input form t = absurd t
+told_explained s bytes tree Output form t = absurd t

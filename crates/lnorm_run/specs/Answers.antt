@@ -1,18 +1,19 @@
 -- What the text and the faults of an input are.
-use Rattle.std.specs.Prelude.{◌≡◌, ℕ, List, Some, true, IsUtf8}
+use Rattle.std.specs.Prelude.{◌≡◌, ℕ, List, Option, Some, None, true, if◌then◌else◌, IsUtf8}
 use Rattle.serde_json.specs.Data.{Data}
 use Rattle.serde_json.specs.Read.{read}
 use Rattle.lalrpop_norm_tree_names.specs.declared.names.Span.{Span}
 use Rattle.lalrpop_norm_tree.specs.Items.{GrammarData}
 use Rattle.lalrpop_norm_faults.specs.declared.kind.FaultKind.{FaultKind}
 use Rattle.lalrpop_norm_faults.specs.Faults.{Fault, Finding, StandsAmong, MayBeTold}
+use Rattle.lalrpop_norm_theory.specs.LoweredTrees.{Origin}
 use Rattle.lalrpop_norm_model.specs.LexerFaults.{LexerPlace}
 use Rattle.lalrpop_norm_lexer.specs.CheckOnly.{of_regex}
 use Rattle.lalrpop_norm_json.specs.ItemForms.{grammar_form}
 use Rattle.lalrpop_norm_json_shapes.specs.Shapes as shape
 use Rattle.lalrpop_norm_json_shapes.specs.Shapes.{is}
 use Rattle.lnorm_run.specs.Settings.{Settings}
-use Rattle.lalrpop_norm.specs.Faithful.{IsFaithful}
+use Rattle.lalrpop_norm.specs.Faithful.{IsFaithful, origins_of_actions}
 use Rattle.lalrpop_norm.specs.Normalize.{normalize_findings, StandsThere}
 use Rattle.lalrpop_norm_repr.specs.Closed.{IsClosed}
 use Rattle.lalrpop_norm_repr.specs.Lowered.{LoweredGrammar}
@@ -47,13 +48,21 @@ pub record IsLowered (s : Settings) (g : GrammarData) (l : LoweredGrammar) : Typ
   pub faithful : IsFaithful of_regex s.features s.limit g l
   pub closed : IsClosed l
 
--- the input is the form of a tree, and the text is the lines of a lowered grammar that this tree has
+-- where they are asked for, the origins in the tree of the actions of a lowered grammar that it has
+abbrev pub origins_asked : Settings → GrammarData → Option (List Origin)
+origins_asked s g = if s.origins then Some (origins_of_actions s.features g s.limit) else None
+
+-- the text is the lines of a lowered grammar that the tree has
+pub record IsTextFor (s : Settings) (g : GrammarData) (text : List ℕ) : Type 0 where
+  pub lowered : LoweredGrammar
+  pub lowers : IsLowered s g lowered
+  pub printed : text ≡ lines (origins_asked s g) lowered
+
+-- the input is the form of a tree, and the text is that for it
 pub record IsAnswer (s : Settings) (bytes text : List ℕ) : Type 0 where
   pub tree : GrammarData
   pub form : IsFormOf tree bytes
-  pub lowered : LoweredGrammar
-  pub lowers : IsLowered s tree lowered
-  pub printed : text ≡ lines lowered
+  pub right : IsTextFor s tree text
 
 -- The first fault of the tree that the input is, and where it stands; or one of its lexer that stands there, with no fault but
 -- of the lexer before it.

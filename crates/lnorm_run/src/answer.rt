@@ -1,18 +1,20 @@
 //! The text for an input.
-ghost use Rattle.std.specs.Prelude.{◌≡◌, IfOk, IfErr, string_bytes};
+ghost use Rattle.std.specs.Prelude.{◌≡◌, Some, None, true, false, IfOk, IfErr, string_bytes};
 ghost use Rattle.lalrpop_norm_tree.specs.Items.{grammar_view};
 ghost use Rattle.lalrpop_norm_faults.specs.declared.failure.NormFailure.TheVariants.{Memory};
-ghost use Rattle.lnorm_run.specs.Answers.{IsAnswer, IsFormOf};
+ghost use Rattle.lnorm_run.specs.Answers.{IsAnswer, IsFormOf, IsTextFor};
 ghost use Rattle.lalrpop_norm_repr.specs.Lowered.{lowered_grammar_view as lowered_view};
+ghost use Rattle.lalrpop_norm_explain.specs.TracedGrammars.{grammar_in, origins_in};
 ghost use Rattle.lnorm_run.specs.Lines.{lines};
 ghost use Rattle.lnorm_streams.specs.declared.halt.Halt.TheVariants.{Failed};
-ghost use Rattle.lnorm_run.specs.Halts.{Explains};
+ghost use Rattle.lnorm_run.specs.Halts.{Explains, Tells};
 ghost use Rattle.lnorm_run.specs.Settings.{Settings, settings_view};
 
-use crate::lines::lines;
+use crate::lines::{lines, traced_lines};
+use crate::words::Asked;
+use lalrpop_norm::explain::Traced;
 use lalrpop_norm::grammar::repr;
-use lalrpop_norm::lexer::CheckOnly;
-use lalrpop_norm::normalize::{NormFailure, Session, normalize};
+use lalrpop_norm::normalize::{NormFailure, normalize, normalize_traced};
 use lalrpop_norm_json::{TreeError, read_tree};
 use lalrpop_norm_tree::grammar::parse_tree::Grammar;
 use lnorm_streams::halt::Halt;
@@ -24,19 +26,56 @@ use std::mem;
 ///
 /// Errors: `NotATree` where they are the form of no tree; `Failed` with the first fault of the tree, or with want of
 /// memory.
-pub fn answer(alloc: Global, session: &Session<CheckOnly>, bytes: Vec<u8>) -> Result<String, Halt>
-    ensures ok { IfOk result (λ text. IsAnswer (settings_view session.now) bytes.items (string_bytes text)) }
-    ensures err { IfErr result (Explains (settings_view session.now) bytes.items) }
+pub fn answer(alloc: Global, asked: &Asked, bytes: Vec<u8>) -> Result<String, Halt>
+    ensures ok { IfOk result (λ text. IsAnswer (settings_view asked.now) bytes.items (string_bytes text)) }
+    ensures err { IfErr result (Explains (settings_view asked.now) bytes.items) }
 {
     let tree = tree_of(alloc, &bytes)?;
     drop(bytes);
-    match normalize(alloc, session, tree) {
+    text_for(alloc, asked, tree)
+}
+
+/// The text for a tree.
+fn text_for(alloc: Global, asked: &Asked, tree: Grammar) -> Result<String, Halt>
+    ensures ok { IfOk result (λ text. IsTextFor (settings_view asked.now) (grammar_view tree) (string_bytes text)) }
+    ensures err { IfErr result (Tells (settings_view asked.now) (grammar_view tree)) }
+{
+    if asked.origins {
+        traced_text(alloc, asked, tree)
+    } else {
+        plain_text(alloc, asked, tree)
+    }
+}
+
+/// The text for a tree, without origins.
+fn plain_text(alloc: Global, asked: &Asked, tree: Grammar) -> Result<String, Halt>
+    requires { asked.now.origins ≡ false }
+    ensures ok { IfOk result (λ text. IsTextFor (settings_view asked.now) (grammar_view tree) (string_bytes text)) }
+    ensures err { IfErr result (Tells (settings_view asked.now) (grammar_view tree)) }
+{
+    match normalize(alloc, &asked.session, tree) {
         Ok(lowered) => {
             let text = text_of(alloc, &lowered);
             mem::forget(lowered);
             text
         }
         Err(failure) => Err(Halt::Failed(failure)),
+    }
+}
+
+/// The text for a tree, with origins.
+fn traced_text(alloc: Global, asked: &Asked, tree: Grammar) -> Result<String, Halt>
+    requires { asked.now.origins ≡ true }
+    ensures ok { IfOk result (λ text. IsTextFor (settings_view asked.now) (grammar_view tree) (string_bytes text)) }
+    ensures err { IfErr result (Tells (settings_view asked.now) (grammar_view tree)) }
+{
+    match normalize_traced(alloc, &asked.session, tree) {
+        Ok(traced) => {
+            let text = traced_text_of(alloc, &traced);
+            mem::forget(traced);
+            text
+        }
+        Err(refused) => Err(Halt::Failed(refused)),
     }
 }
 
@@ -73,10 +112,21 @@ fn tree_in(alloc: Global, text: &str) -> Result<Grammar, Halt>
 
 /// The lines of a lowered grammar.
 fn text_of(alloc: Global, lowered: &repr::Grammar) -> Result<String, Halt>
-    ensures ok { IfOk result (λ text. string_bytes text ≡ lines (lowered_view lowered.now)) }
+    ensures ok { IfOk result (λ text. string_bytes text ≡ lines None (lowered_view lowered.now)) }
     ensures err { IfErr result (λ h. h ≡ Failed Memory) }
 {
     match lines(alloc, lowered) {
+        Ok(text) => Ok(text),
+        Err(_) => Err(Halt::Failed(NormFailure::Memory)),
+    }
+}
+
+/// The lines of a lowered grammar with origins.
+fn traced_text_of(alloc: Global, traced: &Traced) -> Result<String, Halt>
+    ensures ok { IfOk result (λ text. string_bytes text ≡ lines (Some (origins_in traced.now)) (grammar_in traced.now)) }
+    ensures err { IfErr result (λ h. h ≡ Failed Memory) }
+{
+    match traced_lines(alloc, traced) {
         Ok(text) => Ok(text),
         Err(_) => Err(Halt::Failed(NormFailure::Memory)),
     }

@@ -25,7 +25,7 @@ abbrev pub span_text : Span → List ℕ
 span_text span = (decimal span.0 ++ codes "..") ++ (decimal span.1 ++ codes ": ")
 
 unfoldable pub usage_line : List ℕ
-usage_line = codes "lnorm: usage: lnorm [--limit N] [--feature F]...\n"
+usage_line = codes "lnorm: usage: lnorm [--limit N] [--feature F]... [--origins]\n"
 
 unfoldable pub no_tree_line : List ℕ
 no_tree_line = codes "lnorm: not a tree\n"

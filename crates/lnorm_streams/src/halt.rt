@@ -115,7 +115,7 @@ fn write_number<E: Write>(faults: &mut E, number: usize, behind: &str) -> bool
 fn usage() -> &'static str
     ensures { result.now ≡ usage_line }
 {
-    "lnorm: usage: lnorm [--limit N] [--feature F]...\n"
+    "lnorm: usage: lnorm [--limit N] [--feature F]... [--origins]\n"
 }
 
 #[tactic(auto, unfolding(crate::specs::Streams::no_tree_line))]

@@ -1,0 +1,2 @@
+pub mod PairLemmas
+pub mod LineLemmas

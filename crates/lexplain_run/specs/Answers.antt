@@ -1,0 +1,26 @@
+-- What the two ways answer for a grammar, whatever its lowered grammar is in memory.
+use Rattle.std.specs.Prelude.{◌≡◌, ℕ, List, None}
+use Rattle.lalrpop_norm_tree.specs.Items.{GrammarData}
+use Rattle.lalrpop_norm_theory.specs.Symbols.{Name, reference}
+use Rattle.lalrpop_norm_theory.specs.Rounds.{In}
+use Rattle.lalrpop_norm_theory.specs.WrittenTrees.{WrittenTree}
+use Rattle.lalrpop_norm_theory.specs.LoweredTrees.{LoweredTree}
+use Rattle.lalrpop_norm_theory.specs.Pairs.{Pairs}
+use Rattle.lalrpop_norm_model.specs.Features.{Features}
+use Rattle.lalrpop_norm_model.specs.WrittenRules.{written_rules}
+use Rattle.lalrpop_norm_model.specs.Grammars.{roots}
+use Rattle.lalrpop_norm.specs.Faithful.{written_meaning, written_name}
+use Rattle.lexplain_run.specs.TreeLines.{written_lines, lowered_lines}
+
+-- t is a tree of an enabled written rule that is no macro, and pairs with u
+abbrev pub IsPairedIn : Features → GrammarData → WrittenTree → LoweredTree → Type 0
+IsPairedIn fs g t u =
+    (n : Name) × In (reference n None) (roots (written_rules fs g)) × Pairs (written_meaning fs g) (written_name fs g) (reference n None) t u
+
+-- the text is the lines of the written tree that pairs with this one
+abbrev pub ExplainsTree : Features → GrammarData → LoweredTree → List ℕ → Type 0
+ExplainsTree fs g u text = (t : WrittenTree) × IsPairedIn fs g t u × (text ≡ written_lines t)
+
+-- the text is the lines of the lowered tree that pairs with this one
+abbrev pub LowersTree : Features → GrammarData → WrittenTree → List ℕ → Type 0
+LowersTree fs g t text = (u : LoweredTree) × IsPairedIn fs g t u × (text ≡ lowered_lines u)

@@ -1,0 +1,2 @@
+pub mod TreeLines
+pub mod Answers
