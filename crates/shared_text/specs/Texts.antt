@@ -5,5 +5,5 @@ use Rattle.shared_text.specs.declared.atom.Text.{Text}
 use Rattle.shared_text.specs.declared.atom.Text.TheVariants.{Short, Long}
 
 abbrev pub text_bytes : Text → List ℕ
-text_bytes (Short s) = s.bytes
+text_bytes (Short s) = s
 text_bytes (Long s) = string_bytes s.value

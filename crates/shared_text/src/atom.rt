@@ -8,7 +8,7 @@ ghost use Rattle.std.specs.Cmp;
 ghost use Rattle.std.specs.Cmp.Lexicographic.{nat_list_eq_equiv, nat_list_cmp_total, texts_ties, texts_po};
 
 use crate::counts::Shared;
-use arrayvec::ArrayString;
+use crate::short::Short;
 use std::alloc::{AllocError, AllocFailed, Global};
 use std::cmp::Ordering;
 use std::fmt;
@@ -31,21 +31,18 @@ impl<T: Drop> From<AllocFailed<T>> for NoMemory {
     }
 }
 
-/// How many bytes a text may have that lies in the `Atom` itself.
-const SHORT: usize = 16;
-
 /// Where the bytes of a text are.
 #[derive(Drop)]
 enum Text {
     /// In the value itself.
-    Short(ArrayString<SHORT>),
+    Short(Short),
     /// On the heap, with several owners.
     Long(Shared<String, Global>),
 }
 
 /// A text, seen as its bytes. It stays as it is.
 ///
-/// A text of up to 16 bytes lies in the value itself, a longer one on the heap, with several owners. So one more `Atom` of the
+/// A text of up to 14 bytes lies in the value itself, a longer one on the heap, with several owners. So one more `Atom` of the
 /// same text takes no memory and can always be had. Equality, order, hash and what is shown are those of the bytes.
 #[derive(Drop)]
 pub struct Atom {
@@ -65,11 +62,11 @@ impl Model for Atom {
 }
 
 impl Atom {
-    /// The text, copied once. The only error is want of memory, where the text is longer than 16 bytes.
+    /// The text, copied once. The only error is want of memory, where the text is longer than 14 bytes.
     pub fn new(alloc: Global, text: &str) -> Result<Atom, NoMemory>
         ensures { IfOk result (λ a. a ≡ text.now) }
     {
-        if let Ok(short) = ArrayString::from(text) {
+        if let Some(short) = Short::new(text) {
             return Ok(Atom {
                 text: Text::Short(short),
             });
@@ -97,7 +94,7 @@ impl Atom {
         ensures { result ≡ self.now }
     {
         let text = match &self.text {
-            Text::Short(short) => Text::Short(*short),
+            Text::Short(short) => Text::Short(short.again()),
             Text::Long(shared) => Text::Long(shared.again()),
         };
         Atom { text }

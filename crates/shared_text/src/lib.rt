@@ -3,5 +3,6 @@
 
 mod atom;
 mod counts;
+mod short;
 
 pub use atom::{Atom, NoMemory};
