@@ -1,6 +1,6 @@
 """Compares docs/use/tree.schema.json with what else says what a tree is: `tools/schema --check`.
 
-- The table of shapes, crates/lalrpop_norm_json_shapes/specs/Shapes.antt: each form, with its fields and variants and what they hold.
+- The table of shapes, crates/lalrpop_norm_json/specs/Shapes.antt: each form, with its fields and variants and what they hold.
   The reader is proved to take what has the shape of a grammar, and nothing else.
 - The code of the reader, crates/lalrpop_norm_json/src: the lists of keys that it asks for, and the names of variants.
 - The fields in docs/use/FORMATS.md.
@@ -14,7 +14,7 @@ import re
 
 import schema_words
 
-SHAPES = "crates/lalrpop_norm_json_shapes/specs/Shapes.antt"
+SHAPES = "crates/lalrpop_norm_json/specs/Shapes.antt"
 READER = "crates/lalrpop_norm_json/src/tree"
 FORMATS = "docs/use/FORMATS.md"
 GREATEST, GREATEST_SHORT = 2 ** 64 - 1, 2 ** 16 - 1
@@ -332,7 +332,9 @@ def all_forms(table):
 
 # ---- the code of the reader
 
-KEYS = re.compile(r'\b(?:only_field|\w+_fields)\(\s*\w+,((?:\s*"\w+",?)+)\s*\)')
+KEYS = re.compile(r'&\[((?:\s*"\w+",?)+)\s*\]')
+ANSWER = re.compile(r"\) -> (Result<)?Option<(.*?)>(?:, ReadError>)?(?: \{)?$", re.M)
+ARM = re.compile(r'^ +"(\w+)" =>', re.M)
 
 
 def block(text, start):
@@ -347,24 +349,24 @@ def block(text, start):
 
 
 def of_reader(folder):
-    """The lists of keys in the code, the pairs of names of variants, without and with content, and the texts in neither, each with
-    a line that says where."""
-    lists, variants, rest = set(), set(), []
+    """The lists of keys in the code, of records that a table reads and of those that have a loop; the pairs of names of variants, without
+    and with content, which two functions look for that answer one type; and the texts in neither, each with a line that says where."""
+    lists, variants, rest = set(), {}, []
     for path in sorted(glob.glob(os.path.join(folder, "*.rt"))):
         with open(path, encoding="utf-8") as file:
             text = re.sub(r'//.*|codes "\w+"', "", file.read())
         texts = re.findall(r'"([^"\n]*)"', text)
-        for keys in KEYS.findall(text):
-            lists.add(frozenset(re.findall(r"\w+", keys)))
-            texts = without(texts, re.findall(r"\w+", keys))
-        for match in re.finditer(r"match case(_of\(value\)\?)? \{", text):
-            arms = block(text, match.start())
-            of = arms.index("Case::Of(")
-            pair = [re.findall(r'^ +"(\w+)" =>', side, re.M) for side in (arms[:of], arms[of:])]
-            variants.add(tuple(frozenset(side) for side in pair))
-            texts = without(texts, pair[0] + pair[1])
+        found = [re.findall(r"\w+", keys) for keys in KEYS.findall(text)]
+        found += [ARM.findall(block(text, match.start())) for match in re.finditer(r"match key \{", text)]
+        lists.update(map(frozenset, found))
+        for match in re.finditer(r"match name \{", text):
+            holds, of = ANSWER.findall(text, 0, match.start())[-1]
+            names = ARM.findall(block(text, match.start()))
+            variants.setdefault(of, [frozenset(), frozenset()])[bool(holds)] |= set(names)
+            found.append(names)
+        texts = without(texts, [name for names in found for name in names])
         rest += [(name, '%s: the text "%s"' % (os.path.basename(path), name)) for name in texts]
-    return lists, variants, rest
+    return lists, set(map(tuple, variants.values())), rest
 
 
 def without(texts, taken_ones):
@@ -551,7 +553,7 @@ def changed(tree, vocabulary):
 # ---- the check
 
 # Calls that look at a text as JSON, and don't say whether it is a tree.
-JSON_CALLS = {"read_twice", "beginnings", "parts"}
+JSON_CALLS = {"read_twice", "beginnings"}
 
 
 def wanted_readings(root):

@@ -25,7 +25,7 @@ from wanted_cuts import cut_faults, cut_reads, cut_writes
 from wanted_forms import (WRAPPERS, Refused, Unknown, argument, attributes, canonical, clause_lines, intern, lowered_clauses,
                           names_text, one, pattern, place, signature, terminal, tree_text, type_text, visibility)
 from wanted_patterns import is_found, is_pattern
-from wanted_shapes import beginnings, cut_trees, debug_tree, listed_parts, readings, tree_of
+from wanted_shapes import beginnings, cut_trees, debug_tree, readings, tree_of
 from wanted_tokens import (KNOWN_ATTRIBUTES, CheckOnly, NoMemory, Scripted, blocks_of, check_tokens, extern_enum, is_expanded, item_parts,
                            named_terminals, terminals_used)
 from wanted_types import LOOKAROUNDS, Types, sources, text_of
@@ -840,7 +840,7 @@ def answer(data, name, call, *words):
         cuts = {"cut_reads": cut_reads, "cut_writes": cut_writes, "cut_faults": cut_faults}
         if call in cuts:
             return cuts[call](lines_of, content, words)
-        readers = {"read_twice": readings, "beginnings": beginnings, "cut_trees": cut_trees, "parts": listed_parts, "library": counts_of}
+        readers = {"read_twice": readings, "beginnings": beginnings, "cut_trees": cut_trees, "library": counts_of}
         if call in readers:
             return readers[call](content)
         if call in BACK:

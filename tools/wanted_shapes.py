@@ -196,47 +196,6 @@ def cut_trees(data):
     return "beginnings: %d of %d are no tree\n" % (sum(tree_of(data[:end]) is None for end in range(len(data))), len(data))
 
 
-def item_parts_of(data):
-    """The parts of the items of the list under `items`, and how many keys there are; where they are none that are read, a
-    `ValueError`, a `TypeError` or a `KeyError`."""
-    value_of(data)
-    pairs = json.loads(data, object_pairs_hook=list)
-    if not isinstance(pairs, list) or not all(isinstance(p, tuple) for p in pairs) or [k for k, _ in pairs].count("items") != 1:
-        raise ValueError("no list")
-    text = ""
-    for (name, content), in array(dict(pairs)["items"]):
-        if name == "one":
-            text += truth(content)
-        elif name == "all":
-            (key, parts), = content
-            if key != "of":
-                raise ValueError(key)
-            text += " (" + "".join(map(truth, array(parts))) + " )"
-        else:
-            raise ValueError(name)
-    return "parts:%s; %d keys\n" % (text, len(dict(pairs)))
-
-
-def array(value):
-    """An array; an object is a list of pairs here."""
-    if not isinstance(value, list) or any(isinstance(v, tuple) for v in value):
-        raise ValueError("no array")
-    return value
-
-
-def truth(value):
-    if not isinstance(value, bool):
-        raise ValueError("no truth value")
-    return " " + str(value).lower()
-
-
-def listed_parts(data):
-    try:
-        return item_parts_of(data)
-    except (ValueError, TypeError, KeyError):
-        return "no parts\n"
-
-
 # ---- a tree by its `Debug`
 
 OTHER_NAMES = {"Rule": "NonterminalData", "Symbols": "ExprSymbol", "Call": "MacroSymbol", "Repeat": "RepeatSymbol"}

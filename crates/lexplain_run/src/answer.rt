@@ -6,7 +6,7 @@ ghost use Rattle.lalrpop_norm_explain.specs.Trees.{lowered_view, written_view};
 ghost use Rattle.lexplain_run.specs.Answers.{ExplainsTree, LowersTree};
 
 use crate::lines::{lowered_lines, written_lines};
-use crate::read::tree_of_lines;
+use crate::read::{LinesError, tree_of_lines};
 use crate::words::{Asked, Way};
 use lalrpop_norm::explain::{
     ExplainError, ExplainFault, LoweredTree, WrittenTree, explain, lower_tree,
@@ -68,11 +68,11 @@ pub fn answer(alloc: Global, asked: &Asked, grammar: &str, lines: &str) -> Resul
 }
 
 /// The tree that was read.
-fn read<T: Drop>(tree: Result<T, TreeError>) -> Result<T, Stop> {
+fn read<T: Drop>(tree: Result<T, LinesError>) -> Result<T, Stop> {
     match tree {
         Ok(tree) => Ok(tree),
-        Err(TreeError::NotATree) => Err(Stop::NotATree),
-        Err(TreeError::Memory) => Err(Stop::Failed(NormFailure::Memory)),
+        Err(LinesError::NotATree) => Err(Stop::NotATree),
+        Err(LinesError::Memory) => Err(Stop::Failed(NormFailure::Memory)),
     }
 }
 

@@ -1,3 +1,1 @@
-pub mod Truths
-pub mod AllLemmas
 pub mod ScriptedLemmas

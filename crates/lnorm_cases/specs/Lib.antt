@@ -1,2 +1,1 @@
-pub mod Flags
 pub mod Scripted

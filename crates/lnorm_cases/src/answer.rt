@@ -6,7 +6,6 @@ use crate::copies::push_copies;
 use crate::cuts::{push_cut_faults, push_cut_reads, push_cut_writes};
 use crate::library_call::push_counts_of;
 use crate::outcome::{Layout, PassCall, push_outcome};
-use crate::readings::parts::push_parts;
 use crate::readings::twice::{push_beginnings, push_read_twice};
 use crate::runs::{push_cut_trees, push_run};
 use crate::scripted::scripted_session;
@@ -50,7 +49,6 @@ fn push_called(
         Call::CutTrees => push_cut_trees(alloc, text, words, bytes),
         Call::ReadTwice => push_read_twice(alloc, text, bytes),
         Call::Beginnings => push_beginnings(alloc, text, bytes),
-        Call::Parts => push_parts(alloc, text, bytes),
         Call::Values => push_or_memory(text, |text| push_made(alloc, text)),
         Call::Copies => push_or_memory(text, |text| push_copies(alloc, text)),
         Call::Back(back) => push_back(alloc, text, *back, words, bytes, beside),

@@ -8,7 +8,7 @@ use lalrpop_norm_lexer::lexer::CheckOnly;
 use lalrpop_norm_repr::grammar::repr::{NonterminalData, NonterminalString, Production};
 use lexplain_run::answer::{Stop, push_fault};
 use lexplain_run::lines::{lowered_lines, written_lines};
-use lexplain_run::read::{FromLine, tree_of_lines};
+use lexplain_run::read::{FromLine, LinesError, tree_of_lines};
 use lnorm_run::lines::push_origin;
 use lnorm_run::words::{WordsError, asked_by};
 use std::alloc::{AllocError, Global};
@@ -81,8 +81,8 @@ fn tree_of<T: FromLine + Drop>(alloc: Global, lines: &[u8]) -> Result<T, Stop> {
     };
     match tree_of_lines(alloc, lines) {
         Ok(tree) => Ok(tree),
-        Err(TreeError::NotATree) => Err(Stop::NotATree),
-        Err(TreeError::Memory) => Err(Stop::Failed(NormFailure::Memory)),
+        Err(LinesError::NotATree) => Err(Stop::NotATree),
+        Err(LinesError::Memory) => Err(Stop::Failed(NormFailure::Memory)),
     }
 }
 

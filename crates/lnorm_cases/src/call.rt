@@ -20,8 +20,6 @@ pub(crate) enum Call {
     ReadTwice,
     /// What they make of its beginnings.
     Beginnings,
-    /// The items of the list in it, read one after another.
-    Parts,
     /// Values that no tree holds.
     Values,
     /// Copies of parts that no copy of a tree makes by themselves.
@@ -130,7 +128,6 @@ pub(crate) fn call_of(alloc: Global, name: &str) -> Result<Option<Call>, AllocEr
         "there_and_back" => Ok(Some(Call::Back(Back::ThereAndBack))),
         "read_twice" => Ok(Some(Call::ReadTwice)),
         "beginnings" => Ok(Some(Call::Beginnings)),
-        "parts" => Ok(Some(Call::Parts)),
         _ => passes_of(alloc, name),
     }
 }

@@ -10,8 +10,8 @@ use Rattle.lalrpop_norm_theory.specs.LoweredTrees.{Origin}
 use Rattle.lalrpop_norm_model.specs.LexerFaults.{LexerPlace}
 use Rattle.lalrpop_norm_lexer.specs.CheckOnly.{of_regex}
 use Rattle.lalrpop_norm_json.specs.ItemForms.{grammar_form}
-use Rattle.lalrpop_norm_json_shapes.specs.Shapes as shape
-use Rattle.lalrpop_norm_json_shapes.specs.Shapes.{is}
+use Rattle.lalrpop_norm_json.specs.Shapes as shape
+use Rattle.lalrpop_norm_json.specs.Shapes.{is}
 use Rattle.lnorm_run.specs.Settings.{Settings}
 use Rattle.lalrpop_norm.specs.Faithful.{IsFaithful, origins_of_actions}
 use Rattle.lalrpop_norm.specs.Normalize.{normalize_findings, StandsThere}

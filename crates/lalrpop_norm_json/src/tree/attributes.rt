@@ -1,62 +1,187 @@
 //! Attributes.
-ghost use Rattle.std.specs.Prelude.{◌≡◌, IfOk, IsErrOf, false};
-ghost use Rattle.serde_json.specs.Data.{array};
-ghost use Rattle.json_document.specs.View.{view};
-ghost use Rattle.lalrpop_norm_tree_parts.specs.Attributes.{argument_view, attribute_view, attributes_view};
-ghost use Rattle.lalrpop_norm_json_shapes.specs.Shapes as shape;
-ghost use Rattle.lalrpop_norm_json_shapes.specs.Shapes.{is, fits, slot, many};
-ghost use Rattle.lalrpop_norm_json.specs.Forms.{argument_form, attribute_form, attributes_form};
+ghost use Rattle.std.specs.Prelude.{◌≡◌, ◌≤◌, [], ◌∷◌, codes, map, length, None, IfOk, OnOk, IsErrOf};
+ghost use Rattle.json.specs.Reads.{token_of};
+ghost use Rattle.serde_json.specs.Data.{string};
+ghost use Rattle.json_records.specs.Reading.{data_of, list_form, is_list, may_be, maybe_form, IsRead, IsReadUnder};
+ghost use Rattle.json_records.specs.Rows.{is_row};
+ghost use Rattle.json_records.specs.Variants.{Made};
+ghost use Rattle.lalrpop_norm_json.specs.Shapes as shape;
+ghost use Rattle.lalrpop_norm_json.specs.Shapes.{is};
+ghost use Rattle.lalrpop_norm_tree_parts.specs.Attributes.{argument_view, attribute_view};
+ghost use Rattle.lalrpop_norm_json.specs.Forms.{argument_form, attribute_form};
 
-use super::names::{atom, span, string};
-use super::parts::pushed;
-use json_document::Value;
-use lalrpop_norm_json_shapes::{Case, TreeError, case_of, counted_items, three_fields};
-use lalrpop_norm_tree::grammar::parse_tree::{Attribute, AttributeArg};
+use super::Tree;
+use json::{Reader, Token};
+use json_records::{
+    ReadError, Reads, fitted, is_other, next_item, next_member, open_array, open_object, pass, push,
+};
+use lalrpop_norm_tree::grammar::parse_tree::{Atom, Attribute, AttributeArg, Span};
 use std::alloc::Global;
+
+/// What stands behind an attribute's name, where it is told by one word.
+fn bare_argument(name: &str) -> Option<AttributeArg>
+    ensures { Made (λ g. argument_form (argument_view g)) (is shape.attribute_argument) result (string name.now) }
+{
+    match name {
+        "Empty" => Some(AttributeArg::Empty),
+        _ => None,
+    }
+}
 
 /// What stands behind an attribute's name.
 #[cycle(attributes)]
-#[tactic(auto, using(lalrpop_norm_json_shapes::proofs::Refusals::refusals))]
-fn argument(alloc: Global, value: Value<'_, '_>) -> Result<AttributeArg, TreeError>
-    ensures ok { IfOk result (λ g. view value.entry ≡ argument_form (argument_view g)) }
-    ensures err { IsErrOf result TreeError.NotATree → is shape.attribute_argument (view value.entry) ≡ false }
+fn argument<'a>(
+    alloc: Global,
+    first: Token<'a>,
+    reader: &mut Reader<'a>,
+    depth: usize,
+) -> Result<Option<AttributeArg>, ReadError>
+    ensures ok { IfOk result (λ o. IsRead (λ g. argument_form (argument_view g)) (is shape.attribute_argument) depth (token_of first.entry ∷ reader.old) reader.new o) }
+    ensures err { IsErrOf result ReadError.NotJson → data_of depth (token_of first.entry ∷ reader.old) ≡ None }
+    ensures shorter { OnOk result (length reader.new ≤ length reader.old) }
 {
-    match case_of(value)? {
-        Case::Bare(variant) => match variant {
-            "Empty" => Ok(AttributeArg::Empty),
-            _ => Err(TreeError::NotATree),
+    if let Token::String(name) = first {
+        return Ok(bare_argument(name));
+    }
+    let Some(depth) = open_object(first, reader, depth)? else {
+        return Ok(None);
+    };
+    let mut read = None;
+    let mut before = None;
+    let mut strays = false;
+    while let Some((name, first)) = next_member(reader)? {
+        if is_other(before, name) {
+            pass(first, reader, depth)?;
+            strays = true;
+        } else {
+            read = argument_of(alloc, name, first, reader, depth)?;
+            before = Some(name);
+        }
+    }
+    if strays {
+        return Ok(None);
+    }
+    Ok(read)
+}
+
+/// The same of that name, over a value.
+#[cycle(attributes)]
+fn argument_of<'a>(
+    alloc: Global,
+    name: &str,
+    first: Token<'a>,
+    reader: &mut Reader<'a>,
+    depth: usize,
+) -> Result<Option<AttributeArg>, ReadError>
+    ensures ok { IfOk result (λ o. IsReadUnder name.now (λ g. argument_form (argument_view g)) (is shape.attribute_argument) depth (token_of first.entry ∷ reader.old) reader.new o) }
+    ensures err { IsErrOf result ReadError.NotJson → data_of depth (token_of first.entry ∷ reader.old) ≡ None }
+    ensures shorter { OnOk result (length reader.new ≤ length reader.old) }
+{
+    match name {
+        "Paren" => match attributes(alloc, first, reader, depth)? {
+            Some(read) => Ok(Some(AttributeArg::Paren(read))),
+            None => Ok(None),
         },
-        Case::Of(variant, held) => match variant {
-            "Paren" => Ok(AttributeArg::Paren(attributes(alloc, held)?)),
-            "Equal" => Ok(AttributeArg::Equal(string(alloc, held)?)),
-            _ => Err(TreeError::NotATree),
+        "Equal" => match <Tree as Reads<String>>::read(alloc, first, reader, depth)? {
+            Some(read) => Ok(Some(AttributeArg::Equal(read))),
+            None => Ok(None),
         },
+        _ => {
+            pass(first, reader, depth)?;
+            Ok(None)
+        }
     }
 }
 
 #[cycle(attributes)]
-#[tactic(auto, using(lalrpop_norm_json_shapes::proofs::Refusals::refusals))]
-fn attribute(alloc: Global, value: Value<'_, '_>) -> Result<Attribute, TreeError>
-    ensures ok { IfOk result (λ a. view value.entry ≡ attribute_form (attribute_view a)) }
-    ensures err { IsErrOf result TreeError.NotATree → is shape.attribute (view value.entry) ≡ false }
+fn attribute<'a>(
+    alloc: Global,
+    first: Token<'a>,
+    reader: &mut Reader<'a>,
+    depth: usize,
+) -> Result<Option<Attribute>, ReadError>
+    ensures ok { IfOk result (λ o. IsRead (λ a. attribute_form (attribute_view a)) (is shape.attribute) depth (token_of first.entry ∷ reader.old) reader.new o) }
+    ensures err { IsErrOf result ReadError.NotJson → data_of depth (token_of first.entry ∷ reader.old) ≡ None }
+    ensures shorter { OnOk result (length reader.new ≤ length reader.old) }
 {
-    let (arg, id, at) = three_fields(value, "arg", "id", "id_span")?;
-    let id_span = span(at)?;
-    let id = atom(alloc, id)?;
-    let arg = argument(alloc, arg)?;
-    Ok(Attribute { id_span, id, arg })
+    let Some(depth) = open_object(first, reader, depth)? else {
+        return Ok(None);
+    };
+    let mut arg = None;
+    let mut id = None;
+    let mut id_span = None;
+    let mut strays = false;
+    while let Some((key, first)) = next_member(reader)? {
+        match key {
+            "arg" => arg = argument(alloc, first, reader, depth)?,
+            "id" => id = <Tree as Reads<Atom>>::read(alloc, first, reader, depth)?,
+            "id_span" => id_span = <Tree as Reads<Span>>::read(alloc, first, reader, depth)?,
+            _ => {
+                pass(first, reader, depth)?;
+                strays = true;
+            }
+        }
+    }
+    if strays {
+        return Ok(None);
+    }
+    let Some(arg) = arg else {
+        return Ok(None);
+    };
+    let Some(id) = id else {
+        return Ok(None);
+    };
+    let Some(id_span) = id_span else {
+        return Ok(None);
+    };
+    Ok(Some(Attribute { id_span, id, arg }))
 }
 
 #[cycle(attributes)]
-#[tactic(auto, using(lalrpop_norm_json_shapes::proofs::Refusals::refusals))]
-pub(super) fn attributes(alloc: Global, value: Value<'_, '_>) -> Result<Vec<Attribute>, TreeError>
-    ensures ok { IfOk result (λ xs. view value.entry ≡ array (attributes_form (attributes_view xs.items))) }
-    ensures err { IsErrOf result TreeError.NotATree → fits (slot (many shape.attribute)) (view value.entry) ≡ false }
+fn attributes<'a>(
+    alloc: Global,
+    first: Token<'a>,
+    reader: &mut Reader<'a>,
+    depth: usize,
+) -> Result<Option<Vec<Attribute>>, ReadError>
+    ensures ok { IfOk result (λ o. IsRead (λ xs. list_form (map (λ a. attribute_form (attribute_view a)) xs.items)) (is_list (is shape.attribute)) depth (token_of first.entry ∷ reader.old) reader.new o) }
+    ensures err { IsErrOf result ReadError.NotJson → data_of depth (token_of first.entry ∷ reader.old) ≡ None }
+    ensures shorter { OnOk result (length reader.new ≤ length reader.old) }
 {
-    let (count, mut values) = counted_items(value)?;
-    let mut attributes = Vec::with_capacity(alloc, count)?;
-    while let Some(element) = values.next() {
-        attributes = pushed(attributes, attribute(alloc, element))?;
+    let Some(depth) = open_array(first, reader, depth)? else {
+        return Ok(None);
+    };
+    let mut list = Vec::new(alloc);
+    let mut good = true;
+    while let Some(first) = next_item(reader)? {
+        match attribute(alloc, first, reader, depth)? {
+            Some(item) => push(&mut list, item)?,
+            None => good = false,
+        }
     }
-    Ok(attributes)
+    if good {
+        Ok(Some(fitted(list)?))
+    } else {
+        Ok(None)
+    }
+}
+
+impl Reads<Attribute> for Tree {
+    ghost use Rattle.lalrpop_norm_tree_parts.specs.Attributes.{attribute_view};
+    ghost use Rattle.lalrpop_norm_json.specs.Forms.{attribute_form};
+    ghost use Rattle.lalrpop_norm_json.specs.Shapes as shape;
+    ghost use Rattle.lalrpop_norm_json.specs.Shapes.{is};
+
+    ghost form = { λ a. attribute_form (attribute_view a) };
+
+    ghost can = { is shape.attribute };
+
+    fn read<'a>(
+        alloc: Global,
+        first: Token<'a>,
+        reader: &mut Reader<'a>,
+        depth: usize,
+    ) -> Result<Option<Attribute>, ReadError> {
+        attribute(alloc, first, reader, depth)
+    }
 }

@@ -1,174 +1,335 @@
 //! Where clauses and their bounds.
-ghost use Rattle.std.specs.Prelude.{◌≡◌, codes, IfOk, IsErrOf, false};
-ghost use Rattle.json_document.specs.View.{view};
+ghost use Rattle.std.specs.Prelude.{◌≡◌, ◌≤◌, ◌∷◌, codes, length, None, IfOk, OnOk, IsErrOf};
+ghost use Rattle.json.specs.Reads.{token_of};
+ghost use Rattle.json_records.specs.Reading.{data_of, IsRead, IsReadUnder};
+ghost use Rattle.lalrpop_norm_json.specs.Shapes as shape;
+ghost use Rattle.lalrpop_norm_json.specs.Shapes.{is};
 ghost use Rattle.lalrpop_norm_tree_parts.specs.Bounds.{bound_parameter_view, bound_view, where_clause_view};
 ghost use Rattle.lalrpop_norm_tree.specs.Types.{type_view};
-ghost use Rattle.lalrpop_norm_json_shapes.specs.Shapes as shape;
-ghost use Rattle.lalrpop_norm_json_shapes.specs.Shapes.{is};
-ghost use Rattle.lalrpop_norm_json.specs.Json.{variant};
 ghost use Rattle.lalrpop_norm_json.specs.TypeForms.{bound_parameter_form, bound_form, where_clause_form};
 
-use super::names::{atom, path};
-use super::parts::{FromValue, list, maybe};
-use super::types::type_ref;
-use json_document::Value;
-use lalrpop_norm_json_shapes::{
-    Case, TreeError, case_of, four_fields, pair, three_fields, two_fields,
+use super::Tree;
+use json::{Reader, Token};
+use json_records::{
+    And, End, ReadError, Reads, Variant, pass, read_pair, read_record, read_variant,
 };
 use lalrpop_norm_tree::grammar::parse_tree::{
-    Lifetime, TypeBound, TypeBoundParameter, TypeRef, WhereClause,
+    Atom, Lifetime, Path, TypeBound, TypeBoundParameter, TypeParameter, TypeRef, WhereClause,
 };
 use std::alloc::Global;
 
 /// The associated type with that name.
-#[tactic(auto, using(lalrpop_norm_json_shapes::proofs::Refusals::refusals))]
-fn associated(alloc: Global, value: Value<'_, '_>) -> Result<TypeBoundParameter<TypeRef>, TreeError>
-    ensures ok { IfOk result (λ p. variant (codes "Associated") (view value.entry) ≡ bound_parameter_form (bound_parameter_view type_view p)) }
-    ensures err { IsErrOf result TreeError.NotATree → is shape.bound_parameter (variant (codes "Associated") (view value.entry)) ≡ false }
+fn associated<'a>(
+    alloc: Global,
+    first: Token<'a>,
+    reader: &mut Reader<'a>,
+    depth: usize,
+) -> Result<Option<TypeBoundParameter<TypeRef>>, ReadError>
+    ensures ok { IfOk result (λ o. IsReadUnder (codes "Associated") (λ p. bound_parameter_form (bound_parameter_view type_view p)) (is shape.bound_parameter) depth (token_of first.entry ∷ reader.old) reader.new o) }
+    ensures err { IsErrOf result ReadError.NotJson → data_of depth (token_of first.entry ∷ reader.old) ≡ None }
+    ensures shorter { OnOk result (length reader.new ≤ length reader.old) }
 {
-    let (first, second) = pair(value)?;
-    let name = atom(alloc, first)?;
-    let of = type_ref(alloc, second)?;
-    Ok(TypeBoundParameter::Associated(name, of))
+    match read_pair::<Atom, TypeRef, Tree, Tree>(alloc, first, reader, depth)? {
+        Some((name, of)) => Ok(Some(TypeBoundParameter::Associated(name, of))),
+        None => Ok(None),
+    }
 }
 
-impl FromValue for TypeBoundParameter<TypeRef> {
+impl Variant<TypeBoundParameter<TypeRef>> for Tree {
     ghost use Rattle.lalrpop_norm_tree_parts.specs.Bounds.{bound_parameter_view};
     ghost use Rattle.lalrpop_norm_tree.specs.Types.{type_view};
     ghost use Rattle.lalrpop_norm_json.specs.TypeForms.{bound_parameter_form};
-    ghost use Rattle.lalrpop_norm_json_shapes.specs.Shapes as shape;
+    ghost use Rattle.lalrpop_norm_json.specs.Shapes as shape;
+    ghost use Rattle.lalrpop_norm_json.specs.Shapes.{is};
+    ghost use Rattle.lalrpop_norm_json.specs.Laws.{no_variant};
 
     ghost form = { λ p. bound_parameter_form (bound_parameter_view type_view p) };
 
-    ghost named = { shape.bound_parameter };
+    ghost can = { is shape.bound_parameter };
 
-    #[tactic(auto, using(lalrpop_norm_json_shapes::proofs::Refusals::refusals))]
-    fn from_value(
+    ghost law = { λ d other. no_variant _ _ d other };
+
+    fn bare(_name: &str) -> Option<TypeBoundParameter<TypeRef>> {
+        None
+    }
+
+    fn held<'a>(
         alloc: Global,
-        value: Value<'_, '_>,
-    ) -> Result<TypeBoundParameter<TypeRef>, TreeError> {
-        match case_of(value)? {
-            Case::Bare(_) => Err(TreeError::NotATree),
-            Case::Of(variant, held) => match variant {
-                "Lifetime" => Ok(TypeBoundParameter::Lifetime(Lifetime(atom(alloc, held)?))),
-                "TypeParameter" => Ok(TypeBoundParameter::TypeParameter(type_ref(alloc, held)?)),
-                "Associated" => associated(alloc, held),
-                _ => Err(TreeError::NotATree),
+        name: &str,
+        first: Token<'a>,
+        reader: &mut Reader<'a>,
+        depth: usize,
+    ) -> Result<Option<TypeBoundParameter<TypeRef>>, ReadError> {
+        match name {
+            "Lifetime" => match <Tree as Reads<Lifetime>>::read(alloc, first, reader, depth)? {
+                Some(read) => Ok(Some(TypeBoundParameter::Lifetime(read))),
+                None => Ok(None),
             },
+            "TypeParameter" => match <Tree as Reads<TypeRef>>::read(alloc, first, reader, depth)? {
+                Some(read) => Ok(Some(TypeBoundParameter::TypeParameter(read))),
+                None => Ok(None),
+            },
+            "Associated" => associated(alloc, first, reader, depth),
+            _ => {
+                pass(first, reader, depth)?;
+                Ok(None)
+            }
         }
+    }
+}
+
+impl Reads<TypeBoundParameter<TypeRef>> for Tree {
+    ghost use Rattle.lalrpop_norm_tree_parts.specs.Bounds.{bound_parameter_view};
+    ghost use Rattle.lalrpop_norm_tree.specs.Types.{type_view};
+    ghost use Rattle.lalrpop_norm_json.specs.TypeForms.{bound_parameter_form};
+    ghost use Rattle.lalrpop_norm_json.specs.Shapes as shape;
+    ghost use Rattle.lalrpop_norm_json.specs.Shapes.{is};
+
+    ghost form = { λ p. bound_parameter_form (bound_parameter_view type_view p) };
+
+    ghost can = { is shape.bound_parameter };
+
+    fn read<'a>(
+        alloc: Global,
+        first: Token<'a>,
+        reader: &mut Reader<'a>,
+        depth: usize,
+    ) -> Result<Option<TypeBoundParameter<TypeRef>>, ReadError> {
+        read_variant::<TypeBoundParameter<TypeRef>, Tree>(alloc, first, reader, depth)
     }
 }
 
 /// The bound by a function's type.
-#[tactic(auto, using(lalrpop_norm_json_shapes::proofs::Refusals::refusals))]
-fn function_bound(alloc: Global, value: Value<'_, '_>) -> Result<TypeBound<TypeRef>, TreeError>
-    ensures ok { IfOk result (λ b. variant (codes "Fn") (view value.entry) ≡ bound_form (bound_view type_view b)) }
-    ensures err { IsErrOf result TreeError.NotATree → is shape.bound (variant (codes "Fn") (view value.entry)) ≡ false }
+fn function_bound<'a>(
+    alloc: Global,
+    first: Token<'a>,
+    reader: &mut Reader<'a>,
+    depth: usize,
+) -> Result<Option<TypeBound<TypeRef>>, ReadError>
+    ensures ok { IfOk result (λ o. IsReadUnder (codes "Fn") (λ b. bound_form (bound_view type_view b)) (is shape.bound) depth (token_of first.entry ∷ reader.old) reader.new o) }
+    ensures err { IsErrOf result ReadError.NotJson → data_of depth (token_of first.entry ∷ reader.old) ≡ None }
+    ensures shorter { OnOk result (length reader.new ≤ length reader.old) }
 {
-    let (forall, parameters, named, ret) = four_fields(
-        value,
-        "forall",
-        "parameters",
-        "path",
-        "ret",
-    )?;
-    let forall = list(alloc, forall)?;
-    let path = path(alloc, named)?;
-    let parameters = list(alloc, parameters)?;
-    let ret = maybe(alloc, ret)?;
-    Ok(TypeBound::Fn {
-        forall,
-        path,
-        parameters,
-        ret,
-    })
+    match read_record::<
+        Tree,
+        And<Vec<TypeParameter>, And<Vec<TypeRef>, And<Path, And<Option<TypeRef>, End>>>>,
+    >(
+        alloc,
+        &["forall", "parameters", "path", "ret"],
+        first,
+        reader,
+        depth,
+    )? {
+        Some(fields) => {
+            let (forall, (parameters, (path, (ret, ())))) = fields;
+            Ok(Some(TypeBound::Fn {
+                forall,
+                path,
+                parameters,
+                ret,
+            }))
+        }
+        None => Ok(None),
+    }
 }
 
 /// The bound by a trait.
-#[tactic(auto, using(lalrpop_norm_json_shapes::proofs::Refusals::refusals))]
-fn trait_bound(alloc: Global, value: Value<'_, '_>) -> Result<TypeBound<TypeRef>, TreeError>
-    ensures ok { IfOk result (λ b. variant (codes "Trait") (view value.entry) ≡ bound_form (bound_view type_view b)) }
-    ensures err { IsErrOf result TreeError.NotATree → is shape.bound (variant (codes "Trait") (view value.entry)) ≡ false }
+fn trait_bound<'a>(
+    alloc: Global,
+    first: Token<'a>,
+    reader: &mut Reader<'a>,
+    depth: usize,
+) -> Result<Option<TypeBound<TypeRef>>, ReadError>
+    ensures ok { IfOk result (λ o. IsReadUnder (codes "Trait") (λ b. bound_form (bound_view type_view b)) (is shape.bound) depth (token_of first.entry ∷ reader.old) reader.new o) }
+    ensures err { IsErrOf result ReadError.NotJson → data_of depth (token_of first.entry ∷ reader.old) ≡ None }
+    ensures shorter { OnOk result (length reader.new ≤ length reader.old) }
 {
-    let (forall, parameters, named) = three_fields(value, "forall", "parameters", "path")?;
-    let forall = list(alloc, forall)?;
-    let path = path(alloc, named)?;
-    let parameters = list(alloc, parameters)?;
-    Ok(TypeBound::Trait {
-        forall,
-        path,
-        parameters,
-    })
+    match read_record::<
+        Tree,
+        And<Vec<TypeParameter>, And<Vec<TypeBoundParameter<TypeRef>>, And<Path, End>>>,
+    >(
+        alloc,
+        &["forall", "parameters", "path"],
+        first,
+        reader,
+        depth,
+    )? {
+        Some(fields) => {
+            let (forall, (parameters, (path, ()))) = fields;
+            Ok(Some(TypeBound::Trait {
+                forall,
+                path,
+                parameters,
+            }))
+        }
+        None => Ok(None),
+    }
 }
 
-impl FromValue for TypeBound<TypeRef> {
+impl Variant<TypeBound<TypeRef>> for Tree {
     ghost use Rattle.lalrpop_norm_tree_parts.specs.Bounds.{bound_view};
     ghost use Rattle.lalrpop_norm_tree.specs.Types.{type_view};
     ghost use Rattle.lalrpop_norm_json.specs.TypeForms.{bound_form};
-    ghost use Rattle.lalrpop_norm_json_shapes.specs.Shapes as shape;
+    ghost use Rattle.lalrpop_norm_json.specs.Shapes as shape;
+    ghost use Rattle.lalrpop_norm_json.specs.Shapes.{is};
+    ghost use Rattle.lalrpop_norm_json.specs.Laws.{no_variant};
 
     ghost form = { λ b. bound_form (bound_view type_view b) };
 
-    ghost named = { shape.bound };
+    ghost can = { is shape.bound };
 
-    #[tactic(auto, using(lalrpop_norm_json_shapes::proofs::Refusals::refusals))]
-    fn from_value(alloc: Global, value: Value<'_, '_>) -> Result<TypeBound<TypeRef>, TreeError> {
-        match case_of(value)? {
-            Case::Bare(_) => Err(TreeError::NotATree),
-            Case::Of(variant, held) => match variant {
-                "Lifetime" => Ok(TypeBound::Lifetime(Lifetime(atom(alloc, held)?))),
-                "Fn" => function_bound(alloc, held),
-                "Trait" => trait_bound(alloc, held),
-                _ => Err(TreeError::NotATree),
+    ghost law = { λ d other. no_variant _ _ d other };
+
+    fn bare(_name: &str) -> Option<TypeBound<TypeRef>> {
+        None
+    }
+
+    fn held<'a>(
+        alloc: Global,
+        name: &str,
+        first: Token<'a>,
+        reader: &mut Reader<'a>,
+        depth: usize,
+    ) -> Result<Option<TypeBound<TypeRef>>, ReadError> {
+        match name {
+            "Lifetime" => match <Tree as Reads<Lifetime>>::read(alloc, first, reader, depth)? {
+                Some(read) => Ok(Some(TypeBound::Lifetime(read))),
+                None => Ok(None),
             },
+            "Fn" => function_bound(alloc, first, reader, depth),
+            "Trait" => trait_bound(alloc, first, reader, depth),
+            _ => {
+                pass(first, reader, depth)?;
+                Ok(None)
+            }
         }
     }
 }
 
+impl Reads<TypeBound<TypeRef>> for Tree {
+    ghost use Rattle.lalrpop_norm_tree_parts.specs.Bounds.{bound_view};
+    ghost use Rattle.lalrpop_norm_tree.specs.Types.{type_view};
+    ghost use Rattle.lalrpop_norm_json.specs.TypeForms.{bound_form};
+    ghost use Rattle.lalrpop_norm_json.specs.Shapes as shape;
+    ghost use Rattle.lalrpop_norm_json.specs.Shapes.{is};
+
+    ghost form = { λ b. bound_form (bound_view type_view b) };
+
+    ghost can = { is shape.bound };
+
+    fn read<'a>(
+        alloc: Global,
+        first: Token<'a>,
+        reader: &mut Reader<'a>,
+        depth: usize,
+    ) -> Result<Option<TypeBound<TypeRef>>, ReadError> {
+        read_variant::<TypeBound<TypeRef>, Tree>(alloc, first, reader, depth)
+    }
+}
+
 /// What is asked of a lifetime.
-#[tactic(auto, using(lalrpop_norm_json_shapes::proofs::Refusals::refusals))]
-fn lifetime_clause(alloc: Global, value: Value<'_, '_>) -> Result<WhereClause<TypeRef>, TreeError>
-    ensures ok { IfOk result (λ c. variant (codes "Lifetime") (view value.entry) ≡ where_clause_form (where_clause_view type_view c)) }
-    ensures err { IsErrOf result TreeError.NotATree → is shape.where_clause (variant (codes "Lifetime") (view value.entry)) ≡ false }
+fn lifetime_clause<'a>(
+    alloc: Global,
+    first: Token<'a>,
+    reader: &mut Reader<'a>,
+    depth: usize,
+) -> Result<Option<WhereClause<TypeRef>>, ReadError>
+    ensures ok { IfOk result (λ o. IsReadUnder (codes "Lifetime") (λ c. where_clause_form (where_clause_view type_view c)) (is shape.where_clause) depth (token_of first.entry ∷ reader.old) reader.new o) }
+    ensures err { IsErrOf result ReadError.NotJson → data_of depth (token_of first.entry ∷ reader.old) ≡ None }
+    ensures shorter { OnOk result (length reader.new ≤ length reader.old) }
 {
-    let (bounds, of) = two_fields(value, "bounds", "lifetime")?;
-    let lifetime = Lifetime(atom(alloc, of)?);
-    let bounds = list(alloc, bounds)?;
-    Ok(WhereClause::Lifetime { lifetime, bounds })
+    match read_record::<Tree, And<Vec<Lifetime>, And<Lifetime, End>>>(
+        alloc,
+        &["bounds", "lifetime"],
+        first,
+        reader,
+        depth,
+    )? {
+        Some(fields) => {
+            let (bounds, (lifetime, ())) = fields;
+            Ok(Some(WhereClause::Lifetime { lifetime, bounds }))
+        }
+        None => Ok(None),
+    }
 }
 
 /// What is asked of a type.
-#[tactic(auto, using(lalrpop_norm_json_shapes::proofs::Refusals::refusals))]
-fn type_clause(alloc: Global, value: Value<'_, '_>) -> Result<WhereClause<TypeRef>, TreeError>
-    ensures ok { IfOk result (λ c. variant (codes "OfType") (view value.entry) ≡ where_clause_form (where_clause_view type_view c)) }
-    ensures err { IsErrOf result TreeError.NotATree → is shape.where_clause (variant (codes "OfType") (view value.entry)) ≡ false }
+fn type_clause<'a>(
+    alloc: Global,
+    first: Token<'a>,
+    reader: &mut Reader<'a>,
+    depth: usize,
+) -> Result<Option<WhereClause<TypeRef>>, ReadError>
+    ensures ok { IfOk result (λ o. IsReadUnder (codes "OfType") (λ c. where_clause_form (where_clause_view type_view c)) (is shape.where_clause) depth (token_of first.entry ∷ reader.old) reader.new o) }
+    ensures err { IsErrOf result ReadError.NotJson → data_of depth (token_of first.entry ∷ reader.old) ≡ None }
+    ensures shorter { OnOk result (length reader.new ≤ length reader.old) }
 {
-    let (bounds, forall, of) = three_fields(value, "bounds", "forall", "ty")?;
-    let forall = list(alloc, forall)?;
-    let ty = type_ref(alloc, of)?;
-    let bounds = list(alloc, bounds)?;
-    Ok(WhereClause::OfType { forall, ty, bounds })
+    match read_record::<
+        Tree,
+        And<Vec<TypeBound<TypeRef>>, And<Vec<TypeParameter>, And<TypeRef, End>>>,
+    >(alloc, &["bounds", "forall", "ty"], first, reader, depth)?
+    {
+        Some(fields) => {
+            let (bounds, (forall, (ty, ()))) = fields;
+            Ok(Some(WhereClause::OfType { forall, ty, bounds }))
+        }
+        None => Ok(None),
+    }
 }
 
-impl FromValue for WhereClause<TypeRef> {
+impl Variant<WhereClause<TypeRef>> for Tree {
     ghost use Rattle.lalrpop_norm_tree_parts.specs.Bounds.{where_clause_view};
     ghost use Rattle.lalrpop_norm_tree.specs.Types.{type_view};
     ghost use Rattle.lalrpop_norm_json.specs.TypeForms.{where_clause_form};
-    ghost use Rattle.lalrpop_norm_json_shapes.specs.Shapes as shape;
+    ghost use Rattle.lalrpop_norm_json.specs.Shapes as shape;
+    ghost use Rattle.lalrpop_norm_json.specs.Shapes.{is};
+    ghost use Rattle.lalrpop_norm_json.specs.Laws.{no_variant};
 
     ghost form = { λ c. where_clause_form (where_clause_view type_view c) };
 
-    ghost named = { shape.where_clause };
+    ghost can = { is shape.where_clause };
 
-    #[tactic(auto, using(lalrpop_norm_json_shapes::proofs::Refusals::refusals))]
-    fn from_value(alloc: Global, value: Value<'_, '_>) -> Result<WhereClause<TypeRef>, TreeError> {
-        match case_of(value)? {
-            Case::Bare(_) => Err(TreeError::NotATree),
-            Case::Of(variant, held) => match variant {
-                "Lifetime" => lifetime_clause(alloc, held),
-                "OfType" => type_clause(alloc, held),
-                _ => Err(TreeError::NotATree),
-            },
+    ghost law = { λ d other. no_variant _ _ d other };
+
+    fn bare(_name: &str) -> Option<WhereClause<TypeRef>> {
+        None
+    }
+
+    fn held<'a>(
+        alloc: Global,
+        name: &str,
+        first: Token<'a>,
+        reader: &mut Reader<'a>,
+        depth: usize,
+    ) -> Result<Option<WhereClause<TypeRef>>, ReadError> {
+        match name {
+            "Lifetime" => lifetime_clause(alloc, first, reader, depth),
+            "OfType" => type_clause(alloc, first, reader, depth),
+            _ => {
+                pass(first, reader, depth)?;
+                Ok(None)
+            }
         }
+    }
+}
+
+impl Reads<WhereClause<TypeRef>> for Tree {
+    ghost use Rattle.lalrpop_norm_tree_parts.specs.Bounds.{where_clause_view};
+    ghost use Rattle.lalrpop_norm_tree.specs.Types.{type_view};
+    ghost use Rattle.lalrpop_norm_json.specs.TypeForms.{where_clause_form};
+    ghost use Rattle.lalrpop_norm_json.specs.Shapes as shape;
+    ghost use Rattle.lalrpop_norm_json.specs.Shapes.{is};
+
+    ghost form = { λ c. where_clause_form (where_clause_view type_view c) };
+
+    ghost can = { is shape.where_clause };
+
+    fn read<'a>(
+        alloc: Global,
+        first: Token<'a>,
+        reader: &mut Reader<'a>,
+        depth: usize,
+    ) -> Result<Option<WhereClause<TypeRef>>, ReadError> {
+        read_variant::<WhereClause<TypeRef>, Tree>(alloc, first, reader, depth)
     }
 }

@@ -1,175 +1,313 @@
-//! PlacedAlternatives, names, terminals and paths.
-ghost use Rattle.std.specs.Prelude.{◌≡◌, IfOk, IsErrOf, string_bytes, false};
-ghost use Rattle.serde_json.specs.Data.{string};
-ghost use Rattle.json_document.specs.View.{view};
-ghost use Rattle.lalrpop_norm_tree_parts.specs.Paths.{path_view};
-ghost use Rattle.lalrpop_norm_json_shapes.specs.Shapes as shape;
-ghost use Rattle.lalrpop_norm_json_shapes.specs.Shapes.{is};
-ghost use Rattle.lalrpop_norm_json.specs.Forms.{span_form, literal_form, terminal_form, path_form};
+//! Places, names, terminals and paths.
+ghost use Rattle.std.specs.Prelude.{◌≡◌, ◌≤◌, ◌∷◌, length, None, IfOk, OnOk, IsErrOf};
+ghost use Rattle.json.specs.Reads.{token_of};
+ghost use Rattle.json_records.specs.Reading.{data_of, IsRead};
 
-use super::parts::{FromValue, list};
-use json_document::Value;
-use lalrpop_norm_json_shapes::{Case, TreeError, case_of, natural, pair, text, truth, two_fields};
+use super::Tree;
+use json::{Reader, Token};
+use json_records::{
+    And, End, ReadError, Reads, Variant, pass, read_pair, read_record, read_variant, text,
+};
 use lalrpop_norm_tree::grammar::parse_tree::{
     Atom, Lifetime, NonterminalString, Path, Span, TerminalLiteral, TerminalString, TypeParameter,
 };
 use std::alloc::Global;
 
-#[tactic(auto, using(lalrpop_norm_json_shapes::proofs::Refusals::no_pair, json_document::proofs::Keyed::and_no))]
-pub(super) fn span(value: Value<'_, '_>) -> Result<Span, TreeError>
-    ensures ok { IfOk result (λ s. view value.entry ≡ span_form s) }
-    ensures err { IsErrOf result TreeError.NotATree → is shape.span (view value.entry) ≡ false }
-{
-    let (from, to) = pair(value)?;
-    let from = natural(from)?;
-    let to = natural(to)?;
-    Ok(Span(from, to))
-}
-
-pub(super) fn atom(alloc: Global, value: Value<'_, '_>) -> Result<Atom, TreeError>
-    ensures ok { IfOk result (λ a. view value.entry ≡ string a) }
-    ensures err { IsErrOf result TreeError.NotATree → is shape.text (view value.entry) ≡ false }
-{
-    let atom = Atom::new(alloc, text(value)?)?;
-    Ok(atom)
-}
-
-pub(super) fn string(alloc: Global, value: Value<'_, '_>) -> Result<String, TreeError>
-    ensures ok { IfOk result (λ s. view value.entry ≡ string (string_bytes s)) }
-    ensures err { IsErrOf result TreeError.NotATree → is shape.text (view value.entry) ≡ false }
-{
-    let string = String::from_str(alloc, text(value)?)?;
-    Ok(string)
-}
-
-#[tactic(auto, using(lalrpop_norm_json_shapes::proofs::Refusals::no_variant))]
-pub(super) fn literal(alloc: Global, value: Value<'_, '_>) -> Result<TerminalLiteral, TreeError>
-    ensures ok { IfOk result (λ l. view value.entry ≡ literal_form l) }
-    ensures err { IsErrOf result TreeError.NotATree → is shape.literal (view value.entry) ≡ false }
-{
-    match case_of(value)? {
-        Case::Bare(_) => Err(TreeError::NotATree),
-        Case::Of(variant, held) => match variant {
-            "Quoted" => Ok(TerminalLiteral::Quoted(atom(alloc, held)?)),
-            "Regex" => Ok(TerminalLiteral::Regex(atom(alloc, held)?)),
-            _ => Err(TreeError::NotATree),
-        },
-    }
-}
-
-#[tactic(auto, using(lalrpop_norm_json_shapes::proofs::Refusals::no_variant))]
-pub(super) fn terminal(alloc: Global, value: Value<'_, '_>) -> Result<TerminalString, TreeError>
-    ensures ok { IfOk result (λ l. view value.entry ≡ terminal_form l) }
-    ensures err { IsErrOf result TreeError.NotATree → is shape.terminal (view value.entry) ≡ false }
-{
-    match case_of(value)? {
-        Case::Bare(variant) => match variant {
-            "Error" => Ok(TerminalString::Error),
-            _ => Err(TreeError::NotATree),
-        },
-        Case::Of(variant, held) => match variant {
-            "Literal" => Ok(TerminalString::Literal(literal(alloc, held)?)),
-            "Bare" => Ok(TerminalString::Bare(atom(alloc, held)?)),
-            _ => Err(TreeError::NotATree),
-        },
-    }
-}
-
-#[tactic(auto, using(lalrpop_norm_json_shapes::proofs::Refusals::refusals))]
-pub(super) fn path(alloc: Global, value: Value<'_, '_>) -> Result<Path, TreeError>
-    ensures ok { IfOk result (λ p. view value.entry ≡ path_form (path_view p)) }
-    ensures err { IsErrOf result TreeError.NotATree → is shape.path (view value.entry) ≡ false }
-{
-    let (absolute, ids) = two_fields(value, "absolute", "ids")?;
-    let absolute = truth(absolute)?;
-    let ids = list(alloc, ids)?;
-    Ok(Path { absolute, ids })
-}
-
-impl FromValue for Atom {
+impl Reads<Atom> for Tree {
     ghost use Rattle.serde_json.specs.Data.{string};
-    ghost use Rattle.lalrpop_norm_json_shapes.specs.Shapes.{text};
+    ghost use Rattle.json_records.specs.Reading.{is_text};
 
     ghost form = { string };
 
-    ghost named = { text };
+    ghost can = { is_text };
 
-    fn from_value(alloc: Global, value: Value<'_, '_>) -> Result<Atom, TreeError> {
-        atom(alloc, value)
-    }
-}
-
-impl FromValue for String {
-    ghost use Rattle.std.specs.Prelude.{string_bytes};
-    ghost use Rattle.serde_json.specs.Data.{string};
-    ghost use Rattle.lalrpop_norm_json_shapes.specs.Shapes.{text};
-
-    ghost form = { λ s. string (string_bytes s) };
-
-    ghost named = { text };
-
-    fn from_value(alloc: Global, value: Value<'_, '_>) -> Result<String, TreeError> {
-        string(alloc, value)
-    }
-}
-
-impl FromValue for NonterminalString {
-    ghost use Rattle.lalrpop_norm_json.specs.Forms.{nonterminal_form};
-    ghost use Rattle.lalrpop_norm_json_shapes.specs.Shapes.{text};
-
-    ghost form = { nonterminal_form };
-
-    ghost named = { text };
-
-    fn from_value(alloc: Global, value: Value<'_, '_>) -> Result<NonterminalString, TreeError> {
-        Ok(NonterminalString(atom(alloc, value)?))
-    }
-}
-
-impl FromValue for Lifetime {
-    ghost use Rattle.lalrpop_norm_json.specs.Forms.{lifetime_form};
-    ghost use Rattle.lalrpop_norm_json_shapes.specs.Shapes.{text};
-
-    ghost form = { lifetime_form };
-
-    ghost named = { text };
-
-    fn from_value(alloc: Global, value: Value<'_, '_>) -> Result<Lifetime, TreeError> {
-        Ok(Lifetime(atom(alloc, value)?))
-    }
-}
-
-impl FromValue for TypeParameter {
-    ghost use Rattle.lalrpop_norm_json.specs.Forms.{type_parameter_form};
-    ghost use Rattle.lalrpop_norm_json_shapes.specs.Shapes.{type_parameter};
-
-    ghost form = { type_parameter_form };
-
-    ghost named = { type_parameter };
-
-    #[tactic(auto, using(lalrpop_norm_json_shapes::proofs::Refusals::refusals))]
-    fn from_value(alloc: Global, value: Value<'_, '_>) -> Result<TypeParameter, TreeError> {
-        match case_of(value)? {
-            Case::Bare(_) => Err(TreeError::NotATree),
-            Case::Of(variant, held) => match variant {
-                "Lifetime" => Ok(TypeParameter::Lifetime(Lifetime(atom(alloc, held)?))),
-                "Id" => Ok(TypeParameter::Id(atom(alloc, held)?)),
-                _ => Err(TreeError::NotATree),
-            },
+    fn read<'a>(
+        alloc: Global,
+        first: Token<'a>,
+        reader: &mut Reader<'a>,
+        depth: usize,
+    ) -> Result<Option<Atom>, ReadError> {
+        let Some(text) = text(first, reader, depth)? else {
+            return Ok(None);
+        };
+        match Atom::new(alloc, text) {
+            Ok(atom) => Ok(Some(atom)),
+            Err(_) => Err(ReadError::Memory),
         }
     }
 }
 
-impl FromValue for Path {
+impl Reads<NonterminalString> for Tree {
+    ghost use Rattle.lalrpop_norm_json.specs.Forms.{nonterminal_form};
+    ghost use Rattle.json_records.specs.Reading.{is_text};
+
+    ghost form = { nonterminal_form };
+
+    ghost can = { is_text };
+
+    fn read<'a>(
+        alloc: Global,
+        first: Token<'a>,
+        reader: &mut Reader<'a>,
+        depth: usize,
+    ) -> Result<Option<NonterminalString>, ReadError> {
+        match <Tree as Reads<Atom>>::read(alloc, first, reader, depth)? {
+            Some(name) => Ok(Some(NonterminalString(name))),
+            None => Ok(None),
+        }
+    }
+}
+
+impl Reads<Lifetime> for Tree {
+    ghost use Rattle.lalrpop_norm_json.specs.Forms.{lifetime_form};
+    ghost use Rattle.json_records.specs.Reading.{is_text};
+
+    ghost form = { lifetime_form };
+
+    ghost can = { is_text };
+
+    fn read<'a>(
+        alloc: Global,
+        first: Token<'a>,
+        reader: &mut Reader<'a>,
+        depth: usize,
+    ) -> Result<Option<Lifetime>, ReadError> {
+        match <Tree as Reads<Atom>>::read(alloc, first, reader, depth)? {
+            Some(name) => Ok(Some(Lifetime(name))),
+            None => Ok(None),
+        }
+    }
+}
+
+impl Reads<Span> for Tree {
+    ghost use Rattle.lalrpop_norm_json.specs.Forms.{span_form};
+    ghost use Rattle.lalrpop_norm_json.specs.Shapes as shape;
+    ghost use Rattle.lalrpop_norm_json.specs.Shapes.{is};
+
+    ghost form = { span_form };
+
+    ghost can = { is shape.span };
+
+    fn read<'a>(
+        alloc: Global,
+        first: Token<'a>,
+        reader: &mut Reader<'a>,
+        depth: usize,
+    ) -> Result<Option<Span>, ReadError> {
+        match read_pair::<usize, usize, Tree, Tree>(alloc, first, reader, depth)? {
+            Some((from, to)) => Ok(Some(Span(from, to))),
+            None => Ok(None),
+        }
+    }
+}
+
+impl Reads<Path> for Tree {
     ghost use Rattle.lalrpop_norm_tree_parts.specs.Paths.{path_view};
     ghost use Rattle.lalrpop_norm_json.specs.Forms.{path_form};
-    ghost use Rattle.lalrpop_norm_json_shapes.specs.Shapes as shape;
+    ghost use Rattle.lalrpop_norm_json.specs.Shapes as shape;
+    ghost use Rattle.lalrpop_norm_json.specs.Shapes.{is};
 
     ghost form = { λ p. path_form (path_view p) };
 
-    ghost named = { shape.path };
+    ghost can = { is shape.path };
 
-    fn from_value(alloc: Global, value: Value<'_, '_>) -> Result<Path, TreeError> {
-        path(alloc, value)
+    fn read<'a>(
+        alloc: Global,
+        first: Token<'a>,
+        reader: &mut Reader<'a>,
+        depth: usize,
+    ) -> Result<Option<Path>, ReadError> {
+        match read_record::<Tree, And<bool, And<Vec<Atom>, End>>>(
+            alloc,
+            &["absolute", "ids"],
+            first,
+            reader,
+            depth,
+        )? {
+            Some((absolute, (ids, ()))) => Ok(Some(Path { absolute, ids })),
+            None => Ok(None),
+        }
+    }
+}
+
+impl Variant<TerminalLiteral> for Tree {
+    ghost use Rattle.lalrpop_norm_json.specs.Forms.{literal_form};
+    ghost use Rattle.lalrpop_norm_json.specs.Shapes as shape;
+    ghost use Rattle.lalrpop_norm_json.specs.Shapes.{is};
+    ghost use Rattle.lalrpop_norm_json.specs.Laws.{no_variant};
+
+    ghost form = { literal_form };
+
+    ghost can = { is shape.literal };
+
+    ghost law = { λ d other. no_variant _ _ d other };
+
+    fn bare(_name: &str) -> Option<TerminalLiteral> {
+        None
+    }
+
+    fn held<'a>(
+        alloc: Global,
+        name: &str,
+        first: Token<'a>,
+        reader: &mut Reader<'a>,
+        depth: usize,
+    ) -> Result<Option<TerminalLiteral>, ReadError> {
+        match name {
+            "Quoted" => match <Tree as Reads<Atom>>::read(alloc, first, reader, depth)? {
+                Some(read) => Ok(Some(TerminalLiteral::Quoted(read))),
+                None => Ok(None),
+            },
+            "Regex" => match <Tree as Reads<Atom>>::read(alloc, first, reader, depth)? {
+                Some(read) => Ok(Some(TerminalLiteral::Regex(read))),
+                None => Ok(None),
+            },
+            _ => {
+                pass(first, reader, depth)?;
+                Ok(None)
+            }
+        }
+    }
+}
+
+impl Reads<TerminalLiteral> for Tree {
+    ghost use Rattle.lalrpop_norm_json.specs.Forms.{literal_form};
+    ghost use Rattle.lalrpop_norm_json.specs.Shapes as shape;
+    ghost use Rattle.lalrpop_norm_json.specs.Shapes.{is};
+
+    ghost form = { literal_form };
+
+    ghost can = { is shape.literal };
+
+    fn read<'a>(
+        alloc: Global,
+        first: Token<'a>,
+        reader: &mut Reader<'a>,
+        depth: usize,
+    ) -> Result<Option<TerminalLiteral>, ReadError> {
+        read_variant::<TerminalLiteral, Tree>(alloc, first, reader, depth)
+    }
+}
+
+impl Variant<TerminalString> for Tree {
+    ghost use Rattle.lalrpop_norm_json.specs.Forms.{terminal_form};
+    ghost use Rattle.lalrpop_norm_json.specs.Shapes as shape;
+    ghost use Rattle.lalrpop_norm_json.specs.Shapes.{is};
+    ghost use Rattle.lalrpop_norm_json.specs.Laws.{no_variant};
+
+    ghost form = { terminal_form };
+
+    ghost can = { is shape.terminal };
+
+    ghost law = { λ d other. no_variant _ _ d other };
+
+    fn bare(name: &str) -> Option<TerminalString> {
+        match name {
+            "Error" => Some(TerminalString::Error),
+            _ => None,
+        }
+    }
+
+    fn held<'a>(
+        alloc: Global,
+        name: &str,
+        first: Token<'a>,
+        reader: &mut Reader<'a>,
+        depth: usize,
+    ) -> Result<Option<TerminalString>, ReadError> {
+        match name {
+            "Literal" => match <Tree as Reads<TerminalLiteral>>::read(
+                alloc, first, reader, depth,
+            )? {
+                Some(read) => Ok(Some(TerminalString::Literal(read))),
+                None => Ok(None),
+            },
+            "Bare" => match <Tree as Reads<Atom>>::read(alloc, first, reader, depth)? {
+                Some(read) => Ok(Some(TerminalString::Bare(read))),
+                None => Ok(None),
+            },
+            _ => {
+                pass(first, reader, depth)?;
+                Ok(None)
+            }
+        }
+    }
+}
+
+impl Reads<TerminalString> for Tree {
+    ghost use Rattle.lalrpop_norm_json.specs.Forms.{terminal_form};
+    ghost use Rattle.lalrpop_norm_json.specs.Shapes as shape;
+    ghost use Rattle.lalrpop_norm_json.specs.Shapes.{is};
+
+    ghost form = { terminal_form };
+
+    ghost can = { is shape.terminal };
+
+    fn read<'a>(
+        alloc: Global,
+        first: Token<'a>,
+        reader: &mut Reader<'a>,
+        depth: usize,
+    ) -> Result<Option<TerminalString>, ReadError> {
+        read_variant::<TerminalString, Tree>(alloc, first, reader, depth)
+    }
+}
+
+impl Variant<TypeParameter> for Tree {
+    ghost use Rattle.lalrpop_norm_json.specs.Forms.{type_parameter_form};
+    ghost use Rattle.lalrpop_norm_json.specs.Shapes as shape;
+    ghost use Rattle.lalrpop_norm_json.specs.Shapes.{is};
+    ghost use Rattle.lalrpop_norm_json.specs.Laws.{no_variant};
+
+    ghost form = { type_parameter_form };
+
+    ghost can = { is shape.type_parameter };
+
+    ghost law = { λ d other. no_variant _ _ d other };
+
+    fn bare(_name: &str) -> Option<TypeParameter> {
+        None
+    }
+
+    fn held<'a>(
+        alloc: Global,
+        name: &str,
+        first: Token<'a>,
+        reader: &mut Reader<'a>,
+        depth: usize,
+    ) -> Result<Option<TypeParameter>, ReadError> {
+        match name {
+            "Lifetime" => match <Tree as Reads<Lifetime>>::read(alloc, first, reader, depth)? {
+                Some(read) => Ok(Some(TypeParameter::Lifetime(read))),
+                None => Ok(None),
+            },
+            "Id" => match <Tree as Reads<Atom>>::read(alloc, first, reader, depth)? {
+                Some(read) => Ok(Some(TypeParameter::Id(read))),
+                None => Ok(None),
+            },
+            _ => {
+                pass(first, reader, depth)?;
+                Ok(None)
+            }
+        }
+    }
+}
+
+impl Reads<TypeParameter> for Tree {
+    ghost use Rattle.lalrpop_norm_json.specs.Forms.{type_parameter_form};
+    ghost use Rattle.lalrpop_norm_json.specs.Shapes as shape;
+    ghost use Rattle.lalrpop_norm_json.specs.Shapes.{is};
+
+    ghost form = { type_parameter_form };
+
+    ghost can = { is shape.type_parameter };
+
+    fn read<'a>(
+        alloc: Global,
+        first: Token<'a>,
+        reader: &mut Reader<'a>,
+        depth: usize,
+    ) -> Result<Option<TypeParameter>, ReadError> {
+        read_variant::<TypeParameter, Tree>(alloc, first, reader, depth)
     }
 }

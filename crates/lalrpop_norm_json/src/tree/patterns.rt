@@ -1,149 +1,379 @@
 //! Patterns of conversions.
-ghost use Rattle.std.specs.Prelude.{◌≡◌, [], ◌∷◌, codes, IfOk, IsErrOf, false};
-ghost use Rattle.serde_json.specs.Data.{array};
-ghost use Rattle.json_document.specs.View.{view};
+ghost use Rattle.std.specs.Prelude.{◌≡◌, ◌≤◌, [], ◌∷◌, codes, map, length, None, IfOk, OnOk, IsErrOf};
+ghost use Rattle.json.specs.Reads.{token_of};
+ghost use Rattle.serde_json.specs.Data.{string};
+ghost use Rattle.json_records.specs.Reading.{data_of, list_form, is_list, may_be, maybe_form, IsRead, IsReadUnder};
+ghost use Rattle.json_records.specs.Rows.{is_row};
+ghost use Rattle.json_records.specs.Variants.{Made};
+ghost use Rattle.lalrpop_norm_json.specs.Shapes as shape;
+ghost use Rattle.lalrpop_norm_json.specs.Shapes.{is};
 ghost use Rattle.lalrpop_norm_tree.specs.Types.{type_view};
 ghost use Rattle.lalrpop_norm_tree_parts.specs.Paths.{path_view};
-ghost use Rattle.lalrpop_norm_tree_patterns.specs.Patterns.{pattern_kind_view, pattern_view, patterns_view, field_view, fields_view};
-ghost use Rattle.lalrpop_norm_json_shapes.specs.Shapes as shape;
-ghost use Rattle.lalrpop_norm_json_shapes.specs.Shapes.{is, fits, slot, one, many, arrayed, row};
-ghost use Rattle.lalrpop_norm_json.specs.Json as json;
-ghost use Rattle.lalrpop_norm_json.specs.Json.{variant};
+ghost use Rattle.lalrpop_norm_tree_patterns.specs.Patterns.{pattern_kind_view, pattern_view, field_view};
 ghost use Rattle.lalrpop_norm_json.specs.Forms.{path_form};
-ghost use Rattle.lalrpop_norm_json.specs.PatternForms.{pattern_kind_form, pattern_form, patterns_form, field_form, field_patterns_form};
+ghost use Rattle.lalrpop_norm_json.specs.PatternForms.{pattern_kind_form, pattern_form, field_form};
 
-use super::names::{atom, path, span, string};
-use super::parts::pushed;
-use super::types::type_ref;
-use json_document::Value;
-use lalrpop_norm_json_shapes::{
-    Case, TreeError, case_of, counted_items, natural, pair, three_fields, triple, truth, two_fields,
+use super::Tree;
+use json::{Reader, Token};
+use json_records::{
+    ReadError, Reads, all_three, both, fitted, is_other, next_item, next_member, open_array,
+    open_object, pass, push,
 };
-use lalrpop_norm_tree::grammar::parse_tree::{Path, TypeRef};
+use lalrpop_norm_tree::grammar::parse_tree::{Atom, Path, Span, TypeRef};
 use lalrpop_norm_tree::grammar::pattern::{FieldPattern, Pattern, PatternKind};
 use std::alloc::Global;
 
-#[cycle(pattern)]
-#[tactic(auto, using(lalrpop_norm_json_shapes::proofs::Refusals::refusals))]
-fn pattern_kind(alloc: Global, value: Value<'_, '_>) -> Result<PatternKind<TypeRef>, TreeError>
-    ensures ok { IfOk result (λ k. view value.entry ≡ pattern_kind_form (pattern_kind_view type_view k)) }
-    ensures err { IsErrOf result TreeError.NotATree → is shape.pattern_kind (view value.entry) ≡ false }
+/// A pattern without a place that is told by one word.
+fn bare_kind(name: &str) -> Option<PatternKind<TypeRef>>
+    ensures { Made (λ k. pattern_kind_form (pattern_kind_view type_view k)) (is shape.pattern_kind) result (string name.now) }
 {
-    match case_of(value)? {
-        Case::Bare(variant) => match variant {
-            "Underscore" => Ok(PatternKind::Underscore),
-            "DotDot" => Ok(PatternKind::DotDot),
-            _ => Err(TreeError::NotATree),
+    match name {
+        "Underscore" => Some(PatternKind::Underscore),
+        "DotDot" => Some(PatternKind::DotDot),
+        _ => None,
+    }
+}
+
+/// A pattern without its place.
+#[cycle(pattern)]
+fn pattern_kind<'a>(
+    alloc: Global,
+    first: Token<'a>,
+    reader: &mut Reader<'a>,
+    depth: usize,
+) -> Result<Option<PatternKind<TypeRef>>, ReadError>
+    ensures ok { IfOk result (λ o. IsRead (λ k. pattern_kind_form (pattern_kind_view type_view k)) (is shape.pattern_kind) depth (token_of first.entry ∷ reader.old) reader.new o) }
+    ensures err { IsErrOf result ReadError.NotJson → data_of depth (token_of first.entry ∷ reader.old) ≡ None }
+    ensures shorter { OnOk result (length reader.new ≤ length reader.old) }
+{
+    if let Token::String(name) = first {
+        return Ok(bare_kind(name));
+    }
+    let Some(depth) = open_object(first, reader, depth)? else {
+        return Ok(None);
+    };
+    let mut read = None;
+    let mut before = None;
+    let mut strays = false;
+    while let Some((name, first)) = next_member(reader)? {
+        if is_other(before, name) {
+            pass(first, reader, depth)?;
+            strays = true;
+        } else {
+            read = pattern_kind_of(alloc, name, first, reader, depth)?;
+            before = Some(name);
+        }
+    }
+    if strays {
+        return Ok(None);
+    }
+    Ok(read)
+}
+
+/// The same of that variant, over a value.
+#[cycle(pattern)]
+fn pattern_kind_of<'a>(
+    alloc: Global,
+    name: &str,
+    first: Token<'a>,
+    reader: &mut Reader<'a>,
+    depth: usize,
+) -> Result<Option<PatternKind<TypeRef>>, ReadError>
+    ensures ok { IfOk result (λ o. IsReadUnder name.now (λ k. pattern_kind_form (pattern_kind_view type_view k)) (is shape.pattern_kind) depth (token_of first.entry ∷ reader.old) reader.new o) }
+    ensures err { IsErrOf result ReadError.NotJson → data_of depth (token_of first.entry ∷ reader.old) ≡ None }
+    ensures shorter { OnOk result (length reader.new ≤ length reader.old) }
+{
+    match name {
+        "Enum" => match path_and_patterns(alloc, first, reader, depth)? {
+            Some((path, patterns)) => Ok(Some(PatternKind::Enum(path, patterns))),
+            None => Ok(None),
         },
-        Case::Of(variant, held) => match variant {
-            "Enum" => {
-                let (path, patterns) = path_and_patterns(alloc, held)?;
-                Ok(PatternKind::Enum(path, patterns))
-            }
-            "Struct" => structured(alloc, held),
-            "Path" => Ok(PatternKind::Path(path(alloc, held)?)),
-            "Tuple" => Ok(PatternKind::Tuple(patterns(alloc, held)?)),
-            "TupleStruct" => {
-                let (path, patterns) = path_and_patterns(alloc, held)?;
-                Ok(PatternKind::TupleStruct(path, patterns))
-            }
-            "Usize" => Ok(PatternKind::Usize(natural(held)?)),
-            "Choose" => Ok(PatternKind::Choose(type_ref(alloc, held)?)),
-            "CharLiteral" => Ok(PatternKind::CharLiteral(atom(alloc, held)?)),
-            "String" => Ok(PatternKind::String(string(alloc, held)?)),
-            _ => Err(TreeError::NotATree),
+        "Struct" => structured(alloc, first, reader, depth),
+        "Path" => match <Tree as Reads<Path>>::read(alloc, first, reader, depth)? {
+            Some(read) => Ok(Some(PatternKind::Path(read))),
+            None => Ok(None),
         },
+        "Tuple" => match patterns(alloc, first, reader, depth)? {
+            Some(read) => Ok(Some(PatternKind::Tuple(read))),
+            None => Ok(None),
+        },
+        "TupleStruct" => match path_and_patterns(alloc, first, reader, depth)? {
+            Some((path, patterns)) => Ok(Some(PatternKind::TupleStruct(path, patterns))),
+            None => Ok(None),
+        },
+        "Usize" => match <Tree as Reads<usize>>::read(alloc, first, reader, depth)? {
+            Some(read) => Ok(Some(PatternKind::Usize(read))),
+            None => Ok(None),
+        },
+        "Choose" => match <Tree as Reads<TypeRef>>::read(alloc, first, reader, depth)? {
+            Some(read) => Ok(Some(PatternKind::Choose(read))),
+            None => Ok(None),
+        },
+        "CharLiteral" => match <Tree as Reads<Atom>>::read(alloc, first, reader, depth)? {
+            Some(read) => Ok(Some(PatternKind::CharLiteral(read))),
+            None => Ok(None),
+        },
+        "String" => match <Tree as Reads<String>>::read(alloc, first, reader, depth)? {
+            Some(read) => Ok(Some(PatternKind::String(read))),
+            None => Ok(None),
+        },
+        _ => {
+            pass(first, reader, depth)?;
+            Ok(None)
+        }
     }
 }
 
 /// What the patterns of an enum and of a tuple struct hold.
 #[cycle(pattern)]
-#[tactic(auto, using(lalrpop_norm_json_shapes::proofs::Refusals::refusals))]
-fn path_and_patterns(
+fn path_and_patterns<'a>(
     alloc: Global,
-    value: Value<'_, '_>,
-) -> Result<(Path, Vec<Pattern<TypeRef>>), TreeError>
-    ensures ok { IfOk result (λ p. view value.entry ≡
-        json.row (path_form (path_view p.0) ∷ array (patterns_form (patterns_view type_view p.1.items)) ∷ [])) }
-    ensures err { IsErrOf result TreeError.NotATree →
-        fits (arrayed (row (one shape.path ∷ many shape.pattern ∷ []))) (view value.entry) ≡ false }
+    first: Token<'a>,
+    reader: &mut Reader<'a>,
+    depth: usize,
+) -> Result<Option<(Path, Vec<Pattern<TypeRef>>)>, ReadError>
+    ensures ok { IfOk result (λ o. IsRead (λ p. list_form (path_form (path_view p.0) ∷ list_form (map (λ p. pattern_form (pattern_view type_view p)) p.1.items) ∷ [])) (is_row (is shape.path ∷ is_list (is shape.pattern) ∷ [])) depth (token_of first.entry ∷ reader.old) reader.new o) }
+    ensures err { IsErrOf result ReadError.NotJson → data_of depth (token_of first.entry ∷ reader.old) ≡ None }
+    ensures shorter { OnOk result (length reader.new ≤ length reader.old) }
 {
-    let (first, second) = pair(value)?;
-    let path = path(alloc, first)?;
-    let patterns = patterns(alloc, second)?;
-    Ok((path, patterns))
+    let Some(depth) = open_array(first, reader, depth)? else {
+        return Ok(None);
+    };
+    let mut path = None;
+    let mut list = None;
+    let mut place = 0usize;
+    while let Some(first) = next_item(reader)? {
+        match place {
+            0 => {
+                path = <Tree as Reads<Path>>::read(alloc, first, reader, depth)?;
+                place = 1;
+            }
+            1 => {
+                list = patterns(alloc, first, reader, depth)?;
+                place = 2;
+            }
+            _ => {
+                pass(first, reader, depth)?;
+                place = 3;
+            }
+        }
+    }
+    if place != 2 {
+        return Ok(None);
+    }
+    Ok(both(path, list))
 }
 
 /// The pattern of a struct with this path, these fields and that rest.
 #[cycle(pattern)]
-#[tactic(auto, using(lalrpop_norm_json_shapes::proofs::Refusals::refusals))]
-fn structured(alloc: Global, value: Value<'_, '_>) -> Result<PatternKind<TypeRef>, TreeError>
-    ensures ok { IfOk result (λ k. variant (codes "Struct") (view value.entry) ≡ pattern_kind_form (pattern_kind_view type_view k)) }
-    ensures err { IsErrOf result TreeError.NotATree → is shape.pattern_kind (variant (codes "Struct") (view value.entry)) ≡ false }
+fn structured<'a>(
+    alloc: Global,
+    first: Token<'a>,
+    reader: &mut Reader<'a>,
+    depth: usize,
+) -> Result<Option<PatternKind<TypeRef>>, ReadError>
+    ensures ok { IfOk result (λ o. IsReadUnder (codes "Struct") (λ k. pattern_kind_form (pattern_kind_view type_view k)) (is shape.pattern_kind) depth (token_of first.entry ∷ reader.old) reader.new o) }
+    ensures err { IsErrOf result ReadError.NotJson → data_of depth (token_of first.entry ∷ reader.old) ≡ None }
+    ensures shorter { OnOk result (length reader.new ≤ length reader.old) }
 {
-    let (first, second, third) = triple(value)?;
-    let rest = truth(third)?;
-    let path = path(alloc, first)?;
-    let fields = field_patterns(alloc, second)?;
-    Ok(PatternKind::Struct(path, fields, rest))
+    let Some(depth) = open_array(first, reader, depth)? else {
+        return Ok(None);
+    };
+    let mut path = None;
+    let mut fields = None;
+    let mut rest = None;
+    let mut place = 0usize;
+    while let Some(first) = next_item(reader)? {
+        match place {
+            0 => {
+                path = <Tree as Reads<Path>>::read(alloc, first, reader, depth)?;
+                place = 1;
+            }
+            1 => {
+                fields = field_patterns(alloc, first, reader, depth)?;
+                place = 2;
+            }
+            2 => {
+                rest = <Tree as Reads<bool>>::read(alloc, first, reader, depth)?;
+                place = 3;
+            }
+            _ => {
+                pass(first, reader, depth)?;
+                place = 4;
+            }
+        }
+    }
+    if place != 3 {
+        return Ok(None);
+    }
+    match all_three(path, fields, rest) {
+        Some((path, fields, rest)) => Ok(Some(PatternKind::Struct(path, fields, rest))),
+        None => Ok(None),
+    }
 }
 
 #[cycle(pattern)]
-#[tactic(auto, using(lalrpop_norm_json_shapes::proofs::Refusals::refusals))]
-fn field_pattern(alloc: Global, value: Value<'_, '_>) -> Result<FieldPattern<TypeRef>, TreeError>
-    ensures ok { IfOk result (λ f. view value.entry ≡ field_form (field_view type_view f)) }
-    ensures err { IsErrOf result TreeError.NotATree → is shape.field_pattern (view value.entry) ≡ false }
+fn field_pattern<'a>(
+    alloc: Global,
+    first: Token<'a>,
+    reader: &mut Reader<'a>,
+    depth: usize,
+) -> Result<Option<FieldPattern<TypeRef>>, ReadError>
+    ensures ok { IfOk result (λ o. IsRead (λ f. field_form (field_view type_view f)) (is shape.field_pattern) depth (token_of first.entry ∷ reader.old) reader.new o) }
+    ensures err { IsErrOf result ReadError.NotJson → data_of depth (token_of first.entry ∷ reader.old) ≡ None }
+    ensures shorter { OnOk result (length reader.new ≤ length reader.old) }
 {
-    let (name, at, of) = three_fields(value, "field_name", "field_span", "pattern")?;
-    let field_span = span(at)?;
-    let field_name = atom(alloc, name)?;
-    let pattern = pattern(alloc, of)?;
-    Ok(FieldPattern {
+    let Some(depth) = open_object(first, reader, depth)? else {
+        return Ok(None);
+    };
+    let mut field_name = None;
+    let mut field_span = None;
+    let mut of = None;
+    let mut strays = false;
+    while let Some((key, first)) = next_member(reader)? {
+        match key {
+            "field_name" => field_name = <Tree as Reads<Atom>>::read(alloc, first, reader, depth)?,
+            "field_span" => field_span = <Tree as Reads<Span>>::read(alloc, first, reader, depth)?,
+            "pattern" => of = pattern(alloc, first, reader, depth)?,
+            _ => {
+                pass(first, reader, depth)?;
+                strays = true;
+            }
+        }
+    }
+    if strays {
+        return Ok(None);
+    }
+    let Some(field_name) = field_name else {
+        return Ok(None);
+    };
+    let Some(field_span) = field_span else {
+        return Ok(None);
+    };
+    let Some(of) = of else {
+        return Ok(None);
+    };
+    Ok(Some(FieldPattern {
         field_span,
         field_name,
-        pattern,
-    })
+        pattern: of,
+    }))
 }
 
 #[cycle(pattern)]
-#[tactic(auto, using(lalrpop_norm_json_shapes::proofs::Refusals::refusals))]
-fn field_patterns(
+fn field_patterns<'a>(
     alloc: Global,
-    value: Value<'_, '_>,
-) -> Result<Vec<FieldPattern<TypeRef>>, TreeError>
-    ensures ok { IfOk result (λ fs. view value.entry ≡ array (field_patterns_form (fields_view type_view fs.items))) }
-    ensures err { IsErrOf result TreeError.NotATree → fits (slot (many shape.field_pattern)) (view value.entry) ≡ false }
+    first: Token<'a>,
+    reader: &mut Reader<'a>,
+    depth: usize,
+) -> Result<Option<Vec<FieldPattern<TypeRef>>>, ReadError>
+    ensures ok { IfOk result (λ o. IsRead (λ xs. list_form (map (λ f. field_form (field_view type_view f)) xs.items)) (is_list (is shape.field_pattern)) depth (token_of first.entry ∷ reader.old) reader.new o) }
+    ensures err { IsErrOf result ReadError.NotJson → data_of depth (token_of first.entry ∷ reader.old) ≡ None }
+    ensures shorter { OnOk result (length reader.new ≤ length reader.old) }
 {
-    let (count, mut values) = counted_items(value)?;
-    let mut fields = Vec::with_capacity(alloc, count)?;
-    while let Some(element) = values.next() {
-        fields = pushed(fields, field_pattern(alloc, element))?;
+    let Some(depth) = open_array(first, reader, depth)? else {
+        return Ok(None);
+    };
+    let mut list = Vec::new(alloc);
+    let mut good = true;
+    while let Some(first) = next_item(reader)? {
+        match field_pattern(alloc, first, reader, depth)? {
+            Some(item) => push(&mut list, item)?,
+            None => good = false,
+        }
     }
-    Ok(fields)
+    if good {
+        Ok(Some(fitted(list)?))
+    } else {
+        Ok(None)
+    }
 }
 
 #[cycle(pattern)]
-#[tactic(auto, using(lalrpop_norm_json_shapes::proofs::Refusals::refusals))]
-pub(super) fn pattern(alloc: Global, value: Value<'_, '_>) -> Result<Pattern<TypeRef>, TreeError>
-    ensures ok { IfOk result (λ p. view value.entry ≡ pattern_form (pattern_view type_view p)) }
-    ensures err { IsErrOf result TreeError.NotATree → is shape.pattern (view value.entry) ≡ false }
+fn pattern<'a>(
+    alloc: Global,
+    first: Token<'a>,
+    reader: &mut Reader<'a>,
+    depth: usize,
+) -> Result<Option<Pattern<TypeRef>>, ReadError>
+    ensures ok { IfOk result (λ o. IsRead (λ p. pattern_form (pattern_view type_view p)) (is shape.pattern) depth (token_of first.entry ∷ reader.old) reader.new o) }
+    ensures err { IsErrOf result ReadError.NotJson → data_of depth (token_of first.entry ∷ reader.old) ≡ None }
+    ensures shorter { OnOk result (length reader.new ≤ length reader.old) }
 {
-    let (kind, at) = two_fields(value, "kind", "span")?;
-    let span = span(at)?;
-    let kind = pattern_kind(alloc, kind)?;
-    Ok(Pattern { span, kind })
+    let Some(depth) = open_object(first, reader, depth)? else {
+        return Ok(None);
+    };
+    let mut kind = None;
+    let mut span = None;
+    let mut strays = false;
+    while let Some((key, first)) = next_member(reader)? {
+        match key {
+            "kind" => kind = pattern_kind(alloc, first, reader, depth)?,
+            "span" => span = <Tree as Reads<Span>>::read(alloc, first, reader, depth)?,
+            _ => {
+                pass(first, reader, depth)?;
+                strays = true;
+            }
+        }
+    }
+    if strays {
+        return Ok(None);
+    }
+    let Some(kind) = kind else {
+        return Ok(None);
+    };
+    let Some(span) = span else {
+        return Ok(None);
+    };
+    Ok(Some(Pattern { span, kind }))
 }
 
 #[cycle(pattern)]
-#[tactic(auto, using(lalrpop_norm_json_shapes::proofs::Refusals::refusals))]
-fn patterns(alloc: Global, value: Value<'_, '_>) -> Result<Vec<Pattern<TypeRef>>, TreeError>
-    ensures ok { IfOk result (λ ps. view value.entry ≡ array (patterns_form (patterns_view type_view ps.items))) }
-    ensures err { IsErrOf result TreeError.NotATree → fits (slot (many shape.pattern)) (view value.entry) ≡ false }
+fn patterns<'a>(
+    alloc: Global,
+    first: Token<'a>,
+    reader: &mut Reader<'a>,
+    depth: usize,
+) -> Result<Option<Vec<Pattern<TypeRef>>>, ReadError>
+    ensures ok { IfOk result (λ o. IsRead (λ xs. list_form (map (λ p. pattern_form (pattern_view type_view p)) xs.items)) (is_list (is shape.pattern)) depth (token_of first.entry ∷ reader.old) reader.new o) }
+    ensures err { IsErrOf result ReadError.NotJson → data_of depth (token_of first.entry ∷ reader.old) ≡ None }
+    ensures shorter { OnOk result (length reader.new ≤ length reader.old) }
 {
-    let (count, mut values) = counted_items(value)?;
-    let mut patterns = Vec::with_capacity(alloc, count)?;
-    while let Some(element) = values.next() {
-        patterns = pushed(patterns, pattern(alloc, element))?;
+    let Some(depth) = open_array(first, reader, depth)? else {
+        return Ok(None);
+    };
+    let mut list = Vec::new(alloc);
+    let mut good = true;
+    while let Some(first) = next_item(reader)? {
+        match pattern(alloc, first, reader, depth)? {
+            Some(item) => push(&mut list, item)?,
+            None => good = false,
+        }
     }
-    Ok(patterns)
+    if good {
+        Ok(Some(fitted(list)?))
+    } else {
+        Ok(None)
+    }
+}
+
+impl Reads<Pattern<TypeRef>> for Tree {
+    ghost use Rattle.lalrpop_norm_tree_patterns.specs.Patterns.{pattern_view};
+    ghost use Rattle.lalrpop_norm_tree.specs.Types.{type_view};
+    ghost use Rattle.lalrpop_norm_json.specs.PatternForms.{pattern_form};
+    ghost use Rattle.lalrpop_norm_json.specs.Shapes as shape;
+    ghost use Rattle.lalrpop_norm_json.specs.Shapes.{is};
+
+    ghost form = { λ p. pattern_form (pattern_view type_view p) };
+
+    ghost can = { is shape.pattern };
+
+    fn read<'a>(
+        alloc: Global,
+        first: Token<'a>,
+        reader: &mut Reader<'a>,
+        depth: usize,
+    ) -> Result<Option<Pattern<TypeRef>>, ReadError> {
+        pattern(alloc, first, reader, depth)
+    }
 }

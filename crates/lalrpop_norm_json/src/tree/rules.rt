@@ -1,210 +1,332 @@
 //! Rules and their alternatives.
-ghost use Rattle.std.specs.Prelude.{◌≡◌, List, codes, Some, IfOk, IsErrOf, false};
-ghost use Rattle.serde_json.specs.Data.{Data};
-ghost use Rattle.json_document.specs.Parted.{all_data, with_list};
-ghost use Rattle.json_document.specs.View.{view};
-ghost use Rattle.lalrpop_norm_tree.specs.Items.{alternative_view, rule_view, visibility_view};
-ghost use Rattle.lalrpop_norm_json_shapes.specs.Shapes as shape;
-ghost use Rattle.lalrpop_norm_json_shapes.specs.Shapes.{is};
-ghost use Rattle.lalrpop_norm_json.specs.ItemForms.{alternative_form, condition_op_form, rule_fields, rule_form, visibility_form};
+ghost use Rattle.std.specs.Prelude.{◌≡◌, ◌≤◌, ◌∷◌, length, None, IfOk, OnOk, IsErrOf};
 
-use super::attributes::attributes;
-use super::names::{atom, path, span, string};
-use super::parts::{FromValue, list, maybe};
-use super::symbols::group;
-use json_document::Value;
-use lalrpop_norm_json_shapes::{Case, TreeError, case_of, five_fields, four_fields, seven_fields};
+use super::Tree;
+use json::{Reader, Token};
+use json_records::{And, End, ReadError, Reads, Variant, pass, read_record, read_variant};
 use lalrpop_norm_tree::grammar::parse_tree::{
-    ActionKind, Alternative, Condition, ConditionOp, NonterminalData, NonterminalString, Visibility,
+    ActionKind, Alternative, Atom, Attribute, Condition, ConditionOp, ExprSymbol, NonterminalData,
+    NonterminalString, Path, Span, TypeRef, Visibility,
 };
 use std::alloc::Global;
 
-impl FromValue for ActionKind {
+impl Variant<ActionKind> for Tree {
     ghost use Rattle.lalrpop_norm_tree.specs.Items.{action_view};
     ghost use Rattle.lalrpop_norm_json.specs.ItemForms.{action_form};
-    ghost use Rattle.lalrpop_norm_json_shapes.specs.Shapes as shape;
+    ghost use Rattle.lalrpop_norm_json.specs.Shapes as shape;
+    ghost use Rattle.lalrpop_norm_json.specs.Shapes.{is};
+    ghost use Rattle.lalrpop_norm_json.specs.Laws.{no_variant};
 
     ghost form = { λ a. action_form (action_view a) };
 
-    ghost named = { shape.action };
+    ghost can = { is shape.action };
 
-    #[tactic(auto, using(lalrpop_norm_json_shapes::proofs::Refusals::refusals))]
-    fn from_value(alloc: Global, value: Value<'_, '_>) -> Result<ActionKind, TreeError> {
-        match case_of(value)? {
-            Case::Bare(variant) => match variant {
-                "Lookahead" => Ok(ActionKind::Lookahead),
-                "Lookbehind" => Ok(ActionKind::Lookbehind),
-                _ => Err(TreeError::NotATree),
+    ghost law = { λ d other. no_variant _ _ d other };
+
+    fn bare(name: &str) -> Option<ActionKind> {
+        match name {
+            "Lookahead" => Some(ActionKind::Lookahead),
+            "Lookbehind" => Some(ActionKind::Lookbehind),
+            _ => None,
+        }
+    }
+
+    fn held<'a>(
+        alloc: Global,
+        name: &str,
+        first: Token<'a>,
+        reader: &mut Reader<'a>,
+        depth: usize,
+    ) -> Result<Option<ActionKind>, ReadError> {
+        match name {
+            "User" => match <Tree as Reads<String>>::read(alloc, first, reader, depth)? {
+                Some(read) => Ok(Some(ActionKind::User(read))),
+                None => Ok(None),
             },
-            Case::Of(variant, held) => match variant {
-                "User" => Ok(ActionKind::User(string(alloc, held)?)),
-                "Fallible" => Ok(ActionKind::Fallible(string(alloc, held)?)),
-                _ => Err(TreeError::NotATree),
+            "Fallible" => match <Tree as Reads<String>>::read(alloc, first, reader, depth)? {
+                Some(read) => Ok(Some(ActionKind::Fallible(read))),
+                None => Ok(None),
             },
+            _ => {
+                pass(first, reader, depth)?;
+                Ok(None)
+            }
         }
     }
 }
 
-#[tactic(auto, using(lalrpop_norm_json_shapes::proofs::Refusals::refusals))]
-fn condition_op(value: Value<'_, '_>) -> Result<ConditionOp, TreeError>
-    ensures ok { IfOk result (λ o. view value.entry ≡ condition_op_form o) }
-    ensures err { IsErrOf result TreeError.NotATree → is shape.condition_operator (view value.entry) ≡ false }
-{
-    match case_of(value)? {
-        Case::Bare(variant) => match variant {
-            "Equals" => Ok(ConditionOp::Equals),
-            "NotEquals" => Ok(ConditionOp::NotEquals),
-            "Match" => Ok(ConditionOp::Match),
-            "NotMatch" => Ok(ConditionOp::NotMatch),
-            _ => Err(TreeError::NotATree),
-        },
-        Case::Of(_, _) => Err(TreeError::NotATree),
+impl Reads<ActionKind> for Tree {
+    ghost use Rattle.lalrpop_norm_tree.specs.Items.{action_view};
+    ghost use Rattle.lalrpop_norm_json.specs.ItemForms.{action_form};
+    ghost use Rattle.lalrpop_norm_json.specs.Shapes as shape;
+    ghost use Rattle.lalrpop_norm_json.specs.Shapes.{is};
+
+    ghost form = { λ a. action_form (action_view a) };
+
+    ghost can = { is shape.action };
+
+    fn read<'a>(
+        alloc: Global,
+        first: Token<'a>,
+        reader: &mut Reader<'a>,
+        depth: usize,
+    ) -> Result<Option<ActionKind>, ReadError> {
+        read_variant::<ActionKind, Tree>(alloc, first, reader, depth)
     }
 }
 
-impl FromValue for Condition {
+impl Variant<ConditionOp> for Tree {
+    ghost use Rattle.lalrpop_norm_json.specs.ItemForms.{condition_op_form};
+    ghost use Rattle.lalrpop_norm_json.specs.Shapes as shape;
+    ghost use Rattle.lalrpop_norm_json.specs.Shapes.{is};
+    ghost use Rattle.lalrpop_norm_json.specs.Laws.{no_variant};
+
+    ghost form = { condition_op_form };
+
+    ghost can = { is shape.condition_operator };
+
+    ghost law = { λ d other. no_variant _ _ d other };
+
+    fn bare(name: &str) -> Option<ConditionOp> {
+        match name {
+            "Equals" => Some(ConditionOp::Equals),
+            "NotEquals" => Some(ConditionOp::NotEquals),
+            "Match" => Some(ConditionOp::Match),
+            "NotMatch" => Some(ConditionOp::NotMatch),
+            _ => None,
+        }
+    }
+
+    fn held<'a>(
+        _alloc: Global,
+        _name: &str,
+        first: Token<'a>,
+        reader: &mut Reader<'a>,
+        depth: usize,
+    ) -> Result<Option<ConditionOp>, ReadError> {
+        pass(first, reader, depth)?;
+        Ok(None)
+    }
+}
+
+impl Reads<ConditionOp> for Tree {
+    ghost use Rattle.lalrpop_norm_json.specs.ItemForms.{condition_op_form};
+    ghost use Rattle.lalrpop_norm_json.specs.Shapes as shape;
+    ghost use Rattle.lalrpop_norm_json.specs.Shapes.{is};
+
+    ghost form = { condition_op_form };
+
+    ghost can = { is shape.condition_operator };
+
+    fn read<'a>(
+        alloc: Global,
+        first: Token<'a>,
+        reader: &mut Reader<'a>,
+        depth: usize,
+    ) -> Result<Option<ConditionOp>, ReadError> {
+        read_variant::<ConditionOp, Tree>(alloc, first, reader, depth)
+    }
+}
+
+impl Reads<Condition> for Tree {
     ghost use Rattle.lalrpop_norm_json.specs.ItemForms.{condition_form};
-    ghost use Rattle.lalrpop_norm_json_shapes.specs.Shapes as shape;
+    ghost use Rattle.lalrpop_norm_json.specs.Shapes as shape;
+    ghost use Rattle.lalrpop_norm_json.specs.Shapes.{is};
 
     ghost form = { condition_form };
 
-    ghost named = { shape.condition };
+    ghost can = { is shape.condition };
 
-    #[tactic(auto, using(lalrpop_norm_json_shapes::proofs::Refusals::refusals))]
-    fn from_value(alloc: Global, value: Value<'_, '_>) -> Result<Condition, TreeError> {
-        let (lhs, op, rhs, at) = four_fields(value, "lhs", "op", "rhs", "span")?;
-        let span = span(at)?;
-        let lhs = NonterminalString(atom(alloc, lhs)?);
-        let rhs = atom(alloc, rhs)?;
-        let op = condition_op(op)?;
-        Ok(Condition { span, lhs, rhs, op })
+    fn read<'a>(
+        alloc: Global,
+        first: Token<'a>,
+        reader: &mut Reader<'a>,
+        depth: usize,
+    ) -> Result<Option<Condition>, ReadError> {
+        match read_record::<
+            Tree,
+            And<NonterminalString, And<ConditionOp, And<Atom, And<Span, End>>>>,
+        >(alloc, &["lhs", "op", "rhs", "span"], first, reader, depth)?
+        {
+            Some(fields) => {
+                let (lhs, (op, (rhs, (span, ())))) = fields;
+                Ok(Some(Condition { span, lhs, rhs, op }))
+            }
+            None => Ok(None),
+        }
     }
 }
 
-#[tactic(auto, using(lalrpop_norm_json_shapes::proofs::Refusals::refusals))]
-pub(super) fn alternative(alloc: Global, value: Value<'_, '_>) -> Result<Alternative, TreeError>
-    ensures ok { IfOk result (λ a. view value.entry ≡ alternative_form (alternative_view a)) }
-    ensures err { IsErrOf result TreeError.NotATree → is shape.alternative (view value.entry) ≡ false }
-{
-    let (code, listed, condition, expr, at) = five_fields(
-        value,
-        "action",
-        "attributes",
-        "condition",
-        "expr",
-        "span",
-    )?;
-    let condition = maybe(alloc, condition)?;
-    let span = span(at)?;
-    let action = maybe(alloc, code)?;
-    let expr = group(alloc, expr)?;
-    let attributes = attributes(alloc, listed)?;
-    Ok(Alternative {
-        span,
-        expr,
-        condition,
-        action,
-        attributes,
-    })
-}
-
-impl FromValue for Alternative {
+impl Reads<Alternative> for Tree {
     ghost use Rattle.lalrpop_norm_tree.specs.Items.{alternative_view};
     ghost use Rattle.lalrpop_norm_json.specs.ItemForms.{alternative_form};
-    ghost use Rattle.lalrpop_norm_json_shapes.specs.Shapes as shape;
+    ghost use Rattle.lalrpop_norm_json.specs.Shapes as shape;
+    ghost use Rattle.lalrpop_norm_json.specs.Shapes.{is};
 
     ghost form = { λ a. alternative_form (alternative_view a) };
 
-    ghost named = { shape.alternative };
+    ghost can = { is shape.alternative };
 
-    fn from_value(alloc: Global, value: Value<'_, '_>) -> Result<Alternative, TreeError> {
-        alternative(alloc, value)
-    }
-}
-
-#[tactic(auto, using(lalrpop_norm_json_shapes::proofs::Refusals::refusals, crate::proofs::FormLemmas::maybe_seen))]
-fn visibility(alloc: Global, value: Value<'_, '_>) -> Result<Visibility, TreeError>
-    ensures ok { IfOk result (λ v. view value.entry ≡ visibility_form (visibility_view v)) }
-    ensures err { IsErrOf result TreeError.NotATree → is shape.visibility (view value.entry) ≡ false }
-{
-    match case_of(value)? {
-        Case::Bare(variant) => match variant {
-            "Priv" => Ok(Visibility::Priv),
-            _ => Err(TreeError::NotATree),
-        },
-        Case::Of(variant, held) => match variant {
-            "Pub" => Ok(Visibility::Pub(maybe(alloc, held)?)),
-            "PubIn" => Ok(Visibility::PubIn(path(alloc, held)?)),
-            _ => Err(TreeError::NotATree),
-        },
-    }
-}
-
-/// The rule whose form the value is, but for its alternatives, and the value that holds these.
-#[tactic(auto, using(lalrpop_norm_json_shapes::proofs::Refusals::refusals, crate::proofs::ListedFields::no_listed_fields))]
-fn without_alternatives<'t, 'a>(
-    alloc: Global,
-    value: Value<'t, 'a>,
-) -> Result<(NonterminalData, Value<'t, 'a>), TreeError>
-    ensures ok { IfOk result (λ p. view value.entry ≡ rule_fields (rule_view p.0) (view p.1)) }
-    ensures err { IsErrOf result TreeError.NotATree → is shape.rule (view value.entry) ≡ false }
-    ensures listed { IsErrOf result TreeError.NotATree → (ds : List Data) → is shape.rule (with_list (codes "alternatives") ds (view value.entry)) ≡ false }
-{
-    let (held, args, listed, name, at, type_decl, seen) = seven_fields(
-        value,
-        "alternatives",
-        "args",
-        "attributes",
-        "name",
-        "span",
-        "type_decl",
-        "visibility",
-    )?;
-    let span = span(at)?;
-    let name = atom(alloc, name)?;
-    let type_decl = maybe(alloc, type_decl)?;
-    let args = list(alloc, args)?;
-    let visibility = visibility(alloc, seen)?;
-    let attributes = attributes(alloc, listed)?;
-    let rule = NonterminalData {
-        visibility,
-        name: NonterminalString(name),
-        attributes,
-        span,
-        args,
-        type_decl,
-        alternatives: Vec::new(alloc),
-    };
-    Ok((rule, held))
-}
-
-#[tactic(auto, using(lalrpop_norm_json_shapes::proofs::Refusals::refusals))]
-pub(super) fn rule(alloc: Global, value: Value<'_, '_>) -> Result<NonterminalData, TreeError>
-    ensures ok { IfOk result (λ n. view value.entry ≡ rule_form (rule_view n)) }
-    ensures err { IsErrOf result TreeError.NotATree → is shape.rule (view value.entry) ≡ false }
-{
-    let (mut rule, held) = without_alternatives(alloc, value)?;
-    rule.alternatives = list(alloc, held)?;
-    Ok(rule)
-}
-
-/// The rule of these alternatives whose form the value is with them.
-pub(super) fn rule_of(
-    alloc: Global,
-    value: Value<'_, '_>,
-    alternatives: Vec<Alternative>,
-) -> Result<NonterminalData, TreeError>
-    ensures ok { IfOk result (λ n. (ds : List Data) → all_data (λ a. Some (alternative_form (alternative_view a))) alternatives.items ≡ Some ds
-        → rule_form (rule_view n) ≡ with_list (codes "alternatives") ds (view value.entry)) }
-    ensures err { IsErrOf result TreeError.NotATree → (ds : List Data) → is shape.rule (with_list (codes "alternatives") ds (view value.entry)) ≡ false }
-{
-    // (`?` would move the rule once more)
-    match without_alternatives(alloc, value) {
-        Ok((rule, _)) => {
-            let mut whole = rule;
-            whole.alternatives = alternatives;
-            Ok(whole)
+    fn read<'a>(
+        alloc: Global,
+        first: Token<'a>,
+        reader: &mut Reader<'a>,
+        depth: usize,
+    ) -> Result<Option<Alternative>, ReadError> {
+        match read_record::<
+            Tree,
+            And<
+                Option<ActionKind>,
+                And<Vec<Attribute>, And<Option<Condition>, And<ExprSymbol, And<Span, End>>>>,
+            >,
+        >(
+            alloc,
+            &["action", "attributes", "condition", "expr", "span"],
+            first,
+            reader,
+            depth,
+        )? {
+            Some(fields) => {
+                let (action, (attributes, (condition, (expr, (span, ()))))) = fields;
+                Ok(Some(Alternative {
+                    span,
+                    expr,
+                    condition,
+                    action,
+                    attributes,
+                }))
+            }
+            None => Ok(None),
         }
-        Err(error) => Err(error),
+    }
+}
+
+impl Variant<Visibility> for Tree {
+    ghost use Rattle.lalrpop_norm_tree.specs.Items.{visibility_view};
+    ghost use Rattle.lalrpop_norm_json.specs.ItemForms.{visibility_form};
+    ghost use Rattle.lalrpop_norm_json.specs.Shapes as shape;
+    ghost use Rattle.lalrpop_norm_json.specs.Shapes.{is};
+    ghost use Rattle.lalrpop_norm_json.specs.Laws.{no_variant};
+
+    ghost form = { λ v. visibility_form (visibility_view v) };
+
+    ghost can = { is shape.visibility };
+
+    ghost law = { λ d other. no_variant _ _ d other };
+
+    fn bare(name: &str) -> Option<Visibility> {
+        match name {
+            "Priv" => Some(Visibility::Priv),
+            _ => None,
+        }
+    }
+
+    fn held<'a>(
+        alloc: Global,
+        name: &str,
+        first: Token<'a>,
+        reader: &mut Reader<'a>,
+        depth: usize,
+    ) -> Result<Option<Visibility>, ReadError> {
+        match name {
+            "Pub" => match <Tree as Reads<Option<Path>>>::read(alloc, first, reader, depth)? {
+                Some(read) => Ok(Some(Visibility::Pub(read))),
+                None => Ok(None),
+            },
+            "PubIn" => match <Tree as Reads<Path>>::read(alloc, first, reader, depth)? {
+                Some(read) => Ok(Some(Visibility::PubIn(read))),
+                None => Ok(None),
+            },
+            _ => {
+                pass(first, reader, depth)?;
+                Ok(None)
+            }
+        }
+    }
+}
+
+impl Reads<Visibility> for Tree {
+    ghost use Rattle.lalrpop_norm_tree.specs.Items.{visibility_view};
+    ghost use Rattle.lalrpop_norm_json.specs.ItemForms.{visibility_form};
+    ghost use Rattle.lalrpop_norm_json.specs.Shapes as shape;
+    ghost use Rattle.lalrpop_norm_json.specs.Shapes.{is};
+
+    ghost form = { λ v. visibility_form (visibility_view v) };
+
+    ghost can = { is shape.visibility };
+
+    fn read<'a>(
+        alloc: Global,
+        first: Token<'a>,
+        reader: &mut Reader<'a>,
+        depth: usize,
+    ) -> Result<Option<Visibility>, ReadError> {
+        read_variant::<Visibility, Tree>(alloc, first, reader, depth)
+    }
+}
+
+impl Reads<NonterminalData> for Tree {
+    ghost use Rattle.lalrpop_norm_tree.specs.Items.{rule_view};
+    ghost use Rattle.lalrpop_norm_json.specs.ItemForms.{rule_form};
+    ghost use Rattle.lalrpop_norm_json.specs.Shapes as shape;
+    ghost use Rattle.lalrpop_norm_json.specs.Shapes.{is};
+
+    ghost form = { λ n. rule_form (rule_view n) };
+
+    ghost can = { is shape.rule };
+
+    fn read<'a>(
+        alloc: Global,
+        first: Token<'a>,
+        reader: &mut Reader<'a>,
+        depth: usize,
+    ) -> Result<Option<NonterminalData>, ReadError> {
+        match read_record::<
+            Tree,
+            And<
+                Vec<Alternative>,
+                And<
+                    Vec<NonterminalString>,
+                    And<
+                        Vec<Attribute>,
+                        And<
+                            NonterminalString,
+                            And<Span, And<Option<TypeRef>, And<Visibility, End>>>,
+                        >,
+                    >,
+                >,
+            >,
+        >(
+            alloc,
+            &[
+                "alternatives",
+                "args",
+                "attributes",
+                "name",
+                "span",
+                "type_decl",
+                "visibility",
+            ],
+            first,
+            reader,
+            depth,
+        )? {
+            Some(fields) => {
+                let (
+                    alternatives,
+                    (args, (attributes, (name, (span, (type_decl, (visibility, ())))))),
+                ) = fields;
+                Ok(Some(NonterminalData {
+                    visibility,
+                    name,
+                    attributes,
+                    span,
+                    args,
+                    type_decl,
+                    alternatives,
+                }))
+            }
+            None => Ok(None),
+        }
     }
 }

@@ -1,217 +1,381 @@
 //! Match blocks and extern blocks.
-ghost use Rattle.std.specs.Prelude.{◌≡◌, codes, IfOk, IsErrOf, false};
-ghost use Rattle.json_document.specs.View.{view};
-ghost use Rattle.lalrpop_norm_tree.specs.Items.{enum_token_view, extern_token_view, match_token_view};
-ghost use Rattle.lalrpop_norm_json_shapes.specs.Shapes as shape;
-ghost use Rattle.lalrpop_norm_json_shapes.specs.Shapes.{is};
-ghost use Rattle.lalrpop_norm_json.specs.Json.{variant};
-ghost use Rattle.lalrpop_norm_json.specs.ItemForms.{enum_token_form, extern_token_form, mapping_form, match_item_form, match_token_form};
+ghost use Rattle.std.specs.Prelude.{◌≡◌, ◌≤◌, ◌∷◌, codes, length, None, IfOk, OnOk, IsErrOf};
+ghost use Rattle.json.specs.Reads.{token_of};
+ghost use Rattle.json_records.specs.Reading.{data_of, IsRead, IsReadUnder};
+ghost use Rattle.lalrpop_norm_json.specs.Shapes as shape;
+ghost use Rattle.lalrpop_norm_json.specs.Shapes.{is};
+ghost use Rattle.lalrpop_norm_json.specs.ItemForms.{match_item_form};
 
-use super::attributes::attributes;
-use super::names::{atom, literal, span, terminal};
-use super::parts::{FromValue, list, maybe};
-use super::patterns::pattern;
-use super::types::type_ref;
-use json_document::Value;
-use lalrpop_norm_json_shapes::{
-    Case, TreeError, case_of, four_fields, only_field, pair, three_fields, triple, two_fields,
+use super::Tree;
+use json::{Reader, Token};
+use json_records::{
+    And, End, ReadError, Reads, Variant, pass, read_pair, read_record, read_triple, read_variant,
 };
 use lalrpop_norm_tree::grammar::parse_tree::{
-    AssociatedType, Conversion, EnumToken, ExternToken, MatchContents, MatchItem, MatchMapping,
-    MatchToken,
+    AssociatedType, Atom, Attribute, Conversion, EnumToken, ExternToken, MatchContents, MatchItem,
+    MatchMapping, MatchToken, Span, TerminalLiteral, TerminalString, TypeRef,
 };
+use lalrpop_norm_tree::grammar::pattern::Pattern;
 use std::alloc::Global;
 
-#[tactic(auto, using(lalrpop_norm_json_shapes::proofs::Refusals::refusals))]
-fn mapping(alloc: Global, value: Value<'_, '_>) -> Result<MatchMapping, TreeError>
-    ensures ok { IfOk result (λ m. view value.entry ≡ mapping_form m) }
-    ensures err { IsErrOf result TreeError.NotATree → is shape.match_mapping (view value.entry) ≡ false }
-{
-    match case_of(value)? {
-        Case::Bare(variant) => match variant {
-            "Skip" => Ok(MatchMapping::Skip),
-            _ => Err(TreeError::NotATree),
-        },
-        Case::Of(variant, held) => match variant {
-            "Terminal" => Ok(MatchMapping::Terminal(terminal(alloc, held)?)),
-            _ => Err(TreeError::NotATree),
-        },
+impl Variant<MatchMapping> for Tree {
+    ghost use Rattle.lalrpop_norm_json.specs.ItemForms.{mapping_form};
+    ghost use Rattle.lalrpop_norm_json.specs.Shapes as shape;
+    ghost use Rattle.lalrpop_norm_json.specs.Shapes.{is};
+    ghost use Rattle.lalrpop_norm_json.specs.Laws.{no_variant};
+
+    ghost form = { mapping_form };
+
+    ghost can = { is shape.match_mapping };
+
+    ghost law = { λ d other. no_variant _ _ d other };
+
+    fn bare(name: &str) -> Option<MatchMapping> {
+        match name {
+            "Skip" => Some(MatchMapping::Skip),
+            _ => None,
+        }
     }
-}
 
-/// The item that stands for itself.
-#[tactic(auto, using(lalrpop_norm_json_shapes::proofs::Refusals::refusals))]
-fn unmapped(alloc: Global, value: Value<'_, '_>) -> Result<MatchItem, TreeError>
-    ensures ok { IfOk result (λ i. variant (codes "Unmapped") (view value.entry) ≡ match_item_form i) }
-    ensures err { IsErrOf result TreeError.NotATree → is shape.match_item (variant (codes "Unmapped") (view value.entry)) ≡ false }
-{
-    let (of, at) = pair(value)?;
-    let span = span(at)?;
-    Ok(MatchItem::Unmapped(literal(alloc, of)?, span))
-}
-
-/// The item that makes what is named beside it.
-#[tactic(auto, using(lalrpop_norm_json_shapes::proofs::Refusals::refusals))]
-fn mapped(alloc: Global, value: Value<'_, '_>) -> Result<MatchItem, TreeError>
-    ensures ok { IfOk result (λ i. variant (codes "Mapped") (view value.entry) ≡ match_item_form i) }
-    ensures err { IsErrOf result TreeError.NotATree → is shape.match_item (variant (codes "Mapped") (view value.entry)) ≡ false }
-{
-    let (of, to, at) = triple(value)?;
-    let span = span(at)?;
-    let literal = literal(alloc, of)?;
-    let mapping = mapping(alloc, to)?;
-    Ok(MatchItem::Mapped(literal, mapping, span))
-}
-
-impl FromValue for MatchItem {
-    ghost use Rattle.lalrpop_norm_json.specs.ItemForms.{match_item_form};
-    ghost use Rattle.lalrpop_norm_json_shapes.specs.Shapes as shape;
-
-    ghost form = { match_item_form };
-
-    ghost named = { shape.match_item };
-
-    #[tactic(auto, using(lalrpop_norm_json_shapes::proofs::Refusals::refusals))]
-    fn from_value(alloc: Global, value: Value<'_, '_>) -> Result<MatchItem, TreeError> {
-        match case_of(value)? {
-            Case::Bare(_) => Err(TreeError::NotATree),
-            Case::Of(variant, held) => match variant {
-                "CatchAll" => Ok(MatchItem::CatchAll(span(held)?)),
-                "Unmapped" => unmapped(alloc, held),
-                "Mapped" => mapped(alloc, held),
-                _ => Err(TreeError::NotATree),
+    fn held<'a>(
+        alloc: Global,
+        name: &str,
+        first: Token<'a>,
+        reader: &mut Reader<'a>,
+        depth: usize,
+    ) -> Result<Option<MatchMapping>, ReadError> {
+        match name {
+            "Terminal" => match <Tree as Reads<TerminalString>>::read(
+                alloc, first, reader, depth,
+            )? {
+                Some(read) => Ok(Some(MatchMapping::Terminal(read))),
+                None => Ok(None),
             },
+            _ => {
+                pass(first, reader, depth)?;
+                Ok(None)
+            }
         }
     }
 }
 
-impl FromValue for MatchContents {
+impl Reads<MatchMapping> for Tree {
+    ghost use Rattle.lalrpop_norm_json.specs.ItemForms.{mapping_form};
+    ghost use Rattle.lalrpop_norm_json.specs.Shapes as shape;
+    ghost use Rattle.lalrpop_norm_json.specs.Shapes.{is};
+
+    ghost form = { mapping_form };
+
+    ghost can = { is shape.match_mapping };
+
+    fn read<'a>(
+        alloc: Global,
+        first: Token<'a>,
+        reader: &mut Reader<'a>,
+        depth: usize,
+    ) -> Result<Option<MatchMapping>, ReadError> {
+        read_variant::<MatchMapping, Tree>(alloc, first, reader, depth)
+    }
+}
+
+/// The literal that stands for itself.
+fn unmapped<'a>(
+    alloc: Global,
+    first: Token<'a>,
+    reader: &mut Reader<'a>,
+    depth: usize,
+) -> Result<Option<MatchItem>, ReadError>
+    ensures ok { IfOk result (λ o. IsReadUnder (codes "Unmapped") (match_item_form) (is shape.match_item) depth (token_of first.entry ∷ reader.old) reader.new o) }
+    ensures err { IsErrOf result ReadError.NotJson → data_of depth (token_of first.entry ∷ reader.old) ≡ None }
+    ensures shorter { OnOk result (length reader.new ≤ length reader.old) }
+{
+    match read_pair::<TerminalLiteral, Span, Tree, Tree>(alloc, first, reader, depth)? {
+        Some((literal, span)) => Ok(Some(MatchItem::Unmapped(literal, span))),
+        None => Ok(None),
+    }
+}
+
+/// The literal with its mapping.
+fn mapped<'a>(
+    alloc: Global,
+    first: Token<'a>,
+    reader: &mut Reader<'a>,
+    depth: usize,
+) -> Result<Option<MatchItem>, ReadError>
+    ensures ok { IfOk result (λ o. IsReadUnder (codes "Mapped") (match_item_form) (is shape.match_item) depth (token_of first.entry ∷ reader.old) reader.new o) }
+    ensures err { IsErrOf result ReadError.NotJson → data_of depth (token_of first.entry ∷ reader.old) ≡ None }
+    ensures shorter { OnOk result (length reader.new ≤ length reader.old) }
+{
+    match read_triple::<TerminalLiteral, MatchMapping, Span, Tree, Tree, Tree>(
+        alloc, first, reader, depth,
+    )? {
+        Some((literal, mapping, span)) => Ok(Some(MatchItem::Mapped(literal, mapping, span))),
+        None => Ok(None),
+    }
+}
+
+impl Variant<MatchItem> for Tree {
+    ghost use Rattle.lalrpop_norm_json.specs.ItemForms.{match_item_form};
+    ghost use Rattle.lalrpop_norm_json.specs.Shapes as shape;
+    ghost use Rattle.lalrpop_norm_json.specs.Shapes.{is};
+    ghost use Rattle.lalrpop_norm_json.specs.Laws.{no_variant};
+
+    ghost form = { match_item_form };
+
+    ghost can = { is shape.match_item };
+
+    ghost law = { λ d other. no_variant _ _ d other };
+
+    fn bare(_name: &str) -> Option<MatchItem> {
+        None
+    }
+
+    fn held<'a>(
+        alloc: Global,
+        name: &str,
+        first: Token<'a>,
+        reader: &mut Reader<'a>,
+        depth: usize,
+    ) -> Result<Option<MatchItem>, ReadError> {
+        match name {
+            "CatchAll" => match <Tree as Reads<Span>>::read(alloc, first, reader, depth)? {
+                Some(read) => Ok(Some(MatchItem::CatchAll(read))),
+                None => Ok(None),
+            },
+            "Unmapped" => unmapped(alloc, first, reader, depth),
+            "Mapped" => mapped(alloc, first, reader, depth),
+            _ => {
+                pass(first, reader, depth)?;
+                Ok(None)
+            }
+        }
+    }
+}
+
+impl Reads<MatchItem> for Tree {
+    ghost use Rattle.lalrpop_norm_json.specs.ItemForms.{match_item_form};
+    ghost use Rattle.lalrpop_norm_json.specs.Shapes as shape;
+    ghost use Rattle.lalrpop_norm_json.specs.Shapes.{is};
+
+    ghost form = { match_item_form };
+
+    ghost can = { is shape.match_item };
+
+    fn read<'a>(
+        alloc: Global,
+        first: Token<'a>,
+        reader: &mut Reader<'a>,
+        depth: usize,
+    ) -> Result<Option<MatchItem>, ReadError> {
+        read_variant::<MatchItem, Tree>(alloc, first, reader, depth)
+    }
+}
+
+impl Reads<MatchContents> for Tree {
     ghost use Rattle.lalrpop_norm_tree.specs.Items.{match_contents_view};
     ghost use Rattle.lalrpop_norm_json.specs.ItemForms.{match_contents_form};
-    ghost use Rattle.lalrpop_norm_json_shapes.specs.Shapes as shape;
+    ghost use Rattle.lalrpop_norm_json.specs.Shapes as shape;
+    ghost use Rattle.lalrpop_norm_json.specs.Shapes.{is};
 
     ghost form = { λ c. match_contents_form (match_contents_view c) };
 
-    ghost named = { shape.match_contents };
+    ghost can = { is shape.match_contents };
 
-    #[tactic(auto, using(lalrpop_norm_json_shapes::proofs::Refusals::refusals))]
-    fn from_value(alloc: Global, value: Value<'_, '_>) -> Result<MatchContents, TreeError> {
-        let items = list(alloc, only_field(value, "items")?)?;
-        Ok(MatchContents { items })
+    fn read<'a>(
+        alloc: Global,
+        first: Token<'a>,
+        reader: &mut Reader<'a>,
+        depth: usize,
+    ) -> Result<Option<MatchContents>, ReadError> {
+        match read_record::<Tree, And<Vec<MatchItem>, End>>(
+            alloc,
+            &["items"],
+            first,
+            reader,
+            depth,
+        )? {
+            Some((items, ())) => Ok(Some(MatchContents { items })),
+            None => Ok(None),
+        }
     }
 }
 
-#[tactic(auto, using(lalrpop_norm_json_shapes::proofs::Refusals::refusals))]
-pub(super) fn match_token(alloc: Global, value: Value<'_, '_>) -> Result<MatchToken, TreeError>
-    ensures ok { IfOk result (λ m. view value.entry ≡ match_token_form (match_token_view m)) }
-    ensures err { IsErrOf result TreeError.NotATree → is shape.match_token (view value.entry) ≡ false }
-{
-    let (contents, at) = two_fields(value, "contents", "span")?;
-    let span = span(at)?;
-    let contents = list(alloc, contents)?;
-    Ok(MatchToken { contents, span })
+impl Reads<MatchToken> for Tree {
+    ghost use Rattle.lalrpop_norm_tree.specs.Items.{match_token_view};
+    ghost use Rattle.lalrpop_norm_json.specs.ItemForms.{match_token_form};
+    ghost use Rattle.lalrpop_norm_json.specs.Shapes as shape;
+    ghost use Rattle.lalrpop_norm_json.specs.Shapes.{is};
+
+    ghost form = { λ m. match_token_form (match_token_view m) };
+
+    ghost can = { is shape.match_token };
+
+    fn read<'a>(
+        alloc: Global,
+        first: Token<'a>,
+        reader: &mut Reader<'a>,
+        depth: usize,
+    ) -> Result<Option<MatchToken>, ReadError> {
+        match read_record::<Tree, And<Vec<MatchContents>, And<Span, End>>>(
+            alloc,
+            &["contents", "span"],
+            first,
+            reader,
+            depth,
+        )? {
+            Some(fields) => {
+                let (contents, (span, ())) = fields;
+                Ok(Some(MatchToken { contents, span }))
+            }
+            None => Ok(None),
+        }
+    }
 }
 
-impl FromValue for Conversion {
+impl Reads<Conversion> for Tree {
     ghost use Rattle.lalrpop_norm_tree.specs.Items.{conversion_view};
     ghost use Rattle.lalrpop_norm_json.specs.ItemForms.{conversion_form};
-    ghost use Rattle.lalrpop_norm_json_shapes.specs.Shapes as shape;
+    ghost use Rattle.lalrpop_norm_json.specs.Shapes as shape;
+    ghost use Rattle.lalrpop_norm_json.specs.Shapes.{is};
 
     ghost form = { λ c. conversion_form (conversion_view c) };
 
-    ghost named = { shape.conversion };
+    ghost can = { is shape.conversion };
 
-    #[tactic(auto, using(lalrpop_norm_json_shapes::proofs::Refusals::refusals))]
-    fn from_value(alloc: Global, value: Value<'_, '_>) -> Result<Conversion, TreeError> {
-        let (listed, from, at, to) = four_fields(value, "attributes", "from", "span", "to")?;
-        let span = span(at)?;
-        let from = terminal(alloc, from)?;
-        let attributes = attributes(alloc, listed)?;
-        let to = pattern(alloc, to)?;
-        Ok(Conversion {
-            span,
-            attributes,
-            from,
-            to,
-        })
+    fn read<'a>(
+        alloc: Global,
+        first: Token<'a>,
+        reader: &mut Reader<'a>,
+        depth: usize,
+    ) -> Result<Option<Conversion>, ReadError> {
+        match read_record::<
+            Tree,
+            And<Vec<Attribute>, And<TerminalString, And<Span, And<Pattern<TypeRef>, End>>>>,
+        >(
+            alloc,
+            &["attributes", "from", "span", "to"],
+            first,
+            reader,
+            depth,
+        )? {
+            Some(fields) => {
+                let (attributes, (from, (span, (to, ())))) = fields;
+                Ok(Some(Conversion {
+                    span,
+                    attributes,
+                    from,
+                    to,
+                }))
+            }
+            None => Ok(None),
+        }
     }
 }
 
-#[tactic(auto, using(lalrpop_norm_json_shapes::proofs::Refusals::refusals))]
-fn enum_token(alloc: Global, value: Value<'_, '_>) -> Result<EnumToken, TreeError>
-    ensures ok { IfOk result (λ e. view value.entry ≡ enum_token_form (enum_token_view e)) }
-    ensures err { IsErrOf result TreeError.NotATree → is shape.enum_token (view value.entry) ≡ false }
-{
-    let (conversions, type_name, at) = three_fields(
-        value,
-        "conversions",
-        "type_name",
-        "type_span",
-    )?;
-    let type_span = span(at)?;
-    let type_name = type_ref(alloc, type_name)?;
-    let conversions = list(alloc, conversions)?;
-    Ok(EnumToken {
-        type_name,
-        type_span,
-        conversions,
-    })
-}
-
-impl FromValue for EnumToken {
+impl Reads<EnumToken> for Tree {
     ghost use Rattle.lalrpop_norm_tree.specs.Items.{enum_token_view};
     ghost use Rattle.lalrpop_norm_json.specs.ItemForms.{enum_token_form};
-    ghost use Rattle.lalrpop_norm_json_shapes.specs.Shapes as shape;
+    ghost use Rattle.lalrpop_norm_json.specs.Shapes as shape;
+    ghost use Rattle.lalrpop_norm_json.specs.Shapes.{is};
 
     ghost form = { λ e. enum_token_form (enum_token_view e) };
 
-    ghost named = { shape.enum_token };
+    ghost can = { is shape.enum_token };
 
-    fn from_value(alloc: Global, value: Value<'_, '_>) -> Result<EnumToken, TreeError> {
-        enum_token(alloc, value)
+    fn read<'a>(
+        alloc: Global,
+        first: Token<'a>,
+        reader: &mut Reader<'a>,
+        depth: usize,
+    ) -> Result<Option<EnumToken>, ReadError> {
+        match read_record::<Tree, And<Vec<Conversion>, And<TypeRef, And<Span, End>>>>(
+            alloc,
+            &["conversions", "type_name", "type_span"],
+            first,
+            reader,
+            depth,
+        )? {
+            Some(fields) => {
+                let (conversions, (type_name, (type_span, ()))) = fields;
+                Ok(Some(EnumToken {
+                    type_name,
+                    type_span,
+                    conversions,
+                }))
+            }
+            None => Ok(None),
+        }
     }
 }
 
-impl FromValue for AssociatedType {
+impl Reads<AssociatedType> for Tree {
     ghost use Rattle.lalrpop_norm_tree.specs.Items.{associated_type_view};
     ghost use Rattle.lalrpop_norm_json.specs.ItemForms.{associated_type_form};
-    ghost use Rattle.lalrpop_norm_json_shapes.specs.Shapes as shape;
+    ghost use Rattle.lalrpop_norm_json.specs.Shapes as shape;
+    ghost use Rattle.lalrpop_norm_json.specs.Shapes.{is};
 
     ghost form = { λ a. associated_type_form (associated_type_view a) };
 
-    ghost named = { shape.associated_type };
+    ghost can = { is shape.associated_type };
 
-    #[tactic(auto, using(lalrpop_norm_json_shapes::proofs::Refusals::refusals))]
-    fn from_value(alloc: Global, value: Value<'_, '_>) -> Result<AssociatedType, TreeError> {
-        let (name, of, at) = three_fields(value, "type_name", "type_ref", "type_span")?;
-        let type_span = span(at)?;
-        let type_name = atom(alloc, name)?;
-        let type_ref = type_ref(alloc, of)?;
-        Ok(AssociatedType {
-            type_span,
-            type_name,
-            type_ref,
-        })
+    fn read<'a>(
+        alloc: Global,
+        first: Token<'a>,
+        reader: &mut Reader<'a>,
+        depth: usize,
+    ) -> Result<Option<AssociatedType>, ReadError> {
+        match read_record::<Tree, And<Atom, And<TypeRef, And<Span, End>>>>(
+            alloc,
+            &["type_name", "type_ref", "type_span"],
+            first,
+            reader,
+            depth,
+        )? {
+            Some(fields) => {
+                let (type_name, (type_ref, (type_span, ()))) = fields;
+                Ok(Some(AssociatedType {
+                    type_span,
+                    type_name,
+                    type_ref,
+                }))
+            }
+            None => Ok(None),
+        }
     }
 }
 
-#[tactic(auto, using(lalrpop_norm_json_shapes::proofs::Refusals::refusals))]
-pub(super) fn extern_token(alloc: Global, value: Value<'_, '_>) -> Result<ExternToken, TreeError>
-    ensures ok { IfOk result (λ t. view value.entry ≡ extern_token_form (extern_token_view t)) }
-    ensures err { IsErrOf result TreeError.NotATree → is shape.extern_token (view value.entry) ≡ false }
-{
-    let (associated, enum_token, at) = three_fields(
-        value,
-        "associated_types",
-        "enum_token",
-        "span",
-    )?;
-    let span = span(at)?;
-    let associated_types = list(alloc, associated)?;
-    let enum_token = maybe(alloc, enum_token)?;
-    Ok(ExternToken {
-        span,
-        associated_types,
-        enum_token,
-    })
+impl Reads<ExternToken> for Tree {
+    ghost use Rattle.lalrpop_norm_tree.specs.Items.{extern_token_view};
+    ghost use Rattle.lalrpop_norm_json.specs.ItemForms.{extern_token_form};
+    ghost use Rattle.lalrpop_norm_json.specs.Shapes as shape;
+    ghost use Rattle.lalrpop_norm_json.specs.Shapes.{is};
+
+    ghost form = { λ t. extern_token_form (extern_token_view t) };
+
+    ghost can = { is shape.extern_token };
+
+    fn read<'a>(
+        alloc: Global,
+        first: Token<'a>,
+        reader: &mut Reader<'a>,
+        depth: usize,
+    ) -> Result<Option<ExternToken>, ReadError> {
+        match read_record::<Tree, And<Vec<AssociatedType>, And<Option<EnumToken>, And<Span, End>>>>(
+            alloc,
+            &["associated_types", "enum_token", "span"],
+            first,
+            reader,
+            depth,
+        )? {
+            Some(fields) => {
+                let (associated_types, (enum_token, (span, ()))) = fields;
+                Ok(Some(ExternToken {
+                    span,
+                    associated_types,
+                    enum_token,
+                }))
+            }
+            None => Ok(None),
+        }
+    }
 }

@@ -1,168 +1,374 @@
 //! Written types.
-ghost use Rattle.std.specs.Prelude.{◌≡◌, [], ◌∷◌, codes, option_map, IfOk, IsErrOf, false};
-ghost use Rattle.serde_json.specs.Data.{array};
-ghost use Rattle.json_document.specs.View.{view};
+ghost use Rattle.std.specs.Prelude.{◌≡◌, ◌≤◌, [], ◌∷◌, codes, map, length, None, IfOk, OnOk, IsErrOf};
+ghost use Rattle.json.specs.Reads.{token_of};
+ghost use Rattle.serde_json.specs.Data.{string};
+ghost use Rattle.json_records.specs.Reading.{data_of, list_form, is_list, may_be, maybe_form, IsRead, IsReadUnder};
+ghost use Rattle.json_records.specs.Rows.{is_row};
+ghost use Rattle.json_records.specs.Variants.{Made};
+ghost use Rattle.lalrpop_norm_json.specs.Shapes as shape;
+ghost use Rattle.lalrpop_norm_json.specs.Shapes.{is};
 ghost use Rattle.lalrpop_norm_tree_parts.specs.Paths.{path_view};
-ghost use Rattle.lalrpop_norm_tree.specs.Types.{type_view, types_view, maybe_of};
-ghost use Rattle.lalrpop_norm_json_shapes.specs.Shapes as shape;
-ghost use Rattle.lalrpop_norm_json_shapes.specs.Shapes.{is, fits, slot, one, many, maybe, struct};
-ghost use Rattle.lalrpop_norm_json.specs.Json.{fields, variant};
+ghost use Rattle.lalrpop_norm_tree.specs.Types.{type_view};
+ghost use Rattle.lalrpop_norm_json.specs.Json.{fields};
+ghost use Rattle.lalrpop_norm_json.specs.Shapes.{fits, one, many, struct};
 ghost use Rattle.lalrpop_norm_json.specs.Forms.{path_form};
-ghost use Rattle.lalrpop_norm_json.specs.TypeForms.{type_form, types_form, maybe_type_form};
+ghost use Rattle.lalrpop_norm_json.specs.TypeForms.{type_form};
 
-use super::names::{atom, path};
-use super::parts::{FromValue, list, maybe};
-use super::symbols::kind;
-use json_document::Value;
-use lalrpop_norm_json_shapes::{
-    Case, TreeError, case_of, counted_items, four_fields, present, three_fields, truth, two_fields,
+use super::Tree;
+use json::{Reader, Token};
+use json_records::{
+    And, End, ReadError, Reads, fitted, is_other, next_item, next_member, open_array, open_object,
+    pass, push, read_record,
 };
-use lalrpop_norm_tree::grammar::parse_tree::{Lifetime, Parameter, Path, TypeRef};
+use lalrpop_norm_tree::grammar::parse_tree::{
+    Atom, Lifetime, Parameter, Path, SymbolKind, TypeParameter, TypeRef,
+};
 use std::alloc::Global;
 
-impl FromValue for TypeRef {
-    ghost use Rattle.lalrpop_norm_tree.specs.Types.{type_view};
-    ghost use Rattle.lalrpop_norm_json.specs.TypeForms.{type_form};
-    ghost use Rattle.lalrpop_norm_json_shapes.specs.Shapes as shape;
-
-    ghost form = { λ t. type_form (type_view t) };
-
-    ghost named = { shape.type };
-
-    fn from_value(alloc: Global, value: Value<'_, '_>) -> Result<TypeRef, TreeError> {
-        type_ref(alloc, value)
-    }
-}
-
-impl FromValue for Parameter {
-    ghost use Rattle.lalrpop_norm_tree.specs.Types.{parameter_view};
-    ghost use Rattle.lalrpop_norm_json.specs.TypeForms.{parameter_form};
-    ghost use Rattle.lalrpop_norm_json_shapes.specs.Shapes as shape;
-
-    ghost form = { λ p. parameter_form (parameter_view p) };
-
-    ghost named = { shape.parameter };
-
-    #[tactic(auto, using(lalrpop_norm_json_shapes::proofs::Refusals::refusals))]
-    fn from_value(alloc: Global, value: Value<'_, '_>) -> Result<Parameter, TreeError> {
-        let (name, of) = two_fields(value, "name", "ty")?;
-        let name = atom(alloc, name)?;
-        let ty = type_ref(alloc, of)?;
-        Ok(Parameter { name, ty })
-    }
-}
-
 #[cycle(type_ref)]
-#[tactic(auto, using(lalrpop_norm_json_shapes::proofs::Refusals::refusals))]
-pub(super) fn type_ref(alloc: Global, value: Value<'_, '_>) -> Result<TypeRef, TreeError>
-    ensures ok { IfOk result (λ t. view value.entry ≡ type_form (type_view t)) }
-    ensures err { IsErrOf result TreeError.NotATree → is shape.type (view value.entry) ≡ false }
+fn type_ref<'a>(
+    alloc: Global,
+    first: Token<'a>,
+    reader: &mut Reader<'a>,
+    depth: usize,
+) -> Result<Option<TypeRef>, ReadError>
+    ensures ok { IfOk result (λ o. IsRead (λ t. type_form (type_view t)) (is shape.type) depth (token_of first.entry ∷ reader.old) reader.new o) }
+    ensures err { IsErrOf result ReadError.NotJson → data_of depth (token_of first.entry ∷ reader.old) ≡ None }
+    ensures shorter { OnOk result (length reader.new ≤ length reader.old) }
 {
-    match case_of(value)? {
-        Case::Bare(_) => Err(TreeError::NotATree),
-        Case::Of(variant, held) => match variant {
-            "Tuple" => Ok(TypeRef::Tuple(type_refs(alloc, held)?)),
-            "Slice" => Ok(TypeRef::Slice(Box::new(alloc, type_ref(alloc, held)?)?)),
-            "Nominal" => {
-                let (path, types) = path_and_types(alloc, held)?;
-                Ok(TypeRef::Nominal { path, types })
-            }
-            "Ref" => reference_type(alloc, held),
-            "TraitObject" => {
-                let (path, types) = path_and_types(alloc, held)?;
-                Ok(TypeRef::TraitObject { path, types })
-            }
-            "Lifetime" => Ok(TypeRef::Lifetime(Lifetime(atom(alloc, held)?))),
-            "Id" => Ok(TypeRef::Id(atom(alloc, held)?)),
-            "OfSymbol" => Ok(TypeRef::OfSymbol(kind(alloc, held)?)),
-            "Fn" => function_type(alloc, held),
-            _ => Err(TreeError::NotATree),
+    let Some(depth) = open_object(first, reader, depth)? else {
+        return Ok(None);
+    };
+    let mut read = None;
+    let mut before = None;
+    let mut strays = false;
+    while let Some((name, first)) = next_member(reader)? {
+        if is_other(before, name) {
+            pass(first, reader, depth)?;
+            strays = true;
+        } else {
+            read = type_of(alloc, name, first, reader, depth)?;
+            before = Some(name);
+        }
+    }
+    if strays {
+        return Ok(None);
+    }
+    Ok(read)
+}
+
+/// The type of that variant, over a value.
+#[cycle(type_ref)]
+fn type_of<'a>(
+    alloc: Global,
+    name: &str,
+    first: Token<'a>,
+    reader: &mut Reader<'a>,
+    depth: usize,
+) -> Result<Option<TypeRef>, ReadError>
+    ensures ok { IfOk result (λ o. IsReadUnder name.now (λ t. type_form (type_view t)) (is shape.type) depth (token_of first.entry ∷ reader.old) reader.new o) }
+    ensures err { IsErrOf result ReadError.NotJson → data_of depth (token_of first.entry ∷ reader.old) ≡ None }
+    ensures shorter { OnOk result (length reader.new ≤ length reader.old) }
+{
+    match name {
+        "Tuple" => match type_refs(alloc, first, reader, depth)? {
+            Some(read) => Ok(Some(TypeRef::Tuple(read))),
+            None => Ok(None),
         },
+        "Slice" => slice_type(alloc, first, reader, depth),
+        "Nominal" => match path_and_types(alloc, first, reader, depth)? {
+            Some((path, types)) => Ok(Some(TypeRef::Nominal { path, types })),
+            None => Ok(None),
+        },
+        "Ref" => reference_type(alloc, first, reader, depth),
+        "TraitObject" => match path_and_types(alloc, first, reader, depth)? {
+            Some((path, types)) => Ok(Some(TypeRef::TraitObject { path, types })),
+            None => Ok(None),
+        },
+        "Lifetime" => match <Tree as Reads<Lifetime>>::read(alloc, first, reader, depth)? {
+            Some(read) => Ok(Some(TypeRef::Lifetime(read))),
+            None => Ok(None),
+        },
+        "Id" => match <Tree as Reads<Atom>>::read(alloc, first, reader, depth)? {
+            Some(read) => Ok(Some(TypeRef::Id(read))),
+            None => Ok(None),
+        },
+        "OfSymbol" => match <Tree as Reads<SymbolKind>>::read(alloc, first, reader, depth)? {
+            Some(read) => Ok(Some(TypeRef::OfSymbol(read))),
+            None => Ok(None),
+        },
+        "Fn" => function_type(alloc, first, reader, depth),
+        _ => {
+            pass(first, reader, depth)?;
+            Ok(None)
+        }
+    }
+}
+
+/// The slice of a type.
+#[cycle(type_ref)]
+fn slice_type<'a>(
+    alloc: Global,
+    first: Token<'a>,
+    reader: &mut Reader<'a>,
+    depth: usize,
+) -> Result<Option<TypeRef>, ReadError>
+    ensures ok { IfOk result (λ o. IsReadUnder (codes "Slice") (λ t. type_form (type_view t)) (is shape.type) depth (token_of first.entry ∷ reader.old) reader.new o) }
+    ensures err { IsErrOf result ReadError.NotJson → data_of depth (token_of first.entry ∷ reader.old) ≡ None }
+    ensures shorter { OnOk result (length reader.new ≤ length reader.old) }
+{
+    match type_ref(alloc, first, reader, depth)? {
+        Some(of) => Ok(Some(TypeRef::Slice(Box::new(alloc, of)?))),
+        None => Ok(None),
     }
 }
 
 /// What a named type and a trait object hold.
 #[cycle(type_ref)]
-#[tactic(auto, using(lalrpop_norm_json_shapes::proofs::Refusals::refusals))]
-fn path_and_types(alloc: Global, value: Value<'_, '_>) -> Result<(Path, Vec<TypeRef>), TreeError>
-    ensures ok { IfOk result (λ p. view value.entry ≡
-        fields ((codes "path", path_form (path_view p.0)) ∷ (codes "types", array (types_form (types_view p.1.items))) ∷ [])) }
-    ensures err { IsErrOf result TreeError.NotATree →
-        fits (struct ((codes "path", one shape.path) ∷ (codes "types", many shape.type) ∷ [])) (view value.entry) ≡ false }
+fn path_and_types<'a>(
+    alloc: Global,
+    first: Token<'a>,
+    reader: &mut Reader<'a>,
+    depth: usize,
+) -> Result<Option<(Path, Vec<TypeRef>)>, ReadError>
+    ensures ok { IfOk result (λ o. IsRead (λ p. fields ((codes "path", path_form (path_view p.0)) ∷ (codes "types", list_form (map (λ t. type_form (type_view t)) p.1.items)) ∷ [])) (fits (struct ((codes "path", one shape.path) ∷ (codes "types", many shape.type) ∷ []))) depth (token_of first.entry ∷ reader.old) reader.new o) }
+    ensures err { IsErrOf result ReadError.NotJson → data_of depth (token_of first.entry ∷ reader.old) ≡ None }
+    ensures shorter { OnOk result (length reader.new ≤ length reader.old) }
 {
-    let (named, arguments) = two_fields(value, "path", "types")?;
-    let path = path(alloc, named)?;
-    let types = type_refs(alloc, arguments)?;
-    Ok((path, types))
+    let Some(depth) = open_object(first, reader, depth)? else {
+        return Ok(None);
+    };
+    let mut path = None;
+    let mut types = None;
+    let mut strays = false;
+    while let Some((key, first)) = next_member(reader)? {
+        match key {
+            "path" => path = <Tree as Reads<Path>>::read(alloc, first, reader, depth)?,
+            "types" => types = type_refs(alloc, first, reader, depth)?,
+            _ => {
+                pass(first, reader, depth)?;
+                strays = true;
+            }
+        }
+    }
+    if strays {
+        return Ok(None);
+    }
+    let Some(path) = path else {
+        return Ok(None);
+    };
+    let Some(types) = types else {
+        return Ok(None);
+    };
+    Ok(Some((path, types)))
 }
 
 /// The reference whose fields these are.
 #[cycle(type_ref)]
-#[tactic(auto, using(lalrpop_norm_json_shapes::proofs::Refusals::refusals))]
-fn reference_type(alloc: Global, value: Value<'_, '_>) -> Result<TypeRef, TreeError>
-    ensures ok { IfOk result (λ t. variant (codes "Ref") (view value.entry) ≡ type_form (type_view t)) }
-    ensures err { IsErrOf result TreeError.NotATree → is shape.type (variant (codes "Ref") (view value.entry)) ≡ false }
+fn reference_type<'a>(
+    alloc: Global,
+    first: Token<'a>,
+    reader: &mut Reader<'a>,
+    depth: usize,
+) -> Result<Option<TypeRef>, ReadError>
+    ensures ok { IfOk result (λ o. IsReadUnder (codes "Ref") (λ t. type_form (type_view t)) (is shape.type) depth (token_of first.entry ∷ reader.old) reader.new o) }
+    ensures err { IsErrOf result ReadError.NotJson → data_of depth (token_of first.entry ∷ reader.old) ≡ None }
+    ensures shorter { OnOk result (length reader.new ≤ length reader.old) }
 {
-    let (lifetime, mutable, referent) = three_fields(value, "lifetime", "mutable", "referent")?;
-    let mutable = truth(mutable)?;
-    let lifetime = maybe(alloc, lifetime)?;
-    let referent = type_ref(alloc, referent)?;
-    Ok(TypeRef::Ref {
+    let Some(depth) = open_object(first, reader, depth)? else {
+        return Ok(None);
+    };
+    let mut lifetime = None;
+    let mut mutable = None;
+    let mut referent = None;
+    let mut strays = false;
+    while let Some((key, first)) = next_member(reader)? {
+        match key {
+            "lifetime" => lifetime = <Tree as Reads<Option<Lifetime>>>::read(
+                alloc, first, reader, depth,
+            )?,
+            "mutable" => mutable = <Tree as Reads<bool>>::read(alloc, first, reader, depth)?,
+            "referent" => referent = type_ref(alloc, first, reader, depth)?,
+            _ => {
+                pass(first, reader, depth)?;
+                strays = true;
+            }
+        }
+    }
+    if strays {
+        return Ok(None);
+    }
+    let Some(lifetime) = lifetime else {
+        return Ok(None);
+    };
+    let Some(mutable) = mutable else {
+        return Ok(None);
+    };
+    let Some(referent) = referent else {
+        return Ok(None);
+    };
+    Ok(Some(TypeRef::Ref {
         lifetime,
         mutable,
         referent: Box::new(alloc, referent)?,
-    })
+    }))
 }
 
 /// The function type whose fields these are.
 #[cycle(type_ref)]
-#[tactic(auto, using(lalrpop_norm_json_shapes::proofs::Refusals::refusals))]
-fn function_type(alloc: Global, value: Value<'_, '_>) -> Result<TypeRef, TreeError>
-    ensures ok { IfOk result (λ t. variant (codes "Fn") (view value.entry) ≡ type_form (type_view t)) }
-    ensures err { IsErrOf result TreeError.NotATree → is shape.type (variant (codes "Fn") (view value.entry)) ≡ false }
+fn function_type<'a>(
+    alloc: Global,
+    first: Token<'a>,
+    reader: &mut Reader<'a>,
+    depth: usize,
+) -> Result<Option<TypeRef>, ReadError>
+    ensures ok { IfOk result (λ o. IsReadUnder (codes "Fn") (λ t. type_form (type_view t)) (is shape.type) depth (token_of first.entry ∷ reader.old) reader.new o) }
+    ensures err { IsErrOf result ReadError.NotJson → data_of depth (token_of first.entry ∷ reader.old) ≡ None }
+    ensures shorter { OnOk result (length reader.new ≤ length reader.old) }
 {
-    let (forall, parameters, named, ret) = four_fields(
-        value,
-        "forall",
-        "parameters",
-        "path",
-        "ret",
-    )?;
-    let forall = list(alloc, forall)?;
-    let parameters = type_refs(alloc, parameters)?;
-    let path = path(alloc, named)?;
-    let ret = maybe_type_ref(alloc, ret)?;
-    Ok(TypeRef::Fn {
+    let Some(depth) = open_object(first, reader, depth)? else {
+        return Ok(None);
+    };
+    let mut forall = None;
+    let mut parameters = None;
+    let mut path = None;
+    let mut ret = None;
+    let mut strays = false;
+    while let Some((key, first)) = next_member(reader)? {
+        match key {
+            "forall" => forall = <Tree as Reads<Vec<TypeParameter>>>::read(
+                alloc, first, reader, depth,
+            )?,
+            "parameters" => parameters = type_refs(alloc, first, reader, depth)?,
+            "path" => path = <Tree as Reads<Path>>::read(alloc, first, reader, depth)?,
+            "ret" => ret = maybe_type_ref(alloc, first, reader, depth)?,
+            _ => {
+                pass(first, reader, depth)?;
+                strays = true;
+            }
+        }
+    }
+    if strays {
+        return Ok(None);
+    }
+    let Some(forall) = forall else {
+        return Ok(None);
+    };
+    let Some(parameters) = parameters else {
+        return Ok(None);
+    };
+    let Some(path) = path else {
+        return Ok(None);
+    };
+    let Some(ret) = ret else {
+        return Ok(None);
+    };
+    Ok(Some(TypeRef::Fn {
         forall,
         path,
         parameters,
         ret,
-    })
+    }))
 }
 
 /// Null, or a type.
 #[cycle(type_ref)]
-#[tactic(auto, using(lalrpop_norm_json_shapes::proofs::Refusals::refusals))]
-fn maybe_type_ref(alloc: Global, value: Value<'_, '_>) -> Result<Option<Box<TypeRef>>, TreeError>
-    ensures ok { IfOk result (λ o. view value.entry ≡ maybe_type_form (maybe_of (option_map (λ b. type_view b.value) o))) }
-    ensures err { IsErrOf result TreeError.NotATree → fits (slot (maybe shape.type)) (view value.entry) ≡ false }
+fn maybe_type_ref<'a>(
+    alloc: Global,
+    first: Token<'a>,
+    reader: &mut Reader<'a>,
+    depth: usize,
+) -> Result<Option<Option<Box<TypeRef>>>, ReadError>
+    ensures ok { IfOk result (λ o. IsRead (maybe_form (λ b. type_form (type_view b.value))) (may_be (is shape.type)) depth (token_of first.entry ∷ reader.old) reader.new o) }
+    ensures err { IsErrOf result ReadError.NotJson → data_of depth (token_of first.entry ∷ reader.old) ≡ None }
+    ensures shorter { OnOk result (length reader.new ≤ length reader.old) }
 {
-    match present(value) {
+    if let Token::Null = first {
+        return Ok(Some(None));
+    }
+    match type_ref(alloc, first, reader, depth)? {
+        Some(of) => Ok(Some(Some(Box::new(alloc, of)?))),
         None => Ok(None),
-        Some(value) => Ok(Some(Box::new(alloc, type_ref(alloc, value)?)?)),
     }
 }
 
 #[cycle(type_ref)]
-#[tactic(auto, using(lalrpop_norm_json_shapes::proofs::Refusals::refusals))]
-fn type_refs(alloc: Global, value: Value<'_, '_>) -> Result<Vec<TypeRef>, TreeError>
-    ensures ok { IfOk result (λ ts. view value.entry ≡ array (types_form (types_view ts.items))) }
-    ensures err { IsErrOf result TreeError.NotATree → fits (slot (many shape.type)) (view value.entry) ≡ false }
+fn type_refs<'a>(
+    alloc: Global,
+    first: Token<'a>,
+    reader: &mut Reader<'a>,
+    depth: usize,
+) -> Result<Option<Vec<TypeRef>>, ReadError>
+    ensures ok { IfOk result (λ o. IsRead (λ xs. list_form (map (λ t. type_form (type_view t)) xs.items)) (is_list (is shape.type)) depth (token_of first.entry ∷ reader.old) reader.new o) }
+    ensures err { IsErrOf result ReadError.NotJson → data_of depth (token_of first.entry ∷ reader.old) ≡ None }
+    ensures shorter { OnOk result (length reader.new ≤ length reader.old) }
 {
-    let (count, mut values) = counted_items(value)?;
-    let mut types = Vec::with_capacity(alloc, count)?;
-    while let Some(element) = values.next() {
-        types.push(type_ref(alloc, element)?)?;
+    let Some(depth) = open_array(first, reader, depth)? else {
+        return Ok(None);
+    };
+    let mut list = Vec::new(alloc);
+    let mut good = true;
+    while let Some(first) = next_item(reader)? {
+        match type_ref(alloc, first, reader, depth)? {
+            Some(item) => push(&mut list, item)?,
+            None => good = false,
+        }
     }
-    Ok(types)
+    if good {
+        Ok(Some(fitted(list)?))
+    } else {
+        Ok(None)
+    }
+}
+
+impl Reads<TypeRef> for Tree {
+    ghost use Rattle.lalrpop_norm_tree.specs.Types.{type_view};
+    ghost use Rattle.lalrpop_norm_json.specs.TypeForms.{type_form};
+    ghost use Rattle.lalrpop_norm_json.specs.Shapes as shape;
+    ghost use Rattle.lalrpop_norm_json.specs.Shapes.{is};
+
+    ghost form = { λ t. type_form (type_view t) };
+
+    ghost can = { is shape.type };
+
+    fn read<'a>(
+        alloc: Global,
+        first: Token<'a>,
+        reader: &mut Reader<'a>,
+        depth: usize,
+    ) -> Result<Option<TypeRef>, ReadError> {
+        type_ref(alloc, first, reader, depth)
+    }
+}
+
+impl Reads<Parameter> for Tree {
+    ghost use Rattle.lalrpop_norm_tree.specs.Types.{parameter_view};
+    ghost use Rattle.lalrpop_norm_json.specs.TypeForms.{parameter_form};
+    ghost use Rattle.lalrpop_norm_json.specs.Shapes as shape;
+    ghost use Rattle.lalrpop_norm_json.specs.Shapes.{is};
+
+    ghost form = { λ p. parameter_form (parameter_view p) };
+
+    ghost can = { is shape.parameter };
+
+    fn read<'a>(
+        alloc: Global,
+        first: Token<'a>,
+        reader: &mut Reader<'a>,
+        depth: usize,
+    ) -> Result<Option<Parameter>, ReadError> {
+        match read_record::<Tree, And<Atom, And<TypeRef, End>>>(
+            alloc,
+            &["name", "ty"],
+            first,
+            reader,
+            depth,
+        )? {
+            Some(fields) => {
+                let (name, (ty, ())) = fields;
+                Ok(Some(Parameter { name, ty }))
+            }
+            None => Ok(None),
+        }
+    }
 }

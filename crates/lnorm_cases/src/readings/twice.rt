@@ -1,20 +1,21 @@
 //! Texts that are read twice.
 use crate::readings::damage::{Chance, damaged};
-use crate::readings::same::same;
-use json_document::{Document, OpenError, Scratch};
+use json::{Reader, Scratch};
+use json_records::{ReadError, next_token, pass};
+use lalrpop_norm_json::{TreeError, read_tree};
 use serde_json::Value;
 use std::alloc::{AllocError, Global};
 
 /// How many damaged texts are read beside a text.
 const DAMAGED: usize = 10;
 
-/// More levels than are read.
-const LEVELS: u32 = 200;
+/// How deep arrays and objects nest at most in what `serde_json` reads.
+const MAX_DEPTH: usize = 127;
 
 /// What two readers make of a text.
 #[derive(Clone, Copy)]
 enum Agreement {
-    /// Both read the same data.
+    /// Both read it, and the same tree, if it is one.
     Read,
     /// Both refuse it.
     Refused,
@@ -85,37 +86,61 @@ fn readings(alloc: Global, bytes: &[u8]) -> Agreement {
 
 fn readings_of(alloc: Global, text: &str) -> Agreement {
     match Value::from_str(alloc, text) {
-        Ok(value) => by_document_too(alloc, &value, text),
-        Err(error) => {
-            if error.is_memory() {
-                Agreement::Memory
-            } else {
-                refused_too(alloc, text)
-            }
-        }
+        Ok(value) => read_too(alloc, &value, text),
+        Err(error) => if error.is_memory() {
+            Agreement::Memory
+        } else {
+            refused_too(alloc, text)
+        },
     }
 }
 
 /// Where `serde_json` reads a text as that value.
-fn by_document_too(alloc: Global, value: &Value, text: &str) -> Agreement {
-    let mut scratch = Scratch::new(alloc);
-    match Document::open(text, &mut scratch, Vec::new(alloc)) {
-        Ok(document) => if same(value, &document.root(), LEVELS) {
-            Agreement::Read
-        } else {
-            Agreement::Differ
-        },
-        Err(OpenError::NotJson) => Agreement::Differ,
-        Err(OpenError::Memory) => Agreement::Memory,
+fn read_too(alloc: Global, value: &Value, text: &str) -> Agreement {
+    match passed(alloc, text) {
+        Ok(()) => trees_of(alloc, value, text),
+        Err(ReadError::NotJson) => Agreement::Differ,
+        Err(ReadError::Memory) => Agreement::Memory,
     }
 }
 
 /// Where `serde_json` refuses a text.
 fn refused_too(alloc: Global, text: &str) -> Agreement {
+    match passed(alloc, text) {
+        Ok(()) => Agreement::Differ,
+        Err(ReadError::NotJson) => Agreement::Refused,
+        Err(ReadError::Memory) => Agreement::Memory,
+    }
+}
+
+/// Passes over the value that a text is, token by token.
+fn passed(alloc: Global, text: &str) -> Result<(), ReadError> {
     let mut scratch = Scratch::new(alloc);
-    match Document::open(text, &mut scratch, Vec::new(alloc)) {
-        Ok(_) => Agreement::Differ,
-        Err(OpenError::NotJson) => Agreement::Refused,
-        Err(OpenError::Memory) => Agreement::Memory,
+    let Ok(mut reader) = Reader::new(text, &mut scratch) else {
+        return Err(ReadError::Memory);
+    };
+    let first = next_token(&mut reader)?;
+    pass(first, &mut reader, MAX_DEPTH)?;
+    if reader.next().is_some() {
+        return Err(ReadError::NotJson);
+    }
+    Ok(())
+}
+
+/// Whether a text is the same tree as what `serde_json` writes of its value, which has each key once and the keys in order; or neither
+/// is one.
+fn trees_of(alloc: Global, value: &Value, text: &str) -> Agreement {
+    let Ok(written) = value.to_string(alloc) else {
+        return Agreement::Memory;
+    };
+    match (read_tree(alloc, text), read_tree(alloc, written.as_str())) {
+        (Ok(tree), Ok(again)) => if tree == again {
+            Agreement::Read
+        } else {
+            Agreement::Differ
+        },
+        (Err(TreeError::NotATree), Err(TreeError::NotATree)) => Agreement::Read,
+        (Err(TreeError::Memory), _) | (_, Err(TreeError::Memory)) => Agreement::Memory,
+        _ => Agreement::Differ,
     }
 }

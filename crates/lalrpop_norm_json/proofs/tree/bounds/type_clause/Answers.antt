@@ -1,16 +1,31 @@
-use Rattle.std.proofs.Common.{codes, refl, ap, ◌∙◌}
+use Rattle.std.proofs.Common.{◌≡◌, [], ◌∷◌, codes, rules, refl, ap, ◌∙◌}
 use Rattle.serde_json.specs.Data.{object}
+use Rattle.json_records.specs.Reading.{under}
 use Rattle.lalrpop_norm_tree_parts.specs.Bounds.{bound_view}
 use Rattle.lalrpop_norm_tree.specs.Types.{type_view}
-use Rattle.lalrpop_norm_json.specs.Json.{variant}
 use Rattle.lalrpop_norm_json.specs.TypeForms.{bound_form}
 use Rattle.lalrpop_norm_json.proofs.FormLemmas.{list_seen}
 use Rattle.lalrpop_norm_json.proofs.MemberLemma.{member_is}
+use Rattle.lalrpop_norm_json.specs.Shapes as shape
+use Rattle.lalrpop_norm_json.specs.Shapes.{one, many}
+use Rattle.lalrpop_norm_json.proofs.Shaped.{no_record, told_none, told_some}
 use Rattle.lalrpop_norm_json.proofs.tree.bounds.type_clause.Goals as goal
 
-pub returns-clause-ok : goal.returns-clause-ok
-returns-clause-ok c = ap (variant (codes "OfType")) (
-    c.in_ok-bounds.ensures.ok ∙ ap object (
-    member_is _ (c.in_ok-bounds-2.ensures.ok ∙ list_seen bound_form (bound_view type_view) c.in_ok-bounds-2.bounds.items) (
-    member_is _ c.in_ok-forall.ensures.ok (
-    member_is _ c.in_ok-ty.ensures.ok refl))))
+pub returns-in-None-clause-ok : goal.returns-in-None-clause-ok
+returns-in-None-clause-ok c =
+    let done = c.in_ok-fields.ensures.ok in
+    record {
+      means = done.0;
+      read = done.1;
+      made = no_record ((codes "bounds", many shape.bound) ∷ (codes "forall", many shape.type_parameter) ∷ (codes "ty", one shape.type) ∷ []) done.0 (told_none _ _ _ c.in-None.is done.2);
+    }
+
+pub returns-in-Some-clause-ok : goal.returns-in-Some-clause-ok
+returns-in-Some-clause-ok c =
+    let done = c.in_ok-fields.ensures.ok in
+    record {
+      means = done.0;
+      read = done.1;
+      made = ap (under (codes "OfType")) (told_some _ _ _ _ c.in-Some.is done.2
+          ∙ ap object (member_is _ (list_seen bound_form (bound_view type_view) _) refl));
+    }

@@ -1,0 +1,5 @@
+pub mod Order
+pub mod Reading
+pub mod Fields
+pub mod Variants
+pub mod Rows

@@ -1,0 +1,110 @@
+//! Lists, and values that may be absent.
+ghost use Rattle.std.specs.Prelude.{◌≡◌, ◌≤◌, [], ◌∷◌, ◌++◌, map, length, None, MatchOption, IfOk, OnOk, IsErrOf};
+ghost use Rattle.json.specs.Reads.{token_of};
+ghost use Rattle.json_records.specs.Reading.{data_of, IsRead, is_list, list_form, may_be, maybe_form};
+
+use crate::error::{ReadError, next_item};
+use crate::scalars::open_array;
+use json::{Reader, Token};
+use std::alloc::Global;
+
+/// How values of a type are read of the tokens of their JSON form.
+pub trait Reads<T> {
+    ghost use Rattle.std.specs.Prelude.{Bool};
+    ghost use Rattle.serde_json.specs.Data.{Data};
+
+    ghost form: { T → Data };
+
+    ghost can: { Data → Bool };
+
+    /// The value whose form the JSON value is that begins with the token, of no more levels than `depth`; none where that can be read
+    /// as no value. The JSON value is passed over.
+    ///
+    /// # Errors
+    ///
+    /// `NotJson`: no JSON value begins there. `Memory`: nothing is said of it.
+    fn read<'a>(
+        alloc: Global,
+        first: Token<'a>,
+        reader: &mut Reader<'a>,
+        depth: usize,
+    ) -> Result<Option<T>, ReadError>
+        ensures ok { IfOk result (λ o. IsRead form can depth (token_of first.entry ∷ reader.old) reader.new o) }
+        ensures err { IsErrOf result ReadError.NotJson → data_of depth (token_of first.entry ∷ reader.old) ≡ None }
+        ensures shorter { OnOk result (length reader.new ≤ length reader.old) };
+}
+
+/// One more item, for which the list takes just the room where it is the first: most lists are short.
+pub fn push<T: Drop>(list: &mut Vec<T>, item: T) -> Result<(), ReadError>
+    ensures ok { OnOk result (list.new.items ≡ list.old.items ++ item ∷ []) }
+    ensures err { IsErrOf result ReadError.NotJson → ⊥ }
+{
+    if list.is_empty() {
+        list.reserve_exact(1)?;
+    }
+    list.push(item)?;
+    Ok(())
+}
+
+/// The list without room to spare.
+pub fn fitted<T: Drop>(mut list: Vec<T>) -> Result<Vec<T>, ReadError>
+    ensures ok { IfOk result (λ xs. xs.items ≡ list.items) }
+    ensures err { IsErrOf result ReadError.NotJson → ⊥ }
+{
+    if list.capacity() > list.len() {
+        list.shrink_to_fit();
+        if list.capacity() > list.len() {
+            return Err(ReadError::Memory);
+        }
+    }
+    Ok(list)
+}
+
+/// The array of values of one type.
+pub fn read_list<'a, T: Drop, K: Reads<T>>(
+    alloc: Global,
+    first: Token<'a>,
+    reader: &mut Reader<'a>,
+    depth: usize,
+) -> Result<Option<Vec<T>>, ReadError>
+    ensures ok { IfOk result (λ o. IsRead (λ xs. list_form (map K.Reads.form xs.items)) (is_list K.Reads.can) depth (token_of first.entry ∷ reader.old) reader.new o) }
+    ensures err { IsErrOf result ReadError.NotJson → data_of depth (token_of first.entry ∷ reader.old) ≡ None }
+    ensures shorter { OnOk result (length reader.new ≤ length reader.old) }
+{
+    let Some(depth) = open_array(first, reader, depth)? else {
+        return Ok(None);
+    };
+    let mut list = Vec::new(alloc);
+    let mut good = true;
+    while let Some(first) = next_item(reader)? {
+        match K::read(alloc, first, reader, depth)? {
+            Some(item) => push(&mut list, item)?,
+            None => good = false,
+        }
+    }
+    if good {
+        Ok(Some(fitted(list)?))
+    } else {
+        Ok(None)
+    }
+}
+
+/// Null, or what is there.
+pub fn read_maybe<'a, T, K: Reads<T>>(
+    alloc: Global,
+    first: Token<'a>,
+    reader: &mut Reader<'a>,
+    depth: usize,
+) -> Result<Option<Option<T>>, ReadError>
+    ensures ok { IfOk result (λ o. IsRead (maybe_form K.Reads.form) (may_be K.Reads.can) depth (token_of first.entry ∷ reader.old) reader.new o) }
+    ensures err { IsErrOf result ReadError.NotJson → data_of depth (token_of first.entry ∷ reader.old) ≡ None }
+    ensures shorter { OnOk result (length reader.new ≤ length reader.old) }
+{
+    if let Token::Null = first {
+        return Ok(Some(None));
+    }
+    match K::read(alloc, first, reader, depth)? {
+        Some(value) => Ok(Some(Some(value))),
+        None => Ok(None),
+    }
+}

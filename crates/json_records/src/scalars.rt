@@ -1,0 +1,125 @@
+//! Texts, truth values and numbers, and what opens an array or an object. Where the value is another, it is passed over.
+ghost use Rattle.std.specs.Prelude.{◌≡◌, ◌≤◌, suc, ◌∷◌, length, Some, None, false, MatchOption, IfOk, IsErrOf, OnOk};
+ghost use Rattle.json.specs.Reads.{token_of};
+ghost use Rattle.json.specs.Token.{begin_array, begin_object};
+ghost use Rattle.serde_json.specs.Data.{Data, string, boolean, number as numeral, unsigned};
+ghost use Rattle.json_records.specs.Reading.{data_of, IsRead, is_text, is_truth, is_natural, is_short, is_object, is_array};
+
+use crate::error::ReadError;
+use crate::numbers::number;
+use crate::passing::pass;
+use json::{Reader, Token};
+
+/// The text.
+pub fn text<'a>(
+    first: Token<'a>,
+    reader: &mut Reader<'a>,
+    depth: usize,
+) -> Result<Option<&'a str>, ReadError>
+    ensures ok { IfOk result (λ o. IsRead (λ s. string s.now) is_text depth (token_of first.entry ∷ reader.old) reader.new o) }
+    ensures err { IsErrOf result ReadError.NotJson → data_of depth (token_of first.entry ∷ reader.old) ≡ None }
+    ensures shorter { OnOk result (length reader.new ≤ length reader.old) }
+{
+    if let Token::String(text) = first {
+        return Ok(Some(text));
+    }
+    pass(first, reader, depth)?;
+    Ok(None)
+}
+
+/// The truth value.
+pub fn truth<'a>(
+    first: Token<'a>,
+    reader: &mut Reader<'a>,
+    depth: usize,
+) -> Result<Option<bool>, ReadError>
+    ensures ok { IfOk result (λ o. IsRead boolean is_truth depth (token_of first.entry ∷ reader.old) reader.new o) }
+    ensures err { IsErrOf result ReadError.NotJson → data_of depth (token_of first.entry ∷ reader.old) ≡ None }
+    ensures shorter { OnOk result (length reader.new ≤ length reader.old) }
+{
+    if let Token::Bool(truth) = first {
+        return Ok(Some(truth));
+    }
+    pass(first, reader, depth)?;
+    Ok(None)
+}
+
+/// The natural number below 2 ^ 64, written without sign, point and exponent.
+pub fn natural<'a>(
+    first: Token<'a>,
+    reader: &mut Reader<'a>,
+    depth: usize,
+) -> Result<Option<u64>, ReadError>
+    ensures ok { IfOk result (λ o. IsRead (λ n. numeral (unsigned n)) is_natural depth (token_of first.entry ∷ reader.old) reader.new o) }
+    ensures err { IsErrOf result ReadError.NotJson → data_of depth (token_of first.entry ∷ reader.old) ≡ None }
+    ensures shorter { OnOk result (length reader.new ≤ length reader.old) }
+{
+    if let Token::Number(text) = first {
+        return match number(text) {
+            Some(natural) => Ok(natural),
+            None => Err(ReadError::NotJson),
+        };
+    }
+    pass(first, reader, depth)?;
+    Ok(None)
+}
+
+/// The natural number below 2 ^ 16.
+pub fn short<'a>(
+    first: Token<'a>,
+    reader: &mut Reader<'a>,
+    depth: usize,
+) -> Result<Option<u16>, ReadError>
+    ensures ok { IfOk result (λ o. IsRead (λ n. numeral (unsigned n)) is_short depth (token_of first.entry ∷ reader.old) reader.new o) }
+    ensures err { IsErrOf result ReadError.NotJson → data_of depth (token_of first.entry ∷ reader.old) ≡ None }
+    ensures shorter { OnOk result (length reader.new ≤ length reader.old) }
+{
+    match natural(first, reader, depth)? {
+        Some(n) if n < 65536 => Ok(Some(n as u16)),
+        _ => Ok(None),
+    }
+}
+
+/// How many levels the values in an object may have, whose brace the token is.
+pub fn open_object<'a>(
+    first: Token<'a>,
+    reader: &mut Reader<'a>,
+    depth: usize,
+) -> Result<Option<usize>, ReadError>
+    ensures ok { IfOk result (λ o. MatchOption o
+        ((d : Data) × (data_of depth (token_of first.entry ∷ reader.old) ≡ Some (d, reader.new)) × (is_object d ≡ false))
+        (λ inner. (token_of first.entry ≡ begin_object) × (depth ≡ suc inner) × (reader.new ≡ reader.old))) }
+    ensures err { IsErrOf result ReadError.NotJson → data_of depth (token_of first.entry ∷ reader.old) ≡ None }
+    ensures shorter { OnOk result (length reader.new ≤ length reader.old) }
+{
+    if let Token::BeginObject = first {
+        if depth == 0 {
+            return Err(ReadError::NotJson);
+        }
+        return Ok(Some(depth - 1));
+    }
+    pass(first, reader, depth)?;
+    Ok(None)
+}
+
+/// How many levels the items of an array may have, whose bracket the token is.
+pub fn open_array<'a>(
+    first: Token<'a>,
+    reader: &mut Reader<'a>,
+    depth: usize,
+) -> Result<Option<usize>, ReadError>
+    ensures ok { IfOk result (λ o. MatchOption o
+        ((d : Data) × (data_of depth (token_of first.entry ∷ reader.old) ≡ Some (d, reader.new)) × (is_array d ≡ false))
+        (λ inner. (token_of first.entry ≡ begin_array) × (depth ≡ suc inner) × (reader.new ≡ reader.old))) }
+    ensures err { IsErrOf result ReadError.NotJson → data_of depth (token_of first.entry ∷ reader.old) ≡ None }
+    ensures shorter { OnOk result (length reader.new ≤ length reader.old) }
+{
+    if let Token::BeginArray = first {
+        if depth == 0 {
+            return Err(ReadError::NotJson);
+        }
+        return Ok(Some(depth - 1));
+    }
+    pass(first, reader, depth)?;
+    Ok(None)
+}

@@ -1,7 +1,0 @@
-use Rattle.lalrpop_norm_json.proofs.CaseLemmas.{no_case}
-use Rattle.lalrpop_norm_json.proofs.tree.tokens.MatchItemFromValue.from_value.Goals as goal
-
-pub returns-in_default-clause-err : goal.returns-in_default-clause-err
-returns-in_default-clause-err c refused =
-    no_case _ _ _ _ _ _ c.in_ok-case_of.ensures.ok c.in-Of.is
-    (c.in_default.not-CatchAll, (c.in_default.not-Unmapped, (c.in_default.not-Mapped, tt)))

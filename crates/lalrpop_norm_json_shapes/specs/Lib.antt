@@ -1,3 +1,0 @@
-pub mod Shapes
-pub mod Parts
-pub mod Weight
