@@ -1,8 +1,10 @@
 -- Loops that collect.
-use Rattle.std.proofs.Common.{◌≡◌, ◌+◌, Bool, true, false, cond, refl, List, [], ◌∷◌, ◌++◌}
-use Rattle.lalrpop_norm_tree.specs.Accessors.{is_public}
-use Rattle.lalrpop_norm_tree.specs.Items.{RuleData}
-use Rattle.lalrpop_norm_lower.specs.Lowering.{public_rules_in}
+use Rattle.std.proofs.Common.{◌≡◌, ◌+◌, Bool, true, false, cond, refl, List, [], ◌∷◌, ◌++◌, None, ap, ◌∙◌, length, reverse}
+use Rattle.std.proofs.lemmas.List.{reverse-append}
+use Rattle.std.specs.List.{cons_option}
+use Rattle.lalrpop_norm_tree.specs.Accessors.{is_public, rule_of}
+use Rattle.lalrpop_norm_tree.specs.Items.{ItemData, rule_item, RuleData}
+use Rattle.lalrpop_norm_lower.specs.Lowering.{rules_among, public_rules_in}
 
 kept_first : (b : Bool) (r : RuleData) (rs : List RuleData) → cond b (r ∷ rs) rs ≡ cond b (r ∷ []) [] ++ rs
 kept_first true r rs = refl
@@ -10,3 +12,19 @@ kept_first false r rs = refl
 
 pub first_public : (r : RuleData) (rs : List RuleData) → public_rules_in (r ∷ rs) ≡ public_rules_in (r ∷ []) ++ public_rules_in rs
 first_public r rs = kept_first (is_public r.visibility) r (public_rules_in rs)
+
+-- the rules among items of which the first is one, or is none
+pub rule_first : (i : ItemData) (r : RuleData) (items : List ItemData) → i ≡ rule_item r → rules_among (i ∷ items) ≡ r ∷ rules_among items
+rule_first i r items is = ap (λ (j : ItemData). rules_among (j ∷ items)) is
+
+pub rule_skipped : (i : ItemData) (items : List ItemData) → rule_of i ≡ None → rules_among (i ∷ items) ≡ rules_among items
+rule_skipped i items none = ap (λ o. cons_option o (rules_among items)) none
+
+-- ---- items in falling order
+
+pub last_first : {A : Type 0} (old new : List A) (x : A) → old ≡ new ++ x ∷ [] → reverse old ≡ x ∷ reverse new
+last_first old new x is = ap reverse is ∙ reverse-append new (x ∷ [])
+
+pub none_left : {A : Type 0} (old : List A) → length old ≡ 0 → reverse old ≡ []
+none_left [] is = refl
+none_left (x ∷ xs) is = cc

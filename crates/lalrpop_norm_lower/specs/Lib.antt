@@ -11,3 +11,5 @@ pub mod Carried
 pub mod Shape
 pub mod Made
 pub mod Active
+pub mod CarriedOver
+pub mod Produced

@@ -114,25 +114,26 @@ fn production_with(
     })
 }
 
-/// The productions of a rule's alternatives, in order.
+/// The productions of a rule's alternatives, in order. Each alternative is let go once it is lowered, so what is made of the later ones
+/// finds its room.
 pub(crate) fn lower_alternatives(
     state: &mut LowerState,
     name: &NonterminalString,
     ty: &TypeRepr,
-    alternatives: &[Alternative],
+    alternatives: Vec<Alternative>,
 ) -> NormResult<Vec<Production>>
-    ensures refuses { Refuses result (alternatives_faults (vec_len state.old.actions) (map alternative_view alternatives.now)) }
+    ensures refuses { Refuses result (alternatives_faults (vec_len state.old.actions) (map alternative_view alternatives.items)) }
     ensures lowered { IfOk result (λ ps. map production_view ps.items
-        ≡ productions_from name.now (vec_len state.old.actions) (map alternative_view alternatives.now)) }
+        ≡ productions_from name.now (vec_len state.old.actions) (map alternative_view alternatives.items)) }
     ensures adds { OnOk result (map action_defn_view state.new.actions.items
-        ≡ map action_defn_view state.old.actions.items ++ map (made_action state.old.prefix.now (table_by_number state.old.types.now) (repr_view ty.now)) (map alternative_view alternatives.now)) }
-    ensures count { OnOk result (vec_len state.new.actions ≡ vec_len state.old.actions + length alternatives.now) }
+        ≡ map action_defn_view state.old.actions.items ++ map (made_action state.old.prefix.now (table_by_number state.old.types.now) (repr_view ty.now)) (map alternative_view alternatives.items)) }
+    ensures count { OnOk result (vec_len state.new.actions ≡ vec_len state.old.actions + length (map alternative_view alternatives.items)) }
     ensures given { OnOk result ((state.new.prefix ≡ state.old.prefix) × (state.new.types ≡ state.old.types)) }
     ensures table { OnOk result (state.new.nonterminals ≡ state.old.nonterminals) }
 {
     let mut productions = Vec::with_capacity(state.alloc, alternatives.len())?;
     for alternative in alternatives {
-        let production = lower_alternative(state, name, ty, alternative)?;
+        let production = lower_alternative(state, name, ty, &alternative)?;
         productions.push(production)?;
     }
     Ok(productions)

@@ -1,13 +1,13 @@
 //! The nonterminals of a lowered grammar: start symbols first, then the rules.
-ghost use Rattle.std.specs.Prelude.{◌≡◌, ◌+◌, ◌++◌, [], ◌∷◌, length, IfOk, OnOk, map, vec_len};
+ghost use Rattle.std.specs.Prelude.{◌≡◌, ◌<◌, ◌+◌, ◌++◌, ⊤, [], ◌∷◌, length, reverse, IfOk, OnOk, MatchOption, map, vec_len};
 ghost use Rattle.lalrpop_norm_faults.specs.Faults.{Refuses};
 ghost use Rattle.lalrpop_norm_tree_parts.specs.Reprs.{repr_view};
-ghost use Rattle.lalrpop_norm_tree.specs.Items.{rule_view};
+ghost use Rattle.lalrpop_norm_tree.specs.Items.{alternative_view, rule_view, item_view};
 ghost use Rattle.lalrpop_norm_model.specs.LoweringFaults.{start_faults, action_number_faults};
 ghost use Rattle.lalrpop_norm_repr.specs.Actions.{action_defn_view};
 ghost use Rattle.lalrpop_norm_repr.specs.Productions.{nonterminal_data_view, production_view};
 ghost use Rattle.lalrpop_norm_repr.specs.Tables.{rows};
-ghost use Rattle.lalrpop_norm_lower.specs.Lowering.{rule_type, rule_entry, rule_rows, start_entry, start_rows, start_name, start_alternative, production_of, productions_from, sorted_onto};
+ghost use Rattle.lalrpop_norm_lower.specs.Lowering.{rule_type, rule_entry, rule_rows, rules_among, with_entry, start_entry, start_rows, start_name, start_alternative, production_of, productions_from, sorted_onto};
 ghost use Rattle.lalrpop_norm_lower.specs.Made.{types_by_name, alternatives_faults, made_starts_faults, made_rules_faults, made_action, made_starts, made_actions};
 ghost use Rattle.lalrpop_norm_lower.specs.State.{table_by_number};
 ghost use Rattle.lalrpop_norm_lower.specs.Starts.{start_rule, start_typed};
@@ -22,9 +22,9 @@ use lalrpop_norm_lower_steps::refusals::check_start;
 use lalrpop_norm_lower_steps::starts::{start_alternative, start_data};
 use lalrpop_norm_repr::grammar::repr::{NonterminalData, Production};
 use lalrpop_norm_tree::grammar::parse_tree as pt;
-use lalrpop_norm_tree::grammar::parse_tree::NoMemory;
-use lalrpop_norm_tree_parts::attribute::copy::copy_attributes;
+use lalrpop_norm_tree::grammar::parse_tree::{Alternative, GrammarItem, NoMemory, Visibility};
 use std::alloc::Global;
+use std::mem;
 
 /// The start symbol of a public rule.
 fn lower_start(state: &mut LowerState, start: &Start) -> NormResult<NonterminalData>
@@ -65,53 +65,55 @@ fn start_production(state: &mut LowerState, start: &Start) -> NormResult<Product
     lower_alternative(state, &start.name, &start.ty, &alternative)
 }
 
-/// The nonterminal of a rule.
-fn lower_rule(state: &mut LowerState, rule: &pt::NonterminalData) -> NormResult<NonterminalData>
-    ensures refuses { Refuses result (alternatives_faults (vec_len state.old.actions) (rule_view rule.now).alternatives) }
-    ensures lowered { IfOk result (λ n. nonterminal_data_view n ≡ rule_entry (vec_len state.old.actions) (rule_view rule.now)) }
+/// The nonterminal of a rule, which is consumed.
+fn lower_rule(state: &mut LowerState, mut rule: pt::NonterminalData) -> NormResult<NonterminalData>
+    ensures refuses { Refuses result (alternatives_faults (vec_len state.old.actions) (rule_view rule).alternatives) }
+    ensures lowered { IfOk result (λ n. nonterminal_data_view n ≡ rule_entry (vec_len state.old.actions) (rule_view rule)) }
     ensures adds { OnOk result (map action_defn_view state.new.actions.items ≡ map action_defn_view state.old.actions.items
-        ++ map (made_action state.old.prefix.now (table_by_number state.old.types.now) (rule_type (table_by_number state.old.types.now) (rule_view rule.now))) (rule_view rule.now).alternatives) }
-    ensures count { OnOk result (vec_len state.new.actions ≡ vec_len state.old.actions + length (rule_view rule.now).alternatives) }
+        ++ map (made_action state.old.prefix.now (table_by_number state.old.types.now) (rule_type (table_by_number state.old.types.now) (rule_view rule))) (rule_view rule).alternatives) }
+    ensures count { OnOk result (vec_len state.new.actions ≡ vec_len state.old.actions + length (rule_view rule).alternatives) }
     ensures given { OnOk result ((state.new.prefix ≡ state.old.prefix) × (state.new.types ≡ state.old.types)) }
     ensures table { OnOk result (state.new.nonterminals ≡ state.old.nonterminals) }
 {
-    let productions = rule_productions(state, rule)?;
-    Ok(rule_data(state.alloc, rule, productions)?)
+    let alternatives = mem::replace(&mut rule.alternatives, Vec::new(state.alloc));
+    let productions = rule_productions(state, &rule, alternatives)?;
+    Ok(rule_data(state.alloc, rule, productions))
 }
 
-/// The productions of a rule. Their actions are added.
+/// The productions of these alternatives of a rule. Their actions are added.
 fn rule_productions(
     state: &mut LowerState,
     rule: &pt::NonterminalData,
+    alternatives: Vec<Alternative>,
 ) -> NormResult<Vec<Production>>
-    ensures refuses { Refuses result (alternatives_faults (vec_len state.old.actions) (rule_view rule.now).alternatives) }
-    ensures lowered { IfOk result (λ ps. map production_view ps.items ≡ productions_from rule.now.name (vec_len state.old.actions) (rule_view rule.now).alternatives) }
+    ensures refuses { Refuses result (alternatives_faults (vec_len state.old.actions) (map alternative_view alternatives.items)) }
+    ensures lowered { IfOk result (λ ps. map production_view ps.items ≡ productions_from rule.now.name (vec_len state.old.actions) (map alternative_view alternatives.items)) }
     ensures adds { OnOk result (map action_defn_view state.new.actions.items ≡ map action_defn_view state.old.actions.items
-        ++ map (made_action state.old.prefix.now (table_by_number state.old.types.now) (rule_type (table_by_number state.old.types.now) (rule_view rule.now))) (rule_view rule.now).alternatives) }
-    ensures count { OnOk result (vec_len state.new.actions ≡ vec_len state.old.actions + length (rule_view rule.now).alternatives) }
+        ++ map (made_action state.old.prefix.now (table_by_number state.old.types.now) (rule_type (table_by_number state.old.types.now) (rule_view rule.now))) (map alternative_view alternatives.items)) }
+    ensures count { OnOk result (vec_len state.new.actions ≡ vec_len state.old.actions + length (map alternative_view alternatives.items)) }
     ensures given { OnOk result ((state.new.prefix ≡ state.old.prefix) × (state.new.types ≡ state.old.types)) }
     ensures table { OnOk result (state.new.nonterminals ≡ state.old.nonterminals) }
 {
     let unit = unit_type(state.alloc);
     let ty = rule_type(state.types, rule, &unit);
-    lower_alternatives(state, &rule.name, ty, &rule.alternatives)
+    lower_alternatives(state, &rule.name, ty, alternatives)
 }
 
-/// The nonterminal of a rule with these productions.
+/// The nonterminal of a rule with these productions. What it has of the rule is moved out of it.
 fn rule_data(
     alloc: Global,
-    rule: &pt::NonterminalData,
+    mut rule: pt::NonterminalData,
     productions: Vec<Production>,
-) -> Result<NonterminalData, NoMemory>
-    ensures { IfOk result (λ n. nonterminal_data_view n
-        ≡ record { visibility = (rule_view rule.now).visibility; span = rule.now.span; attributes = (rule_view rule.now).attributes; productions = map production_view productions.items }) }
+) -> NonterminalData
+    ensures { nonterminal_data_view result
+        ≡ record { visibility = (rule_view rule).visibility; span = rule.span; attributes = (rule_view rule).attributes; productions = map production_view productions.items } }
 {
-    Ok(NonterminalData {
-        visibility: rule.visibility.clone()?,
+    NonterminalData {
+        visibility: mem::replace(&mut rule.visibility, Visibility::Priv),
         span: rule.span,
-        attributes: copy_attributes(&rule.attributes)?,
+        attributes: mem::replace(&mut rule.attributes, Vec::new(alloc)),
         productions,
-    })
+    }
 }
 
 /// The start symbols of the public rules.
@@ -133,19 +135,62 @@ pub(crate) fn lower_starts(state: &mut LowerState, starts: &[Start]) -> NormResu
     Ok(())
 }
 
-/// The nonterminals of the rules.
-pub(crate) fn lower_rules(state: &mut LowerState, rules: &[&pt::NonterminalData]) -> NormResult<()>
-    ensures refuses { Refuses result (made_rules_faults (vec_len state.old.actions) (map (λ r. rule_view r.now) rules.now)) }
+/// Adds the nonterminal of a rule, which is consumed.
+fn add_rule(state: &mut LowerState, rule: pt::NonterminalData) -> NormResult<()>
+    ensures refuses { Refuses result (alternatives_faults (vec_len state.old.actions) (rule_view rule).alternatives) }
     ensures table { OnOk result (rows nonterminal_data_view state.new.nonterminals
-        ≡ sorted_onto (rows nonterminal_data_view state.old.nonterminals) (rule_rows (vec_len state.old.actions) (map (λ r. rule_view r.now) rules.now))) }
-    ensures adds { OnOk result (map action_defn_view state.new.actions.items
-        ≡ map action_defn_view state.old.actions.items ++ made_actions state.old.prefix.now (table_by_number state.old.types.now) (map (λ r. rule_view r.now) rules.now)) }
+        ≡ with_entry (rows nonterminal_data_view state.old.nonterminals) (rule.name, rule_entry (vec_len state.old.actions) (rule_view rule))) }
+    ensures adds { OnOk result (map action_defn_view state.new.actions.items ≡ map action_defn_view state.old.actions.items
+        ++ map (made_action state.old.prefix.now (table_by_number state.old.types.now) (rule_type (table_by_number state.old.types.now) (rule_view rule))) (rule_view rule).alternatives) }
+    ensures count { OnOk result (vec_len state.new.actions ≡ vec_len state.old.actions + length (rule_view rule).alternatives) }
     ensures given { OnOk result ((state.new.prefix ≡ state.old.prefix) × (state.new.types ≡ state.old.types)) }
 {
-    for rule in rules {
-        let name = rule.name.clone()?;
-        let data = lower_rule(state, rule)?;
-        insert(&mut state.nonterminals, name, data)?;
+    let name = rule.name.clone()?;
+    let data = lower_rule(state, rule)?;
+    Ok(insert(&mut state.nonterminals, name, data)?)
+}
+
+/// The nonterminals of the rules among the items. Each item is let go once it is lowered, and its room in the list given back in time,
+/// so what is made of the later ones finds room there.
+#[tactic(auto, using(crate::proofs::LoopLemmas::rule_first, crate::proofs::LoopLemmas::rule_skipped))]
+pub(crate) fn lower_rules(state: &mut LowerState, items: Vec<GrammarItem>) -> NormResult<()>
+    ensures refuses { Refuses result (made_rules_faults (vec_len state.old.actions) (rules_among (map item_view items.items))) }
+    ensures table { OnOk result (rows nonterminal_data_view state.new.nonterminals
+        ≡ sorted_onto (rows nonterminal_data_view state.old.nonterminals) (rule_rows (vec_len state.old.actions) (rules_among (map item_view items.items)))) }
+    ensures adds { OnOk result (map action_defn_view state.new.actions.items
+        ≡ map action_defn_view state.old.actions.items ++ made_actions state.old.prefix.now (table_by_number state.old.types.now) (rules_among (map item_view items.items))) }
+    ensures given { OnOk result ((state.new.prefix ≡ state.old.prefix) × (state.new.types ≡ state.old.types)) }
+{
+    let mut left = items;
+    left.reverse();
+    while let Some(item) = next_item(&mut left)? {
+        if let Ok(rule) = item.into_nonterminal() {
+            add_rule(state, rule)?;
+        }
+    }
+    Ok(())
+}
+
+/// Takes the item that comes next, of those that are left in falling order.
+#[tactic(auto, using(crate::proofs::LoopLemmas::last_first, crate::proofs::LoopLemmas::none_left))]
+fn next_item(left: &mut Vec<GrammarItem>) -> Result<Option<GrammarItem>, NoMemory>
+    ensures next { IfOk result (λ o. MatchOption o (reverse left.old.items ≡ []) (λ i. reverse left.old.items ≡ i ∷ reverse left.new.items)) }
+    ensures fewer { IfOk result (λ o. MatchOption o ⊤ (λ _. vec_len left.new < vec_len left.old)) }
+{
+    let item = left.pop();
+    give_back(left)?;
+    Ok(item)
+}
+
+/// Gives back the room that a list does not need, where that is half of it or more.
+fn give_back(list: &mut Vec<GrammarItem>) -> Result<(), NoMemory>
+    ensures items { list.new.items ≡ list.old.items }
+{
+    if list.capacity() / 2 >= list.len() {
+        list.shrink_to_fit();
+        if list.capacity() > list.len() {
+            return Err(NoMemory);
+        }
     }
     Ok(())
 }

@@ -5,7 +5,7 @@ ghost use Rattle.lalrpop_norm_tree_parts.specs.Reprs.{repr_view, unit_type};
 ghost use Rattle.lalrpop_norm_repr.specs.Productions.{nonterminal_data_view};
 ghost use Rattle.lalrpop_norm_repr.specs.Tables.{rows};
 ghost use Rattle.lalrpop_norm_lower.specs.Lowering.{rule_type, start_name, start_names, with_entry, sorted_onto};
-ghost use Rattle.lalrpop_norm_lower.specs.Starts.{start_rule, start_named, start_typed};
+ghost use Rattle.lalrpop_norm_lower.specs.Starts.{start_rule, start_named, start_typed, typed_row};
 ghost use Rattle.lalrpop_norm_lower.specs.State.{table_by_number};
 ghost use Rattle.lalrpop_norm_lower.specs.Typing.{start_types};
 
@@ -134,4 +134,18 @@ pub(crate) fn start_table(
         table.insert(start.rule.name.clone()?, start.name.clone()?)?;
     }
     Ok(table)
+}
+
+/// The start symbols with their types, without their rules, which are free then.
+pub(crate) fn typed_starts(
+    alloc: Global,
+    starts: Vec<Start>,
+) -> Result<Vec<(NonterminalString, TypeRepr)>, NoMemory>
+    ensures { IfOk result (λ ts. map typed_row ts.items ≡ map start_typed starts.entry.items) }
+{
+    let mut typed = Vec::with_capacity(alloc, starts.len())?;
+    for start in starts {
+        typed.push((start.name, start.ty))?;
+    }
+    Ok(typed)
 }

@@ -2,20 +2,22 @@
 ghost use Rattle.std.specs.Prelude.{◌≡◌, [], ◌∷◌, OnOk, map};
 ghost use Rattle.lalrpop_norm_tree_parts.specs.Reprs.{repr_view, unit_type};
 ghost use Rattle.lalrpop_norm_repr.specs.Tables.{type_table};
-ghost use Rattle.lalrpop_norm_lower.specs.Starts.{start_typed};
+ghost use Rattle.lalrpop_norm_lower.specs.Starts.{typed_row};
 ghost use Rattle.lalrpop_norm_lower.specs.Typing.{AddsTypes};
 
-use crate::starts::Start;
 use lalrpop_norm_repr::grammar::repr::{TypeRepr, Types};
 use lalrpop_norm_tree::grammar::parse_tree::{NoMemory, NonterminalString};
 use std::alloc::Global;
 
 /// Adds the start symbols that have no type yet, each with its rule's type.
-pub(crate) fn add_start_types(types: &mut Types, starts: Vec<Start>) -> Result<(), NoMemory>
-    ensures { OnOk result (AddsTypes (type_table types.old) (type_table types.new) (map start_typed starts.entry.items)) }
+pub(crate) fn add_start_types(
+    types: &mut Types,
+    starts: Vec<(NonterminalString, TypeRepr)>,
+) -> Result<(), NoMemory>
+    ensures { OnOk result (AddsTypes (type_table types.old) (type_table types.new) (map typed_row starts.items)) }
 {
-    for start in starts {
-        add_missing(types, start.name, start.ty)?;
+    for (name, ty) in starts {
+        add_missing(types, name, ty)?;
     }
     Ok(())
 }

@@ -1,42 +1,33 @@
 //! A grammar of plain rules, lowered whole.
-ghost use Rattle.std.specs.Prelude.{◌≡◌, ◌++◌, IfOk, [], length, map, true};
+ghost use Rattle.std.specs.Prelude.{◌≡◌, IfOk, true};
 ghost use Rattle.lalrpop_norm_faults.specs.Faults.{Refuses};
 ghost use Rattle.lalrpop_norm_tree.specs.Items as written;
+ghost use Rattle.lalrpop_norm_tree.specs.Items.{GrammarData};
 ghost use Rattle.lalrpop_norm_session.specs.Sessions.{features_view};
+ghost use Rattle.lalrpop_norm_model.specs.Features.{Features};
 ghost use Rattle.lalrpop_norm_model.specs.Expanded.{IsExpanded, IsTyped, all_known};
 ghost use Rattle.lalrpop_norm_model.specs.LoweringFaults.{lowering_faults};
 ghost use Rattle.lalrpop_norm_model.specs.PlainRules.{all_rules};
 ghost use Rattle.lalrpop_norm_repr.specs.Lowered as lowered;
-ghost use Rattle.lalrpop_norm_repr.specs.Actions.{action_defn_view};
-ghost use Rattle.lalrpop_norm_repr.specs.Productions.{nonterminal_data_view};
 ghost use Rattle.lalrpop_norm_repr.specs.Closed.{IsClosed};
-ghost use Rattle.lalrpop_norm_repr.specs.Tables.{type_table, rows};
+ghost use Rattle.lalrpop_norm_repr.specs.Tables.{type_table};
 ghost use Rattle.lalrpop_norm_lower.specs.Active.{active_grammar};
-ghost use Rattle.lalrpop_norm_lower.specs.Lowering.{rules_among, public_rules_in, start_names, start_rows, rule_rows, sorted_onto};
-ghost use Rattle.lalrpop_norm_lower.specs.Made.{types_by_name, made_faults, made_starts_faults, made_rules_faults, made_starts, made_actions, IsMade};
+ghost use Rattle.lalrpop_norm_lower.specs.CarriedOver.{IsCarriedOver};
+ghost use Rattle.lalrpop_norm_lower.specs.Lowering.{rules_among};
+ghost use Rattle.lalrpop_norm_lower.specs.Made.{types_by_name, made_faults, IsMade};
+ghost use Rattle.lalrpop_norm_lower.specs.Produced.{IsProduced};
 ghost use Rattle.lalrpop_norm_lower.specs.Shape.{IsLoweringOf};
-ghost use Rattle.lalrpop_norm_lower.specs.Starts.{start_rule, start_named, start_typed};
-ghost use Rattle.lalrpop_norm_lower.specs.State.{table_by_number};
-ghost use Rattle.lalrpop_norm_lower.specs.Typing.{start_types};
 
-use crate::head::{head_of, signature_of};
-use crate::nonterminals::{lower_rules, lower_starts};
-use crate::numbered::NumberedTypes;
-use crate::recovery::uses_recovery;
-use crate::rules::{public_rules, rules_of};
-use crate::starts::{Start, start_table, starts_of};
-use crate::state::LowerState;
-use crate::tokens::terminals_of;
+use crate::carried::{Carried, carried_of};
+use crate::produced::{Produced, produce};
 use crate::typing::add_start_types;
 use lalrpop_norm_faults::NormResult;
-use lalrpop_norm_lower_steps::algorithm::algorithm_of;
-use lalrpop_norm_repr::grammar::repr::{
-    ActionFnDefn, Grammar, NonterminalData, NonterminalString, Types,
-};
+use lalrpop_norm_repr::grammar::repr::{Grammar, Types};
 use lalrpop_norm_session::Session;
 use lalrpop_norm_tree::grammar::parse_tree as pt;
+use lalrpop_norm_tree::grammar::parse_tree::NoMemory;
 use std::alloc::Global;
-use std::collections::BTreeMap;
+use std::mem;
 
 /// Lowers an expanded grammar over the types of its rules: `types` has one for each rule. The terminals of the active conversions,
 /// or of the tokenizer's entries, are distinct, and each terminal that is used is one of them. The grammar and the types are
@@ -63,134 +54,67 @@ pub fn lower<L>(
         (all_rules (written.grammar_view grammar)) (type_table types) (lowered.lowered_grammar_view l)) }
     ensures closed { IfOk result (λ l. IsClosed (lowered.lowered_grammar_view l)) }
 {
-    lower_kept(alloc, session, &grammar, types)
+    lower_over(alloc, session, grammar, types)
 }
 
-/// The same, of a grammar that the caller keeps.
-// `lower`, `lower_kept` and `lower_over` are apart for drops: what a function owns ends at each `?` behind it, and each end is
+/// The same, in the words of what is made.
+// `lower_over`, `lower_rest` and `lowered_of` are apart for drops: what a function owns ends at each `?` behind it, and each end is
 // proved.
-fn lower_kept<L>(
-    alloc: Global,
-    session: &Session<L>,
-    grammar: &pt::Grammar,
-    types: Types,
-) -> NormResult<Grammar>
-    requires expanded { IsExpanded (written.grammar_view grammar.now) }
-    requires typed { IsTyped (features_view session.now.features) (written.grammar_view grammar.now) (types_by_name (type_table types)) }
-    ensures refuses { Refuses result (lowering_faults (written.grammar_view grammar.now) (types_by_name (type_table types))) }
-    ensures lowered { IfOk result (λ l. IsLoweringOf (active_grammar (features_view session.now.features) (written.grammar_view grammar.now))
-        (all_rules (written.grammar_view grammar.now)) (type_table types) (lowered.lowered_grammar_view l)) }
-    ensures closed { IfOk result (λ l. IsClosed (lowered.lowered_grammar_view l)) }
-{
-    let rules = rules_of(alloc, &grammar.items)?;
-    let public = public_rules(alloc, &rules)?;
-    lower_over(alloc, session, grammar, types, &rules, &public)
-}
-
-/// The same, of its rules and the public ones among them.
 fn lower_over<L>(
     alloc: Global,
     session: &Session<L>,
-    grammar: &pt::Grammar,
-    mut types: Types,
-    rules: &[&pt::NonterminalData],
-    public: &[&pt::NonterminalData],
+    grammar: pt::Grammar,
+    types: Types,
 ) -> NormResult<Grammar>
-    requires known { all_known (written.grammar_view grammar.now).attributes ≡ true }
-    requires rules { map (λ r. written.rule_view r.now) rules.now ≡ rules_among (written.grammar_view grammar.now).items }
-    requires public { map (λ r. written.rule_view r.now) public.now ≡ public_rules_in (rules_among (written.grammar_view grammar.now).items) }
-    ensures refuses { Refuses result (made_faults (written.grammar_view grammar.now).prefix (type_table types) (rules_among (written.grammar_view grammar.now).items)) }
-    ensures lowered { IfOk result (λ l. IsMade (features_view session.now.features) (written.grammar_view grammar.now) (type_table types) (lowered.lowered_grammar_view l)) }
+    requires { all_known (written.grammar_view grammar).attributes ≡ true }
+    ensures refuses { Refuses result (made_faults (written.grammar_view grammar).prefix (type_table types) (rules_among (written.grammar_view grammar).items)) }
+    ensures lowered { IfOk result (λ l. IsMade (features_view session.now.features) (written.grammar_view grammar) (type_table types) (lowered.lowered_grammar_view l)) }
 {
-    let (starts, produced) = started(alloc, grammar.prefix.as_str(), &types, rules, public)?;
-    let head = head_of(alloc, grammar)?;
-    let signature = signature_of(alloc, grammar)?;
-    let start_nonterminals = start_table(alloc, &starts)?;
-    add_start_types(&mut types, starts)?;
+    let carried = carried_of(alloc, session, &grammar)?;
+    lower_rest(alloc, grammar, types, carried)
+}
+
+/// The same, where all is made but what is made of the rules.
+fn lower_rest(
+    alloc: Global,
+    mut grammar: pt::Grammar,
+    types: Types,
+    carried: Carried,
+) -> NormResult<Grammar>
+    ensures refuses { Refuses result (made_faults (written.grammar_view grammar).prefix (type_table types) (rules_among (written.grammar_view grammar).items)) }
+    ensures lowered { IfOk result (λ l. (fs : Features) → IsCarriedOver fs (written.grammar_view grammar) carried
+        → IsMade fs (written.grammar_view grammar) (type_table types) (lowered.lowered_grammar_view l)) }
+{
+    let items = mem::replace(&mut grammar.items, Vec::new(alloc));
+    let produced = produce(alloc, grammar.prefix.as_str(), items, &types)?;
+    Ok(lowered_of(types, carried, produced)?)
+}
+
+/// The lowered grammar of its parts.
+fn lowered_of(mut types: Types, carried: Carried, produced: Produced) -> Result<Grammar, NoMemory>
+    ensures { IfOk result (λ l. (fs : Features) (g : GrammarData) → IsCarriedOver fs g carried → IsProduced g.prefix (type_table types) (rules_among g.items) produced
+        → IsMade fs g (type_table types) (lowered.lowered_grammar_view l)) }
+{
+    add_start_types(&mut types, produced.starts)?;
     // A law, which does nothing: it gives the order of the rows.
     types.rows_ascend();
-    let recovers = uses_recovery(rules);
-    let (terminals, conversions) = terminals_of(alloc, session, grammar, recovers)?;
+    let head = carried.head;
+    let signature = carried.signature;
     Ok(Grammar {
         prefix: head.prefix,
-        algorithm: algorithm_of(&grammar.attributes),
-        uses_error_recovery: recovers,
-        start_nonterminals,
+        algorithm: carried.algorithm,
+        uses_error_recovery: carried.recovers,
+        start_nonterminals: produced.start_nonterminals,
         uses: head.uses,
         type_parameters: signature.type_parameters,
         parameters: signature.parameters,
         where_clauses: signature.where_clauses,
         intern_token: head.intern_token,
         action_fn_defns: produced.actions,
-        terminals,
+        terminals: carried.terminals,
         nonterminals: produced.nonterminals,
-        conversions,
+        conversions: carried.conversions,
         types,
         module_attributes: head.module_attributes,
-    })
-}
-
-/// The nonterminals with their productions, and the actions by their numbers.
-#[derive(Drop)]
-struct Produced {
-    actions: Vec<ActionFnDefn>,
-    nonterminals: BTreeMap<NonterminalString, NonterminalData>,
-}
-
-/// The public rules with their start symbols, and what is made of these and of the rules.
-fn started<'g>(
-    alloc: Global,
-    prefix: &str,
-    types: &Types,
-    rules: &[&pt::NonterminalData],
-    public: &[&'g pt::NonterminalData],
-) -> NormResult<(Vec<Start<'g>>, Produced)>
-    ensures refuses { Refuses result (made_starts_faults prefix.now (type_table types.now) 0 (map (λ r. written.rule_view r.now) public.now)
-        ++ made_rules_faults (length (map (λ r. written.rule_view r.now) public.now)) (map (λ r. written.rule_view r.now) rules.now)) }
-    ensures names { IfOk result (λ p. map start_named p.0.items ≡ start_names prefix.now (map (λ r. written.rule_view r.now) public.now)) }
-    ensures types { IfOk result (λ p. map start_typed p.0.items
-        ≡ start_types prefix.now (type_table types.now) (map (λ r. written.rule_view r.now) public.now)) }
-    ensures actions { IfOk result (λ p. map action_defn_view p.1.actions.items
-        ≡ made_starts prefix.now (type_table types.now) (map (λ r. written.rule_view r.now) public.now)
-        ++ made_actions prefix.now (type_table types.now) (map (λ r. written.rule_view r.now) rules.now)) }
-    ensures nonterminals { IfOk result (λ p. rows nonterminal_data_view p.1.nonterminals
-        ≡ sorted_onto (sorted_onto [] (start_rows prefix.now 0 (map (λ r. written.rule_view r.now) public.now)))
-        (rule_rows (length (map (λ r. written.rule_view r.now) public.now)) (map (λ r. written.rule_view r.now) rules.now))) }
-{
-    let types = NumberedTypes::of(alloc, types, rules)?;
-    let starts = starts_of(alloc, prefix, &types, public)?;
-    let produced = produce(alloc, prefix, &types, rules, &starts)?;
-    Ok((starts, produced))
-}
-
-fn produce(
-    alloc: Global,
-    prefix: &str,
-    types: &NumberedTypes,
-    rules: &[&pt::NonterminalData],
-    starts: &[Start],
-) -> NormResult<Produced>
-    requires { map start_typed starts.now ≡ start_types prefix.now (table_by_number types.now) (map start_rule starts.now) }
-    ensures refuses { Refuses result (made_starts_faults prefix.now (table_by_number types.now) 0 (map start_rule starts.now)
-        ++ made_rules_faults (length (map start_rule starts.now)) (map (λ r. written.rule_view r.now) rules.now)) }
-    ensures actions { IfOk result (λ p. map action_defn_view p.actions.items
-        ≡ made_starts prefix.now (table_by_number types.now) (map start_rule starts.now)
-        ++ made_actions prefix.now (table_by_number types.now) (map (λ r. written.rule_view r.now) rules.now)) }
-    ensures nonterminals { IfOk result (λ p. rows nonterminal_data_view p.nonterminals
-        ≡ sorted_onto (sorted_onto [] (start_rows prefix.now 0 (map start_rule starts.now)))
-        (rule_rows (length (map start_rule starts.now)) (map (λ r. written.rule_view r.now) rules.now))) }
-{
-    let mut state = LowerState {
-        alloc,
-        prefix,
-        types,
-        actions: Vec::new(alloc),
-        nonterminals: BTreeMap::new(alloc),
-    };
-    lower_starts(&mut state, starts)?;
-    lower_rules(&mut state, rules)?;
-    Ok(Produced {
-        actions: state.actions,
-        nonterminals: state.nonterminals,
     })
 }

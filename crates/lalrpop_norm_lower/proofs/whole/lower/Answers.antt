@@ -12,17 +12,17 @@ use Rattle.lalrpop_norm_lower.specs.Made.{made_faults, IsMade}
 use Rattle.lalrpop_norm_lower.specs.Shape.{IsLoweringOf}
 use Rattle.lalrpop_norm_lower.proofs.FaultCounts.{faults_same}
 use Rattle.lalrpop_norm_lower.proofs.MadeLemmas.{made_is_lowered, made_is_closed, where_clean}
-use Rattle.lalrpop_norm_lower.proofs.whole.lower_kept.Goals as goal
+use Rattle.lalrpop_norm_lower.proofs.whole.lower.Goals as goal
 
-pub lower_over-requires-clause-known : goal.lower_over-requires-clause-known
-lower_over-requires-clause-known g c = c.requires.expanded.known_attributes
+pub lower_over-requires : goal.lower_over-requires
+lower_over-requires g c = c.requires.expanded.known_attributes
 
 pub returns-clause-refuses : goal.returns-clause-refuses
-returns-clause-refuses g c = subst (λ fs. Refuses c.lower_over.result fs) (faults_same (written.grammar_view c.args.grammar.now) (type_table c.args.types)) c.lower_over.ensures.refuses
+returns-clause-refuses g c = subst (λ fs. Refuses c.lower_over.result fs) (faults_same (written.grammar_view c.args.grammar) (type_table c.args.types)) c.lower_over.ensures.refuses
 
 pub returns-clause-lowered : goal.returns-clause-lowered
 returns-clause-lowered g c =
-    let written_one = written.grammar_view c.args.grammar.now in
+    let written_one = written.grammar_view c.args.grammar in
     let fs = features_view c.args.session.now.features in
     let types = type_table c.args.types in
     where_clean c.lower_over.result (made_faults written_one.prefix types (rules_among written_one.items)) (λ l. IsMade fs written_one types (lowered.lowered_grammar_view l)) (λ l. IsLoweringOf (active_grammar fs written_one) (all_rules written_one) types (lowered.lowered_grammar_view l))
@@ -31,7 +31,7 @@ returns-clause-lowered g c =
 
 pub returns-clause-closed : goal.returns-clause-closed
 returns-clause-closed g c =
-    let written_one = written.grammar_view c.args.grammar.now in
+    let written_one = written.grammar_view c.args.grammar in
     let fs = features_view c.args.session.now.features in
     let types = type_table c.args.types in
     where_clean c.lower_over.result (made_faults written_one.prefix types (rules_among written_one.items)) (λ l. IsMade fs written_one types (lowered.lowered_grammar_view l)) (λ l. IsClosed (lowered.lowered_grammar_view l))

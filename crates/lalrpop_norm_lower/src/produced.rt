@@ -1,0 +1,130 @@
+//! What lowering makes of the rules of a grammar.
+ghost use Rattle.std.specs.Prelude.{◌≡◌, ◌+◌, ◌++◌, [], IfOk, OnOk, length, map, vec_len};
+ghost use Rattle.lalrpop_norm_faults.specs.Faults.{Refuses};
+ghost use Rattle.lalrpop_norm_tree.specs.Items.{item_view};
+ghost use Rattle.lalrpop_norm_repr.specs.Actions.{action_defn_view};
+ghost use Rattle.lalrpop_norm_repr.specs.Productions.{nonterminal_data_view};
+ghost use Rattle.lalrpop_norm_repr.specs.Tables.{type_table, rows};
+ghost use Rattle.lalrpop_norm_lower.specs.Lowering.{rules_among, public_rules_in, start_names, start_rows, sorted_onto};
+ghost use Rattle.lalrpop_norm_lower.specs.Made.{made_faults, made_starts_faults, made_starts};
+ghost use Rattle.lalrpop_norm_lower.specs.Produced.{IsProduced};
+ghost use Rattle.lalrpop_norm_lower.specs.Starts.{typed_row};
+ghost use Rattle.lalrpop_norm_lower.specs.State.{table_by_number};
+ghost use Rattle.lalrpop_norm_lower.specs.Typing.{start_types};
+
+use crate::nonterminals::{lower_rules, lower_starts};
+use crate::numbered::NumberedTypes;
+use crate::rules::{public_rules, rules_of};
+use crate::starts::{start_table, starts_of, typed_starts};
+use crate::state::LowerState;
+use lalrpop_norm_faults::NormResult;
+use lalrpop_norm_repr::grammar::repr::{
+    ActionFnDefn, NonterminalData, NonterminalString, TypeRepr, Types,
+};
+use lalrpop_norm_tree::grammar::parse_tree::{GrammarItem, NoMemory};
+use std::alloc::Global;
+use std::collections::BTreeMap;
+
+/// What is made of rules: the start symbols of public ones with their types, the actions by their numbers, and the nonterminals with
+/// their productions.
+#[derive(Drop)]
+pub(crate) struct Produced {
+    pub(crate) start_nonterminals: BTreeMap<NonterminalString, NonterminalString>,
+    pub(crate) starts: Vec<(NonterminalString, TypeRepr)>,
+    pub(crate) actions: Vec<ActionFnDefn>,
+    pub(crate) nonterminals: BTreeMap<NonterminalString, NonterminalData>,
+}
+
+/// What is made of the rules among the items, by the table of their types.
+pub(crate) fn produce(
+    alloc: Global,
+    prefix: &str,
+    items: Vec<GrammarItem>,
+    types: &Types,
+) -> NormResult<Produced>
+    ensures refuses { Refuses result (made_faults prefix.now (type_table types.now) (rules_among (map item_view items.items))) }
+    ensures produced { IfOk result (IsProduced prefix.now (type_table types.now) (rules_among (map item_view items.items))) }
+{
+    let types = types_of_rules(alloc, types, &items)?;
+    produce_by(alloc, prefix, items, &types)
+}
+
+/// The same, by the types of the rules.
+fn produce_by(
+    alloc: Global,
+    prefix: &str,
+    items: Vec<GrammarItem>,
+    types: &NumberedTypes,
+) -> NormResult<Produced>
+    ensures refuses { Refuses result (made_faults prefix.now (table_by_number types.now) (rules_among (map item_view items.items))) }
+    ensures produced { IfOk result (IsProduced prefix.now (table_by_number types.now) (rules_among (map item_view items.items))) }
+{
+    let mut state = LowerState {
+        alloc,
+        prefix,
+        types,
+        actions: Vec::with_capacity(alloc, count_actions(&items))?,
+        nonterminals: BTreeMap::new(alloc),
+    };
+    let (start_nonterminals, starts) = start(&mut state, &items)?;
+    lower_rules(&mut state, items)?;
+    Ok(Produced {
+        start_nonterminals,
+        starts,
+        actions: state.actions,
+        nonterminals: state.nonterminals,
+    })
+}
+
+/// How many actions there will be: one for each alternative of a rule, and one for each start symbol.
+fn count_actions(items: &[GrammarItem]) -> usize {
+    let mut count = 0usize;
+    for item in items {
+        if let GrammarItem::Nonterminal(rule) = item {
+            let starts = if rule.visibility.is_pub() { 1 } else { 0 };
+            count = count
+                .saturating_add(rule.alternatives.len())
+                .saturating_add(starts);
+        }
+    }
+    count
+}
+
+/// The types of the rules among the items, by the numbers of their names.
+fn types_of_rules<'t>(
+    alloc: Global,
+    types: &'t Types,
+    items: &[GrammarItem],
+) -> Result<NumberedTypes<'t>, NoMemory>
+    ensures { IfOk result (λ n. n.table.now ≡ types.now) }
+{
+    NumberedTypes::of(alloc, types, &rules_of(alloc, items)?)
+}
+
+/// Adds the start symbols of the public rules among the items, and answers them in a table, and with their types.
+fn start(
+    state: &mut LowerState,
+    items: &[GrammarItem],
+) -> NormResult<
+    (
+        BTreeMap<NonterminalString, NonterminalString>,
+        Vec<(NonterminalString, TypeRepr)>,
+    ),
+>
+    ensures refuses { Refuses result (made_starts_faults state.old.prefix.now (table_by_number state.old.types.now) (vec_len state.old.actions) (public_rules_in (rules_among (map item_view items.now)))) }
+    ensures table { OnOk result (rows nonterminal_data_view state.new.nonterminals
+        ≡ sorted_onto (rows nonterminal_data_view state.old.nonterminals) (start_rows state.old.prefix.now (vec_len state.old.actions) (public_rules_in (rules_among (map item_view items.now))))) }
+    ensures adds { OnOk result (map action_defn_view state.new.actions.items
+        ≡ map action_defn_view state.old.actions.items ++ made_starts state.old.prefix.now (table_by_number state.old.types.now) (public_rules_in (rules_among (map item_view items.now)))) }
+    ensures count { OnOk result (vec_len state.new.actions ≡ vec_len state.old.actions + length (public_rules_in (rules_among (map item_view items.now)))) }
+    ensures given { OnOk result ((state.new.prefix ≡ state.old.prefix) × (state.new.types ≡ state.old.types)) }
+    ensures names { IfOk result (λ p. p.0.entries ≡ sorted_onto [] (start_names state.old.prefix.now (public_rules_in (rules_among (map item_view items.now))))) }
+    ensures types { IfOk result (λ p. map typed_row p.1.items ≡ start_types state.old.prefix.now (table_by_number state.old.types.now) (public_rules_in (rules_among (map item_view items.now)))) }
+{
+    let rules = rules_of(state.alloc, items)?;
+    let public = public_rules(state.alloc, &rules)?;
+    let starts = starts_of(state.alloc, state.prefix, state.types, &public)?;
+    lower_starts(state, &starts)?;
+    let table = start_table(state.alloc, &starts)?;
+    Ok((table, typed_starts(state.alloc, starts)?))
+}
