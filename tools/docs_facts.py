@@ -37,7 +37,7 @@ class Facts:
         self.by_name = collections.defaultdict(list)
         for path in sorted(self.files):
             self.by_name[os.path.basename(path)].append(path)
-        self.crates = [line.partition(":")[0] for line in read("crates.txt").splitlines() if line.strip() and not line.startswith("#")]
+        self.crates = [line.partition(":")[0].split()[0] for line in read("crates.txt").splitlines() if line.strip() and not line.startswith("#")]
         self.read_runs()
         self.read_edits()
         self.clauses, self.functions = collections.defaultdict(set), collections.defaultdict(set)

@@ -3,6 +3,7 @@
 
 ghost use Rattle.std.specs.Prelude.{◌≤◌};
 
+use lnorm_run::answer::Afterwards;
 use lnorm_run::run::run;
 use lnorm_streams::halt::{halt_of_words, report};
 use std::alloc::{AllocError, Global};
@@ -24,6 +25,7 @@ fn status(rt: &HostRuntime) -> u8
             &mut rt.stdin(),
             &mut rt.stdout(),
             &mut rt.stderr(),
+            Afterwards::Left,
         ),
         Err(error) => report(halt_of_words(&error), &mut rt.stderr()),
     }

@@ -1,5 +1,6 @@
 //! Runs of `lnorm` whose streams are cut, at each call in turn.
 use crate::cut::{Cut, Failure};
+use lnorm_run::answer::Afterwards;
 use lnorm_run::run::run;
 use std::alloc::{AllocError, Global};
 use std::io::Write;
@@ -64,7 +65,14 @@ fn push_cut_read(
     let mut input = input;
     let mut output = Vec::new(alloc);
     let mut faults = Vec::new(alloc);
-    let status = run(alloc, words, &mut input, &mut output, &mut faults);
+    let status = run(
+        alloc,
+        words,
+        &mut input,
+        &mut output,
+        &mut faults,
+        Afterwards::LetGo,
+    );
     push_cut(text, &input)?;
     push_end(text, status, &output, &faults)?;
     push_difference(text, whole, &output)?;
@@ -115,7 +123,14 @@ fn push_cut_write(
     let mut input = asked.bytes;
     let mut output = output;
     let mut faults = Vec::new(alloc);
-    let status = run(alloc, asked.words, &mut input, &mut output, &mut faults);
+    let status = run(
+        alloc,
+        asked.words,
+        &mut input,
+        &mut output,
+        &mut faults,
+        Afterwards::LetGo,
+    );
     push_cut(text, &output)?;
     push_end(text, status, &output.bytes, &faults)?;
     push_difference(text, whole, &output.bytes)?;
@@ -191,7 +206,14 @@ fn ended_with<E: Write>(
     let bytes = Vec::from_slice(alloc, asked.bytes)?;
     let mut input = Cut::new(bytes, 100, asked.fails_at, Failure::Broken);
     let mut output = Vec::new(alloc);
-    let status = run(alloc, asked.words, &mut input, &mut output, faults);
+    let status = run(
+        alloc,
+        asked.words,
+        &mut input,
+        &mut output,
+        faults,
+        Afterwards::LetGo,
+    );
     Ok((status, output))
 }
 

@@ -1,4 +1,5 @@
 //! Runs of the program `lnorm`.
+use lnorm_run::answer::Afterwards;
 use lnorm_run::run::run;
 use std::alloc::{AllocError, Global};
 
@@ -12,7 +13,14 @@ pub(crate) fn push_run(
     let mut input = bytes;
     let mut output = Vec::new(alloc);
     let mut faults = Vec::new(alloc);
-    let status = run(alloc, words, &mut input, &mut output, &mut faults);
+    let status = run(
+        alloc,
+        words,
+        &mut input,
+        &mut output,
+        &mut faults,
+        Afterwards::LetGo,
+    );
     push_ended(text, status, &output, &faults)
 }
 
@@ -38,7 +46,14 @@ fn is_told_as_no_tree(alloc: Global, words: &[String], bytes: &[u8]) -> bool {
     let mut input = bytes;
     let mut output = Vec::new(alloc);
     let mut faults = Vec::new(alloc);
-    let status = run(alloc, words, &mut input, &mut output, &mut faults);
+    let status = run(
+        alloc,
+        words,
+        &mut input,
+        &mut output,
+        &mut faults,
+        Afterwards::LetGo,
+    );
     match str::from_utf8(&faults) {
         Ok("lnorm: not a tree\n") => status == 2 && output.is_empty(),
         _ => false,

@@ -21,34 +21,58 @@ use lnorm_streams::halt::Halt;
 use std::alloc::Global;
 use std::mem;
 
+/// What becomes of a lowered grammar once its lines are made.
+#[derive(Clone, Copy)]
+pub enum Afterwards {
+    /// It is let go.
+    LetGo,
+    /// It stays in memory: the program ends, and to let it go would take its parts one by one.
+    Left,
+}
+
 /// The text for the bytes that were read: the lines of the lowered grammar of the tree whose JSON form they are. The bytes are let go
-/// once the tree is read. The program ends behind the text, so the lowered grammar is not let go: that would take its parts one by one.
+/// once the tree is read, and the lowered grammar behind the text, if that is asked for.
 ///
 /// Errors: `NotATree` where they are the form of no tree; `Failed` with the first fault of the tree, or with want of
 /// memory.
-pub fn answer(alloc: Global, asked: &Asked, bytes: Vec<u8>) -> Result<String, Halt>
+pub fn answer(
+    alloc: Global,
+    asked: &Asked,
+    bytes: Vec<u8>,
+    afterwards: Afterwards,
+) -> Result<String, Halt>
     ensures ok { IfOk result (λ text. IsAnswer (settings_view asked.now) bytes.items (string_bytes text)) }
     ensures err { IfErr result (Explains (settings_view asked.now) bytes.items) }
 {
     let tree = tree_of(alloc, &bytes)?;
     drop(bytes);
-    text_for(alloc, asked, tree)
+    text_for(alloc, asked, tree, afterwards)
 }
 
 /// The text for a tree.
-fn text_for(alloc: Global, asked: &Asked, tree: Grammar) -> Result<String, Halt>
+fn text_for(
+    alloc: Global,
+    asked: &Asked,
+    tree: Grammar,
+    afterwards: Afterwards,
+) -> Result<String, Halt>
     ensures ok { IfOk result (λ text. IsTextFor (settings_view asked.now) (grammar_view tree) (string_bytes text)) }
     ensures err { IfErr result (Tells (settings_view asked.now) (grammar_view tree)) }
 {
     if asked.origins {
-        traced_text(alloc, asked, tree)
+        traced_text(alloc, asked, tree, afterwards)
     } else {
-        plain_text(alloc, asked, tree)
+        plain_text(alloc, asked, tree, afterwards)
     }
 }
 
 /// The text for a tree, without origins.
-fn plain_text(alloc: Global, asked: &Asked, tree: Grammar) -> Result<String, Halt>
+fn plain_text(
+    alloc: Global,
+    asked: &Asked,
+    tree: Grammar,
+    afterwards: Afterwards,
+) -> Result<String, Halt>
     requires { asked.now.origins ≡ false }
     ensures ok { IfOk result (λ text. IsTextFor (settings_view asked.now) (grammar_view tree) (string_bytes text)) }
     ensures err { IfErr result (Tells (settings_view asked.now) (grammar_view tree)) }
@@ -56,7 +80,7 @@ fn plain_text(alloc: Global, asked: &Asked, tree: Grammar) -> Result<String, Hal
     match normalize(alloc, &asked.session, tree) {
         Ok(lowered) => {
             let text = text_of(alloc, &lowered);
-            mem::forget(lowered);
+            put_away(lowered, afterwards);
             text
         }
         Err(failure) => Err(Halt::Failed(failure)),
@@ -64,7 +88,12 @@ fn plain_text(alloc: Global, asked: &Asked, tree: Grammar) -> Result<String, Hal
 }
 
 /// The text for a tree, with origins.
-fn traced_text(alloc: Global, asked: &Asked, tree: Grammar) -> Result<String, Halt>
+fn traced_text(
+    alloc: Global,
+    asked: &Asked,
+    tree: Grammar,
+    afterwards: Afterwards,
+) -> Result<String, Halt>
     requires { asked.now.origins ≡ true }
     ensures ok { IfOk result (λ text. IsTextFor (settings_view asked.now) (grammar_view tree) (string_bytes text)) }
     ensures err { IfErr result (Tells (settings_view asked.now) (grammar_view tree)) }
@@ -72,10 +101,18 @@ fn traced_text(alloc: Global, asked: &Asked, tree: Grammar) -> Result<String, Ha
     match normalize_traced(alloc, &asked.session, tree) {
         Ok(traced) => {
             let text = traced_text_of(alloc, &traced);
-            mem::forget(traced);
+            put_away(traced, afterwards);
             text
         }
         Err(refused) => Err(Halt::Failed(refused)),
+    }
+}
+
+/// Lets a value go, or leaves it in memory.
+fn put_away<T: Drop>(value: T, afterwards: Afterwards) {
+    match afterwards {
+        Afterwards::LetGo => drop(value),
+        Afterwards::Left => mem::forget(value),
     }
 }
 

@@ -1,0 +1,13 @@
+-- What an explained tree says of the grammar's bytes.
+use Rattle.std.proofs.Common.{ℕ, List, String, Global, string_bytes, IfOk, Ok, Err, Result}
+use Rattle.lalrpop_norm_tree.specs.Items.{GrammarData}
+use Rattle.lalrpop_norm_theory.specs.LoweredTrees.{LoweredTree}
+use Rattle.lalrpop_norm_model.specs.Features.{Features}
+use Rattle.lnorm_run.specs.Answers.{IsFormOf}
+use Rattle.lexplain_run.specs.Answers.{ExplainsTree}
+
+pub explained_of : {E : Type 0} (r : Result (String Global) E) (fs : Features) (bytes : List ℕ) (g : GrammarData) (u : LoweredTree) →
+    IsFormOf g bytes → IfOk r (λ text. ExplainsTree fs g u (string_bytes text)) →
+    IfOk r (λ text. (tree : GrammarData) × IsFormOf tree bytes × (derivation : LoweredTree) × ExplainsTree fs tree derivation (string_bytes text))
+explained_of (Ok text) fs bytes g u form h = (g, form, u, h)
+explained_of (Err e) fs bytes g u form h = h

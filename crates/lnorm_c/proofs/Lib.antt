@@ -1,0 +1,3 @@
+mod WordLemmas
+mod CallLemmas
+mod ExplainLemmas

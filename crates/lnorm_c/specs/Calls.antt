@@ -1,0 +1,56 @@
+-- What a call asks for, and what its answers say of the bytes that it was given.
+use Rattle.std.specs.Prelude.{◌≡◌, ◌≤◌, ℕ, List, Some, length, take}
+use Rattle.lalrpop_norm_tree_names.specs.declared.names.Span.{Span}
+use Rattle.lalrpop_norm_faults.specs.declared.kind.FaultKind.{FaultKind}
+use Rattle.lalrpop_norm_tree.specs.Items.{GrammarData}
+use Rattle.lalrpop_norm_theory.specs.LoweredTrees.{LoweredTree}
+use Rattle.lalrpop_norm_model.specs.Features.{Features}
+use Rattle.lnorm_run.specs.Settings.{Settings, settings_of}
+use Rattle.lnorm_run.specs.Answers.{IsTree, IsFormOf, IsAnswer, IsFirstFault}
+use Rattle.lexplain_run.specs.Answers.{ExplainsTree}
+use Rattle.lnorm_c.specs.Words.{AreWords}
+
+-- the words in the text ask for these settings
+pub record AsksFor (words : List ℕ) (s : Settings) : Type 0 where
+  pub list : List (List ℕ)
+  pub stand : AreWords words list
+  pub are : settings_of list ≡ Some s
+
+-- they ask for settings with these features
+abbrev pub AsksForFeatures : List ℕ → Features → Type 0
+AsksForFeatures words fs = (s : Settings) × AsksFor words s × (s.features ≡ fs)
+
+-- they ask for none
+abbrev pub AsksForNothing : List ℕ → Type 0
+AsksForNothing words = (s : Settings) → AsksFor words s → ⊥
+
+-- the text is right for the words and the input
+pub record IsRightFor (words input text : List ℕ) : Type 0 where
+  pub settings : Settings
+  pub asked : AsksFor words settings
+  pub right : IsAnswer settings input text
+
+-- the fault at that place may be told of the tree that the input is
+pub record IsRefusedFor (words input : List ℕ) (fault : FaultKind) (span : Span) : Type 0 where
+  pub settings : Settings
+  pub asked : AsksFor words settings
+  pub stands : IsFirstFault settings input fault span
+
+-- the words ask for settings, and the input is no tree
+pub record IsNoTreeFor (words input : List ℕ) : Type 0 where
+  pub settings : Settings
+  pub asked : AsksFor words settings
+  pub no_tree : IsTree input → ⊥
+
+-- a beginning of the text
+abbrev pub IsFront : List ℕ → List ℕ → Type 0
+IsFront front text = (n : ℕ) × (n ≤ length text) × (front ≡ take n text)
+
+-- the text is the lines of the written tree that pairs with a derivation tree, in the grammar whose form the input is
+pub record IsExplainedFor (words grammar text : List ℕ) : Type 0 where
+  pub features : Features
+  pub asked : AsksForFeatures words features
+  pub tree : GrammarData
+  pub form : IsFormOf tree grammar
+  pub derivation : LoweredTree
+  pub explained : ExplainsTree features tree derivation text

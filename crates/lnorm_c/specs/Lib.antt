@@ -1,0 +1,4 @@
+pub mod Buffers
+pub mod Words
+pub mod Calls
+pub mod Versions

@@ -1,0 +1,11 @@
+-- What a library says of itself.
+use Rattle.std.specs.Prelude.{ℕ, List, codes}
+
+-- The version of the forms. It grows with each change by which a text that was a tree is none any more, or is another tree, or by
+-- which other lines stand for the same grammar.
+abbrev pub form_version : ℕ
+form_version = 1
+
+-- the toolchain that the library is proved and built with
+unfoldable pub toolchain_line : List ℕ
+toolchain_line = codes "rattle-kit-13f logic dac8208d650f15bf"

@@ -1,0 +1,157 @@
+//! The engine of the program `lexplain`, over bytes.
+ghost use Rattle.std.specs.Prelude.{◌≡◌, ◌≤◌, ◌<◌, ℕ, List, [], Some, IfOk, string_bytes};
+ghost use Rattle.lalrpop_norm_tree.specs.Items.{GrammarData, grammar_view};
+ghost use Rattle.lalrpop_norm_theory.specs.LoweredTrees.{LoweredTree as DerivationTree};
+ghost use Rattle.lalrpop_norm_session.specs.Sessions.{features_view};
+ghost use Rattle.lnorm_run.specs.Answers.{IsFormOf};
+ghost use Rattle.lexplain_run.specs.Answers.{ExplainsTree};
+ghost use Rattle.lnorm_streams.specs.Streams.{memory_line};
+ghost use Rattle.lnorm_c.specs.Buffers.{Takes};
+ghost use Rattle.lnorm_c.specs.Calls.{AsksForFeatures, IsExplainedFor};
+
+use crate::answer::{Ended, LnormAnswer, told, without_memory};
+use crate::words::words_in;
+use lalrpop_norm::explain::LoweredTree;
+use lalrpop_norm::lexer::CheckOnly;
+use lalrpop_norm::normalize::{NormFailure, Session};
+use lalrpop_norm_json::{TreeError, read_tree};
+use lalrpop_norm_tree::grammar::parse_tree::Grammar;
+use lexplain_run::answer::{Stop, explained, told as told_stop};
+use lexplain_run::read::{LinesError, tree_of_lines};
+use lnorm_run::words::{WordsError, asked_by};
+use std::alloc::Global;
+
+/// What `lexplain explain` does, over bytes: from a derivation tree of a lowered grammar to the tree of the grammar as it was written.
+/// `words` are options of `lnorm` but `--origins`, in one text, each ended by a zero byte; `grammar` is a tree in JSON, and `lines`
+/// the derivation tree in lines of JSON. The lines of the other tree are put into `output`.
+///
+/// The status: 0 the output is the lines; 1 the grammar or the tree has a fault; 2 the words are no options, the grammar is no tree of
+/// a grammar, or the lines are no tree; 3 there was no memory. With each but 0 there is no output, and `faults` has a line that says why.
+///
+/// Of each of the two texts the front is put into its buffer, as much as it takes; the answer has the size of the whole.
+#[unsafe(no_mangle)]
+pub extern "C" fn lnorm_explain(
+    alloc: Global,
+    words: &[u8],
+    grammar: &[u8],
+    lines: &[u8],
+    output: &mut [u8],
+    faults: &mut [u8],
+) -> LnormAnswer
+    // The output is the lines of a tree that pairs with one of that grammar, cut where the buffer ends.
+    ensures done { result.status ≡ 0 → (text : List ℕ)
+        × IsExplainedFor words.now grammar.now text
+        × Takes output.old output.new text result.output_size
+        × Takes faults.old faults.new [] result.faults_size }
+    ensures memory { result.status ≡ 3 → Takes faults.old faults.new memory_line result.faults_size }
+    ensures quiet { 0 < result.status → Takes output.old output.new [] result.output_size }
+    ensures status { result.status ≤ 3 }
+{
+    let ended = explain_ended(alloc, words, grammar, lines);
+    told(&ended, output, faults)
+}
+
+/// What the engine comes to.
+fn explain_ended(alloc: Global, words: &[u8], grammar: &[u8], lines: &[u8]) -> Ended
+    ensures done { result.status ≡ 0 → IsExplainedFor words.now grammar.now result.output.items
+        × (result.faults.items ≡ []) }
+    ensures quiet { 0 < result.status → result.output.items ≡ [] }
+{
+    match session_in(alloc, words) {
+        Ok(session) => match explained_lines(alloc, &session, grammar, lines) {
+            Ok(text) => Ended {
+                status: 0,
+                output: text.into_bytes(),
+                faults: Vec::new(alloc),
+            },
+            Err(stop) => stopped(alloc, stop),
+        },
+        Err(WordsError::Usage) => refused_words(alloc),
+        Err(WordsError::Memory) => without_memory(alloc),
+    }
+}
+
+/// The session that the words in a text ask for. Errors: `Usage` where they ask for none, or for origins; `Memory`.
+fn session_in(alloc: Global, words: &[u8]) -> Result<Session<CheckOnly>, WordsError>
+    ensures { IfOk result (λ session. AsksForFeatures words.now (features_view session.features)) }
+{
+    let words = words_in(alloc, words)?;
+    let asked = asked_by(alloc, &words)?;
+    if asked.origins {
+        Err(WordsError::Usage)
+    } else {
+        Ok(asked.session)
+    }
+}
+
+/// The lines of the written tree.
+fn explained_lines(
+    alloc: Global,
+    session: &Session<CheckOnly>,
+    grammar: &[u8],
+    lines: &[u8],
+) -> Result<String, Stop>
+    ensures { IfOk result (λ text. (tree : GrammarData) × IsFormOf tree grammar.now
+        × (derivation : DerivationTree) × ExplainsTree (features_view session.now.features) tree derivation (string_bytes text)) }
+{
+    let grammar = grammar_in(alloc, grammar)?;
+    let tree = derivation_in(alloc, lines)?;
+    explained(alloc, session, grammar, &tree)
+}
+
+/// The grammar whose JSON form the bytes are.
+fn grammar_in(alloc: Global, bytes: &[u8]) -> Result<Grammar, Stop>
+    ensures { IfOk result (λ g. IsFormOf (grammar_view g) bytes.now) }
+{
+    let Ok(text) = str::from_utf8(bytes) else {
+        return Err(Stop::NotAGrammar);
+    };
+    match read_tree(alloc, text) {
+        Ok(grammar) => Ok(grammar),
+        Err(TreeError::NotATree) => Err(Stop::NotAGrammar),
+        Err(TreeError::Memory) => Err(Stop::Failed(NormFailure::Memory)),
+    }
+}
+
+/// The derivation tree that the lines make.
+fn derivation_in(alloc: Global, bytes: &[u8]) -> Result<LoweredTree, Stop> {
+    let Ok(text) = str::from_utf8(bytes) else {
+        return Err(Stop::NotATree);
+    };
+    match tree_of_lines(alloc, text) {
+        Ok(tree) => Ok(tree),
+        Err(LinesError::NotATree) => Err(Stop::NotATree),
+        Err(LinesError::Memory) => Err(Stop::Failed(NormFailure::Memory)),
+    }
+}
+
+/// What a stop comes to.
+fn stopped(alloc: Global, stop: Stop) -> Ended
+    ensures status { 0 < result.status }
+    ensures quiet { result.output.items ≡ [] }
+{
+    let (status, line) = told_stop(alloc, stop);
+    Ended {
+        status: if status == 0 { 3 } else { status },
+        output: Vec::new(alloc),
+        faults: line.into_bytes(),
+    }
+}
+
+/// What a call comes to whose words ask for nothing.
+fn refused_words(alloc: Global) -> Ended
+    ensures status { 0 < result.status }
+    ensures quiet { result.output.items ≡ [] }
+{
+    let mut faults = Vec::new(alloc);
+    match faults.extend_from_slice(USAGE.as_bytes()) {
+        Ok(()) => Ended {
+            status: 2,
+            output: Vec::new(alloc),
+            faults,
+        },
+        Err(_) => without_memory(alloc),
+    }
+}
+
+const USAGE: &str = "lexplain: words: [--limit N] [--feature F]...\n";

@@ -1,0 +1,30 @@
+//! What a library was made with, and which forms it reads and writes.
+ghost use Rattle.std.specs.Prelude.{◌≡◌};
+ghost use Rattle.lnorm_c.specs.Buffers.{Takes};
+ghost use Rattle.lnorm_c.specs.Versions.{form_version, toolchain_line};
+
+use crate::buffers::put;
+
+/// The version of the forms: of a tree in JSON, and of the lines.
+#[unsafe(no_mangle)]
+pub extern "C" fn lnorm_form_version() -> u32
+    ensures { result ≡ form_version }
+{
+    1
+}
+
+/// The toolchain that the library was proved and built with, as `rt version` names it. The front of that line, without a line feed, is
+/// put into the buffer, as much as it takes; the answer is the size of the whole in bytes.
+#[unsafe(no_mangle)]
+pub extern "C" fn lnorm_toolchain(line: &mut [u8]) -> usize
+    ensures { Takes line.old line.new toolchain_line result }
+{
+    put(toolchain().as_bytes(), line)
+}
+
+#[tactic(auto, unfolding(crate::specs::Versions::toolchain_line))]
+fn toolchain() -> &'static str
+    ensures { result.now ≡ toolchain_line }
+{
+    "rattle-kit-13f logic dac8208d650f15bf"
+}

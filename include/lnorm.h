@@ -1,0 +1,92 @@
+/* The programs lnorm and lexplain for callers: texts go in and out as bytes.
+ *
+ * The library is crates/lnorm_c/out/liblnorm_c.a. It calls malloc, realloc and free of the program that links it, through the
+ * toolchain's c/liblibc_c.a, and nothing else. docs/use/FROM_RUST_AND_C.md says how to make and link both.
+ *
+ * Nothing is kept between calls, and nothing is handed out that the caller must free. Calls may run at once, in any threads.
+ *
+ * What the caller owes, which nothing checks:
+ *
+ * - Each pointer points to as many bytes as the size behind it says, and is not null, even where that size is 0.
+ * - Nobody writes to these bytes during the call, and nobody else reads or writes a buffer. The buffers overlap nothing.
+ * - malloc, realloc and free are those of one allocator, and what malloc and realloc give is aligned to each power of two, up to 16,
+ *   that divides its size.
+ * - No call is made in a signal handler, nor in the forked child of a process with threads.
+ * - There is stack enough: docs/use/FROM_RUST_AND_C.md has figures.
+ * - The names below, and rattle_alloc, rattle_realloc and rattle_dealloc, mean the functions of these two archives alone.
+ */
+#ifndef LNORM_H
+#define LNORM_H
+
+#include <stddef.h>
+#include <stdint.h>
+
+#ifdef __cplusplus
+extern "C" {
+#endif
+
+/* The statuses. */
+enum {
+    /* The output is the lines that were asked for; there is no line of faults. */
+    LNORM_DONE = 0,
+    /* The grammar, or the tree that is to be explained, has a fault, which the line of faults tells by number and place. */
+    LNORM_FAULT = 1,
+    /* The words are no options, or the input is no tree; the line of faults tells which. */
+    LNORM_REFUSED = 2,
+    /* There was no memory, or a pattern of the grammar is past the size that a regular expression may have; the line of faults is
+     * "lnorm: out of memory\n". */
+    LNORM_NO_MEMORY = 3
+};
+
+/* What a call answers beside its buffers. */
+struct lnorm_answer {
+    /* One of the statuses above. */
+    uint8_t status;
+    /* How many bytes the whole output has: 0 with each status but LNORM_DONE. Where that is more than the room of the buffer, the buffer
+     * has the front of it, and a second call with that much room gets the whole. */
+    size_t output_size;
+    /* The same of the line of faults, which ends with a line feed: 0 with LNORM_DONE. */
+    size_t faults_size;
+};
+
+/* Lowers a grammar.
+ *
+ * words    the options of the program lnorm (docs/use/FORMATS.md), as "--limit", "50", "--origins": UTF-8, each ended by a zero byte,
+ *          the last one too. None: the size 0.
+ * input    a tree in JSON (docs/use/FORMATS.md).
+ * output   the lines of the lowered grammar, each ended by a line feed; not ended by a zero byte.
+ * faults   the line of faults, as that of the program on standard error.
+ *
+ * A buffer without room may be given to ask for a size. What is behind a text in its buffer stays as it was. */
+struct lnorm_answer lnorm_run(
+    const char *words, size_t words_size,
+    const char *input, size_t input_size,
+    char *output, size_t output_room,
+    char *faults, size_t faults_room);
+
+/* Takes a derivation tree of the lowered grammar back to the grammar as it was written, as the program lexplain does with the word explain.
+ *
+ * words    options as above, but --origins.
+ * grammar  a tree in JSON.
+ * lines    the derivation tree, in lines of JSON (docs/use/FORMATS.md).
+ * output   the tree of the grammar as it was written, in such lines.
+ * faults   a line that says why there is none: a fault of the grammar, as above; or of the tree, as "X3 /0/1\n"; or of what was given. */
+struct lnorm_answer lnorm_explain(
+    const char *words, size_t words_size,
+    const char *grammar, size_t grammar_size,
+    const char *lines, size_t lines_size,
+    char *output, size_t output_room,
+    char *faults, size_t faults_room);
+
+/* The version of the forms, of trees and of lines (docs/use/FORMATS.md). */
+uint32_t lnorm_form_version(void);
+
+/* The toolchain that the library was proved and built with: the front of its line, without a line feed, goes into the buffer, and its whole
+ * size is answered. */
+size_t lnorm_toolchain(char *line, size_t room);
+
+#ifdef __cplusplus
+}
+#endif
+
+#endif
