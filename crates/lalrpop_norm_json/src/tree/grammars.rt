@@ -102,6 +102,24 @@ fn have_forms(items: &[GrammarItem]) -> bool
     true
 }
 
+/// The fields of a grammar, in the order of their keys.
+type GrammarFields = And<
+    Vec<Attribute>,
+    And<
+        Vec<GrammarItem>,
+        And<
+            Vec<String>,
+            And<
+                Vec<Parameter>,
+                And<
+                    String,
+                    And<Span, And<Vec<TypeParameter>, And<Vec<WhereClause<TypeRef>>, End>>>,
+                >,
+            >,
+        >,
+    >,
+>;
+
 /// The grammar whose form the value is that begins with the token.
 pub(crate) fn grammar<'a>(
     alloc: Global,
@@ -114,25 +132,7 @@ pub(crate) fn grammar<'a>(
     ensures err { IsErrOf result ReadError.NotJson → data_of depth (token_of first.entry ∷ reader.old) ≡ None }
     ensures shorter { OnOk result (length reader.new ≤ length reader.old) }
 {
-    let read = read_record::<
-        Tree,
-        And<
-            Vec<Attribute>,
-            And<
-                Vec<GrammarItem>,
-                And<
-                    Vec<String>,
-                    And<
-                        Vec<Parameter>,
-                        And<
-                            String,
-                            And<Span, And<Vec<TypeParameter>, And<Vec<WhereClause<TypeRef>>, End>>>,
-                        >,
-                    >,
-                >,
-            >,
-        >,
-    >(
+    let read = read_record::<Tree, GrammarFields>(
         alloc,
         &[
             "attributes",

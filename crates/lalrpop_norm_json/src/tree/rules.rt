@@ -265,6 +265,18 @@ impl Reads<Visibility> for Tree {
     }
 }
 
+/// The fields of a rule, in the order of their keys.
+type RuleFields = And<
+    Vec<Alternative>,
+    And<
+        Vec<NonterminalString>,
+        And<
+            Vec<Attribute>,
+            And<NonterminalString, And<Span, And<Option<TypeRef>, And<Visibility, End>>>>,
+        >,
+    >,
+>;
+
 impl Reads<NonterminalData> for Tree {
     ghost use Rattle.lalrpop_norm_tree.specs.Items.{rule_view};
     ghost use Rattle.lalrpop_norm_json.specs.ItemForms.{rule_form};
@@ -281,22 +293,7 @@ impl Reads<NonterminalData> for Tree {
         reader: &mut Reader<'a>,
         depth: usize,
     ) -> Result<Option<NonterminalData>, ReadError> {
-        match read_record::<
-            Tree,
-            And<
-                Vec<Alternative>,
-                And<
-                    Vec<NonterminalString>,
-                    And<
-                        Vec<Attribute>,
-                        And<
-                            NonterminalString,
-                            And<Span, And<Option<TypeRef>, And<Visibility, End>>>,
-                        >,
-                    >,
-                >,
-            >,
-        >(
+        match read_record::<Tree, RuleFields>(
             alloc,
             &[
                 "alternatives",
