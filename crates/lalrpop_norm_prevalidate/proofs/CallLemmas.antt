@@ -2,18 +2,10 @@
 use Rattle.std.proofs.Common.{◌≡◌, ◌<◌, List, [], ◌∷◌, length, arith, refl}
 use Rattle.lalrpop_norm_tree_names.specs.declared.names.Span.{Span}
 use Rattle.lalrpop_norm_tree.specs.declared.symbol.Symbol.{Symbol}
-use Rattle.lalrpop_norm_tree_parts.specs.declared.attribute.Attribute.{Attribute}
-use Rattle.lalrpop_norm_tree_parts.specs.Attributes.{attributes_view}
 use Rattle.lalrpop_norm_tree.specs.Symbols.{parts_view}
-use Rattle.lalrpop_norm_prevalidate.specs.CfgFaults.{empty_faults}
 use Rattle.lalrpop_norm_prevalidate.specs.SymbolFaults.{call_faults}
 
 pub no_call_faults : (s : Span) (ss : List Symbol) → 0 < length ss → call_faults s (parts_view ss) ≡ []
 unfolding call_faults
 no_call_faults s [] h = absurd (omega arith)
 no_call_faults s (x ∷ xs) h = refl
-
-pub no_empty_faults : (s : Span) (xs : List Attribute) → 0 < length xs → empty_faults s (attributes_view xs) ≡ []
-unfolding empty_faults
-no_empty_faults s [] h = absurd (omega arith)
-no_empty_faults s (x ∷ xs) h = refl

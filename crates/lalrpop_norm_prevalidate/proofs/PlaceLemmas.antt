@@ -12,7 +12,7 @@ use Rattle.lalrpop_norm_model.specs.Features.{is_one_of}
 use Rattle.lalrpop_norm_model.specs.TokenFaults.{each_after}
 use Rattle.lalrpop_norm_prevalidate.specs.declared.prevalidate.Surroundings.{Surroundings}
 use Rattle.lalrpop_norm_prevalidate.specs.declared.prevalidate.Blocks.{Blocks}
-use Rattle.lalrpop_norm_prevalidate.specs.CfgFaults.{cfg_faults}
+use Rattle.lalrpop_norm_prevalidate_attributes.specs.CfgFaults.{cfg_faults}
 use Rattle.lalrpop_norm_prevalidate.specs.GrammarFaults.{is_known_on_rule, attribute_name, attribute_list, rule_attribute_faults, attributes_faults, is_known_type, associated_faults, types_faults, is_match, is_extern, item_faults, items_faults}
 use Rattle.lalrpop_norm_prevalidate.specs.Walks.{attributes_along, types_along, items_along}
 use Rattle.lalrpop_norm_theory.proofs.BoolLemmas.{or_swap}

@@ -1,32 +1,17 @@
 -- The faults of an alternative, in the order in which they are looked for: its symbols, its attributes, its code.
-use Rattle.std.specs.Prelude.{ℕ, Bool, ◌||◌, not, List, [], ◌∷◌, ◌++◌, Option, Some, None, bytes_eq, codes, if◌then◌else◌}
+use Rattle.std.specs.Prelude.{ℕ, List, [], ◌∷◌, ◌++◌, Option, Some, None}
 use Rattle.lalrpop_norm_tree_names.specs.declared.names.Span.{Span}
 use Rattle.lalrpop_norm_tree.specs.Accessors.{or_else}
-use Rattle.lalrpop_norm_tree_parts.specs.Attributes.{AttributeData, Attributes, attribute, no_attributes, attribute_and}
 use Rattle.lalrpop_norm_tree.specs.Items.{Action, user_code, fallible_code, lookahead_code, lookbehind_code, AlternativeData}
 use Rattle.lalrpop_norm_tree.specs.Symbols.{Kind, named, tupled, at, Parts, no_parts, part_and}
-use Rattle.lalrpop_norm_faults.specs.declared.kind.FaultKind.TheVariants.{AlternativeAttribute, NamedWithoutAction}
+use Rattle.lalrpop_norm_faults.specs.declared.kind.FaultKind.TheVariants.{NamedWithoutAction}
 use Rattle.lalrpop_norm_faults.specs.declared.kind.FaultKind.TheVariants.{AnonymousInBraces, WrittenLookaround}
 use Rattle.lalrpop_norm_faults.specs.Faults.{Fault, fault_if}
 use Rattle.lalrpop_norm_prevalidate.specs.declared.prevalidate.Surroundings.{Surroundings}
 use Rattle.lalrpop_norm_session.specs.Braces.{presence, is_in_braces}
-use Rattle.lalrpop_norm_prevalidate.specs.CfgFaults.{cfg_faults}
+use Rattle.lalrpop_norm_prevalidate_attributes.specs.AttributeFaults.{alternative_attributes_faults}
 use Rattle.lalrpop_norm_prevalidate.specs.SymbolFaults.{list_faults}
 use Rattle.lalrpop_norm_model.specs.MadeRules.{span_of}
-
-abbrev pub is_known_on_alternative : List ℕ → Bool
-is_known_on_alternative name = bytes_eq name (codes "precedence") || bytes_eq name (codes "assoc") || bytes_eq name (codes "cfg")
-
--- one attribute of an alternative: F13, F11
-unfoldable pub alternative_attribute_faults : AttributeData → List Fault
-alternative_attribute_faults (attribute s name x) =
-    fault_if (not (is_known_on_alternative name)) (AlternativeAttribute, s)
-    ++ (if bytes_eq name (codes "cfg") then cfg_faults s x else [])
-
--- each attribute in order; of several `cfg` each is judged
-abbrev pub alternative_attributes_faults : Attributes → List Fault
-alternative_attributes_faults no_attributes = []
-alternative_attributes_faults (attribute_and a rest) = alternative_attribute_faults a ++ alternative_attributes_faults rest
 
 abbrev pub place_inside : Kind → Option Span
 place_inside (named n p) = Some (span_of p)

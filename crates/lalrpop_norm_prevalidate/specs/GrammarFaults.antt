@@ -27,7 +27,7 @@ use Rattle.lalrpop_norm_prevalidate.specs.declared.prevalidate.Surroundings.{Sur
 use Rattle.lalrpop_norm_prevalidate.specs.declared.prevalidate.Blocks.{Blocks}
 use Rattle.lalrpop_norm_prevalidate.specs.SymbolFaults.{terminal_faults}
 use Rattle.lalrpop_norm_prevalidate.specs.AlternativeFaults.{alternative_faults}
-use Rattle.lalrpop_norm_prevalidate.specs.CfgFaults.{cfg_faults, all_cfg_faults}
+use Rattle.lalrpop_norm_prevalidate_attributes.specs.CfgFaults.{cfg_faults, all_cfg_faults}
 use Rattle.lalrpop_norm_precedence_steps.specs.LevelFaults.{level_faults}
 use Rattle.lalrpop_norm_prevalidate.specs.TypeFaults.{some_holds, clause_holds, pattern_holds}
 

@@ -1,7 +1,6 @@
 pub mod EnabledItems
 pub mod SymbolFaults
 pub mod AlternativeFaults
-pub mod CfgFaults
 pub mod TypeFaults
 pub mod GrammarFaults
 pub mod MalformedCfgs

@@ -5,7 +5,7 @@ use Rattle.lalrpop_norm_tree_parts.specs.Attributes.{AttributeData, Attributes, 
 use Rattle.lalrpop_norm_tree.specs.Items.{AlternativeData, RuleData, ConversionData, EnumTokenData, ItemData, GrammarData}
 use Rattle.lalrpop_norm_tree.specs.Items.{match_item, extern_item, intern_item, rule_item, use_item}
 use Rattle.lalrpop_norm_faults.specs.Faults.{Fault, first}
-use Rattle.lalrpop_norm_prevalidate.specs.CfgFaults.{attribute_cfg_faults}
+use Rattle.lalrpop_norm_prevalidate_attributes.specs.CfgFaults.{attribute_cfg_faults}
 
 abbrev pub told_place : Option Fault → List Span
 told_place None = []

@@ -9,7 +9,6 @@ ghost use Rattle.lalrpop_norm_faults.specs.Faults.{Refuses};
 ghost use Rattle.lalrpop_norm_prevalidate.specs.GrammarFaults.{is_match, is_extern, item_faults, items_faults, ascent_named, ascent_asked, lacks_location, surroundings_of, blocks_in, unknown_grammar_faults, parameter_faults, clause_faults, validate_faults};
 
 mod alternatives;
-mod cfg;
 mod malformed;
 mod rules;
 mod symbols;

@@ -1,4 +1,3 @@
-pub mod Buffers
 pub mod Words
 pub mod Calls
 pub mod Versions

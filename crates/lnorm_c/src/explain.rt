@@ -6,10 +6,9 @@ ghost use Rattle.lalrpop_norm_session.specs.Sessions.{features_view};
 ghost use Rattle.lnorm_run.specs.Answers.{IsFormOf};
 ghost use Rattle.lexplain_run.specs.Answers.{ExplainsTree};
 ghost use Rattle.lnorm_streams.specs.Streams.{memory_line};
-ghost use Rattle.lnorm_c.specs.Buffers.{Takes};
+ghost use Rattle.lnorm_buffers.specs.Buffers.{Takes};
 ghost use Rattle.lnorm_c.specs.Calls.{AsksForFeatures, IsExplainedFor};
 
-use crate::answer::{Ended, LnormAnswer, told, without_memory};
 use crate::words::words_in;
 use lalrpop_norm::explain::LoweredTree;
 use lalrpop_norm::lexer::CheckOnly;
@@ -18,6 +17,7 @@ use lalrpop_norm_json::{TreeError, read_tree};
 use lalrpop_norm_tree::grammar::parse_tree::Grammar;
 use lexplain_run::answer::{Stop, explained, told as told_stop};
 use lexplain_run::read::{LinesError, tree_of_lines};
+use lnorm_buffers::answer::{Ended, LnormAnswer, told, without_memory};
 use lnorm_run::words::{WordsError, asked_by};
 use std::alloc::Global;
 

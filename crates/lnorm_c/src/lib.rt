@@ -1,8 +1,6 @@
 //! The engines of the programs for callers of C and of Rust: the words of a call, an input and buffers go in as bytes.
 #![tactic(auto)]
 
-pub mod answer;
-pub mod buffers;
 pub mod explain;
 pub mod run;
 pub mod versions;

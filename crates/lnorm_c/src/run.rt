@@ -6,13 +6,13 @@ ghost use Rattle.lnorm_run.specs.Runs.{IsRight, IsRefused, IsNoTree};
 ghost use Rattle.lnorm_run.specs.Settings.{settings_of};
 ghost use Rattle.lnorm_streams.specs.Told.{status_of, LineOf};
 ghost use Rattle.lnorm_streams.specs.Streams.{fault_line, usage_line, no_tree_line, memory_line};
-ghost use Rattle.lnorm_c.specs.Buffers.{Takes};
+ghost use Rattle.lnorm_buffers.specs.Buffers.{Takes};
 ghost use Rattle.lnorm_c.specs.Calls.{AsksForNothing, IsRightFor, IsRefusedFor, IsNoTreeFor, IsFront};
 
-use crate::answer::{Ended, LnormAnswer, told, without_memory};
 use crate::words::words_in;
 use crate::written::Written;
 use lalrpop_norm_faults::NormFailure;
+use lnorm_buffers::answer::{Ended, LnormAnswer, told, without_memory};
 use lnorm_run::answer::Afterwards;
 use lnorm_run::run::run;
 use lnorm_run::words::WordsError;

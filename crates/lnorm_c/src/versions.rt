@@ -1,9 +1,9 @@
 //! What a library was made with, and which forms it reads and writes.
 ghost use Rattle.std.specs.Prelude.{◌≡◌};
-ghost use Rattle.lnorm_c.specs.Buffers.{Takes};
+ghost use Rattle.lnorm_buffers.specs.Buffers.{Takes};
 ghost use Rattle.lnorm_c.specs.Versions.{form_version, toolchain_line};
 
-use crate::buffers::put;
+use lnorm_buffers::buffers::put;
 
 /// The version of the forms: of a tree in JSON, and of the lines.
 #[unsafe(no_mangle)]

@@ -1,19 +1,16 @@
 //! Alternatives.
-ghost use Rattle.std.specs.Prelude.{◌≡◌, not, option_map};
-ghost use Rattle.lalrpop_norm_tree_parts.specs.Attributes.{attribute_view, attributes_view};
+ghost use Rattle.std.specs.Prelude.{◌≡◌, option_map};
 ghost use Rattle.lalrpop_norm_tree.specs.Items.{action_view, alternative_view};
 ghost use Rattle.lalrpop_norm_tree.specs.Symbols.{kind_view, parts_view};
-ghost use Rattle.lalrpop_norm_faults.specs.Faults.{Refuses, fault_if};
-ghost use Rattle.lalrpop_norm_prevalidate.specs.AlternativeFaults.{alternative_faults, alternative_attribute_faults, alternative_attributes_faults, is_known_on_alternative, place_inside, first_inside, action_faults, between_braces_faults};
+ghost use Rattle.lalrpop_norm_faults.specs.Faults.{Refuses};
+ghost use Rattle.lalrpop_norm_prevalidate.specs.AlternativeFaults.{alternative_faults, place_inside, first_inside, action_faults, between_braces_faults};
 
 use super::Surroundings;
-use super::cfg::check_cfg;
 use super::symbols::validate_list;
 use lalrpop_norm_faults::{FaultKind, NormResult, refusal};
+use lalrpop_norm_prevalidate_attributes::alternatives::validate_attributes;
 use lalrpop_norm_session::norm_util::check_between_braces;
-use lalrpop_norm_tree::grammar::parse_tree::{
-    ActionKind, Alternative, Attribute, Span, Symbol, SymbolKind,
-};
+use lalrpop_norm_tree::grammar::parse_tree::{ActionKind, Alternative, Span, Symbol, SymbolKind};
 use std::alloc::Global;
 
 #[tactic(auto, unfolding(crate::specs::AlternativeFaults::alternative_faults))]
@@ -28,46 +25,6 @@ pub(super) fn validate_alternative(
     validate_attributes(alloc, &alternative.attributes)?;
     let inside = first_inside(&alternative.expr.symbols);
     validate_action(alloc, alternative.span, inside, &alternative.action)?;
-    Ok(())
-}
-
-fn is_known(name: &str) -> bool
-    ensures { result ≡ is_known_on_alternative name.now }
-{
-    name == "precedence" || name == "assoc" || name == "cfg"
-}
-
-fn check_known(alloc: Global, attribute: &Attribute) -> NormResult<()>
-    ensures { Refuses result (fault_if (not (is_known_on_alternative attribute.now.id)) (FaultKind.AlternativeAttribute, attribute.now.id_span)) }
-{
-    let name = &attribute.id;
-    if !is_known(name.as_str()) {
-        return Err(refusal(
-            FaultKind::AlternativeAttribute,
-            attribute.id_span,
-            format!(in alloc;
-                "the attribute `{name}` is not known on an alternative: `precedence`, `assoc` and `cfg` are"
-            ),
-        ));
-    }
-    Ok(())
-}
-
-#[tactic(auto, unfolding(crate::specs::AlternativeFaults::alternative_attribute_faults))]
-fn validate_attribute(alloc: Global, attribute: &Attribute) -> NormResult<()>
-    ensures { Refuses result (alternative_attribute_faults (attribute_view attribute.now)) }
-{
-    check_known(alloc, attribute)?;
-    check_cfg(alloc, attribute)?;
-    Ok(())
-}
-
-fn validate_attributes(alloc: Global, attributes: &[Attribute]) -> NormResult<()>
-    ensures { Refuses result (alternative_attributes_faults (attributes_view attributes.now)) }
-{
-    for attribute in attributes {
-        validate_attribute(alloc, attribute)?;
-    }
     Ok(())
 }
 

@@ -10,11 +10,11 @@ ghost use Rattle.lalrpop_norm_precedence_steps.specs.LevelFaults.{level_faults};
 
 use super::Surroundings;
 use super::alternatives::validate_alternative;
-use super::cfg::validate_cfg;
 use super::types::some_holds;
 use lalrpop_norm_faults::{FaultKind, NormResult, refusal};
 use lalrpop_norm_precedence::precedence::read_levels;
 use lalrpop_norm_precedence_steps::levels::without_levels;
+use lalrpop_norm_prevalidate_attributes::cfg::validate_cfg;
 use lalrpop_norm_tree::grammar::parse_tree::{Alternative, Atom, Attribute, NonterminalData, Span};
 use std::alloc::Global;
 

@@ -6,11 +6,11 @@ ghost use Rattle.lalrpop_norm_model.specs.Features.{is_one_of};
 ghost use Rattle.lalrpop_norm_prevalidate.specs.GrammarFaults.{mapping_faults, match_beside_extern_faults, match_faults, is_known_type, associated_faults, types_faults, conversion_faults, enum_faults, extern_faults};
 
 use super::Blocks;
-use super::cfg::check_cfgs;
 use super::rules::check_type;
 use super::symbols::validate_terminal;
 use super::types::pattern_holds;
 use lalrpop_norm_faults::{FaultKind, NormResult, refusal};
+use lalrpop_norm_prevalidate_attributes::cfg::check_cfgs;
 use lalrpop_norm_tree::grammar::parse_tree::{
     AssociatedType, Atom, Conversion, EnumToken, ExternToken, MatchContents, MatchItem,
     MatchMapping, MatchToken, Span,

@@ -5,8 +5,8 @@ use Rattle.lalrpop_norm_tree_parts.specs.Attributes.{Argument, empty, paren, equ
 use Rattle.lalrpop_norm_tree_parts.specs.Attributes.{no_attributes, attribute_and}
 use Rattle.lalrpop_norm_faults.specs.declared.kind.FaultKind.TheVariants.{MalformedCfg}
 use Rattle.lalrpop_norm_faults.specs.Faults.{Fault}
-use Rattle.lalrpop_norm_prevalidate.specs.declared.prevalidate.cfg.Test.{Test}
-use Rattle.lalrpop_norm_prevalidate.specs.declared.prevalidate.cfg.Test.TheVariants.{Feature, Not, Several, Unknown}
+use Rattle.lalrpop_norm_prevalidate_attributes.specs.declared.cfg.Test.{Test}
+use Rattle.lalrpop_norm_prevalidate_attributes.specs.declared.cfg.Test.TheVariants.{Feature, Not, Several, Unknown}
 
 -- what a name asks of its argument: a text, a first condition, conditions
 abbrev pub test_of : List ℕ → Test

@@ -2,15 +2,16 @@
 ghost use Rattle.std.specs.Prelude.{◌≡◌, [], ◌∷◌};
 ghost use Rattle.lalrpop_norm_tree_parts.specs.Attributes.{argument_view, attribute_view, attributes_view};
 ghost use Rattle.lalrpop_norm_faults.specs.Faults.{Refuses, IsFirst};
-ghost use Rattle.lalrpop_norm_prevalidate.specs.CfgFaults.{test_of, test_faults, test_argument_faults, first_test_faults, empty_faults, tests_faults, cfg_faults, attribute_cfg_faults, all_cfg_faults};
+ghost use Rattle.lalrpop_norm_prevalidate_attributes.specs.CfgFaults.{test_of, test_faults, test_argument_faults, first_test_faults, empty_faults, tests_faults, cfg_faults, attribute_cfg_faults, all_cfg_faults};
 
 use lalrpop_norm_faults::{FaultKind, NormFailure, NormResult, refusal};
-use lalrpop_norm_tree::grammar::parse_tree::{Attribute, AttributeArg, Span};
+use lalrpop_norm_tree_names::names::Span;
+use lalrpop_norm_tree_parts::attribute::{Attribute, AttributeArg};
 use std::alloc::Global;
 
 /// What a name in a condition asks of its argument.
 #[derive(Clone, Copy, Debug, PartialEq, Eq)]
-pub(crate) enum Test {
+pub enum Test {
     Feature,
     Not,
     Several,
@@ -85,7 +86,7 @@ fn check_first(alloc: Global, span: Span, attributes: &[Attribute]) -> NormResul
     }
 }
 
-#[tactic(auto, unfolding(crate::specs::CfgFaults::empty_faults), using(crate::proofs::CallLemmas::no_empty_faults))]
+#[tactic(auto, unfolding(crate::specs::CfgFaults::empty_faults), using(crate::proofs::EmptyLemmas::no_empty_faults))]
 fn check_not_empty(alloc: Global, span: Span, attributes: &[Attribute]) -> NormResult<()>
     ensures { Refuses result (empty_faults span (attributes_view attributes.now)) }
 {
@@ -106,14 +107,14 @@ fn check_each(alloc: Global, attributes: &[Attribute]) -> NormResult<()>
 }
 
 /// The first argument of a `cfg`.
-pub(super) fn validate_cfg(alloc: Global, span: Span, arg: &AttributeArg) -> NormResult<()>
+pub fn validate_cfg(alloc: Global, span: Span, arg: &AttributeArg) -> NormResult<()>
     ensures { Refuses result (cfg_faults span (argument_view arg.now)) }
 {
     check_arg(alloc, Test::Not, span, arg)
 }
 
 /// An attribute, if it is a `cfg`.
-pub(super) fn check_cfg(alloc: Global, attribute: &Attribute) -> NormResult<()>
+pub fn check_cfg(alloc: Global, attribute: &Attribute) -> NormResult<()>
     ensures { Refuses result (attribute_cfg_faults (attribute_view attribute.now)) }
 {
     if attribute.id.as_str() == "cfg" {
@@ -123,7 +124,7 @@ pub(super) fn check_cfg(alloc: Global, attribute: &Attribute) -> NormResult<()>
 }
 
 /// Each `cfg` among attributes.
-pub(super) fn check_cfgs(alloc: Global, attributes: &[Attribute]) -> NormResult<()>
+pub fn check_cfgs(alloc: Global, attributes: &[Attribute]) -> NormResult<()>
     ensures { Refuses result (all_cfg_faults (attributes_view attributes.now)) }
 {
     for attribute in attributes {

@@ -1,6 +1,6 @@
 //! What a call answers.
 ghost use Rattle.std.specs.Prelude.{◌≡◌, ◌≤◌, ◌<◌, []};
-ghost use Rattle.lnorm_c.specs.Buffers.{Takes};
+ghost use Rattle.lnorm_buffers.specs.Buffers.{Takes};
 ghost use Rattle.lnorm_streams.specs.Streams.{memory_line};
 
 use crate::buffers::put;
@@ -20,17 +20,17 @@ pub struct LnormAnswer {
 
 /// What an engine came to, before it is put into buffers.
 #[derive(Drop)]
-pub(crate) struct Ended {
+pub struct Ended {
     /// The status of the program: 3 and more where there was no memory.
-    pub(crate) status: u8,
+    pub status: u8,
     /// What goes to standard output.
-    pub(crate) output: Vec<u8>,
+    pub output: Vec<u8>,
     /// What goes to standard error.
-    pub(crate) faults: Vec<u8>,
+    pub faults: Vec<u8>,
 }
 
 /// What an engine comes to that has no memory: nothing is taken for it.
-pub(crate) fn without_memory(alloc: Global) -> Ended
+pub fn without_memory(alloc: Global) -> Ended
     ensures status { result.status ≡ 3 }
     ensures quiet { result.output.items ≡ [] }
 {
@@ -42,7 +42,7 @@ pub(crate) fn without_memory(alloc: Global) -> Ended
 }
 
 /// The answer for what an engine came to. That there was no memory is told by a line that takes none.
-pub(crate) fn told(ended: &Ended, output: &mut [u8], faults: &mut [u8]) -> LnormAnswer
+pub fn told(ended: &Ended, output: &mut [u8], faults: &mut [u8]) -> LnormAnswer
     ensures ended { ended.now.status < 3 → (result.status ≡ ended.now.status)
         × Takes output.old output.new ended.now.output.items result.output_size
         × Takes faults.old faults.new ended.now.faults.items result.faults_size }

@@ -1,9 +1,9 @@
 //! Texts in the buffers of a caller.
-ghost use Rattle.lnorm_c.specs.Buffers.{Takes};
+ghost use Rattle.lnorm_buffers.specs.Buffers.{Takes};
 
 /// Puts the front of a text into the buffer, as much as it takes, and leaves what is behind. The answer is the length of the whole
 /// text in bytes: where that is past the buffer's, the text was cut.
-pub(crate) fn put(text: &[u8], buffer: &mut [u8]) -> usize
+pub fn put(text: &[u8], buffer: &mut [u8]) -> usize
     ensures { Takes buffer.old buffer.new text.now result }
 {
     let count = text.len().min(buffer.len());

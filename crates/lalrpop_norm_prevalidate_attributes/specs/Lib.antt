@@ -1,0 +1,2 @@
+pub mod CfgFaults
+pub mod AttributeFaults

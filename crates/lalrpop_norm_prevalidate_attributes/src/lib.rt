@@ -1,0 +1,5 @@
+//! The faults of attributes that need no names: conditions of no known form (F11), and what is not known on an alternative (F13).
+#![tactic(auto)]
+
+pub mod alternatives;
+pub mod cfg;
