@@ -1,2 +1,1 @@
 pub mod PairLemmas
-pub mod LineLemmas

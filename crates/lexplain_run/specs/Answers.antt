@@ -1,4 +1,4 @@
--- What the two ways answer for a grammar, whatever its lowered grammar is in memory.
+-- What the two ways answer for a grammar, whatever its lowered grammar is in memory, and what the program answers for two texts.
 use Rattle.std.specs.Prelude.{◌≡◌, ℕ, List, None}
 use Rattle.lalrpop_norm_tree.specs.Items.{GrammarData}
 use Rattle.lalrpop_norm_theory.specs.Symbols.{Name, reference}
@@ -10,7 +10,11 @@ use Rattle.lalrpop_norm_model.specs.Features.{Features}
 use Rattle.lalrpop_norm_model.specs.WrittenRules.{written_rules}
 use Rattle.lalrpop_norm_model.specs.Grammars.{roots}
 use Rattle.lalrpop_norm.specs.Faithful.{written_meaning, written_name}
-use Rattle.lexplain_run.specs.TreeLines.{written_lines, lowered_lines}
+use Rattle.lnorm_run.specs.Answers.{IsFormOf}
+use Rattle.lexplain_lines.specs.TreeLines.{written_lines, lowered_lines}
+use Rattle.lexplain_lines.specs.LineForms.{AreLines, written_forms, lowered_forms}
+use Rattle.lexplain_run.specs.declared.words.Way.{Way}
+use Rattle.lexplain_run.specs.declared.words.Way.TheVariants.{Explain, Lower}
 
 -- t is a tree of an enabled written rule that is no macro, and pairs with u
 abbrev pub IsPairedIn : Features → GrammarData → WrittenTree → LoweredTree → Type 0
@@ -24,3 +28,11 @@ ExplainsTree fs g u text = (t : WrittenTree) × IsPairedIn fs g t u × (text ≡
 -- the text is the lines of the lowered tree that pairs with this one
 abbrev pub LowersTree : Features → GrammarData → WrittenTree → List ℕ → Type 0
 LowersTree fs g t text = (u : LoweredTree) × IsPairedIn fs g t u × (text ≡ lowered_lines u)
+
+-- the text is the lines of the tree that is asked for: that on the other side of the tree whose lines the second text is, in the
+-- grammar whose form the first one is
+abbrev pub IsAnswer : Way → Features → List ℕ → List ℕ → List ℕ → Type 0
+IsAnswer Explain fs grammar lines text =
+    (g : GrammarData) × (u : LoweredTree) × IsFormOf g grammar × AreLines lines (lowered_forms u) × ExplainsTree fs g u text
+IsAnswer Lower fs grammar lines text =
+    (g : GrammarData) × (t : WrittenTree) × IsFormOf g grammar × AreLines lines (written_forms t) × LowersTree fs g t text

@@ -1,2 +1,1 @@
-pub mod TreeLines
 pub mod Answers

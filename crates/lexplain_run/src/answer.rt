@@ -1,12 +1,10 @@
 //! The answers of the program.
-ghost use Rattle.std.specs.Prelude.{IfOk, string_bytes};
+ghost use Rattle.std.specs.Prelude.{◌≡◌, IfOk, string_bytes};
 ghost use Rattle.lalrpop_norm_tree.specs.Items.{grammar_view};
 ghost use Rattle.lalrpop_norm_session.specs.Sessions.{features_view};
 ghost use Rattle.lalrpop_norm_explain.specs.Trees.{lowered_view, written_view};
-ghost use Rattle.lexplain_run.specs.Answers.{ExplainsTree, LowersTree};
+ghost use Rattle.lexplain_run.specs.Answers.{ExplainsTree, IsAnswer, LowersTree};
 
-use crate::lines::{lowered_lines, written_lines};
-use crate::read::{LinesError, tree_of_lines};
 use crate::words::{Asked, Way};
 use lalrpop_norm::explain::{
     ExplainError, ExplainFault, LoweredTree, WrittenTree, explain, lower_tree,
@@ -15,6 +13,8 @@ use lalrpop_norm::lexer::CheckOnly;
 use lalrpop_norm::normalize::{NormFailure, Session, normalize_traced};
 use lalrpop_norm_json::{TreeError, read_tree};
 use lalrpop_norm_tree::grammar::parse_tree::Grammar;
+use lexplain_lines::lines::{lowered_lines, written_lines};
+use lexplain_lines::read::{LinesError, lowered_tree_of_lines, written_tree_of_lines};
 use std::alloc::{AllocError, Global};
 
 /// Why there is no answer.
@@ -49,7 +49,9 @@ impl From<ExplainError> for Stop {
 }
 
 /// The lines that are asked for, of the tree that `lines` make, in the grammar whose JSON the first text is.
-pub fn answer(alloc: Global, asked: &Asked, grammar: &str, lines: &str) -> Result<String, Stop> {
+pub fn answer(alloc: Global, asked: &Asked, grammar: &str, lines: &str) -> Result<String, Stop>
+    ensures { IfOk result (λ text. IsAnswer asked.now.way (features_view asked.now.session.features) grammar.now lines.now (string_bytes text)) }
+{
     let grammar = match read_tree(alloc, grammar) {
         Ok(grammar) => grammar,
         Err(TreeError::NotATree) => return Err(Stop::NotAGrammar),
@@ -57,18 +59,20 @@ pub fn answer(alloc: Global, asked: &Asked, grammar: &str, lines: &str) -> Resul
     };
     match asked.way {
         Way::Explain => {
-            let tree: LoweredTree = read(tree_of_lines(alloc, lines))?;
+            let tree = read(lowered_tree_of_lines(alloc, lines))?;
             explained(alloc, &asked.session, grammar, &tree)
         }
         Way::Lower => {
-            let tree: WrittenTree = read(tree_of_lines(alloc, lines))?;
+            let tree = read(written_tree_of_lines(alloc, lines))?;
             lowered(alloc, &asked.session, grammar, &tree)
         }
     }
 }
 
 /// The tree that was read.
-fn read<T: Drop>(tree: Result<T, LinesError>) -> Result<T, Stop> {
+fn read<T: Drop>(tree: Result<T, LinesError>) -> Result<T, Stop>
+    ensures { IfOk result (λ t. tree ≡ Ok t) }
+{
     match tree {
         Ok(tree) => Ok(tree),
         Err(LinesError::NotATree) => Err(Stop::NotATree),

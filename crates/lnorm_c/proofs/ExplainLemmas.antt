@@ -4,10 +4,11 @@ use Rattle.lalrpop_norm_tree.specs.Items.{GrammarData}
 use Rattle.lalrpop_norm_theory.specs.LoweredTrees.{LoweredTree}
 use Rattle.lalrpop_norm_model.specs.Features.{Features}
 use Rattle.lnorm_run.specs.Answers.{IsFormOf}
+use Rattle.lexplain_lines.specs.LineForms.{AreLines, lowered_forms}
 use Rattle.lexplain_run.specs.Answers.{ExplainsTree}
 
-pub explained_of : {E : Type 0} (r : Result (String Global) E) (fs : Features) (bytes : List ℕ) (g : GrammarData) (u : LoweredTree) →
-    IsFormOf g bytes → IfOk r (λ text. ExplainsTree fs g u (string_bytes text)) →
-    IfOk r (λ text. (tree : GrammarData) × IsFormOf tree bytes × (derivation : LoweredTree) × ExplainsTree fs tree derivation (string_bytes text))
-explained_of (Ok text) fs bytes g u form h = (g, form, u, h)
-explained_of (Err e) fs bytes g u form h = h
+pub explained_of : {E : Type 0} (r : Result (String Global) E) (fs : Features) (bytes lines : List ℕ) (g : GrammarData) (u : LoweredTree) →
+    IsFormOf g bytes → AreLines lines (lowered_forms u) → IfOk r (λ text. ExplainsTree fs g u (string_bytes text)) →
+    IfOk r (λ text. (tree : GrammarData) × IsFormOf tree bytes × (derivation : LoweredTree) × AreLines lines (lowered_forms derivation) × ExplainsTree fs tree derivation (string_bytes text))
+explained_of (Ok text) fs bytes lines g u form are h = (g, form, u, are, h)
+explained_of (Err e) fs bytes lines g u form are h = h

@@ -7,6 +7,7 @@ use Rattle.lalrpop_norm_theory.specs.LoweredTrees.{LoweredTree}
 use Rattle.lalrpop_norm_model.specs.Features.{Features}
 use Rattle.lnorm_run.specs.Settings.{Settings, settings_of}
 use Rattle.lnorm_run.specs.Answers.{IsTree, IsFormOf, IsAnswer, IsFirstFault}
+use Rattle.lexplain_lines.specs.LineForms.{AreLines, lowered_forms}
 use Rattle.lexplain_run.specs.Answers.{ExplainsTree}
 use Rattle.lnorm_c.specs.Words.{AreWords}
 
@@ -46,11 +47,13 @@ pub record IsNoTreeFor (words input : List ℕ) : Type 0 where
 abbrev pub IsFront : List ℕ → List ℕ → Type 0
 IsFront front text = (n : ℕ) × (n ≤ length text) × (front ≡ take n text)
 
--- the text is the lines of the written tree that pairs with a derivation tree, in the grammar whose form the input is
-pub record IsExplainedFor (words grammar text : List ℕ) : Type 0 where
+-- the text is the lines of the written tree that pairs with the derivation tree whose lines these are, in the grammar whose form
+-- the input is
+pub record IsExplainedFor (words grammar lines text : List ℕ) : Type 0 where
   pub features : Features
   pub asked : AsksForFeatures words features
   pub tree : GrammarData
   pub form : IsFormOf tree grammar
   pub derivation : LoweredTree
+  pub are : AreLines lines (lowered_forms derivation)
   pub explained : ExplainsTree features tree derivation text

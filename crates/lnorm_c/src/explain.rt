@@ -3,7 +3,9 @@ ghost use Rattle.std.specs.Prelude.{◌≡◌, ◌≤◌, ◌<◌, ℕ, List, []
 ghost use Rattle.lalrpop_norm_tree.specs.Items.{GrammarData, grammar_view};
 ghost use Rattle.lalrpop_norm_theory.specs.LoweredTrees.{LoweredTree as DerivationTree};
 ghost use Rattle.lalrpop_norm_session.specs.Sessions.{features_view};
+ghost use Rattle.lalrpop_norm_explain.specs.Trees.{lowered_view};
 ghost use Rattle.lnorm_run.specs.Answers.{IsFormOf};
+ghost use Rattle.lexplain_lines.specs.LineForms.{AreLines, lowered_forms};
 ghost use Rattle.lexplain_run.specs.Answers.{ExplainsTree};
 ghost use Rattle.lnorm_streams.specs.Streams.{memory_line};
 ghost use Rattle.lnorm_buffers.specs.Buffers.{Takes};
@@ -15,8 +17,8 @@ use lalrpop_norm::lexer::CheckOnly;
 use lalrpop_norm::normalize::{NormFailure, Session};
 use lalrpop_norm_json::{TreeError, read_tree};
 use lalrpop_norm_tree::grammar::parse_tree::Grammar;
+use lexplain_lines::read::{LinesError, lowered_tree_of_lines};
 use lexplain_run::answer::{Stop, explained, told as told_stop};
-use lexplain_run::read::{LinesError, tree_of_lines};
 use lnorm_buffers::answer::{Ended, LnormAnswer, told, without_memory};
 use lnorm_run::words::{WordsError, asked_by};
 use std::alloc::Global;
@@ -38,9 +40,9 @@ pub extern "C" fn lnorm_explain(
     output: &mut [u8],
     faults: &mut [u8],
 ) -> LnormAnswer
-    // The output is the lines of a tree that pairs with one of that grammar, cut where the buffer ends.
+    // The output is the lines of the tree that pairs with the one that was given, cut where the buffer ends.
     ensures done { result.status ≡ 0 → (text : List ℕ)
-        × IsExplainedFor words.now grammar.now text
+        × IsExplainedFor words.now grammar.now lines.now text
         × Takes output.old output.new text result.output_size
         × Takes faults.old faults.new [] result.faults_size }
     ensures memory { result.status ≡ 3 → Takes faults.old faults.new memory_line result.faults_size }
@@ -53,7 +55,7 @@ pub extern "C" fn lnorm_explain(
 
 /// What the engine comes to.
 fn explain_ended(alloc: Global, words: &[u8], grammar: &[u8], lines: &[u8]) -> Ended
-    ensures done { result.status ≡ 0 → IsExplainedFor words.now grammar.now result.output.items
+    ensures done { result.status ≡ 0 → IsExplainedFor words.now grammar.now lines.now result.output.items
         × (result.faults.items ≡ []) }
     ensures quiet { 0 < result.status → result.output.items ≡ [] }
 {
@@ -92,7 +94,8 @@ fn explained_lines(
     lines: &[u8],
 ) -> Result<String, Stop>
     ensures { IfOk result (λ text. (tree : GrammarData) × IsFormOf tree grammar.now
-        × (derivation : DerivationTree) × ExplainsTree (features_view session.now.features) tree derivation (string_bytes text)) }
+        × (derivation : DerivationTree) × AreLines lines.now (lowered_forms derivation)
+        × ExplainsTree (features_view session.now.features) tree derivation (string_bytes text)) }
 {
     let grammar = grammar_in(alloc, grammar)?;
     let tree = derivation_in(alloc, lines)?;
@@ -114,11 +117,13 @@ fn grammar_in(alloc: Global, bytes: &[u8]) -> Result<Grammar, Stop>
 }
 
 /// The derivation tree that the lines make.
-fn derivation_in(alloc: Global, bytes: &[u8]) -> Result<LoweredTree, Stop> {
+fn derivation_in(alloc: Global, bytes: &[u8]) -> Result<LoweredTree, Stop>
+    ensures { IfOk result (λ t. AreLines bytes.now (lowered_forms (lowered_view t))) }
+{
     let Ok(text) = str::from_utf8(bytes) else {
         return Err(Stop::NotATree);
     };
-    match tree_of_lines(alloc, text) {
+    match lowered_tree_of_lines(alloc, text) {
         Ok(tree) => Ok(tree),
         Err(LinesError::NotATree) => Err(Stop::NotATree),
         Err(LinesError::Memory) => Err(Stop::Failed(NormFailure::Memory)),

@@ -1,14 +1,14 @@
 //! The way back: trees beside a grammar, read from lines.
 use crate::call::Back;
 use crate::outcome::push_place;
-use lalrpop_norm::explain::{ExplainError, LoweredTree, Traced, WrittenTree, explain, lower_tree};
+use lalrpop_norm::explain::{ExplainError, LoweredTree, Traced, explain, lower_tree};
 use lalrpop_norm::normalize::{NormFailure, Session, normalize_traced};
 use lalrpop_norm_json::{TreeError, read_tree};
 use lalrpop_norm_lexer::lexer::CheckOnly;
 use lalrpop_norm_repr::grammar::repr::{NonterminalData, NonterminalString, Production};
+use lexplain_lines::lines::{lowered_lines, written_lines};
+use lexplain_lines::read::{LinesError, lowered_tree_of_lines, written_tree_of_lines};
 use lexplain_run::answer::{Stop, push_fault};
-use lexplain_run::lines::{lowered_lines, written_lines};
-use lexplain_run::read::{FromLine, LinesError, tree_of_lines};
 use lnorm_run::lines::push_origin;
 use lnorm_run::words::{WordsError, asked_by};
 use std::alloc::{AllocError, Global};
@@ -42,17 +42,17 @@ fn answered(
     let traced = traced_of(alloc, session, bytes)?;
     match back {
         Back::Explain => {
-            let tree: LoweredTree = tree_of(alloc, lines)?;
+            let tree = read(lowered_tree_of_lines(alloc, text_of(lines)?))?;
             let written = explain(alloc, &traced, &tree)?;
             Ok(written_lines(alloc, &written)?)
         }
         Back::LowerTree => {
-            let tree: WrittenTree = tree_of(alloc, lines)?;
+            let tree = read(written_tree_of_lines(alloc, text_of(lines)?))?;
             let lowered = lower_tree(alloc, &traced, &tree)?;
             Ok(lowered_lines(alloc, &lowered)?)
         }
         Back::ThereAndBack => {
-            let tree: LoweredTree = tree_of(alloc, lines)?;
+            let tree = read(lowered_tree_of_lines(alloc, text_of(lines)?))?;
             there_and_back(alloc, &traced, &tree)
         }
     }
@@ -75,11 +75,15 @@ fn traced_of(alloc: Global, session: &Session<CheckOnly>, bytes: &[u8]) -> Resul
     }
 }
 
-fn tree_of<T: FromLine + Drop>(alloc: Global, lines: &[u8]) -> Result<T, Stop> {
-    let Ok(lines) = str::from_utf8(lines) else {
-        return Err(Stop::NotATree);
-    };
-    match tree_of_lines(alloc, lines) {
+fn text_of(lines: &[u8]) -> Result<&str, Stop> {
+    match str::from_utf8(lines) {
+        Ok(text) => Ok(text),
+        Err(_) => Err(Stop::NotATree),
+    }
+}
+
+fn read<T: Drop>(tree: Result<T, LinesError>) -> Result<T, Stop> {
+    match tree {
         Ok(tree) => Ok(tree),
         Err(LinesError::NotATree) => Err(Stop::NotATree),
         Err(LinesError::Memory) => Err(Stop::Failed(NormFailure::Memory)),

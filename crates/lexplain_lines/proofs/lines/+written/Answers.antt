@@ -1,9 +1,9 @@
 use Rattle.std.proofs.Common.{◌≡◌, ◌++◌, OnOk, length, string_bytes, sym, ap, subst, ◌∙◌}
 use Rattle.lalrpop_norm_explain.specs.declared.trees.WrittenTree.{WrittenTree}
 use Rattle.lalrpop_norm_explain.specs.Trees.{written_view, written_views}
-use Rattle.lexplain_run.specs.TreeLines.{written_lines, all_written_lines}
-use Rattle.lexplain_run.proofs.LineLemmas.{written_node_told}
-use Rattle.lexplain_run.proofs.lines.+written.Goals as goal
+use Rattle.lexplain_lines.specs.TreeLines.{written_lines, all_written_lines}
+use Rattle.lexplain_lines.proofs.LineLemmas.{written_node_told}
+use Rattle.lexplain_lines.proofs.lines.+written.Goals as goal
 
 pub push_written-returns-in_ok-push_all_written-in-Node : goal.push_written-returns-in_ok-push_all_written-in-Node
 push_written-returns-in_ok-push_all_written-in-Node t c =

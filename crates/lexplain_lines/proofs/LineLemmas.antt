@@ -15,17 +15,17 @@ use Rattle.lalrpop_norm_explain.specs.declared.trees.WrittenTree.TheFolds.{fold-
 use Rattle.lalrpop_norm_explain.specs.declared.trees.WrittenTree.TheViews as written_rolls
 use Rattle.lalrpop_norm_explain.specs.Trees.{lowered_view, lowered_views, written_step, written_view, written_views}
 use Rattle.lalrpop_norm_explain.proofs.Views.{list_seen, node_seen}
-use Rattle.lexplain_run.specs.TreeLines.{node_line, lowered_count, written_lines, all_written_lines, lowered_lines, all_lowered_lines}
+use Rattle.lexplain_lines.specs.TreeLines.{node_line, lowered_count, written_lines, all_written_lines, lowered_lines, all_lowered_lines}
 
-written_counted : (ts : List WrittenTree) → tree_count (written_views ts) ≡ length ts
+pub written_counted : (ts : List WrittenTree) → tree_count (written_views ts) ≡ length ts
 written_counted [] = refl
 written_counted (t ∷ ts) = ap suc (written_counted ts)
 
-lowered_counted : (us : List LoweredTree) → lowered_count (lowered_views us) ≡ length us
+pub lowered_counted : (us : List LoweredTree) → lowered_count (lowered_views us) ≡ length us
 lowered_counted [] = refl
 lowered_counted (u ∷ us) = ap suc (lowered_counted us)
 
-rule_seen : (n : NonterminalString) (k : ℕ) (ts : Vec WrittenTree Global) → written_view (written_rolls.Node n k ts) ≡ node n.0 k (written_views ts.items)
+pub rule_seen : (n : NonterminalString) (k : ℕ) (ts : Vec WrittenTree Global) → written_view (written_rolls.Node n k ts) ≡ node n.0 k (written_views ts.items)
 rule_seen n k ts = ap written_view (sym (written_rolls.rolls-Node n k ts)) ∙ fold-roll-WrittenTree written.WrittenTree written_step (WrittenTree-F.Node n k ts)
 
 -- three texts in a row, of which the first two were there before

@@ -1,7 +1,7 @@
 use Rattle.std.proofs.Common.{◌≡◌, ◌++◌, drop, string_bytes}
 use Rattle.lalrpop_norm_explain.specs.Trees.{written_views}
-use Rattle.lexplain_run.specs.TreeLines.{all_written_lines}
-use Rattle.lexplain_run.proofs.lines.+written.Given as goal
+use Rattle.lexplain_lines.specs.TreeLines.{all_written_lines}
+use Rattle.lexplain_lines.proofs.lines.+written.Given as goal
 
 -- what is written, and what the trees that are left will add
 abbrev pub invariant-push_all_written-loop-tree : goal.invariant-push_all_written-loop-tree

@@ -1,8 +1,8 @@
 use Rattle.std.proofs.Common.{◌≡◌, ◌++◌, List, ℕ, OnOk, codes, string_bytes, sym, subst}
 use Rattle.lalrpop_norm_tree_names.specs.declared.names.TerminalLiteral.{TerminalLiteral}
 use Rattle.lalrpop_norm_model.specs.Reading.{literal_terminal}
-use Rattle.lexplain_run.specs.TreeLines.{text_json, terminal_json}
-use Rattle.lexplain_run.proofs.lines.push_literal.Goals as goal
+use Rattle.lexplain_lines.specs.TreeLines.{text_json, terminal_json}
+use Rattle.lexplain_lines.proofs.lines.push_literal.Goals as goal
 
 pub returns-in-Quoted : goal.returns-in-Quoted
 returns-in-Quoted c =

@@ -1,9 +1,9 @@
 use Rattle.std.proofs.Common.{◌≡◌, ◌++◌, OnOk, length, string_bytes, sym, ap, subst, ◌∙◌}
 use Rattle.lalrpop_norm_explain.specs.declared.trees.LoweredTree.{LoweredTree}
 use Rattle.lalrpop_norm_explain.specs.Trees.{lowered_view, lowered_views}
-use Rattle.lexplain_run.specs.TreeLines.{lowered_lines, all_lowered_lines}
-use Rattle.lexplain_run.proofs.LineLemmas.{lowered_node_told}
-use Rattle.lexplain_run.proofs.lines.+lowered.Goals as goal
+use Rattle.lexplain_lines.specs.TreeLines.{lowered_lines, all_lowered_lines}
+use Rattle.lexplain_lines.proofs.LineLemmas.{lowered_node_told}
+use Rattle.lexplain_lines.proofs.lines.+lowered.Goals as goal
 
 pub push_lowered-returns-in_ok-push_all_lowered-in-Node : goal.push_lowered-returns-in_ok-push_all_lowered-in-Node
 push_lowered-returns-in_ok-push_all_lowered-in-Node t c =

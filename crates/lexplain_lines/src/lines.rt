@@ -2,9 +2,9 @@
 ghost use Rattle.std.specs.Prelude.{◌≡◌, ◌++◌, IfOk, OnOk, string_bytes};
 ghost use Rattle.lalrpop_norm_model.specs.Reading.{literal_terminal, terminal_of};
 ghost use Rattle.lalrpop_norm_explain.specs.Trees.{lowered_view, lowered_views, written_view, written_views};
-ghost use Rattle.lexplain_run.specs.TreeLines.{text_json, terminal_json, leaf_line, node_line, written_lines, all_written_lines, lowered_lines, all_lowered_lines};
+ghost use Rattle.lexplain_lines.specs.TreeLines.{text_json, terminal_json, leaf_line, node_line, written_lines, all_written_lines, lowered_lines, all_lowered_lines};
 
-use lalrpop_norm::explain::{LoweredTree, WrittenTree};
+use lalrpop_norm_explain::{LoweredTree, WrittenTree};
 use lalrpop_norm_tree_names::names::{NonterminalString, TerminalLiteral, TerminalString};
 use serde_json::Value;
 use std::alloc::{AllocError, Global};

@@ -1,0 +1,47 @@
+use Rattle.std.proofs.Common.{ap, ◌∙◌, rules}
+use Rattle.std.specs.Str.Iter.{lines_rest}
+use Rattle.lalrpop_norm_explain.specs.Trees.{written_views}
+use Rattle.lexplain_lines.specs.LineForms.{all_written_forms}
+use Rattle.lexplain_lines.specs.Lines.{written_line_form}
+use Rattle.lexplain_lines.proofs.Refusals.{written_line_refused, written_trees_lacking, written_trees_not_one, written_tree_one}
+use Rattle.lexplain_lines.proofs.SoFar.{none_so_far, one_more, all_so_far}
+use Rattle.lexplain_lines.proofs.read.written_tree_of_lines.Goals as goal
+
+pub loop-line-init : goal.loop-line-init
+loop-line-init c = (
+  tt,
+  tt,
+  none_so_far c.args.lines.now c.into_iter-line-iterator.result (all_written_forms (written_views c.new-trees.result.items))
+      (ap lines_rest c.into_iter-line-iterator.ensures.into_iter_gives ∙ c.lines-line-items.ensures.rest)
+      (ap (λ ts. all_written_forms (written_views ts)) c.new-trees.ensures.items),
+)
+
+pub loop-line-preserved : goal.loop-line-preserved
+loop-line-preserved c = (
+  tt,
+  tt,
+  one_more c.args.lines.now c.loop-line.line-iterator c.next.new.self
+      (all_written_forms (written_views c.loop-line.trees.items)) (all_written_forms (written_views c.take_written.new.trees.items))
+      c.in-Some.line (written_line_form c.in_ok-line.line) c.loop-line.invariant.2 c.in-Some.ensures.steps c.in_ok-line.ensures.ok c.in_ok-take_written.ensures.ok,
+)
+
+pub returns-in_err-line-clause-not : goal.returns-in_err-line-clause-not
+returns-in_err-line-clause-not c = λ refused t whole.
+    written_line_refused c.args.lines.now c.loop-line.line-iterator c.next.new.self c.loop-line.trees.items c.in-Some.line c.loop-line.invariant.2 c.in-Some.ensures.steps t whole
+    (c.in_err-line.ensures.not (search rules))
+
+pub returns-in_err-take_written-clause-not : goal.returns-in_err-take_written-clause-not
+returns-in_err-take_written-clause-not c = λ refused t whole.
+    written_trees_lacking c.args.lines.now c.loop-line.line-iterator c.next.new.self c.loop-line.trees.items c.in-Some.line c.loop-line.invariant.2 c.in-Some.ensures.steps t whole
+    c.in_ok-line.line c.in_ok-line.ensures.ok (c.in_err-take_written.ensures.not (search rules))
+
+pub returns-clause-ok : goal.returns-clause-ok
+returns-clause-ok c = written_tree_one c.args.lines.now c.loop-line.trees.items c.only_one.result
+    (all_so_far c.args.lines.now c.loop-line.line-iterator c.next.new.self (all_written_forms (written_views c.loop-line.trees.items)) c.loop-line.invariant.2 c.in-None.ensures.steps)
+    c.only_one.ensures.ok
+
+pub returns-clause-not : goal.returns-clause-not
+returns-clause-not c = λ refused t whole.
+    written_trees_not_one c.args.lines.now c.loop-line.trees.items t
+    (all_so_far c.args.lines.now c.loop-line.line-iterator c.next.new.self (all_written_forms (written_views c.loop-line.trees.items)) c.loop-line.invariant.2 c.in-None.ensures.steps)
+    whole (c.only_one.ensures.not refused)

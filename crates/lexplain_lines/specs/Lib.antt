@@ -1,0 +1,3 @@
+pub mod TreeLines
+pub mod LineForms
+pub mod Lines
