@@ -1,1 +1,5 @@
 pub mod PairLemmas
+pub mod StopLemmas
+pub mod FaultlessLemmas
+pub mod RefusalLemmas
+pub mod AnswerLemmas

@@ -1,4 +1,4 @@
--- What the two ways answer for a grammar, whatever its lowered grammar is in memory, and what the program answers for two texts.
+-- What the two ways answer for a grammar, whatever its lowered grammar is in memory.
 use Rattle.std.specs.Prelude.{◌≡◌, ℕ, List, None}
 use Rattle.lalrpop_norm_tree.specs.Items.{GrammarData}
 use Rattle.lalrpop_norm_theory.specs.Symbols.{Name, reference}
@@ -29,10 +29,13 @@ ExplainsTree fs g u text = (t : WrittenTree) × IsPairedIn fs g t u × (text ≡
 abbrev pub LowersTree : Features → GrammarData → WrittenTree → List ℕ → Type 0
 LowersTree fs g t text = (u : LoweredTree) × IsPairedIn fs g t u × (text ≡ lowered_lines u)
 
--- the text is the lines of the tree that is asked for: that on the other side of the tree whose lines the second text is, in the
--- grammar whose form the first one is
-abbrev pub IsAnswer : Way → Features → List ℕ → List ℕ → List ℕ → Type 0
-IsAnswer Explain fs grammar lines text =
-    (g : GrammarData) × (u : LoweredTree) × IsFormOf g grammar × AreLines lines (lowered_forms u) × ExplainsTree fs g u text
-IsAnswer Lower fs grammar lines text =
-    (g : GrammarData) × (t : WrittenTree) × IsFormOf g grammar × AreLines lines (written_forms t) × LowersTree fs g t text
+-- the text is the lines of the tree of the other side that pairs with the one whose lines are given, on the side that the way begins at
+abbrev pub Translates : Way → Features → GrammarData → List ℕ → List ℕ → Type 0
+Translates Explain fs g lines text = (u : LoweredTree) × AreLines lines (lowered_forms u) × ExplainsTree fs g u text
+Translates Lower fs g lines text = (t : WrittenTree) × AreLines lines (written_forms t) × LowersTree fs g t text
+
+-- the bytes are the form of a grammar, and in it the text is right for the lines
+pub record IsTranslationOver (way : Way) (fs : Features) (bytes lines text : List ℕ) : Type 0 where
+  pub grammar : GrammarData
+  pub form : IsFormOf grammar bytes
+  pub right : Translates way fs grammar lines text

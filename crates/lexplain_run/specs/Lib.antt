@@ -1,1 +1,4 @@
+pub mod Words
 pub mod Answers
+pub mod Stops
+pub mod Refusals

@@ -1,9 +1,17 @@
 //! The answers of the program.
-ghost use Rattle.std.specs.Prelude.{◌≡◌, IfOk, string_bytes};
+ghost use Rattle.std.specs.Prelude.{◌≡◌, ◌++◌, ◌⊎◌, ℕ, List, IfOk, IfErr, IsErrOf, OnOk, string_bytes};
 ghost use Rattle.lalrpop_norm_tree.specs.Items.{grammar_view};
+ghost use Rattle.lalrpop_norm_faults.specs.declared.failure.NormFailure.TheVariants.{Memory};
 ghost use Rattle.lalrpop_norm_session.specs.Sessions.{features_view};
 ghost use Rattle.lalrpop_norm_explain.specs.Trees.{lowered_view, written_view};
-ghost use Rattle.lexplain_run.specs.Answers.{ExplainsTree, IsAnswer, LowersTree};
+ghost use Rattle.lnorm_run.specs.Answers.{IsFormOf};
+ghost use Rattle.lnorm_run.specs.Settings.{Settings};
+ghost use Rattle.lexplain_run.specs.Answers.{ExplainsTree, IsTranslationOver, LowersTree};
+ghost use Rattle.lexplain_run.specs.Refusals.{StopsExplaining, StopsLowering, StopsOver};
+ghost use Rattle.lexplain_run.specs.Words.{settings_asked, settings_with};
+ghost use Rattle.lexplain_run.specs.declared.words.Way.{Way};
+ghost use Rattle.lexplain_run.specs.declared.answer.Stop.TheVariants.{NotATree, Failed};
+ghost use Rattle.lexplain_run.specs.Stops.{IsToldBy, child_path_text, places_text, stop_line, stop_status, tree_code, tree_fault_line};
 
 use crate::words::{Asked, Way};
 use lalrpop_norm::explain::{
@@ -31,32 +39,46 @@ pub enum Stop {
 }
 
 impl From<AllocError> for Stop {
+    ghost use Rattle.lalrpop_norm_faults.specs.declared.failure.NormFailure.TheVariants.{Memory};
+    ghost use Rattle.lexplain_run.specs.declared.answer.Stop.TheVariants.{Failed};
+
+    ghost from_gives = { λ _ s. s ≡ Failed Memory };
+
     fn from(_: AllocError) -> Stop {
         Stop::Failed(NormFailure::Memory)
     }
 }
 
 impl From<NormFailure> for Stop {
+    ghost use Rattle.lexplain_run.specs.declared.answer.Stop.TheVariants.{Failed};
+
+    ghost from_gives = { λ failure s. s ≡ Failed failure };
+
     fn from(failure: NormFailure) -> Stop {
         Stop::Failed(failure)
     }
 }
 
 impl From<ExplainError> for Stop {
+    ghost use Rattle.lexplain_run.specs.declared.answer.Stop.TheVariants.{Tree};
+
+    ghost from_gives = { λ error s. s ≡ Tree error };
+
     fn from(error: ExplainError) -> Stop {
         Stop::Tree(error)
     }
 }
 
 /// The lines that are asked for, of the tree that `lines` make, in the grammar whose JSON the first text is.
+///
+/// Errors: `NotAGrammar` where it is that of none; `NotATree`; else those of [`explained`] or [`lowered`]; want of memory.
 pub fn answer(alloc: Global, asked: &Asked, grammar: &str, lines: &str) -> Result<String, Stop>
-    ensures { IfOk result (λ text. IsAnswer asked.now.way (features_view asked.now.session.features) grammar.now lines.now (string_bytes text)) }
+    // The text is right for the grammar whose form the first text is, and the tree whose lines the second one is.
+    ensures ok { IfOk result (λ text. IsTranslationOver asked.now.way (features_view asked.now.session.features) grammar.now lines.now (string_bytes text)) }
+    // That a text is none is said only where it is; else a fault is that of the grammar, or of the tree in it.
+    ensures err { IfErr result (StopsOver asked.now.way (settings_asked asked.now) grammar.now lines.now) }
 {
-    let grammar = match read_tree(alloc, grammar) {
-        Ok(grammar) => grammar,
-        Err(TreeError::NotATree) => return Err(Stop::NotAGrammar),
-        Err(TreeError::Memory) => return Err(Stop::Failed(NormFailure::Memory)),
-    };
+    let grammar = grammar_in(alloc, grammar)?;
     match asked.way {
         Way::Explain => {
             let tree = read(lowered_tree_of_lines(alloc, lines))?;
@@ -69,9 +91,22 @@ pub fn answer(alloc: Global, asked: &Asked, grammar: &str, lines: &str) -> Resul
     }
 }
 
+/// The grammar whose JSON form the text is.
+fn grammar_in(alloc: Global, text: &str) -> Result<Grammar, Stop>
+    ensures ok { IfOk result (λ g. IsFormOf (grammar_view g) text.now) }
+    ensures err { IfErr result (λ stop. (way : Way) (s : Settings) (lines : List ℕ) → StopsOver way s text.now lines stop) }
+{
+    match read_tree(alloc, text) {
+        Ok(grammar) => Ok(grammar),
+        Err(TreeError::NotATree) => Err(Stop::NotAGrammar),
+        Err(TreeError::Memory) => Err(Stop::Failed(NormFailure::Memory)),
+    }
+}
+
 /// The tree that was read.
 fn read<T: Drop>(tree: Result<T, LinesError>) -> Result<T, Stop>
-    ensures { IfOk result (λ t. tree ≡ Ok t) }
+    ensures ok { IfOk result (λ read. tree ≡ Ok read) }
+    ensures err { IfErr result (λ stop. ((stop ≡ NotATree) × IsErrOf tree LinesError.NotATree) ⊎ (stop ≡ Failed Memory)) }
 {
     match tree {
         Ok(tree) => Ok(tree),
@@ -81,13 +116,17 @@ fn read<T: Drop>(tree: Result<T, LinesError>) -> Result<T, Stop>
 }
 
 /// The lines of the written tree that a derivation tree of the lowered grammar stands for.
+///
+/// Errors: `Failed` with the first fault of the grammar, or F42 at a pattern without a reading by `regex`; `Tree` with the first
+/// fault of the tree, where no written tree pairs with it; want of memory.
 pub fn explained(
     alloc: Global,
     session: &Session<CheckOnly>,
     grammar: Grammar,
     tree: &LoweredTree,
 ) -> Result<String, Stop>
-    ensures { IfOk result (λ text. ExplainsTree (features_view session.now.features) (grammar_view grammar) (lowered_view tree.now) (string_bytes text)) }
+    ensures ok { IfOk result (λ text. ExplainsTree (features_view session.now.features) (grammar_view grammar) (lowered_view tree.now) (string_bytes text)) }
+    ensures err { IfErr result (StopsExplaining (settings_with (features_view session.now.features) session.now.macro_recursion_limit) (grammar_view grammar) (lowered_view tree.now)) }
 {
     let traced = normalize_traced(alloc, session, grammar)?;
     let written = explain(alloc, &traced, tree)?;
@@ -95,13 +134,16 @@ pub fn explained(
 }
 
 /// The lines of the derivation tree of the lowered grammar that a written tree stands for.
+///
+/// Errors: those of [`explained`], `Tree` where no derivation tree pairs with the written one.
 pub fn lowered(
     alloc: Global,
     session: &Session<CheckOnly>,
     grammar: Grammar,
     tree: &WrittenTree,
 ) -> Result<String, Stop>
-    ensures { IfOk result (λ text. LowersTree (features_view session.now.features) (grammar_view grammar) (written_view tree.now) (string_bytes text)) }
+    ensures ok { IfOk result (λ text. LowersTree (features_view session.now.features) (grammar_view grammar) (written_view tree.now) (string_bytes text)) }
+    ensures err { IfErr result (StopsLowering (settings_with (features_view session.now.features) session.now.macro_recursion_limit) (grammar_view grammar) (written_view tree.now)) }
 {
     let traced = normalize_traced(alloc, session, grammar)?;
     let derivation = lower_tree(alloc, &traced, tree)?;
@@ -109,20 +151,18 @@ pub fn lowered(
 }
 
 /// The line for a fault of a tree: its number, and the child places from the root to it.
-pub fn push_fault(
-    text: &mut String,
-    fault: ExplainFault,
-    path: &[usize],
-) -> Result<(), AllocError> {
+pub fn push_fault(text: &mut String, fault: ExplainFault, path: &[usize]) -> Result<(), AllocError>
+    ensures { OnOk result (string_bytes text.new ≡ string_bytes text.old ++ tree_fault_line fault path.now) }
+{
     text.push_str(code_of(fault))?;
-    text.push_str(if path.is_empty() { " /" } else { " " })?;
-    for place in path {
-        write!(text, "/{place}")?;
-    }
+    text.push_str(" ")?;
+    push_path(text, path)?;
     text.push_str("\n")
 }
 
-fn code_of(fault: ExplainFault) -> &'static str {
+fn code_of(fault: ExplainFault) -> &'static str
+    ensures { result.now ≡ tree_code fault }
+{
     match fault {
         ExplainFault::Root => "X1",
         ExplainFault::Production => "X2",
@@ -131,8 +171,31 @@ fn code_of(fault: ExplainFault) -> &'static str {
     }
 }
 
-/// What a stop is told by: the status of the program, and a line.
-pub fn told(alloc: Global, stop: Stop) -> (u8, String) {
+/// The child places, or a slash for the root.
+fn push_path(text: &mut String, path: &[usize]) -> Result<(), AllocError>
+    ensures { OnOk result (string_bytes text.new ≡ string_bytes text.old ++ child_path_text path.now) }
+{
+    if path.is_empty() {
+        text.push_str("/")
+    } else {
+        push_places(text, path)
+    }
+}
+
+#[tactic(auto, using(crate::proofs::StopLemmas::step_places))]
+fn push_places(text: &mut String, path: &[usize]) -> Result<(), AllocError>
+    ensures { OnOk result (string_bytes text.new ≡ string_bytes text.old ++ places_text path.now) }
+{
+    for place in path {
+        write!(text, "/{place}")?;
+    }
+    Ok(())
+}
+
+/// What a stop is told by: the status of the program, and a line. Where there is no memory for the line, by status 3 and none.
+pub fn told(alloc: Global, stop: Stop) -> (u8, String)
+    ensures { IsToldBy stop result.0 (string_bytes result.1) }
+{
     let mut line = String::new(alloc);
     match push_stop(&mut line, &stop) {
         Ok(status) => (status, line),
@@ -140,7 +203,10 @@ pub fn told(alloc: Global, stop: Stop) -> (u8, String) {
     }
 }
 
-fn push_stop(line: &mut String, stop: &Stop) -> Result<u8, AllocError> {
+fn push_stop(line: &mut String, stop: &Stop) -> Result<u8, AllocError>
+    ensures { IfOk result (λ status. (status ≡ stop_status stop.now)
+        × (string_bytes line.new ≡ string_bytes line.old ++ stop_line stop.now)) }
+{
     match stop {
         Stop::NotAGrammar => {
             line.push_str("lexplain: the file is no tree of a grammar\n")?;

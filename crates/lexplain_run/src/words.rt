@@ -1,4 +1,9 @@
 //! What the words of a call ask for.
+ghost use Rattle.std.specs.Prelude.{◌≡◌, map, string_bytes, IfOk, IsErrOf, MatchOption};
+ghost use Rattle.lnorm_run.specs.declared.words.WordsError.TheVariants.{Usage};
+ghost use Rattle.lexplain_run.specs.declared.words.Way.{Way};
+ghost use Rattle.lexplain_run.specs.Words.{AsksForWay, AsksForNoWay, settings_asked, word_of};
+
 use lalrpop_norm::lexer::CheckOnly;
 use lalrpop_norm::normalize::Session;
 use lnorm_run::words::{WordsError, asked_by};
@@ -23,15 +28,16 @@ pub struct Asked {
 }
 
 /// The name of the grammar's file, and what is asked for: the words are `explain` or `lower`, the name, and options of `lnorm` but
-/// `--origins`. Errors: `Usage` where they are no such words; `Memory`.
-pub fn asked_for(alloc: Global, words: &[String]) -> Result<(&str, Asked), WordsError> {
-    let [way, file, options @ ..] = words else {
+/// `--origins`. Errors: `Usage` where they are no such words, and only there; `Memory`.
+pub fn asked_for(alloc: Global, words: &[String]) -> Result<(&str, Asked), WordsError>
+    ensures ok { IfOk result (λ r. AsksForWay (map string_bytes words.now) r.1.way r.0.now (settings_asked r.1)) }
+    ensures usage { IsErrOf result Usage → AsksForNoWay (map string_bytes words.now) }
+{
+    let [word, file, options @ ..] = words else {
         return Err(WordsError::Usage);
     };
-    let way = match way.as_str() {
-        "explain" => Way::Explain,
-        "lower" => Way::Lower,
-        _ => return Err(WordsError::Usage),
+    let Some(way) = way_of(word.as_str()) else {
+        return Err(WordsError::Usage);
     };
     match asked_by(alloc, options) {
         Ok(asked) => {
@@ -42,5 +48,16 @@ pub fn asked_for(alloc: Global, words: &[String]) -> Result<(&str, Asked), Words
             Ok((file.as_str(), Asked { way, session }))
         }
         Err(error) => Err(error),
+    }
+}
+
+/// The way whose word this is.
+fn way_of(word: &str) -> Option<Way>
+    ensures { MatchOption result ((way : Way) → word_of way ≡ word.now → ⊥) (λ way. word.now ≡ word_of way) }
+{
+    match word {
+        "explain" => Some(Way::Explain),
+        "lower" => Some(Way::Lower),
+        _ => None,
     }
 }

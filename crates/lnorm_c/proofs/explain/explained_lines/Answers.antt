@@ -6,4 +6,4 @@ use Rattle.lnorm_c.proofs.explain.explained_lines.Goals as goal
 
 pub returns : goal.returns
 returns c = explained_of c.explained.result (features_view c.args.session.now.features) c.args.grammar.now c.args.lines.now (grammar_view c.in_ok-grammar.grammar)
-    (lowered_view c.in_ok-tree.tree) c.in_ok-grammar.ensures c.in_ok-tree.ensures c.explained.ensures
+    (lowered_view c.in_ok-tree.tree) c.in_ok-grammar.ensures c.in_ok-tree.ensures c.explained.ensures.ok

@@ -1,0 +1,84 @@
+-- What a stop says of a grammar, and of a tree that was to be translated in it.
+use Rattle.std.specs.Prelude.{◌≡◌, ℕ, Bool, List, Some}
+use Rattle.lalrpop_norm_tree.specs.Items.{GrammarData}
+use Rattle.lalrpop_norm_faults.specs.declared.failure.NormFailure.TheVariants.{Refused as faulty_grammar, Memory as no_room}
+use Rattle.lalrpop_norm_faults.specs.Faults.{IsTold}
+use Rattle.lalrpop_norm_theory.specs.Symbols.{Name}
+use Rattle.lalrpop_norm_theory.specs.WrittenTrees.{WrittenTree}
+use Rattle.lalrpop_norm_theory.specs.LoweredTrees.{LoweredTree}
+use Rattle.lalrpop_norm_repr.specs.Lowered.{LoweredGrammar}
+use Rattle.lalrpop_norm_explain.specs.declared.errors.ExplainFault.{ExplainFault}
+use Rattle.lalrpop_norm_explain.specs.declared.errors.ExplainError.TheVariants.{Refused as faulty_tree, Memory as no_memory}
+use Rattle.lalrpop_norm_explain.specs.Plans.{most_steps}
+use Rattle.lalrpop_norm_explain.specs.TreeFaults.{explain_faults, first_found}
+use Rattle.lalrpop_norm_explain.specs.TreeLowering.{lower_faults}
+use Rattle.lalrpop_norm.specs.Faithful.{traced_derivations}
+use Rattle.lalrpop_norm.specs.WayBack.{AreRoots}
+use Rattle.lnorm_run.specs.Settings.{Settings}
+use Rattle.lnorm_run.specs.Answers.{IsFirstFault, IsFormOf, IsLowered, StandsAtPlace, findings_of}
+use Rattle.lexplain_lines.specs.LineForms.{AreLines, lowered_forms, written_forms}
+use Rattle.lexplain_run.specs.Answers.{IsPairedIn}
+use Rattle.lexplain_run.specs.declared.answer.Stop.{Stop}
+use Rattle.lexplain_run.specs.declared.words.Way.{Way}
+use Rattle.lexplain_run.specs.declared.words.Way.TheVariants.{Explain, Lower}
+use Rattle.lexplain_run.specs.declared.answer.Stop.TheVariants.{NotAGrammar, NotATree, Failed, Tree}
+
+-- The fault is the first one of the derivation tree, at that path from its root, in a lowered grammar that the grammar has, where
+-- trees begin at its enabled rules that are no macros. No written tree pairs with it.
+pub record IsRefusedDerivation (s : Settings) (g : GrammarData) (u : LoweredTree) (fault : ExplainFault)
+    (path : List ℕ) : Type 0 where
+  pub unpaired : (t : WrittenTree) → IsPairedIn s.features g t u → ⊥
+  pub lowered : LoweredGrammar
+  pub lowers : IsLowered s g lowered
+  pub begins : Name → Bool
+  pub begins_at_rules : AreRoots s.features g begins
+  pub first : first_found (explain_faults begins (traced_derivations s.features g s.limit lowered) u) ≡ Some (fault, path)
+
+-- likewise of a written tree
+pub record IsRefusedWritten (s : Settings) (g : GrammarData) (t : WrittenTree) (fault : ExplainFault)
+    (path : List ℕ) : Type 0 where
+  pub unpaired : (u : LoweredTree) → IsPairedIn s.features g t u → ⊥
+  pub lowered : LoweredGrammar
+  pub lowers : IsLowered s g lowered
+  pub begins : Name → Bool
+  pub begins_at_rules : AreRoots s.features g begins
+  pub first : first_found (lower_faults begins (traced_derivations s.features g s.limit lowered) most_steps t)
+      ≡ Some (fault, path)
+
+-- The stop says a fault of the grammar that may be told, or the fault that the tree is refused for. A want of memory says nothing; that
+-- a text is none it never says.
+abbrev pub StopsIn : Settings → GrammarData → (ExplainFault → List ℕ → Type 0) → Stop → Type 0
+StopsIn s g IsRefused NotAGrammar = ⊥
+StopsIn s g IsRefused NotATree = ⊥
+StopsIn s g IsRefused (Failed failure) = IsTold (StandsAtPlace s g) (findings_of s g) failure
+StopsIn s g IsRefused (Tree (faulty_tree fault path)) = IsRefused fault path.items
+StopsIn s g IsRefused (Tree no_memory) = Unit {0}
+
+-- of a derivation tree that is to be explained
+abbrev pub StopsExplaining : Settings → GrammarData → LoweredTree → Stop → Type 0
+StopsExplaining s g u = StopsIn s g (IsRefusedDerivation s g u)
+
+-- of a written tree that is to be lowered
+abbrev pub StopsLowering : Settings → GrammarData → WrittenTree → Stop → Type 0
+StopsLowering s g t = StopsIn s g (IsRefusedWritten s g t)
+
+-- the lines are those of no tree of the side that the way begins at
+abbrev pub AreNoLines : Way → List ℕ → Type 0
+AreNoLines Explain lines = (u : LoweredTree) → AreLines lines (lowered_forms u) → ⊥
+AreNoLines Lower lines = (t : WrittenTree) → AreLines lines (written_forms t) → ⊥
+
+-- the tree of that side whose lines these are is refused so
+abbrev pub IsRefusedOn : Way → Settings → GrammarData → List ℕ → ExplainFault → List ℕ → Type 0
+IsRefusedOn Explain s g lines fault path = (u : LoweredTree) × AreLines lines (lowered_forms u) × IsRefusedDerivation s g u fault path
+IsRefusedOn Lower s g lines fault path = (t : WrittenTree) × AreLines lines (written_forms t) × IsRefusedWritten s g t fault path
+
+-- What a stop says of bytes that are to be the form of a grammar, and of lines: the bytes are the form of none; or they are that of
+-- one, and it is the lines that are those of no tree, a fault of the grammar that may be told, or one that their tree is refused for in it.
+abbrev pub StopsOver : Way → Settings → List ℕ → List ℕ → Stop → Type 0
+StopsOver way s bytes lines NotAGrammar = (g : GrammarData) → IsFormOf g bytes → ⊥
+StopsOver way s bytes lines NotATree = (g : GrammarData) × IsFormOf g bytes × AreNoLines way lines
+StopsOver way s bytes lines (Failed (faulty_grammar e)) = IsFirstFault s bytes e.fault e.span
+StopsOver way s bytes lines (Failed no_room) = Unit {0}
+StopsOver way s bytes lines (Tree (faulty_tree fault path)) =
+    (g : GrammarData) × IsFormOf g bytes × IsRefusedOn way s g lines fault path.items
+StopsOver way s bytes lines (Tree no_memory) = Unit {0}

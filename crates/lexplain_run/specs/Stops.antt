@@ -1,0 +1,51 @@
+-- How a stop is told: the status of the program, and a line.
+use Rattle.std.specs.Prelude.{◌≡◌, ℕ, List, [], ◌∷◌, ◌++◌, ◌⊎◌, codes, decimal, string_bytes}
+use Rattle.lalrpop_norm_faults.specs.declared.failure.NormFailure.TheVariants.{Refused as faulty_grammar, Memory as no_room}
+use Rattle.lalrpop_norm_explain.specs.declared.errors.ExplainFault.{ExplainFault}
+use Rattle.lalrpop_norm_explain.specs.declared.errors.ExplainFault.TheVariants.{Root, Production, Child, Shape}
+use Rattle.lalrpop_norm_explain.specs.declared.errors.ExplainError.TheVariants.{Refused as faulty_tree, Memory as no_memory}
+use Rattle.lnorm_streams.specs.Streams.{fault_line}
+use Rattle.lexplain_run.specs.declared.answer.Stop.{Stop}
+use Rattle.lexplain_run.specs.declared.answer.Stop.TheVariants.{NotAGrammar, NotATree, Failed, Tree}
+
+-- the number of a fault of a tree
+abbrev pub tree_code : ExplainFault → List ℕ
+tree_code Root = codes "X1"
+tree_code Production = codes "X2"
+tree_code Child = codes "X3"
+tree_code Shape = codes "X4"
+
+-- each place behind a slash
+abbrev pub places_text : List ℕ → List ℕ
+places_text [] = []
+places_text (place ∷ path) = codes "/" ++ (decimal place ++ places_text path)
+
+-- the child places from the root down to a tree: a slash alone is the root
+abbrev pub child_path_text : List ℕ → List ℕ
+child_path_text [] = codes "/"
+child_path_text (place ∷ path) = places_text (place ∷ path)
+
+-- the line of a fault of a tree, as `X3 /0/1`
+abbrev pub tree_fault_line : ExplainFault → List ℕ → List ℕ
+tree_fault_line fault path = tree_code fault ++ (codes " " ++ (child_path_text path ++ codes "\n"))
+
+-- 1 the grammar or the tree has a fault; 2 one of the two texts is none; 3 there was no memory
+abbrev pub stop_status : Stop → ℕ
+stop_status (Failed (faulty_grammar e)) = 1
+stop_status (Tree (faulty_tree fault path)) = 1
+stop_status NotAGrammar = 2
+stop_status NotATree = 2
+stop_status (Failed no_room) = 3
+stop_status (Tree no_memory) = 3
+
+abbrev pub stop_line : Stop → List ℕ
+stop_line (Failed (faulty_grammar e)) = fault_line e.fault e.span (string_bytes e.message)
+stop_line (Tree (faulty_tree fault path)) = tree_fault_line fault path.items
+stop_line NotAGrammar = codes "lexplain: the file is no tree of a grammar\n"
+stop_line NotATree = codes "lexplain: the lines are no tree\n"
+stop_line (Failed no_room) = codes "lexplain: out of memory\n"
+stop_line (Tree no_memory) = codes "lexplain: out of memory\n"
+
+-- the stop is told by its status and its line; or, without memory for the line, by status 3 and none
+abbrev pub IsToldBy : Stop → ℕ → List ℕ → Type 0
+IsToldBy stop status line = ((status ≡ stop_status stop) × (line ≡ stop_line stop)) ⊎ ((status ≡ 3) × (line ≡ []))
