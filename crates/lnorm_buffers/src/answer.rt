@@ -32,7 +32,7 @@ pub struct Ended {
 /// What an engine comes to that has no memory: nothing is taken for it.
 pub fn without_memory(alloc: Global) -> Ended
     ensures status { result.status ≡ 3 }
-    ensures quiet { result.output.items ≡ [] }
+    ensures quiet { (result.output.items ≡ []) × (result.faults.items ≡ []) }
 {
     Ended {
         status: 3,
