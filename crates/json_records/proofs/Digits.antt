@@ -1,7 +1,7 @@
 -- Numbers that are written by digits alone.
-use Rattle.std.proofs.Common.{◌≡◌, ℕ, suc, ◌+◌, ◌-◌, ◌^◌, ◌<◌, ◌≤◌, ◌==◌, ◌&&◌, ◌||◌, List, [], ◌∷◌, length, drop, get_or, slice_range, Bool, true, false, cond, Some, refl, ap, ◌∙◌, arith, append-nil, lt-ltb}
+use Rattle.std.proofs.Common.{◌≡◌, ℕ, suc, ◌+◌, ◌-◌, ◌^◌, ◌<◌, ◌≤◌, ◌==◌, ◌&&◌, ◌||◌, List, [], ◌∷◌, length, drop, get_or, slice_range, Bool, true, false, cond, Some, refl, ap, ◌∙◌, arith, append-nil, lt-ltb, ◌*◌, add-one, drop-cons}
 use Rattle.std.proofs.lemmas.List.{drop_all, get_or_past, take_all}
-use Rattle.std.specs.Char.{is_ascii_digit}
+use Rattle.std.specs.Char.{digit_value, is_ascii_digit}
 use Rattle.std.specs.Float.Numeral.{Parts, scan_numeral, digits_end, exponent_start, has_exponent}
 use Rattle.std.specs.List.{prefix_len}
 use Rattle.std.specs.Str.Parse.{digits_value, digits_value_after}
@@ -82,3 +82,19 @@ end_of_digits ds n i h value digits =
         at : (b : Bool) → prefix_len is_ascii_digit ds ≤ length ds → cond b (1 + prefix_len is_ascii_digit ds) 0 ≤ suc (length ds)
         at true h = omega (arith, h)
         at false h = omega arith
+
+-- one digit more
+module _ (ds : List ℕ) (n i : ℕ) (h : i < length ds) (is : is_ascii_digit (get_or ds i 0) ≡ true) where
+  here : drop i ds ≡ get_or ds i 0 ∷ drop (i + 1) ds
+  here = rw add-one (drop-cons ds i 0 h)
+
+  pub value_more : digits_value 10 ds ≡ digits_value_after 10 n (drop i ds) → digits_value 10 ds ≡ digits_value_after 10 (n * 10 + (get_or ds i 0 - 48)) (drop (i + 1) ds)
+  value_more value = value ∙ ap (digits_value_after 10 n) here ∙ ap (λ d. digits_value_after 10 (n * 10 + d) (drop (i + 1) ds)) (value_of (get_or ds i 0) is)
+    where
+      value_of : (d : ℕ) → is_ascii_digit d ≡ true → digit_value d ≡ d - 48
+      value_of d is = grind (arith, is)
+
+  pub digits_more : prefix_len is_ascii_digit ds ≡ i + prefix_len is_ascii_digit (drop i ds) → prefix_len is_ascii_digit ds ≡ (i + 1) + prefix_len is_ascii_digit (drop (i + 1) ds)
+  digits_more digits =
+      let more : prefix_len is_ascii_digit (drop i ds) ≡ 1 + prefix_len is_ascii_digit (drop (i + 1) ds) = ap (prefix_len is_ascii_digit) here ∙ ap (λ b. cond b (1 + prefix_len is_ascii_digit (drop (i + 1) ds)) 0) is in
+      omega (arith, digits, more)

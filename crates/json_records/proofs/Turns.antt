@@ -1,24 +1,25 @@
 -- Items and members that are read one after another.
-use Rattle.std.proofs.Common.{◌≡◌, ◌⊎◌, inl, inr, ℕ, zero, suc, ◌-◌, ◌<◌, ◌≤◌, List, [], ◌∷◌, ◌++◌, length, Option, Some, None, option_map, option_and_then, refl, sym, ap, ◌∙◌, arith}
+use Rattle.std.proofs.Common.{◌≡◌, ◌⊎◌, inl, inr, ℕ, zero, suc, ◌-◌, ◌<◌, ◌≤◌, List, [], ◌∷◌, ◌++◌, length, Option, Some, None, option_map, refl, sym, ap, ◌∙◌, arith}
 use Rattle.json.specs.Token.{Token}
 use Rattle.json.specs.Reads.{token_of}
 use Rattle.json.specs.declared.token.Token.{Token as Found}
 use Rattle.json.specs.declared.token.Token.TheVariants.{BeginObject, EndObject, BeginArray, EndArray, Key, String, Number, Bool, Null, Bad}
 use Rattle.std.specs.Prelude.{Bool as Truth, true, false}
 use Rattle.std.specs.Option.{option_map_or}
-use Rattle.std.proofs.Common.{Result, Ok, Err, map, subst, ◌&&◌}
+use Rattle.std.proofs.Common.{Result, Ok, Err, subst, ◌&&◌}
 use Rattle.std.proofs.lemmas.List.{map-append}
 use Rattle.std.specs.List.{list_all}
 use Rattle.serde_json.specs.View.{items_of as to_items}
-use Rattle.std.specs.Prelude.{OnOk}
+use Rattle.std.specs.Prelude.{OnOk, IfOk}
+use Rattle.std.specs.Result.{is_err, IsErrAnd}
 use Rattle.serde_json.specs.Find.{as_u64}
 use Rattle.json.specs.Json.{parse_map, after_end_array, read_key, items, members, value}
 use Rattle.json.proofs.Grammar.{read_key-shorter, value_is, value-begin_array, value-begin_object}
 use Rattle.std.proofs.Common.{Bor, ◌^◌, nat_lt, MatchOption, rules}
 use Rattle.serde_json.specs.Data.{Num, unsigned, negative, float, Data, null, boolean, number, string, array, object, Items, no_items, item, Members, no_members, put}
-use Rattle.serde_json.specs.Read.{number_of, of_json, of_items, of_members, converted}
+use Rattle.serde_json.specs.Read.{number_of, of_json, converted}
 use Rattle.json_records.proofs.Saying.{of_array, of_object, item_read, nothing, items_over, member_read, member_refused, no_key_there, members_over}
-use Rattle.json_records.specs.Reading.{IsRead, may_be, pass_all, AreMade, is_text, is_truth, is_natural, is_short, is_object, is_array, data_of, items_of, members_of, MembersSoFar, NoMembers, items_before, ItemsSoFar, NoItems}
+use Rattle.json_records.specs.Reading.{IsRead, may_be, pass_all, AreMade, is_text, is_truth, is_natural, is_object, is_array, data_of, items_of, members_of, MembersSoFar, NoMembers, items_before, ItemsSoFar, NoItems}
 
 -- ---- no value begins there
 
@@ -195,6 +196,32 @@ module _ (t : Token) (n m : ℕ) (ts : List Token) (deeper : n ≡ suc m) where
 pub on_ok : {T E P Q : Type 0} (r : Result T E) → OnOk r P → (P → Q) → OnOk r Q
 on_ok (Ok x) p f = f p
 on_ok (Err e) p f = tt
+
+-- what is promised of an option is promised of what is in it, or of nothing
+pub held : {T : Type 0} (P : Type 0) (Q : T → Type 0) {o : Option T} {x : T} → o ≡ Some x → MatchOption o P Q → Q x
+held P Q is p = subst (λ o. MatchOption o P Q) is p
+
+pub not_held : {T : Type 0} (P : Type 0) (Q : T → Type 0) {o : Option T} → o ≡ None → MatchOption o P Q → P
+not_held P Q is p = subst (λ o. MatchOption o P Q) is p
+
+-- what was read behind something leaves less than it did
+pub less_than : {k m n : ℕ} → k ≤ m → m < n → k < n
+less_than p q = omega (arith, p, q)
+
+pub no_more : {k m n : ℕ} → m ≤ n → k < m → k ≤ n
+no_more p q = omega (arith, p, q)
+
+-- an error that is handed over answers nothing, and is the error that it was
+pub no_answer : {T E : Type 0} (P : T → Type 0) (r : Result T E) → is_err r ≡ true → IfOk r P
+no_answer P (Ok x) e = absurd (cc)
+no_answer P (Err y) e = tt
+
+pub never_refused : {A T E : Type 0} {x : T} {e : E} → ◌≡◌ {A = Result T E} (Ok x) (Err e) → A
+never_refused is = absurd (cc)
+
+pub same_error : {S T E : Type 0} (e : E) {r : Result T E} {f : E} → (is_err r ≡ true) × IsErrAnd r (λ g. g ≡ e) → r ≡ Err f → ◌≡◌ {A = Result S E} (Err e) (Err f)
+same_error e {r = Ok x} p is = absurd (cc)
+same_error e {r = Err y} p is = cc (p.1, is)
 
 -- ---- what a value is, by its first token
 

@@ -230,6 +230,10 @@ module _ {T U : Type 0} (form : T → Data) (can : Data → Bool) (inner : U →
     made = ap (λ l. can (under l v.means)) key ∙ fails v.means (told_none o (inner_can v.means ≡ false) (λ y. v.means ≡ inner y) none v.made);
   }
 
+-- under none of the known names: c.in_default.not-NAME of each, and c.in_ok-pass-in_default.ensures.ok
+pub no_variant_there : {T : Type 0} (form : T → Data) (ns : List (List ℕ)) (rows : List (List ℕ × Held)) (n : ℕ) (s rest : List Token) (k : List ℕ) → IsApart k rows → ((d : Data) × (data_of n s ≡ Some (d, rest))) → IsReadUnder k form (fits (variants ns rows)) n s rest None
+no_variant_there form ns rows n s rest k apart v = record { means = v.0; read = v.1; made = no_case ns rows k v.0 apart }
+
 -- what is told of an option, told of what it is
 pub read_as : {T : Type 0} (form : T → Data) (can : Data → Bool) (n : ℕ) (s rest : List Token) (o p : Option T) → o ≡ p → IsRead form can n s rest o → IsRead form can n s rest p
 read_as form can n s rest o p same v = subst (λ q. IsRead form can n s rest q) same v

@@ -1,5 +1,5 @@
 -- A symbol that is entered: it stands already, or it is new.
-use Rattle.std.proofs.Common.{◌≡◌, ℕ, Bool, true, false, List, [], ◌∷◌, ◌++◌, map, Option, Some, None, Result, is_some, refl, sym, ap, ap₂, ◌∙◌, subst, append-nil, Vec, Global, slice_get, option_and_then}
+use Rattle.std.proofs.Common.{◌≡◌, ℕ, ◌+◌, length, length-append, Bool, true, false, List, [], ◌∷◌, ◌++◌, map, Option, Some, None, Result, is_some, refl, sym, ap, ap₂, ◌∙◌, subst, append-nil, Vec, Global, slice_get, option_and_then}
 use Rattle.std.specs.Prelude.{not, ◌||◌}
 use Rattle.std.specs.List.{flat_map}
 use Rattle.std.proofs.lemmas.Bool.{and_parts, and_from}
@@ -20,10 +20,11 @@ use Rattle.lalrpop_norm_nodes.specs.declared.node.Node.{Node}
 use Rattle.lalrpop_norm_nodes.specs.Wholes.{Whole, one_symbol, as_kind, part_at, built, Fits, StandsFor, IsNew, Grows, wholes}
 use Rattle.lalrpop_norm_nodes.specs.declared.node.Nodes.{Nodes}
 use Rattle.lalrpop_norm_nodes.specs.declared.table.Table.{Table}
-use Rattle.lalrpop_norm_nodes.specs.Tables.{wholes_in, own_at, own_in, own_text_in, inner_of, IsBare, IsNodeTable, TableMeets, seen_in, is_declared_in, refused_in}
+use Rattle.lalrpop_norm_nodes.specs.Tables.{wholes_in, own_at, own_in, own_text_in, inner_of, IsBare, IsNodeTable, IsCounted, TableMeets, seen_in, is_declared_in, refused_in}
 use Rattle.lalrpop_norm_nodes.proofs.MeetLemmas.{were_right}
 use Rattle.lalrpop_norm_nodes.proofs.WholeLemmas.{met_split, bare_built, Made, one_made, Standing, seen_stands}
 use Rattle.lalrpop_norm_nodes.specs.declared.table.Waiting.{Waiting}
+use Rattle.lalrpop_norm_nodes.specs.declared.texts.Counter.{Counter}
 use Rattle.lalrpop_norm_nodes.specs.Tables.{waiting_in, numbered_in}
 use Rattle.lalrpop_norm_nodes.specs.Waits.{LeavesWaiting}
 use Rattle.lalrpop_norm_nodes.proofs.WaitLemmas.{waits_seen, waits_new}
@@ -107,6 +108,29 @@ pub free_none : {A : Type 0} (b : Bool) (o : Option A) (f : Fault) → fault_if 
 free_none b None f e = refl
 free_none true (Some x) f e = absurd (cc e)
 free_none false (Some x) f e = absurd (cc e)
+
+pub free_name : {A : Type 0} (b : Bool) (o : Option A) (f : Fault) → fault_if (b || is_some o) f ≡ [] → b ≡ false
+free_name false o f e = refl
+free_name true o f e = absurd (cc e)
+
+-- a table whose texts alone were counted
+pub counted_alone : (a b : Table) → IsNodeTable a → b.names ≡ a.names → b.nodes ≡ a.nodes → b.places ≡ a.places → b.waiting ≡ a.waiting → IsNodeTable b
+counted_alone a b h names nodes places waiting =
+    let here : IsNodeTable (record a { made = b.made }) =
+    record { nodes = h.nodes; texts = h.texts; bare = h.bare; met = h.met; places = h.places; waiting = h.waiting } in
+    subst (λ v. IsNodeTable (record b { waiting = v })) (sym waiting)
+    (subst (λ v. IsNodeTable (record b { places = v; waiting = a.waiting })) (sym places)
+    (subst (λ v. IsNodeTable (record b { nodes = v; places = a.places; waiting = a.waiting })) (sym nodes)
+    (subst (λ v. IsNodeTable (record a { names = v; made = b.made })) (sym names) here)))
+
+-- one more text was made, and one more symbol put
+pub counted_made : (a f b d : Table) (n : Node) (x : List ℕ) → IsCounted a → own_text_in (built (wholes_in a) n) ≡ Some x → f.nodes ≡ a.nodes → f.made.count ≡ a.made.count + 1 →
+    b.made ≡ f.made → seen_in b ≡ seen_in f ++ own_in (built (wholes_in f) n) → d.nodes ≡ b.nodes → d.made ≡ b.made → IsCounted d
+counted_made a f b d n x h some nodes made kept seen more same =
+    ap (λ (c : Counter). c.count) (same ∙ kept) ∙ made ∙ ap (λ (k : ℕ). k + 1) h
+    ∙ sym (ap (λ (ns : Nodes). length (flat_map own_in (wholes ns))) more
+    ∙ ap length (seen ∙ ap (λ (ns : Nodes). flat_map own_in (wholes ns) ++ own_in (built (wholes ns) n)) nodes ∙ ap (λ (xs : List Part). seen_in a ++ xs) ((one_made (built (wholes_in a) n) x some).at_place nowhere))
+    ∙ length-append (seen_in a) _)
 
 -- a new symbol is put, once its text is made
 pub made_meets : (a b d : Table) (n : Node) (x : List ℕ) (s : Span) → IsNodeTable a → Fits (wholes_in a) n → IsNew (wholes_in a) (built (wholes_in a) n) →

@@ -1,5 +1,5 @@
 -- The derived test of two nodes is true just where they are the same; and where a list has a node by it.
-use Rattle.std.proofs.Common.{◌≡◌, ℕ, ◌<◌, Bool, true, false, cond, List, [], ◌∷◌, length, Some, None, slice_get, get_or, refl, sym, ap, ap₂, ◌∙◌, position, nat_lt, arith}
+use Rattle.std.proofs.Common.{true≢false, ◌≡◌, ℕ, ◌<◌, Bool, true, false, cond, List, [], ◌∷◌, length, Some, None, slice_get, get_or, refl, sym, ap, ap₂, ◌∙◌, position, nat_lt, arith}
 use Rattle.std.proofs.lemmas.Bool.{eqb-true, eq-eqb, and_parts, and_from}
 use Rattle.std.proofs.lemmas.Bool.Decides.{nat_tests}
 use Rattle.std.proofs.lemmas.List.Quantifiers.{position-Some}
@@ -38,13 +38,13 @@ same_node = nodes.eq-value.it
 literal_sound : (a b : TerminalLiteral) → literals.eq-value.it a b ≡ true → a ≡ b
 literal_sound (literal.Quoted a) (literal.Quoted b) e = ap literal.Quoted (text_sound a b e)
 literal_sound (literal.Regex a) (literal.Regex b) e = ap literal.Regex (text_sound a b e)
-literal_sound _ _ e = absurd (cc e)
+literal_sound _ _ e = absurd (true≢false (sym e))
 
 terminal_sound : (a b : TerminalString) → terminals.eq-value.it a b ≡ true → a ≡ b
 terminal_sound (terminal.Literal a) (terminal.Literal b) e = ap terminal.Literal (literal_sound a b e)
 terminal_sound (terminal.Bare a) (terminal.Bare b) e = ap terminal.Bare (text_sound a b e)
 terminal_sound terminal.Error terminal.Error e = refl
-terminal_sound _ _ e = absurd (cc e)
+terminal_sound _ _ e = absurd (true≢false (sym e))
 
 leaf_sound : (a b : Leaf) → leaves.eq-value.it a b ≡ true → a ≡ b
 leaf_sound leaf.NoSymbols leaf.NoSymbols e = refl
@@ -52,13 +52,13 @@ leaf_sound leaf.NoPatterns leaf.NoPatterns e = refl
 leaf_sound leaf.Lookahead leaf.Lookahead e = refl
 leaf_sound leaf.Lookbehind leaf.Lookbehind e = refl
 leaf_sound leaf.Error leaf.Error e = refl
-leaf_sound _ _ e = absurd (cc e)
+leaf_sound _ _ e = absurd (true≢false (sym e))
 
 named_leaf_sound : (a b : NamedLeaf) → named_leaves.eq-value.it a b ≡ true → a ≡ b
 named_leaf_sound named_leaf.Rule named_leaf.Rule e = refl
 named_leaf_sound named_leaf.Pattern named_leaf.Pattern e = refl
 named_leaf_sound named_leaf.MutPattern named_leaf.MutPattern e = refl
-named_leaf_sound _ _ e = absurd (cc e)
+named_leaf_sound _ _ e = absurd (true≢false (sym e))
 
 unary_sound : (a b : Unary) → unaries.eq-value.it a b ≡ true → a ≡ b
 unary_sound unary.Group unary.Group e = refl
@@ -68,19 +68,19 @@ unary_sound unary.Question unary.Question e = refl
 unary_sound (unary.Times m) (unary.Times n) e = ap unary.Times (eqb-true m n e)
 unary_sound unary.Chosen unary.Chosen e = refl
 unary_sound unary.Several unary.Several e = refl
-unary_sound _ _ e = absurd (cc e)
+unary_sound _ _ e = absurd (true≢false (sym e))
 
 named_unary_sound : (a b : NamedUnary) → named_unaries.eq-value.it a b ≡ true → a ≡ b
 named_unary_sound named_unary.Call named_unary.Call e = refl
 named_unary_sound named_unary.Named named_unary.Named e = refl
 named_unary_sound named_unary.NamedMut named_unary.NamedMut e = refl
-named_unary_sound _ _ e = absurd (cc e)
+named_unary_sound _ _ e = absurd (true≢false (sym e))
 
 binary_sound : (a b : Binary) → binaries.eq-value.it a b ≡ true → a ≡ b
 binary_sound binary.Symbols binary.Symbols e = refl
 binary_sound binary.Patterns binary.Patterns e = refl
 binary_sound binary.Tuple binary.Tuple e = refl
-binary_sound _ _ e = absurd (cc e)
+binary_sound _ _ e = absurd (true≢false (sym e))
 
 pub node_sound : (m n : Node) → same_node m n ≡ true → m ≡ n
 node_sound (node.Leaf a) (node.Leaf b) e = ap node.Leaf (leaf_sound a b e)
@@ -101,7 +101,7 @@ node_sound (node.Binary a b c) (node.Binary d f g) e =
     let y : b ≡ f = eqb-true b f q.0 in
     let z : c ≡ g = eqb-true c g q.1 in
     cc (x, y, z)
-node_sound _ _ e = absurd (cc e)
+node_sound _ _ e = absurd (true≢false (sym e))
 
 literal_complete : (a : TerminalLiteral) → literals.eq-value.it a a ≡ true
 literal_complete (literal.Quoted a) = text_same a

@@ -1,5 +1,5 @@
 -- What waits where a symbol is read.
-use Rattle.std.proofs.Common.{◌≡◌, ℕ, ◌+◌, ◌<◌, length, take, get_or, List, [], ◌∷◌, ◌++◌, true, false, map, Option, Some, None, option_map, is_some, refl, sym, ap, ◌∙◌, subst}
+use Rattle.std.proofs.Common.{◌≡◌, ℕ, ◌+◌, ◌<◌, length, take, get_or, List, [], ◌∷◌, ◌++◌, true, false, map, Option, Some, None, is_some, Bool, true≢false, refl, sym, ap, ◌∙◌, subst}
 use Rattle.std.specs.List.{flat_map}
 use Rattle.std.proofs.lemmas.List.{map-append}
 use Rattle.lalrpop_norm_tree_names.specs.declared.names.Span.{Span}
@@ -7,9 +7,7 @@ use Rattle.lalrpop_norm_tree.specs.declared.symbol.Symbol.{Symbol}
 use Rattle.lalrpop_norm_tree.specs.Symbols.{Kind, Part, parts_of, group, ambiguous_id, terminal, nonterminal, call, repeated, chosen, named, tupled, lookahead, lookbehind, error_terminal, at, kind_view, symbol_view}
 use Rattle.lalrpop_norm_tree.proofs.SymbolViews.{seen_at}
 use Rattle.lalrpop_norm_tree.specs.SymbolTexts.{part_text, kind_text}
-use Rattle.lalrpop_norm_model.specs.MadeRules.{or_name}
 use Rattle.lalrpop_norm_model.specs.PlainRules.{met, all_met}
-use Rattle.lalrpop_norm_model.specs.Replaced.{replaced}
 use Rattle.lalrpop_norm_nodes.specs.Meeting.{met_inside, own, own_text, met_itself}
 use Rattle.lalrpop_norm_nodes.specs.Apart.{nowhere}
 use Rattle.lalrpop_norm_nodes.specs.declared.given.Given.{Given}
@@ -18,7 +16,8 @@ use Rattle.lalrpop_norm_nodes.specs.declared.table.Table.{Table}
 use Rattle.lalrpop_norm_nodes.specs.Filled.{filled, filled_kind, all_filled, inside_replaced}
 use Rattle.lalrpop_norm_nodes.specs.Given.{given_to, shown_for, AreGiven, kind_shown}
 use Rattle.lalrpop_norm_nodes.specs.Readings.{topped}
-use Rattle.lalrpop_norm_nodes.specs.Tables.{wholes_in, IsNodeTable, TableMeets}
+use Rattle.lalrpop_norm_nodes.specs.Tables.{wholes_in, own_at, own_text_in, IsNodeTable, TableMeets}
+use Rattle.lalrpop_norm_nodes.specs.Wholes.{Whole, one_symbol, symbols, one_pattern, patterns}
 use Rattle.lalrpop_norm_nodes.specs.Waits.{parts_replaced, shown_met, LeavesWaiting}
 use Rattle.lalrpop_norm_nodes.proofs.InPlace.{met_more}
 use Rattle.lalrpop_norm_nodes.proofs.MeetLemmas.{split_at}
@@ -139,18 +138,6 @@ own_is_text p o some e = e ∙ by p some
     by (at s (nonterminal n)) f = absurd (cc f)
     by (at s error_terminal) f = absurd (cc f)
 
--- a symbol with nothing inside
-pub leaf_waits : (t : Table) (e : Environment) (k l : Kind) → k ≡ l → met_inside (filled_kind (shown_for e) l) ≡ [] →
-    LeavesWaiting t t (map parts_replaced (met_inside (filled_kind (shown_for e) k)))
-leaf_waits t e k l is none =
-    subst (λ (xs : List Part). LeavesWaiting t t (map parts_replaced xs))
-    (sym (ap (λ (x : Kind). met_inside (filled_kind (shown_for e) x)) is ∙ none)) (waits_nothing t)
-
--- a name that is no argument's
-pub free_inside : (e : Environment) (k : Kind) (n : List ℕ) → given_to e k ≡ None → k ≡ nonterminal n → met_inside (filled_kind (shown_for e) (nonterminal n)) ≡ []
-free_inside e k n free is =
-    ap (λ (o : Option Given). met_inside (or_name n (option_map (λ g. kind_view g.symbol.kind) o))) (ap (given_to e) (sym is) ∙ free)
-
 pub shown_met_one_by_one : (f : List ℕ → Option Kind) (ps : List Part) →
     map parts_replaced (all_met (all_filled f (parts_of ps))) ≡ flat_map (λ p. map parts_replaced (met (filled f p))) ps
 shown_met_one_by_one f [] = refl
@@ -161,3 +148,61 @@ shown_met_one_by_one f (p ∷ ps) =
 pub partly_waits : {D : Type 0} (m : D → List Part) (vs : List D) (i : ℕ) (w : D) → i < length vs → w ≡ get_or vs i w → (a b c : Table) →
     LeavesWaiting a b (flat_map m (take i vs)) → LeavesWaiting b c (m w) → LeavesWaiting a c (flat_map m (take (i + 1) vs))
 partly_waits m vs i w l e a b c h k = rw (met_more m vs i w l e) (waits_both a b c _ _ h k)
+
+-- ---- whether a symbol is made into a rule, told of its kind
+
+own_placed : (s : Span) (k : Kind) → own_text (at s k) ≡ own_text (at nowhere k)
+own_placed s (group ps) = refl
+own_placed s (call n ps) = refl
+own_placed s (repeated op q) = refl
+own_placed s lookahead = refl
+own_placed s lookbehind = refl
+own_placed s (chosen q) = refl
+own_placed s (named n q) = refl
+own_placed s (tupled ns q) = refl
+own_placed s (ambiguous_id a) = refl
+own_placed s (terminal t) = refl
+own_placed s (nonterminal n) = refl
+own_placed s error_terminal = refl
+
+pub own_by_kind : (s : Symbol) (b : Bool) → b ≡ is_some (own_text (at nowhere (kind_view s.kind))) → is_some (own_text (symbol_view s)) ≡ b
+own_by_kind s b e = ap (λ (p : Part). is_some (own_text p)) (seen_at s) ∙ ap is_some (own_placed s.span (kind_view s.kind)) ∙ sym e
+
+pub no_text : (o p : Option (List ℕ)) → o ≡ p → is_some p ≡ false → o ≡ None
+no_text o None e f = e
+no_text o (Some x) e f = absurd (true≢false f)
+
+-- what is made into no rule stands for nothing that is met
+pub own_none : (s : Span) (w : Whole) → own_text_in w ≡ None → own_at s w ≡ []
+own_none s (symbols ps) e = refl
+own_none s (one_pattern p) e = refl
+own_none s (patterns ps) e = refl
+own_none s (one_symbol (group ps)) e = absurd (cc e)
+own_none s (one_symbol (call n ps)) e = absurd (cc e)
+own_none s (one_symbol (repeated op q)) e = absurd (cc e)
+own_none s (one_symbol lookahead) e = absurd (cc e)
+own_none s (one_symbol lookbehind) e = absurd (cc e)
+own_none s (one_symbol (chosen q)) e = refl
+own_none s (one_symbol (named n q)) e = refl
+own_none s (one_symbol (tupled ns q)) e = refl
+own_none s (one_symbol (ambiguous_id a)) e = refl
+own_none s (one_symbol (terminal t)) e = refl
+own_none s (one_symbol (nonterminal n)) e = refl
+own_none s (one_symbol error_terminal) e = refl
+
+pub same_topped : (s : Symbol) → is_some (own_text (symbol_view s)) ≡ false → symbol_view s ≡ topped (symbol_view s)
+same_topped s none = by (symbol_view s) none
+  where
+    by : (p : Part) → is_some (own_text p) ≡ false → p ≡ topped p
+    by (at s (group ps)) f = absurd (true≢false f)
+    by (at s (call n ps)) f = absurd (true≢false f)
+    by (at s (repeated op q)) f = absurd (true≢false f)
+    by (at s lookahead) f = absurd (true≢false f)
+    by (at s lookbehind) f = absurd (true≢false f)
+    by (at s (chosen q)) f = refl
+    by (at s (named n q)) f = refl
+    by (at s (tupled ns q)) f = refl
+    by (at s (ambiguous_id a)) f = refl
+    by (at s (terminal t)) f = refl
+    by (at s (nonterminal n)) f = refl
+    by (at s error_terminal) f = refl

@@ -88,3 +88,14 @@ met_in_function bound listed ps qs rs all first second last unbound (Ok x) is a 
       ← b,
     ) c
 met_in_function bound listed ps qs rs all first second last unbound (Err e) is a b c = tt
+
+-- what is met in one part and then in another
+pub met_then : {E : Type 0} (listed ps qs all middle last : List TypeParameter) (r : Result (Unit {0}) E) → middle ≡ with_parameters all (filter (is_parameter_among listed) ps)
+    → OnOk r (last ≡ with_parameters middle (filter (is_parameter_among listed) qs)) → OnOk r (last ≡ with_parameters all (filter (is_parameter_among listed) (ps ++ qs)))
+met_then listed ps qs all middle last (Ok x) a b =
+    rw (
+      filter-append (is_parameter_among listed) ps qs,
+      with_new_then (λ p q. same_parameter q p) (λ p. p) all (filter (is_parameter_among listed) ps) (filter (is_parameter_among listed) qs),
+      ← a,
+    ) b
+met_then listed ps qs all middle last (Err e) a b = tt

@@ -17,3 +17,8 @@ pub mod BottomUpLemmas
 pub mod FreeLemmas
 pub mod LifetimeExamples
 pub mod OutlivesLemmas
+pub mod ReprCopies
+pub mod TypeWalks
+pub mod ReprKinds
+pub mod ReprSizes
+pub mod ReferenceTexts

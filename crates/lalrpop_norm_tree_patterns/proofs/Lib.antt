@@ -4,3 +4,4 @@ pub mod PatternViews
 pub mod PatternWalks
 pub mod MapLaws
 pub mod PatternTextLemmas
+pub mod PatternSizes

@@ -1,8 +1,8 @@
 -- The chosen parts and the shapes of patterns, one by one.
-use Rattle.std.proofs.Common.{◌≡◌, ℕ, suc, ◌+◌, ◌<◌, length, drop, ◌≤◌, get_or, Bool, Bor, List, [], ◌∷◌, ◌++◌, map, String, Vec, Global, Result, Ok, Err, refl, ap, subst, sym, ◌∙◌}
+use Rattle.std.proofs.Common.{◌≡◌, ℕ, suc, ◌+◌, ◌<◌, length, take, drop, ◌≤◌, get_or, Bool, Bor, List, [], ◌∷◌, ◌++◌, map, String, Vec, Global, Result, Ok, Err, refl, ap, subst, sym, ◌∙◌}
 use Rattle.std.proofs.Math.Numerals.{add-one}
 use Rattle.std.proofs.Math.Seq.{drop-cons}
-use Rattle.std.proofs.lemmas.List.{append_assoc, append-nil, at_drop_all, map-append}
+use Rattle.std.proofs.lemmas.List.{append_assoc, append-nil, at_drop_all, map-append, take_all}
 use Rattle.std.specs.Prelude.{flat_map, string_bytes}
 use Rattle.std.specs.Result.{OnOk}
 use Rattle.lalrpop_norm_tree_parts.specs.declared.path.Path.{Path}
@@ -124,6 +124,21 @@ module _ {T U : Type 0} where
 
   pub field_kept : (d : FieldPattern T) (e : FieldPattern U) → e.field_span ≡ d.field_span → e.field_name ≡ d.field_name → pattern_shape (pattern_view (λ (u : U). u) e.pattern) ≡ pattern_shape (pattern_view (λ (t : T). t) d.pattern) → field_shape (field_view (λ (u : U). u) e) ≡ field_shape (field_view (λ (t : T). t) d)
   field_kept d e at name kept = rw (field_is d, field_is e, at, name, kept) refl
+
+-- lists of patterns, and of fields, that were mapped as far as they go
+module _ {T U : Type 0} where
+  pub patterns_kept : (qs : List (Pattern U)) (ps : List (Pattern T)) (i : ℕ) → length ps ≤ i → map (λ p. pattern_shape (pattern_view (λ u. u) p)) qs ≡ map (λ p. pattern_shape (pattern_view (λ t. t) p)) (take i ps) → mapped_patterns (λ _. tt {0}) (patterns_view (λ u. u) qs) ≡ mapped_patterns (λ _. tt {0}) (patterns_view (λ t. t) ps)
+  patterns_kept qs ps i h same = patterns_shapes qs ∙ ap patterns_of (same ∙ ap (map (λ p. pattern_shape (pattern_view (λ t. t) p))) (take_all i ps h)) ∙ sym (patterns_shapes ps)
+
+  pub fields_kept : (gs : List (FieldPattern U)) (fs : List (FieldPattern T)) (i : ℕ) → length fs ≤ i → map (λ d. field_shape (field_view (λ u. u) d)) gs ≡ map (λ d. field_shape (field_view (λ t. t) d)) (take i fs) → mapped_fields (λ _. tt {0}) (fields_view (λ u. u) gs) ≡ mapped_fields (λ _. tt {0}) (fields_view (λ t. t) fs)
+  fields_kept gs fs i h same = fields_shapes gs ∙ ap fields_of (same ∙ ap (map (λ d. field_shape (field_view (λ t. t) d))) (take_all i fs h)) ∙ sym (fields_shapes fs)
+
+  module _ {S E : Type 0} (Step : S → T → Result U E → S → Type 0) (s s' : S) where
+    pub patterns_answered : (qs : List (Pattern U)) (ps : List (Pattern T)) (i : ℕ) → length ps ≤ i → Answered Step s (flat_map (λ p. chosen_in_pattern (pattern_view (λ t. t) p)) (take i ps)) (flat_map (λ p. chosen_in_pattern (pattern_view (λ u. u) p)) qs) s' → Answered Step s (chosen_in_all (patterns_view (λ t. t) ps)) (chosen_in_all (patterns_view (λ u. u) qs)) s'
+    patterns_answered qs ps i h a = rw (patterns_places ps, patterns_places qs) (rw (take_all i ps h) at a)
+
+    pub fields_answered : (gs : List (FieldPattern U)) (fs : List (FieldPattern T)) (i : ℕ) → length fs ≤ i → Answered Step s (flat_map (λ d. chosen_in_pattern (field_view (λ t. t) d).pattern) (take i fs)) (flat_map (λ d. chosen_in_pattern (field_view (λ u. u) d).pattern) gs) s' → Answered Step s (chosen_in_fields (fields_view (λ t. t) fs)) (chosen_in_fields (fields_view (λ u. u) gs)) s'
+    fields_answered gs fs i h a = rw (fields_places fs, fields_places gs) (rw (take_all i fs h) at a)
 
 -- what the chosen parts of a kind of pattern without patterns add to those before
 module _ {T : Type 0} (all : List T) (k : PatternKind T) where

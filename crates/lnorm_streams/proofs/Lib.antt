@@ -1,3 +1,4 @@
 pub mod FrontLemmas
 pub mod LineLemmas
+pub mod OneRead
 pub mod OneWrite

@@ -1,6 +1,6 @@
-use Rattle.std.proofs.Common.{◌<◌, ◌≤◌, length, Some, rules, ap, ◌∙◌}
+use Rattle.std.proofs.Common.{◌<◌, ◌≤◌, length, Some, rules, sym, ap, ◌∙◌}
 use Rattle.serde_json.specs.Data.{unsigned}
-use Rattle.json_records.proofs.Digits.{few, end_of_digits}
+use Rattle.json_records.proofs.Digits.{few, end_of_digits, value_more, digits_more}
 use Rattle.json_records.proofs.numbers.few_digits.Goals as goal
 
 pub returns : goal.returns
@@ -9,3 +9,15 @@ returns c =
     let end : length c.args.bytes.now ≤ c.loop-byte.byte-index = search (rules, c.loop-byte-test.false) in
     let e = end_of_digits c.args.bytes.now c.loop-byte.n c.loop-byte.byte-index end c.loop-byte.invariant.value c.loop-byte.invariant.digits in
     few c.args.bytes.now some e.1 (search (rules, e.0, c.loop-byte.auto.n-fits)) ∙ ap (λ n. Some (unsigned n)) e.0
+
+pub loop-byte-preserved : goal.loop-byte-preserved
+loop-byte-preserved c =
+    let l = c.loop-byte in
+    let digit = sym c.if-not-is_ascii_digit.ensures.value in
+    record {
+      value = value_more c.args.bytes.now l.n l.byte-index c.loop-byte-test.true digit l.invariant.value;
+      digits = digits_more c.args.bytes.now l.n l.byte-index c.loop-byte-test.true digit l.invariant.digits;
+    }
+
+pub overflow_sub-n : goal.overflow_sub-n
+overflow_sub-n c = c.if-not-is_ascii_digit.ensures.cases.0

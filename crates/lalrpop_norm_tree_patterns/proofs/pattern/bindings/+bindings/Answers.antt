@@ -1,7 +1,9 @@
 use Rattle.std.proofs.Common.{◌+◌, map, drop, arith, refl}
+use borrow.Author.Count.{falls}
 use Rattle.lalrpop_norm_tree_patterns.specs.MappedPatterns.{chosen_in_pattern, chosen_in_all, chosen_in_fields}
 use Rattle.lalrpop_norm_tree_patterns.specs.Patterns.{pattern_view, field_view, patterns_view, fields_view}
 use Rattle.lalrpop_norm_tree_patterns.proofs.PatternWalks.{patterns_places, fields_places, drop_more, none_left, pattern_places, field_places, enum_places, struct_places, tuple_places, tuple_struct_places, path_more, number_more, underscore_more, dot_dot_more, character_more, text_more, chosen_more}
+use Rattle.lalrpop_norm_tree_patterns.proofs.PatternSizes.{to_kind, to_pattern, to_one, to_one_field, to_enum, to_struct, to_tuple, to_tuple_struct}
 use Rattle.lalrpop_norm_tree_patterns.proofs.pattern.bindings.+bindings.Goals as goal
 
 pub add_chosen-returns : goal.add_chosen-returns
@@ -64,3 +66,39 @@ add_chosen_of_fields-loop-field-preserved g t c =
 pub add_chosen_of_fields-returns : goal.add_chosen_of_fields-returns
 add_chosen_of_fields-returns g t c =
     none_left (λ fs. chosen_in_fields (fields_view (λ t. t) fs)) c.args.fields.now c.loop-field.field-index _ _ (omega arith) refl c.loop-field.invariant
+
+pub add_chosen-add_chosen_of_kind-requires : goal.add_chosen-add_chosen_of_kind-requires
+add_chosen-add_chosen_of_kind-requires g t c = λ κs out. (to_kind t c.args.pattern.now c.decreases, out)
+
+pub add_chosen_of_field-add_chosen-requires : goal.add_chosen_of_field-add_chosen-requires
+add_chosen_of_field-add_chosen-requires g t c = λ κs out. (to_pattern t c.args.field.now c.decreases, out)
+
+pub add_chosen_of_kind-add_chosen_of_all-requires : goal.add_chosen_of_kind-add_chosen_of_all-requires
+add_chosen_of_kind-add_chosen_of_all-requires g t c = λ κs out. (to_enum t _ _ _ _ c.in-Enum.is c.deref.ensures.value c.decreases, out)
+
+pub add_chosen_of_kind-add_chosen_of_fields-requires : goal.add_chosen_of_kind-add_chosen_of_fields-requires
+add_chosen_of_kind-add_chosen_of_fields-requires g t c = λ κs out. (to_struct t _ _ _ _ _ c.in-Struct.is c.deref-in-Struct.ensures.value c.decreases, out)
+
+pub add_chosen_of_kind-add_chosen_of_all-requires-in-Tuple : goal.add_chosen_of_kind-add_chosen_of_all-requires-in-Tuple
+add_chosen_of_kind-add_chosen_of_all-requires-in-Tuple g t c = λ κs out. (to_tuple t _ _ _ c.in-Tuple.is c.deref-in-Tuple.ensures.value c.decreases, out)
+
+pub add_chosen_of_kind-add_chosen_of_all-requires-in-TupleStruct : goal.add_chosen_of_kind-add_chosen_of_all-requires-in-TupleStruct
+add_chosen_of_kind-add_chosen_of_all-requires-in-TupleStruct g t c = λ κs out. (to_tuple_struct t _ _ _ _ c.in-TupleStruct.is c.deref-in-TupleStruct.ensures.value c.decreases, out)
+
+pub add_chosen_of_all-add_chosen-requires : goal.add_chosen_of_all-add_chosen-requires
+add_chosen_of_all-add_chosen-requires g t c = λ κs out. (to_one t _ _ _ c.loop-pattern-test.true c.pattern-item.is c.decreases, out)
+
+pub add_chosen_of_fields-add_chosen_of_field-requires : goal.add_chosen_of_fields-add_chosen_of_field-requires
+add_chosen_of_fields-add_chosen_of_field-requires g t c = λ κs out. (to_one_field t _ _ _ c.loop-field-test.true c.field-item.is c.decreases, out)
+
+pub add_chosen_of_all-loop-pattern-init : goal.add_chosen_of_all-loop-pattern-init
+add_chosen_of_all-loop-pattern-init g t c = refl
+
+pub add_chosen_of_fields-loop-field-init : goal.add_chosen_of_fields-loop-field-init
+add_chosen_of_fields-loop-field-init g t c = refl
+
+pub add_chosen_of_all-loop-pattern-smaller : goal.add_chosen_of_all-loop-pattern-smaller
+add_chosen_of_all-loop-pattern-smaller g t c = falls _ _ c.loop-pattern-test.true
+
+pub add_chosen_of_fields-loop-field-smaller : goal.add_chosen_of_fields-loop-field-smaller
+add_chosen_of_fields-loop-field-smaller g t c = falls _ _ c.loop-field-test.true
