@@ -12,9 +12,13 @@ use std::alloc::Global;
 /// What a name in a condition asks of its argument.
 #[derive(Clone, Copy, Debug, PartialEq, Eq)]
 pub enum Test {
+    /// `feature`: its argument is a text.
     Feature,
+    /// `not`: the first of its arguments is a condition.
     Not,
+    /// `any` and `all`: they have arguments, each a condition.
     Several,
+    /// A name that no condition has.
     Unknown,
 }
 

@@ -6,7 +6,7 @@ use Rattle.lalrpop_norm_theory.specs.Symbols.{Terminal, quoted, regex, bare, err
 use Rattle.lalrpop_norm_theory.specs.LoweredTrees.{LoweredTree, LoweredTrees, lowered_leaf, lowered_node, no_lowered, lowered_and}
 use Rattle.lalrpop_norm_theory.specs.WrittenTrees.{WrittenTree, WrittenTrees, tree_count, leaf, nothing, list, node, no_trees, tree_and}
 use Rattle.lexplain_lines.specs.TreeLines.{lowered_count}
-use Rattle.lexplain_lines.specs.LineForms.{leaf_form, lowered_node_form, written_node_form, list_form, nothing_form, lowered_forms, all_lowered_forms, written_forms, all_written_forms}
+use Rattle.lexplain_lines.specs.LineForms.{leaf_form, lowered_node_form, written_node_form, list_line_form, nothing_form, lowered_forms, all_lowered_forms, written_forms, all_written_forms}
 
 below : (k n : ℕ) → k < n → nat_lt k n ≡ true
 below k n l = grind arith
@@ -94,9 +94,9 @@ mutual
       ap (λ j. trees_behind written_taken j (leaf_form a ∷ ds)) (omega arith) ∙ takes written_taken (leaf_form a) k 0 ds (written_leaf_takes a)
   written_makes nothing k ds = ap (λ j. trees_behind written_taken j (nothing_form ∷ ds)) (omega arith) ∙ takes written_taken nothing_form k 0 ds refl
   written_makes (list ts) k ds =
-      ap (trees_behind written_taken k) (append_assoc (all_written_forms ts) (list_form (tree_count ts) ∷ []) ds)
-      ∙ all_written_make ts k (list_form (tree_count ts) ∷ ds)
-      ∙ takes written_taken (list_form (tree_count ts)) k (tree_count ts) ds refl
+      ap (trees_behind written_taken k) (append_assoc (all_written_forms ts) (list_line_form (tree_count ts) ∷ []) ds)
+      ∙ all_written_make ts k (list_line_form (tree_count ts) ∷ ds)
+      ∙ takes written_taken (list_line_form (tree_count ts)) k (tree_count ts) ds refl
   written_makes (node n p ts) k ds =
       ap (trees_behind written_taken k) (append_assoc (all_written_forms ts) (written_node_form n p (tree_count ts) ∷ []) ds)
       ∙ all_written_make ts k (written_node_form n p (tree_count ts) ∷ ds)

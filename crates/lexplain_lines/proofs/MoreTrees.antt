@@ -21,7 +21,7 @@ use Rattle.lalrpop_norm_explain.specs.declared.trees.WrittenTree.TheVariants as 
 use Rattle.lalrpop_norm_explain.specs.declared.trees.WrittenTree.TheViews as written_rolls
 use Rattle.lalrpop_norm_explain.specs.Trees.{lowered_step, lowered_view, lowered_views, written_step, written_view, written_views}
 use Rattle.lalrpop_norm_explain.proofs.Views.{list_seen, node_seen, nothing_seen}
-use Rattle.lexplain_lines.specs.LineForms.{leaf_form, nothing_form, list_form, written_node_form, lowered_node_form, lowered_forms, all_lowered_forms, written_forms, all_written_forms}
+use Rattle.lexplain_lines.specs.LineForms.{leaf_form, nothing_form, list_line_form, written_node_form, lowered_node_form, lowered_forms, all_lowered_forms, written_forms, all_written_forms}
 use Rattle.lexplain_lines.proofs.LineLemmas.{lowered_counted, written_counted, rule_seen}
 
 -- ---- lowered trees
@@ -91,10 +91,10 @@ written_over old mid new t d ts e f is =
     ∙ ap (λ ds. ds ++ (d ∷ [])) (sym (written_behind mid ts.items) ∙ ap (λ xs. all_written_forms (written_views xs)) (sym e))
 
 pub written_list_more : (old mid new : List WrittenTree) (count : ℕ) (ts : Vec WrittenTree Global) → old ≡ mid ++ ts.items → length ts.items ≡ count →
-    new ≡ mid ++ (written_rolls.List ts ∷ []) → all_written_forms (written_views new) ≡ all_written_forms (written_views old) ++ (list_form count ∷ [])
+    new ≡ mid ++ (written_rolls.List ts ∷ []) → all_written_forms (written_views new) ≡ all_written_forms (written_views old) ++ (list_line_form count ∷ [])
 written_list_more old mid new count ts e c f =
-    written_over old mid new (written_rolls.List ts) (list_form count) ts e f
-    (ap written_forms (list_seen ts) ∙ ap (λ k. all_written_forms (written_views ts.items) ++ (list_form k ∷ [])) (written_counted ts.items ∙ c))
+    written_over old mid new (written_rolls.List ts) (list_line_form count) ts e f
+    (ap written_forms (list_seen ts) ∙ ap (λ k. all_written_forms (written_views ts.items) ++ (list_line_form k ∷ [])) (written_counted ts.items ∙ c))
 
 pub written_node_more : (old mid new : List WrittenTree) (n : NonterminalString) (k count : ℕ) (ts : Vec WrittenTree Global) → old ≡ mid ++ ts.items →
     length ts.items ≡ count → new ≡ mid ++ (written_rolls.Node n k ts ∷ []) →

@@ -13,20 +13,20 @@ use Rattle.lexplain_lines.specs.TreeLines.{lowered_count}
 abbrev pub AreLines : List ℕ → List Data → Type 0
 AreLines text ds = map read (lines text) ≡ map (λ d. Some d) ds
 
-abbrev pub terminal_form : Terminal → Data
-terminal_form (quoted s) = variant (codes "Literal") (variant (codes "Quoted") (string s))
-terminal_form (regex s) = variant (codes "Literal") (variant (codes "Regex") (string s))
-terminal_form (bare s) = variant (codes "Bare") (string s)
-terminal_form error_terminal = string (codes "Error")
+abbrev pub leaf_terminal_form : Terminal → Data
+leaf_terminal_form (quoted s) = variant (codes "Literal") (variant (codes "Quoted") (string s))
+leaf_terminal_form (regex s) = variant (codes "Literal") (variant (codes "Regex") (string s))
+leaf_terminal_form (bare s) = variant (codes "Bare") (string s)
+leaf_terminal_form error_terminal = string (codes "Error")
 
 abbrev pub leaf_form : Terminal → Data
-leaf_form a = variant (codes "Leaf") (terminal_form a)
+leaf_form a = variant (codes "Leaf") (leaf_terminal_form a)
 
 abbrev pub nothing_form : Data
 nothing_form = string (codes "Nothing")
 
-abbrev pub list_form : ℕ → Data
-list_form count = variant (codes "List") (natural count)
+abbrev pub list_line_form : ℕ → Data
+list_line_form count = variant (codes "List") (natural count)
 
 -- a node: its name, its number, and how many children it has
 abbrev pub written_node_form : Name → ℕ → ℕ → Data
@@ -41,7 +41,7 @@ abbrev mutual
   pub written_forms : WrittenTree → List Data
   written_forms (leaf a) = leaf_form a ∷ []
   written_forms nothing = nothing_form ∷ []
-  written_forms (list ts) = all_written_forms ts ++ (list_form (tree_count ts) ∷ [])
+  written_forms (list ts) = all_written_forms ts ++ (list_line_form (tree_count ts) ∷ [])
   written_forms (node n k ts) = all_written_forms ts ++ (written_node_form n k (tree_count ts) ∷ [])
 
   pub all_written_forms : WrittenTrees → List Data

@@ -8,7 +8,7 @@ use Rattle.lexplain_lines.specs.declared.lowered.LoweredLine.{LoweredLine}
 use Rattle.lexplain_lines.specs.declared.lowered.LoweredLine.TheVariants as lowered
 use Rattle.lexplain_lines.specs.declared.written.WrittenLine.{WrittenLine}
 use Rattle.lexplain_lines.specs.declared.written.WrittenLine.TheVariants as written
-use Rattle.lexplain_lines.specs.LineForms.{leaf_form, nothing_form, list_form, written_node_form, lowered_node_form}
+use Rattle.lexplain_lines.specs.LineForms.{leaf_form, nothing_form, list_line_form, written_node_form, lowered_node_form}
 
 abbrev pub lowered_line_form : LoweredLine → Data
 lowered_line_form (lowered.Leaf a) = leaf_form (terminal_of a)
@@ -27,7 +27,7 @@ lowered_line_shape =
 abbrev pub written_line_form : WrittenLine → Data
 written_line_form written.Nothing = nothing_form
 written_line_form (written.Leaf a) = leaf_form (terminal_of a)
-written_line_form (written.List count) = list_form count
+written_line_form (written.List count) = list_line_form count
 written_line_form (written.Node n k count) = written_node_form n.0 k count
 
 abbrev pub written_line_children : WrittenLine → ℕ

@@ -100,9 +100,9 @@ impl Variant<TerminalString> for Line {
     ghost use Rattle.lalrpop_norm_json.specs.Shapes as shape;
     ghost use Rattle.lalrpop_norm_json.specs.Shapes.{is};
     ghost use Rattle.lalrpop_norm_json.specs.Laws.{no_variant};
-    ghost use Rattle.lexplain_lines.specs.LineForms.{terminal_form};
+    ghost use Rattle.lexplain_lines.specs.LineForms.{leaf_terminal_form};
 
-    ghost form = { λ a. terminal_form (terminal_of a) };
+    ghost form = { λ a. leaf_terminal_form (terminal_of a) };
 
     ghost can = { is shape.terminal };
 
