@@ -1,5 +1,5 @@
 //! The answers to a script.
-use lnorm_cases::answer::push_answer;
+use lnorm_cases::answer::{Text, push_answer};
 use lnorm_cases::script::{is_case, words_of};
 use std::{fs, io};
 
@@ -8,28 +8,35 @@ const ROOM: usize = 16;
 
 /// The answers to the lines of a script, each under its line.
 pub fn answers(rt: &HostRuntime, script: &str) -> io::Result<String> {
-    let mut text = String::new(rt.alloc());
+    let mut text = Text::new(rt.alloc());
     for line in script.lines() {
         if is_case(line) {
-            push_case(rt, &mut text, line)?;
+            push_case(rt, &mut text, line);
         }
     }
-    Ok(text)
+    Ok(text.finish()?)
 }
 
-fn push_case(rt: &HostRuntime, text: &mut String, line: &str) -> io::Result<()> {
-    let alloc = rt.alloc();
-    write!(text, "== {line}\n")?;
-    text.reserve(ROOM)?;
-    let words = words_of(alloc, line)?;
-    match words.as_slice() {
-        [name, call, words @ ..] => match files_of(rt, name) {
-            Ok((bytes, beside)) => push_answer(alloc, text, call, words, &bytes, &beside)?,
-            Err(_) => text.push_str("no file\n")?,
-        },
-        _ => text.push_str("no case\n")?,
+fn push_case(rt: &HostRuntime, text: &mut Text, line: &str) {
+    text.put("== ");
+    text.put(line);
+    text.put("\n");
+    text.reserve(ROOM);
+    match words_of(rt.alloc(), line) {
+        Ok(words) => push_words(rt, text, &words),
+        Err(_) => text.lack(),
     }
-    Ok(())
+}
+
+/// The answer to the words of a line.
+fn push_words(rt: &HostRuntime, text: &mut Text, words: &[String]) {
+    match words {
+        [name, call, words @ ..] => match files_of(rt, name) {
+            Ok((bytes, beside)) => push_answer(rt.alloc(), text, call, words, &bytes, &beside),
+            Err(_) => text.put("no file\n"),
+        },
+        _ => text.put("no case\n"),
+    }
 }
 
 /// What the file of a tree holds, and that of what is named beside it, behind a `+`.

@@ -9,37 +9,39 @@ use crate::outcome::{Layout, PassCall, push_outcome};
 use crate::readings::twice::{push_beginnings, push_read_twice};
 use crate::runs::{push_cut_trees, push_run};
 use crate::scripted::scripted_session;
+use crate::shown::push_or_memory;
 use lalrpop_norm::normalize::Session;
 use lalrpop_norm_lexer::lexer::{CheckOnly, Lexer};
 use lnorm_run::words::{WordsError, asked_by};
+pub use lnorm_texts::text::Text;
 use lnorm_texts::values::push_values;
-use shared_text::NoMemory;
-use std::alloc::{AllocError, Global};
+use std::alloc::Global;
 
 /// Writes the answer to a call, with its words, on the tree that the bytes are; `beside` is what the file holds that is named beside it,
-/// if one is. The only error is want of memory for the answer's text: a call that has no memory is answered `memory`.
+/// if one is. A call that has no memory is answered `memory`; the text lacks an answer only where there was no memory for the text.
 pub fn push_answer(
     alloc: Global,
-    text: &mut String,
+    text: &mut Text,
     call: &str,
     words: &[String],
     bytes: &[u8],
     beside: &[u8],
-) -> Result<(), AllocError> {
-    match call_of(alloc, call)? {
-        Some(call) => push_called(alloc, text, &call, words, bytes, beside),
-        None => text.push_str("no such call\n"),
+) {
+    match call_of(alloc, call) {
+        Ok(Some(call)) => push_called(alloc, text, &call, words, bytes, beside),
+        Ok(None) => text.put("no such call\n"),
+        Err(_) => text.lack(),
     }
 }
 
 fn push_called(
     alloc: Global,
-    text: &mut String,
+    text: &mut Text,
     call: &Call,
     words: &[String],
     bytes: &[u8],
     beside: &[u8],
-) -> Result<(), AllocError> {
+) {
     match call {
         Call::Lnorm => push_run(alloc, text, words, bytes),
         Call::Library => push_counts_of(alloc, text, bytes),
@@ -59,19 +61,19 @@ fn push_called(
 /// What the passes come to, in the form of the first word, if that names one.
 fn push_passes(
     alloc: Global,
-    text: &mut String,
+    text: &mut Text,
     passes: &[Pass],
     last: Last,
     words: &[String],
     bytes: &[u8],
-) -> Result<(), AllocError> {
+) {
     let (layout, words) = layout_of(words);
     let call = PassCall {
         passes,
         last,
         layout,
     };
-    push_passed(alloc, text, &call, words, bytes)
+    push_passed(alloc, text, &call, words, bytes);
 }
 
 /// The form that the first word names, and the other words; lines and all words, if it names none.
@@ -84,41 +86,22 @@ fn layout_of(words: &[String]) -> (Layout, &[String]) {
     }
 }
 
-/// What is pushed, and a line where there was no memory for it.
-fn push_or_memory<F: FnOnce(&mut String) -> Result<(), NoMemory>>(
-    text: &mut String,
-    push: F,
-) -> Result<(), AllocError>
-    requires { F.IsAlwaysCallable push }
-{
-    match push(text) {
-        Ok(()) => Ok(()),
-        Err(_) => text.push_str("memory\n"),
-    }
-}
-
 /// Values that no tree holds.
-fn push_made(alloc: Global, text: &mut String) -> Result<(), NoMemory> {
-    push_values(alloc, text)?;
-    push_no_feature(alloc, text)
+fn push_made(alloc: Global, text: &mut Text) {
+    push_values(alloc, text);
+    push_no_feature(alloc, text);
 }
 
 /// What the passes come to, in the session of the words: where the lexer is described, that is all that they do.
-fn push_passed(
-    alloc: Global,
-    text: &mut String,
-    call: &PassCall,
-    words: &[String],
-    bytes: &[u8],
-) -> Result<(), AllocError> {
+fn push_passed(alloc: Global, text: &mut Text, call: &PassCall, words: &[String], bytes: &[u8]) {
     match call.last {
         Last::TokenCheckScripted | Last::NormalizeScripted => {
             let session = scripted_session(alloc, words);
-            push_in_session(alloc, text, session, call, bytes)
+            push_in_session(alloc, text, session, call, bytes);
         }
         _ => {
             let session = session_of(alloc, words);
-            push_in_session(alloc, text, session, call, bytes)
+            push_in_session(alloc, text, session, call, bytes);
         }
     }
 }
@@ -133,29 +116,29 @@ fn session_of(alloc: Global, words: &[String]) -> Result<Session<CheckOnly>, Wor
 
 fn push_in_session<L: Lexer + Drop>(
     alloc: Global,
-    text: &mut String,
+    text: &mut Text,
     session: Result<Session<L>, WordsError>,
     call: &PassCall,
     bytes: &[u8],
-) -> Result<(), AllocError> {
+) {
     match session {
         Ok(session) => match call.layout {
             Layout::Twice => push_twice(alloc, text, &session, call, bytes),
             _ => push_outcome(alloc, text, &session, call, bytes),
         },
-        Err(WordsError::Usage) => text.push_str("usage\n"),
-        Err(WordsError::Memory) => text.push_str("memory\n"),
+        Err(WordsError::Usage) => text.put("usage\n"),
+        Err(WordsError::Memory) => text.put("memory\n"),
     }
 }
 
 /// The outcome, and that of the same in the same session again.
 fn push_twice<L: Lexer>(
     alloc: Global,
-    text: &mut String,
+    text: &mut Text,
     session: &Session<L>,
     call: &PassCall,
     bytes: &[u8],
-) -> Result<(), AllocError> {
-    push_outcome(alloc, text, session, call, bytes)?;
-    push_outcome(alloc, text, session, call, bytes)
+) {
+    push_outcome(alloc, text, session, call, bytes);
+    push_outcome(alloc, text, session, call, bytes);
 }

@@ -1,6 +1,7 @@
 //! The way back: trees beside a grammar, read from lines.
 use crate::call::Back;
 use crate::outcome::push_place;
+use crate::shown::push_apart;
 use lalrpop_norm::explain::{ExplainError, LoweredTree, Traced, explain, lower_tree};
 use lalrpop_norm::normalize::{NormFailure, Session, normalize_traced};
 use lalrpop_norm_json::{TreeError, read_tree};
@@ -11,24 +12,25 @@ use lexplain_lines::read::{LinesError, lowered_tree_of_lines, written_tree_of_li
 use lexplain_run::answer::{Stop, push_fault};
 use lnorm_run::lines::push_origin;
 use lnorm_run::words::{WordsError, asked_by};
-use std::alloc::{AllocError, Global};
+use lnorm_texts::text::Text;
+use std::alloc::Global;
 
 /// What a call answers for the tree that lines make, in the grammar that the bytes are.
 pub(crate) fn push_back(
     alloc: Global,
-    text: &mut String,
+    text: &mut Text,
     back: Back,
     words: &[String],
     bytes: &[u8],
     lines: &[u8],
-) -> Result<(), AllocError> {
+) {
     match asked_by(alloc, words) {
         Ok(asked) => match answered(alloc, back, &asked.session, bytes, lines) {
-            Ok(answer) => text.push_str(answer.as_str()),
-            Err(stop) => push_stop(text, &stop),
+            Ok(answer) => text.put(answer.as_str()),
+            Err(stop) => push_stop(alloc, text, &stop),
         },
-        Err(WordsError::Usage) => text.push_str("usage\n"),
-        Err(WordsError::Memory) => text.push_str("memory\n"),
+        Err(WordsError::Usage) => text.put("usage\n"),
+        Err(WordsError::Memory) => text.put("memory\n"),
     }
 }
 
@@ -90,53 +92,59 @@ fn read<T: Drop>(tree: Result<T, LinesError>) -> Result<T, Stop> {
     }
 }
 
-fn push_stop(text: &mut String, stop: &Stop) -> Result<(), AllocError> {
+fn push_stop(alloc: Global, text: &mut Text, stop: &Stop) {
     match stop {
-        Stop::NotAGrammar => text.push_str("not a tree\n"),
-        Stop::NotATree => text.push_str("no tree beside it\n"),
+        Stop::NotAGrammar => text.put("not a tree\n"),
+        Stop::NotATree => text.put("no tree beside it\n"),
         Stop::Failed(failure) => push_place(text, failure),
-        Stop::Tree(ExplainError::Refused { fault, path }) => push_fault(text, *fault, path),
-        Stop::Tree(ExplainError::Memory) => text.push_str("memory\n"),
+        Stop::Tree(ExplainError::Refused { fault, path }) => push_apart(alloc, text, |text| {
+            push_fault(text, *fault, path)
+        }),
+        Stop::Tree(ExplainError::Memory) => text.put("memory\n"),
     }
 }
 
 /// The nonterminals of a traced grammar, and whether trees may begin at each; under it its productions, each with its origin, and what
 /// stands at the place behind the last one.
-pub(crate) fn push_traced(text: &mut String, traced: &Traced) -> Result<(), AllocError> {
+pub(crate) fn push_traced(alloc: Global, text: &mut Text, traced: &Traced) {
     for (name, nonterminal) in &traced.grammar().nonterminals {
-        let is_rule = traced.is_rule(name);
-        write!(text, "{name}, a written rule: {is_rule}\n")?;
-        push_productions(text, traced, name, nonterminal)?;
+        text.show(name);
+        text.put(", a written rule: ");
+        text.show(traced.is_rule(name));
+        text.put("\n");
+        push_productions(alloc, text, traced, name, nonterminal);
     }
-    Ok(())
 }
 
 fn push_productions(
-    text: &mut String,
+    alloc: Global,
+    text: &mut Text,
     traced: &Traced,
     name: &NonterminalString,
     nonterminal: &NonterminalData,
-) -> Result<(), AllocError> {
+) {
     for (place, production) in nonterminal.productions.iter().enumerate() {
-        push_production(text, traced, name, place, production)?;
+        push_production(alloc, text, traced, name, place, production);
     }
     if traced.origin(name, nonterminal.productions.len()).is_some() {
-        text.push_str("    one more\n")?;
+        text.put("    one more\n");
     }
-    Ok(())
 }
 
 fn push_production(
-    text: &mut String,
+    alloc: Global,
+    text: &mut Text,
     traced: &Traced,
     name: &NonterminalString,
     place: usize,
     production: &Production,
-) -> Result<(), AllocError> {
-    write!(text, "    {production:?} ")?;
+) {
+    text.put("    ");
+    text.debug(production);
+    text.put(" ");
     match traced.origin(name, place) {
-        Some(origin) => push_origin(text, origin)?,
-        None => text.push_str("from nowhere")?,
+        Some(origin) => push_apart(alloc, text, |text| push_origin(text, origin)),
+        None => text.put("from nowhere"),
     }
-    text.push_str("\n")
+    text.put("\n");
 }

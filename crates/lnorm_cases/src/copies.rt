@@ -8,37 +8,34 @@ use lalrpop_norm_tree::grammar::parse_tree::{
 };
 use lalrpop_norm_tree::grammar::pattern::{FieldPattern, Pattern, PatternKind};
 use lnorm_texts::made::{atom, both, list_of_one, made_of, push_shown, string};
+use lnorm_texts::text::Text;
 use shared_text::Atom;
 use std::alloc::Global;
 
 /// Of each kind a line, which says whether the copy is equal.
-pub(crate) fn push_copies(alloc: Global, text: &mut String) -> Result<(), NoMemory> {
-    push_is_copied(text, "attribute", is_copied(level(alloc)))?;
-    push_is_copied(text, "argument of an attribute", is_copied(argument(alloc)))?;
-    push_is_copied(text, "call", is_copied(call(alloc)))?;
-    push_is_copied(text, "repeat", is_copied(repeat(alloc)))?;
-    push_is_copied(text, "nominal type", is_copied(nominal(alloc)))?;
+pub(crate) fn push_copies(alloc: Global, text: &mut Text) {
+    push_is_copied(text, "attribute", is_copied(level(alloc)));
+    push_is_copied(text, "argument of an attribute", is_copied(argument(alloc)));
+    push_is_copied(text, "call", is_copied(call(alloc)));
+    push_is_copied(text, "repeat", is_copied(repeat(alloc)));
+    push_is_copied(text, "nominal type", is_copied(nominal(alloc)));
     push_is_copied(
         text,
         "kind of a pattern",
         made_of(kind(alloc), is_kind_copied),
-    )?;
+    );
     push_is_copied(
         text,
         "field of a pattern",
         made_of(field(alloc), is_field_copied),
-    )?;
-    push_is_copied(text, "refusal of a pattern", is_copied(refusal(alloc)))?;
-    push_is_copied(text, "refusal of a side", is_side_refusal_copied())
+    );
+    push_is_copied(text, "refusal of a pattern", is_copied(refusal(alloc)));
+    push_is_copied(text, "refusal of a side", is_side_refusal_copied());
 }
 
-fn push_is_copied(
-    text: &mut String,
-    name: &str,
-    is_copied: Result<bool, NoMemory>,
-) -> Result<(), NoMemory> {
-    text.push_str(name)?;
-    push_shown(text, " copied ", is_copied, "\n")
+fn push_is_copied(text: &mut Text, name: &str, is_copied: Result<bool, NoMemory>) {
+    text.put(name);
+    push_shown(text, " copied ", is_copied, "\n");
 }
 
 /// Whether a copy of the value that was made is equal to it.

@@ -2,7 +2,8 @@
 use crate::cut::{Cut, Failure};
 use lnorm_run::answer::Afterwards;
 use lnorm_run::run::run;
-use std::alloc::{AllocError, Global};
+use lnorm_texts::text::Text;
+use std::alloc::Global;
 use std::io::Write;
 
 /// What is run: the words of the call, the bytes of the tree, and the read that fails, if there are that many.
@@ -22,46 +23,40 @@ struct Ended {
 }
 
 /// The runs on a tree of which one read fails, or is told to be the end.
-pub(crate) fn push_cut_reads(
-    alloc: Global,
-    text: &mut String,
-    words: &[String],
-    bytes: &[u8],
-) -> Result<(), AllocError> {
+pub(crate) fn push_cut_reads(alloc: Global, text: &mut Text, words: &[String], bytes: &[u8]) {
     let asked = asked_of(words, bytes);
-    let whole = uncut(alloc, asked)?;
+    let whole = uncut(alloc, text, asked);
     for place in 0..bytes.len().saturating_add(2) {
-        if !push_reads_at(alloc, text, asked, place, &whole.output)? {
-            return Ok(());
+        if !push_reads_at(alloc, text, asked, place, &whole.output) {
+            break;
         }
     }
-    Ok(())
 }
 
-/// The runs of which the read at that place fails, and whether there is such a read.
+/// The runs of which the read at that place fails, and whether there is such a read. There is none where memory was wanting.
 fn push_reads_at(
     alloc: Global,
-    text: &mut String,
+    text: &mut Text,
     asked: Asked<'_>,
     place: usize,
     whole: &[u8],
-) -> Result<bool, AllocError> {
+) -> bool {
     for failure in [Failure::Interrupted, Failure::Broken, Failure::Nothing] {
-        let input = Cut::new(Vec::from_slice(alloc, asked.bytes)?, 100, place, failure);
-        if !push_cut_read(alloc, text, asked.words, input, whole)? {
-            return Ok(false);
+        let input = input_of(alloc, text, asked.bytes, place, failure);
+        if !push_cut_read(alloc, text, asked.words, input, whole) {
+            return false;
         }
     }
-    Ok(true)
+    true
 }
 
 fn push_cut_read(
     alloc: Global,
-    text: &mut String,
+    text: &mut Text,
     words: &[String],
     input: Cut,
     whole: &[u8],
-) -> Result<bool, AllocError> {
+) -> bool {
     let mut input = input;
     let mut output = Vec::new(alloc);
     let mut faults = Vec::new(alloc);
@@ -73,53 +68,47 @@ fn push_cut_read(
         &mut faults,
         Afterwards::LetGo,
     );
-    push_cut(text, &input)?;
-    push_end(text, status, &output, &faults)?;
-    push_difference(text, whole, &output)?;
-    Ok(input.was_cut)
+    push_cut(text, &input);
+    push_end(text, status, &output, &faults);
+    push_difference(text, whole, &output);
+    input.was_cut && text.is_whole()
 }
 
 /// The runs on it of which one write fails, or takes nothing.
-pub(crate) fn push_cut_writes(
-    alloc: Global,
-    text: &mut String,
-    words: &[String],
-    bytes: &[u8],
-) -> Result<(), AllocError> {
+pub(crate) fn push_cut_writes(alloc: Global, text: &mut Text, words: &[String], bytes: &[u8]) {
     let asked = asked_of(words, bytes);
-    let whole = uncut(alloc, asked)?;
+    let whole = uncut(alloc, text, asked);
     for place in 0..whole.output.len().saturating_add(2) {
-        if !push_writes_at(alloc, text, asked, place, &whole.output)? {
-            return Ok(());
+        if !push_writes_at(alloc, text, asked, place, &whole.output) {
+            break;
         }
     }
-    Ok(())
 }
 
-/// The runs of which the write at that place fails, and whether there is such a write.
+/// The runs of which the write at that place fails, and whether there is such a write. There is none where memory was wanting.
 fn push_writes_at(
     alloc: Global,
-    text: &mut String,
+    text: &mut Text,
     asked: Asked<'_>,
     place: usize,
     whole: &[u8],
-) -> Result<bool, AllocError> {
+) -> bool {
     for failure in [Failure::Interrupted, Failure::Broken, Failure::Nothing] {
         let output = Cut::new(Vec::new(alloc), 10, place, failure);
-        if !push_cut_write(alloc, text, asked, output, whole)? {
-            return Ok(false);
+        if !push_cut_write(alloc, text, asked, output, whole) {
+            return false;
         }
     }
-    Ok(true)
+    true
 }
 
 fn push_cut_write(
     alloc: Global,
-    text: &mut String,
+    text: &mut Text,
     asked: Asked<'_>,
     output: Cut,
     whole: &[u8],
-) -> Result<bool, AllocError> {
+) -> bool {
     let mut input = asked.bytes;
     let mut output = output;
     let mut faults = Vec::new(alloc);
@@ -131,80 +120,89 @@ fn push_cut_write(
         &mut faults,
         Afterwards::LetGo,
     );
-    push_cut(text, &output)?;
-    push_end(text, status, &output.bytes, &faults)?;
-    push_difference(text, whole, &output.bytes)?;
-    Ok(output.was_cut)
+    push_cut(text, &output);
+    push_end(text, status, &output.bytes, &faults);
+    push_difference(text, whole, &output.bytes);
+    output.was_cut && text.is_whole()
 }
 
 /// The runs on it whose line on standard error is cut, at each of its bytes. Where a run has no such line, its first read fails too.
-pub(crate) fn push_cut_faults(
-    alloc: Global,
-    text: &mut String,
-    words: &[String],
-    bytes: &[u8],
-) -> Result<(), AllocError> {
+pub(crate) fn push_cut_faults(alloc: Global, text: &mut Text, words: &[String], bytes: &[u8]) {
     let asked = asked_of(words, bytes);
-    let whole = uncut(alloc, asked)?;
-    push_end(text, whole.status, &whole.output, &whole.faults)?;
+    let whole = uncut(alloc, text, asked);
+    push_end(text, whole.status, &whole.output, &whole.faults);
     if whole.faults.is_empty() {
-        let asked = Asked {
-            fails_at: 0,
-            ..asked
-        };
-        let whole = uncut(alloc, asked)?;
-        push_end(text, whole.status, &whole.output, &whole.faults)?;
-        return push_cut_lines(alloc, text, asked, &whole);
+        push_unread(alloc, text, words, bytes);
+    } else {
+        push_cut_lines(alloc, text, asked, &whole);
     }
-    push_cut_lines(alloc, text, asked, &whole)
 }
 
-fn push_cut_lines(
-    alloc: Global,
-    text: &mut String,
-    asked: Asked<'_>,
-    whole: &Ended,
-) -> Result<(), AllocError> {
+/// The runs whose first read fails.
+fn push_unread(alloc: Global, text: &mut Text, words: &[String], bytes: &[u8]) {
+    let asked = Asked {
+        words,
+        bytes,
+        fails_at: 0,
+    };
+    let whole = uncut(alloc, text, asked);
+    push_end(text, whole.status, &whole.output, &whole.faults);
+    push_cut_lines(alloc, text, asked, &whole);
+}
+
+fn push_cut_lines(alloc: Global, text: &mut Text, asked: Asked<'_>, whole: &Ended) {
     for failure in [Failure::Interrupted, Failure::Broken, Failure::Nothing] {
-        push_cut_line(alloc, text, asked, whole, failure)?;
+        push_cut_line(alloc, text, asked, whole, failure);
     }
-    Ok(())
 }
 
 /// How many of these runs end with the status, the output and as much of the line as was taken; and each other one.
 fn push_cut_line(
     alloc: Global,
-    text: &mut String,
+    text: &mut Text,
     asked: Asked<'_>,
     whole: &Ended,
     failure: Failure,
-) -> Result<(), AllocError> {
+) {
     let mut alike = 0usize;
     for place in 0..whole.faults.len() {
-        let mut faults = Cut::new(Vec::new(alloc), 1, place, failure);
-        let (status, output) = ended_with(alloc, asked, &mut faults)?;
-        if is_begun(status, &output, &faults, whole, place) {
+        let faults = Cut::new(Vec::new(alloc), 1, place, failure);
+        if push_unless_begun(alloc, text, asked, whole, faults) {
             alike = alike.wrapping_add(1);
-        } else {
-            push_cut(text, &faults)?;
-            push_end(text, status, &output, &faults.bytes)?;
         }
     }
-    let word = failure.word();
-    write!(
-        text,
-        "{word} at each of {alike} bytes: the same, but for the line, which ends before that byte\n"
-    )
+    text.put(failure.word());
+    text.put(" at each of ");
+    text.show(alike);
+    text.put(" bytes: the same, but for the line, which ends before that byte\n");
+}
+
+/// What the run with that stream for its line comes to, unless it is like the uncut one, and whether it is.
+fn push_unless_begun(
+    alloc: Global,
+    text: &mut Text,
+    asked: Asked<'_>,
+    whole: &Ended,
+    faults: Cut,
+) -> bool {
+    let mut faults = faults;
+    let (status, output) = ended_with(alloc, text, asked, &mut faults);
+    let is_begun = is_begun(status, &output, &faults, whole);
+    if !is_begun {
+        push_cut(text, &faults);
+        push_end(text, status, &output, &faults.bytes);
+    }
+    is_begun
 }
 
 /// The status of the run with that stream for its line, and its output.
 fn ended_with<E: Write>(
     alloc: Global,
+    text: &mut Text,
     asked: Asked<'_>,
     faults: &mut E,
-) -> Result<(u8, Vec<u8>), AllocError> {
-    let bytes = Vec::from_slice(alloc, asked.bytes)?;
-    let mut input = Cut::new(bytes, 100, asked.fails_at, Failure::Broken);
+) -> (u8, Vec<u8>) {
+    let mut input = input_of(alloc, text, asked.bytes, asked.fails_at, Failure::Broken);
     let mut output = Vec::new(alloc);
     let status = run(
         alloc,
@@ -214,16 +212,34 @@ fn ended_with<E: Write>(
         faults,
         Afterwards::LetGo,
     );
-    Ok((status, output))
+    (status, output)
 }
 
-/// Whether the run ended like the uncut one, its line is what stands before that place there, and no call came after the cut.
-fn is_begun(status: u8, output: &[u8], faults: &Cut, whole: &Ended, place: usize) -> bool {
+/// A stream of these bytes, of which that read fails. There are none where there was no memory for them.
+fn input_of(
+    alloc: Global,
+    text: &mut Text,
+    bytes: &[u8],
+    fails_at: usize,
+    failure: Failure,
+) -> Cut {
+    let bytes = match Vec::from_slice(alloc, bytes) {
+        Ok(bytes) => bytes,
+        Err(_) => {
+            text.lack();
+            Vec::new(alloc)
+        }
+    };
+    Cut::new(bytes, 100, fails_at, failure)
+}
+
+/// Whether the run ended like the uncut one, its line is what stands before the cut there, and no call came after the cut.
+fn is_begun(status: u8, output: &[u8], faults: &Cut, whole: &Ended) -> bool {
     status == whole.status
         && output == whole.output.as_slice()
         && whole.faults.starts_with(&faults.bytes)
-        && faults.bytes.len() == place
-        && faults.calls == place.wrapping_add(1)
+        && faults.bytes.len() == faults.fails_at
+        && faults.calls == faults.fails_at.wrapping_add(1)
 }
 
 fn asked_of<'a>(words: &'a [String], bytes: &'a [u8]) -> Asked<'a> {
@@ -235,44 +251,51 @@ fn asked_of<'a>(words: &'a [String], bytes: &'a [u8]) -> Asked<'a> {
 }
 
 /// What a run comes to whose output and line are not cut.
-fn uncut(alloc: Global, asked: Asked<'_>) -> Result<Ended, AllocError> {
+fn uncut(alloc: Global, text: &mut Text, asked: Asked<'_>) -> Ended {
     let mut faults = Vec::new(alloc);
-    let (status, output) = ended_with(alloc, asked, &mut faults)?;
-    Ok(Ended {
+    let (status, output) = ended_with(alloc, text, asked, &mut faults);
+    Ended {
         status,
         output,
         faults,
-    })
+    }
 }
 
 /// A line where what was written is no beginning of the whole.
-fn push_difference(text: &mut String, whole: &[u8], written: &[u8]) -> Result<(), AllocError> {
-    if whole.starts_with(written) {
-        Ok(())
-    } else {
-        text.push_str("what was written is no beginning of the whole text\n")
+fn push_difference(text: &mut Text, whole: &[u8], written: &[u8]) {
+    if !whole.starts_with(written) {
+        text.put("what was written is no beginning of the whole text\n");
     }
 }
 
 /// At which of its calls the stream was cut, if it was, and how many there were.
-fn push_cut(text: &mut String, stream: &Cut) -> Result<(), AllocError> {
-    let calls = stream.calls;
+fn push_cut(text: &mut Text, stream: &Cut) {
     if stream.was_cut {
-        let word = stream.failure.word();
-        let call = stream.fails_at.wrapping_add(1);
-        write!(text, "{word} at call {call} of {calls}: ")
+        text.put(stream.failure.word());
+        text.put(" at call ");
+        text.show(stream.fails_at.wrapping_add(1));
+        text.put(" of ");
+        text.show(stream.calls);
+        text.put(": ");
     } else {
-        write!(text, "{calls} calls: ")
+        text.show(stream.calls);
+        text.put(" calls: ");
     }
 }
 
 /// The status of a run, how much was written, and the line on standard error.
-fn push_end(text: &mut String, status: u8, output: &[u8], faults: &[u8]) -> Result<(), AllocError> {
-    let written = output.len();
-    write!(text, "status {status}, {written} bytes written")?;
+fn push_end(text: &mut Text, status: u8, output: &[u8], faults: &[u8]) {
+    text.put("status ");
+    text.show(status);
+    text.put(", ");
+    text.show(output.len());
+    text.put(" bytes written");
     match str::from_utf8(faults) {
-        Ok("") => text.push_str("\n"),
-        Ok(line) => write!(text, ", {line}"),
-        Err(_) => text.push_str(", no text\n"),
+        Ok("") => text.put("\n"),
+        Ok(line) => {
+            text.put(", ");
+            text.put(line);
+        }
+        Err(_) => text.put(", no text\n"),
     }
 }

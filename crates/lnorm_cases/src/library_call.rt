@@ -1,7 +1,9 @@
 //! A call of the library, as README.md shows it.
+use crate::shown::push_apart;
 use lalrpop_norm::lexer::CheckOnly;
 use lalrpop_norm::normalize::{NormFailure, Session, normalize};
 use lalrpop_norm_json::read_tree;
+use lnorm_texts::text::Text;
 use std::alloc::{AllocError, Global};
 
 /// Writes how many productions each nonterminal has in the lowered grammar of a tree, or the fault of the tree with its place.
@@ -35,13 +37,9 @@ pub(crate) fn push_counts(alloc: Global, text: &mut String, json: &str) -> Resul
 }
 
 /// The same for bytes, which are UTF-8 or no tree.
-pub(crate) fn push_counts_of(
-    alloc: Global,
-    text: &mut String,
-    bytes: &[u8],
-) -> Result<(), AllocError> {
+pub(crate) fn push_counts_of(alloc: Global, text: &mut Text, bytes: &[u8]) {
     match str::from_utf8(bytes) {
-        Ok(json) => push_counts(alloc, text, json),
-        Err(_) => text.push_str("no tree\n"),
+        Ok(json) => push_apart(alloc, text, |text| push_counts(alloc, text, json)),
+        Err(_) => text.put("no tree\n"),
     }
 }

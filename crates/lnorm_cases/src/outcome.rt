@@ -5,7 +5,7 @@ use crate::call::{Last, Pass};
 use crate::passes::{
     Stopped, counted, lowered, normalized, traced, tree_after, tree_after_all, typed,
 };
-use crate::shown::{ended, push_or};
+use crate::shown::{ended, push_or, push_or_memory};
 use crate::without_memory::push_without_memory;
 use lalrpop_norm::explain::Traced;
 use lalrpop_norm::grammar::repr;
@@ -20,11 +20,12 @@ use lalrpop_norm_tree::grammar::parse_tree::{Grammar, Span};
 use lnorm_texts::faults::push_told;
 use lnorm_texts::lowered::push_lowered_copy;
 use lnorm_texts::print::lowered::{push_lowered, push_whole_lowered};
-use lnorm_texts::print::symbols::push_span;
+use lnorm_texts::print::symbols::{push_span, push_span_line};
 use lnorm_texts::print::tables::{push_types, push_whole_types};
 use lnorm_texts::print::trees::{push_tree, push_whole_tree};
+use lnorm_texts::text::Text;
 use lnorm_texts::texts::push_texts;
-use std::alloc::{AllocError, Global};
+use std::alloc::Global;
 
 /// How an outcome is printed.
 #[derive(Clone, Copy)]
@@ -50,18 +51,18 @@ pub(crate) struct PassCall<'a> {
 /// What the passes come to on the tree that the bytes are.
 pub(crate) fn push_outcome<L: Lexer>(
     alloc: Global,
-    text: &mut String,
+    text: &mut Text,
     session: &Session<L>,
     call: &PassCall,
     bytes: &[u8],
-) -> Result<(), AllocError> {
+) {
     match read(alloc, bytes) {
         Ok(tree) => {
             let answer = tree_after_all(alloc, session, call.passes, tree);
-            push_answered(alloc, text, session, call.layout, call.last, answer)
+            push_answered(alloc, text, session, call.layout, call.last, answer);
         }
-        Err(TreeError::NotATree) => text.push_str("not a tree\n"),
-        Err(TreeError::Memory) => text.push_str("memory\n"),
+        Err(TreeError::NotATree) => text.put("not a tree\n"),
+        Err(TreeError::Memory) => text.put("memory\n"),
     }
 }
 
@@ -74,12 +75,12 @@ fn read(alloc: Global, bytes: &[u8]) -> Result<Grammar, TreeError> {
 
 fn push_answered<L: Lexer>(
     alloc: Global,
-    text: &mut String,
+    text: &mut Text,
     session: &Session<L>,
     layout: Layout,
     last: Last,
     answer: Result<Grammar, Stopped>,
-) -> Result<(), AllocError> {
+) {
     match answer {
         Ok(tree) => push_last(alloc, text, session, layout, last, tree),
         Err(stopped) => push_stopped(text, layout, stopped),
@@ -87,12 +88,12 @@ fn push_answered<L: Lexer>(
 }
 
 /// The text of the value that was answered, or the failure. Either ends.
-fn push_answer_of<T: Drop, F: FnOnce(&mut String, &T) -> Result<(), AllocError>>(
-    text: &mut String,
+fn push_answer_of<T: Drop, F: FnOnce(&mut Text, &T)>(
+    text: &mut Text,
     layout: Layout,
     answer: Result<T, Stopped>,
     push: F,
-) -> Result<(), AllocError>
+)
     requires { F.IsAlwaysCallable push }
 {
     match answer {
@@ -101,82 +102,77 @@ fn push_answer_of<T: Drop, F: FnOnce(&mut String, &T) -> Result<(), AllocError>>
     }
 }
 
-fn push_stopped(text: &mut String, layout: Layout, stopped: Stopped) -> Result<(), AllocError> {
-    let done = push_reason(text, layout, &stopped);
-    ended(stopped, done)
+fn push_stopped(text: &mut Text, layout: Layout, stopped: Stopped) {
+    push_reason(text, layout, &stopped);
+    ended(stopped);
 }
 
 /// What stands last in a call.
 fn push_last<L: Lexer>(
     alloc: Global,
-    text: &mut String,
+    text: &mut Text,
     session: &Session<L>,
     layout: Layout,
     last: Last,
     tree: Grammar,
-) -> Result<(), AllocError> {
+) {
     match last {
         Last::Pass(pass) => push_pass(text, layout, pass, tree_after(alloc, session, pass, tree)),
         Last::TokenCheckScripted => {
             let pass = Pass::TokenCheck;
-            push_pass(text, layout, pass, tree_after(alloc, session, pass, tree))
+            push_pass(text, layout, pass, tree_after(alloc, session, pass, tree));
         }
         Last::ExpandMacrosCounted => push_counted(text, layout, counted(alloc, session, tree)),
-        Last::InferTypes => push_typed(alloc, text, layout, tree),
-        Last::IsTyped => push_is_typed(alloc, text, session, layout, tree),
+        Last::InferTypes => push_typed(text, layout, typed(alloc, tree)),
+        Last::IsTyped => push_is_typed(text, session, layout, typed(alloc, tree)),
         Last::Lower => push_normalized(text, layout, lowered(alloc, session, tree)),
         Last::Normalize | Last::NormalizeScripted => push_normalized(
             text,
             layout,
             normalized(alloc, session, tree),
         ),
-        Last::Traced => push_kept(text, layout, traced(alloc, session, tree)),
+        Last::Traced => push_kept(alloc, text, layout, traced(alloc, session, tree)),
         Last::LoweredCopy => push_copied(alloc, text, layout, normalized(alloc, session, tree)),
-        Last::Copy => {
-            let done = push_copy(text, layout, &tree);
-            ended(tree, done)
-        }
-        Last::Ask => {
-            let done = push_asked(alloc, text, session, &tree);
-            ended(tree, done)
-        }
-        Last::Texts => {
-            let done = push_texts_or_memory(alloc, text, &tree);
-            ended(tree, done)
-        }
-        Last::MalformedCfgs => {
-            let done = push_malformed(alloc, text, &tree);
-            ended(tree, done)
-        }
         Last::WithoutMemory => push_typed_without_memory(text, session, typed(alloc, tree)),
+        Last::Copy | Last::Ask | Last::Texts | Last::MalformedCfgs => {
+            push_look(alloc, text, session, layout, last, &tree);
+            ended(tree);
+        }
     }
 }
 
-fn push_pass(
-    text: &mut String,
+/// What looks at the tree answer.
+fn push_look<L>(
+    alloc: Global,
+    text: &mut Text,
+    session: &Session<L>,
     layout: Layout,
-    pass: Pass,
-    answer: Result<Grammar, Stopped>,
-) -> Result<(), AllocError> {
+    last: Last,
+    tree: &Grammar,
+) {
+    match last {
+        Last::Ask => push_asked(alloc, text, session, tree),
+        Last::Texts => push_or_memory(text, |text| push_texts(alloc, text, tree)),
+        Last::MalformedCfgs => push_malformed(alloc, text, tree),
+        _ => push_copy(text, layout, tree),
+    }
+}
+
+fn push_pass(text: &mut Text, layout: Layout, pass: Pass, answer: Result<Grammar, Stopped>) {
     push_answer_of(text, layout, answer, |text, tree| {
         push_tree_after(text, layout, pass, tree)
-    })
+    });
 }
 
-fn push_tree_after(
-    text: &mut String,
-    layout: Layout,
-    pass: Pass,
-    tree: &Grammar,
-) -> Result<(), AllocError> {
+fn push_tree_after(text: &mut Text, layout: Layout, pass: Pass, tree: &Grammar) {
     if pass.only_looks() {
-        text.push_str("ok\n")
+        text.put("ok\n");
     } else {
-        push_tree_as(text, layout, tree)
+        push_tree_as(text, layout, tree);
     }
 }
 
-fn push_tree_as(text: &mut String, layout: Layout, tree: &Grammar) -> Result<(), AllocError> {
+fn push_tree_as(text: &mut Text, layout: Layout, tree: &Grammar) {
     match layout {
         Layout::Lines | Layout::Told | Layout::Twice => push_tree(text, tree),
         Layout::Whole => push_whole_tree(text, tree),
@@ -184,49 +180,32 @@ fn push_tree_as(text: &mut String, layout: Layout, tree: &Grammar) -> Result<(),
 }
 
 /// How much an expansion did, and the tree after it.
-fn push_counted(
-    text: &mut String,
-    layout: Layout,
-    answer: Result<(Grammar, Counts), Stopped>,
-) -> Result<(), AllocError> {
+fn push_counted(text: &mut Text, layout: Layout, answer: Result<(Grammar, Counts), Stopped>) {
     push_answer_of(text, layout, answer, |text, made| {
         push_counts(text, layout, made)
-    })
+    });
 }
 
-fn push_counts(
-    text: &mut String,
-    layout: Layout,
-    made: &(Grammar, Counts),
-) -> Result<(), AllocError> {
+fn push_counts(text: &mut Text, layout: Layout, made: &(Grammar, Counts)) {
     let (tree, counts) = made;
-    let instances = counts.instances;
-    let rounds = counts.rounds;
-    let texts = counts.texts;
-    write!(
-        text,
-        "instances {instances}, rounds {rounds}, texts {texts}\n"
-    )?;
-    push_tree_as(text, layout, tree)
+    text.put("instances ");
+    text.show(counts.instances);
+    text.put(", rounds ");
+    text.show(counts.rounds);
+    text.put(", texts ");
+    text.show(counts.texts);
+    text.put("\n");
+    push_tree_as(text, layout, tree);
 }
 
 /// The types of the tree's rules, once its names are resolved.
-fn push_typed(
-    alloc: Global,
-    text: &mut String,
-    layout: Layout,
-    tree: Grammar,
-) -> Result<(), AllocError> {
-    push_answer_of(text, layout, typed(alloc, tree), |text, typed| {
+fn push_typed(text: &mut Text, layout: Layout, answer: Result<(Grammar, Types), Stopped>) {
+    push_answer_of(text, layout, answer, |text, typed| {
         push_types_as(text, layout, typed)
-    })
+    });
 }
 
-fn push_types_as(
-    text: &mut String,
-    layout: Layout,
-    typed: &(Grammar, Types),
-) -> Result<(), AllocError> {
+fn push_types_as(text: &mut Text, layout: Layout, typed: &(Grammar, Types)) {
     let (tree, types) = typed;
     match layout {
         Layout::Lines | Layout::Told | Layout::Twice => push_types(text, tree, types),
@@ -236,71 +215,48 @@ fn push_types_as(
 
 /// Whether the tree is typed by the types of its rules, once its names are resolved.
 fn push_is_typed<L>(
-    alloc: Global,
-    text: &mut String,
+    text: &mut Text,
     session: &Session<L>,
     layout: Layout,
-    tree: Grammar,
-) -> Result<(), AllocError> {
-    match typed(alloc, tree) {
-        Ok(typed) => {
-            let done = push_is_typed_line(text, session, &typed);
-            ended(typed, done)
-        }
-        Err(stopped) => push_stopped(text, layout, stopped),
-    }
+    answer: Result<(Grammar, Types), Stopped>,
+) {
+    push_answer_of(text, layout, answer, |text, typed| {
+        push_is_typed_line(text, session, typed)
+    });
 }
 
-fn push_is_typed_line<L>(
-    text: &mut String,
-    session: &Session<L>,
-    typed: &(Grammar, Types),
-) -> Result<(), AllocError> {
+fn push_is_typed_line<L>(text: &mut Text, session: &Session<L>, typed: &(Grammar, Types)) {
     let (tree, types) = typed;
-    let is_typed = is_typed(session, tree, types);
-    write!(text, "typed: {is_typed}\n")
+    text.put("typed: ");
+    text.show(is_typed(session, tree, types));
+    text.put("\n");
 }
 
 /// What calls answer that take no memory, of the tree with its names resolved and of the types of its rules.
 fn push_typed_without_memory<L>(
-    text: &mut String,
+    text: &mut Text,
     session: &Session<L>,
     typed: Result<(Grammar, Types), Stopped>,
-) -> Result<(), AllocError> {
+) {
     match typed {
         Ok((tree, types)) => push_without_memory(text, session, tree, types),
         Err(stopped) => push_stopped(text, Layout::Lines, stopped),
     }
 }
 
-fn push_normalized(
-    text: &mut String,
-    layout: Layout,
-    answer: Result<repr::Grammar, Stopped>,
-) -> Result<(), AllocError> {
+fn push_normalized(text: &mut Text, layout: Layout, answer: Result<repr::Grammar, Stopped>) {
     push_answer_of(text, layout, answer, |text, lowered| {
         push_lowered_as(text, layout, lowered)
-    })
+    });
 }
 
-fn push_kept(
-    text: &mut String,
-    layout: Layout,
-    answer: Result<Traced, Stopped>,
-) -> Result<(), AllocError> {
-    push_answer_of(
-        text,
-        layout,
-        answer,
-        |text, traced| push_traced(text, traced),
-    )
+fn push_kept(alloc: Global, text: &mut Text, layout: Layout, answer: Result<Traced, Stopped>) {
+    push_answer_of(text, layout, answer, |text, traced| {
+        push_traced(alloc, text, traced)
+    });
 }
 
-fn push_lowered_as(
-    text: &mut String,
-    layout: Layout,
-    lowered: &repr::Grammar,
-) -> Result<(), AllocError> {
+fn push_lowered_as(text: &mut Text, layout: Layout, lowered: &repr::Grammar) {
     match layout {
         Layout::Lines | Layout::Told | Layout::Twice => push_lowered(text, lowered),
         Layout::Whole => push_whole_lowered(text, lowered),
@@ -309,92 +265,68 @@ fn push_lowered_as(
 
 fn push_copied(
     alloc: Global,
-    text: &mut String,
+    text: &mut Text,
     layout: Layout,
     answer: Result<repr::Grammar, Stopped>,
-) -> Result<(), AllocError> {
+) {
     push_answer_of(text, layout, answer, |text, lowered| {
         push_lowered_copy_or_memory(alloc, text, lowered)
-    })
+    });
 }
 
-fn push_lowered_copy_or_memory(
-    alloc: Global,
-    text: &mut String,
-    lowered: &repr::Grammar,
-) -> Result<(), AllocError> {
-    match push_lowered_copy(alloc, text, lowered) {
-        Ok(()) => Ok(()),
-        Err(_) => text.push_str("memory\n"),
-    }
+fn push_lowered_copy_or_memory(alloc: Global, text: &mut Text, lowered: &repr::Grammar) {
+    push_or_memory(text, |text| push_lowered_copy(alloc, text, lowered));
 }
 
-fn push_copy(text: &mut String, layout: Layout, tree: &Grammar) -> Result<(), AllocError> {
+fn push_copy(text: &mut Text, layout: Layout, tree: &Grammar) {
     push_or(
         text,
         tree.clone(),
         |text, copy| push_tree_as(text, layout, copy),
         "memory\n",
-    )
-}
-
-fn push_texts_or_memory(
-    alloc: Global,
-    text: &mut String,
-    tree: &Grammar,
-) -> Result<(), AllocError> {
-    match push_texts(alloc, text, tree) {
-        Ok(()) => Ok(()),
-        Err(_) => text.push_str("memory\n"),
-    }
+    );
 }
 
 /// Where the `cfg` stand that are of no known form.
-fn push_malformed(alloc: Global, text: &mut String, tree: &Grammar) -> Result<(), AllocError> {
+fn push_malformed(alloc: Global, text: &mut Text, tree: &Grammar) {
     push_or(
         text,
         malformed_cfgs(alloc, tree),
         |text, spans| push_spans(text, spans),
         "memory\n",
-    )
+    );
 }
 
-fn push_spans(text: &mut String, spans: &Vec<Span>) -> Result<(), AllocError> {
-    text.push_str("malformed:")?;
+fn push_spans(text: &mut Text, spans: &Vec<Span>) {
+    text.put("malformed:");
     for span in spans {
-        push_span(text, *span)?;
+        push_span(text, *span);
     }
-    text.push_str("\n")
+    text.put("\n");
 }
 
 /// Why there is no answer.
-fn push_reason(text: &mut String, layout: Layout, stopped: &Stopped) -> Result<(), AllocError> {
+fn push_reason(text: &mut Text, layout: Layout, stopped: &Stopped) {
     match stopped {
         Stopped::Failed(failure) => push_failure(text, layout, failure),
-        Stopped::NotExpanded => text.push_str("not expanded\n"),
+        Stopped::NotExpanded => text.put("not expanded\n"),
     }
 }
 
 /// The number of a refusal and where it stands; its message too, where that is asked for.
-fn push_failure(
-    text: &mut String,
-    layout: Layout,
-    failure: &NormFailure,
-) -> Result<(), AllocError> {
+fn push_failure(text: &mut Text, layout: Layout, failure: &NormFailure) {
     match layout {
         Layout::Told => push_told(text, failure),
         Layout::Lines | Layout::Whole | Layout::Twice => push_place(text, failure),
     }
 }
 
-pub(crate) fn push_place(text: &mut String, failure: &NormFailure) -> Result<(), AllocError> {
+pub(crate) fn push_place(text: &mut Text, failure: &NormFailure) {
     match failure {
         NormFailure::Refused(error) => {
-            let code = error.fault.code();
-            let from = error.span.0;
-            let to = error.span.1;
-            write!(text, "{code} {from}..{to}\n")
+            text.put(error.fault.code());
+            push_span_line(text, error.span);
         }
-        NormFailure::Memory => text.push_str("memory\n"),
+        NormFailure::Memory => text.put("memory\n"),
     }
 }

@@ -1,15 +1,11 @@
 //! Runs of the program `lnorm`.
 use lnorm_run::answer::Afterwards;
 use lnorm_run::run::run;
-use std::alloc::{AllocError, Global};
+use lnorm_texts::text::Text;
+use std::alloc::Global;
 
 /// What the program writes on both streams, and its status.
-pub(crate) fn push_run(
-    alloc: Global,
-    text: &mut String,
-    words: &[String],
-    bytes: &[u8],
-) -> Result<(), AllocError> {
+pub(crate) fn push_run(alloc: Global, text: &mut Text, words: &[String], bytes: &[u8]) {
     let mut input = bytes;
     let mut output = Vec::new(alloc);
     let mut faults = Vec::new(alloc);
@@ -21,24 +17,22 @@ pub(crate) fn push_run(
         &mut faults,
         Afterwards::LetGo,
     );
-    push_ended(text, status, &output, &faults)
+    push_ended(text, status, &output, &faults);
 }
 
 /// On how many of the beginnings of the bytes, all of them left out, a run tells that they are no tree.
-pub(crate) fn push_cut_trees(
-    alloc: Global,
-    text: &mut String,
-    words: &[String],
-    bytes: &[u8],
-) -> Result<(), AllocError> {
-    let count = bytes.len();
+pub(crate) fn push_cut_trees(alloc: Global, text: &mut Text, words: &[String], bytes: &[u8]) {
     let mut told = 0usize;
     for end in 0..bytes.len() {
         if is_told_as_no_tree(alloc, words, &bytes[..end]) {
             told += 1;
         }
     }
-    write!(text, "beginnings: {told} of {count} are no tree\n")
+    text.put("beginnings: ");
+    text.show(told);
+    text.put(" of ");
+    text.show(bytes.len());
+    text.put(" are no tree\n");
 }
 
 /// Whether a run ends with status 2 and its line, and writes nothing else.
@@ -60,34 +54,37 @@ fn is_told_as_no_tree(alloc: Global, words: &[String], bytes: &[u8]) -> bool {
     }
 }
 
-fn push_ended(
-    text: &mut String,
-    status: u8,
-    output: &[u8],
-    faults: &[u8],
-) -> Result<(), AllocError> {
-    push_bytes(text, output)?;
-    push_fault_line(text, faults)?;
-    write!(text, "status {status}\n")
+fn push_ended(text: &mut Text, status: u8, output: &[u8], faults: &[u8]) {
+    push_bytes(text, output);
+    push_fault_line(text, faults);
+    text.put("status ");
+    text.show(status);
+    text.put("\n");
 }
 
-fn push_bytes(text: &mut String, bytes: &[u8]) -> Result<(), AllocError> {
+fn push_bytes(text: &mut Text, bytes: &[u8]) {
     match str::from_utf8(bytes) {
-        Ok(written) => text.push_str(written),
-        Err(_) => text.push_str("no text\n"),
+        Ok(written) => text.put(written),
+        Err(_) => text.put("no text\n"),
     }
 }
 
 /// The line on standard error: of a fault what stands before the message, whose words are not promised.
-fn push_fault_line(text: &mut String, bytes: &[u8]) -> Result<(), AllocError> {
+fn push_fault_line(text: &mut Text, bytes: &[u8]) {
     match str::from_utf8(bytes) {
-        Ok("") => Ok(()),
+        Ok("") => {}
         Ok(line) => match promised_part(line) {
-            Some(part) => write!(text, "standard error: {part}\n"),
-            None => write!(text, "standard error, not a line of lnorm: {line}\n"),
+            Some(part) => push_line(text, "standard error: ", part),
+            None => push_line(text, "standard error, not a line of lnorm: ", line),
         },
-        Err(_) => text.push_str("standard error: no text\n"),
+        Err(_) => text.put("standard error: no text\n"),
     }
+}
+
+fn push_line(text: &mut Text, before: &str, line: &str) {
+    text.put(before);
+    text.put(line);
+    text.put("\n");
 }
 
 /// What is promised of a line, which ends with a line feed.

@@ -1,26 +1,52 @@
-//! Values of any type: how one is shown, kept or ended is proved once, and so is its release there.
+//! Values of any type: how one is shown, kept or let go is proved once, and so is its release there.
 use lalrpop_norm::normalize::NormResult;
-use std::alloc::AllocError;
+use lnorm_texts::text::Text;
+use std::alloc::{AllocError, Global};
 
 /// The text of the value that was made, which ends; the other text where none was.
-pub(crate) fn push_or<T: Drop, E: Drop, F: FnOnce(&mut String, &T) -> Result<(), AllocError>>(
-    text: &mut String,
+pub(crate) fn push_or<T: Drop, E: Drop, F: FnOnce(&mut Text, &T)>(
+    text: &mut Text,
     made: Result<T, E>,
     push: F,
     other: &str,
-) -> Result<(), AllocError>
+)
     requires { F.IsAlwaysCallable push }
 {
     match made {
         Ok(value) => push(text, &value),
-        Err(_) => text.push_str(other),
+        Err(_) => text.put(other),
     }
 }
 
-/// What was done; the value ends.
-pub(crate) fn ended<T: Drop>(_value: T, done: Result<(), AllocError>) -> Result<(), AllocError> {
-    done
+/// What is pushed, and a line where there was no memory for it.
+pub(crate) fn push_or_memory<F: FnOnce(&mut Text)>(text: &mut Text, push: F)
+    requires { F.IsAlwaysCallable push }
+{
+    if text.is_whole() {
+        push(text);
+        if text.take_lack() {
+            text.put("memory\n");
+        }
+    }
 }
+
+/// What is pushed to a text of its own.
+pub(crate) fn push_apart<F: FnOnce(&mut String) -> Result<(), AllocError>>(
+    alloc: Global,
+    text: &mut Text,
+    push: F,
+)
+    requires { F.IsAlwaysCallable push }
+{
+    let mut part = String::new(alloc);
+    match push(&mut part) {
+        Ok(()) => text.put(part.as_str()),
+        Err(_) => text.lack(),
+    }
+}
+
+/// Lets the value go.
+pub(crate) fn ended<T: Drop>(_value: T) {}
 
 /// The value, unless there was a failure.
 pub(crate) fn kept<T: Drop, E: Drop>(value: T, done: Result<(), E>) -> Result<T, E> {

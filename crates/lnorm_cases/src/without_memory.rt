@@ -11,7 +11,7 @@ use lalrpop_norm_tree::grammar::parse_tree::{
 };
 use lnorm_texts::faults::side_name;
 use lnorm_texts::print::symbols::push_span_line;
-use std::alloc::AllocError;
+use lnorm_texts::text::Text;
 use std::slice;
 
 /// Bytes of room: more than is written.
@@ -19,128 +19,119 @@ const ROOM: usize = 1 << 16;
 
 /// The answers of a grammar and of the types of its rules, and how many items of it are on.
 pub(crate) fn push_without_memory<L>(
-    text: &mut String,
+    text: &mut Text,
     session: &Session<L>,
     tree: Grammar,
     types: Types,
-) -> Result<(), AllocError> {
-    let done = push_answers(text, session, &tree, &types);
-    push_enabled(text, done, remove_disabled_decls(session, tree))
+) {
+    push_answers(text, session, &tree, &types);
+    push_enabled(text, remove_disabled_decls(session, tree));
 }
 
-fn push_enabled(
-    text: &mut String,
-    done: Result<(), AllocError>,
-    enabled: NormResult<Grammar>,
-) -> Result<(), AllocError> {
-    done?;
+fn push_enabled(text: &mut Text, enabled: NormResult<Grammar>) {
     match enabled {
-        Ok(tree) => push_count(text, tree.items.len()),
-        Err(_) => text.push_str("memory\n"),
+        Ok(tree) => {
+            text.show(tree.items.len());
+            text.put(" items are on\n");
+        }
+        Err(_) => text.put("memory\n"),
     }
 }
 
-fn push_count(text: &mut String, count: usize) -> Result<(), AllocError> {
-    write!(text, "{count} items are on\n")
-}
-
-fn push_answers<L>(
-    text: &mut String,
-    session: &Session<L>,
-    tree: &Grammar,
-    types: &Types,
-) -> Result<(), AllocError> {
-    text.reserve(ROOM)?;
-    push_first_blocks(text, tree)?;
+fn push_answers<L>(text: &mut Text, session: &Session<L>, tree: &Grammar, types: &Types) {
+    text.reserve(ROOM);
+    push_first_blocks(text, tree);
     for attribute in &tree.attributes {
-        push_algorithm(text, attribute)?;
+        push_algorithm(text, attribute);
     }
     for item in &tree.items {
-        push_item(text, session, item, types)?;
+        push_item(text, session, item, types);
     }
-    let is_expanded = is_expanded(tree);
-    let is_typed = is_typed(session, tree, types);
-    write!(text, "expanded {is_expanded}, typed {is_typed}\n")?;
-    push_values(text)
+    text.put("expanded ");
+    text.show(is_expanded(tree));
+    text.put(", typed ");
+    text.show(is_typed(session, tree, types));
+    text.put("\n");
+    push_values(text);
 }
 
 /// What an attribute of a grammar asks for, if it is known.
-fn push_algorithm(text: &mut String, attribute: &Attribute) -> Result<(), AllocError> {
+fn push_algorithm(text: &mut Text, attribute: &Attribute) {
     if is_known_attribute(attribute) {
         let mut algorithm = Algorithm::default();
         read_algorithm(slice::from_ref(attribute), &mut algorithm);
-        write!(text, "{algorithm:?}\n")?;
+        text.debug(&algorithm);
+        text.put("\n");
     }
-    Ok(())
 }
 
-fn push_item<L>(
-    text: &mut String,
-    session: &Session<L>,
-    item: &GrammarItem,
-    types: &Types,
-) -> Result<(), AllocError> {
+fn push_item<L>(text: &mut Text, session: &Session<L>, item: &GrammarItem, types: &Types) {
     if let Some(block) = item.as_extern_token() {
-        push_asked_extern(text, block)?;
+        push_asked_extern(text, block);
     }
     if let Some(rule) = item.as_nonterminal() {
-        push_head(text, rule)?;
-        push_type(text, &rule.name, types)?;
-        push_asked_attributes(text, session, &rule.attributes)?;
-        push_of_name(text, rule)?;
-        push_actions(text, &rule.alternatives)?;
+        push_head(text, rule);
+        push_type(text, &rule.name, types);
+        push_asked_attributes(text, session, &rule.attributes);
+        push_of_name(text, rule);
+        push_actions(text, &rule.alternatives);
     }
-    Ok(())
 }
 
-fn push_head(text: &mut String, rule: &NonterminalData) -> Result<(), AllocError> {
-    let name = &rule.name;
-    let length = name.len();
-    let is_public = rule.visibility.is_pub();
-    let is_macro = rule.is_macro_def();
-    let has_levels = has_prec_attr(rule);
-    write!(
-        text,
-        "rule {name} of length {length}, public {is_public}, macro {is_macro}, levels {has_levels}"
-    )
+fn push_head(text: &mut Text, rule: &NonterminalData) {
+    text.put("rule ");
+    text.show(&rule.name);
+    text.put(" of length ");
+    text.show(rule.name.len());
+    text.put(", public ");
+    text.show(rule.visibility.is_pub());
+    text.put(", macro ");
+    text.show(rule.is_macro_def());
+    text.put(", levels ");
+    text.show(has_prec_attr(rule));
 }
 
-fn push_type(text: &mut String, name: &NonterminalString, types: &Types) -> Result<(), AllocError> {
-    match types.lookup_nonterminal_type(name) {
-        Some(ty) => write!(text, ", type {ty}"),
-        None => Ok(()),
+fn push_type(text: &mut Text, name: &NonterminalString, types: &Types) {
+    if let Some(ty) = types.lookup_nonterminal_type(name) {
+        text.put(", type ");
+        text.show(ty);
     }
 }
 
 /// Values that are made of a rule's name.
-fn push_of_name(text: &mut String, rule: &NonterminalData) -> Result<(), AllocError> {
-    let name = Name::immut(rule.name.0.again());
-    let quoted = TerminalString::quoted(rule.name.0.again());
-    let regex = TerminalString::regex(rule.name.0.again());
+fn push_of_name(text: &mut Text, rule: &NonterminalData) {
     let reference = SymbolKind::Nonterminal(NonterminalString(rule.name.0.again()));
-    let symbol = Symbol::new(rule.span, reference);
-    write!(text, "   {name} {quoted} {regex} {symbol}\n")
+    text.put("   ");
+    text.show(Name::immut(rule.name.0.again()));
+    text.put(" ");
+    text.show(TerminalString::quoted(rule.name.0.again()));
+    text.put(" ");
+    text.show(TerminalString::regex(rule.name.0.again()));
+    text.put(" ");
+    text.show(Symbol::new(rule.span, reference));
+    text.put("\n");
 }
 
-fn push_actions(text: &mut String, alternatives: &[Alternative]) -> Result<(), AllocError> {
+fn push_actions(text: &mut Text, alternatives: &[Alternative]) {
     for alternative in alternatives {
-        text.push_str("   action")?;
+        text.put("   action");
         if let Some(action) = &alternative.action {
-            push_presence(text, action)?;
+            push_presence(text, action);
         }
-        push_span_line(text, alternative.span)?;
+        push_span_line(text, alternative.span);
     }
-    Ok(())
 }
 
 /// The number of an action, a side, and the number of a fault.
-fn push_values(text: &mut String) -> Result<(), AllocError> {
-    let index = ActionFn::new(22).index();
-    let code = FaultKind::RecursionCap.code();
-    write!(text, "action {index}, fault {code}, side ")?;
+fn push_values(text: &mut Text) {
+    text.put("action ");
+    text.show(ActionFn::new(22).index());
+    text.put(", fault ");
+    text.put(FaultKind::RecursionCap.code());
+    text.put(", side ");
     match "none".parse::<Assoc>() {
-        Ok(side) => text.push_str(side_name(&side))?,
-        Err(_) => text.push_str("of no name")?,
+        Ok(side) => text.put(side_name(&side)),
+        Err(_) => text.put("of no name"),
     }
-    text.push_str("\n")
+    text.put("\n");
 }

@@ -1,5 +1,6 @@
 //! Productions, parameters and actions.
 use crate::made::{atom, both, copy_of, list_of_two, name_pattern, push_debug, push_shown, string};
+use crate::text::Text;
 use lalrpop_norm_repr::grammar::repr::{
     ActionFn, ActionFnDefn, ActionFnDefnKind, ArgPattern, InlineActionFnDefn, InlinedSymbol,
     LookaroundActionFnDefn, NonterminalString, Parameter, Production, Span, Symbol, TerminalString,
@@ -9,13 +10,13 @@ use shared_text::NoMemory;
 use std::alloc::Global;
 
 /// Of each kind of action a line.
-pub(crate) fn push_actions(alloc: Global, text: &mut String) -> Result<(), NoMemory> {
-    push_productions(alloc, text)?;
-    push_shown(text, "parameter ", copy_of(parameter(alloc, "n")), "\n")?;
-    push_action(alloc, text, user_kind(alloc))?;
-    push_action(alloc, text, inline_kind(alloc))?;
+pub(crate) fn push_actions(alloc: Global, text: &mut Text) {
+    push_productions(alloc, text);
+    push_shown(text, "parameter ", copy_of(parameter(alloc, "n")), "\n");
+    push_action(alloc, text, user_kind(alloc));
+    push_action(alloc, text, inline_kind(alloc));
     let lookbehind = ActionFnDefnKind::Lookaround(LookaroundActionFnDefn::Lookbehind);
-    push_action(alloc, text, Ok(lookbehind))
+    push_action(alloc, text, Ok(lookbehind));
 }
 
 /// `A, b`
@@ -34,12 +35,12 @@ pub(crate) fn terminal(alloc: Global, name: &str) -> Result<Symbol, NoMemory> {
 }
 
 /// One of two symbols, copied, and one of none.
-fn push_productions(alloc: Global, text: &mut String) -> Result<(), NoMemory> {
-    text.push_str("productions")?;
+fn push_productions(alloc: Global, text: &mut Text) {
+    text.put("productions");
     let of_two = production(alloc, two_symbols(alloc));
-    push_debug(text, " ", copy_of(of_two), "")?;
+    push_debug(text, " ", copy_of(of_two), "");
     let of_none = production(alloc, Ok(Vec::new(alloc)));
-    push_debug(text, " ", copy_of(of_none), "\n")
+    push_debug(text, " ", copy_of(of_none), "\n");
 }
 
 /// Action 3 of `N`, of those symbols.
@@ -63,12 +64,8 @@ pub(crate) fn parameter(alloc: Global, name: &str) -> Result<Parameter, NoMemory
 }
 
 /// The copy of an action of that kind.
-fn push_action(
-    alloc: Global,
-    text: &mut String,
-    kind: Result<ActionFnDefnKind, NoMemory>,
-) -> Result<(), NoMemory> {
-    push_debug(text, "action ", copy_of(action(alloc, kind)), "\n")
+fn push_action(alloc: Global, text: &mut Text, kind: Result<ActionFnDefnKind, NoMemory>) {
+    push_debug(text, "action ", copy_of(action(alloc, kind)), "\n");
 }
 
 /// An action of that kind, whose type is `usize`.

@@ -1,30 +1,27 @@
 //! Refusals with their messages, and sides of alternatives.
 use crate::made::{cloned, show_made};
+use crate::print::symbols::push_span;
+use crate::text::Text;
 use lalrpop_norm_faults::{FaultKind, NormFailure, refusal};
 use lalrpop_norm_lower_steps::refusals::too_many_actions;
 use lalrpop_norm_precedence::precedence::Assoc;
-use lalrpop_norm_tree::grammar::parse_tree::{NoMemory, Span};
+use lalrpop_norm_tree::grammar::parse_tree::Span;
 use std::alloc::{AllocError, Global};
 
 /// A refusal with its message, one without memory for it, and copies of both; and the refusal that no tree can show.
-pub(crate) fn push_refusals(alloc: Global, text: &mut String) -> Result<(), NoMemory> {
+pub(crate) fn push_refusals(alloc: Global, text: &mut Text) {
     let told = refused(String::from_str(alloc, "no type follows"));
-    show_made(text, Ok(told), push_with_copy)?;
-    show_made(text, Ok(refused(Err(AllocError))), push_with_copy)?;
-    show_made(
-        text,
-        Ok(too_many_actions(alloc, Span(3, 8))),
-        |text, failure| { Ok(push_told(text, failure)?) },
-    )?;
-    push_code(text, FaultKind::GrammarAttribute)?;
-    push_code(text, FaultKind::SideOnLowest)?;
-    push_code(text, FaultKind::TooManyActions)?;
-    Ok(())
+    show_made(text, Ok(told), push_with_copy);
+    show_made(text, Ok(refused(Err(AllocError))), push_with_copy);
+    show_made(text, Ok(too_many_actions(alloc, Span(3, 8))), push_told);
+    push_code(text, FaultKind::GrammarAttribute);
+    push_code(text, FaultKind::SideOnLowest);
+    push_code(text, FaultKind::TooManyActions);
 }
 
-fn push_code(text: &mut String, fault: FaultKind) -> Result<(), AllocError> {
-    let code = fault.code();
-    write!(text, "{code}\n")
+fn push_code(text: &mut Text, fault: FaultKind) {
+    text.put(fault.code());
+    text.put("\n");
 }
 
 /// A refusal at `3..8`.
@@ -33,40 +30,44 @@ fn refused(message: Result<String, AllocError>) -> NormFailure {
 }
 
 /// A failure, and its copy.
-fn push_with_copy(text: &mut String, failure: &NormFailure) -> Result<(), NoMemory> {
-    push_told(text, failure)?;
-    show_made(text, cloned(failure), |text, copy| {
-        Ok(push_told(text, copy)?)
-    })
+fn push_with_copy(text: &mut Text, failure: &NormFailure) {
+    push_told(text, failure);
+    show_made(text, cloned(failure), push_told);
 }
 
 /// `F49 3..8: ` and the message.
-pub fn push_told(text: &mut String, failure: &NormFailure) -> Result<(), AllocError> {
+pub fn push_told(text: &mut Text, failure: &NormFailure) {
     match failure {
         NormFailure::Refused(error) => {
-            let code = error.fault.code();
-            let from = error.span.0;
-            let to = error.span.1;
-            let message = &error.message;
-            write!(text, "{code} {from}..{to}: {message}\n")
+            text.put(error.fault.code());
+            push_span(text, error.span);
+            text.put(": ");
+            text.show(&error.message);
+            text.put("\n");
         }
-        NormFailure::Memory => text.push_str("memory\n"),
+        NormFailure::Memory => text.put("memory\n"),
     }
 }
 
 /// What each text is as a side.
-pub(crate) fn push_sides(text: &mut String) -> Result<(), AllocError> {
+pub(crate) fn push_sides(text: &mut Text) {
     for name in ["left", "right", "none", "all", "", "Left", "left ", "both"] {
-        match name.parse::<Assoc>() {
-            Ok(side) => {
-                let found = side_name(&side);
-                write!(text, "side \"{name}\": {found}\n")?;
-            }
-            Err(error) => write!(text, "side \"{name}\": {error}\n")?,
-        }
+        push_side(text, name);
     }
-    let found = side_name(&Assoc::default());
-    write!(text, "no side: {found}\n")
+    text.put("no side: ");
+    text.put(side_name(&Assoc::default()));
+    text.put("\n");
+}
+
+fn push_side(text: &mut Text, name: &str) {
+    text.put("side \"");
+    text.put(name);
+    text.put("\": ");
+    match name.parse::<Assoc>() {
+        Ok(side) => text.put(side_name(&side)),
+        Err(error) => text.show(error),
+    }
+    text.put("\n");
 }
 
 /// The word for the side.

@@ -13,5 +13,6 @@ mod parts;
 mod patterns;
 pub mod print;
 mod tables;
+pub mod text;
 pub mod texts;
 pub mod values;

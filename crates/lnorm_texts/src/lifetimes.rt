@@ -3,10 +3,11 @@ ghost use Rattle.std.specs.Prelude.{◌≡◌};
 
 use crate::made::{atom, both, boxed, list_of_one, list_of_two, push_shown, show_made};
 use crate::names::{lifetime, named, of_parameter};
+use crate::text::Text;
 use lalrpop_norm_repr::grammar::repr::{TypeRepr, WhereClause};
 use lalrpop_norm_tree::grammar::parse_tree::{Lifetime, NoMemory, TypeParameter};
 use lalrpop_norm_tree_parts::names::copy::copy_type_parameters;
-use std::alloc::{AllocError, Global};
+use std::alloc::Global;
 use std::fmt;
 
 /// A type, and the type parameters of its grammar.
@@ -16,41 +17,34 @@ type Example = (TypeRepr, Vec<TypeParameter>);
 type Named = (TypeRepr, (Vec<TypeParameter>, Vec<WhereClause>));
 
 /// The examples with their names, and the calls of two walks.
-pub(crate) fn push_lifetimes(alloc: Global, text: &mut String) -> Result<(), NoMemory> {
-    push_example(alloc, text, reference_to_foo(alloc))?;
-    push_example(alloc, text, reference_to_parameter(alloc))?;
-    push_example(alloc, text, reference_to_reference(alloc))?;
-    push_example(alloc, text, two_references(alloc))?;
+pub(crate) fn push_lifetimes(alloc: Global, text: &mut Text) {
+    push_example(alloc, text, reference_to_foo(alloc));
+    push_example(alloc, text, reference_to_parameter(alloc));
+    push_example(alloc, text, reference_to_reference(alloc));
+    push_example(alloc, text, two_references(alloc));
     show_made(text, pair(alloc), |text, ty| {
-        push_walked(alloc, text, ty)?;
-        push_refused(alloc, text, ty)
-    })
+        push_walked(alloc, text, ty);
+        push_refused(alloc, text, ty);
+    });
 }
 
 // ---- names
 
-fn push_example(
-    alloc: Global,
-    text: &mut String,
-    example: Result<Example, NoMemory>,
-) -> Result<(), NoMemory> {
+fn push_example(alloc: Global, text: &mut Text, example: Result<Example, NoMemory>) {
     show_made(text, example, |text, example| {
         let (ty, parameters) = example;
-        push_named(alloc, text, ty, parameters)
-    })
+        push_named(alloc, text, ty, parameters);
+    });
 }
 
-fn push_named(
-    alloc: Global,
-    text: &mut String,
-    ty: &TypeRepr,
-    parameters: &Vec<TypeParameter>,
-) -> Result<(), NoMemory> {
-    write!(text, "type {ty} speaks of")?;
+fn push_named(alloc: Global, text: &mut Text, ty: &TypeRepr, parameters: &Vec<TypeParameter>) {
+    text.put("type ");
+    text.show(ty);
+    text.put(" speaks of");
     show_made(text, ty.free_variables(alloc, parameters), |text, free| {
-        push_each(text, free)
-    })?;
-    show_made(text, with_names(alloc, ty, parameters), push_names)
+        push_each(text, free);
+    });
+    show_made(text, with_names(alloc, ty, parameters), push_names);
 }
 
 /// The type with names for its lifetimes.
@@ -70,42 +64,40 @@ fn with_names(
     both(named, Ok((parameters, clauses)))
 }
 
-fn push_names(text: &mut String, named: &Named) -> Result<(), NoMemory> {
+fn push_names(text: &mut Text, named: &Named) {
     let (ty, (parameters, clauses)) = named;
-    write!(text, "; with names {ty} over")?;
-    push_each(text, parameters)?;
-    text.push_str(", where")?;
-    push_each(text, clauses)?;
-    text.push_str("\n")?;
-    Ok(())
+    text.put("; with names ");
+    text.show(ty);
+    text.put(" over");
+    push_each(text, parameters);
+    text.put(", where");
+    push_each(text, clauses);
+    text.put("\n");
 }
 
 /// Each of the values behind a blank.
-fn push_each<T: fmt::Display>(text: &mut String, values: &[T]) -> Result<(), NoMemory> {
+fn push_each<T: fmt::Display>(text: &mut Text, values: &[T]) {
     for value in values {
-        write!(text, " {value}")?;
+        text.put(" ");
+        text.show(value);
     }
-    Ok(())
 }
 
 // ---- the calls of a walk
 
 /// What a walk is called with that puts `usize` in the place of each named type, and its answer.
-fn push_walked(alloc: Global, text: &mut String, ty: &TypeRepr) -> Result<(), NoMemory> {
-    write!(text, "walk over {ty} is called with")?;
+fn push_walked(alloc: Global, text: &mut Text, ty: &TypeRepr) {
+    text.put("walk over ");
+    text.show(ty);
+    text.put(" is called with");
     let walked = ty.bottom_up(alloc, &mut |part: TypeRepr| see(alloc, text, part));
-    push_shown(text, " and answers ", walked, "\n")
+    push_shown(text, " and answers ", walked, "\n");
 }
 
-fn see(alloc: Global, text: &mut String, part: TypeRepr) -> Result<TypeRepr, NoMemory> {
-    match push_part(text, &part) {
-        Ok(()) => replaced(alloc, part),
-        Err(_) => Err(NoMemory),
-    }
-}
-
-fn push_part(text: &mut String, part: &TypeRepr) -> Result<(), AllocError> {
-    write!(text, " {part}")
+fn see(alloc: Global, text: &mut Text, part: TypeRepr) -> Result<TypeRepr, NoMemory> {
+    text.put(" ");
+    text.show(&part);
+    replaced(alloc, part)
 }
 
 fn replaced(alloc: Global, part: TypeRepr) -> Result<TypeRepr, NoMemory> {
@@ -116,11 +108,12 @@ fn replaced(alloc: Global, part: TypeRepr) -> Result<TypeRepr, NoMemory> {
 }
 
 /// What a walk was called with that is refused at its second call.
-fn push_refused(alloc: Global, text: &mut String, ty: &TypeRepr) -> Result<(), NoMemory> {
-    write!(text, "walk over {ty}")?;
+fn push_refused(alloc: Global, text: &mut Text, ty: &TypeRepr) {
+    text.put("walk over ");
+    text.show(ty);
     let mut calls = 0;
     let walked = ty.bottom_up(alloc, &mut |part: TypeRepr| refuse_second(&mut calls, part));
-    push_refusal(text, walked, calls)
+    push_refusal(text, walked, calls);
 }
 
 /// Why a walk ends.
@@ -151,17 +144,18 @@ fn refuse_second(calls: &mut u32, part: TypeRepr) -> Result<TypeRepr, Stop> {
     }
 }
 
-fn push_refusal(
-    text: &mut String,
-    walked: Result<TypeRepr, Stop>,
-    calls: u32,
-) -> Result<(), NoMemory> {
+fn push_refusal(text: &mut Text, walked: Result<TypeRepr, Stop>, calls: u32) {
     match walked {
-        Ok(_) => write!(text, " is not refused after {calls}\n")?,
-        Err(Stop::Refused) => write!(text, " is refused after {calls}\n")?,
-        Err(Stop::Memory) => return Err(NoMemory),
+        Ok(_) => push_calls(text, " is not refused after ", calls),
+        Err(Stop::Refused) => push_calls(text, " is refused after ", calls),
+        Err(Stop::Memory) => text.lack(),
     }
-    Ok(())
+}
+
+fn push_calls(text: &mut Text, answer: &str, calls: u32) {
+    text.put(answer);
+    text.show(calls);
+    text.put("\n");
 }
 
 // ---- the types

@@ -7,6 +7,7 @@ use crate::made::{
 };
 use crate::names::{bound_clause, lifetime, named, named_path, of_parameter};
 use crate::patterns::{choice, field};
+use crate::text::Text;
 use lalrpop_norm_repr::grammar::repr::{
     ActionFn, LookaroundActionFnDefn, NominalTypeRepr, Symbol, TypeRepr, WhereClause,
 };
@@ -19,76 +20,80 @@ use shared_text::Atom;
 use std::alloc::Global;
 
 /// Of each kind some lines.
-pub(crate) fn push_looks(alloc: Global, text: &mut String) -> Result<(), NoMemory> {
-    push_lengths(alloc, text)?;
-    push_kinds(alloc, text)?;
-    push_blocks(alloc, text)?;
-    push_mapped(alloc, text)?;
-    push_texts(alloc, text)?;
-    push_owners(alloc, text)
+pub(crate) fn push_looks(alloc: Global, text: &mut Text) {
+    push_lengths(alloc, text);
+    push_kinds(alloc, text);
+    push_blocks(alloc, text);
+    push_mapped(alloc, text);
+    push_texts(alloc, text);
+    push_owners(alloc, text);
 }
 
 // ---- names and symbols
 
 /// How long names and lifetimes are, and whether a lifetime is anonymous.
-fn push_lengths(alloc: Global, text: &mut String) -> Result<(), NoMemory> {
-    show_made(text, name(alloc, "Expr"), push_name)?;
-    show_made(text, name(alloc, ""), push_name)?;
-    show_made(text, Lifetime::anonymous(alloc), push_lifetime)?;
-    show_made(text, Lifetime::input(alloc), push_lifetime)
+fn push_lengths(alloc: Global, text: &mut Text) {
+    show_made(text, name(alloc, "Expr"), push_name);
+    show_made(text, name(alloc, ""), push_name);
+    show_made(text, Lifetime::anonymous(alloc), push_lifetime);
+    show_made(text, Lifetime::input(alloc), push_lifetime);
 }
 
 fn name(alloc: Global, name: &str) -> Result<NonterminalString, NoMemory> {
     Ok(NonterminalString(atom(alloc, name)?))
 }
 
-fn push_name(text: &mut String, name: &NonterminalString) -> Result<(), NoMemory> {
-    let length = name.len();
-    let is_empty = name.is_empty();
-    write!(text, "name of length {length}, empty {is_empty}\n")?;
-    Ok(())
+fn push_name(text: &mut Text, name: &NonterminalString) {
+    text.put("name of length ");
+    text.show(name.len());
+    text.put(", empty ");
+    text.show(name.is_empty());
+    text.put("\n");
 }
 
-fn push_lifetime(text: &mut String, lifetime: &Lifetime) -> Result<(), NoMemory> {
-    let length = lifetime.len();
-    let is_empty = lifetime.is_empty();
-    let is_anonymous = lifetime.is_anonymous();
-    write!(
-        text,
-        "lifetime of length {length}, empty {is_empty}, anonymous {is_anonymous}\n"
-    )?;
-    Ok(())
+fn push_lifetime(text: &mut Text, lifetime: &Lifetime) {
+    text.put("lifetime of length ");
+    text.show(lifetime.len());
+    text.put(", empty ");
+    text.show(lifetime.is_empty());
+    text.put(", anonymous ");
+    text.show(lifetime.is_anonymous());
+    text.put("\n");
 }
 
 /// Whether symbols are terminals, and the number of an action.
-fn push_kinds(alloc: Global, text: &mut String) -> Result<(), NoMemory> {
-    show_made(text, nonterminal(alloc, "A"), push_symbol)?;
-    show_made(text, terminal(alloc, "b"), push_symbol)?;
-    let index = ActionFn::new(22).index();
-    let lookahead = LookaroundActionFnDefn::Lookahead;
-    write!(text, "action {index}, {lookahead:?}\n")?;
-    Ok(())
+fn push_kinds(alloc: Global, text: &mut Text) {
+    show_made(text, nonterminal(alloc, "A"), push_symbol);
+    show_made(text, terminal(alloc, "b"), push_symbol);
+    text.put("action ");
+    text.show(ActionFn::new(22).index());
+    text.put(", ");
+    text.debug(LookaroundActionFnDefn::Lookahead);
+    text.put("\n");
 }
 
-fn push_symbol(text: &mut String, symbol: &Symbol) -> Result<(), NoMemory> {
-    let is_terminal = symbol.is_terminal();
-    write!(text, "symbol {symbol:?}, terminal {is_terminal}\n")?;
-    Ok(())
+fn push_symbol(text: &mut Text, symbol: &Symbol) {
+    text.put("symbol ");
+    text.debug(symbol);
+    text.put(", terminal ");
+    text.show(symbol.is_terminal());
+    text.put("\n");
 }
 
 // ---- match blocks
 
 /// A block of one group, and the same with one more.
-fn push_blocks(alloc: Global, text: &mut String) -> Result<(), NoMemory> {
-    show_made(text, block(alloc), push_block)?;
-    show_made(text, longer_block(alloc), push_block)
+fn push_blocks(alloc: Global, text: &mut Text) {
+    show_made(text, block(alloc), push_block);
+    show_made(text, longer_block(alloc), push_block);
 }
 
-fn push_block(text: &mut String, block: &MatchToken) -> Result<(), NoMemory> {
-    let groups = &block.contents;
-    let span = block.span;
-    write!(text, "match block {span:?} {groups:?}\n")?;
-    Ok(())
+fn push_block(text: &mut Text, block: &MatchToken) {
+    text.put("match block ");
+    text.debug(block.span);
+    text.put(" ");
+    text.debug(&block.contents);
+    text.put("\n");
 }
 
 /// `match { _ }` at 3..8.
@@ -110,10 +115,10 @@ fn catch_all(alloc: Global, span: Span) -> Result<MatchContents, NoMemory> {
 // ---- maps
 
 /// Arguments of bounds, what a pattern is, and a field of one, each with the lengths of its names in their places.
-fn push_mapped(alloc: Global, text: &mut String) -> Result<(), NoMemory> {
-    push_shown(text, "mapped ", mapped_argument(alloc), "")?;
-    push_shown(text, ", ", mapped_kind(alloc), "")?;
-    push_shown(text, ", ", mapped_field(alloc), "\n")
+fn push_mapped(alloc: Global, text: &mut Text) {
+    push_shown(text, "mapped ", mapped_argument(alloc), "");
+    push_shown(text, ", ", mapped_kind(alloc), "");
+    push_shown(text, ", ", mapped_field(alloc), "\n");
 }
 
 fn length(name: &Atom) -> Result<usize, NoMemory> {
@@ -154,10 +159,10 @@ fn mapped_field(alloc: Global) -> Result<FieldPattern<usize>, NoMemory> {
 // ---- texts
 
 /// A bound by a function with a binder, a clause under an empty one, and a path with an argument.
-fn push_texts(alloc: Global, text: &mut String) -> Result<(), NoMemory> {
-    push_shown(text, "bound ", function_bound(alloc), "\n")?;
-    push_shown(text, "where ", clause_under_nothing(alloc), "\n")?;
-    push_debug(text, "type ", copy_of(applied(alloc)), "\n")
+fn push_texts(alloc: Global, text: &mut Text) {
+    push_shown(text, "bound ", function_bound(alloc), "\n");
+    push_shown(text, "where ", clause_under_nothing(alloc), "\n");
+    push_debug(text, "type ", copy_of(applied(alloc)), "\n");
 }
 
 /// `for<'a> Fn(A, B) -> R`
@@ -196,10 +201,10 @@ fn type_named(alloc: Global, name: &str) -> Result<TypeRepr, NoMemory> {
 // ---- shared texts
 
 /// A text by one of three owners, when the other two have ended, and what two texts are to one another.
-fn push_owners(alloc: Global, text: &mut String) -> Result<(), NoMemory> {
-    push_shown(text, "owned ", last_owner(alloc), "\n")?;
-    show_made(text, pair(alloc, "Term"), push_compared)?;
-    show_made(text, pair(alloc, "Tern"), push_compared)
+fn push_owners(alloc: Global, text: &mut Text) {
+    push_shown(text, "owned ", last_owner(alloc), "\n");
+    show_made(text, pair(alloc, "Term"), push_compared);
+    show_made(text, pair(alloc, "Tern"), push_compared);
 }
 
 fn last_owner(alloc: Global) -> Result<Atom, NoMemory> {
@@ -216,13 +221,15 @@ fn pair(alloc: Global, name: &str) -> Result<(Atom, Atom), NoMemory> {
     both(atom(alloc, "Term"), atom(alloc, name))
 }
 
-fn push_compared(text: &mut String, pair: &(Atom, Atom)) -> Result<(), NoMemory> {
+fn push_compared(text: &mut Text, pair: &(Atom, Atom)) {
     let (first, second) = pair;
-    let is_equal = first == second;
-    let order = first.cmp(second);
-    write!(
-        text,
-        "texts {first} and {second:?}, equal {is_equal}, order {order:?}\n"
-    )?;
-    Ok(())
+    text.put("texts ");
+    text.show(first);
+    text.put(" and ");
+    text.debug(second);
+    text.put(", equal ");
+    text.show(first == second);
+    text.put(", order ");
+    text.debug(first.cmp(second));
+    text.put("\n");
 }

@@ -2,6 +2,7 @@
 //!
 //! A value that is made over several calls ends on each way out of them. So no other function of this crate keeps one over a
 //! call that may fail: it hands the calls' answers to a function of this file.
+use crate::text::Text;
 use lalrpop_norm_tree::grammar::parse_tree::{ArgPattern, Name};
 use shared_text::{Atom, NoMemory};
 use std::alloc::Global;
@@ -78,20 +79,17 @@ pub fn made_of<T: Drop, U, F: FnOnce(&T) -> Result<U, NoMemory>>(
 }
 
 /// Puts the text of the value that was made, which ends.
-pub(crate) fn show_made<T: Drop, F: FnOnce(&mut String, &T) -> Result<(), NoMemory>>(
-    text: &mut String,
+pub fn show_made<T: Drop, F: FnOnce(&mut Text, &T)>(
+    text: &mut Text,
     made: Result<T, NoMemory>,
     show: F,
-) -> Result<(), NoMemory>
+)
     requires { F.IsAlwaysCallable show }
 {
-    let value = made?;
-    show(text, &value)
-}
-
-/// What was done; the value ends.
-pub(crate) fn ended<T: Drop>(_value: T, done: Result<(), NoMemory>) -> Result<(), NoMemory> {
-    done
+    match made {
+        Ok(value) => show(text, &value),
+        Err(_) => text.lack(),
+    }
 }
 
 /// Leaves the value out.
@@ -109,26 +107,36 @@ pub(crate) fn push_made<T: Drop>(
 
 /// The text before it, the value that was made, and the text behind it.
 pub fn push_shown<T: fmt::Display + Drop>(
-    text: &mut String,
+    text: &mut Text,
     before: &str,
     made: Result<T, NoMemory>,
     after: &str,
-) -> Result<(), NoMemory> {
-    let value = made?;
-    write!(text, "{before}{value}{after}")?;
-    Ok(())
+) {
+    match made {
+        Ok(value) => {
+            text.put(before);
+            text.show(value);
+            text.put(after);
+        }
+        Err(_) => text.lack(),
+    }
 }
 
 /// The same with its `Debug`.
 pub(crate) fn push_debug<T: fmt::Debug + Drop>(
-    text: &mut String,
+    text: &mut Text,
     before: &str,
     made: Result<T, NoMemory>,
     after: &str,
-) -> Result<(), NoMemory> {
-    let value = made?;
-    write!(text, "{before}{value:?}{after}")?;
-    Ok(())
+) {
+    match made {
+        Ok(value) => {
+            text.put(before);
+            text.debug(value);
+            text.put(after);
+        }
+        Err(_) => text.lack(),
+    }
 }
 
 /// The text, as a part holds it.

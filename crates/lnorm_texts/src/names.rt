@@ -2,6 +2,7 @@
 use crate::made::{
     atom, both, boxed, copy_of, list_of_one, made_of, push_debug, push_shown, show_made, string,
 };
+use crate::text::Text;
 use lalrpop_norm_repr::grammar::repr::{TypeRepr, WhereClause};
 use lalrpop_norm_tree::grammar::parse_tree::{
     Attribute, AttributeArg, Dfa, Lifetime, NoMemory, Path, Span, TypeBound, TypeParameter,
@@ -11,30 +12,29 @@ use lalrpop_norm_tree_parts::names::copy::copy_type_parameters;
 use std::alloc::Global;
 
 /// Of each kind a line.
-pub(crate) fn push_names(alloc: Global, text: &mut String) -> Result<(), NoMemory> {
-    push_lifetimes(alloc, text)?;
-    push_paths(alloc, text)?;
-    push_lowered_types(alloc, text)?;
-    push_lists(alloc, text)?;
-    push_shown(text, "where ", copied_clause(alloc), "\n")
+pub(crate) fn push_names(alloc: Global, text: &mut Text) {
+    push_lifetimes(alloc, text);
+    push_paths(alloc, text);
+    push_lowered_types(alloc, text);
+    push_lists(alloc, text);
+    push_shown(text, "where ", copied_clause(alloc), "\n");
 }
 
-fn push_lifetimes(alloc: Global, text: &mut String) -> Result<(), NoMemory> {
-    text.push_str("lifetimes")?;
-    push_shown(text, " ", Lifetime::anonymous(alloc), "")?;
-    push_shown(text, " ", Lifetime::statik(alloc), "")?;
-    push_shown(text, " ", Lifetime::input(alloc), "\n")
+fn push_lifetimes(alloc: Global, text: &mut Text) {
+    text.put("lifetimes");
+    push_shown(text, " ", Lifetime::anonymous(alloc), "");
+    push_shown(text, " ", Lifetime::statik(alloc), "");
+    push_shown(text, " ", Lifetime::input(alloc), "\n");
 }
 
-fn push_paths(alloc: Global, text: &mut String) -> Result<(), NoMemory> {
-    text.push_str("paths")?;
-    show_made(text, Path::vec(alloc), push_path)?;
-    show_made(text, Path::usize(alloc), push_path)?;
-    show_made(text, Path::str(alloc), push_path)?;
-    show_made(text, Path::option(alloc), push_path)?;
-    show_made(text, named_path(alloc, "x"), push_path)?;
-    text.push_str("\n")?;
-    Ok(())
+fn push_paths(alloc: Global, text: &mut Text) {
+    text.put("paths");
+    show_made(text, Path::vec(alloc), push_path);
+    show_made(text, Path::usize(alloc), push_path);
+    show_made(text, Path::str(alloc), push_path);
+    show_made(text, Path::option(alloc), push_path);
+    show_made(text, named_path(alloc, "x"), push_path);
+    text.put("\n");
 }
 
 /// The path that is this name.
@@ -43,20 +43,22 @@ pub(crate) fn named_path(alloc: Global, name: &str) -> Result<Path, NoMemory> {
 }
 
 /// A path, and its name where it is one.
-fn push_path(text: &mut String, path: &Path) -> Result<(), NoMemory> {
-    write!(text, " {path}")?;
+fn push_path(text: &mut Text, path: &Path) {
+    text.put(" ");
+    text.show(path);
     if let Some(id) = path.as_id() {
-        write!(text, " ({id})")?;
+        text.put(" (");
+        text.show(id);
+        text.put(")");
     }
-    Ok(())
 }
 
-fn push_lowered_types(alloc: Global, text: &mut String) -> Result<(), NoMemory> {
-    text.push_str("lowered types")?;
-    push_shown(text, " ", TypeRepr::usize(alloc), "")?;
-    push_shown(text, " ", TypeRepr::str(alloc), "")?;
-    push_shown(text, " ", of_parameter(alloc, named(alloc, "T")), "")?;
-    push_shown(text, " ", of_parameter(alloc, input(alloc)), "\n")
+fn push_lowered_types(alloc: Global, text: &mut Text) {
+    text.put("lowered types");
+    push_shown(text, " ", TypeRepr::usize(alloc), "");
+    push_shown(text, " ", TypeRepr::str(alloc), "");
+    push_shown(text, " ", of_parameter(alloc, named(alloc, "T")), "");
+    push_shown(text, " ", of_parameter(alloc, input(alloc)), "\n");
 }
 
 /// The type that a type parameter is.
@@ -78,10 +80,10 @@ pub(crate) fn named(alloc: Global, name: &str) -> Result<TypeParameter, NoMemory
 }
 
 /// Lists of parts, and the automaton of a tokenizer, each copied.
-fn push_lists(alloc: Global, text: &mut String) -> Result<(), NoMemory> {
-    push_debug(text, "copies ", copied_levels(alloc), "")?;
-    push_debug(text, " ", copied_binder(alloc), "")?;
-    push_debug(text, " ", copied_automaton(alloc), "\n")
+fn push_lists(alloc: Global, text: &mut Text) {
+    push_debug(text, "copies ", copied_levels(alloc), "");
+    push_debug(text, " ", copied_binder(alloc), "");
+    push_debug(text, " ", copied_automaton(alloc), "\n");
 }
 
 fn copied_levels(alloc: Global) -> Result<Vec<Attribute>, NoMemory> {

@@ -1,17 +1,18 @@
 //! Terminals, names and patterns that calls make, and copies of parts.
 use crate::made::{atom, both, cloned, list_of_two, made_of, name_pattern, push_shown, show_made};
+use crate::text::Text;
 use lalrpop_norm_tree::grammar::parse_tree::{
     ArgPattern, Name, NoMemory, TerminalString, Tuple, TypeBoundParameter, TypeRef,
 };
 use std::alloc::Global;
 
 /// Of each kind a line.
-pub(crate) fn push_parts(alloc: Global, text: &mut String) -> Result<(), NoMemory> {
-    show_made(text, quoted(alloc, "ab"), push_terminal)?;
-    show_made(text, regex(alloc, "ab"), push_terminal)?;
-    push_name(alloc, text)?;
-    push_tuple(alloc, text)?;
-    push_bound_parameter(alloc, text)
+pub(crate) fn push_parts(alloc: Global, text: &mut Text) {
+    show_made(text, quoted(alloc, "ab"), push_terminal);
+    show_made(text, regex(alloc, "ab"), push_terminal);
+    push_name(alloc, text);
+    push_tuple(alloc, text);
+    push_bound_parameter(alloc, text);
 }
 
 fn quoted(alloc: Global, content: &str) -> Result<TerminalString, NoMemory> {
@@ -23,24 +24,25 @@ fn regex(alloc: Global, content: &str) -> Result<TerminalString, NoMemory> {
 }
 
 /// A terminal with its length, and the precedence of its literal.
-fn push_terminal(text: &mut String, terminal: &TerminalString) -> Result<(), NoMemory> {
-    let length = terminal.display_len();
-    write!(text, "terminal {terminal} of length {length}")?;
+fn push_terminal(text: &mut Text, terminal: &TerminalString) {
+    text.put("terminal ");
+    text.show(terminal);
+    text.put(" of length ");
+    text.show(terminal.display_len());
     if let Some(literal) = terminal.as_literal() {
-        let precedence = literal.base_precedence();
-        write!(text, ", precedence {precedence}")?;
+        text.put(", precedence ");
+        text.show(literal.base_precedence());
     }
-    text.push_str("\n")?;
-    Ok(())
+    text.put("\n");
 }
 
 /// Whether a name that is not mutable is one.
-fn push_name(alloc: Global, text: &mut String) -> Result<(), NoMemory> {
+fn push_name(alloc: Global, text: &mut Text) {
     show_made(
         text,
         both(new_name(alloc), immutable_name(alloc)),
         push_names,
-    )
+    );
 }
 
 fn new_name(alloc: Global) -> Result<Name, NoMemory> {
@@ -51,17 +53,19 @@ fn immutable_name(alloc: Global) -> Result<Name, NoMemory> {
     Ok(Name::immut(atom(alloc, "x")?))
 }
 
-fn push_names(text: &mut String, names: &(Name, Name)) -> Result<(), NoMemory> {
+fn push_names(text: &mut Text, names: &(Name, Name)) {
     let (made, immutable) = names;
-    let is_equal = *made == *immutable;
-    write!(text, "name {made}, immutable {is_equal}\n")?;
-    Ok(())
+    text.put("name ");
+    text.show(made);
+    text.put(", immutable ");
+    text.show(*made == *immutable);
+    text.put("\n");
 }
 
 /// Whether the copy of the pattern `(x, mut y)` is equal to it.
-fn push_tuple(alloc: Global, text: &mut String) -> Result<(), NoMemory> {
+fn push_tuple(alloc: Global, text: &mut Text) {
     let is_copied = made_of(tuple(alloc), is_pattern_copied);
-    push_shown(text, "tuple copied ", is_copied, "\n")
+    push_shown(text, "tuple copied ", is_copied, "\n");
 }
 
 fn tuple(alloc: Global) -> Result<ArgPattern, NoMemory> {
@@ -82,9 +86,9 @@ fn two_names(alloc: Global) -> Result<Vec<ArgPattern>, NoMemory> {
 }
 
 /// Whether the copy of the parameter `T` of a bound is equal to it.
-fn push_bound_parameter(alloc: Global, text: &mut String) -> Result<(), NoMemory> {
+fn push_bound_parameter(alloc: Global, text: &mut Text) {
     let is_copied = made_of(bound_parameter(alloc), is_parameter_copied);
-    push_shown(text, "parameter of a bound copied ", is_copied, "\n")
+    push_shown(text, "parameter of a bound copied ", is_copied, "\n");
 }
 
 fn bound_parameter(alloc: Global) -> Result<TypeBoundParameter<TypeRef>, NoMemory> {

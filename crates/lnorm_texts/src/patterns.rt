@@ -2,9 +2,10 @@
 ghost use Rattle.std.specs.Prelude.{◌≡◌};
 
 use crate::made::{
-    atom, both, ended, kept, list_of_one, list_of_two, push_debug, push_made, push_shown, show_made,
+    atom, both, kept, list_of_one, list_of_two, push_debug, push_made, push_shown, show_made,
 };
 use crate::names::named_path;
+use crate::text::Text;
 use lalrpop_norm_tree::grammar::parse_tree::{NoMemory, Span};
 use lalrpop_norm_tree::grammar::pattern::{FieldPattern, Pattern, PatternKind};
 use shared_text::Atom;
@@ -12,20 +13,21 @@ use std::alloc::Global;
 
 /// The pattern `(ab, P { f: cde, .. })` over names, its chosen parts, and the pattern with their lengths in their places; the
 /// names of `P(u32, Q { f: u8 })` that a closure is called with, and those that one is called with that refuses the first.
-pub(crate) fn push_patterns(alloc: Global, text: &mut String) -> Result<(), NoMemory> {
+pub(crate) fn push_patterns(alloc: Global, text: &mut Text) {
     show_made(text, pair(alloc), |text, pattern| {
-        push_walked(alloc, text, pattern)
-    })?;
+        push_walked(alloc, text, pattern);
+    });
     show_made(text, call(alloc), |text, pattern| {
-        push_called(alloc, text, pattern)?;
-        push_refused(alloc, text, pattern)
-    })
+        push_called(alloc, text, pattern);
+        push_refused(alloc, text, pattern);
+    });
 }
 
-fn push_walked(alloc: Global, text: &mut String, pattern: &Pattern<Atom>) -> Result<(), NoMemory> {
-    write!(text, "pattern {pattern}")?;
-    push_debug(text, " chooses ", pattern.bindings(alloc), "")?;
-    push_shown(text, ", with lengths ", lengths_of(pattern), "\n")
+fn push_walked(alloc: Global, text: &mut Text, pattern: &Pattern<Atom>) {
+    text.put("pattern ");
+    text.show(pattern);
+    push_debug(text, " chooses ", pattern.bindings(alloc), "");
+    push_shown(text, ", with lengths ", lengths_of(pattern), "\n");
 }
 
 fn lengths_of(pattern: &Pattern<Atom>) -> Result<Pattern<usize>, NoMemory> {
@@ -53,9 +55,10 @@ impl From<NoMemory> for Stop {
     }
 }
 
-fn push_called(alloc: Global, text: &mut String, pattern: &Pattern<Atom>) -> Result<(), NoMemory> {
-    write!(text, "pattern {pattern}")?;
-    push_debug(text, " is called with ", called_with(alloc, pattern), "\n")
+fn push_called(alloc: Global, text: &mut Text, pattern: &Pattern<Atom>) {
+    text.put("pattern ");
+    text.show(pattern);
+    push_debug(text, " is called with ", called_with(alloc, pattern), "\n");
 }
 
 fn called_with(alloc: Global, pattern: &Pattern<Atom>) -> Result<Vec<Atom>, NoMemory> {
@@ -76,11 +79,10 @@ fn see(seen: &mut Vec<Atom>, name: &Atom) -> Result<usize, NoMemory> {
     Ok(before)
 }
 
-fn push_refused(alloc: Global, text: &mut String, pattern: &Pattern<Atom>) -> Result<(), NoMemory> {
+fn push_refused(alloc: Global, text: &mut Text, pattern: &Pattern<Atom>) {
     let mut seen = Vec::new(alloc);
     let walked = pattern.map(&mut |name: &Atom| refuse(&mut seen, name));
-    let done = push_refusal(text, pattern, walked, &seen);
-    ended(seen, done)
+    push_refusal(text, pattern, walked, &seen);
 }
 
 fn refuse(seen: &mut Vec<Atom>, name: &Atom) -> Result<usize, Stop> {
@@ -89,17 +91,24 @@ fn refuse(seen: &mut Vec<Atom>, name: &Atom) -> Result<usize, Stop> {
 }
 
 fn push_refusal(
-    text: &mut String,
+    text: &mut Text,
     pattern: &Pattern<Atom>,
     walked: Result<Pattern<usize>, Stop>,
     seen: &[Atom],
-) -> Result<(), NoMemory> {
+) {
     match walked {
-        Ok(_) => write!(text, "pattern {pattern} is not refused after {seen:?}\n")?,
-        Err(Stop::Refused) => write!(text, "pattern {pattern} is refused after {seen:?}\n")?,
-        Err(Stop::Memory) => return Err(NoMemory),
+        Ok(_) => push_seen(text, pattern, " is not refused after ", seen),
+        Err(Stop::Refused) => push_seen(text, pattern, " is refused after ", seen),
+        Err(Stop::Memory) => text.lack(),
     }
-    Ok(())
+}
+
+fn push_seen(text: &mut Text, pattern: &Pattern<Atom>, answer: &str, seen: &[Atom]) {
+    text.put("pattern ");
+    text.show(pattern);
+    text.put(answer);
+    text.debug(seen);
+    text.put("\n");
 }
 
 // ---- the patterns

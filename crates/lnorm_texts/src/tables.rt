@@ -1,28 +1,28 @@
 //! Tables of types.
 use crate::made::{atom, both, copy_of, kept, leave_out, push_debug, push_shown, show_made};
 use crate::names::{named, of_parameter};
+use crate::text::Text;
 use lalrpop_norm_repr::grammar::repr::{
     NonterminalString, Symbol, TerminalString, TypeRepr, Types,
 };
 use shared_text::NoMemory;
-use std::alloc::{AllocError, Global};
+use std::alloc::Global;
 
 /// A table with locations, one without, and one to which types are added.
-pub(crate) fn push_tables(alloc: Global, text: &mut String) -> Result<(), NoMemory> {
-    push_located(alloc, text)?;
-    push_unlocated(alloc, text)?;
-    push_added(alloc, text)
+pub(crate) fn push_tables(alloc: Global, text: &mut Text) {
+    push_located(alloc, text);
+    push_unlocated(alloc, text);
+    push_added(alloc, text);
 }
 
-fn push_located(alloc: Global, text: &mut String) -> Result<(), NoMemory> {
-    text.push_str("table with locations\n")?;
-    show_made(text, located(alloc), push_located_table)
+fn push_located(alloc: Global, text: &mut Text) {
+    text.put("table with locations\n");
+    show_made(text, located(alloc), push_located_table);
 }
 
-fn push_located_table(text: &mut String, types: &Types) -> Result<(), NoMemory> {
-    push_table(text, types)?;
-    push_location(text, types)?;
-    Ok(())
+fn push_located_table(text: &mut Text, types: &Types) {
+    push_table(text, types);
+    push_location(text, types);
 }
 
 /// The table with locations of type `usize` and tokens of type `Token<'input>`.
@@ -36,52 +36,56 @@ fn token(alloc: Global) -> Result<TypeRepr, NoMemory> {
     of_parameter(alloc, named(alloc, "Token<'input>"))
 }
 
-fn push_location(text: &mut String, types: &Types) -> Result<(), AllocError> {
-    match types.opt_terminal_loc_type() {
-        Some(location) => write!(text, "  stated location {location}\n"),
-        None => Ok(()),
+fn push_location(text: &mut Text, types: &Types) {
+    if let Some(location) = types.opt_terminal_loc_type() {
+        text.put("  stated location ");
+        text.show(location);
+        text.put("\n");
     }
 }
 
 /// What a table makes types of.
-fn push_table(text: &mut String, types: &Types) -> Result<(), NoMemory> {
-    push_token(text, types)?;
-    push_error_types(text, types)?;
-    text.push_str("  lists")?;
-    push_debug(text, " ", types.terminal_types(), "")?;
-    push_debug(text, " ", types.nonterminal_types(), "\n")
+fn push_table(text: &mut Text, types: &Types) {
+    push_token(text, types);
+    push_error_types(text, types);
+    text.put("  lists");
+    push_debug(text, " ", types.terminal_types(), "");
+    push_debug(text, " ", types.nonterminal_types(), "\n");
 }
 
-fn push_token(text: &mut String, types: &Types) -> Result<(), NoMemory> {
-    let token = types.terminal_token_type();
-    write!(text, "  token {token}")?;
-    push_shown(text, ", location ", types.terminal_loc_type(), "")?;
-    push_shown(text, ", error ", types.error_type(), "")?;
-    push_shown(text, ", triple ", types.triple_type(), "\n")
+fn push_token(text: &mut Text, types: &Types) {
+    text.put("  token ");
+    text.show(types.terminal_token_type());
+    push_shown(text, ", location ", types.terminal_loc_type(), "");
+    push_shown(text, ", error ", types.error_type(), "");
+    push_shown(text, ", triple ", types.triple_type(), "\n");
 }
 
-fn push_error_types(text: &mut String, types: &Types) -> Result<(), AllocError> {
-    let recovery = types.error_recovery_type();
-    let failure = types.parse_error_type();
-    let of_error = types.terminal_type(&TerminalString::Error);
-    write!(text, "  {recovery}\n  {failure}\n  {of_error}\n")
+fn push_error_types(text: &mut Text, types: &Types) {
+    text.put("  ");
+    text.show(types.error_recovery_type());
+    text.put("\n  ");
+    text.show(types.parse_error_type());
+    text.put("\n  ");
+    text.show(types.terminal_type(&TerminalString::Error));
+    text.put("\n");
 }
 
 /// The table without locations and without a prefix.
-fn push_unlocated(alloc: Global, text: &mut String) -> Result<(), NoMemory> {
-    text.push_str("table without locations\n")?;
+fn push_unlocated(alloc: Global, text: &mut Text) {
+    text.put("table without locations\n");
     show_made(text, unlocated(alloc, ""), |text, types| {
-        push_unlocated_table(alloc, text, types)
-    })
+        push_unlocated_table(alloc, text, types);
+    });
 }
 
 fn unlocated(alloc: Global, prefix: &str) -> Result<Types, NoMemory> {
     Types::new(alloc, prefix, None, None, TypeRepr::str(alloc)?)
 }
 
-fn push_unlocated_table(alloc: Global, text: &mut String, types: &Types) -> Result<(), NoMemory> {
-    push_table(text, types)?;
-    push_shown(text, "  spanned ", spanned(alloc, types), "\n")
+fn push_unlocated_table(alloc: Global, text: &mut Text, types: &Types) {
+    push_table(text, types);
+    push_shown(text, "  spanned ", spanned(alloc, types), "\n");
 }
 
 fn spanned(alloc: Global, types: &Types) -> Result<TypeRepr, NoMemory> {
@@ -89,11 +93,11 @@ fn spanned(alloc: Global, types: &Types) -> Result<TypeRepr, NoMemory> {
 }
 
 /// A table to which the type `usize` of a nonterminal and of a terminal is added, copied.
-fn push_added(alloc: Global, text: &mut String) -> Result<(), NoMemory> {
-    text.push_str("table with two types more\n")?;
+fn push_added(alloc: Global, text: &mut Text) {
+    text.put("table with two types more\n");
     show_made(text, copy_of(added(alloc)), |text, types| {
-        push_added_table(alloc, text, types)
-    })
+        push_added_table(alloc, text, types);
+    });
 }
 
 fn added(alloc: Global) -> Result<Types, NoMemory> {
@@ -107,9 +111,9 @@ fn add_types(alloc: Global, types: &mut Types) -> Result<(), NoMemory> {
     add_terminal(alloc, types)
 }
 
-fn push_added_table(alloc: Global, text: &mut String, types: &Types) -> Result<(), NoMemory> {
-    push_table(text, types)?;
-    push_of_symbols(alloc, text, types)
+fn push_added_table(alloc: Global, text: &mut Text, types: &Types) {
+    push_table(text, types);
+    push_of_symbols(alloc, text, types);
 }
 
 fn add_nonterminal(alloc: Global, types: &mut Types) -> Result<(), NoMemory> {
@@ -138,50 +142,40 @@ fn bare(alloc: Global, name: &str) -> Result<TerminalString, NoMemory> {
 }
 
 /// The types of some names.
-fn push_of_symbols(alloc: Global, text: &mut String, types: &Types) -> Result<(), NoMemory> {
-    push_of_terminal(alloc, text, types, "Num")?;
-    push_of_terminal(alloc, text, types, "Other")?;
-    push_of_nonterminal(alloc, text, types, "S")?;
-    push_of_nonterminal(alloc, text, types, "T")
+fn push_of_symbols(alloc: Global, text: &mut Text, types: &Types) {
+    push_of_terminal(alloc, text, types, "Num");
+    push_of_terminal(alloc, text, types, "Other");
+    push_of_nonterminal(alloc, text, types, "S");
+    push_of_nonterminal(alloc, text, types, "T");
 }
 
-fn push_of_terminal(
-    alloc: Global,
-    text: &mut String,
-    types: &Types,
-    name: &str,
-) -> Result<(), NoMemory> {
-    let terminal = Symbol::Terminal(TerminalString::Bare(atom(alloc, name)?));
-    push_named_type(text, name, terminal.ty(types))
-}
-
-fn push_named_type(text: &mut String, name: &str, ty: &TypeRepr) -> Result<(), NoMemory> {
-    write!(text, "  terminal {name}: {ty}\n")?;
-    Ok(())
-}
-
-fn push_of_nonterminal(
-    alloc: Global,
-    text: &mut String,
-    types: &Types,
-    name: &str,
-) -> Result<(), NoMemory> {
-    show_made(text, nonterminal(alloc, name), |text, name| {
-        push_rule_type(text, types, name)
-    })
-}
-
-fn push_rule_type(
-    text: &mut String,
-    types: &Types,
-    name: &NonterminalString,
-) -> Result<(), NoMemory> {
-    match types.lookup_nonterminal_type(name) {
-        Some(_) => {
-            let ty = types.nonterminal_type(name);
-            write!(text, "  nonterminal {name}: {ty}\n")?;
-        }
-        None => write!(text, "  nonterminal {name}\n")?,
+fn push_of_terminal(alloc: Global, text: &mut Text, types: &Types, name: &str) {
+    match bare(alloc, name) {
+        Ok(terminal) => push_named_type(text, name, Symbol::Terminal(terminal).ty(types)),
+        Err(_) => text.lack(),
     }
-    Ok(())
+}
+
+fn push_named_type(text: &mut Text, name: &str, ty: &TypeRepr) {
+    text.put("  terminal ");
+    text.show(name);
+    text.put(": ");
+    text.show(ty);
+    text.put("\n");
+}
+
+fn push_of_nonterminal(alloc: Global, text: &mut Text, types: &Types, name: &str) {
+    show_made(text, nonterminal(alloc, name), |text, name| {
+        push_rule_type(text, types, name);
+    });
+}
+
+fn push_rule_type(text: &mut Text, types: &Types, name: &NonterminalString) {
+    text.put("  nonterminal ");
+    text.show(name);
+    if types.lookup_nonterminal_type(name).is_some() {
+        text.put(": ");
+        text.show(types.nonterminal_type(name));
+    }
+    text.put("\n");
 }

@@ -7,19 +7,18 @@ use crate::names::push_names;
 use crate::parts::push_parts;
 use crate::patterns::push_patterns;
 use crate::tables::push_tables;
-use shared_text::NoMemory;
+use crate::text::Text;
 use std::alloc::Global;
 
 /// Of each group of values some lines.
-pub fn push_values(alloc: Global, text: &mut String) -> Result<(), NoMemory> {
-    push_names(alloc, text)?;
-    push_tables(alloc, text)?;
-    push_actions(alloc, text)?;
-    push_refusals(alloc, text)?;
-    push_sides(text)?;
-    push_parts(alloc, text)?;
-    push_patterns(alloc, text)?;
-    push_lifetimes(alloc, text)?;
-    push_looks(alloc, text)?;
-    Ok(())
+pub fn push_values(alloc: Global, text: &mut Text) {
+    push_names(alloc, text);
+    push_tables(alloc, text);
+    push_actions(alloc, text);
+    push_refusals(alloc, text);
+    push_sides(text);
+    push_parts(alloc, text);
+    push_patterns(alloc, text);
+    push_lifetimes(alloc, text);
+    push_looks(alloc, text);
 }

@@ -3,8 +3,9 @@ use crate::readings::damage::{Chance, damaged};
 use json::{Reader, Scratch};
 use json_records::{ReadError, next_token, pass};
 use lalrpop_norm_json::{TreeError, read_tree};
+use lnorm_texts::text::Text;
 use serde_json::Value;
-use std::alloc::{AllocError, Global};
+use std::alloc::Global;
 
 /// How many damaged texts are read beside a text.
 const DAMAGED: usize = 10;
@@ -28,20 +29,23 @@ enum Agreement {
 }
 
 /// Writes what both readers make of a text, and whether they agree on ten that are damaged.
-pub fn push_read_twice(alloc: Global, text: &mut String, bytes: &[u8]) -> Result<(), AllocError> {
-    text.push_str(shown(readings(alloc, bytes)))?;
+pub fn push_read_twice(alloc: Global, text: &mut Text, bytes: &[u8]) {
+    text.put(shown(readings(alloc, bytes)));
     let mut alike = 0usize;
     for number in 0..DAMAGED {
-        if is_alike(alloc, bytes, number)? {
+        if is_alike(alloc, text, bytes, number) {
             alike += 1;
         }
     }
-    write!(text, "damaged: {alike} of {DAMAGED} alike\n")
+    text.put("damaged: ");
+    text.show(alike);
+    text.put(" of ");
+    text.show(DAMAGED);
+    text.put(" alike\n");
 }
 
 /// Writes on how many of the beginnings of a text, the text itself left out, both readers agree, and how many they read.
-pub fn push_beginnings(alloc: Global, text: &mut String, bytes: &[u8]) -> Result<(), AllocError> {
-    let count = bytes.len();
+pub fn push_beginnings(alloc: Global, text: &mut Text, bytes: &[u8]) {
     let mut alike = 0usize;
     let mut read = 0usize;
     for end in 0..bytes.len() {
@@ -54,16 +58,27 @@ pub fn push_beginnings(alloc: Global, text: &mut String, bytes: &[u8]) -> Result
             Agreement::Differ | Agreement::Memory => {}
         }
     }
-    write!(text, "beginnings: {alike} of {count} alike, {read} read\n")
+    text.put("beginnings: ");
+    text.show(alike);
+    text.put(" of ");
+    text.show(bytes.len());
+    text.put(" alike, ");
+    text.show(read);
+    text.put(" read\n");
 }
 
-/// Whether both readers agree on a text with that change, of those that follow from its length and a number.
-fn is_alike(alloc: Global, bytes: &[u8], number: usize) -> Result<bool, AllocError> {
+/// Whether both readers agree on the bytes with that change, of those that follow from their length and a number.
+fn is_alike(alloc: Global, text: &mut Text, bytes: &[u8], number: usize) -> bool {
     let mut chance = Chance::new(bytes.len().wrapping_add(number) as u64);
-    let text = damaged(alloc, bytes, &mut chance)?;
-    match readings(alloc, &text) {
-        Agreement::Read | Agreement::Refused | Agreement::NoText => Ok(true),
-        Agreement::Differ | Agreement::Memory => Ok(false),
+    match damaged(alloc, bytes, &mut chance) {
+        Ok(changed) => match readings(alloc, &changed) {
+            Agreement::Read | Agreement::Refused | Agreement::NoText => true,
+            Agreement::Differ | Agreement::Memory => false,
+        },
+        Err(_) => {
+            text.lack();
+            false
+        }
     }
 }
 

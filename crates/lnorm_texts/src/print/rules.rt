@@ -1,67 +1,68 @@
 //! The printed form of rules and their alternatives.
 use crate::print::attributes::{push_attributes, push_quoted};
 use crate::print::symbols::{push_name, push_span, push_symbols};
+use crate::text::Text;
 use lalrpop_norm_tree::grammar::parse_tree::{
     ActionKind, Alternative, Condition, ConditionOp, NonterminalData, NonterminalString,
 };
-use std::alloc::AllocError;
 
-pub(crate) fn push_rule(text: &mut String, rule: &NonterminalData) -> Result<(), AllocError> {
-    push_rule_head(text, rule)?;
+pub(crate) fn push_rule(text: &mut Text, rule: &NonterminalData) {
+    push_rule_head(text, rule);
     for alternative in &rule.alternatives {
-        push_alternative(text, alternative)?;
+        push_alternative(text, alternative);
     }
-    Ok(())
 }
 
-fn push_rule_head(text: &mut String, rule: &NonterminalData) -> Result<(), AllocError> {
-    let visibility = &rule.visibility;
-    write!(text, "{visibility}rule ")?;
-    push_name(text, &rule.name)?;
-    push_arguments(text, &rule.args)?;
+fn push_rule_head(text: &mut Text, rule: &NonterminalData) {
+    text.show(&rule.visibility);
+    text.put("rule ");
+    push_name(text, &rule.name);
+    push_arguments(text, &rule.args);
     if let Some(ty) = &rule.type_decl {
-        write!(text, ": {ty}")?;
+        text.put(": ");
+        text.show(ty);
     }
-    push_span(text, rule.span)?;
-    push_attributes(text, &rule.attributes)?;
-    text.push_str("\n")
+    push_span(text, rule.span);
+    push_attributes(text, &rule.attributes);
+    text.put("\n");
 }
 
 /// `<A, B>`, where there is an argument.
-fn push_arguments(text: &mut String, args: &[NonterminalString]) -> Result<(), AllocError> {
-    match args.split_first() {
-        Some((first, others)) => {
-            write!(text, "<{first}")?;
-            for other in others {
-                write!(text, ", {other}")?;
-            }
-            text.push_str(">")
+fn push_arguments(text: &mut Text, args: &[NonterminalString]) {
+    if let Some((first, others)) = args.split_first() {
+        text.put("<");
+        text.show(first);
+        for other in others {
+            text.put(", ");
+            text.show(other);
         }
-        None => Ok(()),
+        text.put(">");
     }
 }
 
-fn push_alternative(text: &mut String, alternative: &Alternative) -> Result<(), AllocError> {
-    text.push_str("   ")?;
-    push_span(text, alternative.span)?;
-    push_attributes(text, &alternative.attributes)?;
-    text.push_str(" =")?;
-    push_symbols(text, &alternative.expr.symbols)?;
+fn push_alternative(text: &mut Text, alternative: &Alternative) {
+    text.put("   ");
+    push_span(text, alternative.span);
+    push_attributes(text, &alternative.attributes);
+    text.put(" =");
+    push_symbols(text, &alternative.expr.symbols);
     if let Some(condition) = &alternative.condition {
-        push_condition(text, condition)?;
+        push_condition(text, condition);
     }
     if let Some(action) = &alternative.action {
-        push_action(text, action)?;
+        push_action(text, action);
     }
-    text.push_str("\n")
+    text.put("\n");
 }
 
-fn push_condition(text: &mut String, condition: &Condition) -> Result<(), AllocError> {
-    let left = &condition.lhs;
-    let op = operator(&condition.op);
-    write!(text, " if {left} {op} ")?;
-    push_quoted(text, condition.rhs.as_str())?;
-    push_span(text, condition.span)
+fn push_condition(text: &mut Text, condition: &Condition) {
+    text.put(" if ");
+    text.show(&condition.lhs);
+    text.put(" ");
+    text.put(operator(&condition.op));
+    text.put(" ");
+    push_quoted(text, condition.rhs.as_str());
+    push_span(text, condition.span);
 }
 
 fn operator(op: &ConditionOp) -> &'static str {
@@ -73,16 +74,16 @@ fn operator(op: &ConditionOp) -> &'static str {
     }
 }
 
-fn push_action(text: &mut String, action: &ActionKind) -> Result<(), AllocError> {
+fn push_action(text: &mut Text, action: &ActionKind) {
     match action {
         ActionKind::User(code) => push_code(text, " => ", code.as_str()),
         ActionKind::Fallible(code) => push_code(text, " =>? ", code.as_str()),
-        ActionKind::Lookahead => text.push_str(" => @L"),
-        ActionKind::Lookbehind => text.push_str(" => @R"),
+        ActionKind::Lookahead => text.put(" => @L"),
+        ActionKind::Lookbehind => text.put(" => @R"),
     }
 }
 
-fn push_code(text: &mut String, arrow: &str, code: &str) -> Result<(), AllocError> {
-    text.push_str(arrow)?;
-    push_quoted(text, code)
+fn push_code(text: &mut Text, arrow: &str, code: &str) {
+    text.put(arrow);
+    push_quoted(text, code);
 }

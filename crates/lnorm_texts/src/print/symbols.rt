@@ -1,44 +1,51 @@
 //! The printed form of symbols, terminals and places.
+use crate::text::Text;
 use lalrpop_norm_tree::grammar::parse_tree::{
     MacroSymbol, NonterminalString, RepeatSymbol, Span, Symbol, SymbolKind, TerminalString,
 };
-use std::alloc::AllocError;
 
 /// ` 3..9`
-pub fn push_span(text: &mut String, span: Span) -> Result<(), AllocError> {
-    let from = span.0;
-    let to = span.1;
-    write!(text, " {from}..{to}")
+pub fn push_span(text: &mut Text, span: Span) {
+    text.put(" ");
+    text.show(span.0);
+    text.put("..");
+    text.show(span.1);
 }
 
 /// `@3..9`
-pub(crate) fn push_range(text: &mut String, span: Span) -> Result<(), AllocError> {
-    let from = span.0;
-    let to = span.1;
-    write!(text, "@{from}..{to}")
+pub(crate) fn push_range(text: &mut Text, span: Span) {
+    text.put("@");
+    text.show(span.0);
+    text.put("..");
+    text.show(span.1);
 }
 
 /// ` 3..9` and the end of the line.
-pub fn push_span_line(text: &mut String, span: Span) -> Result<(), AllocError> {
-    push_span(text, span)?;
-    text.push_str("\n")
+pub fn push_span_line(text: &mut Text, span: Span) {
+    push_span(text, span);
+    text.put("\n");
 }
 
 /// `"a"`, `r#"a"#`, `$NAME`, and `$!` for the error terminal.
-pub fn push_terminal(text: &mut String, terminal: &TerminalString) -> Result<(), AllocError> {
+pub fn push_terminal(text: &mut Text, terminal: &TerminalString) {
     match terminal {
-        TerminalString::Literal(literal) => write!(text, "{literal}"),
-        TerminalString::Bare(name) => write!(text, "${name}"),
-        TerminalString::Error => text.push_str("$!"),
+        TerminalString::Literal(literal) => text.show(literal),
+        TerminalString::Bare(name) => {
+            text.put("$");
+            text.show(name);
+        }
+        TerminalString::Error => text.put("$!"),
     }
 }
 
 /// The name of a rule; one that is no word, as that of a made rule, between backquotes.
-pub(crate) fn push_name(text: &mut String, name: &NonterminalString) -> Result<(), AllocError> {
+pub(crate) fn push_name(text: &mut Text, name: &NonterminalString) {
     if is_word(name.0.as_str()) {
-        write!(text, "{name}")
+        text.show(name);
     } else {
-        write!(text, "`{name}`")
+        text.put("`");
+        text.show(name);
+        text.put("`");
     }
 }
 
@@ -53,73 +60,78 @@ fn is_word(name: &str) -> bool {
 
 /// The symbols with a blank before each.
 #[cycle(symbol)]
-pub(crate) fn push_symbols(text: &mut String, symbols: &[Symbol]) -> Result<(), AllocError> {
+pub(crate) fn push_symbols(text: &mut Text, symbols: &[Symbol]) {
     for symbol in symbols {
-        text.push_str(" ")?;
-        push_symbol(text, symbol)?;
+        text.put(" ");
+        push_symbol(text, symbol);
     }
-    Ok(())
 }
 
 /// What the symbol is, and behind an `@` its place.
 #[cycle(symbol)]
-fn push_symbol(text: &mut String, symbol: &Symbol) -> Result<(), AllocError> {
-    push_kind(text, &symbol.kind)?;
-    push_range(text, symbol.span)
+fn push_symbol(text: &mut Text, symbol: &Symbol) {
+    push_kind(text, &symbol.kind);
+    push_range(text, symbol.span);
 }
 
 #[cycle(symbol)]
-fn push_kind(text: &mut String, kind: &SymbolKind) -> Result<(), AllocError> {
+fn push_kind(text: &mut Text, kind: &SymbolKind) {
     match kind {
         SymbolKind::Expr(group) => push_group(text, &group.symbols),
-        SymbolKind::AmbiguousId(name) => write!(text, "~{name}"),
+        SymbolKind::AmbiguousId(name) => {
+            text.put("~");
+            text.show(name);
+        }
         SymbolKind::Terminal(terminal) => push_terminal(text, terminal),
         SymbolKind::Nonterminal(name) => push_name(text, name),
         SymbolKind::Macro(call) => push_call(text, call),
         SymbolKind::Repeat(repeat) => push_repeat(text, repeat),
         SymbolKind::Choose(symbol) => {
-            text.push_str("<")?;
-            push_closed(text, symbol)
+            text.put("<");
+            push_closed(text, symbol);
         }
         SymbolKind::Name(name, symbol) => {
-            write!(text, "<{name}:")?;
-            push_closed(text, symbol)
+            text.put("<");
+            text.show(name);
+            text.put(":");
+            push_closed(text, symbol);
         }
         SymbolKind::Tuple(tuple, symbol) => {
-            write!(text, "<{tuple}:")?;
-            push_closed(text, symbol)
+            text.put("<");
+            text.show(tuple);
+            text.put(":");
+            push_closed(text, symbol);
         }
-        SymbolKind::Lookahead => text.push_str("@L"),
-        SymbolKind::Lookbehind => text.push_str("@R"),
-        SymbolKind::Error => text.push_str("!"),
+        SymbolKind::Lookahead => text.put("@L"),
+        SymbolKind::Lookbehind => text.put("@R"),
+        SymbolKind::Error => text.put("!"),
     }
 }
 
 #[cycle(symbol)]
-fn push_group(text: &mut String, symbols: &[Symbol]) -> Result<(), AllocError> {
-    text.push_str("(")?;
-    push_symbols(text, symbols)?;
-    text.push_str(" )")
+fn push_group(text: &mut Text, symbols: &[Symbol]) {
+    text.put("(");
+    push_symbols(text, symbols);
+    text.put(" )");
 }
 
 #[cycle(symbol)]
-fn push_call(text: &mut String, call: &MacroSymbol) -> Result<(), AllocError> {
-    push_name(text, &call.name)?;
-    text.push_str("<")?;
-    push_symbols(text, &call.args)?;
-    text.push_str(" >")
+fn push_call(text: &mut Text, call: &MacroSymbol) {
+    push_name(text, &call.name);
+    text.put("<");
+    push_symbols(text, &call.args);
+    text.put(" >");
 }
 
 #[cycle(symbol)]
-fn push_repeat(text: &mut String, repeat: &RepeatSymbol) -> Result<(), AllocError> {
-    push_symbol(text, &repeat.symbol)?;
-    let op = repeat.op;
-    write!(text, "{op}")
+fn push_repeat(text: &mut Text, repeat: &RepeatSymbol) {
+    push_symbol(text, &repeat.symbol);
+    text.show(repeat.op);
 }
 
 /// The symbol and a closing `>`.
 #[cycle(symbol)]
-fn push_closed(text: &mut String, symbol: &Symbol) -> Result<(), AllocError> {
-    push_symbol(text, symbol)?;
-    text.push_str(">")
+fn push_closed(text: &mut Text, symbol: &Symbol) {
+    push_symbol(text, symbol);
+    text.put(">");
 }

@@ -1,0 +1,68 @@
+//! A text that remembers whether there was memory for all of it. So what puts parts has no result: each `?` would be a way out of its
+//! own, and is proved as one. Parts are put one by one, since `format_args!` of several is proved in twice the time.
+use std::alloc::{AllocError, Global};
+use std::fmt;
+
+/// A text that is made of parts. It says at its end whether there was memory for all of them; behind a part for which there was none,
+/// nothing more is put.
+#[derive(Drop)]
+pub struct Text {
+    text: String,
+    is_whole: bool,
+}
+
+impl Text {
+    /// The text of no parts.
+    pub fn new(alloc: Global) -> Text {
+        Text {
+            text: String::new(alloc),
+            is_whole: true,
+        }
+    }
+
+    /// Puts the part.
+    pub fn put(&mut self, part: &str) {
+        self.is_whole = self.is_whole && self.text.push_str(part).is_ok();
+    }
+
+    /// Puts the part by its `Display`.
+    pub fn show<T: fmt::Display + Drop>(&mut self, part: T) {
+        self.is_whole = self.is_whole && write!(self.text, "{part}").is_ok();
+    }
+
+    /// Puts the part by its `Debug`.
+    pub fn debug<T: fmt::Debug + Drop>(&mut self, part: T) {
+        self.is_whole = self.is_whole && write!(self.text, "{part:?}").is_ok();
+    }
+
+    /// Makes room for so many bytes more.
+    pub fn reserve(&mut self, additional: usize) {
+        self.is_whole = self.is_whole && self.text.reserve(additional).is_ok();
+    }
+
+    /// There was no memory for something that belongs here.
+    pub fn lack(&mut self) {
+        self.is_whole = false;
+    }
+
+    /// Whether there was memory for each part.
+    pub fn is_whole(&self) -> bool {
+        self.is_whole
+    }
+
+    /// Whether memory was wanting since the last call. From here on parts are put again.
+    pub fn take_lack(&mut self) -> bool {
+        let is_lacking = !self.is_whole;
+        self.is_whole = true;
+        is_lacking
+    }
+
+    /// The text, where it is whole.
+    pub fn finish(self) -> Result<String, AllocError> {
+        if self.is_whole {
+            Ok(self.text)
+        } else {
+            Err(AllocError)
+        }
+    }
+}
