@@ -5,6 +5,5 @@ mod LoopLemmas
 mod MadeLemmas
 mod TracedLemmas
 mod PendingLemmas
-mod RepeatLemmas
 mod RoundLemmas
 mod WaitingLists

@@ -33,8 +33,9 @@ use Rattle.lalrpop_norm_nodes.proofs.ShallowReadings.{copied, shown_in_each, met
 use Rattle.lalrpop_norm_nodes.proofs.ShallowRules.{argument_replaced, argument_unplaced, group_replaced}
 use Rattle.lalrpop_norm_macro_expand_rules.specs.Conditions.{quoted_text, comparison_faults, value_faults, instance_faults, called_faults}
 use Rattle.lalrpop_norm_macro_expand_rules.specs.Pending.{PendingData, finished_rule, unread_rule, met_in_pending, shown_in_pending, pending_read, read_filled}
+use Rattle.lalrpop_norm_macro_expand_repeats.specs.Repeats.{hole_name}
 use Rattle.lalrpop_norm_macro_expand.specs.Expansion.{unmade, unmade_repeat}
-use Rattle.lalrpop_norm_macro_expand.specs.Making.{kept_of, instance_shape, call_pending, hole, hole_name, repeat_pending, pending_of}
+use Rattle.lalrpop_norm_macro_expand.specs.Making.{kept_of, instance_shape, call_pending, hole, repeat_pending, pending_of}
 use Rattle.lalrpop_norm_macro_expand_rules.proofs.MacroLemmas.{named_so}
 
 -- the rules of a symbol, as the code makes them

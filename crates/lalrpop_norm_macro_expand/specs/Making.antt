@@ -1,5 +1,5 @@
 -- What the code makes of the symbols that wait: its own words, of which no public clause speaks.
-use Rattle.std.specs.Prelude.{ℕ, List, [], ◌∷◌, flat_map, option_map, Option, Some, None, codes, if◌then◌else◌}
+use Rattle.std.specs.Prelude.{ℕ, List, [], ◌∷◌, flat_map, option_map, Option, Some, None, if◌then◌else◌}
 use Rattle.lalrpop_norm_tree_names.specs.declared.names.NonterminalString.{NonterminalString}
 use Rattle.lalrpop_norm_tree_names.specs.declared.names.Span.{Span}
 use Rattle.lalrpop_norm_tree.specs.declared.symbol.RepeatOp.{RepeatOp}
@@ -10,14 +10,14 @@ use Rattle.lalrpop_norm_tree.specs.Items.{AlternativeData, RuleData, lookahead_c
 use Rattle.lalrpop_norm_conditions.specs.Conditions.{comparison}
 use Rattle.lalrpop_norm_model.specs.Grammars.{is_true}
 use Rattle.lalrpop_norm_model.specs.MadeRules.{flat_reader, argument_kind, only_part, macro_named, type_substituted}
-use Rattle.lalrpop_norm_model.specs.MadeRules.{group_rule, location_rule, repeat_rule, instance_alternative}
+use Rattle.lalrpop_norm_model.specs.MadeRules.{group_rule, location_rule, instance_alternative}
 use Rattle.lalrpop_norm_model.specs.Reading.{read_all}
 use Rattle.lalrpop_norm_nodes.specs.Apart.{nowhere}
 use Rattle.lalrpop_norm_nodes.specs.declared.table.Waiting.{Waiting}
 use Rattle.lalrpop_norm_nodes.specs.NodeParts.{call_parts, repeated_kind}
 use Rattle.lalrpop_norm_nodes.specs.Wholes.{Whole, kind_at}
 use Rattle.lalrpop_norm_macro_expand_rules.specs.Pending.{PendingData, finished_rule, unread_rule}
-use Rattle.lalrpop_norm_macro_expand_rules.specs.Rules.{named_rule}
+use Rattle.lalrpop_norm_macro_expand_repeats.specs.Repeats.{hole_name, repeat_shape}
 
 -- ---- macro calls
 
@@ -50,17 +50,9 @@ call_pending name s (Some d) whole shown =
 
 -- ---- repeats
 
--- the name that stands for what is repeated
-abbrev pub hole_name : List ℕ
-hole_name = codes "X"
-
+-- the names for which something is given: the one that stands for what is repeated
 abbrev pub hole : List NonterminalString
 hole = (record { 0 = hole_name }) ∷ []
-
--- the rule of a repeat of that name, its alternatives over the second symbol
-abbrev pub repeat_shape : List ℕ → Span → RepeatOp → Part → Part → RuleData
-repeat_shape name s op p over =
-    named_rule name s (repeat_rule s op p).attributes (repeat_rule s op p).type_decl (repeat_rule s op over).alternatives
 
 abbrev pub repeat_pending : List ℕ → Span → RepeatOp → Kind → Part → PendingData
 repeat_pending name s op whole (at t k) =

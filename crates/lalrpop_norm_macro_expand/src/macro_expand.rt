@@ -23,7 +23,6 @@ ghost use Rattle.lalrpop_norm_macro_expand.specs.Making.{pending_for};
 mod instance;
 mod made_origins;
 mod make;
-mod repeats;
 mod rule_lists;
 pub(crate) mod traced;
 

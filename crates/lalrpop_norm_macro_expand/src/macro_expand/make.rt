@@ -20,8 +20,8 @@ ghost use Rattle.lalrpop_norm_macro_expand.specs.Made.{made_view, made_for};
 ghost use Rattle.lalrpop_norm_macro_expand.specs.Making.{instance_shape, call_pending, repeat_pending, pending_of, pending_for};
 
 use super::instance::instance_rule;
-use super::repeats::{hole_name, repeat_rule};
 use lalrpop_norm_faults::{FaultKind, NormResult, refusal};
+use lalrpop_norm_macro_expand_repeats::repeats::{hole_name, repeat_rule};
 use lalrpop_norm_macro_expand_rules::groups::{group_rule, location_rule};
 use lalrpop_norm_macro_expand_rules::macros::Macros;
 use lalrpop_norm_macro_expand_rules::pending::{Pending, UnreadRule};

@@ -8,7 +8,8 @@ use Rattle.lalrpop_norm_nodes.specs.NodeParts.{repeated_kind}
 use Rattle.lalrpop_norm_nodes.specs.Tables.{wholes_in}
 use Rattle.lalrpop_norm_nodes.specs.Wholes.{kind_at}
 use Rattle.lalrpop_norm_macro_expand_rules.specs.Pending.{unread_rule, whole_of, shown_of}
-use Rattle.lalrpop_norm_macro_expand.specs.Making.{hole, hole_name, repeat_shape}
+use Rattle.lalrpop_norm_macro_expand_repeats.specs.Repeats.{hole_name, repeat_shape}
+use Rattle.lalrpop_norm_macro_expand.specs.Making.{hole}
 use Rattle.lalrpop_norm_macro_expand.proofs.BoundLemmas.{shallow_repeat, repeat_is, repeat_readable}
 use Rattle.lalrpop_norm_macro_expand.proofs.macro_expand.make.repeat_of.Goals as goal
 

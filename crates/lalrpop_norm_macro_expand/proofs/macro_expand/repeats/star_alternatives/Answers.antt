@@ -1,6 +1,0 @@
-use Rattle.std.proofs.Common.{arith}
-use Rattle.std.proofs.lemmas.Grind.{common_steps}
-use Rattle.lalrpop_norm_macro_expand.proofs.macro_expand.repeats.star_alternatives.Goals as goal
-
-pub returns : goal.returns
-returns c = grind (arith, common_steps)
