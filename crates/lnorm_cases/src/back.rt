@@ -1,12 +1,13 @@
 //! The way back: trees beside a grammar, read from lines.
 use crate::call::Back;
-use crate::outcome::push_place;
+use crate::outcome::{push_place, read_bytes};
 use crate::shown::push_apart;
 use lalrpop_norm::explain::{ExplainError, LoweredTree, Traced, explain, lower_tree};
 use lalrpop_norm::normalize::{NormFailure, Session, normalize_traced};
-use lalrpop_norm_json::{TreeError, read_tree};
+use lalrpop_norm_json::TreeError;
 use lalrpop_norm_lexer::lexer::CheckOnly;
 use lalrpop_norm_repr::grammar::repr::{NonterminalData, NonterminalString, Production};
+use lalrpop_norm_tree::grammar::parse_tree::Grammar;
 use lexplain_lines::lines::{lowered_lines, written_lines};
 use lexplain_lines::read::{LinesError, lowered_tree_of_lines, written_tree_of_lines};
 use lexplain_run::answer::{Stop, push_fault};
@@ -41,37 +42,48 @@ fn answered(
     bytes: &[u8],
     lines: &[u8],
 ) -> Result<String, Stop> {
-    let traced = traced_of(alloc, session, bytes)?;
-    match back {
-        Back::Explain => {
-            let tree = read(lowered_tree_of_lines(alloc, text_of(lines)?))?;
-            let written = explain(alloc, &traced, &tree)?;
-            Ok(written_lines(alloc, &written)?)
-        }
-        Back::LowerTree => {
-            let tree = read(written_tree_of_lines(alloc, text_of(lines)?))?;
-            let lowered = lower_tree(alloc, &traced, &tree)?;
-            Ok(lowered_lines(alloc, &lowered)?)
-        }
-        Back::ThereAndBack => {
-            let tree = read(lowered_tree_of_lines(alloc, text_of(lines)?))?;
-            there_and_back(alloc, &traced, &tree)
-        }
+    let grammar = grammar_of(alloc, bytes)?;
+    match normalize_traced(alloc, session, grammar) {
+        Ok(traced) => match back {
+            Back::Explain => explained(alloc, &traced, lines),
+            Back::LowerTree => lowered(alloc, &traced, lines),
+            Back::ThereAndBack => there_and_back(alloc, &traced, lines),
+        },
+        Err(failure) => Err(Stop::Failed(failure)),
     }
 }
 
-fn there_and_back(alloc: Global, traced: &Traced, tree: &LoweredTree) -> Result<String, Stop> {
-    let written = explain(alloc, traced, tree)?;
-    let lowered = lower_tree(alloc, traced, &written)?;
-    Ok(lowered_lines(alloc, &lowered)?)
+fn explained(alloc: Global, traced: &Traced, lines: &[u8]) -> Result<String, Stop> {
+    let tree = read(lowered_tree_of_lines(alloc, text_of(lines)?))?;
+    match explain(alloc, traced, &tree) {
+        Ok(written) => Ok(written_lines(alloc, &written)?),
+        Err(error) => Err(Stop::Tree(error)),
+    }
 }
 
-fn traced_of(alloc: Global, session: &Session<CheckOnly>, bytes: &[u8]) -> Result<Traced, Stop> {
-    let Ok(json) = str::from_utf8(bytes) else {
-        return Err(Stop::NotAGrammar);
-    };
-    match read_tree(alloc, json) {
-        Ok(grammar) => Ok(normalize_traced(alloc, session, grammar)?),
+fn lowered(alloc: Global, traced: &Traced, lines: &[u8]) -> Result<String, Stop> {
+    let tree = read(written_tree_of_lines(alloc, text_of(lines)?))?;
+    lines_of(alloc, lower_tree(alloc, traced, &tree))
+}
+
+fn there_and_back(alloc: Global, traced: &Traced, lines: &[u8]) -> Result<String, Stop> {
+    let tree = read(lowered_tree_of_lines(alloc, text_of(lines)?))?;
+    match explain(alloc, traced, &tree) {
+        Ok(written) => lines_of(alloc, lower_tree(alloc, traced, &written)),
+        Err(error) => Err(Stop::Tree(error)),
+    }
+}
+
+fn lines_of(alloc: Global, lowered: Result<LoweredTree, ExplainError>) -> Result<String, Stop> {
+    match lowered {
+        Ok(tree) => Ok(lowered_lines(alloc, &tree)?),
+        Err(error) => Err(Stop::Tree(error)),
+    }
+}
+
+fn grammar_of(alloc: Global, bytes: &[u8]) -> Result<Grammar, Stop> {
+    match read_bytes(alloc, bytes) {
+        Ok(grammar) => Ok(grammar),
         Err(TreeError::NotATree) => Err(Stop::NotAGrammar),
         Err(TreeError::Memory) => Err(Stop::Failed(NormFailure::Memory)),
     }

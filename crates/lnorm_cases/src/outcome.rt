@@ -2,19 +2,18 @@
 use crate::asks::push_asked;
 use crate::back::push_traced;
 use crate::call::{Last, Pass};
-use crate::passes::{
-    Stopped, counted, lowered, normalized, traced, tree_after, tree_after_all, typed,
-};
+use crate::passes::{Stopped, is_run, tree_after, tree_after_all, typed};
 use crate::shown::{ended, push_or, push_or_memory};
 use crate::without_memory::push_without_memory;
-use lalrpop_norm::explain::Traced;
 use lalrpop_norm::grammar::repr;
-use lalrpop_norm::normalize::lower::is_typed;
+use lalrpop_norm::normalize::lower::{is_typed, lower};
 use lalrpop_norm::normalize::prevalidate::malformed_cfgs;
-use lalrpop_norm::normalize::{NormFailure, Session};
+use lalrpop_norm::normalize::{
+    NormFailure, NormResult, Session, is_expanded, normalize, normalize_traced,
+};
 use lalrpop_norm_json::{TreeError, read_tree};
 use lalrpop_norm_lexer::lexer::Lexer;
-use lalrpop_norm_macro_expand::macro_expand::Counts;
+use lalrpop_norm_macro_expand::macro_expand::{Counts, expand_macros_counted};
 use lalrpop_norm_repr::grammar::repr::Types;
 use lalrpop_norm_tree::grammar::parse_tree::{Grammar, Span};
 use lnorm_texts::faults::push_told;
@@ -56,7 +55,7 @@ pub(crate) fn push_outcome<L: Lexer>(
     call: &PassCall,
     bytes: &[u8],
 ) {
-    match read(alloc, bytes) {
+    match read_bytes(alloc, bytes) {
         Ok(tree) => {
             let answer = tree_after_all(alloc, session, call.passes, tree);
             push_answered(alloc, text, session, call.layout, call.last, answer);
@@ -66,7 +65,8 @@ pub(crate) fn push_outcome<L: Lexer>(
     }
 }
 
-fn read(alloc: Global, bytes: &[u8]) -> Result<Grammar, TreeError> {
+/// The tree that the bytes are.
+pub(crate) fn read_bytes(alloc: Global, bytes: &[u8]) -> Result<Grammar, TreeError> {
     match str::from_utf8(bytes) {
         Ok(json) => read_tree(alloc, json),
         Err(_) => Err(TreeError::NotATree),
@@ -83,28 +83,23 @@ fn push_answered<L: Lexer>(
 ) {
     match answer {
         Ok(tree) => push_last(alloc, text, session, layout, last, tree),
-        Err(stopped) => push_stopped(text, layout, stopped),
+        Err(stopped) => push_reason(text, layout, &stopped),
     }
 }
 
-/// The text of the value that was answered, or the failure. Either ends.
-fn push_answer_of<T: Drop, F: FnOnce(&mut Text, &T)>(
+/// The text of the value that was made, or the failure. Either ends.
+fn push_result_of<T: Drop, F: FnOnce(&mut Text, &T)>(
     text: &mut Text,
     layout: Layout,
-    answer: Result<T, Stopped>,
+    made: NormResult<T>,
     push: F,
 )
     requires { F.IsAlwaysCallable push }
 {
-    match answer {
+    match made {
         Ok(value) => push(text, &value),
-        Err(stopped) => push_stopped(text, layout, stopped),
+        Err(failure) => push_failure(text, layout, &failure),
     }
-}
-
-fn push_stopped(text: &mut Text, layout: Layout, stopped: Stopped) {
-    push_reason(text, layout, &stopped);
-    ended(stopped);
 }
 
 /// What stands last in a call.
@@ -117,23 +112,16 @@ fn push_last<L: Lexer>(
     tree: Grammar,
 ) {
     match last {
-        Last::Pass(pass) => push_pass(text, layout, pass, tree_after(alloc, session, pass, tree)),
-        Last::TokenCheckScripted => {
-            let pass = Pass::TokenCheck;
-            push_pass(text, layout, pass, tree_after(alloc, session, pass, tree));
+        Last::Pass(pass) => push_pass(alloc, text, session, layout, pass, tree),
+        Last::TokenCheckScripted => push_pass(alloc, text, session, layout, Pass::TokenCheck, tree),
+        Last::ExpandMacrosCounted => push_counted(alloc, text, session, layout, tree),
+        Last::InferTypes | Last::IsTyped => push_typed(alloc, text, session, layout, last, tree),
+        Last::Lower => push_lower(alloc, text, session, layout, tree),
+        Last::Normalize | Last::NormalizeScripted | Last::LoweredCopy => {
+            push_lowered_of(alloc, text, layout, last, normalize(alloc, session, tree));
         }
-        Last::ExpandMacrosCounted => push_counted(text, layout, counted(alloc, session, tree)),
-        Last::InferTypes => push_typed(text, layout, typed(alloc, tree)),
-        Last::IsTyped => push_is_typed(text, session, layout, typed(alloc, tree)),
-        Last::Lower => push_normalized(text, layout, lowered(alloc, session, tree)),
-        Last::Normalize | Last::NormalizeScripted => push_normalized(
-            text,
-            layout,
-            normalized(alloc, session, tree),
-        ),
-        Last::Traced => push_kept(alloc, text, layout, traced(alloc, session, tree)),
-        Last::LoweredCopy => push_copied(alloc, text, layout, normalized(alloc, session, tree)),
-        Last::WithoutMemory => push_typed_without_memory(text, session, typed(alloc, tree)),
+        Last::Traced => push_kept(alloc, text, session, layout, tree),
+        Last::WithoutMemory => push_without_memory(alloc, text, session, tree),
         Last::Copy | Last::Ask | Last::Texts | Last::MalformedCfgs => {
             push_look(alloc, text, session, layout, last, &tree);
             ended(tree);
@@ -158,10 +146,23 @@ fn push_look<L>(
     }
 }
 
-fn push_pass(text: &mut Text, layout: Layout, pass: Pass, answer: Result<Grammar, Stopped>) {
-    push_answer_of(text, layout, answer, |text, tree| {
-        push_tree_after(text, layout, pass, tree)
-    });
+fn push_pass<L: Lexer>(
+    alloc: Global,
+    text: &mut Text,
+    session: &Session<L>,
+    layout: Layout,
+    pass: Pass,
+    tree: Grammar,
+) {
+    if is_run(pass, &tree) {
+        let made = tree_after(alloc, session, pass, tree);
+        push_result_of(text, layout, made, |text, tree| {
+            push_tree_after(text, layout, pass, tree)
+        });
+    } else {
+        text.put("not expanded\n");
+        ended(tree);
+    }
 }
 
 fn push_tree_after(text: &mut Text, layout: Layout, pass: Pass, tree: &Grammar) {
@@ -180,8 +181,16 @@ fn push_tree_as(text: &mut Text, layout: Layout, tree: &Grammar) {
 }
 
 /// How much an expansion did, and the tree after it.
-fn push_counted(text: &mut Text, layout: Layout, answer: Result<(Grammar, Counts), Stopped>) {
-    push_answer_of(text, layout, answer, |text, made| {
+fn push_counted<L>(
+    alloc: Global,
+    text: &mut Text,
+    session: &Session<L>,
+    layout: Layout,
+    tree: Grammar,
+) {
+    let limit = session.macro_recursion_limit;
+    let made = expand_macros_counted(alloc, tree, limit);
+    push_result_of(text, layout, made, |text, made| {
         push_counts(text, layout, made)
     });
 }
@@ -198,84 +207,99 @@ fn push_counts(text: &mut Text, layout: Layout, made: &(Grammar, Counts)) {
     push_tree_as(text, layout, tree);
 }
 
-/// The types of the tree's rules, once its names are resolved.
-fn push_typed(text: &mut Text, layout: Layout, answer: Result<(Grammar, Types), Stopped>) {
-    push_answer_of(text, layout, answer, |text, typed| {
-        push_types_as(text, layout, typed)
-    });
-}
-
-fn push_types_as(text: &mut Text, layout: Layout, typed: &(Grammar, Types)) {
-    let (tree, types) = typed;
-    match layout {
-        Layout::Lines | Layout::Told | Layout::Twice => push_types(text, tree, types),
-        Layout::Whole => push_whole_types(text, types),
-    }
-}
-
-/// Whether the tree is typed by the types of its rules, once its names are resolved.
-fn push_is_typed<L>(
+/// The types of the tree's rules, once its names are resolved, or whether it is typed by them.
+fn push_typed<L>(
+    alloc: Global,
     text: &mut Text,
     session: &Session<L>,
     layout: Layout,
-    answer: Result<(Grammar, Types), Stopped>,
+    last: Last,
+    tree: Grammar,
 ) {
-    push_answer_of(text, layout, answer, |text, typed| {
-        push_is_typed_line(text, session, typed)
+    let made = typed(alloc, tree);
+    push_result_of(text, layout, made, |text, (tree, types)| {
+        push_types_of(text, session, layout, last, tree, types)
     });
 }
 
-fn push_is_typed_line<L>(text: &mut Text, session: &Session<L>, typed: &(Grammar, Types)) {
-    let (tree, types) = typed;
-    text.put("typed: ");
-    text.show(is_typed(session, tree, types));
-    text.put("\n");
-}
-
-/// What calls answer that take no memory, of the tree with its names resolved and of the types of its rules.
-fn push_typed_without_memory<L>(
+fn push_types_of<L>(
     text: &mut Text,
     session: &Session<L>,
-    typed: Result<(Grammar, Types), Stopped>,
+    layout: Layout,
+    last: Last,
+    tree: &Grammar,
+    types: &Types,
 ) {
-    match typed {
-        Ok((tree, types)) => push_without_memory(text, session, tree, types),
-        Err(stopped) => push_stopped(text, Layout::Lines, stopped),
+    match (last, layout) {
+        (Last::IsTyped, _) => {
+            text.put("typed: ");
+            text.show(is_typed(session, tree, types));
+            text.put("\n");
+        }
+        (_, Layout::Whole) => push_whole_types(text, types),
+        _ => push_types(text, tree, types),
     }
 }
 
-fn push_normalized(text: &mut Text, layout: Layout, answer: Result<repr::Grammar, Stopped>) {
-    push_answer_of(text, layout, answer, |text, lowered| {
-        push_lowered_as(text, layout, lowered)
-    });
-}
-
-fn push_kept(alloc: Global, text: &mut Text, layout: Layout, answer: Result<Traced, Stopped>) {
-    push_answer_of(text, layout, answer, |text, traced| {
-        push_traced(alloc, text, traced)
-    });
-}
-
-fn push_lowered_as(text: &mut Text, layout: Layout, lowered: &repr::Grammar) {
-    match layout {
-        Layout::Lines | Layout::Told | Layout::Twice => push_lowered(text, lowered),
-        Layout::Whole => push_whole_lowered(text, lowered),
+/// The tree with its names resolved, lowered over the types of its rules, where both are what `lower` takes.
+fn push_lower<L>(
+    alloc: Global,
+    text: &mut Text,
+    session: &Session<L>,
+    layout: Layout,
+    tree: Grammar,
+) {
+    match typed(alloc, tree) {
+        Ok((tree, types)) => if is_expanded(&tree) && is_typed(session, &tree, &types) {
+            let made = lower(alloc, session, tree, types);
+            push_lowered_of(alloc, text, layout, Last::Lower, made);
+        } else {
+            text.put("not expanded\n");
+        },
+        Err(failure) => push_failure(text, layout, &failure),
     }
 }
 
-fn push_copied(
+fn push_lowered_of(
     alloc: Global,
     text: &mut Text,
     layout: Layout,
-    answer: Result<repr::Grammar, Stopped>,
+    last: Last,
+    made: NormResult<repr::Grammar>,
 ) {
-    push_answer_of(text, layout, answer, |text, lowered| {
-        push_lowered_copy_or_memory(alloc, text, lowered)
+    push_result_of(text, layout, made, |text, lowered| {
+        push_lowered_as(alloc, text, layout, last, lowered)
     });
 }
 
-fn push_lowered_copy_or_memory(alloc: Global, text: &mut Text, lowered: &repr::Grammar) {
-    push_or_memory(text, |text| push_lowered_copy(alloc, text, lowered));
+fn push_lowered_as(
+    alloc: Global,
+    text: &mut Text,
+    layout: Layout,
+    last: Last,
+    lowered: &repr::Grammar,
+) {
+    match (last, layout) {
+        (Last::LoweredCopy, _) => push_or_memory(text, |text| {
+            push_lowered_copy(alloc, text, lowered)
+        }),
+        (_, Layout::Whole) => push_whole_lowered(text, lowered),
+        _ => push_lowered(text, lowered),
+    }
+}
+
+/// The lowered grammar, with where its productions come from.
+fn push_kept<L: Lexer>(
+    alloc: Global,
+    text: &mut Text,
+    session: &Session<L>,
+    layout: Layout,
+    tree: Grammar,
+) {
+    let made = normalize_traced(alloc, session, tree);
+    push_result_of(text, layout, made, |text, traced| {
+        push_traced(alloc, text, traced)
+    });
 }
 
 fn push_copy(text: &mut Text, layout: Layout, tree: &Grammar) {

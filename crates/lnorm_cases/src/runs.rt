@@ -73,11 +73,23 @@ fn push_bytes(text: &mut Text, bytes: &[u8]) {
 fn push_fault_line(text: &mut Text, bytes: &[u8]) {
     match str::from_utf8(bytes) {
         Ok("") => {}
-        Ok(line) => match promised_part(line) {
-            Some(part) => push_line(text, "standard error: ", part),
+        Ok(line) => match line.strip_suffix("\n") {
+            Some(line) => push_promised(text, line),
             None => push_line(text, "standard error, not a line of lnorm: ", line),
         },
         Err(_) => text.put("standard error: no text\n"),
+    }
+}
+
+/// What is promised of a line.
+fn push_promised(text: &mut Text, line: &str) {
+    if line.starts_with("F") {
+        match line.split_once(": ") {
+            Some((part, _)) => push_line(text, "standard error: ", part),
+            None => push_line(text, "standard error, not a line of lnorm: ", line),
+        }
+    } else {
+        push_line(text, "standard error: ", line);
     }
 }
 
@@ -85,15 +97,4 @@ fn push_line(text: &mut Text, before: &str, line: &str) {
     text.put(before);
     text.put(line);
     text.put("\n");
-}
-
-/// What is promised of a line, which ends with a line feed.
-fn promised_part(line: &str) -> Option<&str> {
-    let line = line.strip_suffix("\n")?;
-    if line.starts_with("F") {
-        let (part, _message) = line.split_once(": ")?;
-        Some(part)
-    } else {
-        Some(line)
-    }
 }

@@ -1,5 +1,7 @@
 //! What calls answer that take no memory: there is room for all that is written, and nothing else is made.
 use crate::asks::{push_asked_attributes, push_asked_extern, push_first_blocks, push_presence};
+use crate::outcome::push_place;
+use crate::passes::typed;
 use lalrpop_norm::normalize::cond_comp::remove_disabled_decls;
 use lalrpop_norm::normalize::lower::is_typed;
 use lalrpop_norm::normalize::{FaultKind, NormResult, Session, is_expanded};
@@ -12,20 +14,26 @@ use lalrpop_norm_tree::grammar::parse_tree::{
 use lnorm_texts::faults::side_name;
 use lnorm_texts::print::symbols::push_span_line;
 use lnorm_texts::text::Text;
+use std::alloc::Global;
 use std::slice;
 
 /// Bytes of room: more than is written.
 const ROOM: usize = 1 << 16;
 
-/// The answers of a grammar and of the types of its rules, and how many items of it are on.
+/// The answers of the tree with its names resolved and of the types of its rules, and how many of its items are on.
 pub(crate) fn push_without_memory<L>(
+    alloc: Global,
     text: &mut Text,
     session: &Session<L>,
     tree: Grammar,
-    types: Types,
 ) {
-    push_answers(text, session, &tree, &types);
-    push_enabled(text, remove_disabled_decls(session, tree));
+    match typed(alloc, tree) {
+        Ok((tree, types)) => {
+            push_answers(text, session, &tree, &types);
+            push_enabled(text, remove_disabled_decls(session, tree));
+        }
+        Err(failure) => push_place(text, &failure),
+    }
 }
 
 fn push_enabled(text: &mut Text, enabled: NormResult<Grammar>) {
