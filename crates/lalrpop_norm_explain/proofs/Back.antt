@@ -14,6 +14,9 @@ use Rattle.lalrpop_norm_explain.specs.Forms.{Form, group_form, star_form, plus_f
 use Rattle.lalrpop_norm_explain.specs.Plans.{flat, leaning, TreePlan, plan, plan_under, planned_tree, is_one_for_each, fitting, each, plus_plan, list_plan, nothing_plan, list_at, nothing_at, node_at, is_written, is_step, own_plan, step_to, step, or_plan, node_plan}
 use Rattle.lalrpop_norm_explain.specs.TreeLowering.{plan_faults, plan_tree, shape_faults, shapes_faults, lowered_by, each_lowered}
 
+lacks : {A C : Type 0} {x : A} → None ≡ Some x → C
+lacks e = absurd (cc e)
+
 pub visited_and : (Visited : Name → Type 0) (s : LoweredSymbol) (ss : List LoweredSymbol) → IsVisited Visited s → AreVisited Visited ss → AreVisited Visited (s ∷ ss)
 visited_and Visited (terminal_symbol a) ss h hs = hs
 visited_and Visited (nonterminal_symbol n) ss h hs = (h, hs)
@@ -84,7 +87,7 @@ module _ (P : ProductionTable) where
   under_serves : (n m : Name) (p : ℕ) (q : Production) (make : WrittenTrees → WrittenTree) → slice_get (P n) p ≡ Some q → q.symbols ≡ nonterminal_symbol m ∷ [] →
       ((t : WrittenTree) → made_by q.origin (tree_and t no_trees) ≡ t) → (o : Option TreePlan) → ServesIf P (nonterminal_symbol m) o make →
       ServesIf P (nonterminal_symbol n) (plan_under n p o) make
-  under_serves n m p q make at one same None h r e = absurd (cc e)
+  under_serves n m p q make at one same None h r e = lacks e
   under_serves n m p q make at one same (Some below) h r e =
       from_plan P (nonterminal_symbol n) (record { steps = (n, p) ∷ below.steps; name = below.name; shape = below.shape; wanted = below.wanted }) r make e
       (λ us d.
@@ -105,7 +108,7 @@ module _ (P : ProductionTable) where
     plus_serves : (n : Name) → Visited n → (o : Option Form) → form_of (P n) ≡ o → (ts : WrittenTrees) → ServesIf P (nonterminal_symbol n) (plus_plan n o ts) list
     plus_serves n v (Some (plus_form x)) h (tree_and t ts) q e =
         from_plan P (nonterminal_symbol n) (plan n leaning (x ∷ each x ts)) q list e (leaning_serves P n x (F.formed n (plus_form x) v h) ts)
-    plus_serves n v _ h _ q e = absurd (cc e)
+    plus_serves n v _ h _ q e = lacks e
 
     -- the symbol of `X+` in the rule of `X*`
     star_visited : (n m : Name) → Visited n → form_of (P n) ≡ Some (star_form m) → Visited m
@@ -129,23 +132,23 @@ module _ (P : ProductionTable) where
     list_serves n v (Some (times_form ss)) h ts q e =
         from_plan P (nonterminal_symbol n) (plan n (flat 0) ss) q list e
         (flat_serves n 0 (production from_times ss) list (rw (F.formed n (times_form ss) v h) refl) (λ ts. refl))
-    list_serves n v (Some ahead_form) h ts q e = absurd (cc e)
-    list_serves n v (Some behind_form) h ts q e = absurd (cc e)
-    list_serves n v None h ts q e = absurd (cc e)
+    list_serves n v (Some ahead_form) h ts q e = lacks e
+    list_serves n v (Some behind_form) h ts q e = lacks e
+    list_serves n v None h ts q e = lacks e
 
     nothing_serves : (n : Name) → Visited n → (o : Option Form) → form_of (P n) ≡ o → ServesIf P (nonterminal_symbol n) (nothing_plan n o) (λ _. nothing)
     nothing_serves n v (Some ahead_form) h q e =
         from_plan P (nonterminal_symbol n) (plan n (flat 0) []) q (λ _. nothing) e (empty_serves n 0 from_lookahead (λ _. nothing) (rw (F.formed n ahead_form v h) refl) refl)
     nothing_serves n v (Some behind_form) h q e =
         from_plan P (nonterminal_symbol n) (plan n (flat 0) []) q (λ _. nothing) e (empty_serves n 0 from_lookbehind (λ _. nothing) (rw (F.formed n behind_form v h) refl) refl)
-    nothing_serves n v _ h q e = absurd (cc e)
+    nothing_serves n v _ h q e = lacks e
 
     -- what a plan wants is visited
     same_wants : (p q : TreePlan) → Some p ≡ Some q → AreVisited Visited p.wanted → AreVisited Visited q.wanted
     same_wants p q e h = let same : p ≡ q = cc in subst (λ (r : TreePlan). AreVisited Visited r.wanted) same h
 
     under_wants : (n : Name) (p : ℕ) (o : Option TreePlan) → ((q : TreePlan) → o ≡ Some q → AreVisited Visited q.wanted) → (q : TreePlan) → plan_under n p o ≡ Some q → AreVisited Visited q.wanted
-    under_wants n p None h q e = absurd (cc e)
+    under_wants n p None h q e = lacks e
     under_wants n p (Some r) h q e =
         same_wants (record { steps = (n, p) ∷ r.steps; name = r.name; shape = r.shape; wanted = r.wanted }) q e (h r refl)
 
@@ -157,7 +160,7 @@ module _ (P : ProductionTable) where
     plus_wants n v (Some (plus_form x)) h (tree_and t ts) q e =
         let here = first_visited Visited x [] (F.closed n 0 (production plus_one (x ∷ [])) v (rw (F.formed n (plus_form x) v h) refl)) in
         same_wants (plan n leaning (x ∷ each x ts)) q e (visited_and Visited x (each x ts) here (each_wants x ts here))
-    plus_wants n v _ h _ q e = absurd (cc e)
+    plus_wants n v _ h _ q e = lacks e
 
     list_wants : (n : Name) → Visited n → (o : Option Form) → form_of (P n) ≡ o → (ts : WrittenTrees) (q : TreePlan) → list_plan P n o ts ≡ Some q → AreVisited Visited q.wanted
     list_wants n v (Some (group_form ss)) h ts q e =
@@ -171,9 +174,9 @@ module _ (P : ProductionTable) where
         same_wants (plan n (flat 0) (x ∷ [])) q e (F.closed n 0 (production question_some (x ∷ [])) v (rw (F.formed n (question_form x) v h) refl))
     list_wants n v (Some (times_form ss)) h ts q e =
         same_wants (plan n (flat 0) ss) q e (F.closed n 0 (production from_times ss) v (rw (F.formed n (times_form ss) v h) refl))
-    list_wants n v (Some ahead_form) h ts q e = absurd (cc e)
-    list_wants n v (Some behind_form) h ts q e = absurd (cc e)
-    list_wants n v None h ts q e = absurd (cc e)
+    list_wants n v (Some ahead_form) h ts q e = lacks e
+    list_wants n v (Some behind_form) h ts q e = lacks e
+    list_wants n v None h ts q e = lacks e
 
 written_origin : (m : Name) (k : ℕ) (o : Origin) → is_written m k o ≡ true → o ≡ written m k
 written_origin m k (written n j) e =
@@ -200,7 +203,7 @@ stand_all P n j = let e : j + 0 ≡ j = omega arith in rw e refl
 
 module _ (P : ProductionTable) (m : Name) (k : ℕ) where
   own_serves : (n : Name) (i : ℕ) (qs : List Production) → StandFrom P n i qs → ServesIf P (nonterminal_symbol n) (own_plan n m k i qs) (node m k)
-  own_serves n i [] h q e = absurd (cc e)
+  own_serves n i [] h q e = lacks e
   own_serves n i (p ∷ qs) h q e = at (is_written m k p.origin) refl (own_serves n (suc i) qs (stand_next P n i p qs h) q) e
     where
       at : (b : Bool) → is_written m k p.origin ≡ b → (own_plan n m k (suc i) qs ≡ Some q → Serves P (nonterminal_symbol n) q (node m k)) →
@@ -212,7 +215,7 @@ module _ (P : ProductionTable) (m : Name) (k : ℕ) where
 
   step_serves : (n : Name) (below : Name → Option TreePlan) → ((c : Name) → ServesIf P (nonterminal_symbol c) (below c) (node m k)) →
       (i : ℕ) (qs : List Production) → StandFrom P n i qs → ServesIf P (nonterminal_symbol n) (step n below i qs) (node m k)
-  step_serves n below b i [] h q e = absurd (cc e)
+  step_serves n below b i [] h q e = lacks e
   step_serves n below b i (p ∷ qs) h q e =
       at (is_step p.origin) p.symbols refl refl (step_serves n below b (suc i) qs (stand_next P n i p qs h) q) e
     where
@@ -242,7 +245,7 @@ module _ (P : ProductionTable) (Visited : Name → Type 0) (F : IsFormedIn P Vis
   Wants o = (q : TreePlan) → o ≡ Some q → AreVisited Visited q.wanted
 
   own_wants : (n : Name) → Visited n → (i : ℕ) (qs : List Production) → StandFrom P n i qs → Wants (own_plan n m k i qs)
-  own_wants n v i [] h q e = absurd (cc e)
+  own_wants n v i [] h q e = lacks e
   own_wants n v i (p ∷ qs) h q e = at (is_written m k p.origin) refl (own_wants n v (suc i) qs (stand_next P n i p qs h) q) e
     where
       at : (b : Bool) → is_written m k p.origin ≡ b → (own_plan n m k (suc i) qs ≡ Some q → AreVisited Visited q.wanted) →
@@ -252,7 +255,7 @@ module _ (P : ProductionTable) (Visited : Name → Type 0) (F : IsFormedIn P Vis
 
   step_wants : (n : Name) → Visited n → (below : Name → Option TreePlan) → ((c : Name) → Visited c → Wants (below c)) →
       (i : ℕ) (qs : List Production) → StandFrom P n i qs → Wants (step n below i qs)
-  step_wants n v below b i [] h q e = absurd (cc e)
+  step_wants n v below b i [] h q e = lacks e
   step_wants n v below b i (p ∷ qs) h q e =
       at (is_step p.origin) p.symbols refl (step_wants n v below b (suc i) qs (stand_next P n i p qs h) q) e
     where
@@ -279,12 +282,12 @@ module _ (P : ProductionTable) (Visited : Name → Type 0) (F : IsFormedIn P Vis
 
 -- a plan that fits is the plan, and has a symbol for each tree
 fits : (ts : WrittenTrees) (o : Option TreePlan) (q : TreePlan) → fitting ts o ≡ Some q → (o ≡ Some q) × (is_one_for_each ts q.wanted ≡ true)
-fits ts None q e = absurd (cc e)
+fits ts None q e = lacks e
 fits ts (Some p) q e = at (is_one_for_each ts p.wanted) refl e
   where
     at : (b : Bool) → is_one_for_each ts p.wanted ≡ b → fitting ts (Some p) ≡ Some q → (Some p ≡ Some q) × (is_one_for_each ts q.wanted ≡ true)
     at true w f = let g : Some p ≡ Some q = rw w at f in let same : p ≡ q = cc in (g, rw (← same) w)
-    at false w f = let g : None ≡ Some q = rw w at f in absurd (cc g)
+    at false w f = let g : None ≡ Some q = rw w at f in lacks g
 
 module _ (P : ProductionTable) (Visited : Name → Type 0) where
   -- what a plan makes of children that come back
@@ -299,52 +302,52 @@ module _ (P : ProductionTable) (Visited : Name → Type 0) where
       (r.0, r.1 ∙ ap make b.1)
 
   list_at_serves : IsFormedIn P Visited → (s : LoweredSymbol) → IsVisited Visited s → (ts : WrittenTrees) → ServesIf P s (list_at P s ts) list
-  list_at_serves F (terminal_symbol a) v ts q e = absurd (cc e)
+  list_at_serves F (terminal_symbol a) v ts q e = lacks e
   list_at_serves F (nonterminal_symbol n) v ts q e =
       list_serves P Visited F n v (form_of (P n)) refl ts q (fits ts (list_plan P n (form_of (P n)) ts) q e).0
 
   list_at_wants : IsFormedIn P Visited → (s : LoweredSymbol) → IsVisited Visited s → (ts : WrittenTrees) (q : TreePlan) → list_at P s ts ≡ Some q → AreVisited Visited q.wanted
-  list_at_wants F (terminal_symbol a) v ts q e = absurd (cc e)
+  list_at_wants F (terminal_symbol a) v ts q e = lacks e
   list_at_wants F (nonterminal_symbol n) v ts q e =
       list_wants P Visited F n v (form_of (P n)) refl ts q (fits ts (list_plan P n (form_of (P n)) ts) q e).0
 
   node_at_wants : IsFormedIn P Visited → (fuel : ℕ) (s : LoweredSymbol) → IsVisited Visited s → (m : Name) (k : ℕ) (ts : WrittenTrees) (q : TreePlan) →
       node_at P fuel s m k ts ≡ Some q → AreVisited Visited q.wanted
-  node_at_wants F fuel (terminal_symbol a) v m k ts q e = absurd (cc e)
+  node_at_wants F fuel (terminal_symbol a) v m k ts q e = lacks e
   node_at_wants F fuel (nonterminal_symbol n) v m k ts q e = node_wants P Visited F m k fuel n v q (fits ts (node_plan P fuel n m k) q e).0
 
   list_at_fits : (s : LoweredSymbol) (ts : WrittenTrees) (q : TreePlan) → list_at P s ts ≡ Some q → is_one_for_each ts q.wanted ≡ true
-  list_at_fits (terminal_symbol a) ts q e = absurd (cc e)
+  list_at_fits (terminal_symbol a) ts q e = lacks e
   list_at_fits (nonterminal_symbol n) ts q e = (fits ts (list_plan P n (form_of (P n)) ts) q e).1
 
   node_at_serves : (fuel : ℕ) (s : LoweredSymbol) (m : Name) (k : ℕ) (ts : WrittenTrees) → ServesIf P s (node_at P fuel s m k ts) (node m k)
-  node_at_serves fuel (terminal_symbol a) m k ts q e = absurd (cc e)
+  node_at_serves fuel (terminal_symbol a) m k ts q e = lacks e
   node_at_serves fuel (nonterminal_symbol n) m k ts q e = node_serves P m k fuel n q (fits ts (node_plan P fuel n m k) q e).0
 
   node_at_fits : (fuel : ℕ) (s : LoweredSymbol) (m : Name) (k : ℕ) (ts : WrittenTrees) (q : TreePlan) → node_at P fuel s m k ts ≡ Some q → is_one_for_each ts q.wanted ≡ true
-  node_at_fits fuel (terminal_symbol a) m k ts q e = absurd (cc e)
+  node_at_fits fuel (terminal_symbol a) m k ts q e = lacks e
   node_at_fits fuel (nonterminal_symbol n) m k ts q e = (fits ts (node_plan P fuel n m k) q e).1
 
   nothing_at_serves : IsFormedIn P Visited → (s : LoweredSymbol) → IsVisited Visited s → ServesIf P s (nothing_at P s) (λ _. nothing)
-  nothing_at_serves F (terminal_symbol a) v q e = absurd (cc e)
+  nothing_at_serves F (terminal_symbol a) v q e = lacks e
   nothing_at_serves F (nonterminal_symbol n) v q e = nothing_serves P Visited F n v (form_of (P n)) refl q e
 
   nothing_wants_none : (n : Name) (o : Option Form) (q : TreePlan) → nothing_plan n o ≡ Some q → AreVisited Visited q.wanted
   nothing_wants_none n (Some ahead_form) q e = let same : plan n (flat 0) [] ≡ q = cc in rw (← same) tt
   nothing_wants_none n (Some behind_form) q e = let same : plan n (flat 0) [] ≡ q = cc in rw (← same) tt
-  nothing_wants_none n _ q e = absurd (cc e)
+  nothing_wants_none n _ q e = lacks e
 
   nothing_at_wants : (s : LoweredSymbol) (q : TreePlan) → nothing_at P s ≡ Some q → AreVisited Visited q.wanted
-  nothing_at_wants (terminal_symbol a) q e = absurd (cc e)
+  nothing_at_wants (terminal_symbol a) q e = lacks e
   nothing_at_wants (nonterminal_symbol n) q e = nothing_wants_none n (form_of (P n)) q e
 
   nothing_wants : (n : Name) (o : Option Form) (q : TreePlan) → nothing_plan n o ≡ Some q → is_one_for_each no_trees q.wanted ≡ true
   nothing_wants n (Some ahead_form) q e = let same : plan n (flat 0) [] ≡ q = cc in rw (← same) refl
   nothing_wants n (Some behind_form) q e = let same : plan n (flat 0) [] ≡ q = cc in rw (← same) refl
-  nothing_wants n _ q e = absurd (cc e)
+  nothing_wants n _ q e = lacks e
 
   nothing_at_fits : (s : LoweredSymbol) (q : TreePlan) → nothing_at P s ≡ Some q → is_one_for_each no_trees q.wanted ≡ true
-  nothing_at_fits (terminal_symbol a) q e = absurd (cc e)
+  nothing_at_fits (terminal_symbol a) q e = lacks e
   nothing_at_fits (nonterminal_symbol n) q e = nothing_wants n (form_of (P n)) q e
 
   leaf_back : (fuel : ℕ) (a : Terminal) (s : LoweredSymbol) → shape_faults P fuel (leaf a) s ≡ [] → IsDerivation P (lowered_leaf a) s

@@ -1,5 +1,5 @@
 -- No fault, and derivation trees.
-use Rattle.std.proofs.Common.{◌≡◌, ℕ, ◌+◌, Bool, true, false, List, [], ◌∷◌, ◌++◌, refl, sym, ap, ◌∙◌}
+use Rattle.std.proofs.Common.{◌≡◌, ℕ, ◌+◌, Bool, true, false, true≢false, List, [], ◌∷◌, ◌++◌, refl, sym, ap, ◌∙◌}
 use Rattle.std.specs.Prelude.{slice_get, Option, Some, None}
 use Rattle.lalrpop_norm_theory.specs.Symbols.{Name, Terminal, terminal, reference}
 use Rattle.lalrpop_norm_theory.specs.Same.{same_closed_terminal}
@@ -19,47 +19,50 @@ terminal_found a b e =
 pub leaf_found : (a : Terminal) → is_of (terminal_symbol a) (lowered_leaf a) ≡ true
 leaf_found a = symbol_test.complete (terminal a)
 
+not_empty : {A C : Type 0} (x : A) (xs : List A) → x ∷ xs ≡ [] → C
+not_empty x xs e = absurd (cc e)
+
 pub none_in_front : (fs gs : List Found) → fs ++ gs ≡ [] → fs ≡ []
 none_in_front [] gs e = refl
-none_in_front (f ∷ fs) gs e = cc
+none_in_front (f ∷ fs) gs e = not_empty _ _ e
 
 pub none_behind : (fs gs : List Found) → fs ++ gs ≡ [] → gs ≡ []
 none_behind [] gs e = e
-none_behind (f ∷ fs) gs e = cc
+none_behind (f ∷ fs) gs e = not_empty _ _ e
 
 pub none_raised : (i : ℕ) (fs : List Found) → raised i fs ≡ [] → fs ≡ []
 none_raised i [] e = refl
-none_raised i (f ∷ fs) e = cc
+none_raised i (f ∷ fs) e = not_empty _ _ e
 
 of_symbol : (i : ℕ) (ok : Bool) (below : List Found) → child_faults i ok below ≡ [] → (ok ≡ true) × (below ≡ [])
 of_symbol i true below e = (refl, none_raised i below e)
-of_symbol i false below e = cc
+of_symbol i false below e = not_empty _ _ e
 
 -- a node without a fault has its production, and one child for each symbol
 there : (us : LoweredTrees) (o : Option Production) (below : List LoweredSymbol → List Found) → node_faults us o below ≡ [] →
     (q : Production) × (o ≡ Some q) × (is_one_each us q.symbols ≡ true) × (below q.symbols ≡ [])
-there us None below e = cc
+there us None below e = not_empty _ _ e
 there us (Some q) below e = at (is_one_each us q.symbols) refl e
   where
     at : (b : Bool) → is_one_each us q.symbols ≡ b → node_faults us (Some q) below ≡ [] →
         (r : Production) × (Some q ≡ Some r) × (is_one_each us r.symbols ≡ true) × (below r.symbols ≡ [])
     at true h f = (q, refl, h, rw h at f)
-    at false h f = let g = rw h at f in cc
+    at false h f = not_empty _ _ (rw h at f)
 
 module _ (P : ProductionTable) where
   mutual
     derived : (u : LoweredTree) (s : LoweredSymbol) → is_of s u ≡ true → tree_faults P u ≡ [] → IsDerivation P u s
     derived (lowered_leaf a) (terminal_symbol b) e f = terminal_found b a e
-    derived (lowered_leaf a) (nonterminal_symbol n) e f = cc
-    derived (lowered_node n p us) (terminal_symbol b) e f = cc
+    derived (lowered_leaf a) (nonterminal_symbol n) e f = absurd (true≢false (sym e))
+    derived (lowered_node n p us) (terminal_symbol b) e f = absurd (true≢false (sym e))
     derived (lowered_node n p us) (nonterminal_symbol m) e f =
         let q = there us (slice_get (P n) p) (λ ss. children_faults P us ss 0) f in
         (ap nonterminal_symbol (text_sound m n e), q.0, q.1, all_derived us q.0.symbols 0 q.2 q.3)
 
     all_derived : (us : LoweredTrees) (ss : List LoweredSymbol) (i : ℕ) → is_one_each us ss ≡ true → children_faults P us ss i ≡ [] → AreDerivations P us ss
     all_derived no_lowered [] i e f = tt
-    all_derived no_lowered (s ∷ ss) i e f = cc
-    all_derived (lowered_and u us) [] i e f = cc
+    all_derived no_lowered (s ∷ ss) i e f = absurd (true≢false (sym e))
+    all_derived (lowered_and u us) [] i e f = absurd (true≢false (sym e))
     all_derived (lowered_and u us) (s ∷ ss) i e f =
         let front = of_symbol i (is_of s u) (tree_faults P u) (none_in_front (child_faults i (is_of s u) (tree_faults P u)) (children_faults P us ss (i + 1)) f) in (
           derived u s front.0 front.1,
@@ -83,12 +86,12 @@ module _ (P : ProductionTable) where
         (rest.0, rw (here.0, here.1, rest.1) refl)
 
 whole : (roots : Name → Bool) (P : ProductionTable) (u : LoweredTree) → explain_faults roots P u ≡ [] → IsRootedTree roots P u
-whole roots P (lowered_leaf a) e = cc
+whole roots P (lowered_leaf a) e = not_empty _ _ e
 whole roots P (lowered_node n p us) e = at (roots n) refl e
   where
     at : (b : Bool) → roots n ≡ b → explain_faults roots P (lowered_node n p us) ≡ [] → IsRootedTree roots P (lowered_node n p us)
     at true h f = (n, h, derived P (lowered_node n p us) (nonterminal_symbol n) (text_same n) (rw h at f))
-    at false h f = let g = rw h at f in cc
+    at false h f = not_empty _ _ (rw h at f)
 
 back : (roots : Name → Bool) (P : ProductionTable) (u : LoweredTree) → IsRootedTree roots P u → explain_faults roots P u ≡ []
 back roots P (lowered_leaf a) (n, r, d) = cc

@@ -10,3 +10,6 @@ pub mod Examples
 pub mod WaySteps
 pub mod Lowered
 pub mod Calls
+pub mod TreeSizes
+pub mod ShapeSteps
+pub mod Origins

@@ -17,7 +17,7 @@ use Rattle.lalrpop_norm_explain.specs.Derivations.{tree_symbol, symbols_view}
 use Rattle.lalrpop_norm_explain.specs.Trees.{lowered_view, lowered_trees_of, written_view, written_views}
 use Rattle.lalrpop_norm_explain.specs.Forms.{Form, group_form, star_form, plus_form, question_form, times_form, ahead_form, behind_form, form_of}
 use Rattle.lalrpop_norm_explain.specs.Plans.{plan_under, fitting, is_one_for_each, each, plus_plan, stepped, most_steps, step_pair}
-use Rattle.lalrpop_norm_explain.specs.TreeLowering.{plan_faults, plan_tree, shape_faults, shapes_faults, lowered_by, each_lowered, plus_faults, plus_lowered, begun_by, lower_faults}
+use Rattle.lalrpop_norm_explain.specs.TreeLowering.{plan_faults, plan_tree, shape_faults, shapes_faults, lowered_by, each_lowered, plus_faults, plus_lowered, one_more, begun_by, lower_faults}
 use Rattle.lalrpop_norm_explain.proofs.NoFault.{one_for_each}
 
 -- ---- numbers of trees
@@ -166,6 +166,10 @@ abbrev pub leaned : Name → Option LoweredTree → LoweredTrees → LoweredTree
 leaned n None us = left_leaning (λ _. n) lookahead us
 leaned n (Some u) us = extended (λ _. n) lookahead u us
 
+pub leaned_more : (n : Name) (o : Option LoweredTree) (x : LoweredTree) (us : LoweredTrees) → extended (λ _. n) lookahead (one_more n o x) us ≡ leaned n o (lowered_and x us)
+leaned_more n None x us = refl
+leaned_more n (Some u) x us = refl
+
 stepped_last : (ss : List (Name × ℕ)) (s : Name × ℕ) (u : LoweredTree) → stepped (ss ++ s ∷ []) u ≡ stepped ss (lowered_node s.0 s.1 (lowered_and u no_lowered))
 stepped_last [] s u = refl
 stepped_last (r ∷ ss) s u = ap (λ v. lowered_node r.0 r.1 (lowered_and v no_lowered)) (stepped_last ss s u)
@@ -173,6 +177,10 @@ stepped_last (r ∷ ss) s u = ap (λ v. lowered_node r.0 r.1 (lowered_and v no_l
 pub built_on : (rest : List (NonterminalString × ℕ)) (s : NonterminalString × ℕ) (u : LoweredTree) →
     stepped (reverse (map step_pair (s ∷ rest))) u ≡ stepped (reverse (map step_pair rest)) (lowered_node s.0.0 s.1 (lowered_and u no_lowered))
 built_on rest s u = rw (reverse-cons (step_pair s) (map step_pair rest)) (stepped_last (reverse (map step_pair rest)) (step_pair s) u)
+
+pub empty_list : {X : Type 0} (xs : List X) → length xs ≡ 0 → xs ≡ []
+empty_list [] e = refl
+empty_list (x ∷ xs) e = absurd (omega arith)
 
 -- ---- the root
 

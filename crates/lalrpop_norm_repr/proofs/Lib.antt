@@ -7,3 +7,5 @@ pub mod NominalViews
 pub mod SameGrammars
 pub mod SameTables
 pub mod RowOrder
+pub mod WriteSteps
+pub mod TypeNames

@@ -1,6 +1,6 @@
 -- The texts of several things, one after another.
-use Rattle.std.proofs.Common.{◌≡◌, ℕ, List, [], ◌∷◌, ◌++◌, ◌≤◌, length, take, map, refl, ap, ◌∙◌}
-use Rattle.std.proofs.lemmas.List.{take_all}
+use Rattle.std.proofs.Common.{◌≡◌, ℕ, List, [], ◌∷◌, ◌++◌, ◌≤◌, ◌<◌, ◌+◌, length, get_or, take, map, refl, ap, sym, ◌∙◌}
+use Rattle.std.proofs.lemmas.List.{take_all, take_more, flat_map_more}
 use Rattle.std.specs.List.{flat_map, zip}
 use Rattle.lalrpop_norm_tree_names.specs.Texts.{joined}
 use Rattle.lalrpop_norm_tree_parts.proofs.KnownTextLemmas.{map_twice}
@@ -26,3 +26,8 @@ pub joined_pairs : {A B C D : Type 0} (f : A → C) (g : B → D) (text : C × D
     → xs ≡ x ∷ others → ys ≡ y ∷ rest → text (f x, g y) ++ flat_map (λ p. separator ++ text p) (zip (map f others) (map g rest)) ≡ joined separator (map text (zip (map f xs) (map g ys)))
 joined_pairs f g text separator xs ys x others y rest e h =
     rw (e, h) (ap (λ t. text (f x, g y) ++ t) (texts_of_each text separator (zip (map f others) (map g rest))))
+
+-- one text more
+pub one_more_text : {A : Type 0} (text : A → List ℕ) (xs : List A) (i : ℕ) (x : A) → i < length xs → x ≡ get_or xs i x → flat_map text (take i xs) ++ text x ≡ flat_map text (take (i + 1) xs)
+one_more_text text xs i x within is =
+    flat_map_more text [] (take i xs) x ∙ ap (λ ys. flat_map text ys) (ap (λ y. take i xs ++ y ∷ []) is ∙ sym (take_more xs i x within))

@@ -4,3 +4,6 @@ pub mod GlobalLemmas
 pub mod ResolvedFaults
 pub mod NewNameLemmas
 pub mod ArgumentLemmas
+pub mod SymbolSizes
+pub mod InPlace
+pub mod KindSteps

@@ -2,6 +2,7 @@
 use Rattle.std.proofs.Common.{◌≡◌, ◌≤◌, ◌<◌, ◌+◌, ◌&&◌, ℕ, Bool, true, false, cond, length, drop, get_or, List, [], ◌∷◌, ◌++◌, Option, Some, None, bytes_eq, append_assoc, append-nil, refl, sym, ap, ◌∙◌, subst, arith}
 use Rattle.std.specs.Prelude.{is_some, is_none, option_map}
 use Rattle.std.specs.HashSet.{HashSet, contains}
+use Rattle.std.specs.List.{list_any}
 use Rattle.std.proofs.Math.Path.{fun_ext}
 use Rattle.std.proofs.lemmas.Bool.{and_parts}
 use Rattle.std.proofs.lemmas.Slice.Eq.{bytes_eq-Decides}
@@ -139,6 +140,10 @@ all_once ds ns none new =
     known q h = not_defined ds q (by q (definition_of ds q) refl h)
 
 -- ---- names that are read
+
+-- before that the table is as it was
+pub none_made : (rows : NameRows) (made : HashSet Atom Seeded) → made.keys ≡ [] → with_made rows made ≡ rows
+none_made rows made e = fun_ext (λ q. ap (λ (ks : List Atom). cond (list_any (bytes_eq q) ks) (Some Rule) (rows q)) e)
 
 -- a name that is read is in the table from then on
 made_added : (rows : NameRows) (old new : HashSet Atom Seeded) (n : List ℕ) →

@@ -17,6 +17,14 @@ faults_more rows (x ∷ xs) ys =
     let next = with_def rows x.name (def_of x.definition) in
     ap (λ fs. row_faults rows x.name x.span ++ fs) (faults_more next xs ys) ∙ sym (append_assoc (row_faults rows x.name x.span) (rows_faults next xs) _)
 
+-- the same where the first of them were added already
+module _ (old new : NameRows) (xs ys : List Global) (added : new ≡ with_all old xs) where
+  pub rows_on : with_all old (xs ++ ys) ≡ with_all new ys
+  rows_on = rows_more old xs ys ∙ ap (λ rs. with_all rs ys) (sym added)
+
+  pub faults_on : rows_faults old xs ≡ [] → rows_faults old (xs ++ ys) ≡ rows_faults new ys
+  faults_on none = faults_more old xs ys ∙ ap (λ fs. fs ++ rows_faults (with_all old xs) ys) none ∙ ap (λ rs. rows_faults rs ys) (sym added)
+
 -- A loop that adds the definitions of each element: one step, and the exit by `?`. All are those of the elements in a row.
 module _ {X : Type 0} (all : List X → List Global) (each : X → List Global) (split : (y : X) (ys : List X) → all (y ∷ ys) ≡ each y ++ all ys)
     (xs : List X) (i : ℕ) (x : X) (old new : NameRows) (lt : i < length xs) (is : x ≡ get_or xs i x) where

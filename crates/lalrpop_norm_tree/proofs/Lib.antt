@@ -1,6 +1,13 @@
 pub mod SymbolViews
+pub mod KindLevels
+pub mod SymbolSizes
+pub mod SymbolCopies
 pub mod TerminalLemmas
 pub mod TextLemmas
 pub mod FirstLemmas
+pub mod TypeViews
+pub mod TypeSizes
 pub mod TypeLemmas
+pub mod TypeCopies
+pub mod LoweredKinds
 pub mod WrittenTextLemmas

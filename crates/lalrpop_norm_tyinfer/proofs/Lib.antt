@@ -1,1 +1,4 @@
 mod ChosenLemmas
+mod AgreementLemmas
+mod RoundStarts
+mod Loops

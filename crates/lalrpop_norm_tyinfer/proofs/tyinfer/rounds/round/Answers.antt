@@ -1,8 +1,11 @@
-use Rattle.std.proofs.Common.{◌≡◌, ◌<◌, length, map, sym, subst, arith}
+use Rattle.std.proofs.Common.{◌<◌, length, map, sym, subst, arith}
 use Rattle.std.proofs.lemmas.List.{length-map}
 use Rattle.lalrpop_norm_tyinfer_table.specs.Visits.{rule_seen}
 use Rattle.lalrpop_norm_tyinfer_table.proofs.NumberedRounds.{number_of, still_numbered}
 use Rattle.lalrpop_norm_tyinfer_table.proofs.RoundLemmas.{midway_next, midway_passes, rule_there}
+use Rattle.lalrpop_norm_tyinfer_table.specs.Numbered.{numbered_table}
+use Rattle.std.proofs.lemmas.Result.{IfOk-from_err}
+use Rattle.lalrpop_norm_tyinfer.proofs.RoundStarts.{midway_first, waits_next, fewer_left}
 use Rattle.lalrpop_norm_tyinfer.proofs.tyinfer.rounds.round.Goals as goal
 
 pub step-requires-clause-within : goal.step-requires-clause-within
@@ -43,3 +46,49 @@ pub returns-clause-passes : goal.returns-clause-passes
 returns-clause-passes c =
     let none = rw c.in_default.is at c.take_least.ensures in
     midway_passes _ _ _ _ _ _ _ _ c.loop-place.invariant.midway none
+
+pub loop-place-init : goal.loop-place-init
+loop-place-init c = record {
+  midway = midway_first c.args.parameters.now (numbered_table c.args.types.now) (map rule_seen c.args.rules.now) c.args.stops.now c.args.now.now c.new-next.result c.requires.watches c.requires.waits c.new-next.ensures;
+  numbered = c.requires.numbered;
+}
+
+pub bounds-rules-place : goal.bounds-rules-place
+bounds-rules-place c =
+    subst (λ n. c.in-Some.place < n) (length-map c.args.rules.now rule_seen) (c.loop-place.invariant.midway.within_now c.in-Some.place c.in-Some.ensures.there)
+
+pub loop-place-smaller : goal.loop-place-smaller
+loop-place-smaller c =
+    let low = c.loop-place.invariant.midway.ahead c.in-Some.place c.in-Some.ensures.there in
+    fewer_left (length c.args.rules.now) c.loop-place.from c.in-Some.place low
+    (subst (λ n. c.in-Some.place < n) (length-map c.args.rules.now rule_seen) (c.loop-place.invariant.midway.within_now c.in-Some.place c.in-Some.ensures.there))
+
+pub step-requires-clause-sound : goal.step-requires-clause-sound
+step-requires-clause-sound c = c.loop-place.invariant.midway.watches.sound
+
+pub returns-clause-numbered : goal.returns-clause-numbered
+returns-clause-numbered c = c.loop-place.invariant.numbered
+
+pub returns-clause-waits : goal.returns-clause-waits
+returns-clause-waits c =
+    let none = rw c.in_default.is at c.take_least.ensures in
+    waits_next _ _ _ _ _ _ _ _ c.loop-place.invariant.midway none
+
+pub returns-clause-watches : goal.returns-clause-watches
+returns-clause-watches c = c.loop-place.invariant.midway.watches
+
+pub returns-in_err-ready : goal.returns-in_err-ready
+returns-in_err-ready c = record {
+  numbered = IfOk-from_err _ _ c.from_residual.ensures.0;
+  passes = IfOk-from_err _ _ c.from_residual.ensures.0;
+  waits = IfOk-from_err _ _ c.from_residual.ensures.0;
+  watches = IfOk-from_err _ _ c.from_residual.ensures.0;
+}
+
+pub returns-in_err-wake : goal.returns-in_err-wake
+returns-in_err-wake c = record {
+  numbered = IfOk-from_err _ _ c.from_residual-in_err-wake.ensures.0;
+  passes = IfOk-from_err _ _ c.from_residual-in_err-wake.ensures.0;
+  waits = IfOk-from_err _ _ c.from_residual-in_err-wake.ensures.0;
+  watches = IfOk-from_err _ _ c.from_residual-in_err-wake.ensures.0;
+}
