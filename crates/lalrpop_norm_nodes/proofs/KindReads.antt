@@ -1,69 +1,81 @@
--- What is read of a kind of symbol, told of its view.
-use Rattle.std.proofs.Common.{◌≡◌, ℕ, List, [], Bool, true, false, Result, Ok, Err, map, None, Option, option_map, sym, ap, ◌∙◌, subst}
+-- What is told of a kind of symbol that was read: what it met, what stands in its place, and its node.
+use Rattle.std.proofs.Common.{◌≡◌, ℕ, List, [], Bool, true, false, Result, Ok, Err, Box, Global, map, None, Option, Some, option_map, refl, sym, ap, ap₂, ◌∙◌, subst}
 use Rattle.std.specs.Result.{IfOk, OnOk, IsErrAnd}
 use Rattle.lalrpop_norm_faults.specs.declared.failure.NormFailure.{NormFailure}
 use Rattle.lalrpop_norm_faults.specs.Faults.{IsFirst, Refuses}
+use Rattle.lalrpop_norm_tree_names.specs.declared.names.NonterminalString.{NonterminalString}
+use Rattle.lalrpop_norm_tree_names.specs.declared.names.TerminalString.{TerminalString}
+use Rattle.lalrpop_norm_tree.specs.declared.symbol.ArgPattern.{ArgPattern}
 use Rattle.lalrpop_norm_tree.specs.declared.symbol.Name.{Name}
 use Rattle.lalrpop_norm_tree.specs.declared.symbol.RepeatOp.{RepeatOp}
 use Rattle.lalrpop_norm_tree.specs.declared.symbol.RepeatOp.TheVariants.{Star, Plus, Question, Times}
+use Rattle.lalrpop_norm_tree.specs.declared.symbol.RepeatSymbol.{RepeatSymbol}
 use Rattle.lalrpop_norm_tree.specs.declared.symbol.Symbol.{Symbol}
-use Rattle.lalrpop_norm_tree.specs.Symbols.{Kind, Part, Parts, at, nonterminal, chosen, named, repeated, kind_view, symbol_view}
+use Rattle.lalrpop_norm_tree.specs.declared.symbol.SymbolKind.{SymbolKind}
+use Rattle.lalrpop_norm_tree.specs.declared.symbol.SymbolKind.TheVariants as kind
+use Rattle.lalrpop_norm_tree.specs.declared.symbol.Tuple.{Tuple}
+use Rattle.lalrpop_norm_tree.specs.Symbols.{Kind, Part, at, ambiguous_id, terminal, nonterminal, chosen, named, repeated, tupled, lookahead, lookbehind, error_terminal, kind_view, symbol_view, tuple_view, argument_pattern_view}
+use Rattle.lalrpop_norm_tree.proofs.SymbolViews.{ambiguous_seen, nonterminal_seen, terminal_seen}
 use Rattle.lalrpop_norm_model.specs.MadeRules.{or_name}
-use Rattle.lalrpop_norm_model.specs.PlainRules.{met, all_met}
-use Rattle.lalrpop_norm_model.specs.Replaced.{all_replaced}
 use Rattle.lalrpop_norm_nodes.specs.Apart.{nowhere, unplaced, unplaced_kind}
 use Rattle.lalrpop_norm_nodes.specs.declared.given.Environment.{Environment}
 use Rattle.lalrpop_norm_nodes.specs.declared.given.Given.{Given}
 use Rattle.lalrpop_norm_nodes.specs.declared.node.Node.{Node}
 use Rattle.lalrpop_norm_nodes.specs.declared.node.Node.TheVariants as node
+use Rattle.lalrpop_norm_nodes.specs.declared.node.Binary.TheVariants as binary
+use Rattle.lalrpop_norm_nodes.specs.declared.node.Leaf.TheVariants as leaf
 use Rattle.lalrpop_norm_nodes.specs.declared.node.NamedLeaf.TheVariants.{Rule}
 use Rattle.lalrpop_norm_nodes.specs.declared.node.Unary.TheVariants as unary
 use Rattle.lalrpop_norm_nodes.specs.declared.table.Table.{Table}
-use Rattle.lalrpop_norm_nodes.specs.Filled.{filled_kind, all_filled, inside_replaced}
-use Rattle.lalrpop_norm_nodes.specs.Given.{given_to, whole_for, shown_for, read_whole, kind_whole, read_shown, kind_shown}
+use Rattle.lalrpop_norm_nodes.specs.Filled.{filled_kind, inside_replaced}
+use Rattle.lalrpop_norm_nodes.specs.Given.{given_to, whole_for, shown_for, read_whole, kind_whole, kind_shown}
 use Rattle.lalrpop_norm_nodes.specs.Meeting.{met_inside}
 use Rattle.lalrpop_norm_nodes.specs.Readings.{IsNodeFor, repeat_node, named_node}
 use Rattle.lalrpop_norm_nodes.specs.Tables.{wholes_in, IsNodeTable, IsCounted, TableMeets, refused_in}
-use Rattle.lalrpop_norm_nodes.specs.Waits.{parts_replaced, shown_met, LeavesWaiting}
-use Rattle.lalrpop_norm_nodes.specs.Wholes.{Whole, one_symbol, as_kind, kind_at, part_at, StandsFor}
+use Rattle.lalrpop_norm_nodes.specs.Waits.{parts_replaced, LeavesWaiting}
+use Rattle.lalrpop_norm_nodes.specs.Wholes.{Whole, one_symbol, patterns, as_kind, kind_at, part_at, StandsFor}
+use Rattle.lalrpop_norm_nodes.proofs.InsideReads.{tupled_seen, tuple_for}
+use Rattle.lalrpop_norm_nodes.proofs.KindsSeen.{again_seen, chosen_seen, named_seen, lookahead_seen, lookbehind_seen, error_seen}
+use Rattle.lalrpop_norm_nodes.proofs.MeetingLemmas.{err_refuses}
 use Rattle.lalrpop_norm_nodes.proofs.MeetLemmas.{meets_nothing}
 use Rattle.lalrpop_norm_nodes.proofs.ReadLemmas.{read_at}
 use Rattle.lalrpop_norm_nodes.proofs.RowItems.{is_kind}
-use Rattle.lalrpop_norm_nodes.proofs.WaitLemmas.{waits_nothing}
+use Rattle.lalrpop_norm_nodes.proofs.RowReads.{meets_row, counted_row}
+use Rattle.lalrpop_norm_nodes.proofs.RowRounds.{RowEntered}
+use Rattle.lalrpop_norm_nodes.proofs.SymbolReads.{SymbolRead, RepeatRead}
+use Rattle.lalrpop_norm_nodes.proofs.WaitLemmas.{waits_nothing, waits_row}
 
-abbrev pub KindRead : Result Node NormFailure → Table → Table → Environment → Kind → Kind → Type 0
-KindRead r a b e k now = record {
-  refuses : Refuses r (refused_in a (met_inside (kind_whole (wholes_in a) e k)));
-  meets : OnOk r (TableMeets a b (met_inside (kind_whole (wholes_in a) e k)));
+-- these were met, and these are where they wait
+abbrev pub NodeRead : Result Node NormFailure → Table → Table → List Part → List Part → Type 0 → (Node → Type 0) → Type 0
+NodeRead r a b xs ys Now Is = record {
+  refuses : Refuses r (refused_in a xs);
+  meets : OnOk r (TableMeets a b xs);
   counted : OnOk r (IsCounted b);
-  waits : OnOk r (LeavesWaiting a b (map parts_replaced (met_inside (filled_kind (shown_for e) k))));
-  value : OnOk r (now ≡ kind_shown e k);
-  node : IfOk r (λ n. IsNodeFor (wholes_in b) n (kind_whole (wholes_in a) e k));
+  waits : OnOk r (LeavesWaiting a b ys);
+  value : OnOk r Now;
+  node : IfOk r Is;
 }
-
--- the same of what is seen as that kind
-pub read_as : (r : Result Node NormFailure) (a b : Table) (e : Environment) (k l now : Kind) → k ≡ l → KindRead r a b e l now → KindRead r a b e k now
-read_as r a b e k l now is h = subst (λ (x : Kind). KindRead r a b e x now) (sym is) h
-
-pub first_inside : (a : Table) (e : Environment) (k l : Kind) (x : NormFailure) → k ≡ l → IsFirst (refused_in a (met_inside (kind_whole (wholes_in a) e l))) x →
-    IsFirst (refused_in a (met_inside (kind_whole (wholes_in a) e k))) x
-first_inside a e k l x is h = subst (λ (m : Kind). IsFirst (refused_in a (met_inside (kind_whole (wholes_in a) e m))) x) (sym is) h
 
 -- an error is handed on
-pub refused_read : (r : Result Node NormFailure) (a b : Table) (e : Environment) (k now : Kind) (x : NormFailure) → IsErrAnd r (λ y. y ≡ x) →
-    IsFirst (refused_in a (met_inside (kind_whole (wholes_in a) e k))) x → KindRead r a b e k now
-refused_read (Ok n) a b e k now x from h = absurd from
-refused_read (Err y) a b e k now x from h = record {
-  refuses = subst (λ (z : NormFailure). IsFirst (refused_in a (met_inside (kind_whole (wholes_in a) e k))) z) (sym from) h;
-  meets = tt;
-  counted = tt;
-  waits = tt;
-  value = tt;
-  node = tt;
-}
+pub refused_node : (r : Result Node NormFailure) (a b : Table) (xs ys : List Part) (Now : Type 0) (Is : Node → Type 0) (f : NormFailure) → IsErrAnd r (λ g. g ≡ f) → IsFirst (refused_in a xs) f →
+    NodeRead r a b xs ys Now Is
+refused_node (Ok n) a b xs ys Now Is f from h = absurd from
+refused_node (Err g) a b xs ys Now Is f from h = record { refuses = err_refuses {T = Node} (Err g) f _ from h; meets = tt; counted = tt; waits = tt; value = tt; node = tt }
 
--- a symbol with nothing inside
-pub leaf_read : (t : Table) (e : Environment) (k l now : Kind) (n : Node) → IsNodeTable t → IsCounted t → k ≡ l → met_inside (kind_whole (wholes_in t) e l) ≡ [] → met_inside (filled_kind (shown_for e) l) ≡ [] →
+abbrev pub KindRead : Result Node NormFailure → Table → Table → Environment → Kind → Kind → Type 0
+KindRead r a b e k now = NodeRead r a b (met_inside (kind_whole (wholes_in a) e k)) (map parts_replaced (met_inside (filled_kind (shown_for e) k))) (now ≡ kind_shown e k)
+    (λ n. IsNodeFor (wholes_in b) n (kind_whole (wholes_in a) e k))
+
+pub refused_kind : (r : Result Node NormFailure) (a b : Table) (e : Environment) (k l now : Kind) (f : NormFailure) → IsErrAnd r (λ g. g ≡ f) → k ≡ l →
+    IsFirst (refused_in a (met_inside (kind_whole (wholes_in a) e l))) f → KindRead r a b e k now
+refused_kind r a b e k l now f from is h = refused_node r a b _ _ _ _ f from (subst (λ (m : Kind). IsFirst (refused_in a (met_inside (kind_whole (wholes_in a) e m))) f) (sym is) h)
+
+-- the same of what is seen as that kind
+read_as : (r : Result Node NormFailure) (a b : Table) (e : Environment) (k l now : Kind) → k ≡ l → KindRead r a b e l now → KindRead r a b e k now
+read_as r a b e k l now is h = subst (λ (x : Kind). KindRead r a b e x now) (sym is) h
+
+-- ---- a symbol with nothing inside
+leaf_read : (t : Table) (e : Environment) (k l now : Kind) (n : Node) → IsNodeTable t → IsCounted t → k ≡ l → met_inside (kind_whole (wholes_in t) e l) ≡ [] → met_inside (filled_kind (shown_for e) l) ≡ [] →
     now ≡ kind_shown e l → IsNodeFor (wholes_in t) n (kind_whole (wholes_in t) e l) → KindRead (Ok n) t t e k now
 leaf_read t e k l now n table counted is none shown same for = read_as (Ok n) t t e k l now is (record {
   refuses = ap (refused_in t) none;
@@ -75,7 +87,7 @@ leaf_read t e k l now n table counted is none shown same for = read_as (Ok n) t 
 })
 
 -- a name that is no argument's
-pub free_read : (t : Table) (e : Environment) (k now : Kind) (a n : List ℕ) → IsNodeTable t → IsCounted t → given_to e k ≡ None → k ≡ nonterminal n → now ≡ nonterminal n → a ≡ n →
+free_read : (t : Table) (e : Environment) (k now : Kind) (a n : List ℕ) → IsNodeTable t → IsCounted t → given_to e k ≡ None → k ≡ nonterminal n → now ≡ nonterminal n → a ≡ n →
     KindRead (Ok (node.NamedLeaf Rule a)) t t e k now
 free_read t e k now a n table counted free is same text = leaf_read t e k (nonterminal n) now (node.NamedLeaf Rule a) table counted is
     (ap met_inside whole) (ap met_inside shown) (same ∙ sym (ap inside_replaced shown)) (tt, ap (λ (x : List ℕ). one_symbol (nonterminal x)) text ∙ sym (ap (λ (l : Kind). one_symbol (unplaced_kind l)) whole))
@@ -89,70 +101,107 @@ free_read t e k now a n table counted free is same text = leaf_read t e k (nonte
     shown : filled_kind (shown_for e) (nonterminal n) ≡ nonterminal n
     shown = ap (λ (o : Option Given). or_name n (option_map (λ g. kind_view g.symbol.kind) o)) none
 
+module _ (a : Table) (e : Environment) (k : SymbolKind) (table : IsNodeTable a) (made : IsCounted a) where
+  pub lookahead_read : k ≡ kind.Lookahead → KindRead (Ok (node.Leaf leaf.Lookahead)) a a e (kind_view k) (kind_view k)
+  lookahead_read is =
+      let seen = ap kind_view is ∙ lookahead_seen in
+      leaf_read a e (kind_view k) lookahead (kind_view k) (node.Leaf leaf.Lookahead) table made seen refl refl seen (tt, refl)
+
+  pub lookbehind_read : k ≡ kind.Lookbehind → KindRead (Ok (node.Leaf leaf.Lookbehind)) a a e (kind_view k) (kind_view k)
+  lookbehind_read is =
+      let seen = ap kind_view is ∙ lookbehind_seen in
+      leaf_read a e (kind_view k) lookbehind (kind_view k) (node.Leaf leaf.Lookbehind) table made seen refl refl seen (tt, refl)
+
+  pub error_read : k ≡ kind.Error → KindRead (Ok (node.Leaf leaf.Error)) a a e (kind_view k) (kind_view k)
+  error_read is =
+      let seen = ap kind_view is ∙ error_seen in
+      leaf_read a e (kind_view k) error_terminal (kind_view k) (node.Leaf leaf.Error) table made seen refl refl seen (tt, refl)
+
+  pub ambiguous_read : (n m : List ℕ) → k ≡ kind.AmbiguousId n → m ≡ n → KindRead (Ok (node.NamedLeaf Rule m)) a a e (kind_view k) (kind_view (kind.AmbiguousId n))
+  ambiguous_read n m is same =
+      leaf_read a e (kind_view k) (ambiguous_id n) (kind_view (kind.AmbiguousId n)) (node.NamedLeaf Rule m) table made (ap kind_view is ∙ ambiguous_seen n) refl refl (ambiguous_seen n)
+      (tt, ap (λ (x : List ℕ). one_symbol (nonterminal x)) same)
+
+  pub terminal_read : (n m : TerminalString) → k ≡ kind.Terminal n → m ≡ n → KindRead (Ok (node.Terminal m)) a a e (kind_view k) (kind_view (kind.Terminal n))
+  terminal_read n m is same =
+      leaf_read a e (kind_view k) (terminal n) (kind_view (kind.Terminal n)) (node.Terminal m) table made (ap kind_view is ∙ terminal_seen n) refl refl (terminal_seen n)
+      (tt, ap (λ (x : TerminalString). one_symbol (terminal x)) same)
+
+  pub nonterminal_read : (n : NonterminalString) (m : List ℕ) → k ≡ kind.Nonterminal n → given_to e (kind_view k) ≡ None → m ≡ n.0 →
+      KindRead (Ok (node.NamedLeaf Rule m)) a a e (kind_view k) (kind_view (kind.Nonterminal n))
+  nonterminal_read n m is free same =
+      free_read a e (kind_view k) (kind_view (kind.Nonterminal n)) m n.0 table made free (ap kind_view is ∙ nonterminal_seen n) (nonterminal_seen n) same
+
 -- ---- nodes of what holds one symbol
 
 module _ (ws vs : List Whole) (e : Environment) (s : Symbol) (n : ℕ) (h : StandsFor vs n (one_symbol (unplaced_kind (kind_whole ws e (kind_view s.kind))))) where
   held : part_at vs n ≡ unplaced (read_whole ws e (symbol_view s))
   held = ap (λ o. at nowhere (as_kind o)) h ∙ sym (ap unplaced (read_at ws e s))
 
-  pub chosen_for : IsNodeFor vs (node.Unary unary.Chosen n) (kind_whole ws e (chosen (symbol_view s)))
+  chosen_for : IsNodeFor vs (node.Unary unary.Chosen n) (kind_whole ws e (chosen (symbol_view s)))
   chosen_for = (is_kind vs n _ h, ap (λ (p : Part). one_symbol (chosen p)) held)
 
-  pub repeated_for : (op : RepeatOp) → IsNodeFor vs (repeat_node op n) (kind_whole ws e (repeated op (symbol_view s)))
+  repeated_for : (op : RepeatOp) → IsNodeFor vs (repeat_node op n) (kind_whole ws e (repeated op (symbol_view s)))
   repeated_for Star = (is_kind vs n _ h, ap (λ (p : Part). one_symbol (repeated Star p)) held)
   repeated_for Plus = (is_kind vs n _ h, ap (λ (p : Part). one_symbol (repeated Plus p)) held)
   repeated_for Question = (is_kind vs n _ h, ap (λ (p : Part). one_symbol (repeated Question p)) held)
   repeated_for (Times c) = (is_kind vs n _ h, ap (λ (p : Part). one_symbol (repeated (Times c) p)) held)
 
-  pub named_for : (a : Name) → IsNodeFor vs (named_node a n) (kind_whole ws e (named a (symbol_view s)))
+  named_for : (a : Name) → IsNodeFor vs (named_node a n) (kind_whole ws e (named a (symbol_view s)))
   named_for a = by a.mutable a.name
     where
       by : (m : Bool) (x : List ℕ) → IsNodeFor vs (named_node (record { mutable = m; name = x }) n) (kind_whole ws e (named (record { mutable = m; name = x }) (symbol_view s)))
       by true x = (is_kind vs n _ h, ap (λ (p : Part). one_symbol (named (record { mutable = true; name = x }) p)) held)
       by false x = (is_kind vs n _ h, ap (λ (p : Part). one_symbol (named (record { mutable = false; name = x }) p)) held)
 
--- ---- the same of one symbol, and of symbols in a row
+module _ (a b : Table) (e : Environment) (k : SymbolKind) where
+  pub chosen_read : (s now : Box Symbol Global) (n : ℕ) → k ≡ kind.Choose s → SymbolRead (Ok n) a b e s.value (symbol_view now.value) →
+      KindRead (Ok (node.Unary unary.Chosen n)) a b e (kind_view k) (kind_view (kind.Choose now))
+  chosen_read s now n is r = read_as (Ok (node.Unary unary.Chosen n)) a b e (kind_view k) (chosen (symbol_view s.value)) (kind_view (kind.Choose now)) (ap kind_view is ∙ chosen_seen s) (record {
+    refuses = r.refuses;
+    meets = r.meets;
+    counted = r.counted;
+    waits = r.waits;
+    value = chosen_seen now ∙ ap chosen r.value;
+    node = chosen_for (wholes_in a) (wholes_in b) e s.value n r.number;
+  })
 
-abbrev pub SymbolRead : Result ℕ NormFailure → Table → Table → Environment → Symbol → Part → Type 0
-SymbolRead r a b e s now = record {
-  refuses : Refuses r (refused_in a (met (read_whole (wholes_in a) e (symbol_view s))));
-  meets : OnOk r (TableMeets a b (met (read_whole (wholes_in a) e (symbol_view s))));
-  counted : OnOk r (IsCounted b);
-  waits : OnOk r (LeavesWaiting a b (shown_met e (symbol_view s)));
-  value : OnOk r (now ≡ read_shown e (symbol_view s));
-  number : IfOk r (λ i. StandsFor (wholes_in b) i (one_symbol (unplaced_kind (kind_whole (wholes_in a) e (kind_view s.kind)))));
-}
+  pub named_read : (x : Name) (s now : Box Symbol Global) (n : ℕ) (m : Node) → k ≡ kind.Name x s → m ≡ named_node x n → SymbolRead (Ok n) a b e s.value (symbol_view now.value) →
+      KindRead (Ok m) a b e (kind_view k) (kind_view (kind.Name x now))
+  named_read x s now n m is same r = read_as (Ok m) a b e (kind_view k) (named x (symbol_view s.value)) (kind_view (kind.Name x now)) (ap kind_view is ∙ named_seen x s) (record {
+    refuses = r.refuses;
+    meets = r.meets;
+    counted = r.counted;
+    waits = r.waits;
+    value = named_seen x now ∙ ap (named x) r.value;
+    node = subst (λ (o : Node). IsNodeFor (wholes_in b) o (kind_whole (wholes_in a) e (named x (symbol_view s.value)))) (sym same) (named_for (wholes_in a) (wholes_in b) e s.value n r.number x);
+  })
 
-pub symbol_as : (r : Result ℕ NormFailure) (a b : Table) (e : Environment) (s t : Symbol) (now : Part) → s ≡ t → SymbolRead r a b e s now → SymbolRead r a b e t now
-symbol_as r a b e s t now is h = subst (λ (x : Symbol). SymbolRead r a b e x now) is h
+  pub tuple_read : (d : Table) (x : Tuple) (ps : List ArgPattern) (s now : Box Symbol Global) (n i : ℕ) → k ≡ kind.Tuple x s → ps ≡ x.tuples.items →
+      SymbolRead (Ok n) a b e s.value (symbol_view now.value) → RowEntered b d i (patterns (map argument_pattern_view ps)) →
+      KindRead (Ok (node.Binary binary.Tuple i n)) a d e (kind_view k) (kind_view (kind.Tuple x now))
+  tuple_read d x ps s now n i is held r m =
+      let l = tupled (tuple_view x) (symbol_view s.value) in
+      read_as (Ok (node.Binary binary.Tuple i n)) a d e (kind_view k) l (kind_view (kind.Tuple x now)) (ap kind_view is ∙ tupled_seen x s) (record {
+        refuses = r.refuses;
+        meets = meets_row a b d _ r.meets m.meets;
+        counted = counted_row b d r.counted m.counted m.meets;
+        waits = waits_row a b d _ r.waits r.meets.table m.meets m.waiting;
+        value = tupled_seen x now ∙ ap (tupled (tuple_view x)) r.value;
+        node = tuple_for (wholes_in a) (wholes_in b) (wholes_in d) e x s.value l i n refl m.meets.grows r.number (m.number ∙ ap (λ (qs : List ArgPattern). Some (patterns (map argument_pattern_view qs))) held);
+      })
 
-pub first_symbol : (a : Table) (e : Environment) (s t : Symbol) (x : NormFailure) → s ≡ t → IsFirst (refused_in a (met (read_whole (wholes_in a) e (symbol_view s)))) x →
-    IsFirst (refused_in a (met (read_whole (wholes_in a) e (symbol_view t)))) x
-first_symbol a e s t x is h = subst (λ (y : Symbol). IsFirst (refused_in a (met (read_whole (wholes_in a) e (symbol_view y)))) x) is h
-
-pub refused_symbol : (r : Result ℕ NormFailure) (a b : Table) (e : Environment) (s : Symbol) (now : Part) (x : NormFailure) → IsErrAnd r (λ y. y ≡ x) →
-    IsFirst (refused_in a (met (read_whole (wholes_in a) e (symbol_view s)))) x → SymbolRead r a b e s now
-refused_symbol (Ok n) a b e s now x from h = absurd from
-refused_symbol (Err y) a b e s now x from h = record {
-  refuses = subst (λ (z : NormFailure). IsFirst (refused_in a (met (read_whole (wholes_in a) e (symbol_view s)))) z) (sym from) h;
-  meets = tt;
-  counted = tt;
-  waits = tt;
-  value = tt;
-  number = tt;
-}
-
-abbrev pub RowRead : Table → Table → Environment → Parts → Parts → Type 0
-RowRead a b e ps now = record {
-  refuses : refused_in a (all_met (all_filled (whole_for (wholes_in a) e) ps)) ≡ [];
-  meets : TableMeets a b (all_met (all_filled (whole_for (wholes_in a) e) ps));
-  waits : LeavesWaiting a b (map parts_replaced (all_met (all_filled (shown_for e) ps)));
-  value : now ≡ all_replaced (all_filled (shown_for e) ps);
-}
-
-pub row_as : (a b : Table) (e : Environment) (ps qs now : Parts) → qs ≡ ps → RowRead a b e ps now → RowRead a b e qs now
-row_as a b e ps qs now is h = subst (λ (x : Parts). RowRead a b e x now) (sym is) h
-
-pub first_row : (a : Table) (e : Environment) (ps qs : Parts) (x : NormFailure) → qs ≡ ps → IsFirst (refused_in a (all_met (all_filled (whole_for (wholes_in a) e) ps))) x →
-    IsFirst (refused_in a (all_met (all_filled (whole_for (wholes_in a) e) qs))) x
-first_row a e ps qs x is h = subst (λ (y : Parts). IsFirst (refused_in a (all_met (all_filled (whole_for (wholes_in a) e) y))) x) (sym is) h
+  pub repeated_read : (s now : Box RepeatSymbol Global) (n : ℕ) (m : Node) → k ≡ kind.Repeat s → m ≡ repeat_node now.value.op n →
+      RepeatRead (Ok n) a b e s.value now.value.op (symbol_view now.value.symbol) → KindRead (Ok m) a b e (kind_view k) (kind_view (kind.Repeat now))
+  repeated_read s now n m is same r =
+      let x = s.value in
+      let l = repeated x.op (symbol_view x.symbol) in
+      read_as (Ok m) a b e (kind_view k) l (kind_view (kind.Repeat now)) (ap kind_view is ∙ again_seen s) (record {
+        refuses = r.refuses;
+        meets = r.meets;
+        counted = r.counted;
+        waits = r.waits;
+        value = again_seen now ∙ ap₂ repeated r.op r.value;
+        node = subst (λ (o : Node). IsNodeFor (wholes_in b) o (kind_whole (wholes_in a) e l)) (sym (same ∙ ap (λ (o : RepeatOp). repeat_node o n) r.op))
+            (repeated_for (wholes_in a) (wholes_in b) e x.symbol n r.number x.op);
+      })

@@ -1,9 +1,11 @@
 pub mod ApartLemmas
 mod DigestLemmas
 pub mod EnterLemmas
+pub mod EnteredReads
 pub mod FirstLemmas
 pub mod FirstMet
 pub mod GivenLemmas
+pub mod GroupReads
 pub mod InPlace
 pub mod InsideReads
 pub mod InwardLemmas
@@ -23,6 +25,7 @@ pub mod ReplacedSources
 pub mod RowItems
 pub mod RowLemmas
 pub mod RowReads
+pub mod RowRounds
 pub mod RowTaken
 pub mod SamenessLemmas
 pub mod ShallowConditions
@@ -32,6 +35,7 @@ pub mod ShallowReadings
 pub mod ShallowRounds
 pub mod ShallowRules
 pub mod SymbolLemmas
+pub mod SymbolReads
 pub mod TableLemmas
 pub mod TerminalCopies
 pub mod TwiceLemmas
