@@ -1,8 +1,8 @@
 //! Written types.
-ghost use Rattle.std.specs.Prelude.{◌≡◌, ◌≤◌, [], ◌∷◌, codes, map, length, None, IfOk, OnOk, IsErrOf};
+ghost use Rattle.std.specs.Prelude.{◌≡◌, ◌≤◌, [], ◌∷◌, codes, map, option_map, length, None, IfOk, OnOk, IsErrOf};
 ghost use Rattle.json.specs.Reads.{token_of};
-ghost use Rattle.serde_json.specs.Data.{string};
-ghost use Rattle.json_records.specs.Reading.{data_of, list_form, is_list, may_be, maybe_form, IsRead, IsReadUnder};
+ghost use Rattle.serde_json.specs.Data.{string, boolean};
+ghost use Rattle.json_records.specs.Reading.{data_of, list_form, is_list, may_be, maybe_form, is_text, is_truth, IsRead, IsReadUnder};
 ghost use Rattle.json_records.specs.Rows.{is_row};
 ghost use Rattle.json_records.specs.Variants.{Made};
 ghost use Rattle.lalrpop_norm_json.specs.Shapes as shape;
@@ -11,10 +11,12 @@ ghost use Rattle.lalrpop_norm_tree_parts.specs.Paths.{path_view};
 ghost use Rattle.lalrpop_norm_tree.specs.Types.{type_view};
 ghost use Rattle.lalrpop_norm_json.specs.Json.{fields};
 ghost use Rattle.lalrpop_norm_json.specs.Shapes.{fits, one, many, struct};
-ghost use Rattle.lalrpop_norm_json.specs.Forms.{path_form};
+ghost use Rattle.lalrpop_norm_json.specs.Taken.{IsTaken};
+ghost use Rattle.lalrpop_norm_json.specs.Forms.{path_form, lifetime_form};
 ghost use Rattle.lalrpop_norm_json.specs.TypeForms.{type_form};
 
 use super::Tree;
+use super::fields::three_values;
 use json::{Reader, Token};
 use json_records::{
     And, End, ReadError, Reads, fitted, is_other, next_item, next_member, open_array, open_object,
@@ -178,40 +180,66 @@ fn reference_type<'a>(
     let Some(depth) = open_object(first, reader, depth)? else {
         return Ok(None);
     };
-    let mut lifetime = None;
-    let mut mutable = None;
-    let mut referent = None;
+    let mut fields = And {
+        first: None,
+        rest: And {
+            first: None,
+            rest: And {
+                first: None,
+                rest: End,
+            },
+        },
+    };
     let mut strays = false;
-    while let Some((key, first)) = next_member(reader)? {
-        match key {
-            "lifetime" => lifetime = <Tree as Reads<Option<Lifetime>>>::read(
-                alloc, first, reader, depth,
-            )?,
-            "mutable" => mutable = <Tree as Reads<bool>>::read(alloc, first, reader, depth)?,
-            "referent" => referent = type_ref(alloc, first, reader, depth)?,
-            _ => {
-                pass(first, reader, depth)?;
-                strays = true;
-            }
+    while let Some(member) = next_member(reader)? {
+        if !reference_field(alloc, &mut fields, member, reader, depth)? {
+            strays = true;
         }
     }
-    if strays {
-        return Ok(None);
+    match three_values(fields, strays) {
+        Some((lifetime, mutable, referent)) => Ok(Some(TypeRef::Ref {
+            lifetime,
+            mutable,
+            referent: Box::new(alloc, referent)?,
+        })),
+        None => Ok(None),
     }
-    let Some(lifetime) = lifetime else {
-        return Ok(None);
-    };
-    let Some(mutable) = mutable else {
-        return Ok(None);
-    };
-    let Some(referent) = referent else {
-        return Ok(None);
-    };
-    Ok(Some(TypeRef::Ref {
-        lifetime,
-        mutable,
-        referent: Box::new(alloc, referent)?,
-    }))
+}
+
+/// Reads the value of a member into the field of its name, and says whether there is such a field.
+#[cycle(type_ref)]
+fn reference_field<'a>(
+    alloc: Global,
+    fields: &mut And<Option<Lifetime>, And<bool, And<TypeRef, End>>>,
+    member: (&'a str, Token<'a>),
+    reader: &mut Reader<'a>,
+    depth: usize,
+) -> Result<bool, ReadError>
+    ensures ok { IfOk result (λ known. IsTaken (codes "lifetime" ∷ codes "mutable" ∷ codes "referent" ∷ []) (may_be is_text ∷ is_truth ∷ is shape.type ∷ []) member.entry.0.now depth (token_of member.entry.1 ∷ reader.old) reader.new
+        (option_map (maybe_form lifetime_form) fields.old.first ∷ option_map boolean fields.old.rest.first ∷ option_map (λ t. type_form (type_view t)) fields.old.rest.rest.first ∷ [])
+        (option_map (maybe_form lifetime_form) fields.new.first ∷ option_map boolean fields.new.rest.first ∷ option_map (λ t. type_form (type_view t)) fields.new.rest.rest.first ∷ []) known) }
+    ensures err { IsErrOf result ReadError.NotJson → data_of depth (token_of member.entry.1 ∷ reader.old) ≡ None }
+    ensures shorter { OnOk result (length reader.new ≤ length reader.old) }
+{
+    let (key, first) = member;
+    match key {
+        "lifetime" => {
+            fields.first = <Tree as Reads<Option<Lifetime>>>::read(alloc, first, reader, depth)?;
+            Ok(true)
+        }
+        "mutable" => {
+            fields.rest.first = <Tree as Reads<bool>>::read(alloc, first, reader, depth)?;
+            Ok(true)
+        }
+        "referent" => {
+            fields.rest.rest.first = type_ref(alloc, first, reader, depth)?;
+            Ok(true)
+        }
+        _ => {
+            pass(first, reader, depth)?;
+            Ok(false)
+        }
+    }
 }
 
 /// The function type whose fields these are.

@@ -27,6 +27,9 @@ decreases-function_type l = 3 * length l.reader.now
 abbrev pub decreases-type_refs : goal.decreases-type_refs
 decreases-type_refs l = 3 * length l.reader.now
 
+abbrev pub decreases-reference_field : goal.decreases-reference_field
+decreases-reference_field l = 3 * length l.reader.now + 1
+
 abbrev pub decreases-slice_type : goal.decreases-slice_type
 decreases-slice_type l = 3 * length l.reader.now + 1
 
@@ -50,13 +53,13 @@ invariant-path_and_types-loop-types l =
 abbrev pub decreases-path_and_types-loop-types : goal.decreases-path_and_types-loop-types
 decreases-path_and_types-loop-types l = length l.reader
 
-abbrev pub invariant-reference_type-loop-referent : goal.invariant-reference_type-loop-referent
-invariant-reference_type-loop-referent l =
+abbrev pub invariant-reference_type-loop-fields : goal.invariant-reference_type-loop-fields
+invariant-reference_type-loop-fields l =
     RecordSoFar ((codes "lifetime", maybe shape.text) ∷ (codes "mutable", one shape.truth) ∷ (codes "referent", one shape.type) ∷ []) l.depth l.fn.reader l.reader
-    (option_map (maybe_form lifetime_form) l.lifetime ∷ option_map boolean l.mutable ∷ option_map (λ t. type_form (type_view t)) l.referent ∷ []) l.strays
+    (option_map (maybe_form lifetime_form) l.fields.first ∷ option_map boolean l.fields.rest.first ∷ option_map (λ t. type_form (type_view t)) l.fields.rest.rest.first ∷ []) l.strays
 
-abbrev pub decreases-reference_type-loop-referent : goal.decreases-reference_type-loop-referent
-decreases-reference_type-loop-referent l = length l.reader
+abbrev pub decreases-reference_type-loop-fields : goal.decreases-reference_type-loop-fields
+decreases-reference_type-loop-fields l = length l.reader
 
 abbrev pub invariant-function_type-loop-ret : goal.invariant-function_type-loop-ret
 invariant-function_type-loop-ret l =
