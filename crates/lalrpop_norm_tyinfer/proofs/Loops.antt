@@ -37,10 +37,6 @@ module _ (ps : _) (tt : TypeTable) (cs : List TypeSource) (i : ℕ) where
 
 -- ---- values in a row
 
-pub first_values : (o : Option Reprs) → option_map (before []) o ≡ o
-first_values None = refl
-first_values (Some x) = refl
-
 pub lacks_value : {X : Type 0} (F : List X → Option Reprs) (v : X → Option ReprData) → ((x : X) (xs : List X) → F (x ∷ xs) ≡ both repr_and (v x) (F xs)) →
     (xs : List X) (i : ℕ) (x : X) (vs : List ReprData) (w : Option Reprs) → i < length xs → x ≡ get_or xs i x → None ≡ v x → option_map (before vs) (F (drop i xs)) ≡ w → None ≡ w
 lacks_value F v more xs i x vs w lt is none here =

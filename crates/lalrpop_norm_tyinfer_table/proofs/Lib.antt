@@ -1,5 +1,6 @@
 pub mod ClauseLemmas
 pub mod FilledLemmas
+mod KindSizes
 mod LiteralLemmas
 pub mod LoopLemmas
 mod LoweredViews
@@ -14,7 +15,9 @@ pub mod RoundLemmas
 mod SameLemmas
 pub mod StopLemmas
 pub mod TokenLemmas
+mod TupleSizes
 pub mod ValueLemmas
 pub mod VisitLemmas
 mod WaitingLemmas
+mod WrittenSizes
 mod WrittenSymbols

@@ -12,6 +12,11 @@ abbrev pub before : List ReprData → Reprs → Reprs
 before [] xs = xs
 before (y ∷ ys) xs = repr_and y (before ys xs)
 
+-- before any of them
+pub before_nothing : (o : Option Reprs) → option_map (before []) o ≡ o
+before_nothing None = refl
+before_nothing (Some xs) = refl
+
 before_none : (xs : List ReprData) → before xs no_reprs ≡ reprs_of xs
 before_none [] = refl
 before_none (x ∷ xs) = ap (repr_and x) (before_none xs)

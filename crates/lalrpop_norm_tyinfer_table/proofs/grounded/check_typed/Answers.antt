@@ -1,4 +1,3 @@
-use Rattle.std.proofs.Common.{arith}
 use Rattle.lalrpop_norm_tree.specs.Items.{rule_view}
 use Rattle.lalrpop_norm_tyinfer_table.specs.Numbered.{numbered_table}
 use Rattle.lalrpop_norm_tyinfer_table.specs.declared.rules.PlainRule.{PlainRule}
@@ -9,4 +8,4 @@ use Rattle.lalrpop_norm_tyinfer_table.proofs.grounded.check_typed.Goals as goal
 pub returns-in_err-check_type : goal.returns-in_err-check_type
 returns-in_err-check_type c =
     exit_loop (λ (r : PlainRule). rule_view r.data.now) (untyped_in (numbered_table c.args.types.now)) c.args.rules.now c.loop-rule.rule-index c.rule-item.result _ _
-    (omega arith) c.rule-item.is c.from_residual.ensures.1 c.in_err-check_type.ensures c.loop-rule.invariant
+    c.loop-rule-test.true c.rule-item.is c.from_residual.ensures.1 c.in_err-check_type.ensures c.loop-rule.invariant

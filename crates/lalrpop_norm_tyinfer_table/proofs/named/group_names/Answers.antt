@@ -1,4 +1,4 @@
-use Rattle.std.proofs.Common.{List, map, arith}
+use Rattle.std.proofs.Common.{List, map}
 use Rattle.std.specs.List.{flat_map}
 use Rattle.std.proofs.lemmas.Grind.{flat_map-append}
 use Rattle.lalrpop_norm_tree.specs.declared.items.MatchContents.{MatchContents}
@@ -13,4 +13,4 @@ loop-group-preserved c =
     next_collected (λ (xs : List MatchContents). flat_map names_mapped_by (flat_map (λ items. items) (map match_contents_view xs))) (λ (x : MatchContents). flat_map names_mapped_by (match_contents_view x))
     (λ x xs. flat_map-append names_mapped_by (match_contents_view x) (flat_map (λ items. items) (map match_contents_view xs)))
     c.args.groups.now c.loop-group.group-index c.group-item.result c.loop-group.names.items c.add_items.new.names.items _
-    (omega arith) c.group-item.is made c.loop-group.invariant
+    c.loop-group-test.true c.group-item.is made c.loop-group.invariant

@@ -1,7 +1,7 @@
 use Rattle.lalrpop_norm_tyinfer_table.specs.Clauses.{clause_view}
 use Rattle.lalrpop_norm_names.specs.Numbers.{number_in_table}
 use Rattle.lalrpop_norm_tyinfer_table.proofs.NeedLemmas.{adds_none, adds_more, mapped_more}
-use Rattle.std.proofs.Common.{map, take, arith}
+use Rattle.std.proofs.Common.{map, take}
 use Rattle.lalrpop_norm_tyinfer_table.proofs.needs.add_needs.Goals as goal
 
 pub loop-clause-init : goal.loop-clause-init
@@ -11,6 +11,6 @@ pub loop-clause-preserved : goal.loop-clause-preserved
 loop-clause-preserved c =
     let clauses = c.args.clauses.now in
     let i = c.loop-clause.clause-index in
-    rw (mapped_more clause_view clauses i c.clause-item.result (omega arith) c.clause-item.is, c.in_ok-push.ensures.items)
+    rw (mapped_more clause_view clauses i c.clause-item.result c.loop-clause-test.true c.clause-item.is, c.in_ok-push.ensures.items)
     (adds_more (number_in_table c.args.names.now) c.args.parameters.now c.args.needs.now.items c.loop-clause.needs.items (map clause_view (take i clauses)) (clause_view c.clause-item.result) c.args.rule _
     c.loop-clause.invariant c.in_ok-need_of.ensures)

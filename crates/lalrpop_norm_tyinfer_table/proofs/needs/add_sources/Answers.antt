@@ -1,4 +1,4 @@
-use Rattle.std.proofs.Common.{Bor, ℕ, List, map, arith}
+use Rattle.std.proofs.Common.{Bor, ℕ, List, map}
 use Rattle.std.specs.List.{flat_map}
 use Rattle.std.proofs.lemmas.List.{map-append}
 use Rattle.lalrpop_norm_tree.specs.declared.symbol.Symbol.{Symbol}
@@ -14,4 +14,4 @@ loop-source-preserved c =
     let seen : List (ℕ × Bor Symbol) → List (List ℕ) = λ ts. flat_map names_in_kind (map (λ (t : ℕ × Bor Symbol). kind_view t.1.now.kind) ts) in
     next_collected (λ (ts : List (ℕ × Bor Symbol)). map f (seen ts)) (λ (t : ℕ × Bor Symbol). map f (names_in_kind (kind_view t.1.now.kind))) (λ t ts. map-append f (names_in_kind (kind_view t.1.now.kind)) (seen ts))
     c.args.sources.now c.loop-source.source-index c.source-item.result c.loop-source.numbers.items c.add_kind.new.numbers.items _
-    (omega arith) c.source-item.is c.in_ok-add_kind.ensures c.loop-source.invariant
+    c.loop-source-test.true c.source-item.is c.in_ok-add_kind.ensures c.loop-source.invariant

@@ -1,4 +1,3 @@
-use Rattle.std.proofs.Common.{arith}
 use Rattle.lalrpop_norm_tree.specs.Items.{alternative_view}
 use Rattle.lalrpop_norm_tyinfer_table.specs.Numbered.{numbered_table}
 use Rattle.lalrpop_norm_model.specs.TuplePatterns.{alternative_misfits}
@@ -9,4 +8,4 @@ use Rattle.lalrpop_norm_tyinfer_table.proofs.patterns.check_alternatives.Goals a
 pub returns-in_err-check_alternative : goal.returns-in_err-check_alternative
 returns-in_err-check_alternative c =
     exit_loop alternative_view (alternative_misfits (type_by_name (numbered_table c.args.types.now))) c.args.alternatives.now c.loop-alternative.alternative-index c.alternative-item.result _ _
-    (omega arith) c.alternative-item.is c.from_residual.ensures.1 c.in_err-check_alternative.ensures c.loop-alternative.invariant
+    c.loop-alternative-test.true c.alternative-item.is c.from_residual.ensures.1 c.in_err-check_alternative.ensures c.loop-alternative.invariant

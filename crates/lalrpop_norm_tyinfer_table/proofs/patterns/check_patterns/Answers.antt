@@ -1,4 +1,3 @@
-use Rattle.std.proofs.Common.{arith}
 use Rattle.lalrpop_norm_tree.specs.Items.{rule_view}
 use Rattle.lalrpop_norm_tyinfer_table.specs.Numbered.{numbered_table}
 use Rattle.lalrpop_norm_model.specs.TuplePatterns.{rule_misfits}
@@ -10,4 +9,4 @@ use Rattle.lalrpop_norm_tyinfer_table.proofs.patterns.check_patterns.Goals as go
 pub returns-in_err-check_rule : goal.returns-in_err-check_rule
 returns-in_err-check_rule c =
     exit_loop (λ (r : PlainRule). rule_view r.data.now) (rule_misfits (type_by_name (numbered_table c.args.types.now))) c.args.rules.now c.loop-rule.rule-index c.rule-item.result _ _
-    (omega arith) c.rule-item.is c.from_residual.ensures.1 c.in_err-check_rule.ensures c.loop-rule.invariant
+    c.loop-rule-test.true c.rule-item.is c.from_residual.ensures.1 c.in_err-check_rule.ensures c.loop-rule.invariant

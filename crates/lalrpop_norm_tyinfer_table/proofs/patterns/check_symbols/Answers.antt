@@ -1,4 +1,4 @@
-use Rattle.std.proofs.Common.{drop, List, sym, ◌∙◌, ◌+◌, arith}
+use Rattle.std.proofs.Common.{drop, List, sym, ◌∙◌, ◌+◌}
 use Rattle.lalrpop_norm_tree.specs.declared.symbol.Symbol.{Symbol}
 use Rattle.lalrpop_norm_tree.specs.Symbols.{kind_view, parts_view}
 use Rattle.lalrpop_norm_tyinfer_table.specs.Numbered.{numbered_table}
@@ -15,4 +15,4 @@ returns-in_err-check_kind c =
     let i = c.loop-symbol.symbol-index in
     let x = c.symbol-item.result in
     exit_at _ _ (kind_misfits f (kind_view x.kind)) (parts_misfits f (parts_view (drop (i + 1) xs))) _ c.from_residual.ensures.1 c.in_err-check_kind.ensures
-    (sym c.loop-symbol.invariant ∙ at_drop_item (λ (ys : List Symbol). parts_misfits f (parts_view ys)) xs i x (omega arith) c.symbol-item.is ∙ first_part f x (drop (i + 1) xs))
+    (sym c.loop-symbol.invariant ∙ at_drop_item (λ (ys : List Symbol). parts_misfits f (parts_view ys)) xs i x c.loop-symbol-test.true c.symbol-item.is ∙ first_part f x (drop (i + 1) xs))

@@ -4,12 +4,12 @@ use Rattle.lalrpop_norm_tree.specs.Symbols.{kind_view}
 use Rattle.lalrpop_norm_tyinfer_table.specs.Numbered.{numbered_table}
 use Rattle.lalrpop_norm_tyinfer_table.specs.Clauses.{kinds_in}
 use Rattle.lalrpop_norm_tyinfer_table.specs.TableValues.{kind_in}
-use Rattle.lalrpop_norm_tyinfer_table.proofs.ValueLemmas.{next_value, last_value, before}
+use Rattle.lalrpop_norm_tyinfer_table.proofs.ValueLemmas.{next_value, last_value, before, before_nothing}
 use Rattle.std.specs.Prelude.{option_map}
 use Rattle.std.proofs.lemmas.Result.{IfOk-from_err}
 use borrow.Author.Count.{falls}
 use Rattle.lalrpop_norm_tree_parts.specs.Reprs.{repr_view}
-use Rattle.lalrpop_norm_tyinfer.proofs.Loops.{first_values, lacks_value}
+use Rattle.lalrpop_norm_tyinfer.proofs.Loops.{lacks_value}
 use Rattle.lalrpop_norm_tyinfer.proofs.tyinfer.type_sources.all_values.Goals as goal
 
 pub loop-source-preserved : goal.loop-source-preserved
@@ -29,7 +29,7 @@ returns c =
 pub loop-source-init : goal.loop-source-init
 loop-source-init c =
     let all = kinds_in (numbered_table c.args.types.now) (map (λ (t : ℕ × Bor Symbol). kind_view t.1.now.kind) c.args.sources.now) in
-    ap (λ vs. option_map (before (map repr_view vs)) all) c.in_ok-values.ensures.items ∙ first_values all
+    ap (λ vs. option_map (before (map repr_view vs)) all) c.in_ok-values.ensures.items ∙ before_nothing all
 
 pub loop-source-smaller : goal.loop-source-smaller
 loop-source-smaller c = falls _ _ c.loop-source-test.true
