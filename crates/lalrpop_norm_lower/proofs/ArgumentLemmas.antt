@@ -1,5 +1,5 @@
 -- The names and patterns of sources: counted along the symbols, and by their places.
-use Rattle.std.proofs.Common.{◌≡◌, ◌∙◌, ℕ, ◌+◌, Bool, true, false, cond, ◌||◌, List, [], ◌∷◌, ◌++◌, length, map, take, refl, sym, ap, arith, codes}
+use Rattle.std.proofs.Common.{◌≡◌, ◌∙◌, ℕ, ◌+◌, Bool, true, false, cond, ◌||◌, List, [], ◌∷◌, ◌++◌, length, map, take, refl, sym, ap, arith, codes, append-nil}
 use Rattle.std.specs.Prelude.{filter, unwrap_or}
 use Rattle.std.specs.List.{list_any, enumerate_from}
 use Rattle.std.proofs.lemmas.List.{append_assoc, length-append, take_at}
@@ -98,3 +98,40 @@ patterns_counted prefix ps = patterns_by_place prefix (some_name_value ps) (has_
 
 pub names_counted : (prefix : List ℕ) (ps : Parts) → source_names prefix ps ≡ names prefix (part_list ps)
 names_counted prefix ps = names_by_place prefix (some_name_value ps) (has_chosen ps) (part_list ps) (source_as_counted ps) [] ps refl
+
+-- ---- one more argument
+
+-- b says whether it is a source; n names stand before it, and the names are ms with it
+module _ (prefix : List ℕ) (some_named some_chosen b : Bool) (p : Part) (ps : Parts) (n : ℕ) (ns ms : List (List ℕ))
+    (is : b ≡ is_source some_named some_chosen p) (len : n ≡ length ns) (named : ms ≡ ns ++ cond b (name_given (source_pattern prefix n p) ∷ []) []) where
+  more_patterns : (test : Bool) → b ≡ test → (m : ℕ) → n ≡ m → (f : ℕ → List ArgumentPattern) (old new all : List ArgumentPattern) → new ≡ old ++ cond b (source_pattern prefix n p) (plain_name (codes "_")) ∷ []
+      → old ++ cond test (source_pattern prefix m p ∷ f (m + 1)) (plain_name (codes "_") ∷ f m) ≡ all → new ++ f (cond test (m + 1) m) ≡ all
+  more_patterns true is m len f old new all made before =
+      ap (λ qs. qs ++ f (m + 1)) (made ∙ ap (λ c. old ++ cond c (source_pattern prefix n p) (plain_name (codes "_")) ∷ []) is ∙ ap (λ k. old ++ source_pattern prefix k p ∷ []) len)
+      ∙ append_assoc old (source_pattern prefix m p ∷ []) (f (m + 1)) ∙ before
+  more_patterns false is m len f old new all made before =
+      ap (λ qs. qs ++ f m) (made ∙ ap (λ c. old ++ cond c (source_pattern prefix n p) (plain_name (codes "_")) ∷ []) is)
+      ∙ append_assoc old (plain_name (codes "_") ∷ []) (f m) ∙ before
+
+  more_names : (test : Bool) → b ≡ test → (m : ℕ) → n ≡ m → (f : ℕ → List (List ℕ)) (all : List (List ℕ))
+      → ns ++ cond test (name_given (source_pattern prefix m p) ∷ f (m + 1)) (f m) ≡ all → ms ++ f (cond test (m + 1) m) ≡ all
+  more_names true is m len f all before =
+      ap (λ qs. qs ++ f (m + 1)) (named ∙ ap (λ c. ns ++ cond c (name_given (source_pattern prefix n p) ∷ []) []) is ∙ ap (λ k. ns ++ name_given (source_pattern prefix k p) ∷ []) len)
+      ∙ append_assoc ns (name_given (source_pattern prefix m p) ∷ []) (f (m + 1)) ∙ before
+  more_names false is m len f all before =
+      ap (λ qs. qs ++ f m) (named ∙ ap (λ c. ns ++ cond c (name_given (source_pattern prefix n p) ∷ []) []) is ∙ append-nil ns) ∙ before
+
+  counted : (test : Bool) → b ≡ test → length ms ≡ cond test (length ns + 1) (length ns)
+  counted true is = ap length (named ∙ ap (λ c. ns ++ cond c (name_given (source_pattern prefix n p) ∷ []) []) is) ∙ length-append ns (name_given (source_pattern prefix n p) ∷ [])
+  counted false is = ap length (named ∙ ap (λ c. ns ++ cond c (name_given (source_pattern prefix n p) ∷ []) []) is ∙ append-nil ns)
+
+  pub one_more_pattern : (old new all : List ArgumentPattern) → new ≡ old ++ cond b (source_pattern prefix n p) (plain_name (codes "_")) ∷ []
+      → old ++ patterns_from prefix some_named some_chosen (length ns) (part_and p ps) ≡ all → new ++ patterns_from prefix some_named some_chosen (length ms) ps ≡ all
+  one_more_pattern old new all made before =
+      ap (λ k. new ++ patterns_from prefix some_named some_chosen k ps) (counted (is_source some_named some_chosen p) is)
+      ∙ more_patterns (is_source some_named some_chosen p) is (length ns) len (λ k. patterns_from prefix some_named some_chosen k ps) old new all made before
+
+  pub one_more_name : (all : List (List ℕ)) → ns ++ names_from prefix some_named some_chosen (length ns) (part_and p ps) ≡ all → ms ++ names_from prefix some_named some_chosen (length ms) ps ≡ all
+  one_more_name all before =
+      ap (λ k. ms ++ names_from prefix some_named some_chosen k ps) (counted (is_source some_named some_chosen p) is)
+      ∙ more_names (is_source some_named some_chosen p) is (length ns) len (λ k. names_from prefix some_named some_chosen k ps) all before

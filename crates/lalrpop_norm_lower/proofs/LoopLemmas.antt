@@ -1,6 +1,6 @@
 -- Loops that collect.
-use Rattle.std.proofs.Common.{◌≡◌, ◌+◌, Bool, true, false, cond, refl, List, [], ◌∷◌, ◌++◌, None, ap, ◌∙◌, length, reverse}
-use Rattle.std.proofs.lemmas.List.{reverse-append}
+use Rattle.std.proofs.Common.{◌≡◌, ◌+◌, Bool, true, false, cond, refl, sym, List, [], ◌∷◌, ◌++◌, None, ap, ◌∙◌, length, reverse}
+use Rattle.std.proofs.lemmas.List.{append_assoc, reverse-append}
 use Rattle.std.specs.List.{cons_option}
 use Rattle.lalrpop_norm_tree.specs.Accessors.{is_public, rule_of}
 use Rattle.lalrpop_norm_tree.specs.Items.{ItemData, rule_item, RuleData}
@@ -28,3 +28,13 @@ last_first old new x is = ap reverse is ∙ reverse-append new (x ∷ [])
 pub none_left : {A : Type 0} (old : List A) → length old ≡ 0 → reverse old ≡ []
 none_left [] is = refl
 none_left (x ∷ xs) is = cc
+
+-- ---- what is left of a loop
+
+-- what is behind faults of which there are none
+pub behind_none : {A : Type 0} (here rest all : List A) → here ≡ [] → here ++ rest ≡ all → rest ≡ all
+behind_none here rest all none whole = ap (λ fs. fs ++ rest) (sym none) ∙ whole
+
+-- one more, and those that are left
+pub one_more : {A : Type 0} (old new : List A) (x : A) (rest all : List A) → new ≡ old ++ x ∷ [] → old ++ x ∷ rest ≡ all → new ++ rest ≡ all
+one_more old new x rest all made whole = ap (λ xs. xs ++ rest) made ∙ append_assoc old (x ∷ []) rest ∙ whole

@@ -133,8 +133,28 @@ pub(crate) fn lower_alternatives(
 {
     let mut productions = Vec::with_capacity(state.alloc, alternatives.len())?;
     for alternative in alternatives {
-        let production = lower_alternative(state, name, ty, &alternative)?;
-        productions.push(production)?;
+        add_lowered(state, name, ty, &alternative, &mut productions)?;
     }
     Ok(productions)
+}
+
+/// Adds the production of an alternative. Its action is added.
+fn add_lowered(
+    state: &mut LowerState,
+    name: &NonterminalString,
+    ty: &TypeRepr,
+    alternative: &Alternative,
+    productions: &mut Vec<Production>,
+) -> NormResult<()>
+    ensures refuses { Refuses result (code_faults (alternative_view alternative.now) ++ action_number_faults (vec_len state.old.actions) alternative.now.span) }
+    ensures lowered { OnOk result (map production_view productions.new.items
+        ≡ map production_view productions.old.items ++ production_of name.now (vec_len state.old.actions) (alternative_view alternative.now) ∷ []) }
+    ensures adds { OnOk result (map action_defn_view state.new.actions.items
+        ≡ map action_defn_view state.old.actions.items ++ made_action state.old.prefix.now (table_by_number state.old.types.now) (repr_view ty.now) (alternative_view alternative.now) ∷ []) }
+    ensures count { OnOk result (vec_len state.new.actions ≡ vec_len state.old.actions + 1) }
+    ensures given { OnOk result ((state.new.prefix ≡ state.old.prefix) × (state.new.types ≡ state.old.types)) }
+    ensures table { OnOk result (state.new.nonterminals ≡ state.old.nonterminals) }
+{
+    let production = lower_alternative(state, name, ty, alternative)?;
+    Ok(productions.push(production)?)
 }

@@ -1,5 +1,5 @@
 //! The arguments of an action: which symbols its code gets, and their names.
-ghost use Rattle.std.specs.Prelude.{◌≡◌, IfOk, map};
+ghost use Rattle.std.specs.Prelude.{◌≡◌, ◌++◌, [], ◌∷◌, IfOk, OnOk, codes, map, vec_len, if◌then◌else◌};
 ghost use Rattle.lalrpop_norm_tree.specs.Symbols.{symbol_view, parts_view, argument_pattern_view};
 ghost use Rattle.lalrpop_norm_lower.specs.Arguments.{name_given};
 ghost use Rattle.lalrpop_norm_lower.specs.Sources.{source_name, plain_name};
@@ -9,6 +9,7 @@ use lalrpop_norm_session::norm_util::{has_chosen, has_name_value, is_chosen, nam
 use lalrpop_norm_tree::grammar::parse_tree::{
     ArgPattern, Atom, Name, NoMemory, Symbol, SymbolKind,
 };
+use lalrpop_norm_tree_parts::walk::add;
 use std::alloc::Global;
 
 /// The arguments of an action.
@@ -36,17 +37,51 @@ pub(crate) fn arguments_of(
     let mut patterns = Vec::with_capacity(alloc, symbols.len())?;
     let mut names = Vec::with_capacity(alloc, symbols.len())?;
     for symbol in symbols {
-        if is_source(some_named, some_chosen, symbol) {
-            let pattern = source_pattern(alloc, prefix, names.len(), symbol)?;
-            let name = name_given(alloc, &pattern)?;
-            patterns.push(pattern)?;
-            names.push(name)?;
-        } else {
-            let name = Atom::new(alloc, "_")?;
-            patterns.push(plain_name(name))?;
-        }
+        let source = is_source(some_named, some_chosen, symbol);
+        add_argument(alloc, prefix, source, symbol, &mut patterns, &mut names)?;
     }
     Ok(Arguments { patterns, names })
+}
+
+/// Adds the argument of a symbol: the next source, with its name, or `_`.
+fn add_argument(
+    alloc: Global,
+    prefix: &str,
+    source: bool,
+    symbol: &Symbol,
+    patterns: &mut Vec<ArgPattern>,
+    names: &mut Vec<Atom>,
+) -> Result<(), NoMemory>
+    ensures patterns { OnOk result (map argument_pattern_view patterns.new.items ≡ map argument_pattern_view patterns.old.items
+        ++ (if source then source_pattern prefix.now (vec_len names.old) (symbol_view symbol.now) else plain_name (codes "_")) ∷ []) }
+    ensures names { OnOk result (names.new.items ≡ names.old.items
+        ++ (if source then name_given (source_pattern prefix.now (vec_len names.old) (symbol_view symbol.now)) ∷ [] else [])) }
+{
+    if source {
+        add_source(alloc, prefix, symbol, patterns, names)
+    } else {
+        let name = Atom::new(alloc, "_")?;
+        add(patterns, plain_name(name))
+    }
+}
+
+/// Adds the next source, with its name.
+fn add_source(
+    alloc: Global,
+    prefix: &str,
+    symbol: &Symbol,
+    patterns: &mut Vec<ArgPattern>,
+    names: &mut Vec<Atom>,
+) -> Result<(), NoMemory>
+    ensures patterns { OnOk result (map argument_pattern_view patterns.new.items
+        ≡ map argument_pattern_view patterns.old.items ++ source_pattern prefix.now (vec_len names.old) (symbol_view symbol.now) ∷ []) }
+    ensures names { OnOk result (names.new.items
+        ≡ names.old.items ++ name_given (source_pattern prefix.now (vec_len names.old) (symbol_view symbol.now)) ∷ []) }
+{
+    let pattern = source_pattern(alloc, prefix, names.len(), symbol)?;
+    let name = name_given(alloc, &pattern)?;
+    add(patterns, pattern)?;
+    add(names, name)
 }
 
 /// The pattern of the source of that number: its own, or its number behind the prefix.

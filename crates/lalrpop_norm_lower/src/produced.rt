@@ -8,14 +8,14 @@ ghost use Rattle.lalrpop_norm_repr.specs.Tables.{type_table, rows};
 ghost use Rattle.lalrpop_norm_lower.specs.Lowering.{rules_among, public_rules_in, start_names, start_rows, sorted_onto};
 ghost use Rattle.lalrpop_norm_lower.specs.Made.{made_faults, made_starts_faults, made_starts};
 ghost use Rattle.lalrpop_norm_lower.specs.Produced.{IsProduced};
-ghost use Rattle.lalrpop_norm_lower.specs.Starts.{typed_row};
+ghost use Rattle.lalrpop_norm_lower.specs.Starts.{start_rule, start_named, start_typed, typed_row};
 ghost use Rattle.lalrpop_norm_lower.specs.State.{table_by_number};
 ghost use Rattle.lalrpop_norm_lower.specs.Typing.{start_types};
 
 use crate::nonterminals::{lower_rules, lower_starts};
 use crate::numbered::NumberedTypes;
 use crate::rules::{public_rules, rules_of};
-use crate::starts::{start_table, starts_of, typed_starts};
+use crate::starts::{Start, start_table, starts_of, typed_starts};
 use crate::state::LowerState;
 use lalrpop_norm_faults::NormResult;
 use lalrpop_norm_repr::grammar::repr::{
@@ -121,10 +121,25 @@ fn start(
     ensures names { IfOk result (λ p. p.0.entries ≡ sorted_onto [] (start_names state.old.prefix.now (public_rules_in (rules_among (map item_view items.now))))) }
     ensures types { IfOk result (λ p. map typed_row p.1.items ≡ start_types state.old.prefix.now (table_by_number state.old.types.now) (public_rules_in (rules_among (map item_view items.now)))) }
 {
-    let rules = rules_of(state.alloc, items)?;
-    let public = public_rules(state.alloc, &rules)?;
-    let starts = starts_of(state.alloc, state.prefix, state.types, &public)?;
+    let starts = starts_among(state.alloc, state.prefix, state.types, items)?;
     lower_starts(state, &starts)?;
     let table = start_table(state.alloc, &starts)?;
     Ok((table, typed_starts(state.alloc, starts)?))
+}
+
+/// The start symbols of the public rules among the items.
+fn starts_among<'g>(
+    alloc: Global,
+    prefix: &str,
+    types: &NumberedTypes,
+    items: &'g [GrammarItem],
+) -> Result<Vec<Start<'g>>, NoMemory>
+    ensures rules { IfOk result (λ ss. map start_rule ss.items ≡ public_rules_in (rules_among (map item_view items.now))) }
+    ensures names { IfOk result (λ ss. map start_named ss.items ≡ start_names prefix.now (public_rules_in (rules_among (map item_view items.now)))) }
+    ensures types { IfOk result (λ ss. map start_typed ss.items
+        ≡ start_types prefix.now (table_by_number types.now) (public_rules_in (rules_among (map item_view items.now)))) }
+{
+    let rules = rules_of(alloc, items)?;
+    let public = public_rules(alloc, &rules)?;
+    starts_of(alloc, prefix, types, &public)
 }
