@@ -1,9 +1,10 @@
 -- The names and patterns of sources: counted along the symbols, and by their places.
 use Rattle.std.proofs.Common.{◌≡◌, ◌∙◌, ℕ, ◌+◌, Bool, true, false, cond, ◌||◌, List, [], ◌∷◌, ◌++◌, length, map, take, refl, sym, ap, arith, codes, append-nil}
-use Rattle.std.specs.Prelude.{filter, unwrap_or}
+use Rattle.std.specs.Prelude.{not, bytes_eq, decimal, filter, unwrap_or}
 use Rattle.std.specs.List.{list_any, enumerate_from}
 use Rattle.std.proofs.lemmas.List.{append_assoc, length-append, take_at}
 use Rattle.std.proofs.lemmas.List.Elements.{filter-append, filter_agree}
+use Rattle.std.proofs.lemmas.Slice.Eq.{bytes_eq-Decides}
 use Rattle.lalrpop_norm_tree.specs.Symbols.{ArgumentPattern, Part, Parts, no_parts, part_and}
 use Rattle.lalrpop_norm_model.specs.MadeRules.{names_value, some_name_value}
 use Rattle.lalrpop_norm_session.specs.Values.{is_chosen, has_chosen}
@@ -135,3 +136,14 @@ module _ (prefix : List ℕ) (some_named some_chosen b : Bool) (p : Part) (ps : 
   one_more_name all before =
       ap (λ k. ms ++ names_from prefix some_named some_chosen k ps) (counted (is_source some_named some_chosen p) is)
       ∙ more_names (is_source some_named some_chosen p) is (length ns) len (λ k. names_from prefix some_named some_chosen k ps) all before
+
+-- ---- the first sources behind the usual prefix
+
+it_is : (b : Bool) → false ≡ not b → b ≡ true
+it_is true e = refl
+it_is false e = absurd (cc)
+
+pub usual_source : (prefix : List ℕ) (j k : ℕ) (text : List ℕ) → false ≡ not (bytes_eq prefix (codes "__")) → j ≡ k → text ≡ codes "__" ++ decimal k → text ≡ source_name prefix j
+usual_source prefix j k text usual same named =
+    let is : prefix ≡ codes "__" = (bytes_eq-Decides prefix (codes "__")).0 (it_is _ usual) in
+    named ∙ ap (λ p. p ++ decimal k) (sym is) ∙ ap (λ n. prefix ++ decimal n) (sym same)

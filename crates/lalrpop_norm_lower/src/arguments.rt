@@ -1,5 +1,5 @@
 //! The arguments of an action: which symbols its code gets, and their names.
-ghost use Rattle.std.specs.Prelude.{◌≡◌, ◌++◌, [], ◌∷◌, IfOk, OnOk, codes, map, vec_len, if◌then◌else◌};
+ghost use Rattle.std.specs.Prelude.{◌≡◌, ◌++◌, [], ◌∷◌, IfOk, IfSome, OnOk, codes, map, vec_len, if◌then◌else◌};
 ghost use Rattle.lalrpop_norm_tree.specs.Symbols.{symbol_view, parts_view, argument_pattern_view};
 ghost use Rattle.lalrpop_norm_lower.specs.Arguments.{name_given};
 ghost use Rattle.lalrpop_norm_lower.specs.Sources.{source_name, plain_name};
@@ -113,8 +113,13 @@ fn source_pattern(
 fn name_given(alloc: Global, pattern: &ArgPattern) -> Result<Atom, NoMemory>
     ensures { IfOk result (λ n. n ≡ name_given (argument_pattern_view pattern.now)) }
 {
-    let text = pattern.name(alloc)?;
-    Atom::new(alloc, text.as_str())
+    match pattern {
+        ArgPattern::Name(name) => Ok(name.name.clone()?),
+        ArgPattern::Tuple(_) => {
+            let text = pattern.name(alloc)?;
+            Atom::new(alloc, text.as_str())
+        }
+    }
 }
 
 fn plain_name(name: Atom) -> ArgPattern
@@ -126,11 +131,35 @@ fn plain_name(name: Atom) -> ArgPattern
     })
 }
 
+/// The name of the source of that number.
 fn source_name(alloc: Global, prefix: &str, number: usize) -> Result<Atom, NoMemory>
     ensures { IfOk result (λ a. a ≡ source_name prefix.now number) }
 {
+    if let Some(name) = usual_name(prefix, number) {
+        return Atom::new(alloc, name);
+    }
     let text = format!(in alloc; "{prefix}{number}")?;
     Atom::new(alloc, text.as_str())
+}
+
+/// The same of one of the first sources behind the prefix that most grammars have: so their names need not be made.
+fn usual_name(prefix: &str, number: usize) -> Option<&'static str>
+    ensures { IfSome result (λ name. name.now ≡ source_name prefix.now number) }
+{
+    if prefix != "__" {
+        return None;
+    }
+    match number {
+        0 => Some("__0"),
+        1 => Some("__1"),
+        2 => Some("__2"),
+        3 => Some("__3"),
+        4 => Some("__4"),
+        5 => Some("__5"),
+        6 => Some("__6"),
+        7 => Some("__7"),
+        _ => None,
+    }
 }
 
 fn is_source(some_named: bool, some_chosen: bool, symbol: &Symbol) -> bool

@@ -15,7 +15,7 @@ use std::alloc::Global;
 pub(crate) fn check_code(alloc: Global, alternative: &Alternative) -> NormResult<()>
     ensures { Refuses result (code_faults (alternative_view alternative.now)) }
 {
-    let count = slots(alloc, code_in(&alternative.action))?;
+    let count = slots(code_in(&alternative.action));
     if count < 2 {
         return Ok(());
     }

@@ -1,9 +1,9 @@
 -- Codes cut at their `<>`, and filled.
-use Rattle.std.proofs.Common.{◌≡◌, ◌∙◌, ℕ, suc, ◌+◌, Bool, true, false, cond, ◌||◌, ◌&&◌, List, [], ◌∷◌, ◌++◌, length, map, drop, ◌<◌, Option, Some, None, refl, sym, ap, subst, codes, option_map, arith, length-append, add-one}
+use Rattle.std.proofs.Common.{◌≡◌, ◌∙◌, ℕ, suc, ◌+◌, Bool, true, false, cond, ◌||◌, ◌&&◌, List, [], ◌∷◌, ◌++◌, length, map, drop, ◌<◌, ◌≤◌, Option, Some, None, refl, sym, ap, subst, codes, option_map, arith, length-append, append-nil}
 use Rattle.std.specs.Prelude.{flat_map, zip, replicate, nat_eq, nat_le}
 use Rattle.std.specs.List.{starts_with, AllByRecursion}
 use Rattle.std.specs.Cmp.{nat_eq_equiv}
-use Rattle.std.proofs.lemmas.List.{length-map, map-append, append_assoc}
+use Rattle.std.proofs.lemmas.List.{append_assoc}
 use Rattle.std.proofs.lemmas.List.Elements.{All-from_recursion}
 use Rattle.lalrpop_norm_tree_names.specs.Texts.{joined}
 use Rattle.lalrpop_norm_session.specs.Braces.{is_slot, around_slot}
@@ -159,44 +159,64 @@ shorter s p h =
     let long : length s ≡ length p.0 + (2 + length p.1) = ap length is ∙ length-append p.0 (codes "<>" ++ p.1) ∙ ap (λ n. length p.0 + n) (length-append (codes "<>") p.1) in
     omega (arith, long)
 
--- ---- filled, by the pieces
+-- ---- piece by piece: how many slots, and what is filled
 
-one_fewer : (n : ℕ) → nat_le (suc n) 2 ≡ nat_le n 1
-one_fewer n = grind arith
+pub one_more_slot : (s : List ℕ) (p : List ℕ × List ℕ) → around_slot s ≡ Some p → slots s ≡ suc (slots p.1)
+one_more_slot s p h = sym (counted s) ∙ ap (λ ps. length (drop 1 ps)) (next_piece s p h) ∙ ap suc (counted p.1)
 
-pub one_more_piece : {X : Type 0} (f : X → List ℕ) (code : List ℕ) (ps : List X) → map f ps ≡ pieces code → length ps ≡ slots code + 1
-one_more_piece f code ps is = sym (length-map ps f) ∙ ap length is ∙ ap suc (counted code) ∙ sym (add-one (slots code))
+pub no_slot : (s : List ℕ) → around_slot s ≡ None → slots s ≡ 0
+no_slot s h = sym (counted s) ∙ ap (λ ps. length (drop 1 ps)) (last_piece s h)
 
-module _ {X : Type 0} (f : X → List ℕ) (b : Bool) (ns : List (List ℕ)) (code : List ℕ) (ps : List X) (is : map f ps ≡ pieces code) where
-  long_pieces : length ps ≡ suc (slots code)
-  long_pieces = sym (length-map ps f) ∙ ap length is ∙ ap suc (counted code)
+pub few_slots : (s : List ℕ) → slots s ≤ length s
+few_slots [] = omega (arith)
+few_slots (c ∷ cs) = at_most (starts_with nat_eq (c ∷ cs) (codes "<>")) (slots cs) (length cs) (few_slots cs)
+  where
+    at_most : (b : Bool) (n m : ℕ) → n ≤ m → cond b (suc n) n ≤ suc m
+    at_most true n m le = omega (arith, le)
+    at_most false n m le = omega (arith, le)
 
-  same_test : (b || nat_le (length ps) 2) ≡ (b || nat_le (slots code) 1)
-  same_test = ap (λ n. b || nat_le n 2) long_pieces ∙ ap (λ t. b || t) (one_fewer (slots code))
+-- all names in the place of each slot
 
-  pub alike_filled : (b || nat_le (length ps) 2) ≡ true → joined (joined (codes ", ") ns) (map f ps) ≡ filled_code b ns code
-  alike_filled h =
-      ap (joined (joined (codes ", ") ns)) is
-      ∙ ap (λ t. cond t (joined (joined (codes ", ") ns) (pieces code)) (in_order ns (pieces code))) (sym (sym same_test ∙ h))
+pub alike_turn : (all old mid new whole s : List ℕ) (p : List ℕ × List ℕ) → around_slot s ≡ Some p → mid ≡ old ++ p.0 → new ≡ mid ++ all → old ++ joined all (pieces s) ≡ whole → new ++ joined all (pieces p.1) ≡ whole
+alike_turn all old mid new whole s p h before names so_far =
+    let rest = joined all (pieces p.1) in
+    let here : joined all (pieces s) ≡ p.0 ++ (all ++ rest) = ap (joined all) (next_piece s p h) ∙ ap (λ xs. p.0 ++ xs) (append_assoc all (cut p.1).0 (flat_map (λ u. all ++ u) (cut p.1).1)) in
+    ap (λ t. t ++ rest) (names ∙ ap (λ t. t ++ all) before)
+    ∙ append_assoc (old ++ p.0) all rest ∙ append_assoc old p.0 (all ++ rest)
+    ∙ ap (λ xs. old ++ xs) (sym here) ∙ so_far
 
-  pub in_order_filled : (b || nat_le (length ps) 2) ≡ false → in_order ns (map f ps) ≡ filled_code b ns code
-  in_order_filled h =
-      ap (in_order ns) is
-      ∙ ap (λ t. cond t (joined (joined (codes ", ") ns) (pieces code)) (in_order ns (pieces code))) (sym (sym same_test ∙ h))
+pub alike_end : (all old new whole s : List ℕ) → around_slot s ≡ None → new ≡ old ++ s → old ++ joined all (pieces s) ≡ whole → new ≡ whole
+alike_end all old new whole s h last so_far =
+    last ∙ ap (λ xs. old ++ xs) (sym (ap (joined all) (last_piece s h) ∙ append-nil s)) ∙ so_far
 
-  pub names_enough : (b || nat_le (length ps) 2) ≡ false → length (in_slots b ns (slots code)) ≡ slots code → length ps ≡ length ns + 1
-  names_enough h enough =
-      let by_names : length ns ≡ slots code = ap (λ t. length (cond t (replicate (slots code) (joined (codes ", ") ns)) ns)) (sym (sym same_test ∙ h)) ∙ enough in
-      long_pieces ∙ ap suc (sym by_names) ∙ sym (add-one (length ns))
+-- one name in each
 
--- ---- pieces put into a list
+pub in_order_turn : (old mid new whole s n : List ℕ) (ns ms : List (List ℕ)) (p : List ℕ × List ℕ) → around_slot s ≡ Some p → ns ≡ n ∷ ms → mid ≡ old ++ p.0 → new ≡ mid ++ n → old ++ in_order ns (pieces s) ≡ whole → new ++ in_order ms (pieces p.1) ≡ whole
+in_order_turn old mid new whole s n ns ms p h is before name so_far =
+    let rest = in_order ms (pieces p.1) in
+    let here : in_order ns (pieces s) ≡ p.0 ++ (n ++ rest) =
+    ap (λ xs. in_order xs (pieces s)) is ∙ ap (in_order (n ∷ ms)) (next_piece s p h)
+    ∙ ap (λ xs. p.0 ++ xs) (append_assoc n (cut p.1).0 (flat_map (λ e. e.0 ++ e.1) (zip ms (cut p.1).1))) in
+    ap (λ t. t ++ rest) (name ∙ ap (λ t. t ++ n) before)
+    ∙ append_assoc (old ++ p.0) n rest ∙ append_assoc old p.0 (n ++ rest)
+    ∙ ap (λ xs. old ++ xs) (sym here) ∙ so_far
 
-pub pushed_last : {X : Type 0} (f : X → List ℕ) (old new : List X) (x : X) (code : List ℕ) → new ≡ old ++ x ∷ [] → f x ≡ code → around_slot code ≡ None → map f new ≡ map f old ++ pieces code
-pushed_last f old new x code h is none =
-    ap (map f) h ∙ map-append f old (x ∷ []) ∙ ap (λ (p : List ℕ). map f old ++ p ∷ []) is ∙ ap (λ ps. map f old ++ ps) (sym (last_piece code none))
+pub in_order_end : (old new whole s : List ℕ) (ns : List (List ℕ)) → around_slot s ≡ None → new ≡ old ++ s → old ++ in_order ns (pieces s) ≡ whole → new ≡ whole
+in_order_end old new whole s ns h last so_far =
+    last ∙ ap (λ xs. old ++ xs) (sym (ap (in_order ns) (last_piece s h) ∙ ap (λ es. s ++ flat_map (λ e. e.0 ++ e.1) es) (none_left ns) ∙ append-nil s)) ∙ so_far
+  where
+    none_left : (ns : List (List ℕ)) → zip ns (let none : List (List ℕ) = [] in none) ≡ []
+    none_left [] = refl
+    none_left (n ∷ ns) = refl
 
-pub pushed_more : {X : Type 0} (f : X → List ℕ) (old mid : List X) (all : List (List ℕ)) (x : X) (code after : List ℕ) → mid ≡ old ++ x ∷ [] → around_slot code ≡ Some (f x, after) → all ≡ map f mid ++ pieces after
-    → all ≡ map f old ++ pieces code
-pushed_more f old mid all x code after h is made =
-    made ∙ ap (λ ps. map f ps ++ pieces after) h ∙ ap (λ ps. ps ++ pieces after) (map-append f old (x ∷ []))
-    ∙ append_assoc (map f old) (f x ∷ []) (pieces after) ∙ ap (λ ps. map f old ++ ps) (sym (next_piece code (f x, after) is))
+-- ---- which of both
+
+module _ (b : Bool) (ns : List (List ℕ)) (code : List ℕ) where
+  pub alike_filled : (b || nat_le (slots code) 1) ≡ true → joined (joined (codes ", ") ns) (pieces code) ≡ filled_code b ns code
+  alike_filled h = ap (λ t. cond t (joined (joined (codes ", ") ns) (pieces code)) (in_order ns (pieces code))) (sym h)
+
+  pub in_order_filled : (b || nat_le (slots code) 1) ≡ false → in_order ns (pieces code) ≡ filled_code b ns code
+  in_order_filled h = ap (λ t. cond t (joined (joined (codes ", ") ns) (pieces code)) (in_order ns (pieces code))) (sym h)
+
+  pub names_enough : (b || nat_le (slots code) 1) ≡ false → length (in_slots b ns (slots code)) ≡ slots code → length ns ≡ slots code
+  names_enough h enough = ap (λ t. length (cond t (replicate (slots code) (joined (codes ", ") ns)) ns)) (sym h) ∙ enough

@@ -9,70 +9,75 @@ ghost use Rattle.lalrpop_norm_lower_steps.specs.Slots.{pieces, in_order, filled_
 use lalrpop_norm_tree::grammar::parse_tree::{Atom, NoMemory};
 use std::alloc::Global;
 
-/// How often `<>` stands in a code. The only error is want of memory.
-#[tactic(auto, using(crate::proofs::SlotLemmas::one_more_piece))]
-pub fn slots(alloc: Global, code: &str) -> Result<usize, NoMemory>
-    ensures { IfOk result (λ n. n ≡ slots code.now) }
+/// How many bytes a code has room for at first: a block of memory is not smaller on most systems.
+const ROOM: usize = 24;
+
+/// How often `<>` stands in a code.
+pub fn slots(code: &str) -> usize
+    ensures { result ≡ slots code.now }
 {
-    let pieces = pieces(alloc, code)?;
-    Ok(pieces.len().saturating_sub(1))
+    // `len` is called for its clause that it is small, which the proof cites.
+    let _length = code.len();
+    let mut count = 0usize;
+    let mut rest = code;
+    while let Some((_, after)) = split_at_slot(rest) {
+        count += 1;
+        rest = after;
+    }
+    count
 }
 
 /// The code with its `<>` replaced, all at once: by the names in order where symbols have none of their own and there are
 /// several, else each by all names. The only error is want of memory.
-#[tactic(auto, using(crate::proofs::SlotLemmas::alike_filled, crate::proofs::SlotLemmas::in_order_filled, crate::proofs::SlotLemmas::names_enough))]
 pub fn filled(alloc: Global, is_named: bool, names: &[Atom], code: &str) -> Result<String, NoMemory>
     requires { length (in_slots is_named names.now (slots code.now)) ≡ slots code.now }
     ensures { IfOk result (λ s. string_bytes s ≡ filled_code is_named names.now code.now) }
 {
-    let pieces = pieces(alloc, code)?;
-    if is_alike(is_named, &pieces) {
-        filled_alike(alloc, names, &pieces)
+    let mut text = String::with_capacity(alloc, ROOM)?;
+    if is_alike(is_named, code) {
+        push_alike(&mut text, names, code)?;
     } else {
-        filled_in_order(alloc, names, &pieces)
+        push_in_order(&mut text, names, code)?;
     }
+    Ok(text)
 }
 
 /// Whether each `<>` is replaced by all names: where symbols have names, and where there is at most one `<>`.
-fn is_alike(is_named: bool, pieces: &[&str]) -> bool
-    ensures { result ≡ (is_named || nat_le (length pieces.now) 2) }
+fn is_alike(is_named: bool, code: &str) -> bool
+    ensures { result ≡ (is_named || nat_le (slots code.now) 1) }
 {
-    is_named || pieces.len() <= 2
+    is_named || slots(code) <= 1
 }
 
-fn filled_alike(alloc: Global, names: &[Atom], pieces: &[&str]) -> Result<String, NoMemory>
-    ensures { IfOk result (λ s. string_bytes s ≡ joined (joined (codes ", ") names.now) (map (λ p. p.now) pieces.now)) }
+/// Adds the code, in which all names stand in the place of each `<>`.
+fn push_alike(text: &mut String, names: &[Atom], code: &str) -> Result<(), NoMemory>
+    ensures { OnOk result (string_bytes text.new ≡ string_bytes text.old ++ joined (joined (codes ", ") names.now) (pieces code.now)) }
 {
-    let all = joined(alloc, names)?;
-    let mut text = String::new(alloc);
-    push_joined(&mut text, pieces, all.as_str())?;
-    Ok(text)
-}
-
-fn filled_in_order(alloc: Global, names: &[Atom], pieces: &[&str]) -> Result<String, NoMemory>
-    requires { length pieces.now ≡ length names.now + 1 }
-    ensures { IfOk result (λ s. string_bytes s ≡ in_order names.now (map (λ p. p.now) pieces.now)) }
-{
-    let mut text = String::new(alloc);
-    if let Some((first, others)) = pieces.split_first() {
-        text.push_str(first)?;
-        push_with_names(&mut text, names, others)?;
-    }
-    Ok(text)
-}
-
-/// What stands between the `<>` of a code, before the first and behind the last.
-fn pieces(alloc: Global, code: &str) -> Result<Vec<&str>, NoMemory>
-    ensures { IfOk result (λ ps. map (λ p. p.now) ps.items ≡ pieces code.now) }
-{
-    let mut pieces = Vec::new(alloc);
     let mut rest = code;
     while let Some((before, after)) = split_at_slot(rest) {
-        pieces.push(before)?;
+        text.push_str(before)?;
+        push_names(text, names)?;
         rest = after;
     }
-    pieces.push(rest)?;
-    Ok(pieces)
+    text.push_str(rest)?;
+    Ok(())
+}
+
+/// Adds the code, in which the names stand in the places of `<>`, in order.
+fn push_in_order(text: &mut String, names: &[Atom], code: &str) -> Result<(), NoMemory>
+    requires { length names.now ≡ slots code.now }
+    ensures { OnOk result (string_bytes text.new ≡ string_bytes text.old ++ in_order names.now (pieces code.now)) }
+{
+    let mut rest = code;
+    let mut number = 0usize;
+    while let Some((before, after)) = split_at_slot(rest) {
+        text.push_str(before)?;
+        text.push_str(names[number].as_str())?;
+        number += 1;
+        rest = after;
+    }
+    text.push_str(rest)?;
+    Ok(())
 }
 
 /// What stands before the first `<>` and after it.
@@ -85,43 +90,16 @@ fn split_at_slot(code: &str) -> Option<(&str, &str)>
     }
 }
 
-/// The names with `, ` between each two.
-fn joined(alloc: Global, names: &[Atom]) -> Result<String, NoMemory>
-    ensures { IfOk result (λ s. string_bytes s ≡ joined (codes ", ") names.now) }
+/// Adds the names, with `, ` between each two.
+fn push_names(text: &mut String, names: &[Atom]) -> Result<(), NoMemory>
+    ensures { OnOk result (string_bytes text.new ≡ string_bytes text.old ++ joined (codes ", ") names.now) }
 {
-    let mut text = String::new(alloc);
     if let Some((first, others)) = names.split_first() {
         text.push_str(first.as_str())?;
         for other in others {
             text.push_str(", ")?;
             text.push_str(other.as_str())?;
         }
-    }
-    Ok(text)
-}
-
-/// Adds the pieces with that text between each two.
-fn push_joined(text: &mut String, pieces: &[&str], between: &str) -> Result<(), NoMemory>
-    ensures { OnOk result (string_bytes text.new ≡ string_bytes text.old ++ joined between.now (map (λ p. p.now) pieces.now)) }
-{
-    if let Some((first, others)) = pieces.split_first() {
-        text.push_str(first)?;
-        for other in others {
-            text.push_str(between)?;
-            text.push_str(other)?;
-        }
-    }
-    Ok(())
-}
-
-/// Adds the pieces, each with its name before it.
-fn push_with_names(text: &mut String, names: &[Atom], pieces: &[&str]) -> Result<(), NoMemory>
-    requires { length names.now ≡ length pieces.now }
-    ensures { OnOk result (string_bytes text.new ≡ string_bytes text.old ++ flat_map (λ e. e.0 ++ e.1) (zip names.now (map (λ p. p.now) pieces.now))) }
-{
-    for index in 0..pieces.len() {
-        text.push_str(names[index].as_str())?;
-        text.push_str(pieces[index])?;
     }
     Ok(())
 }

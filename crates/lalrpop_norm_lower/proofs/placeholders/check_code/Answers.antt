@@ -13,8 +13,8 @@ returns-in-Named c = named_clean (alternative_view c.args.alternative.now) _ (rw
 
 pub returns : goal.returns
 returns c =
-    let faults = unnamed_faults (λ t. (t.0, symbol_view t.1.now)) (alternative_view c.args.alternative.now) c.in-Anon.sources.items c.in_ok-count.count
-    (rw c.in-Anon.is at c.in_ok-analyze_expr.ensures) (c.in_ok-count.ensures ∙ ap slots c.code_in.ensures) c.if-count-lt2.false in
+    let faults = unnamed_faults (λ t. (t.0, symbol_view t.1.now)) (alternative_view c.args.alternative.now) c.in-Anon.sources.items c.slots-count.result
+    (rw c.in-Anon.is at c.in_ok-analyze_expr.ensures) (c.slots-count.ensures ∙ ap slots c.code_in.ensures) c.if-count-lt2.false in
     subst (λ fs. Refuses c.check_count.result fs)
-    (ap (λ xs. count_faults c.args.alternative.now.span c.in_ok-count.count (map (λ t. let s : Source = record { place = t.0; symbol = symbol_view t.1.now } in s) xs)) c.deref.ensures.value ∙ faults)
+    (ap (λ xs. count_faults c.args.alternative.now.span c.slots-count.result (map (λ t. let s : Source = record { place = t.0; symbol = symbol_view t.1.now } in s) xs)) c.deref.ensures.value ∙ faults)
     c.check_count.ensures
