@@ -1,5 +1,5 @@
 -- Names and their numbers.
-use Rattle.std.specs.Prelude.{◌≡◌, ℕ, List, Option, bytes_eq}
+use Rattle.std.specs.Prelude.{◌≡◌, ℕ, List, [], ◌∷◌, Option, bytes_eq}
 use Rattle.std.specs.List.{position}
 use Rattle.std.specs.HashMap.{get}
 use Rattle.lalrpop_norm_names.specs.declared.table.Names.{Names}
@@ -8,9 +8,13 @@ use Rattle.lalrpop_norm_names.specs.declared.table.Names.{Names}
 abbrev pub first_place : List (List ℕ) → List ℕ → Option ℕ
 first_place names name = position (λ stands. bytes_eq stands name) names
 
--- the number that a name has in a table
+-- the number that a name has in a table: its place among few names, or what stands under it
+abbrev pub number_by : List (List ℕ) → Option ℕ → List ℕ → Option ℕ
+number_by [] number name = number
+number_by (f ∷ fs) number name = first_place (f ∷ fs) name
+
 abbrev pub number_in_table : Names → List ℕ → Option ℕ
-number_in_table table name = get bytes_eq table.numbers name
+number_in_table table name = number_by table.few.items (get bytes_eq table.many name) name
 
 -- each name has the first place at which it stands in the list as its number, and one that does not stand there has none
 abbrev pub IsNumbering : List (List ℕ) → Names → Type 0

@@ -1,5 +1,6 @@
 //! A hash whose seed is a digest of all that may be hashed.
 ghost use Rattle.std.specs.Prelude.{◌≡◌, map};
+ghost use Rattle.std.specs.Hash.DefaultHasher.{initial};
 ghost use Rattle.lalrpop_norm_names.specs.Seeds.{seeded_after, seeded_hasher};
 
 use lalrpop_norm_tree_names::names::NonterminalString;
@@ -22,6 +23,15 @@ impl Seeded {
         start.write_u64(digest);
         start.write_u64(reader.finish());
         Seeded { start }
+    }
+
+    /// Without a seed, for a table of nothing: nothing in it can be chosen to collide.
+    pub(crate) fn of_nothing() -> Seeded
+        ensures { result.start ≡ initial }
+    {
+        Seeded {
+            start: DefaultHasher::new(),
+        }
     }
 
     /// By all the names, and their order.

@@ -1,6 +1,6 @@
 //! The table from names to numbers.
-ghost use Rattle.std.specs.Prelude.{◌≡◌, IfOk, map};
-ghost use Rattle.lalrpop_norm_names.specs.Numbers.{number_in_table, IsNumbering};
+ghost use Rattle.std.specs.Prelude.{◌≡◌, ◌<◌, [], length, IfOk, map};
+ghost use Rattle.lalrpop_norm_names.specs.Numbers.{first_place, number_in_table, IsNumbering};
 
 use crate::seeded::Seeded;
 use lalrpop_norm_tree_names::names::NonterminalString;
@@ -8,13 +8,19 @@ use shared_text::{Atom, NoMemory};
 use std::alloc::Global;
 use std::collections::HashMap;
 
+/// So many names are compared one by one: that takes no longer than to hash one.
+const FEW: usize = 8;
+
 /// The numbers of the names in a list: each has the first place at which it stands there, counted from 0.
 ///
-/// A look-up takes the time of one hash and one comparison, for names that someone chose to make it slow too. So no name can
-/// be added later: it would not be in the seed of the hash.
+/// A look-up takes the time of one hash and one comparison, or of a few comparisons, for names that someone chose to make it slow
+/// too. So no name can be added later: it would not be in the seed of the hash.
 #[derive(Drop)]
 pub struct Names {
-    numbers: HashMap<Atom, usize, Seeded>,
+    /// The names, where there are some, and few.
+    few: Vec<Atom>,
+    /// Else the number of each.
+    many: HashMap<Atom, usize, Seeded>,
 }
 
 impl Names {
@@ -22,17 +28,70 @@ impl Names {
     pub fn of(alloc: Global, names: &[NonterminalString]) -> Result<Names, NoMemory>
         ensures { IfOk result (IsNumbering (map (λ n. n.0) names.now)) }
     {
-        let mut numbers = HashMap::with_capacity_and_hasher(alloc, names.len(), Seeded::by(names))?;
-        for place in (0..names.len()).rev() {
-            numbers.insert(names[place].0.again(), place)?;
+        if names.is_empty() {
+            return Ok(no_names(alloc));
         }
-        Ok(Names { numbers })
+        if names.len() <= FEW {
+            return few_names(alloc, names);
+        }
+        many_names(alloc, names)
     }
 
     /// The number of a name, if it stands in the list.
     pub fn number(&self, name: &NonterminalString) -> Option<usize>
         ensures { result ≡ number_in_table self.now name.now.0 }
     {
-        self.numbers.get(&name.0).copied()
+        if self.few.is_empty() {
+            return self.many.get(&name.0).copied();
+        }
+        place_among(&self.few, &name.0)
     }
+}
+
+fn no_names(alloc: Global) -> Names
+    ensures { IsNumbering [] result }
+{
+    Names {
+        few: Vec::new(alloc),
+        many: HashMap::with_hasher(alloc, Seeded::of_nothing()),
+    }
+}
+
+fn few_names(alloc: Global, names: &[NonterminalString]) -> Result<Names, NoMemory>
+    requires { 0 < length names.now }
+    ensures { IfOk result (IsNumbering (map (λ n. n.0) names.now)) }
+{
+    let mut few = Vec::with_capacity(alloc, names.len())?;
+    for name in names {
+        few.push(name.0.again())?;
+    }
+    Ok(Names {
+        few,
+        many: HashMap::with_hasher(alloc, Seeded::of_nothing()),
+    })
+}
+
+fn many_names(alloc: Global, names: &[NonterminalString]) -> Result<Names, NoMemory>
+    ensures { IfOk result (IsNumbering (map (λ n. n.0) names.now)) }
+{
+    let mut many = HashMap::with_capacity_and_hasher(alloc, names.len(), Seeded::by(names))?;
+    for place in (0..names.len()).rev() {
+        many.insert(names[place].0.again(), place)?;
+    }
+    Ok(Names {
+        few: Vec::new(alloc),
+        many,
+    })
+}
+
+/// The first place at which a name stands, if it does.
+fn place_among(names: &[Atom], name: &Atom) -> Option<usize>
+    ensures { result ≡ first_place names.now name.now }
+{
+    for place in 0..names.len() {
+        if names[place] == *name {
+            return Some(place);
+        }
+    }
+    None
 }

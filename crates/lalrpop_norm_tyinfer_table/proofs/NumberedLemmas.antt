@@ -1,11 +1,13 @@
 -- What stands in a table of types by number.
 use Rattle.std.proofs.Common.{◌≡◌, ◌+◌, ◌++◌, ◌<◌, inl, inr, ℕ, zero, suc, Bool, true, false, cond, List, [], ◌∷◌, Option, Some, None, length, map, take, set, get_or, slice_get, bytes_eq, if◌then◌else◌, refl, sym, ap, subst, ◌∙◌, arith}
 use Rattle.std.specs.Prelude.{option_map}
-use Rattle.std.specs.HashMap.{keys}
+use Rattle.std.specs.HashMap.{get, keys}
+use Rattle.std.specs.List.{position_from}
 use Rattle.std.specs.Map.{lookup, keys_of}
+use Rattle.std.proofs.lemmas.Iterator.Adapters.{position_from-zero}
 use Rattle.std.proofs.lemmas.Option.{slice_get-map}
 use Rattle.std.proofs.lemmas.Slice.Eq.{bytes_eq-Decides}
-use Rattle.lalrpop_norm_names.specs.Numbers.{number_in_table}
+use Rattle.lalrpop_norm_names.specs.Numbers.{first_place, number_by, number_in_table}
 use Rattle.lalrpop_norm_theory.specs.Rounds.{In, IsDistinct}
 use Rattle.lalrpop_norm_tree_names.specs.declared.names.NonterminalString.{NonterminalString}
 use Rattle.lalrpop_norm_tree.specs.Accessors.{or_else}
@@ -17,7 +19,7 @@ use Rattle.lalrpop_norm_model.proofs.ListLemmas.{texts_differ}
 use Rattle.lalrpop_norm_tyinfer_table.proofs.NeedLemmas.{of_mapped_at}
 use Rattle.lalrpop_norm_tyinfer_table.specs.declared.numbered.Numbered.{Numbered}
 use Rattle.lalrpop_norm_tyinfer_table.specs.Needs.{AreRuleNumbers}
-use Rattle.lalrpop_norm_tyinfer_table.specs.Numbered.{names_numbered, type_of_rule, type_at, type_by_number, row_if, typed_rows, numbered_table, PutsType, PutsRow}
+use Rattle.lalrpop_norm_tyinfer_table.specs.Numbered.{names_numbered, type_of_rule, type_at, type_by_number, row_if, typed_rows, names_in, numbered_table, PutsType, PutsRow}
 use Rattle.lalrpop_norm_tyinfer_table.specs.TableValues.{named_by, type_by_name}
 
 -- ---- a row for each name
@@ -54,13 +56,35 @@ key_in : (n : List ℕ) (es : List (List ℕ × ℕ)) (k : ℕ) → lookup (byte
 key_in n [] k here = absurd (cc here)
 key_in n (e ∷ es) k here = key_case n e es k (λ h. key_in n es k h) (bytes_eq n e.0) refl here
 
+place_case : (n m : List ℕ) (ns : List (List ℕ)) (i k : ℕ) → (position_from (λ stands. bytes_eq stands n) (i + 1) ns ≡ Some k → In n ns) → (b : Bool) → bytes_eq m n ≡ b →
+    cond b (Some i) (position_from (λ stands. bytes_eq stands n) (i + 1) ns) ≡ Some k → In n (m ∷ ns)
+place_case n m ns i k rest true is here = inl (sym ((bytes_eq-Decides m n).0 is))
+place_case n m ns i k rest false is here = inr (rest here)
+
+place_from : (n : List ℕ) (ns : List (List ℕ)) (i k : ℕ) → position_from (λ stands. bytes_eq stands n) i ns ≡ Some k → In n ns
+place_from n [] i k here = absurd (cc here)
+place_from n (m ∷ ns) i k here = place_case n m ns i k (λ h. place_from n ns (i + 1) k h) (bytes_eq m n) refl here
+
+-- a name with a place among names is one of them
+place_in : (n : List ℕ) (ns : List (List ℕ)) (k : ℕ) → first_place ns n ≡ Some k → In n ns
+place_in n ns k here = place_from n ns 0 k (sym (position_from-zero (λ stands. bytes_eq stands n) ns) ∙ here)
+
+in_front : (n : List ℕ) (ns others : List (List ℕ)) → In n ns → In n (ns ++ others)
+in_front n [] others h = absurd h
+in_front n (m ∷ ns) others (inl same) = inl same
+in_front n (m ∷ ns) others (inr h) = inr (in_front n ns others h)
+
+name_in : (n : List ℕ) (few keys : List (List ℕ)) (number : Option ℕ) (k : ℕ) → ((j : ℕ) → number ≡ Some j → In n keys) → number_by few number n ≡ Some k → In n (few ++ keys)
+name_in n [] keys number k there here = there k here
+name_in n (f ∷ fs) keys number k there here = in_front n (f ∷ fs) keys (place_in n (f ∷ fs) k here)
+
 module _ (t : Numbered) (n : List ℕ) where
   by_type : (k : ℕ) → number_in_table t.names n ≡ Some k → (o : Option ReprData) → type_by_number t n ≡ o → type_by_name (numbered_table t) n ≡ o
-  by_type k number None e = found_none (type_by_number t) n (keys t.names.numbers) e
-  by_type k number (Some x) e = found_some (type_by_number t) n (keys t.names.numbers) x e (key_in n t.names.numbers.entries k number)
+  by_type k number None e = found_none (type_by_number t) n (names_in t.names) e
+  by_type k number (Some x) e = found_some (type_by_number t) n (names_in t.names) x e (name_in n t.names.few.items (keys t.names.many) (get bytes_eq t.names.many n) k (λ j. key_in n t.names.many.entries j) number)
 
   by_case : (o : Option ℕ) → number_in_table t.names n ≡ o → type_by_name (numbered_table t) n ≡ type_by_number t n
-  by_case None e = let none : type_by_number t n ≡ None = ap (type_at t.rules.items) e in found_none (type_by_number t) n (keys t.names.numbers) none ∙ sym none
+  by_case None e = let none : type_by_number t n ≡ None = ap (type_at t.rules.items) e in found_none (type_by_number t) n (names_in t.names) none ∙ sym none
   by_case (Some k) e = by_type k e (type_by_number t n) refl
 
   -- a name has the type at its number

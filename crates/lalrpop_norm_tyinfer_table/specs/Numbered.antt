@@ -2,6 +2,7 @@
 use Rattle.std.specs.Prelude.{◌≡◌, ◌<◌, ◌++◌, ◌∷◌, ℕ, List, [], length, map, Option, Some, None, option_map, slice_get}
 use Rattle.std.specs.HashMap.{keys}
 use Rattle.lalrpop_norm_names.specs.Numbers.{number_in_table}
+use Rattle.lalrpop_norm_names.specs.declared.table.Names.{Names}
 use Rattle.lalrpop_norm_tree_names.specs.declared.names.NonterminalString.{NonterminalString}
 use Rattle.lalrpop_norm_tree_parts.specs.declared.lowered.TypeRepr.{TypeRepr}
 use Rattle.lalrpop_norm_tree_parts.specs.Reprs.{ReprData, repr_view}
@@ -38,9 +39,13 @@ abbrev pub typed_rows : (List ℕ → Option ReprData) → List (List ℕ) → L
 typed_rows f [] = []
 typed_rows f (n ∷ ns) = row_if n (f n) ++ typed_rows f ns
 
+-- the names that may have numbers: few ones are listed, many are keys
+abbrev pub names_in : Names → List (List ℕ)
+names_in names = names.few.items ++ keys names.many
+
 -- the table of types that they are
 abbrev pub numbered_table : Numbered → TypeTable
-numbered_table t = record (type_table t.tokens) { nonterminals = typed_rows (type_by_number t) (keys t.names.numbers) }
+numbered_table t = record (type_table t.tokens) { nonterminals = typed_rows (type_by_number t) (names_in t.names) }
 
 -- the number takes a type
 pub record PutsType (t after : Numbered) (number : ℕ) (x : ReprData) : Type 0 where

@@ -1,12 +1,12 @@
 use Rattle.std.proofs.Common.{◌≡◌, ◌<◌, ◌+◌, ◌-◌, map, length, get_or, sym, ap, ◌∙◌, bytes_eq, cond, Some, arith}
 use Rattle.std.proofs.lemmas.List.{get_or-map, length-map}
-use Rattle.lalrpop_norm_names.proofs.Places.{place_at_end, place_before, place_from, place_from_start}
-use Rattle.lalrpop_norm_names.proofs.table.Names.of.Goals as goal
+use Rattle.lalrpop_norm_names.proofs.Places.{place_at_end, place_before, place_from, place_from_start, number_without}
+use Rattle.lalrpop_norm_names.proofs.table.many_names.Goals as goal
 
 pub loop-place-init : goal.loop-place-init
 loop-place-init c = λ name.
     let texts = map (λ n. n.0) c.args.names.now in
-    rw (c.in_ok-numbers.ensures.empty, ← length-map c.args.names.now (λ n. n.0)) (sym (place_at_end texts name))
+    rw (c.in_ok-many.ensures.empty, ← length-map c.args.names.now (λ n. n.0)) (sym (place_at_end texts name))
 
 pub loop-place-preserved : goal.loop-place-preserved
 loop-place-preserved c = λ name.
@@ -29,4 +29,4 @@ pub returns : goal.returns
 returns c = λ name.
     let start : c.loop-place.place ≡ 0 = omega arith in
     let texts = map (λ n. n.0) c.args.names.now in
-    c.loop-place.invariant name ∙ ap (λ j. place_from texts j name) start ∙ place_from_start texts name
+    number_without _ _ name (ap length c.new.ensures.items) ∙ c.loop-place.invariant name ∙ ap (λ j. place_from texts j name) start ∙ place_from_start texts name
