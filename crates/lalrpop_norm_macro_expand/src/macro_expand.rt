@@ -123,8 +123,8 @@ fn expand_rounds(alloc: Global, grammar: Grammar, limit: u16) -> NormResult<Expa
     ensures counted { IfOk result (λ x. IsCounted x.table) }
     ensures seen { IfOk result (λ x. length (seen_in x.table) ≡ length (made_symbols comparison (grammar_view grammar) limit)) }
 {
-    let names = declared_names(alloc, &grammar.items)?;
     let seed = seeded_by(&grammar.items);
+    let names = declared_names(alloc, &grammar.items, seed)?;
     let mut table = Table::new(alloc, names, seed);
     let mut grammar = grammar;
     let items = mem::replace(&mut grammar.items, Vec::new(alloc));

@@ -1,9 +1,9 @@
 -- The derived test of two nodes is true just where they are the same; and where a list has a node by it.
-use Rattle.std.proofs.Common.{true≢false, ◌≡◌, ℕ, ◌<◌, Bool, true, false, cond, List, [], ◌∷◌, length, Some, None, slice_get, get_or, refl, sym, ap, ap₂, ◌∙◌, position, nat_lt, arith}
+use Rattle.std.proofs.Common.{true≢false, ◌≡◌, ℕ, ◌<◌, ◌≤◌, Bool, true, false, not, cond, List, [], ◌∷◌, length, Some, None, slice_get, get_or, refl, sym, ap, ap₂, ◌∙◌, position, nat_lt, arith}
 use Rattle.std.proofs.lemmas.Bool.{eqb-true, eq-eqb, and_parts, and_from}
 use Rattle.std.proofs.lemmas.Bool.Decides.{nat_tests}
 use Rattle.std.proofs.lemmas.List.Quantifiers.{position-Some}
-use Rattle.std.proofs.lemmas.List.Sums.{fails_before_first}
+use Rattle.std.proofs.lemmas.List.Sums.{fails_before_first, prefix_len-le-length}
 use Rattle.std.proofs.lemmas.Option.{slice_get-get_or, slice_get_within, get_or_from_slice_get}
 use Rattle.std.specs.List.{position_or_len}
 use Rattle.lalrpop_norm_theory.proofs.SameLemmas.{text_sound, text_same}
@@ -168,3 +168,19 @@ position_new test xs i x e h =
     by : (b : Bool) → nat_lt (position_or_len test xs) (length xs) ≡ b → cond b (Some (position_or_len test xs)) None ≡ None → i < length xs → i < position_or_len test xs
     by true f g k = absurd (cc g)
     by false f g k = grind (arith, nat_tests)
+
+-- the place at which a search ends
+pub place_found : {A : Type 0} (test : A → Bool) (xs : List A) (i : ℕ) → position test xs ≡ Some i → position_or_len test xs ≡ i
+place_found test xs i e = by (nat_lt (position_or_len test xs) (length xs)) e
+  where
+    by : (b : Bool) → cond b (Some (position_or_len test xs)) None ≡ Some i → position_or_len test xs ≡ i
+    by true f = cc f
+    by false f = absurd (cc f)
+
+pub place_new : {A : Type 0} (test : A → Bool) (xs : List A) → position test xs ≡ None → position_or_len test xs ≡ length xs
+place_new test xs e = by (nat_lt (position_or_len test xs) (length xs)) refl e (prefix_len-le-length (λ x. not (test x)) xs)
+  where
+    by : (b : Bool) → nat_lt (position_or_len test xs) (length xs) ≡ b → cond b (Some (position_or_len test xs)) None ≡ None → position_or_len test xs ≤ length xs →
+        position_or_len test xs ≡ length xs
+    by true f g h = absurd (cc g)
+    by false f g h = grind (arith, nat_tests)

@@ -1,10 +1,14 @@
 -- The numbers that a search finds.
-use Rattle.std.proofs.Common.{◌≡◌, ℕ, Bool, true, false, List, [], ◌∷◌, ◌++◌, zero, suc, map, if◌then◌else◌, ap₂, Option, Some, None, slice_get, refl, sym, ap, ◌∙◌, subst, position, length}
+use Rattle.std.proofs.Common.{◌≡◌, ℕ, ◌+◌, Bool, true, false, not, cond, List, [], ◌∷◌, ◌++◌, zero, suc, map, if◌then◌else◌, ap₂, Option, Some, None, option_map, slice_get, refl, sym, ap, ◌∙◌, subst, position, length, arith}
 use Rattle.std.specs.Option.{IfSome, IfNone}
+use Rattle.std.specs.List.{position_or_len}
 use Rattle.lalrpop_norm_nodes.specs.declared.node.Node.{Node}
-use Rattle.lalrpop_norm_nodes.specs.Wholes.{Whole, built, Fits, StandsFor, IsNew, AreRows}
-use Rattle.lalrpop_norm_nodes.proofs.NodeTests.{same_node, node_sound, node_complete, position_found, position_new}
+use Rattle.lalrpop_norm_nodes.specs.Wholes.{Whole, built, Fits, StandsFor, IsNew, AreRows, AreNodes, EntersPlain, stood, came_last, nodes_of, texts_of, wholes}
+use Rattle.lalrpop_norm_nodes.specs.Tables.{own_text_in}
+use Rattle.lalrpop_norm_nodes.specs.declared.node.Nodes.{Nodes}
+use Rattle.lalrpop_norm_nodes.proofs.NodeTests.{same_node, node_sound, node_complete, position_found, position_new, place_found, place_new}
 use Rattle.std.proofs.lemmas.List.{map-append, length-map}
+use Rattle.std.proofs.lemmas.Option.{slice_get-map}
 use Rattle.indexmap.specs.IndexMap.{insert_entry}
 use Rattle.lalrpop_norm_nodes.specs.Wholes.{wholes_on}
 use Rattle.lalrpop_norm_nodes.proofs.RowLemmas.{node_told, node_at, rows_more, wholes_more, slice_last}
@@ -85,3 +89,50 @@ put {V} es fs n v i e at rows fit new = record {
 
     place : i ≡ length ws
     place = at ∙ sym (length-map es (λ e. e.0)) ∙ sym rows.long
+
+-- ---- a node that is made into no rule
+
+-- a row that is put once more stays
+put_again : {V : Type 0} (es : List (Node × V)) (n : Node) (v : V) → slice_get (map (λ e. e.1) es) (position_or_len (same_node n) (map (λ e. e.0) es)) ≡ Some v →
+    insert_entry same_node es n v ≡ es
+put_again [] n v h = absurd (cc h)
+put_again {V} (e ∷ es) n v h = by (same_node n e.0) (put_again es n v) h
+  where
+    first : ℕ
+    first = position_or_len (same_node n) (map (λ e. e.0) es)
+
+    by : (b : Bool) → (slice_get (map (λ e. e.1) es) first ≡ Some v → insert_entry same_node es n v ≡ es) →
+        slice_get (e.1 ∷ map (λ e. e.1) es) (cond (not b) (1 + first) 0) ≡ Some v → (if b then (e.0, v) ∷ es else e ∷ insert_entry same_node es n v) ≡ e ∷ es
+    by true further k = let same : e.1 ≡ v = cc k in ap (λ (x : V). (e.0, x) ∷ es) (sym same)
+    by false further k =
+        let next : suc first ≡ 1 + first = omega arith in
+        ap (λ (fs : List (Node × V)). e ∷ fs) (further (ap (slice_get (e.1 ∷ map (λ e. e.1) es)) next ∙ k))
+
+pub record Entered (a b : Nodes) (n : Node) (i : ℕ) : Type 0 where
+  pub nodes : AreNodes b
+  pub entered : EntersPlain a b (built (wholes a) n)
+  pub number : StandsFor (wholes b) i (built (wholes a) n)
+
+module _ (a b : Nodes) (n : Node) (i : ℕ) (h : AreNodes a) (texts : texts_of a ≡ map own_text_in (wholes a)) (fit : Fits (wholes a) n)
+    (plain : own_text_in (built (wholes a) n) ≡ None) (entries : b.rows.entries ≡ insert_entry same_node a.rows.entries n None)
+    (index : i ≡ position_or_len (same_node n) (nodes_of a)) where
+  place : (r : Option ℕ) → position (same_node n) (nodes_of a) ≡ r → Entered a b n i
+  place None e =
+      let new : IsNew (wholes a) (built (wholes a) n) = number_new (nodes_of a) (wholes a) h n fit None (sym e) in
+      let last : i ≡ length a.rows.entries = index ∙ place_new (same_node n) (nodes_of a) e ∙ length-map a.rows.entries (λ e. e.0) in
+      let p = put a.rows.entries b.rows.entries n None i entries last h fit new in
+      record { nodes = p.rows; entered = came_last p.wholes p.values; number = p.number }
+  place (Some j) e =
+      let at : position_or_len (same_node n) (nodes_of a) ≡ j = place_found (same_node n) (nodes_of a) j e in
+      let stands : StandsFor (wholes a) j (built (wholes a) n) = number_found (nodes_of a) (wholes a) h n fit (Some j) (sym e) in
+      let text : slice_get (texts_of a) j ≡ Some None =
+      ap (λ ts. slice_get ts j) texts ∙ slice_get-map own_text_in (wholes a) j ∙ ap (option_map own_text_in) stands ∙ ap Some plain in
+      let same : b.rows.entries ≡ a.rows.entries = entries ∙ put_again a.rows.entries n None (ap (slice_get (texts_of a)) at ∙ text) in
+      record {
+        nodes = subst (λ es. AreRows (map (λ e. e.0) es) (wholes_on [] (map (λ e. e.0) es))) (sym same) h;
+        entered = stood (ap (λ es. wholes_on [] (map (λ e. e.0) es)) same) (ap (map (λ e. e.1)) same);
+        number = ap₂ (λ es k. slice_get (wholes_on [] (map (λ e. e.0) es)) k) same (index ∙ at) ∙ stands;
+      }
+
+  pub entered : Entered a b n i
+  entered = place (position (same_node n) (nodes_of a)) refl

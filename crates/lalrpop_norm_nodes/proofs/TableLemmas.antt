@@ -15,7 +15,7 @@ use Rattle.lalrpop_norm_nodes.proofs.SamenessLemmas.{closed_same}
 use Rattle.lalrpop_norm_nodes.proofs.InwardLemmas.{met_by, all_stay, were_both}
 use Rattle.lalrpop_norm_nodes.proofs.FirstLemmas.{first_at}
 use Rattle.lalrpop_norm_nodes.specs.declared.node.Node.{Node}
-use Rattle.lalrpop_norm_nodes.specs.Wholes.{Whole, one_symbol, symbols, one_pattern, patterns, built, Fits, StandsFor, texts_of, AreNodes, Grows}
+use Rattle.lalrpop_norm_nodes.specs.Wholes.{Whole, one_symbol, symbols, one_pattern, patterns, built, Fits, StandsFor, texts_of, AreNodes, EntersPlain, stood, came_last, Grows}
 use Rattle.lalrpop_norm_nodes.specs.declared.table.Table.{Table}
 use Rattle.lalrpop_norm_nodes.specs.Tables.{wholes_in, own_in, own_text_in, met_of, inner_of, IsBare, IsNodeTable, TableMeets, seen_in, is_declared_in, text_noted}
 use Rattle.std.specs.HashMap.{get}
@@ -146,6 +146,28 @@ module _ (a b : Table) (n : Node) (h : IsNodeTable a) (fit : Fits (wholes_in a) 
           (all_stay (is_declared_in a) (seen_in a) (x ∷ []) (inner_of added) (inner_met (is_declared_in a) (wholes_in a) (seen_in a) h.met n fit))
           (and_from _ _ here refl)
 
+-- ---- a node that is made into no rule
+
+pub entered_meets : (a b : Table) (n : Node) → IsNodeTable a → Fits (wholes_in a) n → own_text_in (built (wholes_in a) n) ≡ None → AreNodes b.nodes → b.names ≡ a.names →
+    b.waiting ≡ a.waiting → b.places ≡ a.places → EntersPlain a.nodes b.nodes (built (wholes_in a) n) → TableMeets a b []
+entered_meets a b n h fit plain nodes names waiting places (came_last ws texts) = plain_table a b n h fit names nodes ws waiting places texts plain
+entered_meets a b n h fit plain nodes names waiting places (stood ws texts) = record {
+  seen = ap (λ (vs : List Whole). map unplaced (flat_map own_in vs)) ws;
+  names = names;
+  grows = ([], ws ∙ sym (append-nil (wholes_in a)));
+  table = record {
+    nodes = nodes;
+    texts = texts ∙ h.texts ∙ ap (map own_text_in) (sym ws);
+    bare = λ i v e. h.bare i v (stands i v e);
+    met = λ i v e. ap₂ (λ ns vs. were_met (has_key ns) (flat_map own_in vs) (met_of v)) names ws ∙ h.met i v (stands i v e);
+    places = λ x. ap (λ p. is_some (get (pointwise nat_eq) p x)) places ∙ h.places x ∙ ap (λ (vs : List Whole). is_some (first_with_text x (flat_map own_in vs))) (sym ws);
+    waiting = λ i w e. subst (λ vs. IsNumbered vs w) (sym ws) (h.waiting i w (ap (λ (v : Vec Waiting Global). slice_get v.items i) (sym waiting) ∙ e));
+  };
+}
+  where
+    stands : (i : ℕ) (v : Whole) → StandsFor (wholes_in b) i v → StandsFor (wholes_in a) i v
+    stands i v e = subst (λ vs. StandsFor vs i v) ws e
+
 -- ---- a symbol that waits
 
 pub waiting_more : (a : Table) (v : Vec Waiting Global) (w : Waiting) → IsNodeTable a → v.items ≡ a.waiting.items ++ w ∷ [] → IsNumbered (wholes_in a) w →
@@ -226,6 +248,6 @@ text_found t i o h e =
 
 -- ---- answers
 
-pub on_ok_three : {A E : Type 0} (r : Result A E) (P Q R S : Type 0) → (P → Q → R → S) → OnOk r P → OnOk r Q → OnOk r R → OnOk r S
-on_ok_three (Ok x) P Q R S f p q r = f p q r
-on_ok_three (Err e) P Q R S f p q r = tt
+pub on_ok_both : {A E : Type 0} (r : Result A E) (P Q R : Type 0) → (P → Q → R) → OnOk r P → OnOk r Q → OnOk r R
+on_ok_both (Ok x) P Q R f p q = f p q
+on_ok_both (Err e) P Q R f p q = tt

@@ -1,11 +1,8 @@
 -- How the code meets symbols, one after another: its own words, of which no public clause speaks.
 use Rattle.std.specs.Prelude.{◌≡◌, ◌<◌, ℕ, Bool, true, false, not, ◌||◌, ◌&&◌, List, [], ◌∷◌, ◌++◌}
 use Rattle.std.specs.Prelude.{map, length, Option, Some, None, is_some, option_and_then, slice_get, bytes_eq, if◌then◌else◌}
-use Rattle.std.specs.List.{list_any}
-use Rattle.std.specs.Ordering.{nat_cmp}
-use Rattle.std.specs.Cmp.Lexicographic.{slice_cmp}
-use Rattle.std.specs.BTreeMap.{is_at, get}
-use Rattle.std.specs.BTreeSet.{BTreeSet}
+use Rattle.std.specs.HashSet.{HashSet, contains}
+use Rattle.lalrpop_norm_names.specs.declared.seeded.Seeded.{Seeded}
 use Rattle.lalrpop_norm_tree_names.specs.declared.names.Span.{Span}
 use Rattle.lalrpop_norm_tree.specs.Symbols.{Kind, Part, group, ambiguous_id, terminal, nonterminal, call, repeated, chosen, named}
 use Rattle.lalrpop_norm_tree.specs.Symbols.{tupled, lookahead, lookbehind, error_terminal, at, symbol_view}
@@ -108,5 +105,5 @@ abbrev pub were_met : (List ℕ → Bool) → List Part → List Part → Bool
 were_met names seen [] = true
 were_met names seen (x ∷ xs) = was_met names seen x && were_met names seen xs
 
-abbrev pub has_key : BTreeSet (List ℕ) → List ℕ → Bool
-has_key s t = list_any (is_at (slice_cmp nat_cmp t)) s.keys
+abbrev pub has_key : HashSet (List ℕ) Seeded → List ℕ → Bool
+has_key = contains bytes_eq

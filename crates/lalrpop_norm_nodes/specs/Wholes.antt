@@ -1,5 +1,5 @@
 -- What the numbers of nodes stand for.
-use Rattle.std.specs.Prelude.{◌≡◌, ⊤, ℕ, true, false, List, [], ◌∷◌, ◌++◌, map, length, Option, Some, slice_get}
+use Rattle.std.specs.Prelude.{◌≡◌, ⊤, ℕ, true, false, List, [], ◌∷◌, ◌++◌, map, length, Option, Some, None, slice_get}
 use Rattle.lalrpop_norm_tree.specs.declared.symbol.RepeatOp.TheVariants.{Star, Plus, Question, Times}
 use Rattle.lalrpop_norm_tree.specs.Symbols.{ArgumentPattern, one_name, several, argument_patterns_of, Kind, Part, parts_of, group}
 use Rattle.lalrpop_norm_tree.specs.Symbols.{terminal, nonterminal, call, repeated, chosen, named, tupled, lookahead}
@@ -149,6 +149,11 @@ pub record AreRows (ns : List Node) (ws : List Whole) : Type 0 where
 
 abbrev pub AreNodes : Nodes → Type 0
 AreNodes t = AreRows (nodes_of t) (wholes t)
+
+-- what is made into no rule stood there, or was put last, without a text
+pub data EntersPlain (before later : Nodes) (w : Whole) : Type 0 where
+  stood : wholes later ≡ wholes before → texts_of later ≡ texts_of before → EntersPlain before later w
+  came_last : wholes later ≡ wholes before ++ w ∷ [] → texts_of later ≡ texts_of before ++ None ∷ [] → EntersPlain before later w
 
 -- what stood stands, and more may stand behind it
 abbrev pub Grows : List Whole → List Whole → Type 0

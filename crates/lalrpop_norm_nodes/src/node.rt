@@ -1,6 +1,7 @@
 //! Nodes, and the rows that number them.
-ghost use Rattle.std.specs.Prelude.{◌≡◌, ◌++◌, ◌∷◌, [], OnOk, IfOk, IfSome, IfNone};
-ghost use Rattle.lalrpop_norm_nodes.specs.Wholes.{wholes, texts_of, Fits, built, AreNodes, StandsFor, IsNew};
+ghost use Rattle.std.specs.Prelude.{◌≡◌, ◌++◌, ◌∷◌, [], None, OnOk, IfOk, IfSome, IfNone, map};
+ghost use Rattle.lalrpop_norm_nodes.specs.Wholes.{wholes, texts_of, Fits, built, AreNodes, StandsFor, IsNew, EntersPlain};
+ghost use Rattle.lalrpop_norm_nodes.specs.Tables.{own_text_in};
 
 use indexmap::IndexMap;
 use lalrpop_norm_names::Seeded;
@@ -117,6 +118,21 @@ impl Nodes {
         ensures new { IfNone result (IsNew (wholes self.now) (built (wholes self.now) node.now)) }
     {
         self.rows.get_index_of(node)
+    }
+
+    /// The number of a node that is made into no rule: a new one is put last, without a text.
+    pub(crate) fn enter(&mut self, node: Node) -> Result<usize, NoMemory>
+        requires nodes { AreNodes self.old }
+        requires texts { texts_of self.old ≡ map own_text_in (wholes self.old) }
+        requires fits { Fits (wholes self.old) node }
+        requires plain { own_text_in (built (wholes self.old) node) ≡ None }
+        ensures nodes { OnOk result (AreNodes self.new) }
+        ensures entered { OnOk result (EntersPlain self.old self.new (built (wholes self.old) node)) }
+        ensures number { IfOk result (λ i. StandsFor (wholes self.new) i (built (wholes self.old) node)) }
+    {
+        // A node that stands has no text either, so its row stays as it is.
+        let (number, _) = self.rows.insert_full(node, None)?;
+        Ok(number)
     }
 
     /// Puts a new node last, with its text if it is made into a rule: its number.

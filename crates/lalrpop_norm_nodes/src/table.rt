@@ -17,7 +17,7 @@ use lalrpop_norm_tree::grammar::parse_tree::{
     Atom, NoMemory, NonterminalString, Span, Symbol, SymbolKind,
 };
 use std::alloc::Global;
-use std::collections::{BTreeSet, HashMap};
+use std::collections::{HashMap, HashSet};
 use std::mem;
 
 /// A symbol that waits for the rule that it is made into, where it was first met.
@@ -33,7 +33,7 @@ pub struct Waiting {
 #[derive(Drop)]
 pub struct Table {
     /// The names that the grammar declares.
-    names: BTreeSet<Atom>,
+    names: HashSet<Atom, Seeded>,
     nodes: Nodes,
     /// The number of the node of each text.
     places: HashMap<Atom, usize, Seeded>,
@@ -57,7 +57,7 @@ fn shared_name(alloc: Global, name: &Atom, span: Span) -> NormFailure
 
 impl Table {
     /// A table for a grammar that declares these names: no symbol was met yet.
-    pub fn new(alloc: Global, names: BTreeSet<Atom>, hash_builder: Seeded) -> Table
+    pub fn new(alloc: Global, names: HashSet<Atom, Seeded>, hash_builder: Seeded) -> Table
         ensures table { IsNodeTable result }
         ensures counted { IsCounted result }
         ensures seen { seen_in result ≡ [] }
@@ -111,20 +111,6 @@ impl Table {
         }
     }
 
-    /// Puts a new node last that is made into no rule.
-    fn put(&mut self, node: Node) -> Result<usize, NoMemory>
-        requires table { IsNodeTable self.old }
-        requires fits { Fits (wholes_in self.old) node }
-        requires new { IsNew (wholes_in self.old) (built (wholes_in self.old) node) }
-        requires plain { own_text_in (built (wholes_in self.old) node) ≡ None }
-        ensures meets { OnOk result (TableMeets self.old self.new []) }
-        ensures counted { OnOk result (self.new.made ≡ self.old.made) }
-        ensures waiting { OnOk result (self.new.waiting ≡ self.old.waiting) }
-        ensures number { IfOk result (λ i. StandsFor (wholes_in self.new) i (built (wholes_in self.old) node)) }
-    {
-        self.nodes.put(node, None)
-    }
-
     /// The number of a node that is made into no rule.
     pub fn enter(&mut self, node: Node) -> Result<usize, NoMemory>
         requires table { IsNodeTable self.old }
@@ -135,10 +121,7 @@ impl Table {
         ensures waiting { OnOk result (self.new.waiting ≡ self.old.waiting) }
         ensures number { IfOk result (λ i. StandsFor (wholes_in self.new) i (built (wholes_in self.old) node)) }
     {
-        match self.nodes.find(&node) {
-            Some(number) => Ok(number),
-            None => self.put(node),
-        }
+        self.nodes.enter(node)
     }
 
     /// Puts a new node last that is made into a rule of that text.

@@ -30,7 +30,7 @@ rounds-init c =
     c.in_ok-others.ensures.others ∙ ap (λ (v : Vec GrammarItem Global). flat_map without_macro (map item_view v.items)) c.replace-items.ensures.value in
     let names : is_declared_in c.new-table.result ≡ is_declared_name (rule_names g) =
     ap has_key c.new-table.ensures.names ∙ c.in_ok-names.ensures
-    ∙ ap (λ is. is_declared_name (flat_map item_names (map item_view is))) c.deref.ensures.value
+    ∙ ap (λ is. is_declared_name (flat_map item_names (map item_view is))) c.deref-2.ensures.value
     ∙ ap is_declared_name (rule_names_are g) in
     let same : 0 ≡ c.args.limit - c.args.limit = omega arith in
     record {
@@ -58,7 +58,7 @@ returns-in_err-read_items-clause-refuses c =
     c.in_ok-others.ensures.others ∙ ap (λ (v : Vec GrammarItem Global). flat_map without_macro (map item_view v.items)) c.replace-items.ensures.value in
     let names : is_declared_in c.new-table.result ≡ is_declared_name (rule_names g) =
     ap has_key c.new-table.ensures.names ∙ c.in_ok-names.ensures
-    ∙ ap (λ is. is_declared_name (flat_map item_names (map item_view is))) c.deref.ensures.value
+    ∙ ap (λ is. is_declared_name (flat_map item_names (map item_view is))) c.deref-2.ensures.value
     ∙ ap is_declared_name (rule_names_are g) in
     err_refuses _ _ _ c.from_residual-in_err-read_items.ensures.1
     (first_refused g c.new-table.result c.new-table.result (map item_view c.in_ok-others.others.items) others names c.new-table.ensures.seen c.args.limit _ c.in_err-read_items.ensures.refuses)

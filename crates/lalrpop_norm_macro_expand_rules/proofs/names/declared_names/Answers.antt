@@ -1,13 +1,16 @@
-use Rattle.std.proofs.Common.{◌≡◌, ◌+◌, ◌++◌, ◌∷◌, [], ℕ, List, Bool, take, map, sym, ap, ◌∙◌, arith, append-nil, nat_cmp}
-use Rattle.std.specs.Cmp.Lexicographic.{slice_cmp}
+use Rattle.std.proofs.Common.{◌≡◌, ◌+◌, ◌++◌, ◌∷◌, [], ℕ, List, Bool, take, map, sym, ap, ◌∙◌, arith, append-nil, bytes_eq}
 use Rattle.std.specs.List.{flat_map, list_any}
-use Rattle.std.specs.BTreeMap.{is_at}
 use Rattle.std.proofs.lemmas.List.{take_all, take_more, map-append}
 use Rattle.std.proofs.lemmas.Grind.{flat_map-append}
 use Rattle.lalrpop_norm_tree.specs.Items.{item_view}
-use Rattle.lalrpop_norm_macro_expand_rules.specs.Names.{item_names, with_names}
-use Rattle.lalrpop_norm_macro_expand_rules.proofs.NameLemmas.{added_names, with_both}
+use Rattle.lalrpop_norm_macro_expand_rules.specs.Names.{is_declared_name, item_names, with_names}
+use Rattle.lalrpop_norm_macro_expand_rules.proofs.NameLemmas.{with_both}
 use Rattle.lalrpop_norm_macro_expand_rules.proofs.names.declared_names.Goals as goal
+
+pub loop-item-init : goal.loop-item-init
+loop-item-init c =
+    let has : List (List ℕ) → List ℕ → Bool = λ keys t. list_any (bytes_eq t) keys in
+    ap has c.in_ok-names.ensures.empty
 
 pub loop-item-preserved : goal.loop-item-preserved
 loop-item-preserved c =
@@ -21,14 +24,11 @@ loop-item-preserved c =
     ∙ flat_map-append item_names (map item_view (take i items)) (item_view x ∷ [])
     ∙ ap (λ ns. before ++ ns) (append-nil (item_names (item_view x))) in
     c.in_ok-add_name.ensures
-    ∙ ap (λ keys. with_names keys (item_names (item_view x))) c.loop-item.invariant
-    ∙ sym (with_both [] before (item_names (item_view x)))
-    ∙ ap (with_names []) (sym more)
+    ∙ ap (λ declared. with_names declared (item_names (item_view x))) c.loop-item.invariant
+    ∙ with_both before (item_names (item_view x))
+    ∙ ap is_declared_name (sym more)
 
 pub returns : goal.returns
 returns c =
-    let has : List (List ℕ) → List ℕ → Bool = λ keys t. list_any (is_at (slice_cmp nat_cmp t)) keys in
-    ap has
-    (c.loop-item.invariant
-    ∙ ap (λ is. with_names [] (flat_map item_names (map item_view is))) (take_all c.loop-item.item-index c.args.items.now (omega arith)))
-    ∙ added_names (flat_map item_names (map item_view c.args.items.now))
+    c.loop-item.invariant
+    ∙ ap (λ is. is_declared_name (flat_map item_names (map item_view is))) (take_all c.loop-item.item-index c.args.items.now (omega arith))
