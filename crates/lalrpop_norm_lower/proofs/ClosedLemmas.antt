@@ -22,12 +22,13 @@ use Rattle.lalrpop_norm_repr.specs.Closed.{IsDefined, HasArguments, IsClosedProd
 use Rattle.lalrpop_norm_repr.specs.Lowered.{LoweredGrammar}
 use Rattle.lalrpop_norm_repr.specs.Productions.{EntryData}
 use Rattle.lalrpop_norm_repr.specs.Tables.{TypeTable, type_of, found}
+use Rattle.lalrpop_norm_repr.proofs.NameOrder.{names_total}
 use Rattle.lalrpop_norm_lower.specs.Arguments.{part_list, patterns, pattern_at_place}
 use Rattle.lalrpop_norm_lower.specs.Lowering.{public_rules_in, lowered_symbols, production_of}
 use Rattle.lalrpop_norm_lower.specs.Shape.{OwnedAlternative, alternatives_in_order, IsCodeOf, IsKindOf, IsActionOf, productions_named, start_entry_of, rule_entry_of, lowered_entries, name_cmp}
 use Rattle.lalrpop_norm_lower.proofs.ApartLemmas.{IsNamedIn}
 use Rattle.lalrpop_norm_lower.proofs.ClauseLemmas.{named_from}
-use Rattle.lalrpop_norm_lower.proofs.KeyLaws.{same_name, names_decide, names_total, found_is}
+use Rattle.lalrpop_norm_lower.proofs.KeyLaws.{same_name, names_decide, found_is}
 use Rattle.lalrpop_norm_theory.proofs.ListLemmas.{some_inner}
 
 -- ---- lists

@@ -18,6 +18,7 @@ use Rattle.lalrpop_norm_tree_names.specs.declared.names.TerminalLiteral.TheVaria
 use Rattle.lalrpop_norm_tree_names.specs.declared.names.TerminalString.{TerminalString}
 use Rattle.lalrpop_norm_tree_names.specs.declared.names.TerminalString.TheVariants.{Literal, Bare, Error}
 use Rattle.lalrpop_norm_repr.specs.Tables.{found, found_terminal, same_terminal}
+use Rattle.lalrpop_norm_repr.proofs.NameOrder.{names_total}
 use Rattle.lalrpop_norm_tree.proofs.TerminalLemmas.{terminals_same}
 use Rattle.lalrpop_norm_lower.specs.Conversions.{terminal_cmp, sorted_terminals}
 use Rattle.lalrpop_norm_lower.specs.Lowering.{sorted_onto, with_entry}
@@ -49,9 +50,6 @@ same_by_bytes a b e = ap (λ (x : List ℕ). let n : NonterminalString = record 
 
 pub names_decide : (a b : NonterminalString) → Decides (same_name a b) (a ≡ b)
 names_decide a b = (λ h. same_by_bytes a b ((bytes_eq-Decides a.0 b.0).0 h), λ e. (bytes_eq-Decides a.0 b.0).1 (ap (λ (n : NonterminalString). n.0) e))
-
-pub names_total : IsTotalOrder name_cmp
-names_total = on_total (λ (n : NonterminalString). n.0) nat_list_cmp_total
 
 names_exact : (a b : NonterminalString) → name_cmp a b ≡ Equal → a ≡ b
 names_exact a b h = same_by_bytes a b (exact_bytes a.0 b.0 h)

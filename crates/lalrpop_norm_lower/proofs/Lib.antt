@@ -17,4 +17,5 @@ pub mod TokenCounts
 pub mod SymbolCases
 pub mod MadeLemmas
 pub mod RowLemmas
+pub mod PlacedRows
 pub mod NumberLemmas

@@ -1,38 +1,18 @@
 -- What stands at a name's number is what the table has for the name.
-use Rattle.std.proofs.Common.{◌≡◌, ◌<◌, ◌∙◌, ℕ, Bool, true, false, List, Option, Some, None, map, length, slice_get, get_or, option_map, bytes_eq, refl, sym, ap, subst}
+use Rattle.std.proofs.Common.{◌≡◌, ◌<◌, ◌∙◌, ℕ, Bool, true, false, List, Option, Some, None, map, length, get_or, option_map, refl, sym, ap, subst}
 use Rattle.std.proofs.lemmas.List.{length-map}
-use Rattle.std.proofs.lemmas.List.Quantifiers.{position-Some}
-use Rattle.std.proofs.lemmas.Option.{slice_get-map, slice_get-get_or, slice_get_within, slice_get_read, same_Some}
-use Rattle.std.proofs.lemmas.Slice.Eq.{bytes_eq-Decides}
+use Rattle.std.proofs.lemmas.Option.{slice_get-map, slice_get_within, slice_get_read, same_Some}
 use Rattle.std.proofs.Math.Bridge.{le_prop}
 use mathlib.Core.HLevel.{hedberg}
 use mathlib.Core.Logic.{∥∥₁_elim}
 use Rattle.lalrpop_norm_tree_names.specs.declared.names.NonterminalString.{NonterminalString}
 use Rattle.lalrpop_norm_tree_parts.specs.Reprs.{ReprData}
-use Rattle.lalrpop_norm_names.specs.Numbers.{first_place, number_in_table, IsNumbering}
+use Rattle.lalrpop_norm_names.specs.Numbers.{number_in_table}
 use Rattle.lalrpop_norm_names.specs.declared.table.Names.{Names}
 use Rattle.lalrpop_norm_model.specs.SameTypes.{same_type}
 use Rattle.lalrpop_norm_model.proofs.SameTypeLemmas.{type_sound, type_same}
 use Rattle.lalrpop_norm_repr.specs.Tables.{TypeTable, type_of}
 use Rattle.lalrpop_norm_lower.specs.Numbered.{AreTypesByNumber}
-
--- ---- a table that was made of names
-
-text_at : (names : List (List ℕ)) (name : List ℕ) (k : ℕ) → first_place names name ≡ Some k → slice_get names k ≡ Some name
-text_at names name k e =
-    let here = position-Some (λ stands. bytes_eq stands name) names k name e in
-    slice_get-get_or names k name here.0 ∙ ap Some ((bytes_eq-Decides (get_or names k name) name).0 here.1)
-
-of_text : (name : NonterminalString) (o : Option NonterminalString) → option_map (λ n. n.0) o ≡ Some name.0 → o ≡ Some name
-of_text name (Some n) e = let same : n.0 ≡ name.0 = cc in ap (λ t. Some (record { 0 = t })) same
-of_text name None e = absurd (cc e)
-
-pub are_by_number : (types : TypeTable) (listed : List NonterminalString) (names : Names) → IsNumbering (map (λ n. n.0) listed) names →
-    AreTypesByNumber types names (map (λ n. type_of n types) listed)
-are_by_number types listed names numbering name k e =
-    let text = text_at (map (λ n. n.0) listed) name.0 k (sym (numbering name.0) ∙ e) in
-    let here = of_text name (slice_get listed k) (sym (slice_get-map (λ n. n.0) listed k) ∙ text) in
-    slice_get-map (λ n. type_of n types) listed k ∙ ap (option_map (λ n. type_of n types)) here
 
 -- ---- what it answers
 

@@ -20,7 +20,7 @@ pub(crate) struct NumberedTypes<'t> {
 }
 
 impl<'t> NumberedTypes<'t> {
-    /// Each rule is looked up in the table once.
+    /// Each row of the table is met once.
     pub(crate) fn of(
         alloc: Global,
         table: &'t Types,
@@ -61,12 +61,12 @@ fn names_of_rules(
 fn numbered_by<'t>(
     alloc: Global,
     table: &'t Types,
-    names: &[NonterminalString],
+    listed: &[NonterminalString],
 ) -> Result<NumberedTypes<'t>, NoMemory>
     ensures { IfOk result (λ n. n.table.now ≡ table.now) }
 {
-    let by_number = types_of(alloc, table, names)?;
-    let names = Names::of(alloc, names)?;
+    let names = Names::of(alloc, listed)?;
+    let by_number = types_of(alloc, table, listed, &names)?;
     Ok(NumberedTypes {
         table,
         names,
@@ -74,18 +74,21 @@ fn numbered_by<'t>(
     })
 }
 
-/// What the table has for each name.
+/// What the table has for each of the names, at its number. Each row of the table is met once.
 fn types_of<'t>(
     alloc: Global,
     table: &'t Types,
-    names: &[NonterminalString],
+    listed: &[NonterminalString],
+    names: &Names,
 ) -> Result<Vec<Option<&'t TypeRepr>>, NoMemory>
-    ensures { IfOk result (λ ts.
-        map (option_map (λ t. repr_view t.now)) ts.items ≡ map (λ n. type_of n (type_table table.now)) names.now) }
+    requires { IsNumbering (map (λ n. n.0) listed.now) names.now }
+    ensures { IfOk result (λ ts. AreTypesByNumber (type_table table.now) names.now (map (option_map (λ t. repr_view t.now)) ts.items)) }
 {
-    let mut types = Vec::with_capacity(alloc, names.len())?;
-    for name in names {
-        types.push(table.lookup_nonterminal_type(name))?;
+    let mut types = vec![in alloc; None; listed.len()]?;
+    for (name, ty) in table.nonterminals() {
+        if let Some(number) = names.number(name) {
+            types[number] = Some(ty);
+        }
     }
     Ok(types)
 }

@@ -9,3 +9,4 @@ pub mod SameTables
 pub mod RowOrder
 pub mod WriteSteps
 pub mod TypeNames
+pub mod NameOrder

@@ -3,7 +3,7 @@ ghost use Rattle.std.specs.Prelude.{◌≡◌, ◌↔◌, None, Some, option_map
 ghost use Rattle.lalrpop_norm_tree_parts.specs.Reprs.{repr_view};
 ghost use Rattle.lalrpop_norm_tree_names.specs.declared.names.NonterminalString.{NonterminalString};
 ghost use Rattle.lalrpop_norm_tree_names.specs.declared.names.TerminalString.{TerminalString};
-ghost use Rattle.lalrpop_norm_repr.specs.Tables.{type_table, type_of, listed_type, type_of_terminal};
+ghost use Rattle.lalrpop_norm_repr.specs.Tables.{rows, type_table, type_of, listed_type, type_of_terminal};
 
 mod copy;
 mod made;
@@ -91,6 +91,13 @@ impl Types {
         ensures { Some (repr_view result.now) ≡ type_of name.now (type_table self.now) }
     {
         &self.nonterminal_types[name]
+    }
+
+    /// The rows of the nonterminals: each that has a type, with it, in the order of their names.
+    pub fn nonterminals(&self) -> &BTreeMap<NonterminalString, TypeRepr>
+        ensures { rows repr_view result.now ≡ (type_table self.now).nonterminals }
+    {
+        &self.nonterminal_types
     }
 
     /// The type of a terminal: the type of a token where it is not listed.
