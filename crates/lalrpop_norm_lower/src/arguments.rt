@@ -1,5 +1,5 @@
 //! The arguments of an action: which symbols its code gets, and their names.
-ghost use Rattle.std.specs.Prelude.{◌≡◌, ◌++◌, [], ◌∷◌, IfOk, IfSome, OnOk, codes, map, vec_len, if◌then◌else◌};
+ghost use Rattle.std.specs.Prelude.{◌≡◌, ◌++◌, ◌≤◌, [], ◌∷◌, IfNone, IfOk, IfSome, OnOk, codes, map, vec_len, if◌then◌else◌};
 ghost use Rattle.lalrpop_norm_tree.specs.Symbols.{symbol_view, parts_view, argument_pattern_view};
 ghost use Rattle.lalrpop_norm_lower.specs.Arguments.{name_given};
 ghost use Rattle.lalrpop_norm_lower.specs.Sources.{source_name, plain_name};
@@ -144,7 +144,8 @@ fn source_name(alloc: Global, prefix: &str, number: usize) -> Result<Atom, NoMem
 
 /// The same of one of the first sources behind the prefix that most grammars have: so their names need not be made.
 fn usual_name(prefix: &str, number: usize) -> Option<&'static str>
-    ensures { IfSome result (λ name. name.now ≡ source_name prefix.now number) }
+    ensures name { IfSome result (λ name. name.now ≡ source_name prefix.now number) }
+    ensures none { IfNone result (prefix.now ≡ codes "__" → 8 ≤ number) }
 {
     if prefix != "__" {
         return None;

@@ -16,8 +16,6 @@ const ROOM: usize = 24;
 pub fn slots(code: &str) -> usize
     ensures { result ≡ slots code.now }
 {
-    // `len` is called for its clause that it is small, which the proof cites.
-    let _length = code.len();
     let mut count = 0usize;
     let mut rest = code;
     while let Some((_, after)) = split_at_slot(rest) {
