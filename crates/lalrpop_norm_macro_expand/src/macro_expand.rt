@@ -35,7 +35,7 @@ use lalrpop_norm_macro_expand_rules::pending::read_pending;
 use lalrpop_norm_nodes::digest::seeded_by;
 use lalrpop_norm_nodes::table::{Table, Waiting};
 use lalrpop_norm_resolve::resolve::resolve;
-use lalrpop_norm_tree::grammar::parse_tree::{Grammar, GrammarItem};
+use lalrpop_norm_tree::grammar::parse_tree::{Grammar, GrammarItem, NoMemory};
 use std::alloc::Global;
 use std::mem;
 
@@ -65,6 +65,20 @@ fn past_cap(alloc: Global, waiting: &[Waiting]) -> NormFailure
     )
 }
 
+/// For how many rounds like this one room is taken where there is none: items are large, so to move them again and again costs more
+/// than room that is not used.
+const ROUNDS_OF_ROOM: usize = 4;
+
+/// Sees that there is room for the rules of a round.
+fn make_room(done: &mut Vec<GrammarItem>, count: usize) -> Result<(), NoMemory>
+    ensures { OnOk result (done.new.items ≡ done.old.items) }
+{
+    if done.capacity() < done.len().saturating_add(count) {
+        done.reserve(count.saturating_mul(ROUNDS_OF_ROOM))?;
+    }
+    Ok(())
+}
+
 /// Makes the rules of the symbols that wait, and reads them behind those of the rounds before.
 fn read_round(
     alloc: Global,
@@ -88,6 +102,7 @@ fn read_round(
     ensures made { OnOk result (map made_view made.new.items ≡ map made_view made.old.items ++ map (made_for (macros_in macros.now)) (reverse waiting.items)) }
 {
     let pending = make_rules(alloc, macros, table, waiting, made)?;
+    make_room(done, pending.len())?;
     read_pending(alloc, pending, done, table)
 }
 
@@ -129,9 +144,8 @@ fn expand_rounds(alloc: Global, grammar: Grammar, limit: u16) -> NormResult<Expa
     let mut grammar = grammar;
     let items = mem::replace(&mut grammar.items, Vec::new(alloc));
     let (others, macros) = without_macros(alloc, items)?;
-    let mut done = Vec::new(alloc);
     let mut made = Vec::new(alloc);
-    read_items(alloc, others, &mut done, &mut table)?;
+    let mut done = read_items(alloc, others, &mut table)?;
     let mut left = limit;
     // The label is the loop's name in the proof, where its invariant and its measure stand.
     'rounds: loop {

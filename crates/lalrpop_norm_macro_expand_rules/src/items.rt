@@ -1,5 +1,5 @@
 //! The items of a grammar, whose symbols are replaced by the nonterminals of what they are made into.
-ghost use Rattle.std.specs.Prelude.{◌≡◌, ◌++◌, OnOk, map, flat_map};
+ghost use Rattle.std.specs.Prelude.{◌≡◌, IfOk, OnOk, map, flat_map};
 ghost use Rattle.lalrpop_norm_tree.specs.Items.{item_view, rule_view};
 ghost use Rattle.lalrpop_norm_faults.specs.Faults.{Refuses};
 ghost use Rattle.lalrpop_norm_nodes.specs.Tables.{IsNodeTable, IsCounted, TableMeets, refused_in};
@@ -69,23 +69,21 @@ fn replace_items(alloc: Global, items: &mut [GrammarItem], table: &mut Table) ->
     Ok(())
 }
 
-/// Reads the items of a grammar: meets and replaces their symbols, and moves them behind `done`.
+/// Reads the items of a grammar: meets and replaces their symbols.
 pub fn read_items(
     alloc: Global,
     items: Vec<GrammarItem>,
-    done: &mut Vec<GrammarItem>,
     table: &mut Table,
-) -> NormResult<()>
+) -> NormResult<Vec<GrammarItem>>
     requires table { IsNodeTable table.old }
     requires counted { IsCounted table.old }
     ensures refuses { Refuses result (refused_in table.old (flat_map met_in_item (map item_view items.items))) }
     ensures meets { OnOk result (TableMeets table.old table.new (flat_map met_in_item (map item_view items.items))) }
     ensures counted { OnOk result (IsCounted table.new) }
     ensures waits { OnOk result (LeavesWaiting table.old table.new (flat_map shown_in_item (map item_view items.items))) }
-    ensures value { OnOk result (map item_view done.new.items ≡ map item_view done.old.items ++ map replaced_item (map item_view items.items)) }
+    ensures value { IfOk result (λ read. map item_view read.items ≡ map replaced_item (map item_view items.items)) }
 {
-    let mut items = items;
-    replace_items(alloc, &mut items, table)?;
-    done.append(&mut items)?;
-    Ok(())
+    let mut read = items;
+    replace_items(alloc, &mut read, table)?;
+    Ok(read)
 }

@@ -117,7 +117,7 @@ pub fn without_macros(
     ensures macros { IfOk result (λ t. macros_in t.1 ≡ flat_map macro_in (map item_view items.items)) }
     ensures named { IfOk result (λ t. AreByName t.1) }
 {
-    let mut others = Vec::new(alloc);
+    let mut others = Vec::with_capacity(alloc, items.len())?;
     let mut macros = Macros::new(alloc);
     for item in items {
         sort_out(item, &mut others, &mut macros)?;

@@ -1,4 +1,4 @@
-use Rattle.std.proofs.Common.{◌≡◌, ◌==◌, ◌<◌, Bool, true, false, ◌-◌, ◌+◌, ◌++◌, ℕ, suc, arith, map, length, refl, sym, ap, ◌∙◌, subst, [], ◌∷◌, List, Vec, Global}
+use Rattle.std.proofs.Common.{◌≡◌, ◌==◌, ◌<◌, Bool, true, false, ◌-◌, ◌+◌, ℕ, suc, arith, map, length, refl, sym, ap, ◌∙◌, subst, [], ◌∷◌, List, Vec, Global}
 use Rattle.std.specs.List.{flat_map}
 use Rattle.std.proofs.lemmas.List.{length-map}
 use Rattle.lalrpop_norm_tree.specs.declared.items.GrammarItem.{GrammarItem}
@@ -15,7 +15,7 @@ use Rattle.lalrpop_norm_nodes.specs.declared.texts.Counter.{Counter}
 use Rattle.lalrpop_norm_nodes.specs.Wholes.{wholes}
 use Rattle.lalrpop_norm_nodes.specs.Tables.{wholes_in, own_in, seen_in, waiting_in, is_declared_in, IsCounted}
 use Rattle.lalrpop_norm_macro_expand_rules.specs.Names.{is_declared_name, item_names}
-use Rattle.lalrpop_norm_macro_expand_rules.specs.Items.{replaced_item, without_macro, macro_in}
+use Rattle.lalrpop_norm_macro_expand_rules.specs.Items.{without_macro, macro_in}
 use Rattle.lalrpop_norm_macro_expand_rules.specs.Macros.{macros_in}
 use Rattle.lalrpop_norm_macro_expand_rules.proofs.NameLemmas.{rule_names_are}
 use Rattle.lalrpop_norm_macro_expand.specs.Made.{made_view}
@@ -37,22 +37,22 @@ rounds-init c =
       grammar =
           ap (λ (v : Vec GrammarItem Global). record g { items = map item_view v.items }) c.replace-items.ensures.after
           ∙ ap (λ is. record g { items = map item_view is }) c.new.ensures.items;
-      table = c.in_ok-read_items.ensures.meets.table;
-      counted = c.in_ok-read_items.ensures.counted;
-      names = ap has_key c.in_ok-read_items.ensures.meets.names ∙ names;
+      table = c.in_ok-done.ensures.meets.table;
+      counted = c.in_ok-done.ensures.counted;
+      names = ap has_key c.in_ok-done.ensures.meets.names ∙ names;
       bound = omega arith;
       rounds =
-          subst (λ (k : ℕ). AtRound g c.args.limit c.args.limit k (seen_in c.read_items.new.table) (waiting_in c.read_items.new.table) (map item_view c.read_items.new.done.items)) same
+          subst (λ (k : ℕ). AtRound g c.args.limit c.args.limit k (seen_in c.read_items.new.table) (waiting_in c.read_items.new.table) (map item_view c.in_ok-done.done.items)) same
           (first_round g c.new-table.result c.read_items.new.table (map item_view c.in_ok-others.others.items) others names c.new-table.ensures.seen c.args.limit
-          (map item_view c.read_items.new.done.items) c.new-table.ensures.waiting c.in_ok-read_items.ensures.meets c.in_ok-read_items.ensures.refuses c.in_ok-read_items.ensures.waits
-          (c.in_ok-read_items.ensures.value ∙ ap (λ is. map item_view is ++ map replaced_item (map item_view c.in_ok-others.others.items)) c.new-done.ensures.items));
+          (map item_view c.in_ok-done.done.items) c.new-table.ensures.waiting c.in_ok-done.ensures.meets c.in_ok-done.ensures.refuses c.in_ok-done.ensures.waits
+          c.in_ok-done.ensures.value);
       made =
           subst (λ (k : ℕ). MadeSo g (wholes_in c.read_items.new.table) k (map made_view c.new-made.result.items)) same
           (rw c.new-made.ensures.items (none_made g (wholes_in c.read_items.new.table)));
     }
 
-pub returns-in_err-read_items-clause-refuses : goal.returns-in_err-read_items-clause-refuses
-returns-in_err-read_items-clause-refuses c =
+pub returns-in_err-done-clause-refuses : goal.returns-in_err-done-clause-refuses
+returns-in_err-done-clause-refuses c =
     let g : GrammarData = grammar_view c.args.grammar in
     let others : map item_view c.in_ok-others.others.items ≡ flat_map without_macro g.items =
     c.in_ok-others.ensures.others ∙ ap (λ (v : Vec GrammarItem Global). flat_map without_macro (map item_view v.items)) c.replace-items.ensures.value in
@@ -60,8 +60,8 @@ returns-in_err-read_items-clause-refuses c =
     ap has_key c.new-table.ensures.names ∙ c.in_ok-names.ensures
     ∙ ap (λ is. is_declared_name (flat_map item_names (map item_view is))) c.deref-2.ensures.value
     ∙ ap is_declared_name (rule_names_are g) in
-    err_refuses _ _ _ c.from_residual-in_err-read_items.ensures.1
-    (first_refused g c.new-table.result c.new-table.result (map item_view c.in_ok-others.others.items) others names c.new-table.ensures.seen c.args.limit _ c.in_err-read_items.ensures.refuses)
+    err_refuses _ _ _ c.from_residual-in_err-done.ensures.1
+    (first_refused g c.new-table.result c.new-table.result (map item_view c.in_ok-others.others.items) others names c.new-table.ensures.seen c.args.limit _ c.in_err-done.ensures.refuses)
 
 none_waits : (m n : ℕ) (b : Bool) → m ≡ n → b ≡ (m == 0) → b ≡ true → n ≡ 0
 none_waits m n b long e t = grind arith
