@@ -41,9 +41,9 @@ pub fn expand_nonterm(alloc: Global, rule: NonterminalData) -> NormResult<Vec<No
     ensures { RefusesOr result (level_faults (rule_view rule)) (λ rules. map rule_view rules.items ≡ level_rules (rule_view rule)) }
 {
     if !has_levels(&rule.alternatives) {
-        let mut rules = Vec::new(alloc);
-        rules.push(rule)?;
-        return Ok(rules);
+        let mut alone = Vec::with_capacity(alloc, 1)?;
+        alone.push(rule)?;
+        return Ok(alone);
     }
     let levels = read_levels(alloc, &rule)?;
     let mut head = rule;

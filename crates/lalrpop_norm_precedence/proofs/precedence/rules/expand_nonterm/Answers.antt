@@ -22,7 +22,7 @@ returns-then-not-has_levels c =
     let r = rule_view c.args.rule in
     let bare : has_levels (all_places r) ≡ false =
     sym (c.if-not-has_levels.ensures ∙ ap (λ xs. has_levels (map Some (map alternative_view xs))) c.deref.ensures.value) in
-    let alone : c.push.new.self.items ≡ c.args.rule ∷ [] = rw c.new-rules.ensures.items at c.in_ok-push.ensures.items in
+    let alone : c.push.new.self.items ≡ c.args.rule ∷ [] = rw c.in_ok-alone.ensures.items at c.in_ok-push.ensures.items in
     let same : map rule_view c.push.new.self.items ≡ r ∷ [] = rw alone refl in
     (no_level_faults r bare, same ∙ sym (no_level_rules r bare))
 
