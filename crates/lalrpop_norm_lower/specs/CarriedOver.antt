@@ -1,5 +1,6 @@
 -- What lowering has made of a grammar but for its rules.
 use Rattle.std.specs.Prelude.{◌≡◌, [], map, flat_map, filter_map, option_map, string_bytes}
+use Rattle.std.specs.Map.{keys_of}
 use Rattle.lalrpop_norm_tree.specs.Accessors.{first_of, intern_token_of}
 use Rattle.lalrpop_norm_tree.specs.Items.{GrammarData, intern_token_view}
 use Rattle.lalrpop_norm_tree_patterns.specs.Patterns.{pattern_view}
@@ -8,10 +9,9 @@ use Rattle.lalrpop_norm_model.specs.Features.{Features}
 use Rattle.lalrpop_norm_repr.specs.Lowered.{lowered_parameter_view}
 use Rattle.lalrpop_norm_repr.specs.Tables.{rows}
 use Rattle.lalrpop_norm_lower.specs.declared.carried.Carried.{Carried}
-use Rattle.lalrpop_norm_lower.specs.Carried.{uses_recovery, use_of, lowered_parameter, lowered_clauses, asks_lalr, asked_code}
-use Rattle.lalrpop_norm_lower.specs.Conversions.{sorted_terminals, numbered_terminals}
-use Rattle.lalrpop_norm_lower.specs.Lowering.{rules_among}
-use Rattle.lalrpop_norm_lower.specs.Made.{made_tokens, made_terminals}
+use Rattle.lalrpop_norm_lower.specs.Carried.{use_of, lowered_parameter, lowered_clauses, asks_lalr, asked_code}
+use Rattle.lalrpop_norm_lower.specs.Conversions.{sorted_terminals}
+use Rattle.lalrpop_norm_lower.specs.Made.{made_tokens}
 
 pub record IsCarriedOver (fs : Features) (g : GrammarData) (c : Carried) : Type 0 where
   pub prefix : string_bytes c.head.prefix ≡ g.prefix
@@ -23,7 +23,5 @@ pub record IsCarriedOver (fs : Features) (g : GrammarData) (c : Carried) : Type 
   pub where_clauses : map lowered_where_clause_view c.signature.where_clauses.items ≡ flat_map lowered_clauses g.where_clauses
   pub lalr : c.algorithm.lalr ≡ asks_lalr g.attributes
   pub codegen : c.algorithm.codegen ≡ asked_code g.attributes
-  pub recovers : c.recovers ≡ uses_recovery (rules_among g.items)
-  pub all : c.terminals.all.items ≡ made_terminals fs g
-  pub bits : c.terminals.bits.entries ≡ sorted_terminals [] (numbered_terminals 0 (made_terminals fs g))
-  pub conversions : rows (pattern_view repr_view) c.conversions ≡ sorted_terminals [] (made_tokens fs g)
+  pub terminals : c.tokens.all.items ≡ keys_of (made_tokens fs g)
+  pub conversions : rows (pattern_view repr_view) c.tokens.patterns ≡ sorted_terminals [] (made_tokens fs g)

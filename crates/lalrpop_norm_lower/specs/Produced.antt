@@ -5,6 +5,7 @@ use Rattle.lalrpop_norm_repr.specs.Actions.{action_defn_view}
 use Rattle.lalrpop_norm_repr.specs.Productions.{nonterminal_data_view}
 use Rattle.lalrpop_norm_repr.specs.Tables.{TypeTable, rows}
 use Rattle.lalrpop_norm_lower.specs.declared.produced.Produced.{Produced}
+use Rattle.lalrpop_norm_lower.specs.Carried.{uses_recovery}
 use Rattle.lalrpop_norm_lower.specs.Lowering.{public_rules_in, start_names, start_rows, rule_rows, sorted_onto}
 use Rattle.lalrpop_norm_lower.specs.Made.{made_starts, made_actions}
 use Rattle.lalrpop_norm_lower.specs.Starts.{typed_row}
@@ -17,3 +18,4 @@ pub record IsProduced (prefix : List ℕ) (types : TypeTable) (rules : List Rule
   pub actions : map action_defn_view p.actions.items ≡ made_starts prefix types (public_rules_in rules) ++ made_actions prefix types rules
   pub nonterminals : rows nonterminal_data_view p.nonterminals
       ≡ sorted_onto (sorted_onto [] (start_rows prefix 0 (public_rules_in rules))) (rule_rows (length (public_rules_in rules)) rules)
+  pub recovers : p.recovers ≡ uses_recovery rules

@@ -6,16 +6,12 @@ ghost use Rattle.lalrpop_norm_model.specs.Expanded.{all_known};
 ghost use Rattle.lalrpop_norm_lower.specs.CarriedOver.{IsCarriedOver};
 
 use crate::head::{Head, Signature, head_of, signature_of};
-use crate::recovery::uses_recovery;
-use crate::rules::rules_of;
-use crate::tokens::terminals_of;
+use crate::tokens::{Tokens, tokens_of};
 use lalrpop_norm_lower_steps::algorithm::algorithm_of;
-use lalrpop_norm_repr::grammar::repr::{Algorithm, TerminalSet, TerminalString, TypeRepr};
+use lalrpop_norm_repr::grammar::repr::Algorithm;
 use lalrpop_norm_session::Session;
 use lalrpop_norm_tree::grammar::parse_tree::{Grammar, NoMemory};
-use lalrpop_norm_tree::grammar::pattern::Pattern;
 use std::alloc::Global;
-use std::collections::BTreeMap;
 
 /// All of a lowered grammar that is not made of its rules.
 #[derive(Drop)]
@@ -23,9 +19,7 @@ pub(crate) struct Carried {
     pub(crate) head: Head,
     pub(crate) signature: Signature,
     pub(crate) algorithm: Algorithm,
-    pub(crate) recovers: bool,
-    pub(crate) terminals: TerminalSet,
-    pub(crate) conversions: BTreeMap<TerminalString, Pattern<TypeRepr>>,
+    pub(crate) tokens: Tokens,
 }
 
 /// What is carried over from a grammar.
@@ -39,14 +33,11 @@ pub(crate) fn carried_of<L>(
 {
     let head = head_of(alloc, grammar)?;
     let signature = signature_of(alloc, grammar)?;
-    let recovers = uses_recovery(&rules_of(alloc, &grammar.items)?);
-    let (terminals, conversions) = terminals_of(alloc, session, grammar, recovers)?;
+    let tokens = tokens_of(alloc, session, grammar.span, &grammar.items)?;
     Ok(Carried {
         head,
         signature,
         algorithm: algorithm_of(&grammar.attributes),
-        recovers,
-        terminals,
-        conversions,
+        tokens,
     })
 }

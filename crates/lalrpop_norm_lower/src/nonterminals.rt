@@ -7,6 +7,7 @@ ghost use Rattle.lalrpop_norm_model.specs.LoweringFaults.{start_faults, action_n
 ghost use Rattle.lalrpop_norm_repr.specs.Actions.{action_defn_view};
 ghost use Rattle.lalrpop_norm_repr.specs.Productions.{nonterminal_data_view, production_view};
 ghost use Rattle.lalrpop_norm_repr.specs.Tables.{rows};
+ghost use Rattle.lalrpop_norm_lower.specs.Carried.{uses_recovery};
 ghost use Rattle.lalrpop_norm_lower.specs.Lowering.{rule_type, rule_entry, rule_rows, rules_among, with_entry, start_entry, start_rows, start_name, start_alternative, production_of, productions_from, sorted_onto};
 ghost use Rattle.lalrpop_norm_lower.specs.Made.{types_by_name, alternatives_faults, made_starts_faults, made_rules_faults, made_action, made_starts, made_actions};
 ghost use Rattle.lalrpop_norm_lower.specs.State.{table_by_number};
@@ -14,6 +15,7 @@ ghost use Rattle.lalrpop_norm_lower.specs.Starts.{start_rule, start_typed};
 ghost use Rattle.lalrpop_norm_lower.specs.Typing.{start_types};
 
 use crate::alternatives::{lower_alternative, lower_alternatives};
+use crate::recovery::some_error;
 use crate::starts::{Start, insert, rule_type};
 use crate::state::LowerState;
 use crate::typing::unit_type;
@@ -150,25 +152,29 @@ fn add_rule(state: &mut LowerState, rule: pt::NonterminalData) -> NormResult<()>
     Ok(insert(&mut state.nonterminals, name, data)?)
 }
 
-/// The nonterminals of the rules among the items. Each item is let go once it is lowered, and its room in the list given back in time,
-/// so what is made of the later ones finds room there.
+/// The nonterminals of the rules among the items, and whether `!` stands in one of them. Each item is let go once it is lowered, and its
+/// room in the list given back in time, so what is made of the later ones finds room there.
 #[tactic(auto, using(crate::proofs::LoopLemmas::rule_first, crate::proofs::LoopLemmas::rule_skipped))]
-pub(crate) fn lower_rules(state: &mut LowerState, items: Vec<GrammarItem>) -> NormResult<()>
+pub(crate) fn lower_rules(state: &mut LowerState, items: Vec<GrammarItem>) -> NormResult<bool>
     ensures refuses { Refuses result (made_rules_faults (vec_len state.old.actions) (rules_among (map item_view items.items))) }
     ensures table { OnOk result (rows nonterminal_data_view state.new.nonterminals
         ≡ sorted_onto (rows nonterminal_data_view state.old.nonterminals) (rule_rows (vec_len state.old.actions) (rules_among (map item_view items.items)))) }
     ensures adds { OnOk result (map action_defn_view state.new.actions.items
         ≡ map action_defn_view state.old.actions.items ++ made_actions state.old.prefix.now (table_by_number state.old.types.now) (rules_among (map item_view items.items))) }
     ensures given { OnOk result ((state.new.prefix ≡ state.old.prefix) × (state.new.types ≡ state.old.types)) }
+    ensures recovers { IfOk result (λ b. b ≡ uses_recovery (rules_among (map item_view items.items))) }
 {
     let mut left = items;
     left.reverse();
+    let mut recovers = false;
     while let Some(item) = next_item(&mut left)? {
         if let Ok(rule) = item.into_nonterminal() {
+            // Here, since lowering the rule reads its alternatives next.
+            recovers = recovers || some_error(&rule.alternatives);
             add_rule(state, rule)?;
         }
     }
-    Ok(())
+    Ok(recovers)
 }
 
 /// Takes the item that comes next, of those that are left in falling order.

@@ -1,13 +1,15 @@
 //! The types of rules, found by the numbers of their names.
-ghost use Rattle.std.specs.Prelude.{◌≡◌, IfOk, map, option_map};
+ghost use Rattle.std.specs.Prelude.{◌≡◌, [], ◌∷◌, ◌++◌, IfOk, OnOk, map, option_map};
+ghost use Rattle.lalrpop_norm_tree.specs.Items.{item_view};
 ghost use Rattle.lalrpop_norm_tree_parts.specs.Reprs.{repr_view};
 ghost use Rattle.lalrpop_norm_names.specs.Numbers.{IsNumbering};
 ghost use Rattle.lalrpop_norm_repr.specs.Tables.{type_table, type_of};
+ghost use Rattle.lalrpop_norm_lower.specs.Lowering.{rules_among};
 ghost use Rattle.lalrpop_norm_lower.specs.Numbered.{AreTypesByNumber};
 
 use lalrpop_norm_names::Names;
 use lalrpop_norm_repr::grammar::repr::{TypeRepr, Types};
-use lalrpop_norm_tree::grammar::parse_tree::{NoMemory, NonterminalData, NonterminalString};
+use lalrpop_norm_tree::grammar::parse_tree::{GrammarItem, NoMemory, NonterminalString};
 use std::alloc::Global;
 
 /// A table of types, with what it has for each rule at the number of the rule's name.
@@ -20,15 +22,15 @@ pub(crate) struct NumberedTypes<'t> {
 }
 
 impl<'t> NumberedTypes<'t> {
-    /// Each row of the table is met once.
+    /// For the rules among the items. Each row of the table is met once.
     pub(crate) fn of(
         alloc: Global,
         table: &'t Types,
-        rules: &[&NonterminalData],
+        items: &[GrammarItem],
     ) -> Result<NumberedTypes<'t>, NoMemory>
         ensures { IfOk result (λ n. n.table.now ≡ table.now) }
     {
-        let names = names_of_rules(alloc, rules)?;
+        let names = names_of_rules(alloc, items)?;
         numbered_by(alloc, table, &names)
     }
 
@@ -43,18 +45,29 @@ impl<'t> NumberedTypes<'t> {
     }
 }
 
-/// The names of the rules.
-fn names_of_rules(
-    alloc: Global,
-    rules: &[&NonterminalData],
-) -> Result<Vec<NonterminalString>, NoMemory>
-    ensures { IfOk result (λ ns. ns.items ≡ map (λ r. r.now.name) rules.now) }
+/// The names of the rules among the items.
+fn names_of_rules(alloc: Global, items: &[GrammarItem]) -> Result<Vec<NonterminalString>, NoMemory>
+    ensures { IfOk result (λ ns. ns.items ≡ map (λ r. r.name) (rules_among (map item_view items.now))) }
 {
-    let mut names = Vec::with_capacity(alloc, rules.len())?;
-    for rule in rules {
-        names.push(rule.name.clone()?)?;
+    let mut names = Vec::with_capacity(alloc, items.len())?;
+    for item in items {
+        add_name(&mut names, item)?;
     }
     Ok(names)
+}
+
+/// Adds the name of an item that is a rule.
+fn add_name(names: &mut Vec<NonterminalString>, item: &GrammarItem) -> Result<(), NoMemory>
+    ensures { OnOk result (names.new.items ≡ names.old.items ++ map (λ r. r.name) (rules_among (item_view item.now ∷ []))) }
+{
+    match item {
+        GrammarItem::Nonterminal(rule) => names.push(rule.name.clone()?)?,
+        GrammarItem::MatchToken(_)
+        | GrammarItem::ExternToken(_)
+        | GrammarItem::InternToken(_)
+        | GrammarItem::Use(_) => {}
+    }
+    Ok(())
 }
 
 /// By these names, each of which has the first place at which it stands among them as its number.

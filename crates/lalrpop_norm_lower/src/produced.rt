@@ -14,7 +14,7 @@ ghost use Rattle.lalrpop_norm_lower.specs.Typing.{start_types};
 
 use crate::nonterminals::{lower_rules, lower_starts};
 use crate::numbered::NumberedTypes;
-use crate::rules::{public_rules, rules_of};
+use crate::rules::public_rules;
 use crate::starts::{Start, start_table, starts_of, typed_starts};
 use crate::state::LowerState;
 use lalrpop_norm_faults::NormResult;
@@ -25,14 +25,15 @@ use lalrpop_norm_tree::grammar::parse_tree::{GrammarItem, NoMemory};
 use std::alloc::Global;
 use std::collections::BTreeMap;
 
-/// What is made of rules: the start symbols of public ones with their types, the actions by their numbers, and the nonterminals with
-/// their productions.
+/// What is made of rules: the start symbols of public ones with their types, the actions by their numbers, the nonterminals with their
+/// productions, and whether `!` stands in an alternative.
 #[derive(Drop)]
 pub(crate) struct Produced {
     pub(crate) start_nonterminals: BTreeMap<NonterminalString, NonterminalString>,
     pub(crate) starts: Vec<(NonterminalString, TypeRepr)>,
     pub(crate) actions: Vec<ActionFnDefn>,
     pub(crate) nonterminals: BTreeMap<NonterminalString, NonterminalData>,
+    pub(crate) recovers: bool,
 }
 
 /// What is made of the rules among the items, by the table of their types.
@@ -45,7 +46,7 @@ pub(crate) fn produce(
     ensures refuses { Refuses result (made_faults prefix.now (type_table types.now) (rules_among (map item_view items.items))) }
     ensures produced { IfOk result (IsProduced prefix.now (type_table types.now) (rules_among (map item_view items.items))) }
 {
-    let types = types_of_rules(alloc, types, &items)?;
+    let types = NumberedTypes::of(alloc, types, &items)?;
     produce_by(alloc, prefix, items, &types)
 }
 
@@ -67,12 +68,13 @@ fn produce_by(
         nonterminals: BTreeMap::new(alloc),
     };
     let (start_nonterminals, starts) = start(&mut state, &items)?;
-    lower_rules(&mut state, items)?;
+    let recovers = lower_rules(&mut state, items)?;
     Ok(Produced {
         start_nonterminals,
         starts,
         actions: state.actions,
         nonterminals: state.nonterminals,
+        recovers,
     })
 }
 
@@ -88,17 +90,6 @@ fn count_actions(items: &[GrammarItem]) -> usize {
         }
     }
     count
-}
-
-/// The types of the rules among the items, by the numbers of their names.
-fn types_of_rules<'t>(
-    alloc: Global,
-    types: &'t Types,
-    items: &[GrammarItem],
-) -> Result<NumberedTypes<'t>, NoMemory>
-    ensures { IfOk result (λ n. n.table.now ≡ types.now) }
-{
-    NumberedTypes::of(alloc, types, &rules_of(alloc, items)?)
 }
 
 /// Adds the start symbols of the public rules among the items, and answers them in a table, and with their types.
@@ -139,7 +130,6 @@ fn starts_among<'g>(
     ensures types { IfOk result (λ ss. map start_typed ss.items
         ≡ start_types prefix.now (table_by_number types.now) (public_rules_in (rules_among (map item_view items.now)))) }
 {
-    let rules = rules_of(alloc, items)?;
-    let public = public_rules(alloc, &rules)?;
+    let public = public_rules(alloc, items)?;
     starts_of(alloc, prefix, types, &public)
 }

@@ -1,25 +1,14 @@
-//! Whether a grammar recovers from errors: whether `!` stands in an alternative.
+//! Whether `!` stands in an alternative: a grammar recovers from errors where it stands in one of a rule.
 ghost use Rattle.std.specs.Prelude.{◌≡◌, map};
 ghost use Rattle.std.specs.List.{list_any};
-ghost use Rattle.lalrpop_norm_tree.specs.Items.{alternative_view, rule_view};
+ghost use Rattle.lalrpop_norm_tree.specs.Items.{alternative_view};
 ghost use Rattle.lalrpop_norm_tree.specs.Symbols.{kind_view, parts_view, symbol_view};
-ghost use Rattle.lalrpop_norm_lower.specs.Carried.{is_error_kind, is_error, any_error, uses_recovery};
+ghost use Rattle.lalrpop_norm_lower.specs.Carried.{is_error_kind, is_error, any_error};
 
-use lalrpop_norm_tree::grammar::parse_tree::{Alternative, NonterminalData, Symbol, SymbolKind};
+use lalrpop_norm_tree::grammar::parse_tree::{Alternative, Symbol, SymbolKind};
 
-/// Whether `!` stands in an alternative of the rules.
-pub(crate) fn uses_recovery(rules: &[&NonterminalData]) -> bool
-    ensures { result ≡ uses_recovery (map (λ r. rule_view r.now) rules.now) }
-{
-    for rule in rules {
-        if some_error(&rule.alternatives) {
-            return true;
-        }
-    }
-    false
-}
-
-fn some_error(alternatives: &[Alternative]) -> bool
+/// Whether `!` stands in one of the alternatives.
+pub(crate) fn some_error(alternatives: &[Alternative]) -> bool
     ensures { result ≡ list_any (λ a. any_error a.parts) (map alternative_view alternatives.now) }
 {
     for alternative in alternatives {

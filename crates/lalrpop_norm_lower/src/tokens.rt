@@ -1,8 +1,8 @@
-//! The terminals of a grammar, and the patterns of their tokens.
-ghost use Rattle.std.specs.Prelude.{◌≡◌, ◌+◌, ◌++◌, [], ◌∷◌, IfOk, OnOk, codes, flat_map, map, if◌then◌else◌};
+//! The terminals of a grammar that have tokens, and the patterns of these.
+ghost use Rattle.std.specs.Prelude.{◌≡◌, ◌+◌, ◌++◌, [], ◌∷◌, IfOk, OnOk, codes, flat_map, map};
 ghost use Rattle.std.specs.BTreeMap.{insert_entry};
 ghost use Rattle.std.specs.Map.{keys_of};
-ghost use Rattle.lalrpop_norm_tree.specs.Items.{conversion_view, grammar_view, item_view};
+ghost use Rattle.lalrpop_norm_tree.specs.Items.{conversion_view, item_view};
 ghost use Rattle.lalrpop_norm_tree.specs.LoweredTypes.{named_path};
 ghost use Rattle.lalrpop_norm_tree_parts.specs.Paths.{path_view};
 ghost use Rattle.lalrpop_norm_tree_patterns.specs.Patterns.{pattern_view, patterns_view, pattern_at, pattern_and, no_patterns, number, chosen};
@@ -10,15 +10,15 @@ ghost use Rattle.lalrpop_norm_tree_parts.specs.Reprs.{repr_view, input_str};
 ghost use Rattle.lalrpop_norm_session.specs.Sessions.{features_view};
 ghost use Rattle.lalrpop_norm_repr.specs.Tables.{rows};
 ghost use Rattle.lalrpop_norm_lower.specs.Carried.{internal_pattern};
-ghost use Rattle.lalrpop_norm_lower.specs.Conversions.{sorted_terminals, numbered_terminals, terminal_cmp};
-ghost use Rattle.lalrpop_norm_lower.specs.Made.{conversion_rows, row_of_entry, entry_rows_from, token_rows, made_tokens};
+ghost use Rattle.lalrpop_norm_lower.specs.Conversions.{sorted_terminals, terminal_cmp};
+ghost use Rattle.lalrpop_norm_lower.specs.Made.{conversion_rows, row_of_entry, entry_rows_from, token_rows};
 
 use crate::patterns::lowered_pattern;
-use lalrpop_norm_lower_steps::terminals::{terminal_of_entry, terminal_set};
-use lalrpop_norm_repr::grammar::repr::{TerminalSet, TerminalString, TypeRepr};
+use lalrpop_norm_lower_steps::terminals::terminal_of_entry;
+use lalrpop_norm_repr::grammar::repr::{TerminalString, TypeRepr};
 use lalrpop_norm_session::{Session, cfg_active};
 use lalrpop_norm_tree::grammar::parse_tree::{
-    Atom, Conversion, Grammar, GrammarItem, MatchEntry, NoMemory, Path, Span,
+    Atom, Conversion, GrammarItem, MatchEntry, NoMemory, Path, Span,
 };
 use lalrpop_norm_tree::grammar::pattern::{Pattern, PatternKind};
 use std::alloc::Global;
@@ -26,33 +26,15 @@ use std::collections::BTreeMap;
 
 /// The terminals with tokens.
 #[derive(Drop)]
-struct Tokens {
+pub(crate) struct Tokens {
     /// In the order of their numbers.
-    all: Vec<TerminalString>,
+    pub(crate) all: Vec<TerminalString>,
     /// The pattern of each one's tokens.
-    patterns: BTreeMap<TerminalString, Pattern<TypeRepr>>,
+    pub(crate) patterns: BTreeMap<TerminalString, Pattern<TypeRepr>>,
 }
 
-/// The terminals with their numbers, the error terminal last where it is used, and the patterns of their tokens.
-pub(crate) fn terminals_of<L>(
-    alloc: Global,
-    session: &Session<L>,
-    grammar: &Grammar,
-    recovers: bool,
-) -> Result<(TerminalSet, BTreeMap<TerminalString, Pattern<TypeRepr>>), NoMemory>
-    ensures all { IfOk result (λ t. t.0.all.items ≡ keys_of (made_tokens (features_view session.now.features) (grammar_view grammar.now))
-        ++ (if recovers then TerminalString.Error ∷ [] else [])) }
-    ensures bits { IfOk result (λ t. t.0.bits.entries ≡ sorted_terminals [] (numbered_terminals 0 t.0.all.items)) }
-    ensures patterns { IfOk result (λ t. rows (pattern_view repr_view) t.1
-        ≡ sorted_terminals [] (made_tokens (features_view session.now.features) (grammar_view grammar.now))) }
-{
-    let tokens = tokens_of(alloc, session, grammar.span, &grammar.items)?;
-    let terminals = terminal_set(alloc, tokens.all, recovers)?;
-    Ok((terminals, tokens.patterns))
-}
-
-/// The terminals of the active conversions and of the entries of tokenizers, in order.
-fn tokens_of<L>(
+/// The terminals of the active conversions and of the entries of tokenizers, in order, and the patterns of their tokens.
+pub(crate) fn tokens_of<L>(
     alloc: Global,
     session: &Session<L>,
     span: Span,

@@ -22,6 +22,7 @@ use crate::carried::{Carried, carried_of};
 use crate::produced::{Produced, produce};
 use crate::typing::add_start_types;
 use lalrpop_norm_faults::NormResult;
+use lalrpop_norm_lower_steps::terminals::terminal_set;
 use lalrpop_norm_repr::grammar::repr::{Grammar, Types};
 use lalrpop_norm_session::Session;
 use lalrpop_norm_tree::grammar::parse_tree as pt;
@@ -87,14 +88,21 @@ fn lower_rest(
 {
     let items = mem::replace(&mut grammar.items, Vec::new(alloc));
     let produced = produce(alloc, grammar.prefix.as_str(), items, &types)?;
-    Ok(lowered_of(types, carried, produced)?)
+    Ok(lowered_of(alloc, types, carried, produced)?)
 }
 
 /// The lowered grammar of its parts.
-fn lowered_of(mut types: Types, carried: Carried, produced: Produced) -> Result<Grammar, NoMemory>
+fn lowered_of(
+    alloc: Global,
+    mut types: Types,
+    carried: Carried,
+    produced: Produced,
+) -> Result<Grammar, NoMemory>
     ensures { IfOk result (λ l. (fs : Features) (g : GrammarData) → IsCarriedOver fs g carried → IsProduced g.prefix (type_table types) (rules_among g.items) produced
         → IsMade fs g (type_table types) (lowered.lowered_grammar_view l)) }
 {
+    let tokens = carried.tokens;
+    let terminals = terminal_set(alloc, tokens.all, produced.recovers)?;
     add_start_types(&mut types, produced.starts)?;
     // A law, which does nothing: it gives the order of the rows.
     types.rows_ascend();
@@ -103,7 +111,7 @@ fn lowered_of(mut types: Types, carried: Carried, produced: Produced) -> Result<
     Ok(Grammar {
         prefix: head.prefix,
         algorithm: carried.algorithm,
-        uses_error_recovery: carried.recovers,
+        uses_error_recovery: produced.recovers,
         start_nonterminals: produced.start_nonterminals,
         uses: head.uses,
         type_parameters: signature.type_parameters,
@@ -111,9 +119,9 @@ fn lowered_of(mut types: Types, carried: Carried, produced: Produced) -> Result<
         where_clauses: signature.where_clauses,
         intern_token: head.intern_token,
         action_fn_defns: produced.actions,
-        terminals: carried.terminals,
+        terminals,
         nonterminals: produced.nonterminals,
-        conversions: carried.conversions,
+        conversions: tokens.patterns,
         types,
         module_attributes: head.module_attributes,
     })

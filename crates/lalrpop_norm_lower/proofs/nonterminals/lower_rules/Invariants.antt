@@ -1,8 +1,9 @@
-use Rattle.std.proofs.Common.{◌≡◌, ◌++◌, map, vec_len, reverse}
+use Rattle.std.proofs.Common.{◌≡◌, ◌||◌, ◌++◌, map, vec_len, reverse}
 use Rattle.lalrpop_norm_tree.specs.Items.{item_view}
 use Rattle.lalrpop_norm_repr.specs.Actions.{action_defn_view}
 use Rattle.lalrpop_norm_repr.specs.Productions.{nonterminal_data_view}
 use Rattle.lalrpop_norm_repr.specs.Tables.{rows}
+use Rattle.lalrpop_norm_lower.specs.Carried.{uses_recovery}
 use Rattle.lalrpop_norm_lower.specs.Lowering.{rule_rows, rules_among, sorted_onto}
 use Rattle.lalrpop_norm_lower.specs.Made.{made_rules_faults, made_actions}
 use Rattle.lalrpop_norm_lower.specs.State.{table_by_number}
@@ -15,6 +16,7 @@ invariant-loop-left l =
     × (map action_defn_view l.state.actions.items ++ made_actions l.initial.state.prefix.now (table_by_number l.initial.state.types.now) (rules_among (map item_view (reverse l.left.items))) ≡ map action_defn_view l.initial.state.actions.items ++ made_actions l.initial.state.prefix.now (table_by_number l.initial.state.types.now) (rules_among (map item_view l.fn.items.items)))
     × (l.state.prefix ≡ l.initial.state.prefix)
     × (l.state.types ≡ l.initial.state.types)
+    × ((l.recovers || uses_recovery (rules_among (map item_view (reverse l.left.items)))) ≡ uses_recovery (rules_among (map item_view l.fn.items.items)))
 
 abbrev pub decreases-loop-left : goal.decreases-loop-left
 decreases-loop-left l = vec_len l.left
