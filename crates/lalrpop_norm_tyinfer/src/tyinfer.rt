@@ -9,6 +9,7 @@ ghost use Rattle.lalrpop_norm_model.specs.InferenceFaults.{inference_faults};
 ghost use Rattle.lalrpop_norm_model.specs.PlainRules.{all_rules};
 ghost use Rattle.lalrpop_norm_tyinfer_table.specs.Filled.{HasAllRows, table_faults};
 ghost use Rattle.lalrpop_norm_tyinfer_table.specs.Inferred.{IsInferred};
+ghost use Rattle.lalrpop_norm_tyinfer_table.specs.Needs.{names_seen};
 ghost use Rattle.lalrpop_norm_tyinfer_table.specs.Numbered.{numbered_table, NumbersRules};
 ghost use Rattle.lalrpop_norm_tyinfer_table.specs.Visits.{rule_seen, with_clauses};
 
@@ -82,6 +83,8 @@ fn check_table(
     types: &Numbered,
     rules: &[PlainRule],
 ) -> NormResult<()>
+    requires distinct { IsDistinct (names_seen (map rule_seen rules.now)) }
+    requires numbered { NumbersRules types.now (map rule_seen rules.now) }
     ensures { Refuses result (table_faults parameters.now (numbered_table types.now) (map (λ r. rule_view r.data.now) rules.now)) }
 {
     check_typed(alloc, types, rules)?;

@@ -1,7 +1,7 @@
 -- Loops that refuse by the first fault of a list, and loops that collect.
-use Rattle.std.proofs.Common.{◌≡◌, ◌<◌, ◌+◌, ℕ, Result, Option, Some, None, refl, List, [], ◌∷◌, length, drop, get_or, map, sym, ◌∙◌}
+use Rattle.std.proofs.Common.{◌≡◌, ◌<◌, ◌+◌, ℕ, true, false, Result, Option, Some, None, refl, List, [], ◌∷◌, length, drop, get_or, map, sym, ◌∙◌}
 use Rattle.std.specs.List.{flat_map}
-use Rattle.std.specs.Prelude.{is_none}
+use Rattle.std.specs.Prelude.{is_none, is_some}
 use Rattle.std.specs.Result.{IsErrAnd}
 use Rattle.lalrpop_norm_faults.specs.declared.failure.NormFailure.{NormFailure}
 use Rattle.lalrpop_norm_faults.specs.Faults.{Fault, IsFirst, Refuses, fault_if}
@@ -17,10 +17,10 @@ exit_loop view f xs i x r e lt is from h same =
 
 -- ---- a fault where something is not there
 
-pub some_lacks_not : {A : Type 0} (o : Option A) (x : A) (f : Fault) → Some x ≡ o → fault_if (is_none o) f ≡ []
-some_lacks_not (Some y) x f e = refl
-some_lacks_not None x f e = absurd (cc e)
+pub there_lacks_not : {A : Type 0} (o : Option A) (f : Fault) → is_some o ≡ true → fault_if (is_none o) f ≡ []
+there_lacks_not (Some y) f e = refl
+there_lacks_not None f e = absurd (cc e)
 
-pub none_lacks : {A : Type 0} (o : Option A) (f : Fault) → None ≡ o → fault_if (is_none o) f ≡ f ∷ []
-none_lacks (Some y) f e = absurd (cc e)
-none_lacks None f e = refl
+pub absent_lacks : {A : Type 0} (o : Option A) (f : Fault) → is_some o ≡ false → fault_if (is_none o) f ≡ f ∷ []
+absent_lacks (Some y) f e = absurd (cc e)
+absent_lacks None f e = refl

@@ -1,6 +1,6 @@
 -- What stands in a table of types by number.
 use Rattle.std.proofs.Common.{◌≡◌, ◌+◌, ◌++◌, ◌<◌, inl, inr, ℕ, zero, suc, Bool, true, false, cond, List, [], ◌∷◌, Option, Some, None, length, map, take, set, get_or, slice_get, bytes_eq, if◌then◌else◌, refl, sym, ap, subst, ◌∙◌, arith}
-use Rattle.std.specs.Prelude.{option_map}
+use Rattle.std.specs.Prelude.{is_some, option_map}
 use Rattle.std.specs.HashMap.{get, keys}
 use Rattle.std.specs.List.{position_from}
 use Rattle.std.specs.Map.{lookup, keys_of}
@@ -19,7 +19,7 @@ use Rattle.lalrpop_norm_model.proofs.ListLemmas.{texts_differ}
 use Rattle.lalrpop_norm_tyinfer_table.proofs.NeedLemmas.{of_mapped_at}
 use Rattle.lalrpop_norm_tyinfer_table.specs.declared.numbered.Numbered.{Numbered}
 use Rattle.lalrpop_norm_tyinfer_table.specs.Needs.{AreRuleNumbers}
-use Rattle.lalrpop_norm_tyinfer_table.specs.Numbered.{names_numbered, type_of_rule, type_at, type_by_number, row_if, typed_rows, names_in, numbered_table, PutsType, PutsRow}
+use Rattle.lalrpop_norm_tyinfer_table.specs.Numbered.{names_numbered, type_of_rule, type_at, type_by_number, row_if, typed_rows, names_looked_up, numbered_table, IsNumberOf, PutsType, PutsRow}
 use Rattle.lalrpop_norm_tyinfer_table.specs.TableValues.{named_by, type_by_name}
 
 -- ---- a row for each name
@@ -80,16 +80,24 @@ name_in n (f ∷ fs) keys number k there here = in_front n (f ∷ fs) keys (plac
 
 module _ (t : Numbered) (n : List ℕ) where
   by_type : (k : ℕ) → number_in_table t.names n ≡ Some k → (o : Option ReprData) → type_by_number t n ≡ o → type_by_name (numbered_table t) n ≡ o
-  by_type k number None e = found_none (type_by_number t) n (names_in t.names) e
-  by_type k number (Some x) e = found_some (type_by_number t) n (names_in t.names) x e (name_in n t.names.few.items (keys t.names.many) (get bytes_eq t.names.many n) k (λ j. key_in n t.names.many.entries j) number)
+  by_type k number None e = found_none (type_by_number t) n (names_looked_up t.names) e
+  by_type k number (Some x) e = found_some (type_by_number t) n (names_looked_up t.names) x e (name_in n t.names.few.items (keys t.names.many) (get bytes_eq t.names.many n) k (λ j. key_in n t.names.many.entries j) number)
 
   by_case : (o : Option ℕ) → number_in_table t.names n ≡ o → type_by_name (numbered_table t) n ≡ type_by_number t n
-  by_case None e = let none : type_by_number t n ≡ None = ap (type_at t.rules.items) e in found_none (type_by_number t) n (names_in t.names) none ∙ sym none
+  by_case None e = let none : type_by_number t n ≡ None = ap (type_at t.rules.items) e in found_none (type_by_number t) n (names_looked_up t.names) none ∙ sym none
   by_case (Some k) e = by_type k e (type_by_number t n) refl
 
   -- a name has the type at its number
   pub name_by_number : type_by_name (numbered_table t) n ≡ type_by_number t n
   name_by_number = by_case (number_in_table t.names n) refl
+
+-- a rule's number has the type of its name
+pub type_at_number : (t : Numbered) (n : List ℕ) (k : ℕ) → IsNumberOf t n k → type_at t.rules.items (Some k) ≡ type_by_name (numbered_table t) n
+type_at_number t n k of = sym (name_by_number t n ∙ ap (type_at t.rules.items) of.is)
+
+pub is_there : {X Y : Type 0} (f : X → Y) (o : Option X) → is_some o ≡ is_some (option_map f o)
+is_there f None = refl
+is_there f (Some x) = refl
 
 -- ---- a number takes a type
 

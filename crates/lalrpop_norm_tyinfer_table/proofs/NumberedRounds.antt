@@ -12,7 +12,7 @@ use Rattle.lalrpop_norm_repr.specs.declared.types.Types.{Types}
 use Rattle.lalrpop_norm_repr.specs.Tables.{type_table, type_of}
 use Rattle.lalrpop_norm_tyinfer_table.specs.declared.numbered.Numbered.{Numbered}
 use Rattle.lalrpop_norm_tyinfer_table.specs.Needs.{names_seen, AreRuleNumbers}
-use Rattle.lalrpop_norm_tyinfer_table.specs.Numbered.{names_in, names_numbered, type_at, type_by_number, typed_rows, numbered_table, PutsType, HasSameNumbers, IsNumberOf, NumbersRules}
+use Rattle.lalrpop_norm_tyinfer_table.specs.Numbered.{names_looked_up, names_numbered, type_at, type_by_number, typed_rows, numbered_table, PutsType, HasSameNumbers, IsNumberOf, NumbersRules}
 use Rattle.lalrpop_norm_tyinfer_table.specs.TableValues.{named_by, type_by_name}
 use Rattle.lalrpop_norm_tyinfer_table.specs.Visits.{Seen, TakesType}
 use Rattle.lalrpop_norm_tyinfer_table.proofs.NeedLemmas.{one_place}
@@ -80,7 +80,7 @@ no_rows f (n ∷ ns) none = rw (none n) (no_rows f ns none)
 -- where no rule has a type the table is that of the tokens
 pub begins_table : (t : Numbered) (tokens : Types) → t.tokens ≡ tokens → ((n : List ℕ) → type_by_number t n ≡ None) → (type_table tokens).nonterminals ≡ [] → numbered_table t ≡ type_table tokens
 begins_table t tokens same none empty =
-    ap₂ (λ (u : Types) (ns : List (NonterminalString × ReprData)). record (type_table u) { nonterminals = ns }) same (no_rows (type_by_number t) (names_in t.names) none ∙ sym empty)
+    ap₂ (λ (u : Types) (ns : List (NonterminalString × ReprData)). record (type_table u) { nonterminals = ns }) same (no_rows (type_by_number t) (names_looked_up t.names) none ∙ sym empty)
 
 pub none_by_name : (t : Numbered) → ((n : List ℕ) → type_by_number t n ≡ None) → (n : List ℕ) → type_by_name (numbered_table t) n ≡ None
 none_by_name t none n = name_by_number t n ∙ none n

@@ -40,12 +40,12 @@ typed_rows f [] = []
 typed_rows f (n ∷ ns) = row_if n (f n) ++ typed_rows f ns
 
 -- the names that may have numbers: few ones are listed, many are keys
-abbrev pub names_in : Names → List (List ℕ)
-names_in names = names.few.items ++ keys names.many
+abbrev pub names_looked_up : Names → List (List ℕ)
+names_looked_up names = names.few.items ++ keys names.many
 
 -- the table of types that they are
 abbrev pub numbered_table : Numbered → TypeTable
-numbered_table t = record (type_table t.tokens) { nonterminals = typed_rows (type_by_number t) (names_in t.names) }
+numbered_table t = record (type_table t.tokens) { nonterminals = typed_rows (type_by_number t) (names_looked_up t.names) }
 
 -- the number takes a type
 pub record PutsType (t after : Numbered) (number : ℕ) (x : ReprData) : Type 0 where

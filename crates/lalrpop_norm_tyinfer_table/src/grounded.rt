@@ -2,8 +2,10 @@
 ghost use Rattle.std.specs.Prelude.{flat_map, map};
 ghost use Rattle.lalrpop_norm_tree.specs.Items.{alternative_view, rule_view};
 ghost use Rattle.lalrpop_norm_faults.specs.Faults.{Refuses, IsFirst};
+ghost use Rattle.lalrpop_norm_theory.specs.Rounds.{IsDistinct};
 ghost use Rattle.lalrpop_norm_model.specs.InferenceFaults.{lack_of};
-ghost use Rattle.lalrpop_norm_tyinfer_table.specs.Numbered.{numbered_table};
+ghost use Rattle.lalrpop_norm_tyinfer_table.specs.Needs.{names_seen};
+ghost use Rattle.lalrpop_norm_tyinfer_table.specs.Numbered.{numbered_table, IsNumberOf, NumbersRules};
 ghost use Rattle.lalrpop_norm_tyinfer_table.specs.TableFaults.{lacking_seen, untyped_in};
 ghost use Rattle.lalrpop_norm_tyinfer_table.specs.Visits.{rule_seen};
 
@@ -26,10 +28,10 @@ pub fn check_clauses(alloc: Global, rules: &[PlainRule]) -> NormResult<()>
 fn check_rule(alloc: Global, rule: &PlainRule) -> NormResult<()>
     ensures { Refuses result (lacking_seen (rule_seen rule.now)) }
 {
-    if rule.data.type_decl.is_some() {
+    if !rule.clauses.is_empty() {
         return Ok(());
     }
-    if !rule.clauses.is_empty() {
+    if rule.data.type_decl.is_some() {
         return Ok(());
     }
     Err(lack(alloc, rule.data, &rule.data.alternatives))
@@ -60,26 +62,34 @@ fn lack(alloc: Global, rule: &NonterminalData, alternatives: &[Alternative]) -> 
 
 /// Refuses a rule without a type in the table.
 pub fn check_typed(alloc: Global, types: &Numbered, rules: &[PlainRule]) -> NormResult<()>
+    requires distinct { IsDistinct (names_seen (map rule_seen rules.now)) }
+    requires numbered { NumbersRules types.now (map rule_seen rules.now) }
     ensures { Refuses result (flat_map (untyped_in (numbered_table types.now)) (map (λ r. rule_view r.data.now) rules.now)) }
 {
-    for rule in rules {
-        check_type(alloc, types, rule.data)?;
+    for (number, rule) in rules.iter().enumerate() {
+        check_type(alloc, types, number, rule.data)?;
     }
     Ok(())
 }
 
-fn check_type(alloc: Global, types: &Numbered, rule: &NonterminalData) -> NormResult<()>
+fn check_type(
+    alloc: Global,
+    types: &Numbered,
+    number: usize,
+    rule: &NonterminalData,
+) -> NormResult<()>
+    requires { IsNumberOf types.now rule.now.name.0 number }
     ensures { Refuses result (untyped_in (numbered_table types.now) (rule_view rule.now)) }
 {
-    let name = &rule.name;
-    match types.lookup_nonterminal_type(name) {
-        Some(_) => Ok(()),
-        None => Err(refusal(
-            FaultKind::NotGrounded,
-            rule.span,
-            format!(in alloc;
-                "the type of `{name}` depends on itself, or on a rule without a type: declare one, as `{name}: T`"
-            ),
-        )),
+    if types.is_typed(number) {
+        return Ok(());
     }
+    let name = &rule.name;
+    Err(refusal(
+        FaultKind::NotGrounded,
+        rule.span,
+        format!(in alloc;
+            "the type of `{name}` depends on itself, or on a rule without a type: declare one, as `{name}: T`"
+        ),
+    ))
 }

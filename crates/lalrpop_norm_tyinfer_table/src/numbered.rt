@@ -1,5 +1,5 @@
 //! The types of rules by number.
-ghost use Rattle.std.specs.Prelude.{◌≡◌, ◌<◌, [], ℕ, List, Option, None, Some, IfOk, OnOk, length, map, option_map};
+ghost use Rattle.std.specs.Prelude.{◌≡◌, ◌<◌, [], ℕ, List, Option, None, Some, IfOk, OnOk, is_some, length, map, option_map};
 ghost use Rattle.std.specs.List.Sorted.{IsStrictlySortedBy};
 ghost use Rattle.std.specs.Map.{keys_of};
 ghost use Rattle.lalrpop_norm_names.specs.Numbers.{number_in_table};
@@ -8,7 +8,7 @@ ghost use Rattle.lalrpop_norm_tree_parts.specs.Reprs.{repr_view};
 ghost use Rattle.lalrpop_norm_repr.specs.Orders.{name_cmp, terminal_cmp};
 ghost use Rattle.lalrpop_norm_repr.specs.Tables.{type_table, type_of, type_of_terminal};
 ghost use Rattle.lalrpop_norm_tyinfer_table.specs.Needs.{AreRuleNumbers};
-ghost use Rattle.lalrpop_norm_tyinfer_table.specs.Numbered.{names_numbered, type_at, type_by_number, numbered_table, PutsType, PutsRow};
+ghost use Rattle.lalrpop_norm_tyinfer_table.specs.Numbered.{names_numbered, type_at, type_by_number, numbered_table, IsNumberOf, PutsType, PutsRow};
 ghost use Rattle.lalrpop_norm_tyinfer_table.specs.TableValues.{type_by_name};
 
 use lalrpop_norm_names::Names;
@@ -82,6 +82,13 @@ impl Numbered {
             Some(rule) => rule.1.as_ref(),
             None => None,
         }
+    }
+
+    /// Whether a rule has a type yet.
+    pub fn is_typed(&self, number: usize) -> bool
+        ensures { (n : List ℕ) → IsNumberOf self.now n number → result ≡ is_some (type_by_name (numbered_table self.now) n) }
+    {
+        self.at(number).is_some()
     }
 
     /// The type of a terminal: the type of a token where it has none of its own.

@@ -13,6 +13,12 @@ pub returns-in_err-check_clauses-clause-refuses : goal.returns-in_err-check_clau
 returns-in_err-check_clauses-clause-refuses c =
     clauses_refused (grammar_view c.args.grammar.now) c.args.rules.now _ _ c.requires.seen c.from_residual.ensures.1 c.in_err-check_clauses.ensures
 
+pub check_table-requires-clause-distinct : goal.check_table-requires-clause-distinct
+check_table-requires-clause-distinct c = names_distinct (grammar_view c.args.grammar.now) (map rule_seen c.args.rules.now) c.requires.seen c.requires.distinct
+
+pub check_table-requires-clause-numbered : goal.check_table-requires-clause-numbered
+check_table-requires-clause-numbered c = c.in_ok-types.ensures.numbered
+
 pub returns-in_err-check_table-clause-refuses : goal.returns-in_err-check_table-clause-refuses
 returns-in_err-check_table-clause-refuses c =
     table_refused (grammar_view c.args.grammar.now) (numbered_table c.in_ok-types.types) c.in_ok-types.ensures.filled c.deref.result.now c.deref.ensures.value c.args.rules.now c.requires.seen c.in_ok-check_clauses.ensures

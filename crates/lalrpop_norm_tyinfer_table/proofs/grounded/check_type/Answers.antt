@@ -1,8 +1,9 @@
-use Rattle.lalrpop_norm_tyinfer_table.proofs.LoopLemmas.{none_lacks, some_lacks_not}
+use Rattle.std.proofs.Common.{sym, ◌∙◌}
+use Rattle.lalrpop_norm_tyinfer_table.proofs.LoopLemmas.{absent_lacks, there_lacks_not}
 use Rattle.lalrpop_norm_tyinfer_table.proofs.grounded.check_type.Goals as goal
 
-pub returns-in-Some : goal.returns-in-Some
-returns-in-Some c = some_lacks_not _ _ _ c.in-Some.ensures
+pub returns-then-is_typed : goal.returns-then-is_typed
+returns-then-is_typed c = there_lacks_not _ _ (sym (c.is_typed.ensures c.args.rule.now.name.0 c.requires) ∙ c.if-is_typed.true)
 
-pub returns-in-None : goal.returns-in-None
-returns-in-None c = rw (none_lacks _ _ c.in-None.ensures) c.refusal.ensures.first
+pub returns : goal.returns
+returns c = rw (absent_lacks _ _ (sym (c.is_typed.ensures c.args.rule.now.name.0 c.requires) ∙ c.if-is_typed.false)) c.refusal.ensures.first

@@ -6,5 +6,5 @@ use Rattle.lalrpop_norm_tyinfer_table.specs.declared.rules.PlainRule.{PlainRule}
 use Rattle.lalrpop_norm_tyinfer_table.specs.TableFaults.{untyped_in}
 use Rattle.lalrpop_norm_tyinfer_table.proofs.grounded.check_typed.Given as goal
 
-abbrev pub invariant-loop-rule : goal.invariant-loop-rule
-invariant-loop-rule l = flat_map (untyped_in (numbered_table l.types)) (map (λ (r : PlainRule). rule_view r.data.now) (drop l.rule-index l.rules)) ≡ flat_map (untyped_in (numbered_table l.types)) (map (λ (r : PlainRule). rule_view r.data.now) l.rules)
+abbrev pub invariant-loop-number : goal.invariant-loop-number
+invariant-loop-number l = flat_map (untyped_in (numbered_table l.types)) (map (λ (r : PlainRule). rule_view r.data.now) (drop l.number l.rules)) ≡ flat_map (untyped_in (numbered_table l.types)) (map (λ (r : PlainRule). rule_view r.data.now) l.rules)
