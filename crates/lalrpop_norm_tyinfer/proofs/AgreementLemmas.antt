@@ -1,21 +1,10 @@
--- Rules that give the type that they have.
+-- Types that agree, or do not.
 use Rattle.std.proofs.Common.{◌≡◌, true, false, [], ◌∷◌, Option, Some, refl}
 use Rattle.lalrpop_norm_tree_parts.specs.Reprs.{ReprData}
-use Rattle.lalrpop_norm_tree.specs.declared.items.NonterminalData.{NonterminalData}
-use Rattle.lalrpop_norm_tree.specs.declared.types.TypeRef.{TypeRef}
-use Rattle.lalrpop_norm_tree.specs.Items.{rule_view}
 use Rattle.lalrpop_norm_faults.specs.declared.failure.NormFailure.{NormFailure}
 use Rattle.lalrpop_norm_faults.specs.Faults.{Fault, IsFirst, fault_if}
-use Rattle.lalrpop_norm_repr.specs.Tables.{TypeTable}
 use Rattle.lalrpop_norm_model.specs.InferenceFaults.{is_other}
 use Rattle.lalrpop_norm_model.specs.SameTypes.{same_type}
-use Rattle.lalrpop_norm_tyinfer_table.specs.TableFaults.{others_in}
-
-module _ (ps : _) (tt : TypeTable) (r : NonterminalData) where
-  pub declared_agrees : (t : TypeRef) → r.type_decl ≡ Some t → others_in ps tt (rule_view r) ≡ []
-  declared_agrees t is = rw (is) refl
-
--- ---- two types
 
 pub same_agrees : (x y : ReprData) (v w : Option ReprData) (f : Fault) → v ≡ Some x → w ≡ Some y → true ≡ same_type x y → fault_if (is_other v w) f ≡ []
 same_agrees x y v w f at to same = rw (at, to, ← same) refl

@@ -1,9 +1,11 @@
 -- Loops over lists, element by element.
-use Rattle.std.proofs.Common.{◌≡◌, ℕ, ◌+◌, ◌<◌, ◌≤◌, List, [], ◌∷◌, ◌++◌, Option, Some, None, map, take, drop, length, get_or, refl, sym, ap, ◌∙◌}
+use Rattle.std.proofs.Common.{◌≡◌, ℕ, ◌+◌, ◌<◌, ◌≤◌, List, [], ◌∷◌, ◌++◌, Option, Some, None, map, take, drop, length, get_or, sym, ap, ◌∙◌}
 use Rattle.std.specs.Prelude.{option_map}
-use Rattle.std.proofs.lemmas.List.{map-append, take_more, drop_all}
+use Rattle.std.specs.List.{flat_map}
+use Rattle.std.proofs.lemmas.List.{map-append, take_more, drop_all, at_drop_all}
 use Rattle.lalrpop_norm_tree_parts.specs.Reprs.{ReprData, Reprs, repr_and}
 use Rattle.lalrpop_norm_tree.specs.Accessors.{or_else}
+use Rattle.lalrpop_norm_faults.specs.Faults.{Fault}
 use Rattle.lalrpop_norm_faults.proofs.FaultLemmas.{at_drop_item}
 use Rattle.lalrpop_norm_repr.specs.Tables.{TypeTable}
 use Rattle.lalrpop_norm_model.specs.TypeTables.{both}
@@ -34,6 +36,20 @@ module _ (ps : _) (tt : TypeTable) (cs : List TypeSource) (i : ℕ) where
 
     pub found_first : (x : ReprData) → Some x ≡ clause_in ps tt (clause_view c) → Some x ≡ v
     found_first x some = ap (λ o. or_else o (first_in ps tt (map clause_view (drop (i + 1) cs)))) some ∙ met
+
+-- ---- lists of faults
+
+module _ {X Y : Type 0} (view : X → Y) (f : Y → List Fault) (xs : List X) (i : ℕ) where
+  -- an element without a fault is passed
+  pub passed_on : (x : X) → i < length xs → x ≡ get_or xs i x → f (view x) ≡ [] → flat_map f (map view (drop i xs)) ≡ flat_map f (map view xs) →
+      flat_map f (map view (drop (i + 1) xs)) ≡ flat_map f (map view xs)
+  passed_on x lt is none here =
+      ap (λ ys. ys ++ flat_map f (map view (drop (i + 1) xs))) (sym none)
+      ∙ (sym (at_drop_item (λ (ys : List X). flat_map f (map view ys)) xs i x lt is) ∙ here)
+
+  -- all are
+  pub all_passed : length xs ≤ i → flat_map f (map view (drop i xs)) ≡ flat_map f (map view xs) → flat_map f (map view xs) ≡ []
+  all_passed done here = sym here ∙ at_drop_all (λ (ys : List X). flat_map f (map view ys)) xs i done
 
 -- ---- values in a row
 

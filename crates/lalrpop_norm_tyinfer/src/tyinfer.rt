@@ -1,6 +1,7 @@
 //! Type inference: the type of each rule of an expanded grammar.
-ghost use Rattle.std.specs.Prelude.{◌≡◌, IfOk, map};
-ghost use Rattle.lalrpop_norm_tree.specs.Items.{grammar_view, rule_view};
+ghost use Rattle.std.specs.Prelude.{◌≡◌, List, IfOk, map};
+ghost use Rattle.lalrpop_norm_tree_names.specs.declared.names.TypeParameter.{TypeParameter};
+ghost use Rattle.lalrpop_norm_tree.specs.Items.{grammar_view};
 ghost use Rattle.lalrpop_norm_faults.specs.Faults.{Refuses};
 ghost use Rattle.lalrpop_norm_theory.specs.Rounds.{IsDistinct};
 ghost use Rattle.lalrpop_norm_repr.specs.Tables.{type_table};
@@ -11,7 +12,7 @@ ghost use Rattle.lalrpop_norm_tyinfer_table.specs.Filled.{HasAllRows, table_faul
 ghost use Rattle.lalrpop_norm_tyinfer_table.specs.Inferred.{IsInferred};
 ghost use Rattle.lalrpop_norm_tyinfer_table.specs.Needs.{names_seen};
 ghost use Rattle.lalrpop_norm_tyinfer_table.specs.Numbered.{numbered_table, NumbersRules};
-ghost use Rattle.lalrpop_norm_tyinfer_table.specs.Visits.{rule_seen, with_clauses};
+ghost use Rattle.lalrpop_norm_tyinfer_table.specs.Visits.{plain_rule_view, rule_seen, with_clauses};
 
 mod agreement;
 mod rounds;
@@ -21,7 +22,7 @@ mod type_sources;
 use agreement::check_agreement;
 use lalrpop_norm_faults::NormResult;
 use lalrpop_norm_repr::grammar::repr::Types;
-use lalrpop_norm_tree::grammar::parse_tree::{Grammar, NoMemory, TypeParameter};
+use lalrpop_norm_tree::grammar::parse_tree::{Grammar, NoMemory};
 use lalrpop_norm_tyinfer_table::grounded::{check_clauses, check_typed};
 use lalrpop_norm_tyinfer_table::numbered::Numbered;
 use lalrpop_norm_tyinfer_table::patterns::check_patterns;
@@ -57,7 +58,7 @@ fn infer(alloc: Global, grammar: &Grammar, rules: &[PlainRule]) -> NormResult<Ty
 {
     check_clauses(alloc, rules)?;
     let types = filled_table(alloc, grammar, rules)?;
-    check_table(alloc, &grammar.type_parameters, &types, rules)?;
+    check_table(alloc, &types, rules)?;
     let listed = types.by_name()?;
     Ok(listed)
 }
@@ -71,23 +72,18 @@ fn filled_table(alloc: Global, grammar: &Grammar, rules: &[PlainRule]) -> Result
 {
     let tokens = token_types(alloc, grammar)?;
     let names = names_of_rules(alloc, rules)?;
-    let mut types = Numbered::new(alloc, &names, tokens)?;
+    let mut types = Numbered::new(alloc, names, tokens)?;
     run_rounds(alloc, &grammar.type_parameters, &mut types, rules)?;
     Ok(types)
 }
 
 /// Refuses what the table shows: rules without a type, then alternatives that disagree, then tuples of names that do not fit.
-fn check_table(
-    alloc: Global,
-    parameters: &[TypeParameter],
-    types: &Numbered,
-    rules: &[PlainRule],
-) -> NormResult<()>
+fn check_table(alloc: Global, types: &Numbered, rules: &[PlainRule]) -> NormResult<()>
     requires distinct { IsDistinct (names_seen (map rule_seen rules.now)) }
     requires numbered { NumbersRules types.now (map rule_seen rules.now) }
-    ensures { Refuses result (table_faults parameters.now (numbered_table types.now) (map (λ r. rule_view r.data.now) rules.now)) }
+    ensures { (ps : List TypeParameter) → Refuses result (table_faults ps (numbered_table types.now) (map plain_rule_view rules.now)) }
 {
     check_typed(alloc, types, rules)?;
-    check_agreement(alloc, parameters, types, rules)?;
+    check_agreement(alloc, types, rules)?;
     check_patterns(alloc, types, rules)
 }

@@ -31,7 +31,7 @@ use Rattle.lalrpop_norm_tyinfer_table.specs.Needs.{names_seen}
 use Rattle.lalrpop_norm_tyinfer_table.specs.TableFaults.{lacking_seen, untyped_in, disagrees_in, other_in, others_in}
 use Rattle.lalrpop_norm_tyinfer_table.specs.TableValues.{named_by, type_by_name}
 use Rattle.lalrpop_norm_tyinfer_table.specs.TokenTypes.{base_table, AddsTerminals}
-use Rattle.lalrpop_norm_tyinfer_table.specs.Visits.{Seen, with_clauses, rule_seen, rounds_seen, HasRows, IsReadBy, EndsRounds}
+use Rattle.lalrpop_norm_tyinfer_table.specs.Visits.{Seen, with_clauses, plain_rule_view, rule_seen, rounds_seen, HasRows, IsReadBy, EndsRounds}
 use Rattle.lalrpop_norm_tyinfer_table.proofs.ReadLemmas.{clause_is, names_are, kept_read}
 use Rattle.lalrpop_norm_tyinfer_table.proofs.TokenLemmas.{added_names, added_tokens}
 use Rattle.lalrpop_norm_tyinfer_table.proofs.VisitLemmas.{rounds_are}
@@ -62,12 +62,12 @@ first_of_pairs : (rs : List RuleData) → map (λ (s : Seen). s.0) (map with_cla
 first_of_pairs [] = refl
 first_of_pairs (r ∷ rs) = ap (λ qs. r ∷ qs) (first_of_pairs rs)
 
-map_first : (rs : List PlainRule) → map (λ (s : Seen). s.0) (map rule_seen rs) ≡ map (λ (r : PlainRule). (rule_seen r).0) rs
+map_first : (rs : List PlainRule) → map (λ (s : Seen). s.0) (map rule_seen rs) ≡ map plain_rule_view rs
 map_first [] = refl
 map_first (r ∷ rs) = ap (λ qs. (rule_seen r).0 ∷ qs) (map_first rs)
 
 -- the rules without their clauses
-pub rules_are : (rs : List PlainRule) (rules : List RuleData) → map rule_seen rs ≡ map with_clauses rules → map (λ (r : PlainRule). (rule_seen r).0) rs ≡ rules
+pub rules_are : (rs : List PlainRule) (rules : List RuleData) → map rule_seen rs ≡ map with_clauses rules → map plain_rule_view rs ≡ rules
 rules_are rs rules e = sym (map_first rs) ∙ (ap (map (λ (s : Seen). s.0)) e ∙ first_of_pairs rules)
 
 -- ---- lists of faults
@@ -158,7 +158,7 @@ module _ (g : GrammarData) (tt : TypeTable) (full : HasAllRows g tt) where
 
 -- where no rule is without a clause the faults are those by the table
 pub table_only : (g : GrammarData) (tt : TypeTable) → HasAllRows g tt → (rs : List PlainRule) → map rule_seen rs ≡ map with_clauses (all_rules g) →
-    flat_map lacking_seen (map rule_seen rs) ≡ [] → inference_faults g ≡ table_faults g.type_parameters tt (map (λ (r : PlainRule). (rule_seen r).0) rs)
+    flat_map lacking_seen (map rule_seen rs) ≡ [] → inference_faults g ≡ table_faults g.type_parameters tt (map plain_rule_view rs)
 table_only g tt full rs seen none =
     faults_are g tt full
     ∙ ap₂ (λ xs ys. xs ++ ys) (ap (flat_map lacking_seen) (sym seen) ∙ none) (ap (table_faults g.type_parameters tt) (sym (rules_are rs (all_rules g) seen)))
@@ -195,20 +195,20 @@ clauses_refused g rs r e seen from first =
 
 module _ (g : GrammarData) (tt : TypeTable) (full : HasAllRows g tt) (ps : List TypeParameter) (same : ps ≡ g.type_parameters)
     (rs : List PlainRule) (seen : map rule_seen rs ≡ map with_clauses (all_rules g)) (none : flat_map lacking_seen (map rule_seen rs) ≡ []) where
-  by_table : inference_faults g ≡ table_faults ps tt (map (λ (r : PlainRule). (rule_seen r).0) rs)
-  by_table = table_only g tt full rs seen none ∙ ap (λ qs. table_faults qs tt (map (λ (r : PlainRule). (rule_seen r).0) rs)) (sym same)
+  by_table : inference_faults g ≡ table_faults ps tt (map plain_rule_view rs)
+  by_table = table_only g tt full rs seen none ∙ ap (λ qs. table_faults qs tt (map plain_rule_view rs)) (sym same)
 
   -- at what the table shows
-  pub table_refused : {T : Type 0} (r : Result T NormFailure) (e : NormFailure) → IsErrAnd r (λ x. x ≡ e) → IsFirst (table_faults ps tt (map (λ (r : PlainRule). (rule_seen r).0) rs)) e → Refuses r (inference_faults g)
+  pub table_refused : {T : Type 0} (r : Result T NormFailure) (e : NormFailure) → IsErrAnd r (λ x. x ≡ e) → IsFirst (table_faults ps tt (map plain_rule_view rs)) e → Refuses r (inference_faults g)
   table_refused r e from first =
-      exit_at r e (table_faults ps tt (map (λ (r : PlainRule). (rule_seen r).0) rs)) [] (inference_faults g) from first
-      (by_table ∙ sym (append-nil (table_faults ps tt (map (λ (r : PlainRule). (rule_seen r).0) rs))))
+      exit_at r e (table_faults ps tt (map plain_rule_view rs)) [] (inference_faults g) from first
+      (by_table ∙ sym (append-nil (table_faults ps tt (map plain_rule_view rs))))
 
   -- nowhere
-  pub none_refused : table_faults ps tt (map (λ (r : PlainRule). (rule_seen r).0) rs) ≡ [] → inference_faults g ≡ []
+  pub none_refused : table_faults ps tt (map plain_rule_view rs) ≡ [] → inference_faults g ≡ []
   none_refused empty = by_table ∙ empty
 
   pub none_inferred : (types : TypeTable) → ((n : List ℕ) → type_by_name types n ≡ type_by_name tt n) → types ≡ record tt { nonterminals = types.nonterminals } →
       IsStrictlySortedBy name_cmp (keys_of types.nonterminals) → IsStrictlySortedBy terminal_cmp (keys_of types.terminals) → IsDistinct (rule_names g) →
-      table_faults ps tt (map (λ (r : PlainRule). (rule_seen r).0) rs) ≡ [] → IsInferred g types
+      table_faults ps tt (map plain_rule_view rs) ≡ [] → IsInferred g types
   none_inferred types same rest names terminals distinct empty = filled_inferred g types (filled_same g tt types full same rest) names terminals distinct (by_table ∙ empty)

@@ -19,5 +19,6 @@ mod TupleSizes
 pub mod ValueLemmas
 pub mod VisitLemmas
 mod WaitingLemmas
+mod QueueLemmas
 mod WrittenSizes
 mod WrittenSymbols

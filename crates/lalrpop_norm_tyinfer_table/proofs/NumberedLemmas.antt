@@ -1,10 +1,11 @@
 -- What stands in a table of types by number.
-use Rattle.std.proofs.Common.{◌≡◌, ◌+◌, ◌++◌, ◌<◌, inl, inr, ℕ, zero, suc, Bool, true, false, cond, List, [], ◌∷◌, Option, Some, None, length, map, take, set, get_or, slice_get, bytes_eq, if◌then◌else◌, refl, sym, ap, subst, ◌∙◌, arith}
+use Rattle.std.proofs.Common.{◌≡◌, ◌+◌, ◌++◌, ◌<◌, inl, inr, ℕ, zero, suc, Bool, true, false, cond, List, [], ◌∷◌, Option, Some, None, length, map, set, slice_get, append_assoc, bytes_eq, if◌then◌else◌, refl, sym, ap, subst, ◌∙◌, arith}
 use Rattle.std.specs.Prelude.{is_some, option_map}
 use Rattle.std.specs.HashMap.{get, keys}
 use Rattle.std.specs.List.{position_from}
 use Rattle.std.specs.Map.{lookup, keys_of}
 use Rattle.std.proofs.lemmas.Iterator.Adapters.{position_from-zero}
+use Rattle.std.proofs.lemmas.List.{map-append}
 use Rattle.std.proofs.lemmas.Option.{slice_get-map}
 use Rattle.std.proofs.lemmas.Slice.Eq.{bytes_eq-Decides}
 use Rattle.lalrpop_norm_names.specs.Numbers.{first_place, number_by, number_in_table}
@@ -13,7 +14,7 @@ use Rattle.lalrpop_norm_tree_names.specs.declared.names.NonterminalString.{Nonte
 use Rattle.lalrpop_norm_tree.specs.Accessors.{or_else}
 use Rattle.lalrpop_norm_tree_parts.specs.declared.lowered.TypeRepr.{TypeRepr}
 use Rattle.lalrpop_norm_tree_parts.specs.Reprs.{ReprData, repr_view}
-use Rattle.lalrpop_norm_repr.specs.Tables.{TypeTable, found, type_table}
+use Rattle.lalrpop_norm_repr.specs.Tables.{TypeTable, found}
 use Rattle.lalrpop_norm_model.proofs.LevelLemmas.{at_in}
 use Rattle.lalrpop_norm_model.proofs.ListLemmas.{texts_differ}
 use Rattle.lalrpop_norm_tyinfer_table.proofs.NeedLemmas.{of_mapped_at}
@@ -134,12 +135,25 @@ later_none : (rs : List (NonterminalString × Option TypeRepr)) (r : Nonterminal
 later_none rs r none None = refl
 later_none rs r none (Some k) = none (Some (suc k))
 
+pub none_at_first : (o : Option ℕ) → type_at [] o ≡ None
+none_at_first None = refl
+none_at_first (Some k) = refl
+
 pub none_more : (rs : List (NonterminalString × Option TypeRepr)) (n : NonterminalString) → ((o : Option ℕ) → type_at rs o ≡ None) → (o : Option ℕ) → type_at (rs ++ (n, None) ∷ []) o ≡ None
 none_more rs n none None = refl
 none_more [] n none (Some zero) = refl
 none_more [] n none (Some (suc k)) = refl
 none_more (r ∷ rs) n none (Some zero) = none (Some zero)
 none_more (r ∷ rs) n none (Some (suc k)) = none_more rs n (later_none rs r none) (Some k)
+
+-- the next name becomes that of a rule
+pub name_moved : (rs : List (NonterminalString × Option TypeRepr)) (n : NonterminalString) (ns : List NonterminalString) →
+    map (λ (r : NonterminalString × Option TypeRepr). r.0.0) (rs ++ (n, None) ∷ []) ++ map (λ (m : NonterminalString). m.0) ns
+    ≡ map (λ (r : NonterminalString × Option TypeRepr). r.0.0) rs ++ map (λ (m : NonterminalString). m.0) (n ∷ ns)
+name_moved rs n ns =
+    let texts = map (λ (m : NonterminalString). m.0) ns in
+    let name = λ (r : NonterminalString × Option TypeRepr). r.0.0 in
+    ap (λ xs. xs ++ texts) (map-append name rs ((n, None) ∷ [])) ∙ append_assoc (map name rs) (n.0 ∷ []) texts
 
 -- ---- types by name
 

@@ -10,8 +10,10 @@ use Rattle.lalrpop_norm_repr.specs.Tables.{TypeTable}
 use Rattle.lalrpop_norm_model.specs.MadeRules.{group_sources, bare_or_tuple, some_name_value}
 use Rattle.lalrpop_norm_model.specs.TypeRelation as model
 use Rattle.lalrpop_norm_model.specs.TypeTables.{both}
+use Rattle.lalrpop_norm_tyinfer_table.specs.declared.type_sources.RuleClauses.{RuleClauses}
+use Rattle.lalrpop_norm_tyinfer_table.specs.declared.type_sources.RuleClauses.TheVariants.{Declared, Alternatives}
 use Rattle.lalrpop_norm_tyinfer_table.specs.declared.type_sources.TypeSource.{TypeSource}
-use Rattle.lalrpop_norm_tyinfer_table.specs.declared.type_sources.TypeSource.TheVariants.{Declared, Sources, Location}
+use Rattle.lalrpop_norm_tyinfer_table.specs.declared.type_sources.TypeSource.TheVariants.{Sources, Location}
 use Rattle.lalrpop_norm_tyinfer_table.specs.TableValues.{kind_in, type_in}
 
 -- the type of the values of these symbols
@@ -19,9 +21,17 @@ abbrev pub type_of_sources : List Kind → TypeData
 type_of_sources ks = bare_or_tuple (map of_symbol ks)
 
 abbrev pub clause_view : TypeSource → model.TypeClause
-clause_view (Declared t) = model.makes (type_view t.now)
 clause_view (Sources ss) = model.makes (type_of_sources (map (λ t. kind_view t.1.now.kind) ss.items))
 clause_view Location = model.locates
+
+abbrev pub clauses_view : RuleClauses → List model.TypeClause
+clauses_view (Declared t) = model.makes (type_view t.now) ∷ []
+clauses_view (Alternatives cs) = map clause_view cs.items
+
+-- the type that a rule of these clauses declares
+abbrev pub declared_by : RuleClauses → Option TypeData
+declared_by (Declared t) = Some (type_view t.now)
+declared_by (Alternatives cs) = None
 
 -- what an alternative of these symbols without code has for a clause
 abbrev pub default_clause : Parts → Option model.TypeClause

@@ -1,5 +1,5 @@
 -- Rounds of visits over rules with their clauses, and what they do to a type table.
-use Rattle.std.specs.Prelude.{◌≡◌, ℕ, zero, suc, Bool, true, false, List, [], ◌∷◌, Option, Some, None, IsSome, map}
+use Rattle.std.specs.Prelude.{◌≡◌, ℕ, zero, suc, Bool, true, false, List, [], ◌∷◌, Option, Some, None, IsSome}
 use Rattle.lalrpop_norm_tree_names.specs.declared.names.TypeParameter.{TypeParameter}
 use Rattle.lalrpop_norm_tree.specs.Items.{RuleData, GrammarData, rule_view}
 use Rattle.lalrpop_norm_tree_parts.specs.Reprs.{ReprData}
@@ -7,7 +7,7 @@ use Rattle.lalrpop_norm_repr.specs.Tables.{TypeTable}
 use Rattle.lalrpop_norm_model.specs.TypeRelation.{TypeClause, type_clauses}
 use Rattle.lalrpop_norm_model.specs.TypeRounds.{TypeRow, table_of, first_value, taken}
 use Rattle.lalrpop_norm_tyinfer_table.specs.declared.rules.PlainRule.{PlainRule}
-use Rattle.lalrpop_norm_tyinfer_table.specs.Clauses.{clause_view}
+use Rattle.lalrpop_norm_tyinfer_table.specs.Clauses.{clauses_view, declared_by}
 use Rattle.lalrpop_norm_tyinfer_table.specs.TableValues.{type_by_name}
 use Rattle.lalrpop_norm_tyinfer_table.specs.TokenTypes.{HasTokens}
 
@@ -16,8 +16,12 @@ use Rattle.lalrpop_norm_tyinfer_table.specs.TokenTypes.{HasTokens}
 abbrev pub Seen : Type 0
 Seen = RuleData × List TypeClause
 
+-- a rule, with the declared type that its clauses show
+abbrev pub plain_rule_view : PlainRule → RuleData
+plain_rule_view r = record (rule_view r.data.now) { type_decl = declared_by r.clauses }
+
 abbrev pub rule_seen : PlainRule → Seen
-rule_seen r = (rule_view r.data.now, map clause_view r.clauses.items)
+rule_seen r = (plain_rule_view r, clauses_view r.clauses)
 
 abbrev pub with_clauses : RuleData → Seen
 with_clauses r = (r, type_clauses r)

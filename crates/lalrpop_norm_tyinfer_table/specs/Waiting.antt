@@ -1,7 +1,9 @@
 -- Which rules are visited in a round: those that may take a type there.
-use Rattle.std.specs.Prelude.{◌≡◌, ◌<◌, ◌≤◌, ◌⊎◌, ◌==◌, ℕ, Bool, true, false, List, [], length, Option, Some, None}
+use Rattle.std.specs.Prelude.{◌≡◌, ◌<◌, ◌≤◌, ◌⊎◌, ◌==◌, ◌||◌, ℕ, Bool, true, false, List, [], length, Option, Some, None}
 use Rattle.std.specs.Prelude.{is_some, slice_get, if◌then◌else◌}
 use Rattle.std.specs.Ordering.{nat_cmp}
+use Rattle.std.specs.List.{list_any}
+use Rattle.std.specs.BTreeMap.{is_at}
 use Rattle.std.specs.BTreeSet.{contains}
 use Rattle.lalrpop_norm_tree_names.specs.declared.names.TypeParameter.{TypeParameter}
 use Rattle.lalrpop_norm_theory.specs.Rounds.{In}
@@ -18,9 +20,18 @@ use Rattle.lalrpop_norm_tyinfer_table.specs.Visits.{Seen, TakesType}
 
 -- ---- places of rules
 
+-- the place is in the queue
+abbrev pub is_queued : List ℕ → ℕ → Bool
+is_queued ks k = list_any (is_at (nat_cmp k)) ks
+
 -- the place is among these
 abbrev pub has : Waiting → ℕ → Bool
-has p k = contains nat_cmp p.set k
+has p k = is_queued p.queue.items k || contains nat_cmp p.others k
+
+-- the least place
+pub record IsLeast (waiting : Waiting) (place : ℕ) : Type 0 where
+  pub there : has waiting place ≡ true
+  pub least : (k : ℕ) → has waiting k ≡ true → place ≤ k
 
 -- the least place is taken out
 pub record TakesLeast (before after : Waiting) (place : ℕ) : Type 0 where

@@ -7,10 +7,11 @@ ghost use Rattle.lalrpop_norm_model.specs.InferenceFaults.{lack_of};
 ghost use Rattle.lalrpop_norm_tyinfer_table.specs.Needs.{names_seen};
 ghost use Rattle.lalrpop_norm_tyinfer_table.specs.Numbered.{numbered_table, IsNumberOf, NumbersRules};
 ghost use Rattle.lalrpop_norm_tyinfer_table.specs.TableFaults.{lacking_seen, untyped_in};
-ghost use Rattle.lalrpop_norm_tyinfer_table.specs.Visits.{rule_seen};
+ghost use Rattle.lalrpop_norm_tyinfer_table.specs.Visits.{plain_rule_view, rule_seen};
 
 use crate::numbered::Numbered;
 use crate::rules::PlainRule;
+use crate::type_sources::RuleClauses;
 use lalrpop_norm_faults::{FaultKind, NormFailure, NormResult, refusal};
 use lalrpop_norm_tree::grammar::parse_tree::{Alternative, NonterminalData};
 use std::alloc::Global;
@@ -28,13 +29,15 @@ pub fn check_clauses(alloc: Global, rules: &[PlainRule]) -> NormResult<()>
 fn check_rule(alloc: Global, rule: &PlainRule) -> NormResult<()>
     ensures { Refuses result (lacking_seen (rule_seen rule.now)) }
 {
-    if !rule.clauses.is_empty() {
-        return Ok(());
+    match &rule.clauses {
+        RuleClauses::Declared(_) => Ok(()),
+        RuleClauses::Alternatives(clauses) => {
+            if !clauses.is_empty() {
+                return Ok(());
+            }
+            Err(lack(alloc, rule.data, &rule.data.alternatives))
+        }
     }
-    if rule.data.type_decl.is_some() {
-        return Ok(());
-    }
-    Err(lack(alloc, rule.data, &rule.data.alternatives))
 }
 
 /// What a rule without a type of its own and these alternatives lacks.
@@ -64,7 +67,7 @@ fn lack(alloc: Global, rule: &NonterminalData, alternatives: &[Alternative]) -> 
 pub fn check_typed(alloc: Global, types: &Numbered, rules: &[PlainRule]) -> NormResult<()>
     requires distinct { IsDistinct (names_seen (map rule_seen rules.now)) }
     requires numbered { NumbersRules types.now (map rule_seen rules.now) }
-    ensures { Refuses result (flat_map (untyped_in (numbered_table types.now)) (map (λ r. rule_view r.data.now) rules.now)) }
+    ensures { Refuses result (flat_map (untyped_in (numbered_table types.now)) (map plain_rule_view rules.now)) }
 {
     for (number, rule) in rules.iter().enumerate() {
         check_type(alloc, types, number, rule.data)?;

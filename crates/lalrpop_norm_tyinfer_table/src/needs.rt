@@ -1,17 +1,18 @@
 //! The clauses of rules by the names whose types they are made of.
-ghost use Rattle.std.specs.Prelude.{◌≡◌, ◌++◌, IfOk, OnOk, flat_map, map, option_map};
+ghost use Rattle.std.specs.Prelude.{◌≡◌, ◌++◌, List, IfOk, OnOk, flat_map, map, option_map};
 ghost use Rattle.lalrpop_norm_names.specs.Numbers.{number_in_table};
+ghost use Rattle.lalrpop_norm_tree_names.specs.declared.names.TypeParameter.{TypeParameter};
 ghost use Rattle.lalrpop_norm_tree.specs.Symbols.{kind_view, symbol_view};
 ghost use Rattle.lalrpop_norm_tree.specs.Types.{type_view, types_view, maybe_of};
 ghost use Rattle.lalrpop_norm_tree_parts.specs.Paths.{path_view};
 ghost use Rattle.lalrpop_norm_model.specs.Expanded.{names_in, names_in_kind};
-ghost use Rattle.lalrpop_norm_model.specs.TypeRelation.{associated_in};
-ghost use Rattle.lalrpop_norm_tyinfer_table.specs.Clauses.{clause_view};
+ghost use Rattle.lalrpop_norm_model.specs.TypeRelation.{associated_in, makes};
+ghost use Rattle.lalrpop_norm_tyinfer_table.specs.Clauses.{clause_view, clauses_view};
 ghost use Rattle.lalrpop_norm_tyinfer_table.specs.Needs.{needed_in, needed_type, needed_types, needed_return, needed_path, AddsNeeds, IsNeedOf, AreNeeds};
 ghost use Rattle.lalrpop_norm_tyinfer_table.specs.Visits.{rule_seen};
 
 use crate::rules::PlainRule;
-use crate::type_sources::TypeSource;
+use crate::type_sources::{RuleClauses, TypeSource};
 use crate::values::associated;
 use lalrpop_norm_names::Names;
 use lalrpop_norm_tree::grammar::parse_tree::{
@@ -168,35 +169,64 @@ fn add_sources(
     Ok(())
 }
 
-/// Adds those of the names that a clause is made of.
+/// Adds those of the names that a clause of an alternative is made of, whatever the type parameters.
 fn add_clause(
     numbers: &mut Vec<Option<usize>>,
-    parameters: &[TypeParameter],
     names: &Names,
     clause: &TypeSource,
 ) -> Result<(), NoMemory>
-    ensures { OnOk result (numbers.new.items ≡ numbers.old.items ++ map (number_in_table names.now) (needed_in parameters.now (clause_view clause.now))) }
+    ensures { OnOk result ((ps : List TypeParameter) → numbers.new.items ≡ numbers.old.items ++ map (number_in_table names.now) (needed_in ps (clause_view clause.now))) }
 {
     match clause {
-        TypeSource::Declared(written) => add_type(numbers, parameters, names, written),
         TypeSource::Sources(sources) => add_sources(numbers, names, sources),
         TypeSource::Location => Ok(()),
     }
 }
 
-/// What a clause of a rule needs.
-fn need_of(
+/// What the declared type of a rule needs.
+fn need_of_type(
     alloc: Global,
     parameters: &[TypeParameter],
+    names: &Names,
+    written: &TypeRef,
+    rule: usize,
+) -> Result<Need, NoMemory>
+    ensures { IfOk result (IsNeedOf (number_in_table names.now) parameters.now (makes (type_view written.now)) rule) }
+{
+    // Most types name no rule: then no memory is taken.
+    let mut numbers = Vec::new(alloc);
+    add_type(&mut numbers, parameters, names, written)?;
+    Ok(Need { rule, numbers })
+}
+
+/// What a clause of an alternative of a rule needs, whatever the type parameters.
+fn need_of_clause(
+    alloc: Global,
     names: &Names,
     clause: &TypeSource,
     rule: usize,
 ) -> Result<Need, NoMemory>
-    ensures { IfOk result (IsNeedOf (number_in_table names.now) parameters.now (clause_view clause.now) rule) }
+    ensures { IfOk result (λ n. (ps : List TypeParameter) → IsNeedOf (number_in_table names.now) ps (clause_view clause.now) rule n) }
 {
     let mut numbers = Vec::new(alloc);
-    add_clause(&mut numbers, parameters, names, clause)?;
+    add_clause(&mut numbers, names, clause)?;
     Ok(Need { rule, numbers })
+}
+
+/// Adds what the clauses of a rule's alternatives need, whatever the type parameters.
+fn add_clauses(
+    needs: &mut Vec<Need>,
+    alloc: Global,
+    names: &Names,
+    clauses: &[TypeSource],
+    rule: usize,
+) -> Result<(), NoMemory>
+    ensures { OnOk result ((ps : List TypeParameter) → AddsNeeds (number_in_table names.now) ps needs.old.items needs.new.items (map clause_view clauses.now) rule) }
+{
+    for clause in clauses {
+        needs.push(need_of_clause(alloc, names, clause, rule)?)?;
+    }
+    Ok(())
 }
 
 /// Adds what the clauses of a rule need.
@@ -205,15 +235,18 @@ fn add_needs(
     alloc: Global,
     parameters: &[TypeParameter],
     names: &Names,
-    clauses: &[TypeSource],
+    clauses: &RuleClauses,
     rule: usize,
 ) -> Result<(), NoMemory>
-    ensures { OnOk result (AddsNeeds (number_in_table names.now) parameters.now needs.old.items needs.new.items (map clause_view clauses.now) rule) }
+    ensures { OnOk result (AddsNeeds (number_in_table names.now) parameters.now needs.old.items needs.new.items (clauses_view clauses.now) rule) }
 {
-    for clause in clauses {
-        needs.push(need_of(alloc, parameters, names, clause, rule)?)?;
+    match clauses {
+        RuleClauses::Declared(written) => {
+            needs.push(need_of_type(alloc, parameters, names, written, rule)?)?;
+            Ok(())
+        }
+        RuleClauses::Alternatives(clauses) => add_clauses(needs, alloc, names, clauses, rule),
     }
-    Ok(())
 }
 
 /// What the clauses of some rules need, by these numbers.

@@ -39,15 +39,15 @@ impl Numbered {
     /// Rules of these names, none of which has a type.
     pub fn new(
         alloc: Global,
-        listed: &[NonterminalString],
+        listed: Vec<NonterminalString>,
         tokens: Types,
     ) -> Result<Numbered, NoMemory>
-        ensures listed { IfOk result (λ t. names_numbered t ≡ map (λ n. n.0) listed.now) }
+        ensures listed { IfOk result (λ t. names_numbered t ≡ map (λ n. n.0) listed.items) }
         ensures numbers { IfOk result (λ t. AreRuleNumbers (number_in_table t.names) (names_numbered t)) }
         ensures untyped { IfOk result (λ t. (n : List ℕ) → type_by_number t n ≡ None) }
         ensures tokens { IfOk result (λ t. t.tokens ≡ tokens) }
     {
-        let names = Names::of(alloc, listed)?;
+        let names = Names::of(alloc, &listed)?;
         let rules = untyped(alloc, listed)?;
         Ok(Numbered {
             names,
@@ -139,14 +139,14 @@ impl Numbered {
 /// Rules of these names, without types.
 fn untyped(
     alloc: Global,
-    names: &[NonterminalString],
+    names: Vec<NonterminalString>,
 ) -> Result<Vec<(NonterminalString, Option<TypeRepr>)>, NoMemory>
-    ensures names { IfOk result (λ rs. map (λ r. r.0.0) rs.items ≡ map (λ n. n.0) names.now) }
+    ensures names { IfOk result (λ rs. map (λ r. r.0.0) rs.items ≡ map (λ n. n.0) names.items) }
     ensures untyped { IfOk result (λ rs. (o : Option ℕ) → type_at rs.items o ≡ None) }
 {
     let mut rules = Vec::with_capacity(alloc, names.len())?;
     for name in names {
-        rules.push((name.clone()?, None))?;
+        rules.push((name, None))?;
     }
     Ok(rules)
 }

@@ -9,6 +9,7 @@ ghost use Rattle.lalrpop_norm_model.specs.TuplePatterns.{as_many, misfits, misfi
 ghost use Rattle.lalrpop_norm_tyinfer_table.specs.Numbered.{numbered_table};
 ghost use Rattle.lalrpop_norm_tyinfer_table.specs.TableFaults.{faults_at, kind_misfits, parts_misfits, types_in_tuple};
 ghost use Rattle.lalrpop_norm_tyinfer_table.specs.TableValues.{type_by_name};
+ghost use Rattle.lalrpop_norm_tyinfer_table.specs.Visits.{plain_rule_view};
 
 use crate::numbered::Numbered;
 use crate::rules::PlainRule;
@@ -21,7 +22,7 @@ use std::alloc::Global;
 
 /// Refuses a tuple pattern that does not fit the type of its symbol.
 pub fn check_patterns(alloc: Global, types: &Numbered, rules: &[PlainRule]) -> NormResult<()>
-    ensures { Refuses result (flat_map (rule_misfits (type_by_name (numbered_table types.now))) (map (λ r. rule_view r.data.now) rules.now)) }
+    ensures { Refuses result (flat_map (rule_misfits (type_by_name (numbered_table types.now))) (map plain_rule_view rules.now)) }
 {
     for rule in rules {
         check_rule(alloc, types, rule.data)?;

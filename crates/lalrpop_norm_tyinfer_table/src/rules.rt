@@ -5,7 +5,7 @@ ghost use Rattle.lalrpop_norm_model.specs.PlainRules.{rule_of_item};
 ghost use Rattle.lalrpop_norm_tyinfer_table.specs.Needs.{names_seen};
 ghost use Rattle.lalrpop_norm_tyinfer_table.specs.Visits.{rule_seen, with_clauses};
 
-use crate::type_sources::{TypeSource, rule_clauses};
+use crate::type_sources::{RuleClauses, rule_clauses};
 use lalrpop_norm_tree::grammar::parse_tree::{
     GrammarItem, NoMemory, NonterminalData, NonterminalString,
 };
@@ -17,7 +17,7 @@ pub struct PlainRule<'g> {
     /// The rule.
     pub data: &'g NonterminalData,
     /// By which it has a type.
-    pub clauses: Vec<TypeSource<'g>>,
+    pub clauses: RuleClauses<'g>,
 }
 
 fn plain_rule(alloc: Global, rule: &NonterminalData) -> Result<PlainRule<'_>, NoMemory>

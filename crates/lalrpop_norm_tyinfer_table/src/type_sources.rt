@@ -1,10 +1,10 @@
 //! By which rules have types.
-ghost use Rattle.std.specs.Prelude.{◌≡◌, [], ◌∷◌, ◌++◌, IfOk, OnOk, map, option_map, option_to_list, filter_map};
+ghost use Rattle.std.specs.Prelude.{◌≡◌, ◌++◌, IfOk, OnOk, map, option_map, option_to_list, filter_map};
 ghost use Rattle.lalrpop_norm_tree.specs.Items.{alternative_view, rule_view};
 ghost use Rattle.lalrpop_norm_tree.specs.Symbols.{expr_view};
 ghost use Rattle.lalrpop_norm_tree.specs.Types.{type_view};
-ghost use Rattle.lalrpop_norm_model.specs.TypeRelation.{alternative_clause, type_clauses, type_clauses_of, makes};
-ghost use Rattle.lalrpop_norm_tyinfer_table.specs.Clauses.{default_clause, clause_view};
+ghost use Rattle.lalrpop_norm_model.specs.TypeRelation.{alternative_clause, type_clauses, type_clauses_of};
+ghost use Rattle.lalrpop_norm_tyinfer_table.specs.Clauses.{default_clause, clause_view, clauses_view, declared_by};
 
 use lalrpop_norm_session::norm_util::{has_name_value, sources};
 use lalrpop_norm_tree::grammar::parse_tree::{
@@ -14,12 +14,19 @@ use std::alloc::Global;
 
 /// By which a rule has a type.
 #[derive(Debug, Drop)]
-pub enum TypeSource<'g> {
+pub enum RuleClauses<'g> {
     /// It declares one.
     Declared(&'g TypeRef),
-    /// An alternative gives the values of these symbols, each with its place: one bare, any other number of them as a tuple.
+    /// Its alternatives may give one: the clauses of these, in order.
+    Alternatives(Vec<TypeSource<'g>>),
+}
+
+/// By which an alternative has a type.
+#[derive(Debug, Drop)]
+pub enum TypeSource<'g> {
+    /// It gives the values of these symbols, each with its place: one bare, any other number of them as a tuple.
     Sources(Vec<(usize, &'g Symbol)>),
-    /// A lookaround gives a location.
+    /// As a lookaround it gives a location.
     Location,
 }
 
@@ -54,8 +61,9 @@ fn default_clause(alloc: Global, expr: &ExprSymbol) -> Result<Option<TypeSource<
 pub(crate) fn rule_clauses(
     alloc: Global,
     rule: &NonterminalData,
-) -> Result<Vec<TypeSource<'_>>, NoMemory>
-    ensures { IfOk result (λ cs. map clause_view cs.items ≡ type_clauses (rule_view rule.now)) }
+) -> Result<RuleClauses<'_>, NoMemory>
+    ensures clauses { IfOk result (λ cs. clauses_view cs ≡ type_clauses (rule_view rule.now)) }
+    ensures declared { IfOk result (λ cs. declared_by cs ≡ (rule_view rule.now).type_decl) }
 {
     clauses_of(alloc, &rule.type_decl, &rule.alternatives)
 }
@@ -64,21 +72,14 @@ fn clauses_of<'g>(
     alloc: Global,
     declared: &'g Option<TypeRef>,
     alternatives: &'g [Alternative],
-) -> Result<Vec<TypeSource<'g>>, NoMemory>
-    ensures { IfOk result (λ cs. map clause_view cs.items ≡ type_clauses_of (option_map type_view declared.now) (map alternative_view alternatives.now)) }
+) -> Result<RuleClauses<'g>, NoMemory>
+    ensures clauses { IfOk result (λ cs. clauses_view cs ≡ type_clauses_of (option_map type_view declared.now) (map alternative_view alternatives.now)) }
+    ensures declared { IfOk result (λ cs. declared_by cs ≡ option_map type_view declared.now) }
 {
     match declared {
-        Some(ty) => declared_clause(alloc, ty),
-        None => alternative_clauses(alloc, alternatives),
+        Some(ty) => Ok(RuleClauses::Declared(ty)),
+        None => Ok(RuleClauses::Alternatives(alternative_clauses(alloc, alternatives)?)),
     }
-}
-
-fn declared_clause(alloc: Global, ty: &TypeRef) -> Result<Vec<TypeSource<'_>>, NoMemory>
-    ensures { IfOk result (λ cs. map clause_view cs.items ≡ makes (type_view ty.now) ∷ []) }
-{
-    let mut clauses = Vec::with_capacity(alloc, 1)?;
-    clauses.push(TypeSource::Declared(ty))?;
-    Ok(clauses)
 }
 
 fn alternative_clauses(

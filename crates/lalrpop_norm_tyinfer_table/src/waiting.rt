@@ -1,26 +1,34 @@
 //! Places of rules that wait for a visit.
-ghost use Rattle.std.specs.Prelude.{◌≡◌, ◌==◌, ◌||◌, ℕ, true, false, IfOk, OnOk, MatchOption};
+ghost use Rattle.std.specs.Prelude.{◌≡◌, ◌==◌, ◌||◌, ◌++◌, ◌∷◌, [], ℕ, true, false, IfOk, OnOk, MatchOption, if◌then◌else◌};
 ghost use Rattle.std.specs.Bool.{OnTrue, OnFalse};
+ghost use Rattle.std.specs.List.Sorted.{IsStrictlyIncreasing};
 ghost use Rattle.lalrpop_norm_theory.specs.Rounds.{In};
-ghost use Rattle.lalrpop_norm_tyinfer_table.specs.Waiting.{has, TakesLeast};
 
 use lalrpop_norm_tree::grammar::parse_tree::NoMemory;
 use std::alloc::Global;
-use std::collections::BTreeSet;
+use std::collections::{BTreeSet, VecDeque};
 
 /// Some places of rules.
+// At first all places come in rising order: a queue takes less work than a set.
 #[derive(Drop)]
 pub struct Waiting {
-    set: BTreeSet<usize>,
+    /// Those that came in rising order.
+    queue: VecDeque<usize>,
+    /// The others.
+    others: BTreeSet<usize>,
+    ghost rising: { IsStrictlyIncreasing queue.items },
 }
 
 impl Waiting {
+    ghost use Rattle.lalrpop_norm_tyinfer_table.specs.Waiting.{has, is_queued, IsLeast, TakesLeast};
+
     /// No place.
     pub fn new(alloc: Global) -> Waiting
         ensures { (k : ℕ) → has result k ≡ false }
     {
         Waiting {
-            set: BTreeSet::new(alloc),
+            queue: VecDeque::new(alloc),
+            others: BTreeSet::new(alloc),
         }
     }
 
@@ -41,21 +49,65 @@ impl Waiting {
         ensures none { OnTrue result ((k : ℕ) → has self.now k ≡ false) }
         ensures some { OnFalse result ((k : ℕ) × (has self.now k ≡ true)) }
     {
-        self.set.is_empty()
+        self.least().is_none()
     }
 
     /// Adds a place.
     pub fn add(&mut self, place: usize) -> Result<(), NoMemory>
         ensures { OnOk result ((k : ℕ) → has self.new k ≡ ((place == k) || has self.old k)) }
     {
-        self.set.insert(place)?;
+        if self.is_behind(place) {
+            self.queue.push_back(place)?;
+            return Ok(());
+        }
+        self.others.insert(place)?;
         Ok(())
+    }
+
+    /// Whether the place is greater than each in the queue.
+    fn is_behind(&self, place: usize) -> bool
+        ensures { OnTrue result (IsStrictlyIncreasing (self.now.queue.items ++ place ∷ [])) }
+    {
+        match self.queue.back() {
+            Some(last) => *last < place,
+            None => true,
+        }
     }
 
     /// Takes the least place out, if there is one.
     pub fn take_least(&mut self) -> Option<usize>
         ensures { MatchOption result ((k : ℕ) → has self.old k ≡ false) (TakesLeast self.old self.new) }
     {
-        self.set.pop_first()
+        let least = self.least();
+        if let Some(place) = least {
+            self.dequeue(place);
+            self.others.remove(&place);
+        }
+        least
+    }
+
+    /// The least place, if there is one.
+    fn least(&self) -> Option<usize>
+        ensures { MatchOption result ((k : ℕ) → has self.now k ≡ false) (IsLeast self.now) }
+    {
+        match (self.queue.front(), self.others.first()) {
+            (Some(first), Some(other)) => Some((*first).min(*other)),
+            (Some(first), None) => Some(*first),
+            (None, other) => other.copied(),
+        }
+    }
+
+    /// Takes the least place out of the queue, if it is there.
+    fn dequeue(&mut self, least: usize)
+        requires { IsLeast self.old least }
+        ensures queue { (k : ℕ) → is_queued self.new.queue.items k ≡ (if least == k then false else is_queued self.old.queue.items k) }
+        ensures others { self.new.others ≡ self.old.others }
+    {
+        let Some(first) = self.queue.front() else {
+            return;
+        };
+        if *first == least {
+            self.queue.pop_front();
+        }
     }
 }

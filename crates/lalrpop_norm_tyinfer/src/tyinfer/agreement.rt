@@ -1,81 +1,76 @@
 //! Alternatives that give another type than their rule has.
-ghost use Rattle.std.specs.Prelude.{flat_map, map, option_map};
-ghost use Rattle.lalrpop_norm_tree.specs.Items.{alternative_view, rule_view};
+ghost use Rattle.std.specs.Prelude.{List, flat_map, map, option_map};
+ghost use Rattle.lalrpop_norm_tree_names.specs.declared.names.TypeParameter.{TypeParameter};
+ghost use Rattle.lalrpop_norm_tree.specs.Items.{alternative_view};
 ghost use Rattle.lalrpop_norm_tree_parts.specs.Reprs.{repr_view};
 ghost use Rattle.lalrpop_norm_faults.specs.Faults.{Refuses, fault_if};
 ghost use Rattle.lalrpop_norm_faults.specs.declared.kind.FaultKind.TheVariants.{Disagreement};
 ghost use Rattle.lalrpop_norm_model.specs.InferenceFaults.{is_other};
 ghost use Rattle.lalrpop_norm_tyinfer_table.specs.Numbered.{numbered_table};
 ghost use Rattle.lalrpop_norm_tyinfer_table.specs.TableFaults.{other_in, others_in};
+ghost use Rattle.lalrpop_norm_tyinfer_table.specs.Visits.{plain_rule_view};
 
 use crate::tyinfer::type_sources::clause_value;
 use lalrpop_norm_faults::{FaultKind, NormResult, refusal};
 use lalrpop_norm_repr::grammar::repr::TypeRepr;
-use lalrpop_norm_tree::grammar::parse_tree::{
-    Alternative, NonterminalData, NonterminalString, Span, TypeParameter,
-};
+use lalrpop_norm_tree::grammar::parse_tree::{Alternative, NonterminalString, Span};
 use lalrpop_norm_tyinfer_table::numbered::Numbered;
 use lalrpop_norm_tyinfer_table::rules::PlainRule;
 use lalrpop_norm_tyinfer_table::same::is_same_type;
-use lalrpop_norm_tyinfer_table::type_sources::alternative_clause;
+use lalrpop_norm_tyinfer_table::type_sources::{RuleClauses, alternative_clause};
 use std::alloc::Global;
 
-/// Refuses an alternative of a rule without a declared type that gives another type than the rule has.
+/// Refuses an alternative of a rule without a declared type that gives another type than the rule has, whatever the type parameters.
 pub(crate) fn check_agreement(
     alloc: Global,
-    parameters: &[TypeParameter],
     types: &Numbered,
     rules: &[PlainRule],
 ) -> NormResult<()>
-    ensures { Refuses result (flat_map (others_in parameters.now (numbered_table types.now)) (map (λ r. rule_view r.data.now) rules.now)) }
+    ensures { (ps : List TypeParameter) → Refuses result (flat_map (others_in ps (numbered_table types.now)) (map plain_rule_view rules.now)) }
 {
     for rule in rules {
-        check_rule(alloc, parameters, types, rule.data)?;
+        check_rule(alloc, types, rule)?;
     }
     Ok(())
 }
 
-fn check_rule(
-    alloc: Global,
-    parameters: &[TypeParameter],
-    types: &Numbered,
-    rule: &NonterminalData,
-) -> NormResult<()>
-    ensures { Refuses result (others_in parameters.now (numbered_table types.now) (rule_view rule.now)) }
+fn check_rule(alloc: Global, types: &Numbered, rule: &PlainRule) -> NormResult<()>
+    ensures { (ps : List TypeParameter) → Refuses result (others_in ps (numbered_table types.now) (plain_rule_view rule.now)) }
 {
-    match &rule.type_decl {
-        Some(_) => Ok(()),
-        None => check_alternatives(alloc, parameters, types, &rule.name, &rule.alternatives),
+    // A rule that declares its type is passed without a look at it.
+    match &rule.clauses {
+        RuleClauses::Declared(_) => Ok(()),
+        RuleClauses::Alternatives(_) => {
+            check_alternatives(alloc, types, &rule.data.name, &rule.data.alternatives)
+        }
     }
 }
 
 fn check_alternatives(
     alloc: Global,
-    parameters: &[TypeParameter],
     types: &Numbered,
     name: &NonterminalString,
     alternatives: &[Alternative],
 ) -> NormResult<()>
-    ensures { Refuses result (flat_map (other_in parameters.now (numbered_table types.now) name.now.0) (map alternative_view alternatives.now)) }
+    ensures { (ps : List TypeParameter) → Refuses result (flat_map (other_in ps (numbered_table types.now) name.now.0) (map alternative_view alternatives.now)) }
 {
     for alternative in alternatives {
-        check_alternative(alloc, parameters, types, name, alternative)?;
+        check_alternative(alloc, types, name, alternative)?;
     }
     Ok(())
 }
 
 fn check_alternative(
     alloc: Global,
-    parameters: &[TypeParameter],
     types: &Numbered,
     name: &NonterminalString,
     alternative: &Alternative,
 ) -> NormResult<()>
-    ensures { Refuses result (other_in parameters.now (numbered_table types.now) name.now.0 (alternative_view alternative.now)) }
+    ensures { (ps : List TypeParameter) → Refuses result (other_in ps (numbered_table types.now) name.now.0 (alternative_view alternative.now)) }
 {
     match alternative_clause(alloc, alternative)? {
         Some(clause) => {
-            let given = clause_value(alloc, parameters, types, &clause)?;
+            let given = clause_value(alloc, types, &clause)?;
             let own = types.lookup_nonterminal_type(name);
             check_same(alloc, name, alternative.span, &given, own)
         }

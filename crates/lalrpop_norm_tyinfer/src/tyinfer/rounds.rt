@@ -1,7 +1,7 @@
 //! Rounds in which rules take their types.
 ghost use Rattle.std.specs.Prelude.{◌≡◌, ◌<◌, [], ◌∷◌, ℕ, List, None, IfOk, OnOk, is_some, length, map};
 ghost use Rattle.lalrpop_norm_theory.specs.Rounds.{IsDistinct};
-ghost use Rattle.lalrpop_norm_tyinfer_table.specs.Clauses.{clause_view, first_in};
+ghost use Rattle.lalrpop_norm_tyinfer_table.specs.Clauses.{clauses_view, first_in};
 ghost use Rattle.lalrpop_norm_tyinfer_table.specs.Needs.{names_seen};
 ghost use Rattle.lalrpop_norm_tyinfer_table.specs.Numbered.{numbered_table, HasSameNumbers, IsNumberOf, NumbersRules};
 ghost use Rattle.lalrpop_norm_tyinfer_table.specs.Stops.{IsStops, typed_at};
@@ -29,7 +29,7 @@ fn take_first(
     requires number { IsNumberOf types.old rule.now.data.now.name.0 place }
     requires untyped { type_by_name (numbered_table types.old) rule.now.data.now.name.0 ≡ None }
     ensures takes { IfOk result (λ added. TakesType (numbered_table types.old) (numbered_table types.new) rule.now.data.now.name.0
-        (first_in parameters.now (numbered_table types.old) (map clause_view rule.now.clauses.items)) added) }
+        (first_in parameters.now (numbered_table types.old) (clauses_view rule.now.clauses)) added) }
     ensures numbers { IfOk result (λ added. HasSameNumbers types.old types.new) }
 {
     match first_value(alloc, parameters, types, &rule.clauses)? {

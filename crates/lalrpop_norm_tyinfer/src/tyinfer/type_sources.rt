@@ -1,29 +1,28 @@
 //! What the clauses of a rule make of a table of types.
-ghost use Rattle.std.specs.Prelude.{◌≡◌, IfOk, map, option_map};
+ghost use Rattle.std.specs.Prelude.{◌≡◌, List, IfOk, map, option_map};
+ghost use Rattle.lalrpop_norm_tree_names.specs.declared.names.TypeParameter.{TypeParameter};
 ghost use Rattle.lalrpop_norm_tree_parts.specs.Reprs.{repr_view, reprs_view};
 ghost use Rattle.lalrpop_norm_tree.specs.Symbols.{kind_view};
-ghost use Rattle.lalrpop_norm_tyinfer_table.specs.Clauses.{kinds_in, sources_in, clause_view, clause_in, first_in};
+ghost use Rattle.lalrpop_norm_tyinfer_table.specs.Clauses.{kinds_in, sources_in, clause_view, clauses_view, clause_in, first_in};
 ghost use Rattle.lalrpop_norm_tyinfer_table.specs.Numbered.{numbered_table};
 
 use lalrpop_norm_repr::grammar::repr::TypeRepr;
 use lalrpop_norm_tree::grammar::parse_tree::{NoMemory, Symbol, TypeParameter};
 use lalrpop_norm_tree_parts::lowered::copy::copy_of;
 use lalrpop_norm_tyinfer_table::numbered::Numbered;
-use lalrpop_norm_tyinfer_table::type_sources::TypeSource;
+use lalrpop_norm_tyinfer_table::type_sources::{RuleClauses, TypeSource};
 use lalrpop_norm_tyinfer_table::values::{kind_value, type_value};
 use std::alloc::Global;
 
-/// A copy of the type that a clause makes of the table, if it makes one.
+/// A copy of the type that a clause of an alternative makes of the table, if it makes one, whatever the type parameters.
 pub(crate) fn clause_value(
     alloc: Global,
-    parameters: &[TypeParameter],
     types: &Numbered,
     clause: &TypeSource,
 ) -> Result<Option<TypeRepr>, NoMemory>
-    ensures { IfOk result (λ o. option_map repr_view o ≡ clause_in parameters.now (numbered_table types.now) (clause_view clause.now)) }
+    ensures { IfOk result (λ o. (ps : List TypeParameter) → option_map repr_view o ≡ clause_in ps (numbered_table types.now) (clause_view clause.now)) }
 {
     match clause {
-        TypeSource::Declared(written) => type_value(alloc, parameters, types, written),
         TypeSource::Sources(sources) => sources_value(alloc, types, sources),
         TypeSource::Location => location_value(types),
     }
@@ -69,17 +68,31 @@ fn all_values(
     Ok(Some(values))
 }
 
-/// A copy of the type that the first clause makes of the table that makes one.
+/// A copy of the type that the first clause of a rule makes of the table that makes one.
 pub(crate) fn first_value(
     alloc: Global,
     parameters: &[TypeParameter],
     types: &Numbered,
+    clauses: &RuleClauses,
+) -> Result<Option<TypeRepr>, NoMemory>
+    ensures { IfOk result (λ o. option_map repr_view o ≡ first_in parameters.now (numbered_table types.now) (clauses_view clauses.now)) }
+{
+    match clauses {
+        RuleClauses::Declared(written) => type_value(alloc, parameters, types, written),
+        RuleClauses::Alternatives(clauses) => first_given(alloc, types, clauses),
+    }
+}
+
+/// As `first_value`, of clauses of alternatives, whatever the type parameters.
+fn first_given(
+    alloc: Global,
+    types: &Numbered,
     clauses: &[TypeSource],
 ) -> Result<Option<TypeRepr>, NoMemory>
-    ensures { IfOk result (λ o. option_map repr_view o ≡ first_in parameters.now (numbered_table types.now) (map clause_view clauses.now)) }
+    ensures { IfOk result (λ o. (ps : List TypeParameter) → option_map repr_view o ≡ first_in ps (numbered_table types.now) (map clause_view clauses.now)) }
 {
     for clause in clauses {
-        if let Some(ty) = clause_value(alloc, parameters, types, clause)? {
+        if let Some(ty) = clause_value(alloc, types, clause)? {
             return Ok(Some(ty));
         }
     }

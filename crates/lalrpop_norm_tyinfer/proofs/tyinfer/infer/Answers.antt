@@ -1,4 +1,4 @@
-use Rattle.std.proofs.Common.{ℕ, List, map, sym, subst}
+use Rattle.std.proofs.Common.{ℕ, List, map, refl, sym, subst}
 use Rattle.lalrpop_norm_names.specs.Numbers.{number_in_table}
 use Rattle.lalrpop_norm_theory.specs.Rounds.{IsDistinct}
 use Rattle.lalrpop_norm_tree.specs.Items.{grammar_view}
@@ -21,13 +21,13 @@ check_table-requires-clause-numbered c = c.in_ok-types.ensures.numbered
 
 pub returns-in_err-check_table-clause-refuses : goal.returns-in_err-check_table-clause-refuses
 returns-in_err-check_table-clause-refuses c =
-    table_refused (grammar_view c.args.grammar.now) (numbered_table c.in_ok-types.types) c.in_ok-types.ensures.filled c.deref.result.now c.deref.ensures.value c.args.rules.now c.requires.seen c.in_ok-check_clauses.ensures
-    _ _ c.from_residual-in_err-check_table.ensures.1 c.in_err-check_table.ensures
+    table_refused (grammar_view c.args.grammar.now) (numbered_table c.in_ok-types.types) c.in_ok-types.ensures.filled (grammar_view c.args.grammar.now).type_parameters refl c.args.rules.now c.requires.seen c.in_ok-check_clauses.ensures
+    _ _ c.from_residual-in_err-check_table.ensures.1 (c.in_err-check_table.ensures (grammar_view c.args.grammar.now).type_parameters)
 
 pub returns-clause-refuses : goal.returns-clause-refuses
 returns-clause-refuses c =
-    none_refused (grammar_view c.args.grammar.now) (numbered_table c.in_ok-types.types) c.in_ok-types.ensures.filled c.deref.result.now c.deref.ensures.value c.args.rules.now c.requires.seen c.in_ok-check_clauses.ensures
-    c.in_ok-check_table.ensures
+    none_refused (grammar_view c.args.grammar.now) (numbered_table c.in_ok-types.types) c.in_ok-types.ensures.filled (grammar_view c.args.grammar.now).type_parameters refl c.args.rules.now c.requires.seen c.in_ok-check_clauses.ensures
+    (c.in_ok-check_table.ensures (grammar_view c.args.grammar.now).type_parameters)
 
 pub by_name-requires-clause-numbers : goal.by_name-requires-clause-numbers
 by_name-requires-clause-numbers c =
@@ -44,5 +44,5 @@ by_name-requires-clause-tokens c = c.in_ok-types.ensures.numbered.tokens
 pub returns-clause-inferred : goal.returns-clause-inferred
 returns-clause-inferred c =
     let listed = c.in_ok-listed.ensures in
-    none_inferred (grammar_view c.args.grammar.now) (numbered_table c.in_ok-types.types) c.in_ok-types.ensures.filled c.deref.result.now c.deref.ensures.value c.args.rules.now c.requires.seen c.in_ok-check_clauses.ensures
-    (type_table c.in_ok-listed.listed) listed.same listed.rest listed.names_in_order listed.terminals_in_order c.requires.distinct c.in_ok-check_table.ensures
+    none_inferred (grammar_view c.args.grammar.now) (numbered_table c.in_ok-types.types) c.in_ok-types.ensures.filled (grammar_view c.args.grammar.now).type_parameters refl c.args.rules.now c.requires.seen c.in_ok-check_clauses.ensures
+    (type_table c.in_ok-listed.listed) listed.same listed.rest listed.names_in_order listed.terminals_in_order c.requires.distinct (c.in_ok-check_table.ensures (grammar_view c.args.grammar.now).type_parameters)

@@ -1,9 +1,7 @@
 use Rattle.std.proofs.Common.{map}
-use Rattle.lalrpop_norm_tree.specs.Items.{rule_view}
 use Rattle.lalrpop_norm_tyinfer_table.specs.Numbered.{numbered_table}
-use Rattle.lalrpop_norm_tyinfer_table.specs.declared.rules.PlainRule.{PlainRule}
 use Rattle.lalrpop_norm_tyinfer_table.specs.TableFaults.{untyped_in}
-use Rattle.lalrpop_norm_tyinfer_table.specs.Visits.{rule_seen}
+use Rattle.lalrpop_norm_tyinfer_table.specs.Visits.{plain_rule_view, rule_seen}
 use Rattle.lalrpop_norm_tyinfer_table.proofs.LoopLemmas.{exit_loop}
 use Rattle.lalrpop_norm_tyinfer_table.proofs.NumberedRounds.{number_of}
 use Rattle.lalrpop_norm_tyinfer_table.proofs.RoundLemmas.{rule_there}
@@ -18,5 +16,5 @@ check_type-requires c =
 
 pub returns-in_err-check_type : goal.returns-in_err-check_type
 returns-in_err-check_type c =
-    exit_loop (λ (r : PlainRule). rule_view r.data.now) (untyped_in (numbered_table c.args.types.now)) c.args.rules.now c.loop-number.number c.index-rules-number.result _ _
+    exit_loop plain_rule_view (untyped_in (numbered_table c.args.types.now)) c.args.rules.now c.loop-number.number c.index-rules-number.result _ _
     c.loop-number-test.true c.index-rules-number.is c.from_residual.ensures.1 c.in_err-check_type.ensures c.loop-number.invariant

@@ -1,16 +1,17 @@
-use Rattle.lalrpop_norm_tyinfer_table.specs.Clauses.{clause_view}
+use Rattle.std.proofs.Common.{[]}
+use Rattle.std.proofs.lemmas.Result.{on_ok_weaker}
 use Rattle.lalrpop_norm_names.specs.Numbers.{number_in_table}
-use Rattle.lalrpop_norm_tyinfer_table.proofs.NeedLemmas.{adds_none, adds_more, mapped_more}
-use Rattle.std.proofs.Common.{map, take}
+use Rattle.lalrpop_norm_tyinfer_table.proofs.NeedLemmas.{adds_none, adds_more}
 use Rattle.lalrpop_norm_tyinfer_table.proofs.needs.add_needs.Goals as goal
 
-pub loop-clause-init : goal.loop-clause-init
-loop-clause-init c = adds_none (number_in_table c.args.names.now) c.args.parameters.now c.args.needs.now.items c.args.rule
+pub returns-in_ok-push-in-Declared : goal.returns-in_ok-push-in-Declared
+returns-in_ok-push-in-Declared c =
+    let number = number_in_table c.args.names.now in
+    let ps = c.args.parameters.now in
+    let before = c.args.needs.now.items in
+    rw (c.in-Declared.is, c.in_ok-push-in-Declared.ensures.items)
+    (adds_more number ps before before [] _ c.args.rule _ (adds_none number ps before c.args.rule) c.in_ok-need_of_type-in-Declared.ensures)
 
-pub loop-clause-preserved : goal.loop-clause-preserved
-loop-clause-preserved c =
-    let clauses = c.args.clauses.now in
-    let i = c.loop-clause.clause-index in
-    rw (mapped_more clause_view clauses i c.clause-item.result c.loop-clause-test.true c.clause-item.is, c.in_ok-push.ensures.items)
-    (adds_more (number_in_table c.args.names.now) c.args.parameters.now c.args.needs.now.items c.loop-clause.needs.items (map clause_view (take i clauses)) (clause_view c.clause-item.result) c.args.rule _
-    c.loop-clause.invariant c.in_ok-need_of.ensures)
+pub returns-in-Alternatives : goal.returns-in-Alternatives
+returns-in-Alternatives c =
+    rw c.in-Alternatives.is (on_ok_weaker c.add_clauses.result (λ adds. adds c.args.parameters.now) (rw c.deref.ensures.value at c.add_clauses.ensures))

@@ -13,8 +13,7 @@ loop-rule-preserved c =
     let rules = c.args.rules.now in
     let rule = c.index-rules-rule.result in
     let i = c.loop-rule.rule in
-    let read = rw c.deref.ensures.value at c.in_ok-add_needs.ensures in
-    let adds = rw (← c.index-rules-rule.is) at read in
+    let adds = rw (← c.index-rules-rule.is) at c.in_ok-add_needs.ensures in
     let last : i ≡ length (map rule_seen (take i rules)) = sym (length-map (take i rules) rule_seen ∙ length-take-le i rules (omega arith)) in
     rw (mapped_more rule_seen rules i rule c.loop-rule-test.true c.index-rules-rule.is)
     (needs_more (number_in_table c.args.names.now) c.args.parameters.now (map rule_seen (take i rules)) (rule_seen rule) c.loop-rule.needs.items c.add_needs.new.needs.items i last c.loop-rule.invariant adds)

@@ -1,12 +1,20 @@
 use Rattle.std.proofs.Common.{arith}
-use Rattle.lalrpop_norm_tree.specs.Items.{rule_view}
 use Rattle.lalrpop_norm_tyinfer_table.specs.Numbered.{numbered_table}
-use Rattle.lalrpop_norm_tyinfer_table.specs.declared.rules.PlainRule.{PlainRule}
 use Rattle.lalrpop_norm_tyinfer_table.specs.TableFaults.{others_in}
+use Rattle.lalrpop_norm_tyinfer_table.specs.Visits.{plain_rule_view}
 use Rattle.lalrpop_norm_tyinfer_table.proofs.LoopLemmas.{exit_loop}
+use Rattle.lalrpop_norm_tyinfer.proofs.Loops.{passed_on, all_passed}
 use Rattle.lalrpop_norm_tyinfer.proofs.tyinfer.agreement.check_agreement.Goals as goal
 
 pub returns-in_err-check_rule : goal.returns-in_err-check_rule
 returns-in_err-check_rule c =
-    exit_loop (λ (r : PlainRule). rule_view r.data.now) (others_in c.args.parameters.now (numbered_table c.args.types.now)) c.args.rules.now c.loop-rule.rule-index c.rule-item.result _ _
-    (omega arith) c.rule-item.is c.from_residual.ensures.1 c.in_err-check_rule.ensures c.loop-rule.invariant
+    λ ps. exit_loop plain_rule_view (others_in ps (numbered_table c.args.types.now)) c.args.rules.now c.loop-rule.rule-index c.rule-item.result _ _
+    (omega arith) c.rule-item.is c.from_residual.ensures.1 (c.in_err-check_rule.ensures ps) (c.loop-rule.invariant ps)
+
+pub loop-rule-preserved : goal.loop-rule-preserved
+loop-rule-preserved c =
+    λ ps. passed_on plain_rule_view (others_in ps (numbered_table c.args.types.now)) c.args.rules.now c.loop-rule.rule-index c.rule-item.result
+    (omega arith) c.rule-item.is (c.in_ok-check_rule.ensures ps) (c.loop-rule.invariant ps)
+
+pub returns : goal.returns
+returns c = λ ps. all_passed plain_rule_view (others_in ps (numbered_table c.args.types.now)) c.args.rules.now c.loop-rule.rule-index (omega arith) (c.loop-rule.invariant ps)

@@ -1,6 +1,8 @@
-use Rattle.lalrpop_norm_tyinfer_table.specs.Numbered.{numbered_table}
-use Rattle.lalrpop_norm_tyinfer.proofs.AgreementLemmas.{declared_agrees}
+use Rattle.std.proofs.Common.{refl}
 use Rattle.lalrpop_norm_tyinfer.proofs.tyinfer.agreement.check_rule.Goals as goal
 
-pub returns-in-Some : goal.returns-in-Some
-returns-in-Some c = declared_agrees c.args.parameters.now (numbered_table c.args.types.now) c.args.rule.now _ c.in-Some.is
+pub returns-in-Declared : goal.returns-in-Declared
+returns-in-Declared c = λ ps. rw c.in-Declared.is refl
+
+pub returns-in-Alternatives : goal.returns-in-Alternatives
+returns-in-Alternatives c = λ ps. rw c.in-Alternatives.is (rw c.deref.ensures.value at (c.check_alternatives.ensures ps))

@@ -9,8 +9,7 @@ put-requires c = c.requires.number.within
 
 pub returns-in-Some-clause-takes : goal.returns-in-Some-clause-takes
 returns-in-Some-clause-takes c =
-    let value = rw c.deref.ensures.value at c.in_ok-ty.ensures in
-    let first = rw c.in-Some.is at value in
+    let first = rw c.in-Some.is at c.in_ok-ty.ensures in
     put_taken c.args.types.now c.put.new.self c.args.rule.now.data.now.name.0 c.args.place (repr_view c.in-Some.ty) c.requires.number c.put.ensures _ c.requires.untyped first
 
 pub returns-in-Some-clause-numbers : goal.returns-in-Some-clause-numbers
@@ -18,8 +17,7 @@ returns-in-Some-clause-numbers c = put_same c.args.types.now c.put.new.self c.ar
 
 pub returns-in-None-clause-takes : goal.returns-in-None-clause-takes
 returns-in-None-clause-takes c =
-    let value = rw c.deref.ensures.value at c.in_ok-ty.ensures in
-    let first = rw c.in-None.is at value in
+    let first = rw c.in-None.is at c.in_ok-ty.ensures in
     taken_none (numbered_table c.args.types.now) c.args.rule.now.data.now.name.0 _ c.requires.untyped first
 
 pub returns-in-None-clause-numbers : goal.returns-in-None-clause-numbers

@@ -1,10 +1,10 @@
-use Rattle.std.proofs.Common.{List, ℕ, subst, sym, ◌∙◌}
-use Rattle.std.specs.Prelude.{IfOk}
-use Rattle.lalrpop_norm_names.specs.Numbers.{number_in_table, IsNumbering}
+use Rattle.std.proofs.Common.{List, ℕ, subst, sym}
+use Rattle.lalrpop_norm_names.specs.Numbers.{number_in_table}
 use Rattle.lalrpop_norm_tyinfer_table.specs.Needs.{AreRuleNumbers}
 use Rattle.lalrpop_norm_tyinfer_table.proofs.NumberLemmas.{numbering_is}
 use Rattle.lalrpop_norm_tyinfer_table.proofs.numbered.Numbered.new.Goals as goal
 
 pub returns-clause-numbers : goal.returns-clause-numbers
 returns-clause-numbers c =
-    subst (λ (ns : List (List ℕ)). AreRuleNumbers (number_in_table c.in_ok-names.names) ns) (sym c.in_ok-rules.ensures.names) (numbering_is _ c.in_ok-names.names c.in_ok-names.ensures)
+    let numbering = rw c.deref.ensures.value at c.in_ok-names.ensures in
+    subst (λ (ns : List (List ℕ)). AreRuleNumbers (number_in_table c.in_ok-names.names) ns) (sym c.in_ok-rules.ensures.names) (numbering_is _ c.in_ok-names.names numbering)
