@@ -20,7 +20,8 @@ use Rattle.lalrpop_norm_nodes.specs.Wholes.{Whole, one_symbol, kind_at, as_kind}
 use Rattle.lalrpop_norm_nodes.proofs.GivenLemmas.{text_replaced}
 use Rattle.lalrpop_norm_nodes.proofs.MeetLemmas.{text_unplaced}
 use Rattle.lalrpop_norm_nodes.proofs.RowItems.{is_kind}
-use Rattle.lalrpop_norm_macro_expand_rules.specs.Pending.{unread_rule, given_for, whole_of, shown_of}
+use Rattle.lalrpop_norm_macro_expand_rules.specs.Pending.{unread_rule}
+use Rattle.lalrpop_norm_macro_expand_rules.proofs.ArgumentLemmas.{given_for, whole_of, shown_of}
 use Rattle.lalrpop_norm_macro_expand_repeats.specs.Repeats.{hole_name, repeat_shape}
 use Rattle.lalrpop_norm_macro_expand.specs.Making.{hole, repeat_pending}
 

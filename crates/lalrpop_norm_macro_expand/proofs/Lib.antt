@@ -1,3 +1,4 @@
+mod BehindLemmas
 mod BoundLemmas
 pub mod DistinctLemmas
 mod FreshLemmas

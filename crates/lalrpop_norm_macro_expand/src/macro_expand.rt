@@ -101,9 +101,11 @@ fn read_round(
         ++ map pending_read (flat_map (pending_for (wholes_in table.old) (macros_in macros.now)) (reverse waiting.items))) }
     ensures made { OnOk result (map made_view made.new.items ≡ map made_view made.old.items ++ map (made_for (macros_in macros.now)) (reverse waiting.items)) }
 {
-    let pending = make_rules(alloc, macros, table, waiting, made)?;
-    make_room(done, pending.len())?;
-    read_pending(alloc, pending, done, table)
+    let first = done.len();
+    make_room(done, waiting.len())?;
+    let fillings = make_rules(alloc, macros, table, waiting, made, done)?;
+    read_pending(alloc, &mut done[first..], fillings, table)?;
+    Ok(())
 }
 
 /// What an expansion knows at its end.

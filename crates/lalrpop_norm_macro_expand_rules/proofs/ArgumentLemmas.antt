@@ -15,7 +15,7 @@ use Rattle.lalrpop_norm_nodes.specs.Given.{IsGiven}
 use Rattle.lalrpop_norm_nodes.specs.Wholes.{Whole, kind_at}
 use Rattle.lalrpop_norm_macro_expand_rules.specs.declared.substituted.Bindings.{Bindings}
 use Rattle.lalrpop_norm_macro_expand_rules.specs.Bound.{bound_kind, AreByNumber}
-use Rattle.lalrpop_norm_macro_expand_rules.specs.Pending.{given_for, whole_of, shown_of}
+use Rattle.lalrpop_norm_macro_expand_rules.specs.Pending.{given_numbered, whole_numbered, shown_numbered}
 
 -- ---- places in a list with one more item in front
 
@@ -46,6 +46,11 @@ one_further x xs None = refl
 one_further x xs (Some i) = refl
 
 -- ---- what is given for a name
+
+-- for the first of the names that is this one
+abbrev pub given_for : {A : Type 0} → List NonterminalString → List A → List ℕ → Option A
+given_for (a ∷ names) (g ∷ given) n = if bytes_eq a.0 n then Some g else given_for names given n
+given_for _ _ n = None
 
 given_by_place : {A : Type 0} (names : List NonterminalString) (xs : List A) (n : List ℕ) →
     given_for names xs n ≡ at_place xs (first_place (map (λ a. a.0) names) n)
@@ -91,15 +96,12 @@ arguments_bound b numbers = fun_ext (λ n. argument_bound b n numbers)
 
 -- ---- environments
 
--- what is given at the number of a name, and what the name stands for there: spans aside, and with what is made into rules replaced
-abbrev pub given_numbered : Names → List Given → List ℕ → Option Given
-given_numbered table given n = option_and_then (λ i. slice_get given i) (number_in_table table n)
+-- what a name stands for by the names: spans aside, and with what is made into rules replaced
+abbrev pub whole_of : List Whole → List NonterminalString → List Given → List ℕ → Option Kind
+whole_of ws names given n = option_map (λ g. kind_at ws g.number) (given_for names given n)
 
-abbrev pub whole_numbered : List Whole → Names → List Given → List ℕ → Option Kind
-whole_numbered ws table given n = option_map (λ g. kind_at ws g.number) (given_numbered table given n)
-
-abbrev pub shown_numbered : Names → List Given → List ℕ → Option Kind
-shown_numbered table given n = option_map (λ g. kind_view g.symbol.kind) (given_numbered table given n)
+abbrev pub shown_of : List NonterminalString → List Given → List ℕ → Option Kind
+shown_of names given n = option_map (λ g. kind_view g.symbol.kind) (given_for names given n)
 
 module _ (names : List NonterminalString) (given : List Given) (table : Names) (numbers : IsNumbering (map (λ a. a.0) names) table) where
   found : (n : List ℕ) → given_for names given n ≡ given_numbered table given n

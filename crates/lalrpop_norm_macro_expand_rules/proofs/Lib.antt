@@ -1,4 +1,4 @@
-mod ArgumentLemmas
+pub mod ArgumentLemmas
 mod ConditionLemmas
 mod InstanceLemmas
 pub mod MacroLemmas

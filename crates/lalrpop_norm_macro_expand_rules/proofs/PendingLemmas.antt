@@ -1,24 +1,39 @@
 -- What is pending stays as the table grows, and is read one by one.
-use Rattle.std.proofs.Common.{◌≡◌, ℕ, List, [], ◌∷◌, ◌++◌, map, Option, Some, None, option_map, refl, sym, ap, ap₂, ◌∙◌, subst}
+use Rattle.std.proofs.Common.{◌≡◌, ℕ, ◌+◌, ◌<◌, List, ◌∷◌, Option, Some, None, length, map, get_or, set, drop, arith, refl, sym, ap, ◌∙◌}
 use Rattle.std.proofs.Math.Path.{fun_ext}
-use Rattle.std.specs.List.{flat_map}
-use Rattle.lalrpop_norm_tree_names.specs.declared.names.NonterminalString.{NonterminalString}
-use Rattle.lalrpop_norm_tree.specs.Symbols.{Kind, Part}
-use Rattle.lalrpop_norm_tree.specs.Items.{rule_view}
-use Rattle.lalrpop_norm_nodes.specs.declared.given.Given.{Given}
-use Rattle.lalrpop_norm_nodes.specs.Given.{IsGiven}
-use Rattle.lalrpop_norm_nodes.specs.Wholes.{Whole, kind_at, Grows}
+use Rattle.std.proofs.lemmas.List.{drop_more, drop-set-lt}
+use Rattle.lalrpop_norm_tree.specs.declared.items.GrammarItem.{GrammarItem}
+use Rattle.lalrpop_norm_tree.specs.Symbols.{Kind}
+use Rattle.lalrpop_norm_tree.specs.Items.{item_view}
+use Rattle.lalrpop_norm_nodes.specs.Wholes.{Whole, Grows}
 use Rattle.lalrpop_norm_nodes.proofs.GivenLemmas.{given_stays, whole_stays}
-use Rattle.lalrpop_norm_macro_expand_rules.specs.declared.pending.Pending.{Pending}
-use Rattle.lalrpop_norm_macro_expand_rules.specs.declared.pending.Pending.TheVariants.{Finished, Unread}
-use Rattle.lalrpop_norm_macro_expand_rules.specs.Pending.{PendingData, unread_rule, given_for, whole_of, shown_of, pending_view, IsReadable, AreReadable}
+use Rattle.lalrpop_norm_macro_expand_rules.specs.declared.pending.Filling.{Filling}
+use Rattle.lalrpop_norm_macro_expand_rules.specs.Pending.{PendingData, given_numbered, shown_numbered, filling_view, filled_item, filled_items, IsReadable}
 
-pub readable_stays : (ws vs : List Whole) (p : Pending) → Grows ws vs → IsReadable ws p → IsReadable vs p
-readable_stays ws vs (Finished r) grows h = tt
-readable_stays ws vs (Unread o) grows h = λ n g f. given_stays ws vs g grows (h n g f)
+pub readable_stays : (ws vs : List Whole) (f : Option Filling) → Grows ws vs → IsReadable ws f → IsReadable vs f
+readable_stays ws vs None grows h = tt
+readable_stays ws vs (Some f) grows h = λ n g e. given_stays ws vs g grows (h n g e)
 
-pub view_stays : (ws vs : List Whole) (p : Pending) → Grows ws vs → IsReadable ws p → pending_view vs p ≡ pending_view ws p
-view_stays ws vs (Finished r) grows h = refl
-view_stays ws vs (Unread o) grows h =
-    ap (λ (f : List ℕ → Option Kind). unread_rule (rule_view o.rule) f (shown_of o.names.items o.given.items))
-    (fun_ext (λ n. whole_stays ws vs (given_for o.names.items o.given.items n) grows (λ g f. h n g f)))
+pub filling_stays : (ws vs : List Whole) (f : Option Filling) → Grows ws vs → IsReadable ws f → filling_view vs f ≡ filling_view ws f
+filling_stays ws vs None grows h = refl
+filling_stays ws vs (Some f) grows h =
+    ap (λ (w : List ℕ → Option Kind). Some (w, shown_numbered f.numbers f.given.items))
+    (fun_ext (λ n. whole_stays ws vs (given_numbered f.numbers f.given.items n) grows (λ g e. h n g e)))
+
+-- ---- rules and what is given for the names in them, side by side
+
+abbrev pub pending_in : List Whole → List (Option Filling) → List GrammarItem → List PendingData
+pending_in ws fs is = filled_items (map (filling_view ws) fs) (map item_view is)
+
+module _ (ws : List Whole) (items : List GrammarItem) (count place : ℕ) (rest : List (Option Filling)) where
+  pub pending_next : (fs : List (Option Filling)) (f : Option Filling) (d : GrammarItem) → place < length items → place ≡ count → fs ≡ f ∷ rest →
+      pending_in ws fs (drop count items) ≡ filled_item (filling_view ws f) (item_view (get_or items place d)) ∷ pending_in ws rest (drop (place + 1) items)
+  pending_next fs f d inside here split =
+      ap (λ (gs : List (Option Filling)). pending_in ws gs (drop count items)) split
+      ∙ ap (λ (n : ℕ). pending_in ws (f ∷ rest) (drop n items)) (sym here)
+      ∙ ap (pending_in ws (f ∷ rest)) (drop_more items place d inside)
+
+  pub pending_later : (y : GrammarItem) → count ≡ place + 1 → pending_in ws rest (drop (place + 1) items) ≡ pending_in ws rest (drop count (set items place y))
+  pending_later y later =
+      ap (pending_in ws rest) (sym (drop-set-lt (place + 1) items place y (omega arith)))
+      ∙ ap (λ (n : ℕ). pending_in ws rest (drop n (set items place y))) (sym later)

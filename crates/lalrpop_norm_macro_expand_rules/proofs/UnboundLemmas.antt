@@ -13,8 +13,7 @@ use Rattle.lalrpop_norm_nodes.specs.Filled.{filled, filled_kind, all_filled}
 use Rattle.lalrpop_norm_nodes.specs.Given.{IsGiven}
 use Rattle.lalrpop_norm_nodes.specs.Waits.{parts_replaced}
 use Rattle.lalrpop_norm_nodes.specs.Wholes.{Whole, kind_at}
-use Rattle.lalrpop_norm_macro_expand_rules.specs.Pending.{met_filled, shown_filled, read_filled}
-use Rattle.lalrpop_norm_macro_expand_rules.proofs.ArgumentLemmas.{given_numbered, whole_numbered, shown_numbered}
+use Rattle.lalrpop_norm_macro_expand_rules.specs.Pending.{met_filled, shown_filled, read_filled, given_numbered, whole_numbered, shown_numbered}
 
 abbrev unbound : List ℕ → Option Kind
 unbound n = None

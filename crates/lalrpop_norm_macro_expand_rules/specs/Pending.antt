@@ -1,8 +1,9 @@
 -- Rules that were made, and what is still to be read in them: the code's own words, of which no public clause speaks.
-use Rattle.std.specs.Prelude.{◌≡◌, ⊤, ℕ, List, [], ◌∷◌, map, flat_map, Option, Some, None, option_map, bytes_eq, if◌then◌else◌}
-use Rattle.lalrpop_norm_tree_names.specs.declared.names.NonterminalString.{NonterminalString}
+use Rattle.std.specs.Prelude.{◌≡◌, ⊤, ℕ, List, [], ◌∷◌, map, flat_map, Option, Some, None, option_map, option_and_then, slice_get}
 use Rattle.lalrpop_norm_tree.specs.Symbols.{Kind, Part, kind_view}
-use Rattle.lalrpop_norm_tree.specs.Items.{AlternativeData, RuleData, ItemData, rule_item, rule_view}
+use Rattle.lalrpop_norm_tree.specs.Items.{AlternativeData, RuleData, ItemData, rule_item, match_item, extern_item, intern_item, use_item, rule_view}
+use Rattle.lalrpop_norm_names.specs.Numbers.{number_in_table}
+use Rattle.lalrpop_norm_names.specs.declared.table.Names.{Names}
 use Rattle.lalrpop_norm_model.specs.PlainRules.{all_met}
 use Rattle.lalrpop_norm_model.specs.Replaced.{all_replaced}
 use Rattle.lalrpop_norm_nodes.specs.declared.given.Given.{Given}
@@ -10,8 +11,8 @@ use Rattle.lalrpop_norm_nodes.specs.Filled.{all_filled}
 use Rattle.lalrpop_norm_nodes.specs.Given.{IsGiven}
 use Rattle.lalrpop_norm_nodes.specs.Waits.{parts_replaced}
 use Rattle.lalrpop_norm_nodes.specs.Wholes.{Whole, kind_at}
+use Rattle.lalrpop_norm_macro_expand_rules.specs.declared.pending.Filling.{Filling}
 use Rattle.lalrpop_norm_macro_expand_rules.specs.declared.pending.Pending.{Pending}
-use Rattle.lalrpop_norm_macro_expand_rules.specs.declared.pending.Pending.TheVariants.{Finished, Unread}
 
 -- ---- alternatives that are read where names stand for what is given
 
@@ -28,45 +29,82 @@ read_filled f a = record a { parts = all_replaced (all_filled f a.parts) }
 
 -- ---- rules
 
--- a rule with nothing left to be read, or one in which names stand for what is given: as it is, spans aside, and with what is made
+-- an item with nothing left to be read, or a rule in which names stand for what is given: as it is, spans aside, and with what is made
 -- into rules replaced
 pub data PendingData : Type 0 where
-  finished_rule : RuleData → PendingData
+  finished_item : ItemData → PendingData
   unread_rule : RuleData → (List ℕ → Option Kind) → (List ℕ → Option Kind) → PendingData
 
+abbrev pub finished_rule : RuleData → PendingData
+finished_rule r = finished_item (rule_item r)
+
 abbrev pub met_in_pending : PendingData → List Part
-met_in_pending (finished_rule r) = []
+met_in_pending (finished_item i) = []
 met_in_pending (unread_rule r whole shown) = flat_map (met_filled whole) r.alternatives
 
 abbrev pub shown_in_pending : PendingData → List Part
-shown_in_pending (finished_rule r) = []
+shown_in_pending (finished_item i) = []
 shown_in_pending (unread_rule r whole shown) = flat_map (shown_filled shown) r.alternatives
 
 abbrev pub pending_read : PendingData → ItemData
-pending_read (finished_rule r) = rule_item r
+pending_read (finished_item i) = i
 pending_read (unread_rule r whole shown) = rule_item (record r { alternatives = map (read_filled shown) r.alternatives })
 
--- what is given for the first of the names that is this one
-abbrev pub given_for : {A : Type 0} → List NonterminalString → List A → List ℕ → Option A
-given_for (a ∷ names) (g ∷ given) n = if bytes_eq a.0 n then Some g else given_for names given n
-given_for _ _ n = None
+-- ---- items, and what is still to be read in them, side by side
 
--- what a name is bound to
-abbrev pub whole_of : List Whole → List NonterminalString → List Given → List ℕ → Option Kind
-whole_of ws names given n = option_map (λ g. kind_at ws g.number) (given_for names given n)
+abbrev pub FillingData : Type 0
+FillingData = Option ((List ℕ → Option Kind) × (List ℕ → Option Kind))
 
-abbrev pub shown_of : List NonterminalString → List Given → List ℕ → Option Kind
-shown_of names given n = option_map (λ g. kind_view g.symbol.kind) (given_for names given n)
+abbrev pub filled_item : FillingData → ItemData → PendingData
+filled_item None i = finished_item i
+filled_item (Some f) (rule_item r) = unread_rule r f.0 f.1
+filled_item (Some f) (match_item m) = finished_item (match_item m)
+filled_item (Some f) (extern_item t) = finished_item (extern_item t)
+filled_item (Some f) (intern_item t) = finished_item (intern_item t)
+filled_item (Some f) (use_item u) = finished_item (use_item u)
+
+abbrev pub filled_items : List FillingData → List ItemData → List PendingData
+filled_items (f ∷ fs) (i ∷ is) = filled_item f i ∷ filled_items fs is
+filled_items _ _ = []
+
+abbrev pub item_of : PendingData → ItemData
+item_of (finished_item i) = i
+item_of (unread_rule r whole shown) = rule_item r
+
+abbrev pub filling_of : PendingData → FillingData
+filling_of (finished_item i) = None
+filling_of (unread_rule r whole shown) = Some (whole, shown)
+
+-- ---- what names stand for
+
+-- what is given at the number of a name, and what the name stands for there: spans aside, and with what is made into rules replaced
+abbrev pub given_numbered : Names → List Given → List ℕ → Option Given
+given_numbered table given n = option_and_then (λ i. slice_get given i) (number_in_table table n)
+
+abbrev pub whole_numbered : List Whole → Names → List Given → List ℕ → Option Kind
+whole_numbered ws table given n = option_map (λ g. kind_at ws g.number) (given_numbered table given n)
+
+abbrev pub shown_numbered : Names → List Given → List ℕ → Option Kind
+shown_numbered table given n = option_map (λ g. kind_view g.symbol.kind) (given_numbered table given n)
+
+abbrev pub filling_view : List Whole → Option Filling → FillingData
+filling_view ws None = None
+filling_view ws (Some f) = Some (whole_numbered ws f.numbers f.given.items, shown_numbered f.numbers f.given.items)
+
+abbrev pub filled_rule : List Whole → Filling → RuleData → PendingData
+filled_rule ws f r = unread_rule r (whole_numbered ws f.numbers f.given.items) (shown_numbered f.numbers f.given.items)
 
 abbrev pub pending_view : List Whole → Pending → PendingData
-pending_view ws (Finished r) = finished_rule (rule_view r)
-pending_view ws (Unread o) = unread_rule (rule_view o.rule) (whole_of ws o.names.items o.given.items) (shown_of o.names.items o.given.items)
+pending_view ws p = filled_item (filling_view ws p.filling) (rule_item (rule_view p.rule))
 
 -- what is given stands for symbols
-abbrev pub IsReadable : List Whole → Pending → Type 0
-IsReadable ws (Finished r) = ⊤
-IsReadable ws (Unread o) = (n : List ℕ) (g : Given) → given_for o.names.items o.given.items n ≡ Some g → IsGiven ws g
+abbrev pub IsFilling : List Whole → Filling → Type 0
+IsFilling ws f = (n : List ℕ) (g : Given) → given_numbered f.numbers f.given.items n ≡ Some g → IsGiven ws g
 
-abbrev pub AreReadable : List Whole → List Pending → Type 0
+abbrev pub IsReadable : List Whole → Option Filling → Type 0
+IsReadable ws None = ⊤
+IsReadable ws (Some f) = IsFilling ws f
+
+abbrev pub AreReadable : List Whole → List (Option Filling) → Type 0
 AreReadable ws [] = ⊤
-AreReadable ws (p ∷ rest) = IsReadable ws p × AreReadable ws rest
+AreReadable ws (f ∷ rest) = IsReadable ws f × AreReadable ws rest

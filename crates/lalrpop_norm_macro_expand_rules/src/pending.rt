@@ -1,117 +1,109 @@
 //! Rules that were made, which the next round reads.
-ghost use Rattle.std.specs.Prelude.{◌≡◌, ◌++◌, ◌∷◌, [], IfOk, OnOk, map, flat_map};
+ghost use Rattle.std.specs.Prelude.{◌≡◌, OnOk, map, length, flat_map};
 ghost use Rattle.lalrpop_norm_tree.specs.Items.{item_view, rule_item, rule_view};
 ghost use Rattle.lalrpop_norm_faults.specs.Faults.{Refuses};
 ghost use Rattle.lalrpop_norm_nodes.specs.Tables.{wholes_in, IsNodeTable, IsCounted, TableMeets, refused_in};
 ghost use Rattle.lalrpop_norm_nodes.specs.Waits.{LeavesWaiting};
-ghost use Rattle.lalrpop_norm_macro_expand_rules.specs.declared.pending.Pending.TheVariants.{Unread};
-ghost use Rattle.lalrpop_norm_macro_expand_rules.specs.Pending.{met_in_pending, shown_in_pending, pending_read, pending_view, IsReadable, AreReadable};
+ghost use Rattle.lalrpop_norm_macro_expand_rules.specs.Pending.{met_in_pending, shown_in_pending, pending_read, filling_view, filled_rule, filled_item, filled_items, IsFilling, IsReadable, AreReadable};
 
 use crate::reading::read_alternatives;
 use lalrpop_norm_faults::NormResult;
 use lalrpop_norm_names::Names;
 use lalrpop_norm_nodes::given::{Environment, Given};
 use lalrpop_norm_nodes::table::Table;
-use lalrpop_norm_tree::grammar::parse_tree::{GrammarItem, NonterminalData, NonterminalString};
+use lalrpop_norm_tree::grammar::parse_tree::{GrammarItem, NonterminalData};
 use std::alloc::Global;
 
-/// A rule in which names stand for what is given.
+/// What is given for the names in a rule that was made.
 #[derive(Drop)]
-pub struct UnreadRule {
-    /// The rule, its symbols as they are written.
-    pub rule: NonterminalData,
-    /// The names.
-    pub names: Vec<NonterminalString>,
+pub struct Filling {
+    /// The number of each name: the place at which it stands first among them.
+    pub numbers: Names,
     /// What is given for them, in their order.
     pub given: Vec<Given>,
 }
 
 /// A rule that was made.
 #[derive(Drop)]
-pub enum Pending {
-    /// What is made into rules in it was met, and is replaced.
-    Finished(NonterminalData),
-    /// It is still to be read.
-    Unread(UnreadRule),
+pub struct Pending {
+    /// The rule.
+    pub rule: NonterminalData,
+    /// What is given where the rule is still to be read: its symbols are as they are written. Where there is nothing, what is made into
+    /// rules in it was met, and is replaced.
+    pub filling: Option<Filling>,
 }
 
-fn read_unread(alloc: Global, unread: UnreadRule, table: &mut Table) -> NormResult<NonterminalData>
-    requires table { IsNodeTable table.old }
-    requires counted { IsCounted table.old }
-    requires readable { IsReadable (wholes_in table.old) (Unread unread) }
-    ensures refuses { Refuses result (refused_in table.old (met_in_pending (pending_view (wholes_in table.old) (Unread unread)))) }
-    ensures meets { OnOk result (TableMeets table.old table.new (met_in_pending (pending_view (wholes_in table.old) (Unread unread)))) }
-    ensures counted { OnOk result (IsCounted table.new) }
-    ensures waits { OnOk result (LeavesWaiting table.old table.new (shown_in_pending (pending_view (wholes_in table.old) (Unread unread)))) }
-    ensures value { IfOk result (λ r. rule_item (rule_view r) ≡ pending_read (pending_view (wholes_in table.old) (Unread unread))) }
-{
-    let names = unread.names;
-    let given = unread.given;
-    let mut rule = unread.rule;
-    let numbers = Names::of(alloc, &names)?;
-    let environment = Environment {
-        numbers: &numbers,
-        given: &given,
-    };
-    read_alternatives(alloc, &environment, &mut rule.alternatives, table)?;
-    Ok(rule)
-}
-
-/// Reads a rule that was made.
-fn read_rule(alloc: Global, pending: Pending, table: &mut Table) -> NormResult<NonterminalData>
-    requires table { IsNodeTable table.old }
-    requires counted { IsCounted table.old }
-    requires readable { IsReadable (wholes_in table.old) pending }
-    ensures refuses { Refuses result (refused_in table.old (met_in_pending (pending_view (wholes_in table.old) pending))) }
-    ensures meets { OnOk result (TableMeets table.old table.new (met_in_pending (pending_view (wholes_in table.old) pending))) }
-    ensures counted { OnOk result (IsCounted table.new) }
-    ensures waits { OnOk result (LeavesWaiting table.old table.new (shown_in_pending (pending_view (wholes_in table.old) pending))) }
-    ensures value { IfOk result (λ r. rule_item (rule_view r) ≡ pending_read (pending_view (wholes_in table.old) pending)) }
-{
-    match pending {
-        Pending::Finished(rule) => Ok(rule),
-        Pending::Unread(unread) => read_unread(alloc, unread, table),
-    }
-}
-
-fn read_one(
+fn read_rule(
     alloc: Global,
-    pending: Pending,
-    done: &mut Vec<GrammarItem>,
+    rule: &mut NonterminalData,
+    filling: &Filling,
     table: &mut Table,
 ) -> NormResult<()>
     requires table { IsNodeTable table.old }
     requires counted { IsCounted table.old }
-    requires readable { IsReadable (wholes_in table.old) pending }
-    ensures refuses { Refuses result (refused_in table.old (met_in_pending (pending_view (wholes_in table.old) pending))) }
-    ensures meets { OnOk result (TableMeets table.old table.new (met_in_pending (pending_view (wholes_in table.old) pending))) }
+    requires readable { IsFilling (wholes_in table.old) filling.now }
+    ensures refuses { Refuses result (refused_in table.old (met_in_pending (filled_rule (wholes_in table.old) filling.now (rule_view rule.old)))) }
+    ensures meets { OnOk result (TableMeets table.old table.new (met_in_pending (filled_rule (wholes_in table.old) filling.now (rule_view rule.old)))) }
     ensures counted { OnOk result (IsCounted table.new) }
-    ensures waits { OnOk result (LeavesWaiting table.old table.new (shown_in_pending (pending_view (wholes_in table.old) pending))) }
-    ensures value { OnOk result (map item_view done.new.items ≡ map item_view done.old.items ++ pending_read (pending_view (wholes_in table.old) pending) ∷ []) }
+    ensures waits { OnOk result (LeavesWaiting table.old table.new (shown_in_pending (filled_rule (wholes_in table.old) filling.now (rule_view rule.old)))) }
+    ensures value { OnOk result (rule_item (rule_view rule.new) ≡ pending_read (filled_rule (wholes_in table.old) filling.now (rule_view rule.old))) }
 {
-    let rule = read_rule(alloc, pending, table)?;
-    done.push(GrammarItem::Nonterminal(rule))?;
+    let environment = Environment {
+        numbers: &filling.numbers,
+        given: &filling.given,
+    };
+    read_alternatives(alloc, &environment, &mut rule.alternatives, table)?;
     Ok(())
 }
 
-/// Reads the rules that a round made: meets and replaces their symbols, and moves them behind those of the rounds before.
-pub fn read_pending(
+/// Reads what is still to be read of an item.
+fn read_item(
     alloc: Global,
-    pending: Vec<Pending>,
-    done: &mut Vec<GrammarItem>,
+    item: &mut GrammarItem,
+    filling: Option<Filling>,
     table: &mut Table,
 ) -> NormResult<()>
     requires table { IsNodeTable table.old }
     requires counted { IsCounted table.old }
-    requires readable { AreReadable (wholes_in table.old) pending.items }
-    ensures refuses { Refuses result (refused_in table.old (flat_map met_in_pending (map (pending_view (wholes_in table.old)) pending.items))) }
-    ensures meets { OnOk result (TableMeets table.old table.new (flat_map met_in_pending (map (pending_view (wholes_in table.old)) pending.items))) }
+    requires readable { IsReadable (wholes_in table.old) filling }
+    ensures refuses { Refuses result (refused_in table.old (met_in_pending (filled_item (filling_view (wholes_in table.old) filling) (item_view item.old)))) }
+    ensures meets { OnOk result (TableMeets table.old table.new (met_in_pending (filled_item (filling_view (wholes_in table.old) filling) (item_view item.old)))) }
     ensures counted { OnOk result (IsCounted table.new) }
-    ensures waits { OnOk result (LeavesWaiting table.old table.new (flat_map shown_in_pending (map (pending_view (wholes_in table.old)) pending.items))) }
-    ensures value { OnOk result (map item_view done.new.items ≡ map item_view done.old.items ++ map pending_read (map (pending_view (wholes_in table.old)) pending.items)) }
+    ensures waits { OnOk result (LeavesWaiting table.old table.new (shown_in_pending (filled_item (filling_view (wholes_in table.old) filling) (item_view item.old)))) }
+    ensures value { OnOk result (item_view item.new ≡ pending_read (filled_item (filling_view (wholes_in table.old) filling) (item_view item.old))) }
 {
-    for rule in pending {
-        read_one(alloc, rule, done, table)?;
+    let Some(filling) = filling else {
+        return Ok(());
+    };
+    match item {
+        GrammarItem::Nonterminal(rule) => read_rule(alloc, rule, &filling, table),
+        GrammarItem::MatchToken(_)
+        | GrammarItem::ExternToken(_)
+        | GrammarItem::InternToken(_)
+        | GrammarItem::Use(_) => Ok(()),
+    }
+}
+
+/// Reads the rules that a round made: meets their symbols, and replaces each that is made into a rule. The fillings are those of the
+/// rules, in their order.
+pub fn read_pending(
+    alloc: Global,
+    rules: &mut [GrammarItem],
+    fillings: Vec<Option<Filling>>,
+    table: &mut Table,
+) -> NormResult<()>
+    requires table { IsNodeTable table.old }
+    requires counted { IsCounted table.old }
+    requires long { length fillings.items ≡ length rules.old }
+    requires readable { AreReadable (wholes_in table.old) fillings.items }
+    ensures refuses { Refuses result (refused_in table.old (flat_map met_in_pending (filled_items (map (filling_view (wholes_in table.old)) fillings.items) (map item_view rules.old)))) }
+    ensures meets { OnOk result (TableMeets table.old table.new (flat_map met_in_pending (filled_items (map (filling_view (wholes_in table.old)) fillings.items) (map item_view rules.old)))) }
+    ensures counted { OnOk result (IsCounted table.new) }
+    ensures waits { OnOk result (LeavesWaiting table.old table.new (flat_map shown_in_pending (filled_items (map (filling_view (wholes_in table.old)) fillings.items) (map item_view rules.old)))) }
+    ensures value { OnOk result (map item_view rules.new ≡ map pending_read (filled_items (map (filling_view (wholes_in table.old)) fillings.items) (map item_view rules.old))) }
+{
+    for (place, filling) in fillings.into_iter().enumerate() {
+        read_item(alloc, &mut rules[place], filling, table)?;
     }
     Ok(())
 }

@@ -4,6 +4,7 @@ ghost use Rattle.lalrpop_norm_tree.specs.Symbols.{parts_view};
 ghost use Rattle.lalrpop_norm_tree.specs.Items.{AlternativeData, alternative_view, rule_view};
 ghost use Rattle.lalrpop_norm_faults.specs.Faults.{Refuses, RefusesOr};
 ghost use Rattle.lalrpop_norm_conditions.specs.Conditions.{comparison};
+ghost use Rattle.lalrpop_norm_names.specs.Numbers.{IsNumbering};
 ghost use Rattle.lalrpop_norm_model.specs.MadeRules.{argument_kind};
 ghost use Rattle.lalrpop_norm_macro_expand_rules.specs.Bound.{AreByNumber};
 ghost use Rattle.lalrpop_norm_macro_expand_rules.specs.Conditions.{value_faults, instance_faults};
@@ -75,8 +76,18 @@ fn instance_alternatives(
     Ok(kept)
 }
 
-/// The rule of a call of a macro with these arguments, in which the macro's names stand for them; and the places, among the macro's
-/// alternatives, of those that it has.
+/// What a call of a macro is made into.
+#[derive(Drop)]
+pub(super) struct Instance {
+    /// The rule, in which the macro's names stand for the arguments.
+    pub(super) rule: NonterminalData,
+    /// The places, among the macro's alternatives, of those that it has.
+    pub(super) kept: Vec<usize>,
+    /// The numbers of the macro's names.
+    pub(super) numbers: Names,
+}
+
+/// What a call of a macro with these arguments is made into.
 ///
 /// Errors: at the first alternative whose condition has no value F33 (`ConditionArgument`) or F34 (`ConditionPattern`); `Memory`.
 pub(super) fn instance_rule(
@@ -84,10 +95,11 @@ pub(super) fn instance_rule(
     head: Head,
     definition: &NonterminalData,
     arguments: &[Symbol],
-) -> NormResult<(NonterminalData, Vec<usize>)>
+) -> NormResult<Instance>
     ensures { RefusesOr result (instance_faults (rule_view definition.now) (parts_view arguments.now))
-        (λ r. (rule_view r.0 ≡ instance_shape head.name head.span (rule_view definition.now) (parts_view arguments.now))
-        × (r.1.items ≡ kept_places comparison definition.now.args.items (parts_view arguments.now) 0 (rule_view definition.now).alternatives)) }
+        (λ i. (rule_view i.rule ≡ instance_shape head.name head.span (rule_view definition.now) (parts_view arguments.now))
+        × (i.kept.items ≡ kept_places comparison definition.now.args.items (parts_view arguments.now) 0 (rule_view definition.now).alternatives)
+        × IsNumbering (map (λ a. a.0) definition.now.args.items) i.numbers) }
 {
     let span = head.span;
     let names: &[NonterminalString] = &definition.args;
@@ -108,5 +120,9 @@ pub(super) fn instance_rule(
         type_decl,
         alternatives: kept.alternatives,
     };
-    Ok((rule, kept.places))
+    Ok(Instance {
+        rule,
+        kept: kept.places,
+        numbers,
+    })
 }

@@ -2,37 +2,38 @@
 ghost use Rattle.std.specs.Prelude.{◌≡◌, [], ◌∷◌, ◌++◌, Some, IfOk, IfSome, OnOk, map, flat_map, reverse, option_map, option_to_list};
 ghost use Rattle.lalrpop_norm_tree.specs.Symbols.{at, group, call, repeated, kind_view, parts_view, expr_view, macro_view, symbol_view};
 ghost use Rattle.lalrpop_norm_tree.specs.SymbolTexts.{kind_text};
-ghost use Rattle.lalrpop_norm_tree.specs.Items.{rule_view};
+ghost use Rattle.lalrpop_norm_tree.specs.Items.{item_view, rule_item, rule_view};
 ghost use Rattle.lalrpop_norm_faults.specs.Faults.{Refuses, RefusesOr, fault_if};
 ghost use Rattle.lalrpop_norm_faults.specs.declared.kind.FaultKind.TheVariants.{NamedInGroup};
 ghost use Rattle.lalrpop_norm_conditions.specs.Conditions.{comparison};
+ghost use Rattle.lalrpop_norm_names.specs.Numbers.{IsNumbering};
 ghost use Rattle.lalrpop_norm_model.specs.MadeRules.{argument_kind, macro_named, group_rule, some_name_value};
 ghost use Rattle.lalrpop_norm_nodes.specs.NodeParts.{call_parts, repeated_kind, IsShallow, IsWaiting, AreWaiting};
 ghost use Rattle.lalrpop_norm_nodes.specs.Tables.{wholes_in, IsNodeTable};
 ghost use Rattle.lalrpop_norm_nodes.specs.Wholes.{kind_at};
 ghost use Rattle.lalrpop_norm_macro_expand_rules.specs.Conditions.{called_faults, instance_faults};
 ghost use Rattle.lalrpop_norm_macro_expand_rules.specs.Macros.{macros_in, AreByName};
-ghost use Rattle.lalrpop_norm_macro_expand_rules.specs.Pending.{unread_rule, pending_view, IsReadable, AreReadable};
-ghost use Rattle.lalrpop_norm_macro_expand_rules.specs.declared.pending.Pending.TheVariants.{Unread};
+ghost use Rattle.lalrpop_norm_macro_expand_rules.specs.Pending.{unread_rule, item_of, filling_of, filling_view, pending_view, IsReadable, AreReadable};
 ghost use Rattle.lalrpop_norm_macro_expand.specs.Expansion.{unmade, unmade_repeat};
 ghost use Rattle.lalrpop_norm_macro_expand.specs.Kept.{kept_by, kept_by_call};
 ghost use Rattle.lalrpop_norm_macro_expand.specs.Made.{made_view, made_for};
-ghost use Rattle.lalrpop_norm_macro_expand.specs.Making.{instance_shape, call_pending, repeat_pending, pending_of, pending_for};
+ghost use Rattle.lalrpop_norm_macro_expand.specs.Making.{instance_shape, call_pending, hole, repeat_pending, pending_of, pending_for};
 
 use super::instance::instance_rule;
 use lalrpop_norm_faults::{FaultKind, NormResult, refusal};
 use lalrpop_norm_macro_expand_repeats::repeats::{hole_name, repeat_rule};
 use lalrpop_norm_macro_expand_rules::groups::{group_rule, location_rule};
 use lalrpop_norm_macro_expand_rules::macros::Macros;
-use lalrpop_norm_macro_expand_rules::pending::{Pending, UnreadRule};
+use lalrpop_norm_macro_expand_rules::pending::{Filling, Pending};
 use lalrpop_norm_macro_expand_rules::rules::Head;
+use lalrpop_norm_names::Names;
 use lalrpop_norm_nodes::given::Given;
 use lalrpop_norm_nodes::parts::{given_by_call, repeated_number};
 use lalrpop_norm_nodes::table::{Table, Waiting};
 use lalrpop_norm_session::norm_util::{has_name_value, names_value};
 use lalrpop_norm_tree::grammar::parse_tree::{
-    ActionKind, Atom, ExprSymbol, MacroSymbol, NoMemory, NonterminalData, NonterminalString,
-    RepeatOp, RepeatSymbol, Span, Symbol, SymbolKind,
+    ActionKind, Atom, ExprSymbol, GrammarItem, MacroSymbol, NoMemory, NonterminalData, RepeatOp,
+    RepeatSymbol, Span, Symbol, SymbolKind,
 };
 use std::alloc::Global;
 use std::mem;
@@ -84,6 +85,14 @@ fn check_times(
     }
 }
 
+/// The number of the name that stands for what is repeated.
+fn hole_number(alloc: Global) -> Result<Names, NoMemory>
+    ensures { IfOk result (IsNumbering (map (λ n. n.0) hole)) }
+{
+    let names = [hole_name(alloc)?];
+    Names::of(alloc, &names)
+}
+
 /// The rule of a repeat, which takes what is repeated.
 ///
 /// Errors: F57 (`NamedInTimes`) where a named or tuple symbol is repeated so many times; `Memory`.
@@ -93,29 +102,23 @@ fn repeat_of(
     number: usize,
     head: Head,
     repeat: &mut RepeatSymbol,
-) -> NormResult<UnreadRule>
+) -> NormResult<Pending>
     requires table { IsNodeTable table.now }
     requires shallow { IsShallow (wholes_in table.now) number (repeated repeat.old.op (symbol_view repeat.old.symbol)) }
     ensures refuses { Refuses result (unmade_repeat head.span repeat.old.op (symbol_view repeat.old.symbol)) }
-    ensures pending { IfOk result (λ o. pending_view (wholes_in table.now) (Unread o)
+    ensures pending { IfOk result (λ p. pending_view (wholes_in table.now) p
         ≡ repeat_pending head.name head.span repeat.old.op (repeated_kind (kind_at (wholes_in table.now) number)) (symbol_view repeat.old.symbol)) }
-    ensures readable { IfOk result (λ o. IsReadable (wholes_in table.now) (Unread o)) }
+    ensures readable { IfOk result (λ p. IsReadable (wholes_in table.now) p.filling) }
 {
     check_times(alloc, &head.name, head.span, repeat.op, &repeat.symbol)?;
     let number = repeated_number(table, number);
     let nothing = Symbol::new(head.span, SymbolKind::Error);
     let symbol = mem::replace(&mut repeat.symbol, nothing);
     let rule = repeat_rule(alloc, head, repeat.op, &symbol)?;
-    let names = vec![in alloc; hole_name(alloc)?]?;
+    let numbers = hole_number(alloc)?;
     let given = vec![in alloc; Given { number, symbol }]?;
-    Ok(UnreadRule { rule, names, given })
-}
-
-#[tactic(auto, using(std::proofs::lemmas::List::Elements::same_from_all_zip))]
-fn copy_names(names: &Vec<NonterminalString>) -> Result<Vec<NonterminalString>, NoMemory>
-    ensures { IfOk result (λ copies. copies.items ≡ names.now.items) }
-{
-    Ok(names.clone()?)
+    let filling = Some(Filling { numbers, given });
+    Ok(Pending { rule, filling })
 }
 
 /// The rule of a call of a macro with these arguments, and the places of the macro's alternatives that it has.
@@ -128,21 +131,28 @@ fn instance_of(
     head: Head,
     definition: &NonterminalData,
     arguments: Vec<Symbol>,
-) -> NormResult<(UnreadRule, Vec<usize>)>
+) -> NormResult<(Pending, Vec<usize>)>
     requires table { IsNodeTable table.now }
     requires shallow { IsShallow (wholes_in table.now) number (call definition.now.name.0 (parts_view arguments.items)) }
     ensures refuses { Refuses result (instance_faults (rule_view definition.now) (parts_view arguments.items)) }
-    ensures pending { IfOk result (λ o. pending_view (wholes_in table.now) (Unread o.0)
+    ensures pending { IfOk result (λ o. pending_view (wholes_in table.now) o.0
         ≡ unread_rule (instance_shape head.name head.span (rule_view definition.now) (parts_view arguments.items))
         (argument_kind definition.now.args.items (call_parts (kind_at (wholes_in table.now) number)))
         (argument_kind definition.now.args.items (parts_view arguments.items))) }
-    ensures readable { IfOk result (λ o. IsReadable (wholes_in table.now) (Unread o.0)) }
+    ensures readable { IfOk result (λ o. IsReadable (wholes_in table.now) o.0.filling) }
     ensures kept { IfOk result (λ o. o.1.items ≡ kept_by_call comparison (Some (rule_view definition.now)) (parts_view arguments.items)) }
 {
-    let (rule, kept) = instance_rule(alloc, head, definition, &arguments)?;
+    let instance = instance_rule(alloc, head, definition, &arguments)?;
     let given = given_by_call(alloc, table, number, arguments)?;
-    let names = copy_names(&definition.args)?;
-    Ok((UnreadRule { rule, names, given }, kept))
+    let filling = Filling {
+        numbers: instance.numbers,
+        given,
+    };
+    let pending = Pending {
+        rule: instance.rule,
+        filling: Some(filling),
+    };
+    Ok((pending, instance.kept))
 }
 
 /// What a symbol is made into.
@@ -164,6 +174,17 @@ fn into(alloc: Global, pending: Option<Pending>) -> Making
     }
 }
 
+/// What a symbol is made into whose rule has nothing left to be read.
+fn finished(alloc: Global, rule: NonterminalData) -> Making
+    ensures { (result.pending ≡ Some (record { rule = rule; filling = None })) × (result.kept.items ≡ []) }
+{
+    let pending = Pending {
+        rule,
+        filling: None,
+    };
+    into(alloc, Some(pending))
+}
+
 /// The rule of a macro call, if there is a macro of that name; it takes the arguments.
 fn called_of(
     alloc: Global,
@@ -179,15 +200,15 @@ fn called_of(
     ensures refuses { Refuses result (called_faults (macro_named (macros_in macros.now) (macro_view instance.old).0) (macro_view instance.old).1) }
     ensures pending { IfOk result (λ m. option_to_list (option_map (pending_view (wholes_in table.now)) m.pending)
         ≡ call_pending head.name head.span (macro_named (macros_in macros.now) (macro_view instance.old).0) (call_parts (kind_at (wholes_in table.now) number)) (macro_view instance.old).1) }
-    ensures readable { IfOk result (λ m. IfSome m.pending (IsReadable (wholes_in table.now))) }
+    ensures readable { IfOk result (λ m. IfSome m.pending (λ p. IsReadable (wholes_in table.now) p.filling)) }
     ensures kept { IfOk result (λ m. m.kept.items ≡ kept_by_call comparison (macro_named (macros_in macros.now) (macro_view instance.old).0) (macro_view instance.old).1) }
 {
     match macros.find(&instance.name) {
         Some(definition) => {
             let arguments = mem::replace(&mut instance.args, Vec::new(alloc));
-            let (unread, kept) = instance_of(alloc, table, number, head, definition, arguments)?;
+            let (pending, kept) = instance_of(alloc, table, number, head, definition, arguments)?;
             Ok(Making {
-                pending: Some(Pending::Unread(unread)),
+                pending: Some(pending),
                 kept,
             })
         }
@@ -214,26 +235,26 @@ fn rule_of(
     ensures refuses { Refuses result (unmade (macros_in macros.now) (at head.span (kind_view kind.old))) }
     ensures pending { IfOk result (λ m. option_to_list (option_map (pending_view (wholes_in table.now)) m.pending)
         ≡ pending_of (macros_in macros.now) (kind_at (wholes_in table.now) number) (at head.span (kind_view kind.old))) }
-    ensures readable { IfOk result (λ m. IfSome m.pending (IsReadable (wholes_in table.now))) }
+    ensures readable { IfOk result (λ m. IfSome m.pending (λ p. IsReadable (wholes_in table.now) p.filling)) }
     ensures kept { IfOk result (λ m. m.kept.items ≡ kept_by comparison (macros_in macros.now) (at head.span (kind_view kind.old))) }
 {
     match kind {
         SymbolKind::Expr(expr) => {
             let rule = group_of(alloc, head, expr)?;
-            Ok(into(alloc, Some(Pending::Finished(rule))))
+            Ok(finished(alloc, rule))
         }
         SymbolKind::Macro(instance) => called_of(alloc, macros, table, number, head, instance),
         SymbolKind::Repeat(repeat) => {
-            let unread = repeat_of(alloc, table, number, head, repeat)?;
-            Ok(into(alloc, Some(Pending::Unread(unread))))
+            let pending = repeat_of(alloc, table, number, head, repeat)?;
+            Ok(into(alloc, Some(pending)))
         }
         SymbolKind::Lookahead => {
             let rule = location_rule(alloc, head, ActionKind::Lookahead)?;
-            Ok(into(alloc, Some(Pending::Finished(rule))))
+            Ok(finished(alloc, rule))
         }
         SymbolKind::Lookbehind => {
             let rule = location_rule(alloc, head, ActionKind::Lookbehind)?;
-            Ok(into(alloc, Some(Pending::Finished(rule))))
+            Ok(finished(alloc, rule))
         }
         SymbolKind::AmbiguousId(_)
         | SymbolKind::Terminal(_)
@@ -257,7 +278,7 @@ fn pending_rule(
     requires waiting { IsWaiting (wholes_in table.now) waiting }
     ensures refuses { Refuses result (unmade (macros_in macros.now) (symbol_view waiting.symbol)) }
     ensures pending { IfOk result (λ m. option_to_list (option_map (pending_view (wholes_in table.now)) m.pending) ≡ pending_for (wholes_in table.now) (macros_in macros.now) waiting) }
-    ensures readable { IfOk result (λ m. IfSome m.pending (IsReadable (wholes_in table.now))) }
+    ensures readable { IfOk result (λ m. IfSome m.pending (λ p. IsReadable (wholes_in table.now) p.filling)) }
     ensures kept { IfOk result (λ m. m.kept.items ≡ kept_by comparison (macros_in macros.now) (symbol_view waiting.symbol)) }
 {
     let Some(name) = table.text_of(waiting.number) else {
@@ -280,62 +301,56 @@ pub(super) struct MadeSymbol {
     pub(super) kept: Vec<usize>,
 }
 
-/// Adds the rule of a symbol that waits, if it is made into one, and the symbol.
+/// Adds the symbol of that number, and the rule that it is made into, if it is made into one.
 fn add_rule(
-    alloc: Global,
-    macros: &Macros,
-    table: &Table,
-    waiting: Waiting,
-    pending: &mut Vec<Pending>,
+    number: usize,
+    making: Making,
     made: &mut Vec<MadeSymbol>,
-) -> NormResult<()>
-    requires macros { AreByName macros.now }
-    requires table { IsNodeTable table.now }
-    requires waiting { IsWaiting (wholes_in table.now) waiting }
-    requires readable { AreReadable (wholes_in table.now) pending.old.items }
-    ensures refuses { Refuses result (unmade (macros_in macros.now) (symbol_view waiting.symbol)) }
-    ensures adds { OnOk result (map (pending_view (wholes_in table.now)) pending.new.items
-        ≡ map (pending_view (wholes_in table.now)) pending.old.items ++ pending_for (wholes_in table.now) (macros_in macros.now) waiting) }
-    ensures readable { OnOk result (AreReadable (wholes_in table.now) pending.new.items) }
-    ensures made { OnOk result (map made_view made.new.items ≡ map made_view made.old.items ++ made_for (macros_in macros.now) waiting ∷ []) }
+    done: &mut Vec<GrammarItem>,
+    fillings: &mut Vec<Option<Filling>>,
+) -> Result<(), NoMemory>
+    ensures made { OnOk result (map made_view made.new.items ≡ map made_view made.old.items ++ (number, making.kept.items) ∷ []) }
+    ensures rule { OnOk result (map item_view done.new.items ≡ map item_view done.old.items ++ map (λ p. rule_item (rule_view p.rule)) (option_to_list making.pending)) }
+    ensures filling { OnOk result (fillings.new.items ≡ fillings.old.items ++ map (λ p. p.filling) (option_to_list making.pending)) }
 {
-    let number = waiting.number;
-    let Making {
-        pending: rule,
-        kept,
-    } = pending_rule(alloc, macros, table, waiting)?;
+    let Making { pending, kept } = making;
     made.push(MadeSymbol { number, kept })?;
-    match rule {
-        Some(rule) => {
-            pending.push(rule)?;
+    match pending {
+        Some(pending) => {
+            done.push(GrammarItem::Nonterminal(pending.rule))?;
+            fillings.push(pending.filling)?;
             Ok(())
         }
         None => Ok(()),
     }
 }
 
-/// The rules of the symbols that wait, that of the last one first; the symbols are put, in the same order, behind those that were
-/// made into rules before.
+/// Makes the rules of the symbols that wait, that of the last one first, behind those of the rounds before, and answers what is given
+/// for the names in each; the symbols are put, in the same order, behind those that were made into rules before.
 pub(super) fn make_rules(
     alloc: Global,
     macros: &Macros,
     table: &Table,
     waiting: Vec<Waiting>,
     made: &mut Vec<MadeSymbol>,
-) -> NormResult<Vec<Pending>>
+    done: &mut Vec<GrammarItem>,
+) -> NormResult<Vec<Option<Filling>>>
     requires macros { AreByName macros.now }
     requires table { IsNodeTable table.now }
     requires waiting { AreWaiting (wholes_in table.now) waiting.items }
     ensures refuses { Refuses result (flat_map (λ w. unmade (macros_in macros.now) (symbol_view w.symbol)) (reverse waiting.items)) }
-    ensures pending { IfOk result (λ ps. map (pending_view (wholes_in table.now)) ps.items ≡ flat_map (pending_for (wholes_in table.now) (macros_in macros.now)) (reverse waiting.items)) }
-    ensures readable { IfOk result (λ ps. AreReadable (wholes_in table.now) ps.items) }
+    ensures rules { OnOk result (map item_view done.new.items ≡ map item_view done.old.items ++ map item_of (flat_map (pending_for (wholes_in table.now) (macros_in macros.now)) (reverse waiting.items))) }
+    ensures fillings { IfOk result (λ fs. map (filling_view (wholes_in table.now)) fs.items ≡ map filling_of (flat_map (pending_for (wholes_in table.now) (macros_in macros.now)) (reverse waiting.items))) }
+    ensures readable { IfOk result (λ fs. AreReadable (wholes_in table.now) fs.items) }
     ensures made { OnOk result (map made_view made.new.items ≡ map made_view made.old.items ++ map (made_for (macros_in macros.now)) (reverse waiting.items)) }
 {
     let mut waiting = waiting;
     waiting.reverse();
-    let mut pending = Vec::with_capacity(alloc, waiting.len())?;
+    let mut fillings = Vec::with_capacity(alloc, waiting.len())?;
     for symbol in waiting {
-        add_rule(alloc, macros, table, symbol, &mut pending, made)?;
+        let number = symbol.number;
+        let making = pending_rule(alloc, macros, table, symbol)?;
+        add_rule(number, making, made, done, &mut fillings)?;
     }
-    Ok(pending)
+    Ok(fillings)
 }

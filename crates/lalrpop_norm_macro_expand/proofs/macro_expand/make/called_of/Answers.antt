@@ -28,8 +28,8 @@ instance_of-requires-clause-shallow c =
     ∙ ap₂ call (sym (named_so ms (out-MacroSymbol m).name.0 d found)) (ap (λ (v : Vec Symbol Global). parts_view v.items) (sym c.replace-arguments.ensures.value)) in
     subst (λ (k : Kind). IsShallow (wholes_in c.args.table.now) c.args.number k) same c.requires.shallow
 
-pub returns-in_err-unread-in-Some-clause-refuses : goal.returns-in_err-unread-in-Some-clause-refuses
-returns-in_err-unread-in-Some-clause-refuses c =
+pub returns-in_err-pending-in-Some-clause-refuses : goal.returns-in_err-pending-in-Some-clause-refuses
+returns-in_err-pending-in-Some-clause-refuses c =
     let m : MacroSymbol = c.args.instance.now in
     let ms : List RuleData = macros_in c.args.macros.now in
     let d : RuleData = rule_view c.in-Some.definition.now in
@@ -37,10 +37,10 @@ returns-in_err-unread-in-Some-clause-refuses c =
     let same : called_faults (macro_named ms (macro_view m).0) (macro_view m).1 ≡ called_faults (Some d) (parts_view c.replace-arguments.result.items) =
     ap (λ (t : List ℕ × Parts). called_faults (macro_named ms t.0) t.1) (call_is m)
     ∙ ap₂ (λ (o : Option RuleData) (ps : Parts). called_faults o ps) found (ap (λ (v : Vec Symbol Global). parts_view v.items) (sym c.replace-arguments.ensures.value)) in
-    err_same _ _ _ _ same c.from_residual.ensures.1 c.in_err-unread-in-Some.ensures.refuses
+    err_same _ _ _ _ same c.from_residual.ensures.1 c.in_err-pending-in-Some.ensures.refuses
 
-pub returns-in_ok-unread-in-Some-clause-kept : goal.returns-in_ok-unread-in-Some-clause-kept
-returns-in_ok-unread-in-Some-clause-kept c =
+pub returns-in_ok-pending-in-Some-clause-kept : goal.returns-in_ok-pending-in-Some-clause-kept
+returns-in_ok-pending-in-Some-clause-kept c =
     let m : MacroSymbol = c.args.instance.now in
     let ms : List RuleData = macros_in c.args.macros.now in
     let d : RuleData = rule_view c.in-Some.definition.now in
@@ -48,4 +48,4 @@ returns-in_ok-unread-in-Some-clause-kept c =
     let same : kept_by_call comparison (macro_named ms (macro_view m).0) (macro_view m).1 ≡ kept_by_call comparison (Some d) (parts_view c.replace-arguments.result.items) =
     ap (λ (t : List ℕ × Parts). kept_by_call comparison (macro_named ms t.0) t.1) (call_is m)
     ∙ ap₂ (λ (o : Option RuleData) (ps : Parts). kept_by_call comparison o ps) found (ap (λ (v : Vec Symbol Global). parts_view v.items) (sym c.replace-arguments.ensures.value)) in
-    c.in_ok-unread-in-Some.ensures.kept ∙ sym same
+    c.in_ok-pending-in-Some.ensures.kept ∙ sym same

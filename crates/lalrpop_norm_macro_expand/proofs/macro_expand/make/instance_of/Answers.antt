@@ -1,4 +1,4 @@
-use Rattle.std.proofs.Common.{◌≡◌, List, ap, ◌∙◌}
+use Rattle.std.proofs.Common.{List, ap₂, ◌∙◌}
 use Rattle.lalrpop_norm_tree_names.specs.declared.names.NonterminalString.{NonterminalString}
 use Rattle.lalrpop_norm_tree.specs.Symbols.{parts_view}
 use Rattle.lalrpop_norm_tree.specs.Items.{rule_view}
@@ -6,7 +6,9 @@ use Rattle.lalrpop_norm_nodes.specs.declared.given.Given.{Given}
 use Rattle.lalrpop_norm_nodes.specs.NodeParts.{call_parts}
 use Rattle.lalrpop_norm_nodes.specs.Tables.{wholes_in}
 use Rattle.lalrpop_norm_nodes.specs.Wholes.{kind_at}
-use Rattle.lalrpop_norm_macro_expand_rules.specs.Pending.{unread_rule, whole_of, shown_of}
+use Rattle.lalrpop_norm_macro_expand_rules.specs.Pending.{unread_rule}
+use Rattle.lalrpop_norm_macro_expand_rules.proofs.ArgumentLemmas.{given_found, whole_found, shown_found}
+use Rattle.lalrpop_norm_macro_expand.specs.declared.macro_expand.instance.Instance.{Instance}
 use Rattle.lalrpop_norm_macro_expand.specs.Making.{instance_shape}
 use Rattle.lalrpop_norm_macro_expand.proofs.BoundLemmas.{shallow_call, same_long, kinds_long, call_is, are_given, parts_stay}
 use Rattle.lalrpop_norm_macro_expand.proofs.macro_expand.make.instance_of.Goals as goal
@@ -26,20 +28,23 @@ returns-clause-pending c =
     let ws = wholes_in c.args.table.now in
     let params : List NonterminalString = c.args.definition.now.args.items in
     let given : List Given = c.in_ok-given.given.items in
-    let rule = rw c.deref.ensures.value at c.in_ok-rule.ensures in
-    ap (λ (ns : List NonterminalString). unread_rule (rule_view c.in_ok-rule.rule) (whole_of ws ns given) (shown_of ns given)) c.in_ok-names.ensures
-    ∙ call_is ws (rule_view c.in_ok-rule.rule) (instance_shape c.args.head.name c.args.head.span (rule_view c.args.definition.now) (parts_view c.args.arguments.items)) params given
-    (call_parts (kind_at ws c.args.number)) c.args.arguments.items rule.1.0 c.in_ok-given.ensures.numbers c.in_ok-given.ensures.symbols
+    let i : Instance = c.in_ok-instance.instance in
+    let made = rw c.deref.ensures.value at c.in_ok-instance.ensures in
+    ap₂ (unread_rule (rule_view i.rule)) (whole_found params given i.numbers made.1.2 ws) (shown_found params given i.numbers made.1.2)
+    ∙ call_is ws (rule_view i.rule) (instance_shape c.args.head.name c.args.head.span (rule_view c.args.definition.now) (parts_view c.args.arguments.items)) params given
+    (call_parts (kind_at ws c.args.number)) c.args.arguments.items made.1.0 c.in_ok-given.ensures.numbers c.in_ok-given.ensures.symbols
 
 pub returns-clause-readable : goal.returns-clause-readable
 returns-clause-readable c =
     let ws = wholes_in c.args.table.now in
+    let params : List NonterminalString = c.args.definition.now.args.items in
     let given : List Given = c.in_ok-given.given.items in
     let symbols = c.in_ok-given.ensures.symbols in
+    let made = rw c.deref.ensures.value at c.in_ok-instance.ensures in
     let shallow = shallow_call (kind_at ws c.args.number) c.args.definition.now.name.0 (parts_view c.args.arguments.items) c.requires.shallow.same in
-    rw c.in_ok-names.ensures
-    (are_given ws c.args.definition.now.args.items given (call_parts (kind_at ws c.args.number)) c.in_ok-given.ensures.numbers
+    given_found params given c.in_ok-instance.instance.numbers made.1.2 ws
+    (are_given ws params given (call_parts (kind_at ws c.args.number)) c.in_ok-given.ensures.numbers
     (rw symbols (parts_stay c.args.definition.now.name.0 (parts_view c.args.arguments.items) c.requires.shallow.replaced)) (rw symbols shallow.same))
 
 pub returns-clause-kept : goal.returns-clause-kept
-returns-clause-kept c = (rw c.deref.ensures.value at c.in_ok-rule.ensures).1.1
+returns-clause-kept c = (rw c.deref.ensures.value at c.in_ok-instance.ensures).1.1

@@ -1,5 +1,4 @@
 use Rattle.std.proofs.Common.{◌≡◌, ℕ, List, [], ◌∷◌, ap, ap₂, ◌∙◌}
-use Rattle.lalrpop_norm_tree_names.specs.declared.names.NonterminalString.{NonterminalString}
 use Rattle.lalrpop_norm_tree.specs.declared.symbol.Symbol.{Symbol}
 use Rattle.lalrpop_norm_tree.specs.Symbols.{at, nonterminal, symbol_view}
 use Rattle.lalrpop_norm_tree.specs.Items.{rule_view}
@@ -7,7 +6,8 @@ use Rattle.lalrpop_norm_nodes.specs.declared.given.Given.{Given}
 use Rattle.lalrpop_norm_nodes.specs.NodeParts.{repeated_kind}
 use Rattle.lalrpop_norm_nodes.specs.Tables.{wholes_in}
 use Rattle.lalrpop_norm_nodes.specs.Wholes.{kind_at}
-use Rattle.lalrpop_norm_macro_expand_rules.specs.Pending.{unread_rule, whole_of, shown_of}
+use Rattle.lalrpop_norm_macro_expand_rules.specs.Pending.{unread_rule, whole_numbered, shown_numbered}
+use Rattle.lalrpop_norm_macro_expand_rules.proofs.ArgumentLemmas.{given_found, whole_found, shown_found}
 use Rattle.lalrpop_norm_macro_expand_repeats.specs.Repeats.{hole_name, repeat_shape}
 use Rattle.lalrpop_norm_macro_expand.specs.Making.{hole}
 use Rattle.lalrpop_norm_macro_expand.proofs.BoundLemmas.{shallow_repeat, repeat_is, repeat_readable}
@@ -20,12 +20,11 @@ returns-clause-pending c =
     let op = c.args.repeat.now.op in
     let s = c.args.head.span in
     let name : List ℕ = c.args.head.name in
+    let table = c.in_ok-numbers.numbers in
     let g : Given = record { number = c.repeated_number-number.result; symbol = c.replace-symbol.result } in
-    let names : c.in_ok-names.names.items ≡ hole =
-    c.in_ok-names.ensures.items ∙ ap (λ (t : List ℕ). let n : NonterminalString = record { 0 = t } in n ∷ []) c.in_ok-hole_name.ensures in
-    let given : c.in_ok-given.given.items ≡ g ∷ [] = c.in_ok-given.ensures.items in
     let symbol : g.symbol ≡ x = c.replace-symbol.ensures.value in
-    ap₂ (λ (ns : List NonterminalString) (gs : List Given). unread_rule (rule_view c.in_ok-rule.rule) (whole_of ws ns gs) (shown_of ns gs)) names given
+    ap (λ (gs : List Given). unread_rule (rule_view c.in_ok-rule.rule) (whole_numbered ws table gs) (shown_numbered table gs)) c.in_ok-given.ensures.items
+    ∙ ap₂ (unread_rule (rule_view c.in_ok-rule.rule)) (whole_found hole (g ∷ []) table c.in_ok-numbers.ensures ws) (shown_found hole (g ∷ []) table c.in_ok-numbers.ensures)
     ∙ repeat_is ws name s op (repeated_kind (kind_at ws c.args.number)) x (rule_view c.in_ok-rule.rule) g symbol c.repeated_number-number.ensures
     (c.in_ok-rule.ensures ∙ ap (λ (y : Symbol). repeat_shape name s op (symbol_view y) (at y.span (nonterminal hole_name))) symbol)
 
@@ -36,8 +35,6 @@ returns-clause-readable c =
     let op = c.args.repeat.now.op in
     let k = kind_at ws c.args.number in
     let g : Given = record { number = c.repeated_number-number.result; symbol = c.replace-symbol.result } in
-    let names : c.in_ok-names.names.items ≡ hole =
-    c.in_ok-names.ensures.items ∙ ap (λ (t : List ℕ). let n : NonterminalString = record { 0 = t } in n ∷ []) c.in_ok-hole_name.ensures in
-    let given : c.in_ok-given.given.items ≡ g ∷ [] = c.in_ok-given.ensures.items in
-    rw (names, given)
-    (repeat_readable ws op k x g c.replace-symbol.ensures.value c.repeated_number-number.ensures c.requires.shallow.replaced (shallow_repeat k op (symbol_view x) c.requires.shallow.same))
+    rw c.in_ok-given.ensures.items
+    (given_found hole (g ∷ []) c.in_ok-numbers.numbers c.in_ok-numbers.ensures ws
+    (repeat_readable ws op k x g c.replace-symbol.ensures.value c.repeated_number-number.ensures c.requires.shallow.replaced (shallow_repeat k op (symbol_view x) c.requires.shallow.same)))

@@ -1,0 +1,81 @@
+use Rattle.std.proofs.Common.{◌≡◌, ◌++◌, ◌-◌, List, length, map, reverse, arith, sym, ap, ap₂, ◌∙◌, subst}
+use Rattle.std.specs.List.{flat_map}
+use Rattle.std.proofs.lemmas.List.{with_items_is}
+use borrow.Rule.Slice.PartMut.{put_mid}
+use Rattle.lalrpop_norm_tree.specs.declared.items.GrammarItem.{GrammarItem}
+use Rattle.lalrpop_norm_tree.specs.Items.{item_view}
+use Rattle.lalrpop_norm_faults.specs.Faults.{Fault}
+use Rattle.lalrpop_norm_nodes.proofs.EnterLemmas.{err_same}
+use Rattle.lalrpop_norm_nodes.specs.Tables.{wholes_in, TableMeets, refused_in}
+use Rattle.lalrpop_norm_nodes.specs.Waits.{LeavesWaiting}
+use Rattle.lalrpop_norm_macro_expand_rules.specs.Macros.{macros_in}
+use Rattle.lalrpop_norm_macro_expand_rules.specs.Pending.{PendingData, item_of, met_in_pending, shown_in_pending, pending_read, filling_view}
+use Rattle.lalrpop_norm_macro_expand.specs.Making.{pending_for}
+use Rattle.lalrpop_norm_macro_expand.proofs.BehindLemmas.{last_filled, still_long, read_behind}
+use Rattle.lalrpop_norm_macro_expand.proofs.macro_expand.read_round.Goals as goal
+
+pub returns-in_err-read_pending-clause-refuses : goal.returns-in_err-read_pending-clause-refuses
+returns-in_err-read_pending-clause-refuses c =
+    let ws = wholes_in c.args.table.now in
+    let ps : List PendingData = flat_map (pending_for ws (macros_in c.args.macros.now)) (reverse c.args.waiting.items) in
+    let old : List GrammarItem = c.args.done.now.items in
+    let all : List GrammarItem = c.deref_mut.result.now in
+    let before : c.len-first.result ≡ length old = omega (arith, c.len-first.ensures, c.args.done.now.ok.0) in
+    let rules : map item_view all ≡ map item_view old ++ map item_of ps =
+    ap (map item_view) c.deref_mut.ensures.value ∙ c.in_ok-fillings.ensures.rules ∙ ap (λ (xs : List GrammarItem). map item_view xs ++ map item_of ps) c.in_ok-make_room.ensures in
+    let are = last_filled old all c.len-first.result ps before rules (map (filling_view ws) c.in_ok-fillings.fillings.items) c.in_ok-fillings.ensures.fillings in
+    err_same _ _ _ _
+    (ap₂ (λ (fs : List Fault) (qs : List PendingData). fs ++ refused_in c.args.table.now (flat_map met_in_pending qs)) c.in_ok-fillings.ensures.refuses (sym are))
+    c.from_residual-in_err-read_pending.ensures.1 c.in_err-read_pending.ensures.refuses
+
+pub returns-clause-refuses : goal.returns-clause-refuses
+returns-clause-refuses c =
+    let ws = wholes_in c.args.table.now in
+    let ps : List PendingData = flat_map (pending_for ws (macros_in c.args.macros.now)) (reverse c.args.waiting.items) in
+    let old : List GrammarItem = c.args.done.now.items in
+    let all : List GrammarItem = c.deref_mut.result.now in
+    let before : c.len-first.result ≡ length old = omega (arith, c.len-first.ensures, c.args.done.now.ok.0) in
+    let rules : map item_view all ≡ map item_view old ++ map item_of ps =
+    ap (map item_view) c.deref_mut.ensures.value ∙ c.in_ok-fillings.ensures.rules ∙ ap (λ (xs : List GrammarItem). map item_view xs ++ map item_of ps) c.in_ok-make_room.ensures in
+    let are = last_filled old all c.len-first.result ps before rules (map (filling_view ws) c.in_ok-fillings.fillings.items) c.in_ok-fillings.ensures.fillings in
+    ap₂ (λ (fs : List Fault) (qs : List PendingData). fs ++ refused_in c.args.table.now (flat_map met_in_pending qs)) c.in_ok-fillings.ensures.refuses (sym are)
+    ∙ c.in_ok-read_pending.ensures.refuses
+
+pub returns-clause-meets : goal.returns-clause-meets
+returns-clause-meets c =
+    let ws = wholes_in c.args.table.now in
+    let ps : List PendingData = flat_map (pending_for ws (macros_in c.args.macros.now)) (reverse c.args.waiting.items) in
+    let old : List GrammarItem = c.args.done.now.items in
+    let all : List GrammarItem = c.deref_mut.result.now in
+    let before : c.len-first.result ≡ length old = omega (arith, c.len-first.ensures, c.args.done.now.ok.0) in
+    let rules : map item_view all ≡ map item_view old ++ map item_of ps =
+    ap (map item_view) c.deref_mut.ensures.value ∙ c.in_ok-fillings.ensures.rules ∙ ap (λ (xs : List GrammarItem). map item_view xs ++ map item_of ps) c.in_ok-make_room.ensures in
+    let are = last_filled old all c.len-first.result ps before rules (map (filling_view ws) c.in_ok-fillings.fillings.items) c.in_ok-fillings.ensures.fillings in
+    subst (λ (qs : List PendingData). TableMeets c.args.table.now c.read_pending.new.table (flat_map met_in_pending qs)) are c.in_ok-read_pending.ensures.meets
+
+pub returns-clause-waits : goal.returns-clause-waits
+returns-clause-waits c =
+    let ws = wholes_in c.args.table.now in
+    let ps : List PendingData = flat_map (pending_for ws (macros_in c.args.macros.now)) (reverse c.args.waiting.items) in
+    let old : List GrammarItem = c.args.done.now.items in
+    let all : List GrammarItem = c.deref_mut.result.now in
+    let before : c.len-first.result ≡ length old = omega (arith, c.len-first.ensures, c.args.done.now.ok.0) in
+    let rules : map item_view all ≡ map item_view old ++ map item_of ps =
+    ap (map item_view) c.deref_mut.ensures.value ∙ c.in_ok-fillings.ensures.rules ∙ ap (λ (xs : List GrammarItem). map item_view xs ++ map item_of ps) c.in_ok-make_room.ensures in
+    let are = last_filled old all c.len-first.result ps before rules (map (filling_view ws) c.in_ok-fillings.fillings.items) c.in_ok-fillings.ensures.fillings in
+    subst (λ (qs : List PendingData). LeavesWaiting c.args.table.now c.read_pending.new.table (flat_map shown_in_pending qs)) are c.in_ok-read_pending.ensures.waits
+
+pub returns-clause-value : goal.returns-clause-value
+returns-clause-value c =
+    let ws = wholes_in c.args.table.now in
+    let ps : List PendingData = flat_map (pending_for ws (macros_in c.args.macros.now)) (reverse c.args.waiting.items) in
+    let old : List GrammarItem = c.args.done.now.items in
+    let all : List GrammarItem = c.deref_mut.result.now in
+    let before : c.len-first.result ≡ length old = omega (arith, c.len-first.ensures, c.args.done.now.ok.0) in
+    let rules : map item_view all ≡ map item_view old ++ map item_of ps =
+    ap (map item_view) c.deref_mut.ensures.value ∙ c.in_ok-fillings.ensures.rules ∙ ap (λ (xs : List GrammarItem). map item_view xs ++ map item_of ps) c.in_ok-make_room.ensures in
+    let are = last_filled old all c.len-first.result ps before rules (map (filling_view ws) c.in_ok-fillings.fillings.items) c.in_ok-fillings.ensures.fillings in
+    let new : List GrammarItem = c.read_pending.new.rules in
+    let long = still_long old all c.len-first.result ps before rules new c.read_pending.auto.rules in
+    ap (map item_view) (with_items_is c.make_rules.new.done (put_mid c.len-first.result (length all - c.len-first.result) all new) (long ∙ c.deref_mut.ensures.len))
+    ∙ read_behind old all c.len-first.result ps before rules new (c.in_ok-read_pending.ensures.value ∙ ap (map pending_read) are)
