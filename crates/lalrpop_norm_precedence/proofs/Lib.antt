@@ -5,9 +5,10 @@ mod ItemLemmas
 mod GroupLemmas
 mod KindLemmas
 mod RuleLemmas
-mod UnleveledLemmas
+pub mod UnleveledLemmas
 mod SeveralLemmas
 pub mod LevelNameLemmas
+mod UnleveledItems
 pub mod LevelFaultLemmas
 pub mod SettledLemmas
 mod MadeNameLemmas

@@ -2,6 +2,7 @@ pub mod Handed
 pub mod Substituted
 pub mod Grouped
 pub mod Made
+pub mod LeveledItems
 pub mod MadeNames
 pub mod MacroLevels
 pub mod PrecedenceFaults

@@ -1,14 +1,17 @@
 //! The grammar with levels.
 ghost use Rattle.std.specs.Prelude.{◌≡◌, ◌++◌, IfOk, OnOk, map, flat_map};
+ghost use Rattle.std.specs.List.{list_any};
 ghost use Rattle.lalrpop_norm_tree.specs.Items.{rule_item, rule_view, item_view, grammar_view};
 ghost use Rattle.lalrpop_norm_faults.specs.Faults.{RefusesOr};
 ghost use Rattle.lalrpop_norm_model.specs.LevelRules.{level_items, leveled_grammar};
 ghost use Rattle.lalrpop_norm_precedence_steps.specs.LevelFaults.{item_level_faults, grammar_level_faults};
+ghost use Rattle.lalrpop_norm_precedence.specs.LeveledItems.{item_has_levels};
 ghost use Rattle.lalrpop_norm_precedence.specs.MadeNames.{rule_name, without_last, item_made_names, grammar_made_names};
 
 use super::expand_nonterm;
 use lalrpop_norm_faults::NormResult;
 use lalrpop_norm_precedence_steps::items::rule_or_push;
+use lalrpop_norm_precedence_steps::levels::has_levels;
 use lalrpop_norm_tree::grammar::parse_tree::{
     Atom, Grammar, GrammarItem, NoMemory, NonterminalData,
 };
@@ -51,6 +54,8 @@ pub(super) fn make_levels(alloc: Global, grammar: Grammar) -> NormResult<Leveled
     })
 }
 
+/// The items with levels. Where no rule has levels, they are kept in the list that they stand in.
+#[tactic(auto, using(crate::proofs::UnleveledItems::all_faults, crate::proofs::UnleveledItems::all_items, crate::proofs::UnleveledItems::all_names))]
 fn expand_items(
     alloc: Global,
     items: Vec<GrammarItem>,
@@ -60,11 +65,38 @@ fn expand_items(
         (λ made. map item_view made.items ≡ flat_map level_items (map item_view items.items)) }
     ensures names { OnOk result (names.new.items ≡ names.old.items ++ flat_map item_made_names (map item_view items.items)) }
 {
+    if !some_has_levels(&items) {
+        return Ok(items);
+    }
     let mut made = Vec::with_capacity(alloc, items.len())?;
     for item in items {
         expand_item(alloc, item, &mut made, names)?;
     }
     Ok(made)
+}
+
+fn some_has_levels(items: &[GrammarItem]) -> bool
+    ensures { result ≡ list_any item_has_levels (map item_view items.now) }
+{
+    for item in items {
+        if item_has_levels(item) {
+            return true;
+        }
+    }
+    false
+}
+
+/// Whether an item is a rule with levels.
+fn item_has_levels(item: &GrammarItem) -> bool
+    ensures { result ≡ item_has_levels (item_view item.now) }
+{
+    match item {
+        GrammarItem::Nonterminal(rule) => has_levels(&rule.alternatives),
+        GrammarItem::MatchToken(_)
+        | GrammarItem::ExternToken(_)
+        | GrammarItem::InternToken(_)
+        | GrammarItem::Use(_) => false,
+    }
 }
 
 /// Puts what stands for an item behind the items made so far, and the names made for it behind those so far.
@@ -79,6 +111,10 @@ fn expand_item(
         (λ u. map item_view made.new.items ≡ map item_view made.old.items ++ level_items (item_view item)) }
     ensures names { OnOk result (names.new.items ≡ names.old.items ++ item_made_names (item_view item)) }
 {
+    if !item_has_levels(&item) {
+        made.push(item)?;
+        return Ok(());
+    }
     match rule_or_push(item, made)? {
         Some(rule) => {
             let rules = expand_nonterm(alloc, rule)?;

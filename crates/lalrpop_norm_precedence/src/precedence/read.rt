@@ -182,7 +182,7 @@ pub(super) fn hand_on(
 ) -> Result<Vec<AlternativeLevel>, AllocError>
     ensures { IfOk result (λ levels. map alternative_level_view levels.items ≡ handed_levels None None (map alternative_view alternatives.now)) }
 {
-    let mut levels = Vec::new(alloc);
+    let mut levels = Vec::with_capacity(alloc, alternatives.len())?;
     let mut level = None;
     let mut side = None;
     for alternative in alternatives {

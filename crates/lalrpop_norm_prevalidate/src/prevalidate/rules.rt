@@ -13,7 +13,7 @@ use super::alternatives::validate_alternative;
 use super::types::some_holds;
 use lalrpop_norm_faults::{FaultKind, NormResult, refusal};
 use lalrpop_norm_precedence::precedence::read_levels;
-use lalrpop_norm_precedence_steps::levels::without_levels;
+use lalrpop_norm_precedence_steps::levels::{has_levels, without_levels};
 use lalrpop_norm_prevalidate_attributes::cfg::validate_cfg;
 use lalrpop_norm_tree::grammar::parse_tree::{Alternative, Atom, Attribute, NonterminalData, Span};
 use std::alloc::Global;
@@ -119,11 +119,14 @@ fn validate_alternatives(
     Ok(())
 }
 
-/// The levels and sides of all written alternatives.
+/// The levels and sides of all written alternatives, which are read only where some alternative states one.
 #[tactic(auto, using(lalrpop_norm_precedence_steps::proofs::ReadingLemmas::refuses_without))]
 fn validate_levels(alloc: Global, rule: &NonterminalData) -> NormResult<()>
     ensures { Refuses result (level_faults (rule_view rule.now)) }
 {
+    if !has_levels(&rule.alternatives) {
+        return Ok(());
+    }
     without_levels(read_levels(alloc, rule))
 }
 
