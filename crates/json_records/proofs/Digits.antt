@@ -1,5 +1,6 @@
 -- Numbers that are written by digits alone.
-use Rattle.std.proofs.Common.{◌≡◌, ℕ, suc, ◌+◌, ◌-◌, ◌^◌, ◌<◌, ◌≤◌, ◌==◌, ◌&&◌, ◌||◌, List, [], ◌∷◌, length, drop, get_or, slice_range, Bool, true, false, cond, Some, refl, ap, ◌∙◌, arith, append-nil, lt-ltb, ◌*◌, add-one, drop-cons}
+use Rattle.std.proofs.Common.{◌≡◌, ℕ, zero, suc, subst, ◌+◌, ◌-◌, ◌^◌, ◌<◌, ◌≤◌, ◌==◌, ◌&&◌, ◌||◌, List, [], ◌∷◌, length, drop, get_or, slice_range, Bool, true, false, cond, Some, refl, sym, ap, ◌∙◌, arith, append-nil, lt-ltb, ◌*◌, add-one, drop-cons}
+use Rattle.std.proofs.lemmas.Grind.{pow_more}
 use Rattle.std.proofs.lemmas.List.{drop_all, get_or_past, take_all}
 use Rattle.std.specs.Char.{digit_value, is_ascii_digit}
 use Rattle.std.specs.Float.Numeral.{Parts, scan_numeral, digits_end, exponent_start, has_exponent}
@@ -98,3 +99,19 @@ module _ (ds : List ℕ) (n i : ℕ) (h : i < length ds) (is : is_ascii_digit (g
   digits_more digits =
       let more : prefix_len is_ascii_digit (drop i ds) ≡ 1 + prefix_len is_ascii_digit (drop (i + 1) ds) = ap (prefix_len is_ascii_digit) here ∙ ap (λ b. cond b (1 + prefix_len is_ascii_digit (drop (i + 1) ds)) 0) is in
       omega (arith, digits, more)
+
+-- how large a number of so many digits is
+pub small_more : (n i d : ℕ) → n < 10 ^ i → d ≤ 9 → n * 10 + d < 10 ^ (i + 1)
+small_more n i d small digit = omega (arith, small, digit, pow_more 10 i)
+
+pub few_below : (n i : ℕ) → n < 10 ^ i → i < 18 → n < 10 ^ 17
+few_below n i small short =
+    let same : (17 - i) + i ≡ 17 = omega (arith, short) in
+    let most : 10 ^ i ≤ 10 ^ 17 = subst (λ j. 10 ^ i ≤ 10 ^ j) same (up (17 - i)) in
+    omega (arith, small, most)
+  where
+    up : (k : ℕ) → 10 ^ i ≤ 10 ^ (k + i)
+    up zero = let same : 0 + i ≡ i = omega arith in subst (λ j. 10 ^ i ≤ 10 ^ j) (sym same) (omega arith)
+    up (suc k) =
+        let same : (k + i) + 1 ≡ suc k + i = omega arith in
+        subst (λ j. 10 ^ i ≤ 10 ^ j) same (omega (arith, up k, pow_more 10 (k + i)))

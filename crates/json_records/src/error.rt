@@ -37,6 +37,7 @@ impl<T: Drop> From<AllocFailed<T>> for ReadError {
 }
 
 /// The first token of the value that comes next.
+#[inline(always)]
 pub fn next_token<'a>(reader: &mut Reader<'a>) -> Result<Token<'a>, ReadError>
     ensures ok { IfOk result (λ t. reader.old ≡ token_of t ∷ reader.new) }
     ensures err { IsErr result → reader.old ≡ [] }
@@ -62,14 +63,15 @@ pub fn next_member<'a>(reader: &mut Reader<'a>) -> Result<Option<(&'a str, Token
 }
 
 /// The first token of the item that comes next; none where the array ends, whose bracket is taken.
+#[inline(always)]
 pub fn next_item<'a>(reader: &mut Reader<'a>) -> Result<Option<Token<'a>>, ReadError>
     ensures ok { IfOk result (λ i. MatchOption i (after_end_array reader.old ≡ Some reader.new)
         (λ t. (after_end_array reader.old ≡ None) × (reader.old ≡ token_of t ∷ reader.new))) }
     ensures err { IsErr result → (n : ℕ) → NoItems n reader.old }
     ensures shorter { OnOk result (length reader.new < length reader.old) }
 {
-    if reader.take_end_array() {
-        return Ok(None);
+    match next_token(reader)? {
+        Token::EndArray => Ok(None),
+        first => Ok(Some(first)),
     }
-    Ok(Some(next_token(reader)?))
 }

@@ -21,5 +21,5 @@ pub use numbers::number;
 pub use passing::pass;
 pub use records::{And, End, Fields, read_record};
 pub use scalars::{natural, open_array, open_object, short, text, truth};
-pub use tuples::{all_three, both, read_pair, read_triple};
+pub use tuples::{all_three, both, read_pair, read_triple, read_two_naturals};
 pub use variants::{Variant, is_other, read_variant};

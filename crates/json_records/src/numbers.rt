@@ -6,17 +6,25 @@ ghost use Rattle.serde_json.specs.Read.{number_of, number_from, float_of};
 
 use fast_float::Numeral;
 
-/// With one digit more it stays below 2 ^ 64.
-const MANY: u64 = 99_999_999_999_999_999;
+/// So many digits make a number below 2 ^ 64.
+const FEW: usize = 18;
 
 /// Nothing where the number is out of range; else the natural number below 2 ^ 64 that it is, if it is one.
 pub fn number(text: &str) -> Option<Option<u64>>
     ensures { result ≡ option_map as_u64 (number_of text.now) }
 {
     let bytes = text.as_bytes();
-    if let Some(n) = few_digits(bytes) {
-        return Some(Some(n));
+    match few_digits(bytes) {
+        Some(n) => Some(Some(n)),
+        None => by_parts(bytes),
     }
+}
+
+/// The same by the parts of a number. These take much room, which is cleared at every call: `number` mostly does without them.
+#[inline(never)]
+fn by_parts(bytes: &[u8]) -> Option<Option<u64>>
+    ensures { result ≡ option_map as_u64 (number_of bytes.now) }
+{
     if has_minus(bytes) {
         negative(&Numeral::scan(&bytes[1..]))
     } else {
@@ -28,12 +36,12 @@ pub fn number(text: &str) -> Option<Option<u64>>
 fn few_digits(bytes: &[u8]) -> Option<u64>
     ensures { IfSome result (λ n. number_of bytes.now ≡ Some (unsigned n)) }
 {
-    if bytes.is_empty() {
+    if bytes.is_empty() || bytes.len() > FEW {
         return None;
     }
     let mut n = 0u64;
     for byte in bytes {
-        if !byte.is_ascii_digit() || n > MANY {
+        if !byte.is_ascii_digit() {
             return None;
         }
         n = n * 10 + (*byte - b'0') as u64;

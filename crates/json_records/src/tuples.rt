@@ -1,13 +1,14 @@
 //! Two or three values, each of its own type: an array of exactly these.
 ghost use Rattle.std.specs.Prelude.{◌≡◌, ◌⊎◌, ◌≤◌, [], ◌∷◌, length, Some, None, MatchOption, IfOk, OnOk, IsErrOf};
 ghost use Rattle.json.specs.Reads.{token_of};
-ghost use Rattle.json_records.specs.Reading.{data_of, IsRead, list_form};
+ghost use Rattle.serde_json.specs.Data.{number as numeral, unsigned};
+ghost use Rattle.json_records.specs.Reading.{data_of, IsRead, is_natural, list_form};
 ghost use Rattle.json_records.specs.Rows.{is_row};
 
-use crate::error::{ReadError, next_item};
+use crate::error::{ReadError, next_item, next_token};
 use crate::lists::Reads;
 use crate::passing::pass;
-use crate::scalars::open_array;
+use crate::scalars::{natural, open_array};
 use json::{Reader, Token};
 use std::alloc::Global;
 
@@ -78,6 +79,39 @@ pub fn read_pair<'a, A: Drop, B: Drop, K: Reads<A>, L: Reads<B>>(
         }
     }
     if place != 2 {
+        return Ok(None);
+    }
+    Ok(both(one, two))
+}
+
+/// The array of two natural numbers below 2 ^ 64. Its places are taken one after another: `read_pair` would ask at each which it is.
+pub fn read_two_naturals<'a>(
+    first: Token<'a>,
+    reader: &mut Reader<'a>,
+    depth: usize,
+) -> Result<Option<(u64, u64)>, ReadError>
+    ensures ok { IfOk result (λ o. IsRead (λ p. list_form (numeral (unsigned p.0) ∷ numeral (unsigned p.1) ∷ [])) (is_row (is_natural ∷ is_natural ∷ [])) depth (token_of first.entry ∷ reader.old) reader.new o) }
+    ensures err { IsErrOf result ReadError.NotJson → data_of depth (token_of first.entry ∷ reader.old) ≡ None }
+    ensures shorter { OnOk result (length reader.new ≤ length reader.old) }
+{
+    let Some(depth) = open_array(first, reader, depth)? else {
+        return Ok(None);
+    };
+    let Some(first) = next_item(reader)? else {
+        return Ok(None);
+    };
+    let one = natural(first, reader, depth)?;
+    let Some(second) = next_item(reader)? else {
+        return Ok(None);
+    };
+    let two = natural(second, reader, depth)?;
+    let mut longer = false;
+    while !reader.take_end_array() {
+        let further = next_token(reader)?;
+        pass(further, reader, depth)?;
+        longer = true;
+    }
+    if longer {
         return Ok(None);
     }
     Ok(both(one, two))

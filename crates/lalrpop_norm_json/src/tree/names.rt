@@ -6,7 +6,7 @@ ghost use Rattle.json_records.specs.Reading.{data_of, IsRead};
 use super::Tree;
 use json::{Reader, Token};
 use json_records::{
-    And, End, ReadError, Reads, Variant, pass, read_pair, read_record, read_variant, text,
+    And, End, ReadError, Reads, Variant, pass, read_record, read_two_naturals, read_variant, text,
 };
 use lalrpop_norm_tree::grammar::parse_tree::{
     Atom, Lifetime, NonterminalString, Path, Span, TerminalLiteral, TerminalString, TypeParameter,
@@ -89,13 +89,13 @@ impl Reads<Span> for Tree {
     ghost can = { is shape.span };
 
     fn read<'a>(
-        alloc: Global,
+        _alloc: Global,
         first: Token<'a>,
         reader: &mut Reader<'a>,
         depth: usize,
     ) -> Result<Option<Span>, ReadError> {
-        match read_pair::<usize, usize, Tree, Tree>(alloc, first, reader, depth)? {
-            Some((from, to)) => Ok(Some(Span(from, to))),
+        match read_two_naturals(first, reader, depth)? {
+            Some((from, to)) => Ok(Some(Span(from as usize, to as usize))),
             None => Ok(None),
         }
     }
