@@ -128,6 +128,9 @@ fn round_after(count: u16) -> usize
     usize::from(count) + 1
 }
 
+/// How many nodes there is room for at first, for each item: most rules have a name that stands in others, and a symbol of their own.
+const NODES_OF_AN_ITEM: usize = 2;
+
 /// The rounds of an expansion.
 fn expand_rounds(alloc: Global, grammar: Grammar, limit: u16) -> NormResult<Expanded>
     ensures refuses { Refuses result (expansion_faults comparison (grammar_view grammar) limit) }
@@ -142,7 +145,8 @@ fn expand_rounds(alloc: Global, grammar: Grammar, limit: u16) -> NormResult<Expa
 {
     let seed = seeded_by(&grammar.items);
     let names = declared_names(alloc, &grammar.items, seed)?;
-    let mut table = Table::new(alloc, names, seed);
+    let nodes = grammar.items.len().saturating_mul(NODES_OF_AN_ITEM);
+    let mut table = Table::with_room(alloc, names, seed, nodes)?;
     let mut grammar = grammar;
     let items = mem::replace(&mut grammar.items, Vec::new(alloc));
     let (others, macros) = without_macros(alloc, items)?;

@@ -116,12 +116,12 @@ free_name true o f e = absurd (cc e)
 -- a table whose texts alone were counted
 pub counted_alone : (a b : Table) → IsNodeTable a → b.names ≡ a.names → b.nodes ≡ a.nodes → b.places ≡ a.places → b.waiting ≡ a.waiting → IsNodeTable b
 counted_alone a b h names nodes places waiting =
-    let here : IsNodeTable (record a { made = b.made }) =
+    let here : IsNodeTable (record a { made = b.made; no_symbols = b.no_symbols }) =
     record { nodes = h.nodes; texts = h.texts; bare = h.bare; met = h.met; places = h.places; waiting = h.waiting } in
     subst (λ v. IsNodeTable (record b { waiting = v })) (sym waiting)
     (subst (λ v. IsNodeTable (record b { places = v; waiting = a.waiting })) (sym places)
     (subst (λ v. IsNodeTable (record b { nodes = v; places = a.places; waiting = a.waiting })) (sym nodes)
-    (subst (λ v. IsNodeTable (record a { names = v; made = b.made })) (sym names) here)))
+    (subst (λ v. IsNodeTable (record a { names = v; made = b.made; no_symbols = b.no_symbols })) (sym names) here)))
 
 -- one more text was made, and one more symbol put
 pub counted_made : (a f b d : Table) (n : Node) (x : List ℕ) → IsCounted a → own_text_in (built (wholes_in a) n) ≡ Some x → f.nodes ≡ a.nodes → f.made.count ≡ a.made.count + 1 →

@@ -6,7 +6,8 @@ use Rattle.lalrpop_norm_nodes.specs.declared.node.Node.{Node}
 use Rattle.lalrpop_norm_nodes.specs.Wholes.{Whole, built, Fits, StandsFor, IsNew, AreRows, AreNodes, EntersPlain, stood, came_last, nodes_of, texts_of, wholes}
 use Rattle.lalrpop_norm_nodes.specs.Tables.{own_text_in}
 use Rattle.lalrpop_norm_nodes.specs.declared.node.Nodes.{Nodes}
-use Rattle.lalrpop_norm_nodes.proofs.NodeTests.{same_node, node_sound, node_complete, position_found, position_new, place_found, place_new}
+use Rattle.lalrpop_norm_nodes.specs.NodeSameness.{same_node, node_sound}
+use Rattle.lalrpop_norm_nodes.proofs.NodeTests.{node_complete, position_found, position_new, place_found, place_new}
 use Rattle.std.proofs.lemmas.List.{map-append, length-map}
 use Rattle.std.proofs.lemmas.Option.{slice_get-map}
 use Rattle.indexmap.specs.IndexMap.{insert_entry}

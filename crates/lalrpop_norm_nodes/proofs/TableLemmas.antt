@@ -171,7 +171,7 @@ entered_meets a b n h fit plain nodes names waiting places (stood ws texts) = re
 -- ---- a symbol that waits
 
 pub waiting_more : (a : Table) (v : Vec Waiting Global) (w : Waiting) → IsNodeTable a → v.items ≡ a.waiting.items ++ w ∷ [] → IsNumbered (wholes_in a) w →
-    let b : Table = record { names = a.names; nodes = a.nodes; places = a.places; made = a.made; waiting = v } in IsNodeTable b
+    let b : Table = record { names = a.names; nodes = a.nodes; places = a.places; made = a.made; waiting = v; no_symbols = a.no_symbols } in IsNodeTable b
 waiting_more a v w h more numbered = record {
   nodes = h.nodes;
   texts = h.texts;
@@ -186,7 +186,7 @@ waiting_more a v w h more numbered = record {
     by i x (last k l) = subst (λ (y : Waiting). IsNumbered (wholes_in a) y) (sym l) numbered
 
 pub waiting_none : (a : Table) (v : Vec Waiting Global) → IsNodeTable a → v.items ≡ [] →
-    let b : Table = record { names = a.names; nodes = a.nodes; places = a.places; made = a.made; waiting = v } in IsNodeTable b
+    let b : Table = record { names = a.names; nodes = a.nodes; places = a.places; made = a.made; waiting = v; no_symbols = a.no_symbols } in IsNodeTable b
 waiting_none a v h none = record {
   nodes = h.nodes;
   texts = h.texts;

@@ -2,14 +2,16 @@
 ghost use Rattle.std.specs.Prelude.{◌≡◌, ◌++◌, ◌∷◌, [], None, OnOk, IfOk, IfSome, IfNone, map};
 ghost use Rattle.lalrpop_norm_nodes.specs.Wholes.{wholes, texts_of, Fits, built, AreNodes, StandsFor, IsNew, EntersPlain};
 ghost use Rattle.lalrpop_norm_nodes.specs.Tables.{own_text_in};
+ghost use Rattle.lalrpop_norm_nodes.specs.NodeWrites.{case_of};
 
 use indexmap::IndexMap;
 use lalrpop_norm_names::Seeded;
-use lalrpop_norm_tree::grammar::parse_tree::{Atom, NoMemory, TerminalString};
+use lalrpop_norm_tree::grammar::parse_tree::{Atom, NoMemory, TerminalLiteral, TerminalString};
 use std::alloc::Global;
+use std::hash::{Hash, Hasher};
 
 /// What has neither a name nor parts.
-#[derive(Clone, Copy, PartialEq, Eq, Hash)]
+#[derive(Clone, Copy, PartialEq, Eq)]
 pub enum Leaf {
     /// No symbols.
     NoSymbols,
@@ -24,7 +26,7 @@ pub enum Leaf {
 }
 
 /// What a name by itself is.
-#[derive(Clone, Copy, PartialEq, Eq, Hash)]
+#[derive(Clone, Copy, PartialEq, Eq)]
 pub enum NamedLeaf {
     /// A rule. An identifier counts as the name of one.
     Rule,
@@ -35,7 +37,7 @@ pub enum NamedLeaf {
 }
 
 /// What has one part and no name.
-#[derive(Clone, Copy, PartialEq, Eq, Hash)]
+#[derive(Clone, Copy, PartialEq, Eq)]
 pub enum Unary {
     /// `(X Y)`, a group of symbols in a row.
     Group,
@@ -54,7 +56,7 @@ pub enum Unary {
 }
 
 /// What has a name and one part.
-#[derive(Clone, Copy, PartialEq, Eq, Hash)]
+#[derive(Clone, Copy, PartialEq, Eq)]
 pub enum NamedUnary {
     /// `M<X, Y>`, a call of a macro with symbols in a row.
     Call,
@@ -65,7 +67,7 @@ pub enum NamedUnary {
 }
 
 /// What has two parts.
-#[derive(Clone, Copy, PartialEq, Eq, Hash)]
+#[derive(Clone, Copy, PartialEq, Eq)]
 pub enum Binary {
     /// Symbols in a row, and one more.
     Symbols,
@@ -76,7 +78,7 @@ pub enum Binary {
 }
 
 /// A symbol, a pattern, or several of them in a row: its case, its name, and the numbers of its parts.
-#[derive(PartialEq, Eq, Hash, Drop)]
+#[derive(PartialEq, Eq, Drop)]
 pub enum Node {
     /// Without a name or parts.
     Leaf(Leaf),
@@ -92,6 +94,70 @@ pub enum Node {
     Binary(Binary, usize, usize),
 }
 
+/// A node's case as a number: all that it is but for its text and its parts.
+fn case_of(node: &Node) -> u64
+    ensures { result ≡ case_of node.now }
+{
+    match node {
+        Node::Leaf(Leaf::NoSymbols) => 0,
+        Node::Leaf(Leaf::NoPatterns) => 1,
+        Node::Leaf(Leaf::Lookahead) => 2,
+        Node::Leaf(Leaf::Lookbehind) => 3,
+        Node::Leaf(Leaf::Error) => 4,
+        Node::NamedLeaf(NamedLeaf::Rule, _) => 5,
+        Node::NamedLeaf(NamedLeaf::Pattern, _) => 6,
+        Node::NamedLeaf(NamedLeaf::MutPattern, _) => 7,
+        Node::Terminal(TerminalString::Literal(TerminalLiteral::Quoted(_))) => 8,
+        Node::Terminal(TerminalString::Literal(TerminalLiteral::Regex(_))) => 9,
+        Node::Terminal(TerminalString::Bare(_)) => 10,
+        Node::Terminal(TerminalString::Error) => 11,
+        Node::Unary(Unary::Group, _) => 12,
+        Node::Unary(Unary::Star, _) => 13,
+        Node::Unary(Unary::Plus, _) => 14,
+        Node::Unary(Unary::Question, _) => 15,
+        Node::Unary(Unary::Chosen, _) => 16,
+        Node::Unary(Unary::Several, _) => 17,
+        Node::NamedUnary(NamedUnary::Call, _, _) => 18,
+        Node::NamedUnary(NamedUnary::Named, _, _) => 19,
+        Node::NamedUnary(NamedUnary::NamedMut, _, _) => 20,
+        Node::Binary(Binary::Symbols, _, _) => 21,
+        Node::Binary(Binary::Patterns, _, _) => 22,
+        Node::Binary(Binary::Tuple, _, _) => 23,
+        Node::Unary(Unary::Times(count), _) => 24 + u64::from(*count),
+    }
+}
+
+/// The case is read as one number. The numbers of the parts are read before a text: behind one they would be read byte by byte.
+impl Hash for Node {
+    ghost use Rattle.lalrpop_norm_nodes.specs.NodeWrites.{node_writes, same_writes};
+
+    ghost hash_input = { node_writes };
+
+    ghost respects_eq = { same_writes };
+
+    fn hash<H: Hasher>(&self, state: &mut H) {
+        state.write_u64(case_of(self));
+        match self {
+            Node::Leaf(_) | Node::Terminal(TerminalString::Error) => {}
+            Node::NamedLeaf(_, text)
+            | Node::Terminal(TerminalString::Bare(text))
+            | Node::Terminal(TerminalString::Literal(TerminalLiteral::Quoted(text)))
+            | Node::Terminal(TerminalString::Literal(TerminalLiteral::Regex(text))) => {
+                text.hash(state)
+            }
+            Node::Unary(_, part) => state.write_usize(*part),
+            Node::NamedUnary(_, text, part) => {
+                state.write_usize(*part);
+                text.hash(state);
+            }
+            Node::Binary(_, first, second) => {
+                state.write_usize(*first);
+                state.write_usize(*second);
+            }
+        }
+    }
+}
+
 /// The nodes in the order of their numbers, each with its text if it is made into a rule.
 #[derive(Drop)]
 pub struct Nodes {
@@ -99,15 +165,18 @@ pub struct Nodes {
 }
 
 impl Nodes {
-    /// No nodes yet, to be found by these hashes.
-    pub(crate) fn new(alloc: Global, hash_builder: Seeded) -> Nodes
-        ensures nodes { AreNodes result }
-        ensures wholes { wholes result ≡ [] }
-        ensures texts { texts_of result ≡ [] }
+    /// No nodes yet, to be found by these hashes, and room for so many.
+    pub(crate) fn with_room(
+        alloc: Global,
+        hash_builder: Seeded,
+        count: usize,
+    ) -> Result<Nodes, NoMemory>
+        ensures nodes { IfOk result AreNodes }
+        ensures wholes { IfOk result (λ n. wholes n ≡ []) }
+        ensures texts { IfOk result (λ n. texts_of n ≡ []) }
     {
-        Nodes {
-            rows: IndexMap::with_hasher(alloc, hash_builder),
-        }
+        let rows = IndexMap::with_capacity_and_hasher(alloc, count, hash_builder)?;
+        Ok(Nodes { rows })
     }
 
     /// The number of a node, if it has one.

@@ -303,7 +303,7 @@ pub fn read_row(
     ensures value { OnOk result (parts_view several.new ≡ all_replaced (all_filled (shown_for environment.now) (parts_view several.old))) }
     ensures number { IfOk result (λ i. StandsFor (wholes_in table.new) i (symbols (bare_wholes (wholes_in table.old) environment.now (map symbol_view several.old)))) }
 {
-    let mut row = table.enter(Node::Leaf(Leaf::NoSymbols))?;
+    let mut row = table.enter_no_symbols()?;
     for i in 0..several.len() {
         let number = read_symbol(alloc, environment, &mut several[i], table)?;
         row = table.enter(Node::Binary(Binary::Symbols, row, number))?;

@@ -5,11 +5,11 @@ ghost use Rattle.lalrpop_norm_tree.specs.SymbolTexts.{part_text};
 ghost use Rattle.lalrpop_norm_faults.specs.Faults.{Refuses, IsFirst, fault_if};
 ghost use Rattle.lalrpop_norm_faults.specs.declared.kind.FaultKind.TheVariants.{SharedName};
 ghost use Rattle.lalrpop_norm_nodes.specs.Meeting.{first_with_text};
-ghost use Rattle.lalrpop_norm_nodes.specs.Wholes.{Fits, built, part_at, StandsFor, IsNew, Grows, nodes_of};
+ghost use Rattle.lalrpop_norm_nodes.specs.Wholes.{symbols, Fits, built, part_at, StandsFor, IsNew, Grows, nodes_of};
 ghost use Rattle.lalrpop_norm_nodes.specs.Tables.{wholes_in, seen_in, own_at, own_in, own_text_in, is_declared_in, IsNodeTable, IsCounted, TableMeets, refused_in, waiting_in, numbered_in, AreNumbered};
 ghost use Rattle.lalrpop_norm_nodes.specs.Waits.{LeavesWaiting};
 
-use crate::node::{Node, Nodes};
+use crate::node::{Leaf, Node, Nodes};
 use crate::texts::{Counter, make_text};
 use lalrpop_norm_faults::{FaultKind, NormFailure, NormResult, refusal};
 use lalrpop_norm_names::Seeded;
@@ -41,6 +41,8 @@ pub struct Table {
     made: Counter,
     /// The symbols that wait for their rules, in the order of meeting.
     waiting: Vec<Waiting>,
+    /// The number that `Leaf::NoSymbols` was given when it was entered last. Another node may have it while none was.
+    no_symbols: usize,
 }
 
 fn shared_name(alloc: Global, name: &Atom, span: Span) -> NormFailure
@@ -56,22 +58,28 @@ fn shared_name(alloc: Global, name: &Atom, span: Span) -> NormFailure
 }
 
 impl Table {
-    /// A table for a grammar that declares these names: no symbol was met yet.
-    pub fn new(alloc: Global, names: HashSet<Atom, Seeded>, hash_builder: Seeded) -> Table
-        ensures table { IsNodeTable result }
-        ensures counted { IsCounted result }
-        ensures seen { seen_in result ≡ [] }
-        ensures waiting { waiting_in result ≡ [] }
-        ensures numbers { numbered_in result ≡ [] }
-        ensures names { result.names ≡ names }
+    /// A table for a grammar that declares these names, with room for so many nodes: no symbol was met yet.
+    pub fn with_room(
+        alloc: Global,
+        names: HashSet<Atom, Seeded>,
+        hash_builder: Seeded,
+        count: usize,
+    ) -> Result<Table, NoMemory>
+        ensures table { IfOk result IsNodeTable }
+        ensures counted { IfOk result IsCounted }
+        ensures seen { IfOk result (λ t. seen_in t ≡ []) }
+        ensures waiting { IfOk result (λ t. waiting_in t ≡ []) }
+        ensures numbers { IfOk result (λ t. numbered_in t ≡ []) }
+        ensures names { IfOk result (λ t. t.names ≡ names) }
     {
-        Table {
+        Ok(Table {
             names,
-            nodes: Nodes::new(alloc, hash_builder),
+            nodes: Nodes::with_room(alloc, hash_builder, count)?,
             places: HashMap::with_hasher(alloc, hash_builder),
             made: Counter::new(),
             waiting: Vec::new(alloc),
-        }
+            no_symbols: 0,
+        })
     }
 
     /// How many texts were made: as many as there are symbols that are made into rules.
@@ -122,6 +130,22 @@ impl Table {
         ensures number { IfOk result (λ i. StandsFor (wholes_in self.new) i (built (wholes_in self.old) node)) }
     {
         self.nodes.enter(node)
+    }
+
+    /// The number of `Leaf::NoSymbols`, with which each row begins. Once it is entered, it is looked up no more.
+    pub fn enter_no_symbols(&mut self) -> Result<usize, NoMemory>
+        requires { IsNodeTable self.old }
+        ensures meets { OnOk result (TableMeets self.old self.new []) }
+        ensures counted { OnOk result (self.new.made ≡ self.old.made) }
+        ensures waiting { OnOk result (self.new.waiting ≡ self.old.waiting) }
+        ensures number { IfOk result (λ i. StandsFor (wholes_in self.new) i (symbols [])) }
+    {
+        if let Some(Node::Leaf(Leaf::NoSymbols)) = self.node(self.no_symbols) {
+            return Ok(self.no_symbols);
+        }
+        let number = self.nodes.enter(Node::Leaf(Leaf::NoSymbols))?;
+        self.no_symbols = number;
+        Ok(number)
     }
 
     /// Puts a new node last that is made into a rule of that text.

@@ -28,8 +28,8 @@ rounds-init c =
     let g : GrammarData = grammar_view c.args.grammar in
     let others : map item_view c.in_ok-others.others.items ≡ flat_map without_macro g.items =
     c.in_ok-others.ensures.others ∙ ap (λ (v : Vec GrammarItem Global). flat_map without_macro (map item_view v.items)) c.replace-items.ensures.value in
-    let names : is_declared_in c.new-table.result ≡ is_declared_name (rule_names g) =
-    ap has_key c.new-table.ensures.names ∙ c.in_ok-names.ensures
+    let names : is_declared_in c.in_ok-table.table ≡ is_declared_name (rule_names g) =
+    ap has_key c.in_ok-table.ensures.names ∙ c.in_ok-names.ensures
     ∙ ap (λ is. is_declared_name (flat_map item_names (map item_view is))) c.deref-2.ensures.value
     ∙ ap is_declared_name (rule_names_are g) in
     let same : 0 ≡ c.args.limit - c.args.limit = omega arith in
@@ -43,8 +43,8 @@ rounds-init c =
       bound = omega arith;
       rounds =
           subst (λ (k : ℕ). AtRound g c.args.limit c.args.limit k (seen_in c.read_items.new.table) (waiting_in c.read_items.new.table) (map item_view c.in_ok-done.done.items)) same
-          (first_round g c.new-table.result c.read_items.new.table (map item_view c.in_ok-others.others.items) others names c.new-table.ensures.seen c.args.limit
-          (map item_view c.in_ok-done.done.items) c.new-table.ensures.waiting c.in_ok-done.ensures.meets c.in_ok-done.ensures.refuses c.in_ok-done.ensures.waits
+          (first_round g c.in_ok-table.table c.read_items.new.table (map item_view c.in_ok-others.others.items) others names c.in_ok-table.ensures.seen c.args.limit
+          (map item_view c.in_ok-done.done.items) c.in_ok-table.ensures.waiting c.in_ok-done.ensures.meets c.in_ok-done.ensures.refuses c.in_ok-done.ensures.waits
           c.in_ok-done.ensures.value);
       made =
           subst (λ (k : ℕ). MadeSo g (wholes_in c.read_items.new.table) k (map made_view c.new-made.result.items)) same
@@ -56,12 +56,12 @@ returns-in_err-done-clause-refuses c =
     let g : GrammarData = grammar_view c.args.grammar in
     let others : map item_view c.in_ok-others.others.items ≡ flat_map without_macro g.items =
     c.in_ok-others.ensures.others ∙ ap (λ (v : Vec GrammarItem Global). flat_map without_macro (map item_view v.items)) c.replace-items.ensures.value in
-    let names : is_declared_in c.new-table.result ≡ is_declared_name (rule_names g) =
-    ap has_key c.new-table.ensures.names ∙ c.in_ok-names.ensures
+    let names : is_declared_in c.in_ok-table.table ≡ is_declared_name (rule_names g) =
+    ap has_key c.in_ok-table.ensures.names ∙ c.in_ok-names.ensures
     ∙ ap (λ is. is_declared_name (flat_map item_names (map item_view is))) c.deref-2.ensures.value
     ∙ ap is_declared_name (rule_names_are g) in
     err_refuses _ _ _ c.from_residual-in_err-done.ensures.1
-    (first_refused g c.new-table.result c.new-table.result (map item_view c.in_ok-others.others.items) others names c.new-table.ensures.seen c.args.limit _ c.in_err-done.ensures.refuses)
+    (first_refused g c.in_ok-table.table c.in_ok-table.table (map item_view c.in_ok-others.others.items) others names c.in_ok-table.ensures.seen c.args.limit _ c.in_err-done.ensures.refuses)
 
 none_waits : (m n : ℕ) (b : Bool) → m ≡ n → b ≡ (m == 0) → b ≡ true → n ≡ 0
 none_waits m n b long e t = grind arith

@@ -92,12 +92,12 @@ read_repeated-read_symbol-requires t c = (to_repeated t _ _ c.deref_mut.ensures.
 
 -- ---- symbols in a row
 
-pub read_row-enter-requires : goal.read_row-enter-requires
-read_row-enter-requires t c = record { table = c.requires.table; fits = tt; plain = refl }
+pub read_row-enter_no_symbols-requires : goal.read_row-enter_no_symbols-requires
+read_row-enter_no_symbols-requires t c = c.requires.table
 
 pub read_row-loop-i-init : goal.read_row-loop-i-init
 read_row-loop-i-init t c =
-    row_begun c.args.table.now c.enter.new.self c.args.environment.now c.args.several.now c.in_ok-row.row c.requires.given c.requires.table c.requires.counted c.in_ok-row.ensures
+    row_begun c.args.table.now c.enter_no_symbols.new.self c.args.environment.now c.args.several.now c.in_ok-row.row c.requires.given c.requires.table c.requires.counted c.in_ok-row.ensures
 
 pub read_row-loop-i-smaller : goal.read_row-loop-i-smaller
 read_row-loop-i-smaller t c = falls _ _ c.loop-i-test.true
@@ -107,8 +107,8 @@ read_row-read_symbol-requires t c =
     let v = c.loop-i.invariant in
     (to_one t c.loop-i.several c.args.several.now c.loop-i.i _ c.loop-i-test.true v.rest c.decreases, (v.meets.table, (v.counted, v.given)))
 
-pub read_row-enter-requires-in-loop-i : goal.read_row-enter-requires-in-loop-i
-read_row-enter-requires-in-loop-i t c =
+pub read_row-enter-requires : goal.read_row-enter-requires
+read_row-enter-requires t c =
     let n = c.in_ok-number.ensures in
     let ws = wholes_in c.read_symbol.new.table in
     record {
@@ -124,7 +124,7 @@ pub read_row-loop-i-preserved : goal.read_row-loop-i-preserved
 read_row-loop-i-preserved t c =
     row_further c.args.table.now c.loop-i.table c.args.environment.now c.args.several.now c.loop-i.several c.loop-i.i c.loop-i.row c.index-several-i.result
     c.requires.given c.loop-i-test.true (omega arith) c.loop-i.invariant
-    c.read_symbol.new.table c.enter-in-loop-i.new.self c.in_ok-number.number c.in_ok-row-2.row c.read_symbol.new.symbol c.in_ok-number.ensures c.in_ok-row-2.ensures
+    c.read_symbol.new.table c.enter.new.self c.in_ok-number.number c.in_ok-row-2.row c.read_symbol.new.symbol c.in_ok-number.ensures c.in_ok-row-2.ensures
 
 pub read_row-returns-in_err-number : goal.read_row-returns-in_err-number
 read_row-returns-in_err-number t c =
@@ -138,12 +138,12 @@ read_row-returns t c =
 
 pub read_row-returns-in_err-row : goal.read_row-returns-in_err-row
 read_row-returns-in_err-row t c =
-    refused_row c.from_residual.result c.args.table.now c.enter.new.self c.args.environment.now c.args.several.now _ Memory c.from_residual.ensures.1 tt
+    refused_row c.from_residual.result c.args.table.now c.enter_no_symbols.new.self c.args.environment.now c.args.several.now _ Memory c.from_residual.ensures.1 tt
 
 pub read_row-returns-in_err-row-2 : goal.read_row-returns-in_err-row-2
 read_row-returns-in_err-row-2 t c =
     let f = c.from_residual-in_err-row-2 in
-    refused_row f.result c.args.table.now c.enter-in-loop-i.new.self c.args.environment.now c.args.several.now _ Memory f.ensures.1 tt
+    refused_row f.result c.args.table.now c.enter.new.self c.args.environment.now c.args.several.now _ Memory f.ensures.1 tt
 
 -- ---- groups and calls
 
