@@ -104,7 +104,9 @@ fn read_round(
     let first = done.len();
     make_room(done, waiting.len())?;
     let fillings = make_rules(alloc, macros, table, waiting, made, done)?;
-    read_pending(alloc, &mut done[first..], fillings, table)?;
+    let mut room = 0usize;
+    read_pending(alloc, &mut done[first..], fillings, table, &mut room)?;
+    made.reserve(room)?;
     Ok(())
 }
 
@@ -150,8 +152,9 @@ fn expand_rounds(alloc: Global, grammar: Grammar, limit: u16) -> NormResult<Expa
     let mut grammar = grammar;
     let items = mem::replace(&mut grammar.items, Vec::new(alloc));
     let (others, macros) = without_macros(alloc, items)?;
-    let mut made = Vec::new(alloc);
-    let mut done = read_items(alloc, others, &mut table)?;
+    let mut room = 0usize;
+    let mut done = read_items(alloc, others, &mut table, &mut room)?;
+    let mut made = Vec::with_capacity(alloc, room)?;
     let mut left = limit;
     // The label is the loop's name in the proof, where its invariant and its measure stand.
     'rounds: loop {

@@ -12,7 +12,7 @@ use lalrpop_norm_faults::NormResult;
 use lalrpop_norm_names::Names;
 use lalrpop_norm_nodes::given::{Environment, Given};
 use lalrpop_norm_nodes::table::Table;
-use lalrpop_norm_tree::grammar::parse_tree::{GrammarItem, NonterminalData};
+use lalrpop_norm_tree::grammar::parse_tree::{GrammarItem, NonterminalData, Symbol, SymbolKind};
 use std::alloc::Global;
 
 /// Reads a rule of the grammar: no name in it stands for anything given.
@@ -54,7 +54,12 @@ fn replace_item(alloc: Global, item: &mut GrammarItem, table: &mut Table) -> Nor
 }
 
 /// Meets the symbols of the items in their order, and replaces each that is made into a rule.
-fn replace_items(alloc: Global, items: &mut [GrammarItem], table: &mut Table) -> NormResult<()>
+fn replace_items(
+    alloc: Global,
+    items: &mut [GrammarItem],
+    table: &mut Table,
+    room: &mut usize,
+) -> NormResult<()>
     requires table { IsNodeTable table.old }
     requires counted { IsCounted table.old }
     ensures refuses { Refuses result (refused_in table.old (flat_map met_in_item (map item_view items.old))) }
@@ -64,16 +69,42 @@ fn replace_items(alloc: Global, items: &mut [GrammarItem], table: &mut Table) ->
     ensures value { OnOk result (map item_view items.new ≡ map replaced_item (map item_view items.old)) }
 {
     for i in 0..items.len() {
+        // To look at the next item before this one is read brings it from memory in time.
+        *room = room.saturating_add(room_for(items.get(i + 1)));
         replace_item(alloc, &mut items[i], table)?;
     }
     Ok(())
 }
 
-/// Reads the items of a grammar: meets and replaces their symbols.
+/// How many symbols at the top of its alternatives may be made into rules.
+pub(crate) fn room_for(item: Option<&GrammarItem>) -> usize {
+    let mut room = 0usize;
+    if let Some(GrammarItem::Nonterminal(rule)) = item {
+        for alternative in &rule.alternatives {
+            room = room.saturating_add(room_of(&alternative.expr.symbols));
+        }
+    }
+    room
+}
+
+fn room_of(symbols: &[Symbol]) -> usize {
+    let mut room = 0usize;
+    for symbol in symbols {
+        let most = match symbol.kind {
+            SymbolKind::Terminal(_) | SymbolKind::Nonterminal(_) => 0,
+            _ => 1,
+        };
+        room = room.saturating_add(most);
+    }
+    room
+}
+
+/// Reads the items of a grammar: meets and replaces their symbols. `room` becomes greater by about how many may be made into rules.
 pub fn read_items(
     alloc: Global,
     items: Vec<GrammarItem>,
     table: &mut Table,
+    room: &mut usize,
 ) -> NormResult<Vec<GrammarItem>>
     requires table { IsNodeTable table.old }
     requires counted { IsCounted table.old }
@@ -84,6 +115,6 @@ pub fn read_items(
     ensures value { IfOk result (λ read. map item_view read.items ≡ map replaced_item (map item_view items.items)) }
 {
     let mut read = items;
-    replace_items(alloc, &mut read, table)?;
+    replace_items(alloc, &mut read, table, room)?;
     Ok(read)
 }

@@ -6,6 +6,7 @@ ghost use Rattle.lalrpop_norm_nodes.specs.Tables.{wholes_in, IsNodeTable, IsCoun
 ghost use Rattle.lalrpop_norm_nodes.specs.Waits.{LeavesWaiting};
 ghost use Rattle.lalrpop_norm_macro_expand_rules.specs.Pending.{met_in_pending, shown_in_pending, pending_read, filling_view, filled_rule, filled_item, filled_items, IsFilling, IsReadable, AreReadable};
 
+use crate::items::room_for;
 use crate::reading::read_alternatives;
 use lalrpop_norm_faults::NormResult;
 use lalrpop_norm_names::Names;
@@ -85,12 +86,13 @@ fn read_item(
 }
 
 /// Reads the rules that a round made: meets their symbols, and replaces each that is made into a rule. The fillings are those of the
-/// rules, in their order.
+/// rules, in their order. `room` becomes greater by about how many may be made into rules.
 pub fn read_pending(
     alloc: Global,
     rules: &mut [GrammarItem],
     fillings: Vec<Option<Filling>>,
     table: &mut Table,
+    room: &mut usize,
 ) -> NormResult<()>
     requires table { IsNodeTable table.old }
     requires counted { IsCounted table.old }
@@ -103,6 +105,8 @@ pub fn read_pending(
     ensures value { OnOk result (map item_view rules.new ≡ map pending_read (filled_items (map (filling_view (wholes_in table.old)) fillings.items) (map item_view rules.old))) }
 {
     for (place, filling) in fillings.into_iter().enumerate() {
+        // As where the items of the grammar are read.
+        *room = room.saturating_add(room_for(rules.get(place.saturating_add(1))));
         read_item(alloc, &mut rules[place], filling, table)?;
     }
     Ok(())

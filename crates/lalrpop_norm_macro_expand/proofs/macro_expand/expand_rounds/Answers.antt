@@ -47,8 +47,8 @@ rounds-init c =
           (map item_view c.in_ok-done.done.items) c.in_ok-table.ensures.waiting c.in_ok-done.ensures.meets c.in_ok-done.ensures.refuses c.in_ok-done.ensures.waits
           c.in_ok-done.ensures.value);
       made =
-          subst (λ (k : ℕ). MadeSo g (wholes_in c.read_items.new.table) k (map made_view c.new-made.result.items)) same
-          (rw c.new-made.ensures.items (none_made g (wholes_in c.read_items.new.table)));
+          subst (λ (k : ℕ). MadeSo g (wholes_in c.read_items.new.table) k (map made_view c.in_ok-made.made.items)) same
+          (rw c.in_ok-made.ensures.items (none_made g (wholes_in c.read_items.new.table)));
     }
 
 pub returns-in_err-done-clause-refuses : goal.returns-in_err-done-clause-refuses
