@@ -1,5 +1,5 @@
 -- The names and patterns of sources: counted along the symbols, and by their places.
-use Rattle.std.proofs.Common.{◌≡◌, ◌∙◌, ℕ, ◌+◌, Bool, true, false, cond, ◌||◌, List, [], ◌∷◌, ◌++◌, length, map, take, refl, sym, ap, arith, codes, append-nil}
+use Rattle.std.proofs.Common.{◌≡◌, ◌∙◌, ℕ, ◌+◌, Bool, true, false, cond, ◌||◌, ◌&&◌, List, [], ◌∷◌, ◌++◌, length, map, take, refl, sym, ap, arith, codes, append-nil}
 use Rattle.std.specs.Prelude.{not, bytes_eq, decimal, filter, unwrap_or}
 use Rattle.std.specs.List.{list_any, enumerate_from}
 use Rattle.std.proofs.lemmas.List.{append_assoc, length-append, take_at}
@@ -10,6 +10,8 @@ use Rattle.lalrpop_norm_model.specs.MadeRules.{names_value, some_name_value}
 use Rattle.lalrpop_norm_session.specs.Values.{is_chosen, has_chosen}
 use Rattle.lalrpop_norm_lower.specs.Sources.{source_name, plain_name}
 use Rattle.lalrpop_norm_lower.specs.Naming.{is_source, source_pattern, names_from, source_names, patterns_from, argument_patterns}
+use Rattle.lalrpop_norm_lower.specs.Sourced.{AreSourcesOf}
+use Rattle.lalrpop_norm_lower.specs.declared.arguments.Sources.{Sources}
 use Rattle.lalrpop_norm_lower.specs.Arguments.{part_list, written_pattern, is_source_of, sources_before, pattern_at_place, patterns, name_given, names}
 
 chosen_listed : (ps : Parts) → list_any is_chosen (part_list ps) ≡ has_chosen ps
@@ -100,42 +102,76 @@ patterns_counted prefix ps = patterns_by_place prefix (some_name_value ps) (has_
 pub names_counted : (prefix : List ℕ) (ps : Parts) → source_names prefix ps ≡ names prefix (part_list ps)
 names_counted prefix ps = names_by_place prefix (some_name_value ps) (has_chosen ps) (part_list ps) (source_as_counted ps) [] ps refl
 
+-- ---- as it is told once which symbols are sources
+
+-- where some are named, chosen ones do not count
+patterns_of_named : (prefix : List ℕ) (b c : Bool) (j : ℕ) (ps : Parts) → patterns_from prefix true b j ps ≡ patterns_from prefix true c j ps
+patterns_of_named prefix b c j no_parts = refl
+patterns_of_named prefix b c j (part_and p ps) =
+    ap (λ qs. cond (names_value p) (source_pattern prefix j p ∷ qs) (plain_name (codes "_") ∷ patterns_from prefix true b j ps)) (patterns_of_named prefix b c (j + 1) ps)
+    ∙ ap (λ qs. cond (names_value p) (source_pattern prefix j p ∷ patterns_from prefix true c (j + 1) ps) (plain_name (codes "_") ∷ qs)) (patterns_of_named prefix b c j ps)
+
+names_of_named : (prefix : List ℕ) (b c : Bool) (j : ℕ) (ps : Parts) → names_from prefix true b j ps ≡ names_from prefix true c j ps
+names_of_named prefix b c j no_parts = refl
+names_of_named prefix b c j (part_and p ps) =
+    ap (λ ns. cond (names_value p) (name_given (source_pattern prefix j p) ∷ ns) (names_from prefix true b j ps)) (names_of_named prefix b c (j + 1) ps)
+    ∙ ap (λ ns. cond (names_value p) (name_given (source_pattern prefix j p) ∷ names_from prefix true c (j + 1) ps) ns) (names_of_named prefix b c j ps)
+
+module _ (prefix : List ℕ) (ps : Parts) (sources : Sources) (told : AreSourcesOf ps sources) where
+  as_told : {X : Type 0} (f : Bool → Bool → X) → f sources.some_named sources.some_chosen ≡ f (some_name_value ps) (not (some_name_value ps) && has_chosen ps)
+  as_told f = ap (λ b. f b sources.some_chosen) told.named ∙ ap (f (some_name_value ps)) told.chosen
+
+  pub patterns_told : patterns_from prefix sources.some_named sources.some_chosen 0 ps ≡ argument_patterns prefix ps
+  patterns_told = as_told (λ b c. patterns_from prefix b c 0 ps) ∙ by (some_name_value ps)
+    where
+      by : (named : Bool) → patterns_from prefix named (not named && has_chosen ps) 0 ps ≡ patterns_from prefix named (has_chosen ps) 0 ps
+      by true = patterns_of_named prefix false (has_chosen ps) 0 ps
+      by false = refl
+
+  pub names_told : names_from prefix sources.some_named sources.some_chosen 0 ps ≡ source_names prefix ps
+  names_told = as_told (λ b c. names_from prefix b c 0 ps) ∙ by (some_name_value ps)
+    where
+      by : (named : Bool) → names_from prefix named (not named && has_chosen ps) 0 ps ≡ names_from prefix named (has_chosen ps) 0 ps
+      by true = names_of_named prefix false (has_chosen ps) 0 ps
+      by false = refl
+
 -- ---- one more argument
 
--- b says whether it is a source; n names stand before it, and the names are ms with it
-module _ (prefix : List ℕ) (some_named some_chosen b : Bool) (p : Part) (ps : Parts) (n : ℕ) (ns ms : List (List ℕ))
-    (is : b ≡ is_source some_named some_chosen p) (len : n ≡ length ns) (named : ms ≡ ns ++ cond b (name_given (source_pattern prefix n p) ∷ []) []) where
-  more_patterns : (test : Bool) → b ≡ test → (m : ℕ) → n ≡ m → (f : ℕ → List ArgumentPattern) (old new all : List ArgumentPattern) → new ≡ old ++ cond b (source_pattern prefix n p) (plain_name (codes "_")) ∷ []
-      → old ++ cond test (source_pattern prefix m p ∷ f (m + 1)) (plain_name (codes "_") ∷ f m) ≡ all → new ++ f (cond test (m + 1) m) ≡ all
-  more_patterns true is m len f old new all made before =
-      ap (λ qs. qs ++ f (m + 1)) (made ∙ ap (λ c. old ++ cond c (source_pattern prefix n p) (plain_name (codes "_")) ∷ []) is ∙ ap (λ k. old ++ source_pattern prefix k p ∷ []) len)
-      ∙ append_assoc old (source_pattern prefix m p ∷ []) (f (m + 1)) ∙ before
-  more_patterns false is m len f old new all made before =
-      ap (λ qs. qs ++ f m) (made ∙ ap (λ c. old ++ cond c (source_pattern prefix n p) (plain_name (codes "_")) ∷ []) is)
-      ∙ append_assoc old (plain_name (codes "_") ∷ []) (f m) ∙ before
+-- b says whether it is a source; n sources stand before it
+module _ (prefix : List ℕ) (some_named some_chosen b : Bool) (p : Part) (ps : Parts) (n : ℕ) (is : b ≡ is_source some_named some_chosen p) where
+  more_patterns : (test : Bool) → b ≡ test → (f : ℕ → List ArgumentPattern) (next : ℕ) (old new all : List ArgumentPattern) → next ≡ cond b (n + 1) n → new ≡ old ++ cond b (source_pattern prefix n p) (plain_name (codes "_")) ∷ []
+      → old ++ cond test (source_pattern prefix n p ∷ f (n + 1)) (plain_name (codes "_") ∷ f n) ≡ all → new ++ f next ≡ all
+  more_patterns true is f next old new all counted made before =
+      ap (λ k. new ++ f k) (counted ∙ ap (λ c. cond c (n + 1) n) is)
+      ∙ ap (λ qs. qs ++ f (n + 1)) (made ∙ ap (λ c. old ++ cond c (source_pattern prefix n p) (plain_name (codes "_")) ∷ []) is)
+      ∙ append_assoc old (source_pattern prefix n p ∷ []) (f (n + 1)) ∙ before
+  more_patterns false is f next old new all counted made before =
+      ap (λ k. new ++ f k) (counted ∙ ap (λ c. cond c (n + 1) n) is)
+      ∙ ap (λ qs. qs ++ f n) (made ∙ ap (λ c. old ++ cond c (source_pattern prefix n p) (plain_name (codes "_")) ∷ []) is)
+      ∙ append_assoc old (plain_name (codes "_") ∷ []) (f n) ∙ before
 
-  more_names : (test : Bool) → b ≡ test → (m : ℕ) → n ≡ m → (f : ℕ → List (List ℕ)) (all : List (List ℕ))
-      → ns ++ cond test (name_given (source_pattern prefix m p) ∷ f (m + 1)) (f m) ≡ all → ms ++ f (cond test (m + 1) m) ≡ all
-  more_names true is m len f all before =
-      ap (λ qs. qs ++ f (m + 1)) (named ∙ ap (λ c. ns ++ cond c (name_given (source_pattern prefix n p) ∷ []) []) is ∙ ap (λ k. ns ++ name_given (source_pattern prefix k p) ∷ []) len)
-      ∙ append_assoc ns (name_given (source_pattern prefix m p) ∷ []) (f (m + 1)) ∙ before
-  more_names false is m len f all before =
-      ap (λ qs. qs ++ f m) (named ∙ ap (λ c. ns ++ cond c (name_given (source_pattern prefix n p) ∷ []) []) is ∙ append-nil ns) ∙ before
+  pub one_more_pattern : (next : ℕ) (old new all : List ArgumentPattern) → next ≡ cond b (n + 1) n → new ≡ old ++ cond b (source_pattern prefix n p) (plain_name (codes "_")) ∷ []
+      → old ++ patterns_from prefix some_named some_chosen n (part_and p ps) ≡ all → new ++ patterns_from prefix some_named some_chosen next ps ≡ all
+  one_more_pattern = more_patterns (is_source some_named some_chosen p) is (λ k. patterns_from prefix some_named some_chosen k ps)
 
-  counted : (test : Bool) → b ≡ test → length ms ≡ cond test (length ns + 1) (length ns)
-  counted true is = ap length (named ∙ ap (λ c. ns ++ cond c (name_given (source_pattern prefix n p) ∷ []) []) is) ∙ length-append ns (name_given (source_pattern prefix n p) ∷ [])
-  counted false is = ap length (named ∙ ap (λ c. ns ++ cond c (name_given (source_pattern prefix n p) ∷ []) []) is ∙ append-nil ns)
+  -- the names before it are ns, and ms with it
+  module _ (ns ms : List (List ℕ)) (len : n ≡ length ns) (named : ms ≡ ns ++ cond b (name_given (source_pattern prefix n p) ∷ []) []) where
+    more_names : (test : Bool) → b ≡ test → (m : ℕ) → n ≡ m → (f : ℕ → List (List ℕ)) (all : List (List ℕ))
+        → ns ++ cond test (name_given (source_pattern prefix m p) ∷ f (m + 1)) (f m) ≡ all → ms ++ f (cond test (m + 1) m) ≡ all
+    more_names true is m len f all before =
+        ap (λ qs. qs ++ f (m + 1)) (named ∙ ap (λ c. ns ++ cond c (name_given (source_pattern prefix n p) ∷ []) []) is ∙ ap (λ k. ns ++ name_given (source_pattern prefix k p) ∷ []) len)
+        ∙ append_assoc ns (name_given (source_pattern prefix m p) ∷ []) (f (m + 1)) ∙ before
+    more_names false is m len f all before =
+        ap (λ qs. qs ++ f m) (named ∙ ap (λ c. ns ++ cond c (name_given (source_pattern prefix n p) ∷ []) []) is ∙ append-nil ns) ∙ before
 
-  pub one_more_pattern : (old new all : List ArgumentPattern) → new ≡ old ++ cond b (source_pattern prefix n p) (plain_name (codes "_")) ∷ []
-      → old ++ patterns_from prefix some_named some_chosen (length ns) (part_and p ps) ≡ all → new ++ patterns_from prefix some_named some_chosen (length ms) ps ≡ all
-  one_more_pattern old new all made before =
-      ap (λ k. new ++ patterns_from prefix some_named some_chosen k ps) (counted (is_source some_named some_chosen p) is)
-      ∙ more_patterns (is_source some_named some_chosen p) is (length ns) len (λ k. patterns_from prefix some_named some_chosen k ps) old new all made before
+    counted : (test : Bool) → b ≡ test → length ms ≡ cond test (length ns + 1) (length ns)
+    counted true is = ap length (named ∙ ap (λ c. ns ++ cond c (name_given (source_pattern prefix n p) ∷ []) []) is) ∙ length-append ns (name_given (source_pattern prefix n p) ∷ [])
+    counted false is = ap length (named ∙ ap (λ c. ns ++ cond c (name_given (source_pattern prefix n p) ∷ []) []) is ∙ append-nil ns)
 
-  pub one_more_name : (all : List (List ℕ)) → ns ++ names_from prefix some_named some_chosen (length ns) (part_and p ps) ≡ all → ms ++ names_from prefix some_named some_chosen (length ms) ps ≡ all
-  one_more_name all before =
-      ap (λ k. ms ++ names_from prefix some_named some_chosen k ps) (counted (is_source some_named some_chosen p) is)
-      ∙ more_names (is_source some_named some_chosen p) is (length ns) len (λ k. names_from prefix some_named some_chosen k ps) all before
+    pub one_more_name : (all : List (List ℕ)) → ns ++ names_from prefix some_named some_chosen (length ns) (part_and p ps) ≡ all → ms ++ names_from prefix some_named some_chosen (length ms) ps ≡ all
+    one_more_name all before =
+        ap (λ k. ms ++ names_from prefix some_named some_chosen k ps) (counted (is_source some_named some_chosen p) is)
+        ∙ more_names (is_source some_named some_chosen p) is (length ns) len (λ k. names_from prefix some_named some_chosen k ps) all before
 
 -- ---- the first sources behind the usual prefix
 

@@ -1,6 +1,6 @@
 -- Sources as lowering reads them, and as the faults of lowering name them.
 use Rattle.std.proofs.Common.{◌≡◌, ◌∙◌, ℕ, suc, ◌+◌, Bool, true, false, cond, not, ◌||◌, ◌&&◌, List, [], ◌∷◌, length, map, Option, Some, None, refl, sym, ap, subst, ◌≤◌, codes, add-one, arith}
-use Rattle.std.specs.Prelude.{replicate, nat_eq, nat_le}
+use Rattle.std.specs.Prelude.{is_some, replicate, nat_eq, nat_le}
 use Rattle.std.proofs.lemmas.Bool.Decides.{Decides-eqb}
 use Rattle.std.proofs.lemmas.List.{length-replicate}
 use Rattle.lalrpop_norm_tree.specs.Symbols.{chosen, named, tupled, at, Parts, no_parts, part_and}
@@ -16,8 +16,11 @@ use Rattle.lalrpop_norm_model.specs.MadeRules.{some_name_value, if_any}
 use Rattle.lalrpop_norm_model.specs.Sources.{Source, chosen_sources, all_sources, sources}
 use Rattle.lalrpop_norm_lower.specs.Arguments.{in_slots}
 use Rattle.lalrpop_norm_lower_steps.specs.Code.{sources_code, absent_code, written_code}
+use Rattle.lalrpop_norm_lower_steps.proofs.SlotLemmas.{unfilled}
+use Rattle.lalrpop_norm_session.specs.Braces.{around_slot}
 use Rattle.lalrpop_norm_session.specs.Values.{has_chosen}
 use Rattle.lalrpop_norm_session.proofs.SymbolLemmas.{no_named}
+use Rattle.lalrpop_norm_lower.specs.Made.{made_code}
 use Rattle.lalrpop_norm_lower.specs.Naming.{names_from, source_names}
 use Rattle.lalrpop_norm_faults.proofs.FaultLemmas.{not_fault}
 use Rattle.lalrpop_norm_theory.proofs.BoolLemmas.{or_true}
@@ -157,6 +160,41 @@ enough_at prefix type ns a b ms code h bs mss codes_are =
     ap (λ t. length (in_slots t ms (slots code))) bs ∙ ap (λ t. length (in_slots (some_name_value a.parts) t (slots code))) mss
     ∙ ap (λ t. length (in_slots (some_name_value a.parts) (source_names prefix a.parts) (slots t))) codes_are
     ∙ enough prefix type ns a h ∙ ap slots (sym codes_are)
+
+-- ---- where no name stands in a code
+
+module _ (ns : List (List ℕ)) where
+  slotted : around_slot (codes "(<>)") ≡ None → sources_code ns ≡ codes "(<>)"
+  slotted none = absurd (cc none)
+
+  absent_nameless : (type : ReprData) → around_slot (absent_code type []) ≡ None → absent_code type ns ≡ absent_code type []
+  absent_nameless (tuple no_reprs) none = refl
+  absent_nameless (tuple (repr_and t ts)) none = slotted none
+  absent_nameless (slice t) none = slotted none
+  absent_nameless (nominal p ts) none = slotted none
+  absent_nameless (associated a b) none = slotted none
+  absent_nameless (of_lifetime l) none = slotted none
+  absent_nameless (reference l m t) none = slotted none
+  absent_nameless (trait_object p ts) none = slotted none
+  absent_nameless (function fs p ts r) none = slotted none
+
+  written_nameless : (type : ReprData) (o : Option Action) → around_slot (written_code type [] o) ≡ None → written_code type ns o ≡ written_code type [] o
+  written_nameless type None none = absent_nameless type none
+  written_nameless type (Some (user_code c)) none = refl
+  written_nameless type (Some (fallible_code c)) none = refl
+  written_nameless type (Some lookahead_code) none = absent_nameless type none
+  written_nameless type (Some lookbehind_code) none = absent_nameless type none
+
+pub code_nameless : (prefix : List ℕ) (type : ReprData) (a : AlternativeData) (code : List ℕ) → code ≡ written_code type [] a.action → is_some (around_slot code) ≡ false → code ≡ made_code prefix type a
+code_nameless prefix type a code written slotless =
+    let ns : List (List ℕ) = source_names prefix a.parts in
+    let none : around_slot (written_code type [] a.action) ≡ None = none_there (around_slot (written_code type [] a.action)) (sym (ap (λ c. is_some (around_slot c)) written) ∙ slotless) in
+    written ∙ sym (written_nameless ns type a.action none)
+    ∙ sym (unfilled (some_name_value a.parts) ns (written_code type ns a.action) (ap around_slot (written_nameless ns type a.action none) ∙ none))
+  where
+    none_there : {X : Type 0} (o : Option X) → is_some o ≡ false → o ≡ None
+    none_there None is = refl
+    none_there (Some x) is = absurd (cc is)
 
 -- ---- faults of codes
 

@@ -13,3 +13,4 @@ pub mod Made
 pub mod Active
 pub mod CarriedOver
 pub mod Produced
+pub mod Sourced

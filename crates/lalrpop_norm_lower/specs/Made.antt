@@ -35,12 +35,16 @@ pub use Rattle.lalrpop_norm_lower_steps.specs.StartSymbols.{types_by_name}
 
 -- ---- actions
 
+-- what is written, with the names of the sources in the places of `<>`
+abbrev pub made_code : List ℕ → ReprData → AlternativeData → List ℕ
+made_code prefix type a =
+    filled_code (some_name_value a.parts) (source_names prefix a.parts)
+    (written_code type (source_names prefix a.parts) a.action)
+
 -- code over one argument for each symbol
 abbrev pub user_body : List ℕ → TypeTable → ReprData → AlternativeData → ActionKindData
 user_body prefix types type a =
-    user (argument_patterns prefix a.parts) (map (type_or_unit types) (lowered_symbols a.parts))
-    (filled_code (some_name_value a.parts) (source_names prefix a.parts)
-    (written_code type (source_names prefix a.parts) a.action))
+    user (argument_patterns prefix a.parts) (map (type_or_unit types) (lowered_symbols a.parts)) (made_code prefix type a)
 
 abbrev pub body : List ℕ → TypeTable → ReprData → AlternativeData → Option Action → ActionKindData
 body prefix types type a (Some lookahead_code) = lookaround Lookahead

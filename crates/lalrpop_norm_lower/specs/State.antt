@@ -1,6 +1,21 @@
--- The table of types that rules are lowered by.
-use Rattle.lalrpop_norm_repr.specs.Tables.{TypeTable, type_table}
+-- The table of types that rules are lowered by, and the types of rules by their numbers.
+use Rattle.std.specs.Prelude.{◌≡◌, ℕ, List, Option, Some, drop, map, option_map, slice_get}
+use Rattle.lalrpop_norm_tree_names.specs.declared.names.NonterminalString.{NonterminalString}
+use Rattle.lalrpop_norm_tree_parts.specs.Reprs.{ReprData, repr_view}
+use Rattle.lalrpop_norm_tree.specs.Items.{RuleData}
+use Rattle.lalrpop_norm_repr.specs.Tables.{TypeTable, type_table, type_of}
 use Rattle.lalrpop_norm_lower.specs.declared.numbered.NumberedTypes.{NumberedTypes}
 
 abbrev pub table_by_number : NumberedTypes → TypeTable
 table_by_number types = type_table types.table.now
+
+abbrev pub types_by_number : NumberedTypes → List (Option ReprData)
+types_by_number types = map (option_map (λ t. repr_view t.now)) types.by_number.items
+
+-- what the table has for the name stands at that number
+abbrev pub IsTypeAt : NumberedTypes → ℕ → NonterminalString → Type 0
+IsTypeAt types k name = slice_get (types_by_number types) k ≡ Some (type_of name (table_by_number types))
+
+-- what it has for these rules, in order, stands from that number on, and nothing behind
+abbrev pub AreTypesFrom : NumberedTypes → ℕ → List RuleData → Type 0
+AreTypesFrom types k rs = drop k (types_by_number types) ≡ map (λ r. type_of r.name (table_by_number types)) rs

@@ -20,6 +20,7 @@ use lalrpop_norm_lower_steps::refusals::next_action;
 use lalrpop_norm_repr::grammar::repr::{ActionFn, ActionFnDefn, Production, Symbol, TypeRepr};
 use lalrpop_norm_tree::grammar::parse_tree::{Alternative, NoMemory, NonterminalString, Span};
 use std::alloc::Global;
+use std::mem;
 
 /// The production of an alternative of a rule of that type. Its action is added.
 pub(crate) fn lower_alternative(
@@ -92,7 +93,9 @@ fn add_made_action(
     ensures given { OnOk result ((state.new.prefix ≡ state.old.prefix) × (state.new.types ≡ state.old.types)) }
     ensures table { OnOk result (state.new.nonterminals ≡ state.old.nonterminals) }
 {
-    let defn = made_action(state, ty, alternative, symbols)?;
+    let mut names = mem::replace(&mut state.names, Vec::new(state.alloc));
+    let defn = made_action(state, ty, alternative, symbols, &mut names)?;
+    state.names = names;
     state.actions.push(defn)?;
     Ok(())
 }

@@ -3,6 +3,7 @@ ghost use Rattle.std.specs.Prelude.{◌≡◌, ◌++◌, ◌≤◌, [], ◌∷�
 ghost use Rattle.lalrpop_norm_tree.specs.Symbols.{symbol_view, parts_view, argument_pattern_view};
 ghost use Rattle.lalrpop_norm_lower.specs.Arguments.{name_given};
 ghost use Rattle.lalrpop_norm_lower.specs.Sources.{source_name, plain_name};
+ghost use Rattle.lalrpop_norm_lower.specs.Sourced.{AreSourcesOf};
 ghost use Rattle.lalrpop_norm_lower.specs.Naming.{is_source, source_pattern, argument_patterns, source_names};
 
 use lalrpop_norm_session::norm_util::{has_chosen, has_name_value, is_chosen, names_value};
@@ -12,76 +13,147 @@ use lalrpop_norm_tree::grammar::parse_tree::{
 use lalrpop_norm_tree_parts::walk::add;
 use std::alloc::Global;
 
-/// The arguments of an action.
-#[derive(Drop)]
-pub(crate) struct Arguments {
-    /// One pattern for each symbol.
-    pub(crate) patterns: Vec<ArgPattern>,
-    /// The names of the sources, in order.
-    pub(crate) names: Vec<Atom>,
+/// Which symbols of an alternative are sources: the named and tuple ones if there are any, else the chosen ones if there are any, else all.
+#[derive(Clone, Copy)]
+pub(crate) struct Sources {
+    pub(crate) some_named: bool,
+    /// Where none is named.
+    some_chosen: bool,
 }
 
-/// The arguments of an alternative. A named or tuple symbol has its own pattern, any other source j the name of its number
-/// behind the prefix, and what is no source `_`.
-pub(crate) fn arguments_of(
+impl Sources {
+    pub(crate) fn among(symbols: &[Symbol]) -> Sources
+        ensures { AreSourcesOf (parts_view symbols.now) result }
+    {
+        let some_named = has_name_value(symbols);
+        let some_chosen = !some_named && has_chosen(symbols);
+        Sources {
+            some_named,
+            some_chosen,
+        }
+    }
+
+    fn contain(self, symbol: &Symbol) -> bool
+        ensures { result ≡ is_source self.some_named self.some_chosen (symbol_view symbol.now) }
+    {
+        if self.some_named {
+            names_value(symbol)
+        } else if self.some_chosen {
+            is_chosen(symbol)
+        } else {
+            true
+        }
+    }
+}
+
+/// The patterns of the arguments of an alternative, one for each symbol. A named or tuple symbol has its own pattern, any other source j
+/// the name of its number behind the prefix, and what is no source `_`.
+pub(crate) fn argument_patterns(
     alloc: Global,
     prefix: &str,
+    sources: Sources,
     symbols: &[Symbol],
-) -> Result<Arguments, NoMemory>
-    ensures patterns { IfOk result (λ a.
-        map argument_pattern_view a.patterns.items ≡ argument_patterns prefix.now (parts_view symbols.now)) }
-    ensures names { IfOk result (λ a. a.names.items ≡ source_names prefix.now (parts_view symbols.now)) }
+) -> Result<Vec<ArgPattern>, NoMemory>
+    requires { AreSourcesOf (parts_view symbols.now) sources }
+    ensures { IfOk result (λ ps. map argument_pattern_view ps.items ≡ argument_patterns prefix.now (parts_view symbols.now)) }
 {
-    let some_named = has_name_value(symbols);
-    let some_chosen = has_chosen(symbols);
     let mut patterns = Vec::with_capacity(alloc, symbols.len())?;
-    let mut names = Vec::with_capacity(alloc, symbols.len())?;
+    let mut number = 0usize;
     for symbol in symbols {
-        let source = is_source(some_named, some_chosen, symbol);
-        add_argument(alloc, prefix, source, symbol, &mut patterns, &mut names)?;
+        let source = sources.contain(symbol);
+        add_argument(alloc, prefix, source, number, symbol, &mut patterns)?;
+        if source {
+            number += 1;
+        }
     }
-    Ok(Arguments { patterns, names })
+    Ok(patterns)
 }
 
-/// Adds the argument of a symbol: the next source, with its name, or `_`.
+/// Adds the argument of a symbol: the source of that number, or `_`.
 fn add_argument(
     alloc: Global,
     prefix: &str,
     source: bool,
+    number: usize,
     symbol: &Symbol,
     patterns: &mut Vec<ArgPattern>,
-    names: &mut Vec<Atom>,
 ) -> Result<(), NoMemory>
-    ensures patterns { OnOk result (map argument_pattern_view patterns.new.items ≡ map argument_pattern_view patterns.old.items
-        ++ (if source then source_pattern prefix.now (vec_len names.old) (symbol_view symbol.now) else plain_name (codes "_")) ∷ []) }
-    ensures names { OnOk result (names.new.items ≡ names.old.items
-        ++ (if source then name_given (source_pattern prefix.now (vec_len names.old) (symbol_view symbol.now)) ∷ [] else [])) }
+    ensures { OnOk result (map argument_pattern_view patterns.new.items ≡ map argument_pattern_view patterns.old.items
+        ++ (if source then source_pattern prefix.now number (symbol_view symbol.now) else plain_name (codes "_")) ∷ []) }
 {
     if source {
-        add_source(alloc, prefix, symbol, patterns, names)
+        let pattern = source_pattern(alloc, prefix, number, symbol)?;
+        add(patterns, pattern)
     } else {
         let name = Atom::new(alloc, "_")?;
         add(patterns, plain_name(name))
     }
 }
 
-/// Adds the next source, with its name.
-fn add_source(
+/// Puts the names of the sources of an alternative into a list, in order. What was in it is let go, and its room is used again.
+pub(crate) fn put_source_names(
     alloc: Global,
     prefix: &str,
-    symbol: &Symbol,
-    patterns: &mut Vec<ArgPattern>,
+    sources: Sources,
+    symbols: &[Symbol],
     names: &mut Vec<Atom>,
 ) -> Result<(), NoMemory>
-    ensures patterns { OnOk result (map argument_pattern_view patterns.new.items
-        ≡ map argument_pattern_view patterns.old.items ++ source_pattern prefix.now (vec_len names.old) (symbol_view symbol.now) ∷ []) }
-    ensures names { OnOk result (names.new.items
-        ≡ names.old.items ++ name_given (source_pattern prefix.now (vec_len names.old) (symbol_view symbol.now)) ∷ []) }
+    requires { AreSourcesOf (parts_view symbols.now) sources }
+    ensures { OnOk result (names.new.items ≡ source_names prefix.now (parts_view symbols.now)) }
 {
-    let pattern = source_pattern(alloc, prefix, names.len(), symbol)?;
-    let name = name_given(alloc, &pattern)?;
-    add(patterns, pattern)?;
-    add(names, name)
+    names.clear();
+    for symbol in symbols {
+        let source = sources.contain(symbol);
+        add_name(alloc, prefix, source, symbol, names)?;
+    }
+    Ok(())
+}
+
+/// Adds the name of a symbol that is the next source.
+fn add_name(
+    alloc: Global,
+    prefix: &str,
+    source: bool,
+    symbol: &Symbol,
+    names: &mut Vec<Atom>,
+) -> Result<(), NoMemory>
+    ensures { OnOk result (names.new.items ≡ names.old.items
+        ++ (if source then name_given (source_pattern prefix.now (vec_len names.old) (symbol_view symbol.now)) ∷ [] else [])) }
+{
+    if source {
+        let name = name_of_source(alloc, prefix, names.len(), symbol)?;
+        add(names, name)
+    } else {
+        Ok(())
+    }
+}
+
+/// The name of the source of that number: that of its pattern.
+fn name_of_source(
+    alloc: Global,
+    prefix: &str,
+    number: usize,
+    symbol: &Symbol,
+) -> Result<Atom, NoMemory>
+    ensures { IfOk result (λ n. n ≡ name_given (source_pattern prefix.now number (symbol_view symbol.now))) }
+{
+    match &symbol.kind {
+        SymbolKind::Name(name, _) => Ok(name.name.clone()?),
+        SymbolKind::Tuple(names, _) => {
+            let text = names.to_string(alloc)?;
+            Atom::new(alloc, text.as_str())
+        }
+        SymbolKind::Expr(_)
+        | SymbolKind::AmbiguousId(_)
+        | SymbolKind::Terminal(_)
+        | SymbolKind::Nonterminal(_)
+        | SymbolKind::Macro(_)
+        | SymbolKind::Repeat(_)
+        | SymbolKind::Choose(_)
+        | SymbolKind::Lookahead
+        | SymbolKind::Lookbehind
+        | SymbolKind::Error => source_name(alloc, prefix, number),
+    }
 }
 
 /// The pattern of the source of that number: its own, or its number behind the prefix.
@@ -106,19 +178,6 @@ fn source_pattern(
         | SymbolKind::Lookahead
         | SymbolKind::Lookbehind
         | SymbolKind::Error => Ok(plain_name(source_name(alloc, prefix, number)?)),
-    }
-}
-
-/// The name that a pattern gives: without `mut`, and the text of a tuple.
-fn name_given(alloc: Global, pattern: &ArgPattern) -> Result<Atom, NoMemory>
-    ensures { IfOk result (λ n. n ≡ name_given (argument_pattern_view pattern.now)) }
-{
-    match pattern {
-        ArgPattern::Name(name) => Ok(name.name.clone()?),
-        ArgPattern::Tuple(_) => {
-            let text = pattern.name(alloc)?;
-            Atom::new(alloc, text.as_str())
-        }
     }
 }
 
@@ -160,17 +219,5 @@ fn usual_name(prefix: &str, number: usize) -> Option<&'static str>
         6 => Some("__6"),
         7 => Some("__7"),
         _ => None,
-    }
-}
-
-fn is_source(some_named: bool, some_chosen: bool, symbol: &Symbol) -> bool
-    ensures { result ≡ is_source some_named some_chosen (symbol_view symbol.now) }
-{
-    if some_named {
-        names_value(symbol)
-    } else if some_chosen {
-        is_chosen(symbol)
-    } else {
-        true
     }
 }

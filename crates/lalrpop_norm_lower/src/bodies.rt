@@ -1,38 +1,39 @@
 //! What the actions of alternatives do.
-ghost use Rattle.std.specs.Prelude.{◌≡◌, [], IfOk, option_map};
+ghost use Rattle.std.specs.Prelude.{◌≡◌, [], IfOk, option_map, string_bytes};
 ghost use Rattle.lalrpop_norm_tree.specs.Items.{action_view, alternative_view};
 ghost use Rattle.lalrpop_norm_tree_parts.specs.Reprs.{repr_view};
 ghost use Rattle.lalrpop_norm_tree.specs.Symbols.{expr_view};
 ghost use Rattle.lalrpop_norm_model.specs.LoweringFaults.{code_faults};
 ghost use Rattle.lalrpop_norm_repr.specs.Actions.{action_defn_view, action_kind_view};
 ghost use Rattle.lalrpop_norm_lower.specs.Lowering.{lowered_symbols};
-ghost use Rattle.lalrpop_norm_lower.specs.Made.{made_action, body, user_body};
+ghost use Rattle.lalrpop_norm_lower.specs.Made.{made_action, made_code, body, user_body};
+ghost use Rattle.lalrpop_norm_lower.specs.Sourced.{AreSourcesOf};
 ghost use Rattle.lalrpop_norm_lower.specs.State.{table_by_number};
 
 use crate::actions::symbol_types;
-use crate::arguments::arguments_of;
+use crate::arguments::{Sources, argument_patterns, put_source_names};
 use crate::state::LowerState;
 use lalrpop_norm_lower_steps::code::{is_fallible, written_code};
-use lalrpop_norm_lower_steps::placeholders::filled;
+use lalrpop_norm_lower_steps::placeholders::{filled, has_slot};
 use lalrpop_norm_repr::grammar::repr::{
     ActionFnDefn, ActionFnDefnKind, LookaroundActionFnDefn, Symbol, TypeRepr, UserActionFnDefn,
 };
-use lalrpop_norm_session::norm_util::has_name_value;
-use lalrpop_norm_tree::grammar::parse_tree::{ActionKind, Alternative, NoMemory};
+use lalrpop_norm_tree::grammar::parse_tree::{ActionKind, Alternative, Atom, NoMemory};
 
-/// The action of an alternative of a rule of that type, which it answers.
+/// The action of an alternative of a rule of that type, which it answers. The list is room for names.
 pub(crate) fn made_action(
     state: &LowerState,
     ty: &TypeRepr,
     alternative: &Alternative,
     symbols: &[Symbol],
+    names: &mut Vec<Atom>,
 ) -> Result<ActionFnDefn, NoMemory>
     requires symbols { symbols.now ≡ lowered_symbols (expr_view alternative.now.expr) }
     requires counted { code_faults (alternative_view alternative.now) ≡ [] }
     ensures { IfOk result (λ d.
         action_defn_view d ≡ made_action state.now.prefix.now (table_by_number state.now.types.now) (repr_view ty.now) (alternative_view alternative.now)) }
 {
-    let kind = body(state, ty, alternative, symbols)?;
+    let kind = body(state, ty, alternative, symbols, names)?;
     let ret_type = ty.clone()?;
     let fallible = is_fallible(&alternative.action);
     Ok(ActionFnDefn {
@@ -47,6 +48,7 @@ fn body(
     ty: &TypeRepr,
     alternative: &Alternative,
     symbols: &[Symbol],
+    names: &mut Vec<Atom>,
 ) -> Result<ActionFnDefnKind, NoMemory>
     requires symbols { symbols.now ≡ lowered_symbols (expr_view alternative.now.expr) }
     requires counted { code_faults (alternative_view alternative.now) ≡ [] }
@@ -60,9 +62,9 @@ fn body(
         Some(ActionKind::Lookbehind) => Ok(ActionFnDefnKind::Lookaround(
             LookaroundActionFnDefn::Lookbehind,
         )),
-        Some(ActionKind::User(_)) => user_body(state, ty, alternative, symbols),
-        Some(ActionKind::Fallible(_)) => user_body(state, ty, alternative, symbols),
-        None => user_body(state, ty, alternative, symbols),
+        Some(ActionKind::User(_)) => user_body(state, ty, alternative, symbols, names),
+        Some(ActionKind::Fallible(_)) => user_body(state, ty, alternative, symbols, names),
+        None => user_body(state, ty, alternative, symbols, names),
     }
 }
 
@@ -72,20 +74,44 @@ fn user_body(
     ty: &TypeRepr,
     alternative: &Alternative,
     symbols: &[Symbol],
+    names: &mut Vec<Atom>,
 ) -> Result<ActionFnDefnKind, NoMemory>
     requires symbols { symbols.now ≡ lowered_symbols (expr_view alternative.now.expr) }
     requires counted { code_faults (alternative_view alternative.now) ≡ [] }
     ensures { IfOk result (λ k.
         action_kind_view k ≡ user_body state.now.prefix.now (table_by_number state.now.types.now) (repr_view ty.now) (alternative_view alternative.now)) }
 {
-    let arguments = arguments_of(state.alloc, state.prefix, &alternative.expr.symbols)?;
-    let is_named = has_name_value(&alternative.expr.symbols);
-    let written = written_code(ty, &arguments.names, &alternative.action);
-    let code = filled(state.alloc, is_named, &arguments.names, written)?;
+    let expr = &alternative.expr;
+    let sources = Sources::among(&expr.symbols);
+    let arg_patterns = argument_patterns(state.alloc, state.prefix, sources, &expr.symbols)?;
     let arg_types = symbol_types(state.alloc, state.types, symbols)?;
+    let code = code_of(state, ty, sources, alternative, names)?;
     Ok(ActionFnDefnKind::User(UserActionFnDefn {
-        arg_patterns: arguments.patterns,
+        arg_patterns,
         arg_types,
         code,
     }))
+}
+
+/// The code of an alternative with these sources. Their names are put together only where one of them may stand in it.
+fn code_of(
+    state: &LowerState,
+    ty: &TypeRepr,
+    sources: Sources,
+    alternative: &Alternative,
+    names: &mut Vec<Atom>,
+) -> Result<String, NoMemory>
+    requires sources { AreSourcesOf (expr_view alternative.now.expr) sources }
+    requires counted { code_faults (alternative_view alternative.now) ≡ [] }
+    ensures { IfOk result (λ s.
+        string_bytes s ≡ made_code state.now.prefix.now (repr_view ty.now) (alternative_view alternative.now)) }
+{
+    let nameless = written_code(ty, &[], &alternative.action);
+    if !has_slot(nameless) {
+        return Ok(String::from_str(state.alloc, nameless)?);
+    }
+    let symbols = &alternative.expr.symbols;
+    put_source_names(state.alloc, state.prefix, sources, symbols, names)?;
+    let written = written_code(ty, names, &alternative.action);
+    filled(state.alloc, sources.some_named, names, written)
 }

@@ -10,7 +10,7 @@ ghost use Rattle.lalrpop_norm_repr.specs.Tables.{rows};
 ghost use Rattle.lalrpop_norm_lower.specs.Carried.{uses_recovery};
 ghost use Rattle.lalrpop_norm_lower.specs.Lowering.{rule_type, rule_entry, rule_rows, rules_among, with_entry, start_entry, start_rows, start_name, start_alternative, production_of, productions_from, sorted_onto};
 ghost use Rattle.lalrpop_norm_lower.specs.Made.{types_by_name, alternatives_faults, made_starts_faults, made_rules_faults, made_action, made_starts, made_actions};
-ghost use Rattle.lalrpop_norm_lower.specs.State.{table_by_number};
+ghost use Rattle.lalrpop_norm_lower.specs.State.{table_by_number, IsTypeAt, AreTypesFrom};
 ghost use Rattle.lalrpop_norm_lower.specs.Starts.{start_rule, start_typed};
 ghost use Rattle.lalrpop_norm_lower.specs.Typing.{start_types};
 
@@ -67,8 +67,13 @@ fn start_production(state: &mut LowerState, start: &Start) -> NormResult<Product
     lower_alternative(state, &start.name, &start.ty, &alternative)
 }
 
-/// The nonterminal of a rule, which is consumed.
-fn lower_rule(state: &mut LowerState, mut rule: pt::NonterminalData) -> NormResult<NonterminalData>
+/// The nonterminal of the rule of that number, which is consumed.
+fn lower_rule(
+    state: &mut LowerState,
+    number: usize,
+    mut rule: pt::NonterminalData,
+) -> NormResult<NonterminalData>
+    requires { IsTypeAt state.old.types.now number rule.name }
     ensures refuses { Refuses result (alternatives_faults (vec_len state.old.actions) (rule_view rule).alternatives) }
     ensures lowered { IfOk result (λ n. nonterminal_data_view n ≡ rule_entry (vec_len state.old.actions) (rule_view rule)) }
     ensures adds { OnOk result (map action_defn_view state.new.actions.items ≡ map action_defn_view state.old.actions.items
@@ -78,16 +83,18 @@ fn lower_rule(state: &mut LowerState, mut rule: pt::NonterminalData) -> NormResu
     ensures table { OnOk result (state.new.nonterminals ≡ state.old.nonterminals) }
 {
     let alternatives = mem::replace(&mut rule.alternatives, Vec::new(state.alloc));
-    let productions = rule_productions(state, &rule, alternatives)?;
+    let productions = rule_productions(state, number, &rule, alternatives)?;
     Ok(rule_data(state.alloc, rule, productions))
 }
 
-/// The productions of these alternatives of a rule. Their actions are added.
+/// The productions of these alternatives of the rule of that number. Their actions are added.
 fn rule_productions(
     state: &mut LowerState,
+    number: usize,
     rule: &pt::NonterminalData,
     alternatives: Vec<Alternative>,
 ) -> NormResult<Vec<Production>>
+    requires { IsTypeAt state.old.types.now number rule.now.name }
     ensures refuses { Refuses result (alternatives_faults (vec_len state.old.actions) (map alternative_view alternatives.items)) }
     ensures lowered { IfOk result (λ ps. map production_view ps.items ≡ productions_from rule.now.name (vec_len state.old.actions) (map alternative_view alternatives.items)) }
     ensures adds { OnOk result (map action_defn_view state.new.actions.items ≡ map action_defn_view state.old.actions.items
@@ -97,7 +104,7 @@ fn rule_productions(
     ensures table { OnOk result (state.new.nonterminals ≡ state.old.nonterminals) }
 {
     let unit = unit_type(state.alloc);
-    let ty = rule_type(state.types, rule, &unit);
+    let ty = rule_type(state.types, number, &unit);
     lower_alternatives(state, &rule.name, ty, alternatives)
 }
 
@@ -137,8 +144,9 @@ pub(crate) fn lower_starts(state: &mut LowerState, starts: &[Start]) -> NormResu
     Ok(())
 }
 
-/// Adds the nonterminal of a rule, which is consumed.
-fn add_rule(state: &mut LowerState, rule: pt::NonterminalData) -> NormResult<()>
+/// Adds the nonterminal of the rule of that number, which is consumed.
+fn add_rule(state: &mut LowerState, number: usize, rule: pt::NonterminalData) -> NormResult<()>
+    requires { IsTypeAt state.old.types.now number rule.name }
     ensures refuses { Refuses result (alternatives_faults (vec_len state.old.actions) (rule_view rule).alternatives) }
     ensures table { OnOk result (rows nonterminal_data_view state.new.nonterminals
         ≡ with_entry (rows nonterminal_data_view state.old.nonterminals) (rule.name, rule_entry (vec_len state.old.actions) (rule_view rule))) }
@@ -148,14 +156,15 @@ fn add_rule(state: &mut LowerState, rule: pt::NonterminalData) -> NormResult<()>
     ensures given { OnOk result ((state.new.prefix ≡ state.old.prefix) × (state.new.types ≡ state.old.types)) }
 {
     let name = rule.name.clone()?;
-    let data = lower_rule(state, rule)?;
+    let data = lower_rule(state, number, rule)?;
     Ok(insert(&mut state.nonterminals, name, data)?)
 }
 
 /// The nonterminals of the rules among the items, and whether `!` stands in one of them. Each item is let go once it is lowered, and its
 /// room in the list given back in time, so what is made of the later ones finds room there.
-#[tactic(auto, using(crate::proofs::LoopLemmas::rule_first, crate::proofs::LoopLemmas::rule_skipped))]
+#[tactic(auto, using(crate::proofs::LoopLemmas::rule_skipped))]
 pub(crate) fn lower_rules(state: &mut LowerState, items: Vec<GrammarItem>) -> NormResult<bool>
+    requires { AreTypesFrom state.old.types.now 0 (rules_among (map item_view items.items)) }
     ensures refuses { Refuses result (made_rules_faults (vec_len state.old.actions) (rules_among (map item_view items.items))) }
     ensures table { OnOk result (rows nonterminal_data_view state.new.nonterminals
         ≡ sorted_onto (rows nonterminal_data_view state.old.nonterminals) (rule_rows (vec_len state.old.actions) (rules_among (map item_view items.items)))) }
@@ -167,11 +176,13 @@ pub(crate) fn lower_rules(state: &mut LowerState, items: Vec<GrammarItem>) -> No
     let mut left = items;
     left.reverse();
     let mut recovers = false;
+    let mut number = 0usize;
     while let Some(item) = next_item(&mut left)? {
         if let Ok(rule) = item.into_nonterminal() {
             // Here, since lowering the rule reads its alternatives next.
             recovers = recovers || some_error(&rule.alternatives);
-            add_rule(state, rule)?;
+            add_rule(state, number, rule)?;
+            number += 1;
         }
     }
     Ok(recovers)

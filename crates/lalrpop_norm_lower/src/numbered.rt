@@ -1,7 +1,8 @@
 //! The types of rules, found by the numbers of their names.
-ghost use Rattle.std.specs.Prelude.{◌≡◌, [], ◌∷◌, ◌++◌, IfOk, OnOk, map, option_map};
+ghost use Rattle.std.specs.Prelude.{◌≡◌, ◌<◌, [], ◌∷◌, ◌++◌, IfOk, OnOk, Some, length, map, option_map, slice_get, vec_len};
 ghost use Rattle.lalrpop_norm_tree.specs.Items.{item_view};
 ghost use Rattle.lalrpop_norm_tree_parts.specs.Reprs.{repr_view};
+ghost use Rattle.lalrpop_norm_theory.specs.Rounds.{IsDistinct};
 ghost use Rattle.lalrpop_norm_names.specs.Numbers.{IsNumbering};
 ghost use Rattle.lalrpop_norm_repr.specs.Tables.{type_table, type_of};
 ghost use Rattle.lalrpop_norm_lower.specs.Lowering.{rules_among};
@@ -22,13 +23,16 @@ pub(crate) struct NumberedTypes<'t> {
 }
 
 impl<'t> NumberedTypes<'t> {
-    /// For the rules among the items. Each row of the table is met once.
+    /// For the rules among the items, which have names of their own: each has its place among them as its number. Each row of the table is
+    /// met once.
     pub(crate) fn of(
         alloc: Global,
         table: &'t Types,
         items: &[GrammarItem],
     ) -> Result<NumberedTypes<'t>, NoMemory>
-        ensures { IfOk result (λ n. n.table.now ≡ table.now) }
+        requires { IsDistinct (map (λ r. r.name.0) (rules_among (map item_view items.now))) }
+        ensures table { IfOk result (λ n. n.table.now ≡ table.now) }
+        ensures types { IfOk result (λ n. map (option_map (λ t. repr_view t.now)) n.by_number.items ≡ map (λ r. type_of r.name (type_table table.now)) (rules_among (map item_view items.now))) }
     {
         let names = names_of_rules(alloc, items)?;
         numbered_by(alloc, table, &names)
@@ -42,6 +46,14 @@ impl<'t> NumberedTypes<'t> {
             Some(number) => self.by_number[number],
             None => self.table.lookup_nonterminal_type(name),
         }
+    }
+
+    /// The type of the rule of that number, if it has one: no name is looked up.
+    pub(crate) fn at(&self, number: usize) -> Option<&'t TypeRepr>
+        requires { number < vec_len self.now.by_number }
+        ensures { slice_get (map (option_map (λ t. repr_view t.now)) self.now.by_number.items) number ≡ Some (option_map (λ t. repr_view t.now) result) }
+    {
+        self.by_number[number]
     }
 }
 
@@ -70,13 +82,15 @@ fn add_name(names: &mut Vec<NonterminalString>, item: &GrammarItem) -> Result<()
     Ok(())
 }
 
-/// By these names, each of which has the first place at which it stands among them as its number.
+/// By these names, each of which has its place among them as its number.
 fn numbered_by<'t>(
     alloc: Global,
     table: &'t Types,
     listed: &[NonterminalString],
 ) -> Result<NumberedTypes<'t>, NoMemory>
-    ensures { IfOk result (λ n. n.table.now ≡ table.now) }
+    requires { IsDistinct (map (λ n. n.0) listed.now) }
+    ensures table { IfOk result (λ n. n.table.now ≡ table.now) }
+    ensures types { IfOk result (λ n. map (option_map (λ t. repr_view t.now)) n.by_number.items ≡ map (λ n. type_of n (type_table table.now)) listed.now) }
 {
     let names = Names::of(alloc, listed)?;
     let by_number = types_of(alloc, table, listed, &names)?;
@@ -95,7 +109,8 @@ fn types_of<'t>(
     names: &Names,
 ) -> Result<Vec<Option<&'t TypeRepr>>, NoMemory>
     requires { IsNumbering (map (λ n. n.0) listed.now) names.now }
-    ensures { IfOk result (λ ts. AreTypesByNumber (type_table table.now) names.now (map (option_map (λ t. repr_view t.now)) ts.items)) }
+    ensures types { IfOk result (λ ts. AreTypesByNumber (type_table table.now) names.now (map (option_map (λ t. repr_view t.now)) ts.items)) }
+    ensures count { IfOk result (λ ts. length (map (option_map (λ t. repr_view t.now)) ts.items) ≡ length listed.now) }
 {
     let mut types = vec![in alloc; None; listed.len()]?;
     for (name, ty) in table.nonterminals() {

@@ -1,6 +1,7 @@
 //! What lowering makes of the rules of a grammar.
 ghost use Rattle.std.specs.Prelude.{◌≡◌, ◌+◌, ◌++◌, [], IfOk, OnOk, length, map, vec_len};
 ghost use Rattle.lalrpop_norm_faults.specs.Faults.{Refuses};
+ghost use Rattle.lalrpop_norm_theory.specs.Rounds.{IsDistinct};
 ghost use Rattle.lalrpop_norm_tree.specs.Items.{item_view};
 ghost use Rattle.lalrpop_norm_repr.specs.Actions.{action_defn_view};
 ghost use Rattle.lalrpop_norm_repr.specs.Productions.{nonterminal_data_view};
@@ -9,7 +10,7 @@ ghost use Rattle.lalrpop_norm_lower.specs.Lowering.{rules_among, public_rules_in
 ghost use Rattle.lalrpop_norm_lower.specs.Made.{made_faults, made_starts_faults, made_starts};
 ghost use Rattle.lalrpop_norm_lower.specs.Produced.{IsProduced};
 ghost use Rattle.lalrpop_norm_lower.specs.Starts.{start_rule, start_named, start_typed, typed_row};
-ghost use Rattle.lalrpop_norm_lower.specs.State.{table_by_number};
+ghost use Rattle.lalrpop_norm_lower.specs.State.{table_by_number, AreTypesFrom};
 ghost use Rattle.lalrpop_norm_lower.specs.Typing.{start_types};
 
 use crate::nonterminals::{lower_rules, lower_starts};
@@ -43,6 +44,7 @@ pub(crate) fn produce(
     items: Vec<GrammarItem>,
     types: &Types,
 ) -> NormResult<Produced>
+    requires { IsDistinct (map (λ r. r.name.0) (rules_among (map item_view items.items))) }
     ensures refuses { Refuses result (made_faults prefix.now (type_table types.now) (rules_among (map item_view items.items))) }
     ensures produced { IfOk result (IsProduced prefix.now (type_table types.now) (rules_among (map item_view items.items))) }
 {
@@ -57,6 +59,7 @@ fn produce_by(
     items: Vec<GrammarItem>,
     types: &NumberedTypes,
 ) -> NormResult<Produced>
+    requires { AreTypesFrom types.now 0 (rules_among (map item_view items.items)) }
     ensures refuses { Refuses result (made_faults prefix.now (table_by_number types.now) (rules_among (map item_view items.items))) }
     ensures produced { IfOk result (IsProduced prefix.now (table_by_number types.now) (rules_among (map item_view items.items))) }
 {
@@ -66,6 +69,7 @@ fn produce_by(
         types,
         actions: Vec::with_capacity(alloc, count_actions(&items))?,
         nonterminals: BTreeMap::new(alloc),
+        names: Vec::new(alloc),
     };
     let (start_nonterminals, starts) = start(&mut state, &items)?;
     let recovers = lower_rules(&mut state, items)?;

@@ -1,12 +1,12 @@
 //! The parts of nonterminals: the types of rules, and the start symbols of public ones, which are made once.
-ghost use Rattle.std.specs.Prelude.{◌≡◌, [], ◌++◌, IfOk, OnOk, map, string_bytes};
-ghost use Rattle.lalrpop_norm_tree.specs.Items.{rule_view};
+ghost use Rattle.std.specs.Prelude.{◌≡◌, ◌<◌, [], ◌++◌, IfOk, OnOk, map, string_bytes, vec_len};
+ghost use Rattle.lalrpop_norm_tree.specs.Items.{RuleData, rule_view};
 ghost use Rattle.lalrpop_norm_tree_parts.specs.Reprs.{repr_view, unit_type};
 ghost use Rattle.lalrpop_norm_repr.specs.Productions.{nonterminal_data_view};
 ghost use Rattle.lalrpop_norm_repr.specs.Tables.{rows};
 ghost use Rattle.lalrpop_norm_lower.specs.Lowering.{rule_type, start_name, start_names, with_entry, sorted_onto};
 ghost use Rattle.lalrpop_norm_lower.specs.Starts.{start_rule, start_named, start_typed, typed_row};
-ghost use Rattle.lalrpop_norm_lower.specs.State.{table_by_number};
+ghost use Rattle.lalrpop_norm_lower.specs.State.{table_by_number, IsTypeAt};
 ghost use Rattle.lalrpop_norm_lower.specs.Typing.{start_types};
 
 use crate::numbered::NumberedTypes;
@@ -73,16 +73,17 @@ fn type_of_rule(
     }
 }
 
-/// The type of a rule. Each rule of a plain grammar has one; where there is none, it is `unit`.
+/// The type of the rule of that number. Each rule of a plain grammar has one; where there is none, it is `unit`.
 pub(crate) fn rule_type<'t>(
     types: &NumberedTypes<'t>,
-    rule: &pt::NonterminalData,
+    number: usize,
     unit: &'t TypeRepr,
 ) -> &'t TypeRepr
-    requires { repr_view unit.now ≡ unit_type }
-    ensures { repr_view result.now ≡ rule_type (table_by_number types.now) (rule_view rule.now) }
+    requires unit { repr_view unit.now ≡ unit_type }
+    requires within { number < vec_len types.now.by_number }
+    ensures { (r : RuleData) → IsTypeAt types.now number r.name → repr_view result.now ≡ rule_type (table_by_number types.now) r }
 {
-    match types.nonterminal(&rule.name) {
+    match types.at(number) {
         Some(ty) => ty,
         None => unit,
     }

@@ -1,6 +1,7 @@
 //! The state of lowering.
 use crate::numbered::NumberedTypes;
 use lalrpop_norm_repr::grammar::repr::{ActionFnDefn, NonterminalData, NonterminalString};
+use lalrpop_norm_tree::grammar::parse_tree::Atom;
 use std::alloc::Global;
 use std::collections::BTreeMap;
 
@@ -13,4 +14,6 @@ pub(crate) struct LowerState<'g> {
     /// By their numbers.
     pub(crate) actions: Vec<ActionFnDefn>,
     pub(crate) nonterminals: BTreeMap<NonterminalString, NonterminalData>,
+    /// Room for the names of the sources of one alternative.
+    pub(crate) names: Vec<Atom>,
 }

@@ -1,6 +1,7 @@
 //! A grammar of plain rules, lowered whole.
-ghost use Rattle.std.specs.Prelude.{◌≡◌, IfOk, true};
+ghost use Rattle.std.specs.Prelude.{◌≡◌, IfOk, map, true};
 ghost use Rattle.lalrpop_norm_faults.specs.Faults.{Refuses};
+ghost use Rattle.lalrpop_norm_theory.specs.Rounds.{IsDistinct};
 ghost use Rattle.lalrpop_norm_tree.specs.Items as written;
 ghost use Rattle.lalrpop_norm_tree.specs.Items.{GrammarData};
 ghost use Rattle.lalrpop_norm_session.specs.Sessions.{features_view};
@@ -67,7 +68,8 @@ fn lower_over<L>(
     grammar: pt::Grammar,
     types: Types,
 ) -> NormResult<Grammar>
-    requires { all_known (written.grammar_view grammar).attributes ≡ true }
+    requires known { all_known (written.grammar_view grammar).attributes ≡ true }
+    requires distinct { IsDistinct (map (λ r. r.name.0) (rules_among (written.grammar_view grammar).items)) }
     ensures refuses { Refuses result (made_faults (written.grammar_view grammar).prefix (type_table types) (rules_among (written.grammar_view grammar).items)) }
     ensures lowered { IfOk result (λ l. IsMade (features_view session.now.features) (written.grammar_view grammar) (type_table types) (lowered.lowered_grammar_view l)) }
 {
@@ -82,6 +84,7 @@ fn lower_rest(
     types: Types,
     carried: Carried,
 ) -> NormResult<Grammar>
+    requires { IsDistinct (map (λ r. r.name.0) (rules_among (written.grammar_view grammar).items)) }
     ensures refuses { Refuses result (made_faults (written.grammar_view grammar).prefix (type_table types) (rules_among (written.grammar_view grammar).items)) }
     ensures lowered { IfOk result (λ l. (fs : Features) → IsCarriedOver fs (written.grammar_view grammar) carried
         → IsMade fs (written.grammar_view grammar) (type_table types) (lowered.lowered_grammar_view l)) }

@@ -11,7 +11,7 @@ use Rattle.lalrpop_norm_model.specs.LoweringFaults.{slots}
 use Rattle.lalrpop_norm_lower_steps.specs.Filled.{in_slots, IsFilled}
 use Rattle.lalrpop_norm_lower_steps.specs.Slots.{Cut, cut_with, cut, pieces, in_order, filled_code}
 use Rattle.lalrpop_norm_lower_steps.proofs.CodeLemmas.{first_slot, slot_front, not_in_front}
-use Rattle.lalrpop_norm_theory.proofs.BoolLemmas.{and_false}
+use Rattle.lalrpop_norm_theory.proofs.BoolLemmas.{and_false, or_true}
 
 -- ---- slots
 
@@ -220,3 +220,20 @@ module _ (b : Bool) (ns : List (List ℕ)) (code : List ℕ) where
 
   pub names_enough : (b || nat_le (slots code) 1) ≡ false → length (in_slots b ns (slots code)) ≡ slots code → length ns ≡ slots code
   names_enough h enough = ap (λ t. length (cond t (replicate (slots code) (joined (codes ", ") ns)) ns)) (sym h) ∙ enough
+
+  -- fewer than two names fill no two slots one by one
+  pub few_names : length (in_slots b ns (slots code)) ≡ slots code → length ns < 2 → (b || nat_le (slots code) 1) ≡ true
+  few_names enough few = by b refl (nat_le (slots code) 1) refl
+    where
+      by : (named : Bool) → b ≡ named → (one : Bool) → nat_le (slots code) 1 ≡ one → (b || nat_le (slots code) 1) ≡ true
+      by true is one least = ap (λ t. t || nat_le (slots code) 1) is
+      by false is true least = ap (λ t. b || t) least ∙ or_true b
+      by false is false least =
+          let long : length ns ≡ slots code = names_enough (ap (λ t. b || t) least ∙ ap (λ t. t || false) is) enough in
+          grind arith
+
+-- where there is no slot the code stays as it is
+pub unfilled : (b : Bool) (ns : List (List ℕ)) (code : List ℕ) → around_slot code ≡ None → filled_code b ns code ≡ code
+unfilled b ns code none =
+    let alike : (b || nat_le (slots code) 1) ≡ true = ap (λ n. b || nat_le n 1) (no_slot code none) ∙ or_true b in
+    sym (alike_filled b ns code alike) ∙ ap (joined (joined (codes ", ") ns)) (last_piece code none) ∙ append-nil code

@@ -1,5 +1,5 @@
 //! The `<>` of codes: how many there are, and what takes their places.
-ghost use Rattle.std.specs.Prelude.{◌≡◌, ◌+◌, ◌||◌, nat_le, ◌++◌, IfOk, OnOk, codes, length, map, option_map, string_bytes, flat_map, zip};
+ghost use Rattle.std.specs.Prelude.{◌≡◌, ◌+◌, ◌||◌, nat_le, ◌++◌, IfOk, OnOk, codes, is_some, length, map, option_map, string_bytes, flat_map, zip};
 ghost use Rattle.lalrpop_norm_tree_names.specs.Texts.{joined};
 ghost use Rattle.lalrpop_norm_session.specs.Braces.{around_slot};
 ghost use Rattle.lalrpop_norm_model.specs.LoweringFaults.{slots};
@@ -25,6 +25,16 @@ pub fn slots(code: &str) -> usize
     count
 }
 
+/// Whether `<>` stands in a code.
+pub fn has_slot(code: &str) -> bool
+    ensures { result ≡ is_some (around_slot code.now) }
+{
+    match split_at_slot(code) {
+        None => false,
+        Some(_) => true,
+    }
+}
+
 /// The code with its `<>` replaced, all at once: by the names in order where symbols have none of their own and there are
 /// several, else each by all names. The only error is want of memory.
 pub fn filled(alloc: Global, is_named: bool, names: &[Atom], code: &str) -> Result<String, NoMemory>
@@ -32,7 +42,7 @@ pub fn filled(alloc: Global, is_named: bool, names: &[Atom], code: &str) -> Resu
     ensures { IfOk result (λ s. string_bytes s ≡ filled_code is_named names.now code.now) }
 {
     let mut text = String::with_capacity(alloc, ROOM)?;
-    if is_alike(is_named, code) {
+    if is_alike(is_named, names, code) {
         push_alike(&mut text, names, code)?;
     } else {
         push_in_order(&mut text, names, code)?;
@@ -41,10 +51,15 @@ pub fn filled(alloc: Global, is_named: bool, names: &[Atom], code: &str) -> Resu
 }
 
 /// Whether each `<>` is replaced by all names: where symbols have names, and where there is at most one `<>`.
-fn is_alike(is_named: bool, code: &str) -> bool
+#[tactic(auto, using(crate::proofs::SlotLemmas::few_names))]
+fn is_alike(is_named: bool, names: &[Atom], code: &str) -> bool
+    requires { length (in_slots is_named names.now (slots code.now)) ≡ slots code.now }
     ensures { result ≡ (is_named || nat_le (slots code.now) 1) }
 {
-    is_named || slots(code) <= 1
+    if is_named || names.len() < 2 {
+        return true;
+    }
+    slots(code) <= 1
 }
 
 /// Adds the code, in which all names stand in the place of each `<>`.

@@ -6,7 +6,7 @@ use Rattle.lalrpop_norm_repr.specs.Tables.{rows}
 use Rattle.lalrpop_norm_lower.specs.Carried.{uses_recovery}
 use Rattle.lalrpop_norm_lower.specs.Lowering.{rule_rows, rules_among, sorted_onto}
 use Rattle.lalrpop_norm_lower.specs.Made.{made_rules_faults, made_actions}
-use Rattle.lalrpop_norm_lower.specs.State.{table_by_number}
+use Rattle.lalrpop_norm_lower.specs.State.{table_by_number, AreTypesFrom}
 use Rattle.lalrpop_norm_lower.proofs.nonterminals.lower_rules.Given as goal
 
 abbrev pub invariant-loop-left : goal.invariant-loop-left
@@ -16,6 +16,7 @@ invariant-loop-left l =
     × (map action_defn_view l.state.actions.items ++ made_actions l.initial.state.prefix.now (table_by_number l.initial.state.types.now) (rules_among (map item_view (reverse l.left.items))) ≡ map action_defn_view l.initial.state.actions.items ++ made_actions l.initial.state.prefix.now (table_by_number l.initial.state.types.now) (rules_among (map item_view l.fn.items.items)))
     × (l.state.prefix ≡ l.initial.state.prefix)
     × (l.state.types ≡ l.initial.state.types)
+    × AreTypesFrom l.initial.state.types.now l.number (rules_among (map item_view (reverse l.left.items)))
     × ((l.recovers || uses_recovery (rules_among (map item_view (reverse l.left.items)))) ≡ uses_recovery (rules_among (map item_view l.fn.items.items)))
 
 abbrev pub decreases-loop-left : goal.decreases-loop-left

@@ -1,4 +1,13 @@
+use Rattle.std.proofs.Common.{map, option_map}
+use Rattle.lalrpop_norm_tree_parts.specs.Reprs.{repr_view}
+use Rattle.lalrpop_norm_repr.specs.Tables.{type_table}
+use Rattle.lalrpop_norm_lower.proofs.NumberLemmas.{types_in_order}
 use Rattle.lalrpop_norm_lower.proofs.numbered.numbered_by.Goals as goal
 
 pub invariant_of-result : goal.invariant_of-result
-invariant_of-result c = record { numbered = ∣ c.in_ok-by_number.ensures ∣₁ }
+invariant_of-result c = record { numbered = ∣ c.in_ok-by_number.ensures.types ∣₁ }
+
+pub returns-clause-types : goal.returns-clause-types
+returns-clause-types c =
+    types_in_order (type_table c.args.table.now) c.in_ok-names.names c.args.listed.now (map (option_map (λ t. repr_view t.now)) c.in_ok-by_number.by_number.items)
+    c.in_ok-names.ensures c.requires c.in_ok-by_number.ensures.count c.in_ok-by_number.ensures.types

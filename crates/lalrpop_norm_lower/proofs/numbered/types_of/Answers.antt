@@ -50,4 +50,4 @@ pub returns : goal.returns
 returns c =
     let end : IsWalkedTo c.args.table.now c.args.listed.now c.args.names.now [] c.loop-name.types.items =
     subst (λ rest. IsWalkedTo c.args.table.now c.args.listed.now c.args.names.now rest c.loop-name.types.items) c.in-None.ensures.steps.0 c.loop-name.invariant in
-    end.will_be
+    record { types = end.will_be; count = end.long }

@@ -1,6 +1,8 @@
-use Rattle.std.proofs.Common.{subst}
+use Rattle.std.proofs.Common.{map, subst, sym}
 use Rattle.lalrpop_norm_faults.specs.Faults.{Refuses}
+use Rattle.lalrpop_norm_theory.specs.Rounds.{IsDistinct}
 use Rattle.lalrpop_norm_tree.specs.Items as written
+use Rattle.lalrpop_norm_tree.specs.Items.{RuleData}
 use Rattle.lalrpop_norm_session.specs.Sessions.{features_view}
 use Rattle.lalrpop_norm_model.specs.PlainRules.{all_rules}
 use Rattle.lalrpop_norm_repr.specs.Lowered as lowered
@@ -10,12 +12,16 @@ use Rattle.lalrpop_norm_lower.specs.Active.{active_grammar}
 use Rattle.lalrpop_norm_lower.specs.Lowering.{rules_among}
 use Rattle.lalrpop_norm_lower.specs.Made.{made_faults, IsMade}
 use Rattle.lalrpop_norm_lower.specs.Shape.{IsLoweringOf}
-use Rattle.lalrpop_norm_lower.proofs.FaultCounts.{faults_same}
+use Rattle.lalrpop_norm_lower.proofs.FaultCounts.{faults_same, rules_listed}
 use Rattle.lalrpop_norm_lower.proofs.MadeLemmas.{made_is_lowered, made_is_closed, where_clean}
 use Rattle.lalrpop_norm_lower.proofs.whole.lower.Goals as goal
 
 pub lower_over-requires : goal.lower_over-requires
-lower_over-requires g c = c.requires.expanded.known_attributes
+lower_over-requires g c =
+    record {
+      known = c.requires.expanded.known_attributes;
+      distinct = subst (λ rs. IsDistinct (map (λ (r : RuleData). r.name.0) rs)) (sym (rules_listed (written.grammar_view c.args.grammar).items)) c.requires.expanded.distinct_names;
+    }
 
 pub returns-clause-refuses : goal.returns-clause-refuses
 returns-clause-refuses g c = subst (λ fs. Refuses c.lower_over.result fs) (faults_same (written.grammar_view c.args.grammar) (type_table c.args.types)) c.lower_over.ensures.refuses
