@@ -8,6 +8,7 @@
 mod error;
 mod lists;
 mod numbers;
+pub mod pairs;
 mod passing;
 mod plain;
 mod records;

@@ -39,8 +39,16 @@ pub fn push<T: Drop>(list: &mut Vec<T>, item: T) -> Result<(), ReadError>
     ensures ok { OnOk result (list.new.items ≡ list.old.items ++ item ∷ []) }
     ensures err { IsErrOf result ReadError.NotJson → ⊥ }
 {
+    push_onto(list, item, 1)
+}
+
+/// One more item; where it is the first, the list takes room for so many.
+pub(crate) fn push_onto<T: Drop>(list: &mut Vec<T>, item: T, room: usize) -> Result<(), ReadError>
+    ensures ok { OnOk result (list.new.items ≡ list.old.items ++ item ∷ []) }
+    ensures err { IsErrOf result ReadError.NotJson → ⊥ }
+{
     if list.is_empty() {
-        list.reserve_exact(1)?;
+        list.reserve_exact(room)?;
     }
     list.push(item)?;
     Ok(())

@@ -1,5 +1,5 @@
 //! The nonterminals of a lowered grammar: start symbols first, then the rules.
-ghost use Rattle.std.specs.Prelude.{◌≡◌, ◌<◌, ◌+◌, ◌++◌, ⊤, [], ◌∷◌, length, reverse, IfOk, OnOk, MatchOption, map, vec_len};
+ghost use Rattle.std.specs.Prelude.{◌≡◌, ◌<◌, ◌+◌, ◌++◌, ◌||◌, ⊤, [], ◌∷◌, length, reverse, IfOk, OnOk, MatchOption, map, vec_len};
 ghost use Rattle.lalrpop_norm_faults.specs.Faults.{Refuses};
 ghost use Rattle.lalrpop_norm_tree_parts.specs.Reprs.{repr_view};
 ghost use Rattle.lalrpop_norm_tree.specs.Items.{alternative_view, rule_view, item_view};
@@ -15,6 +15,7 @@ ghost use Rattle.lalrpop_norm_lower.specs.Starts.{start_rule, start_typed};
 ghost use Rattle.lalrpop_norm_lower.specs.Typing.{start_types};
 
 use crate::alternatives::{lower_alternative, lower_alternatives};
+use crate::numbered::NumberedTypes;
 use crate::recovery::some_error;
 use crate::starts::{Start, insert, rule_type};
 use crate::state::LowerState;
@@ -178,14 +179,63 @@ pub(crate) fn lower_rules(state: &mut LowerState, items: Vec<GrammarItem>) -> No
     let mut recovers = false;
     let mut number = 0usize;
     while let Some(item) = next_item(&mut left)? {
+        recovers = sees_error(recovers, &left);
+        state.names.reserve(room_ahead(state.types, number, &left))?;
         if let Ok(rule) = item.into_nonterminal() {
-            // Here, since lowering the rule reads its alternatives next.
             recovers = recovers || some_error(&rule.alternatives);
             add_rule(state, number, rule)?;
             number += 1;
         }
     }
     Ok(recovers)
+}
+
+/// Whether `!` is known to stand in a rule, where the one that comes next is looked at too, of those that are left in falling order: while
+/// the rule before it is lowered, its alternatives are on their way from memory.
+fn sees_error(recovers: bool, left: &[GrammarItem]) -> bool
+    ensures { (result || uses_recovery (rules_among (map item_view (reverse left.now)))) ≡ (recovers || uses_recovery (rules_among (map item_view (reverse left.now)))) }
+{
+    match left.last() {
+        Some(GrammarItem::Nonterminal(rule)) => recovers || some_error(&rule.alternatives),
+        Some(
+            GrammarItem::MatchToken(_)
+            | GrammarItem::ExternToken(_)
+            | GrammarItem::InternToken(_)
+            | GrammarItem::Use(_),
+        )
+        | None => recovers,
+    }
+}
+
+/// For how many names of sources there is to be room, behind the rule of that number, of those that are left in falling order: as many as
+/// the rule after the next has symbols in an alternative; none where the next one has the unit type, by which code that is absent needs no
+/// names. What is looked at here is on its way from memory while the rule of that number is lowered.
+fn room_ahead(types: &NumberedTypes, number: usize, left: &[GrammarItem]) -> usize {
+    let count = left.len();
+    if count < 2 {
+        return 0;
+    }
+    let most = match &left[count - 2] {
+        GrammarItem::Nonterminal(rule) => most_symbols(&rule.alternatives),
+        GrammarItem::MatchToken(_)
+        | GrammarItem::ExternToken(_)
+        | GrammarItem::InternToken(_)
+        | GrammarItem::Use(_) => 0,
+    };
+    if types.is_unit(number.saturating_add(1)) {
+        0
+    } else {
+        most
+    }
+}
+
+/// How many symbols the longest of the alternatives has.
+fn most_symbols(alternatives: &[Alternative]) -> usize {
+    let mut most = 0;
+    for alternative in alternatives {
+        most = most.max(alternative.expr.symbols.len());
+    }
+    most
 }
 
 /// Takes the item that comes next, of those that are left in falling order.

@@ -55,6 +55,14 @@ impl<'t> NumberedTypes<'t> {
     {
         self.by_number[number]
     }
+
+    /// Whether the rule of that number has the unit type.
+    pub(crate) fn is_unit(&self, number: usize) -> bool {
+        match self.by_number.get(number) {
+            Some(Some(ty)) => ty.is_unit(),
+            Some(None) | None => false,
+        }
+    }
 }
 
 /// The names of the rules among the items.

@@ -10,9 +10,9 @@ ghost use Rattle.lalrpop_norm_json.specs.SymbolForms.{kind_form, part_form, grou
 use super::Tree;
 use super::symbol_reads::bare_kind;
 use json::{Reader, Token};
+use json_records::pairs::push;
 use json_records::{
-    ReadError, Reads, both, fitted, is_other, next_item, next_member, open_array, open_object,
-    pass, push,
+    ReadError, Reads, both, fitted, is_other, next_item, next_member, open_array, open_object, pass,
 };
 use lalrpop_norm_tree::grammar::parse_tree::{
     Atom, ExprSymbol, MacroSymbol, Name, NonterminalString, RepeatOp, RepeatSymbol, Span, Symbol,

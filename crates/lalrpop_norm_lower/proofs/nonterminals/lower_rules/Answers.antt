@@ -58,5 +58,5 @@ loop-left-preserved-in-Ok c =
       ensures.given.0 ∙ invariant.3,
       ensures.given.1 ∙ invariant.4,
       types_behind c.args.state.now.types.now c.loop-left.number _ _ _ here invariant.5 (items_left (goal.at.loop-left-preserved-in-Ok c).In-Ok) c.in-Ok.ensures.rule,
-      grind (arith, common_steps, next, invariant.6),
+      grind (arith, common_steps, next, invariant.6, c.sees_error-recovers.ensures),
     )
