@@ -3,6 +3,7 @@ mod ConditionLemmas
 mod InstanceLemmas
 pub mod MacroLemmas
 pub mod NameLemmas
+mod NoMacros
 mod PendingLemmas
 mod SourceLemmas
 mod UnboundLemmas

@@ -1,9 +1,10 @@
 //! The macros of a grammar, by their names.
 ghost use Rattle.std.specs.Prelude.{◌≡◌, ℕ, List, ◌++◌, ◌∷◌, [], Some, None, IfOk, OnOk, map, flat_map, option_map, bytes_eq, if◌then◌else◌};
 ghost use Rattle.std.specs.BTreeMap.{get};
+ghost use Rattle.std.specs.List.{list_any};
 ghost use Rattle.std.specs.Ordering.{nat_cmp};
 ghost use Rattle.std.specs.Cmp.Lexicographic.{slice_cmp};
-ghost use Rattle.lalrpop_norm_tree.specs.Accessors.{or_else};
+ghost use Rattle.lalrpop_norm_tree.specs.Accessors.{is_macro_item, or_else};
 ghost use Rattle.lalrpop_norm_tree.specs.Items.{item_view, rule_view, rule_item};
 ghost use Rattle.lalrpop_norm_model.specs.MadeRules.{macro_named};
 ghost use Rattle.lalrpop_norm_macro_expand_rules.specs.Macros.{macros_in, AreByName};
@@ -108,7 +109,20 @@ fn sort_out(
     }
 }
 
+/// Whether one of the items is a macro.
+fn some_macro(items: &[GrammarItem]) -> bool
+    ensures { result ≡ list_any is_macro_item (map item_view items.now) }
+{
+    for item in items {
+        if item.is_macro_def() {
+            return true;
+        }
+    }
+    false
+}
+
 /// The items that are no macros, and the macros, each in their order.
+#[tactic(auto, using(crate::proofs::NoMacros::all_others, crate::proofs::NoMacros::no_macros))]
 pub fn without_macros(
     alloc: Global,
     items: Vec<GrammarItem>,
@@ -117,8 +131,12 @@ pub fn without_macros(
     ensures macros { IfOk result (λ t. macros_in t.1 ≡ flat_map macro_in (map item_view items.items)) }
     ensures named { IfOk result (λ t. AreByName t.1) }
 {
-    let mut others = Vec::with_capacity(alloc, items.len())?;
     let mut macros = Macros::new(alloc);
+    // Items are large, and most grammars have no macro.
+    if !some_macro(&items) {
+        return Ok((items, macros));
+    }
+    let mut others = Vec::with_capacity(alloc, items.len())?;
     for item in items {
         sort_out(item, &mut others, &mut macros)?;
     }
