@@ -23,7 +23,7 @@ use crate::traced::{Plain, names_of_rules, origins_in_order};
 use lalrpop_norm_explain::{Traced, with_origins};
 use lalrpop_norm_faults::NormResult;
 use lalrpop_norm_lexer::lexer::Lexer;
-use lalrpop_norm_lower::lower;
+use lalrpop_norm_lower::lower_numbered;
 use lalrpop_norm_macro_expand::expand_resolved_traced;
 use lalrpop_norm_macro_expand::macro_expand::expand_resolved;
 use lalrpop_norm_precedence::precedence::{expand_precedence, expand_precedence_traced};
@@ -33,7 +33,7 @@ use lalrpop_norm_repr::grammar::repr;
 use lalrpop_norm_session::Session;
 use lalrpop_norm_token_check::token_check;
 use lalrpop_norm_tree::grammar::parse_tree;
-use lalrpop_norm_tyinfer::tyinfer::infer_types;
+use lalrpop_norm_tyinfer::tyinfer::infer_types_numbered;
 use std::alloc::Global;
 
 /// Normalizes a written grammar: the lowered grammar with its numbered productions, action functions, terminals and
@@ -161,7 +161,7 @@ fn type_and_lower<L>(
     ensures refuses { Refuses result (late_faults (written.grammar_view plain)) }
     ensures lowered { IfOk result (λ l. IsTypedLowering (features_view session.now.features) (written.grammar_view plain) (lowered.lowered_grammar_view l)) }
 {
-    let types = infer_types(alloc, &plain)?;
-    // From here on each nonterminal has one type (`infer_types.inferred`; law `inferred_types_are_total`).
-    lower(alloc, session, plain, types)
+    let (types, names) = infer_types_numbered(alloc, &plain)?;
+    // From here on each nonterminal has one type (`infer_types_numbered.inferred`; law `inferred_types_are_total`).
+    lower_numbered(alloc, session, plain, types, names)
 }

@@ -77,14 +77,14 @@ by_places f (x ∷ xs) (y ∷ ys) long at =
     let others : ys ≡ map f xs = by_places f xs ys (cc) (λ (k : ℕ). at (suc k)) in
     cc
 
--- the types by number are those of the names, in order
-pub types_in_order : (types : TypeTable) (names : Names) (listed : List NonterminalString) (list : List (Option ReprData)) → IsNumbering (map (λ n. n.0) listed) names → IsDistinct (map (λ n. n.0) listed)
-    → length list ≡ length listed → AreTypesByNumber types names list → list ≡ map (λ n. type_of n types) listed
-types_in_order types names listed list numbering distinct long known =
-    by_places (λ n. type_of n types) listed list long (λ k n at.
+-- the types by number are those of the rules, in order
+pub types_in_order : (types : TypeTable) (names : Names) (rules : List RuleData) (list : List (Option ReprData)) → IsNumbering (map (λ r. r.name.0) rules) names → IsDistinct (map (λ r. r.name.0) rules)
+    → length list ≡ length rules → AreTypesByNumber types names list → list ≡ map (λ r. type_of r.name types) rules
+types_in_order types names rules list numbering distinct long known =
+    by_places (λ r. type_of r.name types) rules list long (λ k r at.
     let here : 0 + k ≡ k = omega arith in
-    known n k (numbering n.0 ∙ position_from-zero (λ stands. bytes_eq stands n.0) (map (λ m. m.0) listed)
-    ∙ place_of (map (λ m. m.0) listed) 0 k n.0 distinct (slice_get-map (λ (m : NonterminalString). m.0) listed k ∙ ap (option_map (λ (m : NonterminalString). m.0)) at) ∙ ap Some here))
+    known r.name k (numbering r.name.0 ∙ position_from-zero (λ stands. bytes_eq stands r.name.0) (map (λ q. q.name.0) rules)
+    ∙ place_of (map (λ q. q.name.0) rules) 0 k r.name.0 distinct (slice_get-map (λ (q : RuleData). q.name.0) rules k ∙ ap (option_map (λ (q : RuleData). q.name.0)) at) ∙ ap Some here))
 
 -- ---- the rules in order
 

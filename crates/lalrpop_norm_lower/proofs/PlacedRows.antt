@@ -9,6 +9,7 @@ use Rattle.std.proofs.lemmas.Option.{slice_get-get_or, same_Some, gets}
 use Rattle.std.proofs.lemmas.Slice.Eq.{bytes_eq-Decides}
 use Rattle.lalrpop_norm_tree_names.specs.declared.names.NonterminalString.{NonterminalString}
 use Rattle.lalrpop_norm_tree_parts.specs.Reprs.{ReprData, repr_view}
+use Rattle.lalrpop_norm_tree.specs.Items.{RuleData}
 use Rattle.lalrpop_norm_tree_parts.specs.declared.lowered.TypeRepr.{TypeRepr}
 use Rattle.lalrpop_norm_names.specs.Numbers.{number_in_table, IsNumbering}
 use Rattle.lalrpop_norm_names.specs.declared.table.Names.{Names}
@@ -40,9 +41,9 @@ pub record WillBeByNumber (types : TypeTable) (names : Names) (count : ℕ) (res
   pub long : length list ≡ count
 
 -- the walk over the rows of a table has come to those that are left
-abbrev pub IsWalkedTo : Types → List NonterminalString → Names → List (NonterminalString × TypeRepr) → List (Option (Bor TypeRepr)) → Type 0
-IsWalkedTo table listed names left types =
-    WillBeByNumber (type_table table) names (length listed) (map (λ e. (e.0, repr_view e.1)) left) (map (option_map (λ t. repr_view t.now)) types)
+abbrev pub IsWalkedTo : Types → List RuleData → Names → List (NonterminalString × TypeRepr) → List (Option (Bor TypeRepr)) → Type 0
+IsWalkedTo table rules names left types =
+    WillBeByNumber (type_table table) names (length rules) (map (λ e. (e.0, repr_view e.1)) left) (map (option_map (λ t. repr_view t.now)) types)
 
 over_none : (o : Option ReprData) → put_over o (Some None) ≡ Some o
 over_none None = refl
@@ -52,33 +53,33 @@ pub none_seen : {X : Type 0} (view : X → ReprData) (n : ℕ) → map (option_m
 none_seen view zero = refl
 none_seen view (suc n) = ap (λ os. None ∷ os) (none_seen view n)
 
--- ---- each step, by the numbers of the listed names
+-- ---- each step, by the numbers of the names of rules
 
-module _ (listed : List NonterminalString) (names : Names) (numbering : IsNumbering (map (λ n. n.0) listed) names) where
-  standing : (name : List ℕ) (k : ℕ) → number_in_table names name ≡ Some k → (k < length listed) × (get_or (map (λ n. n.0) listed) k [] ≡ name)
+module _ (rules : List RuleData) (names : Names) (numbering : IsNumbering (map (λ r. r.name.0) rules) names) where
+  standing : (name : List ℕ) (k : ℕ) → number_in_table names name ≡ Some k → (k < length rules) × (get_or (map (λ r. r.name.0) rules) k [] ≡ name)
   standing name k number =
-      let here = position-Some (λ stands. bytes_eq stands name) (map (λ n. n.0) listed) k [] (sym (numbering name) ∙ number) in
-      (subst (λ n. k < n) (length-map listed (λ n. n.0)) here.0, (bytes_eq-Decides (get_or (map (λ n. n.0) listed) k []) name).0 here.1)
+      let here = position-Some (λ stands. bytes_eq stands name) (map (λ r. r.name.0) rules) k [] (sym (numbering name) ∙ number) in
+      (subst (λ n. k < n) (length-map rules (λ r. r.name.0)) here.0, (bytes_eq-Decides (get_or (map (λ r. r.name.0) rules) k []) name).0 here.1)
 
-  pub within_listed : (name : List ℕ) (k : ℕ) → number_in_table names name ≡ Some k → k < length listed
-  within_listed name k number = (standing name k number).0
+  pub within_rules : (name : List ℕ) (k : ℕ) → number_in_table names name ≡ Some k → k < length rules
+  within_rules name k number = (standing name k number).0
 
   one_name : (a b : List ℕ) (k : ℕ) → number_in_table names a ≡ Some k → number_in_table names b ≡ Some k → a ≡ b
   one_name a b k first second = sym (standing a k first).1 ∙ (standing b k second).1
 
   module _ (types : TypeTable) where
-    pub all_left : IsStrictlySortedBy name_cmp (keys_of types.nonterminals) → WillBeByNumber types names (length listed) types.nonterminals (replicate (length listed) None)
+    pub all_left : IsStrictlySortedBy name_cmp (keys_of types.nonterminals) → WillBeByNumber types names (length rules) types.nonterminals (replicate (length rules) None)
     all_left ordered = record {
       will_be = λ name k number.
-          let within = within_listed name.0 k number in
-          let stands : slice_get (replicate (length listed) None) k ≡ Some None =
-          slice_get-get_or _ k None (subst (λ n. k < n) (sym (length-replicate (length listed) None)) within) ∙ ap Some (get_or-replicate (length listed) k None None within) in
+          let within = within_rules name.0 k number in
+          let stands : slice_get (replicate (length rules) None) k ≡ Some None =
+          slice_get-get_or _ k None (subst (λ n. k < n) (sym (length-replicate (length rules) None)) within) ∙ ap Some (get_or-replicate (length rules) k None None within) in
           ap (put_over (type_of name types)) stands ∙ over_none (type_of name types);
       ordered = ordered;
-      long = length-replicate (length listed) None;
+      long = length-replicate (length rules) None;
     }
 
-    module _ (r : NonterminalString × ReprData) (rs : List (NonterminalString × ReprData)) (list : List (Option ReprData)) (left : WillBeByNumber types names (length listed) (r ∷ rs) list) where
+    module _ (r : NonterminalString × ReprData) (rs : List (NonterminalString × ReprData)) (list : List (Option ReprData)) (left : WillBeByNumber types names (length rules) (r ∷ rs) list) where
       rest_ordered : IsStrictlySortedBy name_cmp (keys_of rs)
       unfolding IsStrictlySortedBy
       rest_ordered = left.ordered.1
@@ -89,8 +90,8 @@ module _ (listed : List NonterminalString) (names : Names) (numbering : IsNumber
           let clash : None ≡ Some k = sym none ∙ ap (number_in_table names) (sym ((bytes_eq-Decides name.0 r.0.0).0 is)) ∙ number in absurd (cc clash)
       passed name k none number false is here = here
 
-      -- a row whose name is not listed
-      pub row_passed : number_in_table names r.0.0 ≡ None → WillBeByNumber types names (length listed) rs list
+      -- a row whose name is that of no rule
+      pub row_passed : number_in_table names r.0.0 ≡ None → WillBeByNumber types names (length rules) rs list
       row_passed none = record {
         will_be = λ name k number. passed name k none number (bytes_eq name.0 r.0.0) refl (left.will_be name k number);
         ordered = rest_ordered;
@@ -99,7 +100,7 @@ module _ (listed : List NonterminalString) (names : Names) (numbering : IsNumber
 
       module _ (place : ℕ) (number : number_in_table names r.0.0 ≡ Some place) where
         pub place_within : place < length list
-        place_within = subst (λ n. place < n) (sym left.long) (within_listed r.0.0 place number)
+        place_within = subst (λ n. place < n) (sym left.long) (within_rules r.0.0 place number)
 
         put : (name : NonterminalString) (k : ℕ) → number_in_table names name.0 ≡ Some k → (b : Bool) → bytes_eq name.0 r.0.0 ≡ b →
             put_over (cond b (Some r.1) (found name rs)) (slice_get list k) ≡ Some (type_of name types) → put_over (found name rs) (slice_get (set list place (Some r.1)) k) ≡ Some (type_of name types)
@@ -115,7 +116,7 @@ module _ (listed : List NonterminalString) (names : Names) (numbering : IsNumber
             (λ at. texts_differ name.0 r.0.0 is (one_name name.0 r.0.0 k numbered (number ∙ ap Some (sym at))))) ∙ here
 
         -- one that is put at its number
-        pub row_put : WillBeByNumber types names (length listed) rs (set list place (Some r.1))
+        pub row_put : WillBeByNumber types names (length rules) rs (set list place (Some r.1))
         row_put = record {
           will_be = λ name k numbered. put name k numbered (bytes_eq name.0 r.0.0) refl (left.will_be name k numbered);
           ordered = rest_ordered;

@@ -22,4 +22,4 @@ mod tokens;
 mod typing;
 mod whole;
 
-pub use whole::lower;
+pub use whole::{lower, lower_numbered};

@@ -23,19 +23,24 @@ pub(crate) struct NumberedTypes<'t> {
 }
 
 impl<'t> NumberedTypes<'t> {
-    /// For the rules among the items, which have names of their own: each has its place among them as its number. Each row of the table is
-    /// met once.
+    /// For the rules among the items, which have names of their own: each has its place among them as its number.
     pub(crate) fn of(
         alloc: Global,
         table: &'t Types,
         items: &[GrammarItem],
+        names: Names,
     ) -> Result<NumberedTypes<'t>, NoMemory>
-        requires { IsDistinct (map (λ r. r.name.0) (rules_among (map item_view items.now))) }
+        requires distinct { IsDistinct (map (λ r. r.name.0) (rules_among (map item_view items.now))) }
+        requires numbering { IsNumbering (map (λ r. r.name.0) (rules_among (map item_view items.now))) names }
         ensures table { IfOk result (λ n. n.table.now ≡ table.now) }
         ensures types { IfOk result (λ n. map (option_map (λ t. repr_view t.now)) n.by_number.items ≡ map (λ r. type_of r.name (type_table table.now)) (rules_among (map item_view items.now))) }
     {
-        let names = names_of_rules(alloc, items)?;
-        numbered_by(alloc, table, &names)
+        let by_number = types_of(alloc, table, items, &names)?;
+        Ok(NumberedTypes {
+            table,
+            names,
+            by_number,
+        })
     }
 
     /// The type of a nonterminal, if it has one. One that is no rule is looked up in the table.
@@ -65,6 +70,14 @@ impl<'t> NumberedTypes<'t> {
     }
 }
 
+/// The numbers of the names of the rules among the items: each has the first place among them at which it stands.
+pub(crate) fn numbers_of_rules(alloc: Global, items: &[GrammarItem]) -> Result<Names, NoMemory>
+    ensures { IfOk result (IsNumbering (map (λ r. r.name.0) (rules_among (map item_view items.now)))) }
+{
+    let names = names_of_rules(alloc, items)?;
+    Names::of(alloc, &names)
+}
+
 /// The names of the rules among the items.
 fn names_of_rules(alloc: Global, items: &[GrammarItem]) -> Result<Vec<NonterminalString>, NoMemory>
     ensures { IfOk result (λ ns. ns.items ≡ map (λ r. r.name) (rules_among (map item_view items.now))) }
@@ -90,41 +103,35 @@ fn add_name(names: &mut Vec<NonterminalString>, item: &GrammarItem) -> Result<()
     Ok(())
 }
 
-/// By these names, each of which has its place among them as its number.
-fn numbered_by<'t>(
-    alloc: Global,
-    table: &'t Types,
-    listed: &[NonterminalString],
-) -> Result<NumberedTypes<'t>, NoMemory>
-    requires { IsDistinct (map (λ n. n.0) listed.now) }
-    ensures table { IfOk result (λ n. n.table.now ≡ table.now) }
-    ensures types { IfOk result (λ n. map (option_map (λ t. repr_view t.now)) n.by_number.items ≡ map (λ n. type_of n (type_table table.now)) listed.now) }
-{
-    let names = Names::of(alloc, listed)?;
-    let by_number = types_of(alloc, table, listed, &names)?;
-    Ok(NumberedTypes {
-        table,
-        names,
-        by_number,
-    })
-}
-
-/// What the table has for each of the names, at its number. Each row of the table is met once.
+/// What the table has for each of the rules among the items, at the number of its name. Each row of the table is met once.
 fn types_of<'t>(
     alloc: Global,
     table: &'t Types,
-    listed: &[NonterminalString],
+    items: &[GrammarItem],
     names: &Names,
 ) -> Result<Vec<Option<&'t TypeRepr>>, NoMemory>
-    requires { IsNumbering (map (λ n. n.0) listed.now) names.now }
+    requires { IsNumbering (map (λ r. r.name.0) (rules_among (map item_view items.now))) names.now }
     ensures types { IfOk result (λ ts. AreTypesByNumber (type_table table.now) names.now (map (option_map (λ t. repr_view t.now)) ts.items)) }
-    ensures count { IfOk result (λ ts. length (map (option_map (λ t. repr_view t.now)) ts.items) ≡ length listed.now) }
+    ensures count { IfOk result (λ ts. length (map (option_map (λ t. repr_view t.now)) ts.items) ≡ length (rules_among (map item_view items.now))) }
 {
-    let mut types = vec![in alloc; None; listed.len()]?;
+    let mut types = vec![in alloc; None; count_rules(items)]?;
     for (name, ty) in table.nonterminals() {
         if let Some(number) = names.number(name) {
             types[number] = Some(ty);
         }
     }
     Ok(types)
+}
+
+/// How many of the items are rules.
+fn count_rules(items: &[GrammarItem]) -> usize
+    ensures { result ≡ length (rules_among (map item_view items.now)) }
+{
+    let mut count = 0usize;
+    for item in items {
+        if item.as_nonterminal().is_some() {
+            count += 1;
+        }
+    }
+    count
 }

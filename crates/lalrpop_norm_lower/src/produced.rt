@@ -3,6 +3,7 @@ ghost use Rattle.std.specs.Prelude.{◌≡◌, ◌+◌, ◌++◌, [], IfOk, OnOk
 ghost use Rattle.lalrpop_norm_faults.specs.Faults.{Refuses};
 ghost use Rattle.lalrpop_norm_theory.specs.Rounds.{IsDistinct};
 ghost use Rattle.lalrpop_norm_tree.specs.Items.{item_view};
+ghost use Rattle.lalrpop_norm_names.specs.Numbers.{IsNumbering};
 ghost use Rattle.lalrpop_norm_repr.specs.Actions.{action_defn_view};
 ghost use Rattle.lalrpop_norm_repr.specs.Productions.{nonterminal_data_view};
 ghost use Rattle.lalrpop_norm_repr.specs.Tables.{type_table, rows};
@@ -19,6 +20,7 @@ use crate::rules::public_rules;
 use crate::starts::{Start, start_table, starts_of, typed_starts};
 use crate::state::LowerState;
 use lalrpop_norm_faults::NormResult;
+use lalrpop_norm_names::Names;
 use lalrpop_norm_repr::grammar::repr::{
     ActionFnDefn, NonterminalData, NonterminalString, TypeRepr, Types,
 };
@@ -37,18 +39,20 @@ pub(crate) struct Produced {
     pub(crate) recovers: bool,
 }
 
-/// What is made of the rules among the items, by the table of their types.
+/// What is made of the rules among the items, by the table of their types and the numbers of their names.
 pub(crate) fn produce(
     alloc: Global,
     prefix: &str,
     items: Vec<GrammarItem>,
     types: &Types,
+    names: Names,
 ) -> NormResult<Produced>
-    requires { IsDistinct (map (λ r. r.name.0) (rules_among (map item_view items.items))) }
+    requires distinct { IsDistinct (map (λ r. r.name.0) (rules_among (map item_view items.items))) }
+    requires numbering { IsNumbering (map (λ r. r.name.0) (rules_among (map item_view items.items))) names }
     ensures refuses { Refuses result (made_faults prefix.now (type_table types.now) (rules_among (map item_view items.items))) }
     ensures produced { IfOk result (IsProduced prefix.now (type_table types.now) (rules_among (map item_view items.items))) }
 {
-    let types = NumberedTypes::of(alloc, types, &items)?;
+    let types = NumberedTypes::of(alloc, types, &items, names)?;
     produce_by(alloc, prefix, items, &types)
 }
 

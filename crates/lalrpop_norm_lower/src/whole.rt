@@ -4,9 +4,10 @@ ghost use Rattle.lalrpop_norm_faults.specs.Faults.{Refuses};
 ghost use Rattle.lalrpop_norm_theory.specs.Rounds.{IsDistinct};
 ghost use Rattle.lalrpop_norm_tree.specs.Items as written;
 ghost use Rattle.lalrpop_norm_tree.specs.Items.{GrammarData};
+ghost use Rattle.lalrpop_norm_names.specs.Numbers.{IsNumbering};
 ghost use Rattle.lalrpop_norm_session.specs.Sessions.{features_view};
 ghost use Rattle.lalrpop_norm_model.specs.Features.{Features};
-ghost use Rattle.lalrpop_norm_model.specs.Expanded.{IsExpanded, IsTyped, all_known};
+ghost use Rattle.lalrpop_norm_model.specs.Expanded.{IsExpanded, IsTyped, all_known, rule_names};
 ghost use Rattle.lalrpop_norm_model.specs.LoweringFaults.{lowering_faults};
 ghost use Rattle.lalrpop_norm_model.specs.PlainRules.{all_rules};
 ghost use Rattle.lalrpop_norm_repr.specs.Lowered as lowered;
@@ -20,10 +21,12 @@ ghost use Rattle.lalrpop_norm_lower.specs.Produced.{IsProduced};
 ghost use Rattle.lalrpop_norm_lower.specs.Shape.{IsLoweringOf};
 
 use crate::carried::{Carried, carried_of};
+use crate::numbered::numbers_of_rules;
 use crate::produced::{Produced, produce};
 use crate::typing::add_start_types;
 use lalrpop_norm_faults::NormResult;
 use lalrpop_norm_lower_steps::terminals::terminal_set;
+use lalrpop_norm_names::Names;
 use lalrpop_norm_repr::grammar::repr::{Grammar, Types};
 use lalrpop_norm_session::Session;
 use lalrpop_norm_tree::grammar::parse_tree as pt;
@@ -56,7 +59,29 @@ pub fn lower<L>(
         (all_rules (written.grammar_view grammar)) (type_table types) (lowered.lowered_grammar_view l)) }
     ensures closed { IfOk result (λ l. IsClosed (lowered.lowered_grammar_view l)) }
 {
-    lower_over(alloc, session, grammar, types)
+    let names = numbers_of_rules(alloc, &grammar.items)?;
+    lower_numbered(alloc, session, grammar, types, names)
+}
+
+/// As [`lower`], where the numbers of the rules' names are there already: each rule has its place among the rules as its number, from 0.
+///
+/// Errors: those of [`lower`].
+pub fn lower_numbered<L>(
+    alloc: Global,
+    session: &Session<L>,
+    grammar: pt::Grammar,
+    types: Types,
+    names: Names,
+) -> NormResult<Grammar>
+    requires expanded { IsExpanded (written.grammar_view grammar) }
+    requires typed { IsTyped (features_view session.now.features) (written.grammar_view grammar) (types_by_name (type_table types)) }
+    requires names { IsNumbering (rule_names (written.grammar_view grammar)) names }
+    ensures refuses { Refuses result (lowering_faults (written.grammar_view grammar) (types_by_name (type_table types))) }
+    ensures lowered { IfOk result (λ l. IsLoweringOf (active_grammar (features_view session.now.features) (written.grammar_view grammar))
+        (all_rules (written.grammar_view grammar)) (type_table types) (lowered.lowered_grammar_view l)) }
+    ensures closed { IfOk result (λ l. IsClosed (lowered.lowered_grammar_view l)) }
+{
+    lower_over(alloc, session, grammar, types, names)
 }
 
 /// The same, in the words of what is made.
@@ -67,14 +92,16 @@ fn lower_over<L>(
     session: &Session<L>,
     grammar: pt::Grammar,
     types: Types,
+    names: Names,
 ) -> NormResult<Grammar>
     requires known { all_known (written.grammar_view grammar).attributes ≡ true }
     requires distinct { IsDistinct (map (λ r. r.name.0) (rules_among (written.grammar_view grammar).items)) }
+    requires numbering { IsNumbering (map (λ r. r.name.0) (rules_among (written.grammar_view grammar).items)) names }
     ensures refuses { Refuses result (made_faults (written.grammar_view grammar).prefix (type_table types) (rules_among (written.grammar_view grammar).items)) }
     ensures lowered { IfOk result (λ l. IsMade (features_view session.now.features) (written.grammar_view grammar) (type_table types) (lowered.lowered_grammar_view l)) }
 {
     let carried = carried_of(alloc, session, &grammar)?;
-    lower_rest(alloc, grammar, types, carried)
+    lower_rest(alloc, grammar, types, names, carried)
 }
 
 /// The same, where all is made but what is made of the rules.
@@ -82,15 +109,17 @@ fn lower_rest(
     alloc: Global,
     mut grammar: pt::Grammar,
     types: Types,
+    names: Names,
     carried: Carried,
 ) -> NormResult<Grammar>
-    requires { IsDistinct (map (λ r. r.name.0) (rules_among (written.grammar_view grammar).items)) }
+    requires distinct { IsDistinct (map (λ r. r.name.0) (rules_among (written.grammar_view grammar).items)) }
+    requires numbering { IsNumbering (map (λ r. r.name.0) (rules_among (written.grammar_view grammar).items)) names }
     ensures refuses { Refuses result (made_faults (written.grammar_view grammar).prefix (type_table types) (rules_among (written.grammar_view grammar).items)) }
     ensures lowered { IfOk result (λ l. (fs : Features) → IsCarriedOver fs (written.grammar_view grammar) carried
         → IsMade fs (written.grammar_view grammar) (type_table types) (lowered.lowered_grammar_view l)) }
 {
     let items = mem::replace(&mut grammar.items, Vec::new(alloc));
-    let produced = produce(alloc, grammar.prefix.as_str(), items, &types)?;
+    let produced = produce(alloc, grammar.prefix.as_str(), items, &types, names)?;
     Ok(lowered_of(alloc, types, carried, produced)?)
 }
 

@@ -3,6 +3,7 @@ ghost use Rattle.std.specs.Prelude.{◌≡◌, List, IfOk, map};
 ghost use Rattle.lalrpop_norm_tree_names.specs.declared.names.TypeParameter.{TypeParameter};
 ghost use Rattle.lalrpop_norm_tree.specs.Items.{grammar_view};
 ghost use Rattle.lalrpop_norm_faults.specs.Faults.{Refuses};
+ghost use Rattle.lalrpop_norm_names.specs.Numbers.{IsNumbering};
 ghost use Rattle.lalrpop_norm_theory.specs.Rounds.{IsDistinct};
 ghost use Rattle.lalrpop_norm_repr.specs.Tables.{type_table};
 ghost use Rattle.lalrpop_norm_model.specs.Expanded.{rule_names};
@@ -21,6 +22,7 @@ mod type_sources;
 
 use agreement::check_agreement;
 use lalrpop_norm_faults::NormResult;
+use lalrpop_norm_names::Names;
 use lalrpop_norm_repr::grammar::repr::Types;
 use lalrpop_norm_tree::grammar::parse_tree::{Grammar, NoMemory};
 use lalrpop_norm_tyinfer_table::grounded::{check_clauses, check_typed};
@@ -44,17 +46,32 @@ pub fn infer_types(alloc: Global, grammar: &Grammar) -> NormResult<Types>
     ensures refuses { Refuses result (inference_faults (grammar_view grammar.now)) }
     ensures inferred { IfOk result (λ t. IsInferred (grammar_view grammar.now) (type_table t)) }
 {
+    let (types, _names) = infer_types_numbered(alloc, grammar)?;
+    Ok(types)
+}
+
+/// As `infer_types`, and with the table the numbers of the rules' names, by which it was made and the grammar can be lowered
+/// (`lower_numbered`): each rule has its place among the rules as its number, from 0.
+///
+/// Errors: those of `infer_types`.
+pub fn infer_types_numbered(alloc: Global, grammar: &Grammar) -> NormResult<(Types, Names)>
+    requires { IsDistinct (rule_names (grammar_view grammar.now)) }
+    ensures refuses { Refuses result (inference_faults (grammar_view grammar.now)) }
+    ensures inferred { IfOk result (λ p. IsInferred (grammar_view grammar.now) (type_table p.0)) }
+    ensures names { IfOk result (λ p. IsNumbering (rule_names (grammar_view grammar.now)) p.1) }
+{
     let rules = plain_rules(alloc, &grammar.items)?;
     infer(alloc, grammar, &rules)
 }
 
-/// As `infer_types`, where the rules stand by.
+/// As `infer_types_numbered`, where the rules stand by.
 // The two are apart for drops: what a function owns ends at each `?` behind it, and each end is proved.
-fn infer(alloc: Global, grammar: &Grammar, rules: &[PlainRule]) -> NormResult<Types>
+fn infer(alloc: Global, grammar: &Grammar, rules: &[PlainRule]) -> NormResult<(Types, Names)>
     requires seen { map rule_seen rules.now ≡ map with_clauses (all_rules (grammar_view grammar.now)) }
     requires distinct { IsDistinct (rule_names (grammar_view grammar.now)) }
     ensures refuses { Refuses result (inference_faults (grammar_view grammar.now)) }
-    ensures inferred { IfOk result (λ t. IsInferred (grammar_view grammar.now) (type_table t)) }
+    ensures inferred { IfOk result (λ p. IsInferred (grammar_view grammar.now) (type_table p.0)) }
+    ensures names { IfOk result (λ p. IsNumbering (rule_names (grammar_view grammar.now)) p.1) }
 {
     check_clauses(alloc, rules)?;
     let types = filled_table(alloc, grammar, rules)?;

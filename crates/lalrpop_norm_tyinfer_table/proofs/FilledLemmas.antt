@@ -55,8 +55,11 @@ names_with : (rs : List RuleData) → names_seen (map with_clauses rs) ≡ map (
 names_with [] = refl
 names_with (r ∷ rs) = ap (λ ns. r.name.0 ∷ ns) (names_with rs)
 
+pub names_of_all : (g : GrammarData) (ss : List Seen) → ss ≡ map with_clauses (all_rules g) → names_seen ss ≡ rule_names g
+names_of_all g ss same = ap names_seen same ∙ names_with (all_rules g)
+
 pub names_distinct : (g : GrammarData) (ss : List Seen) → ss ≡ map with_clauses (all_rules g) → IsDistinct (rule_names g) → IsDistinct (names_seen ss)
-names_distinct g ss same distinct = subst (λ (ns : List (List ℕ)). IsDistinct ns) (sym (ap names_seen same ∙ names_with (all_rules g))) distinct
+names_distinct g ss same distinct = subst (λ (ns : List (List ℕ)). IsDistinct ns) (sym (names_of_all g ss same)) distinct
 
 first_of_pairs : (rs : List RuleData) → map (λ (s : Seen). s.0) (map with_clauses rs) ≡ rs
 first_of_pairs [] = refl

@@ -7,7 +7,7 @@ mod LoweredViews
 mod MisfitLemmas
 pub mod NeedLemmas
 mod NeededLemmas
-mod NumberLemmas
+pub mod NumberLemmas
 pub mod NumberedLemmas
 pub mod NumberedRounds
 mod ReadLemmas

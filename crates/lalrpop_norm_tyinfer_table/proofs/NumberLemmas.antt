@@ -4,8 +4,10 @@ use Rattle.std.specs.List.{position_from}
 use Rattle.std.proofs.lemmas.Iterator.Adapters.{position_from-zero}
 use Rattle.std.proofs.lemmas.Slice.Eq.{bytes_eq-Decides}
 use Rattle.lalrpop_norm_names.specs.declared.table.Names.{Names}
-use Rattle.lalrpop_norm_names.specs.Numbers.{number_in_table, IsNumbering}
-use Rattle.lalrpop_norm_theory.specs.Rounds.{In}
+use Rattle.lalrpop_norm_names.specs.Numbers.{first_place, number_in_table, IsNumbering}
+use Rattle.lalrpop_norm_theory.specs.Rounds.{In, IsDistinct}
+use Rattle.lalrpop_norm_model.proofs.LevelLemmas.{at_in}
+use Rattle.lalrpop_norm_tyinfer_table.proofs.NeedLemmas.{one_place}
 use Rattle.lalrpop_norm_tyinfer_table.specs.Needs.{AreRuleNumbers}
 
 -- the first place of a name, counted from i
@@ -43,3 +45,21 @@ numbering_is names d is = record {
       subst (λ j. slice_get names j ≡ Some n) here r.2;
   all = λ n e h. lacks n names 0 (sym (first_from names d is n) ∙ e) h;
 }
+
+module _ (number : List ℕ → Option ℕ) (names : List (List ℕ)) (are : AreRuleNumbers number names) (distinct : IsDistinct names) (n : List ℕ) where
+  stands : (k : ℕ) → place_from n 0 names ≡ Some k → slice_get names k ≡ Some n
+  stands k e =
+      let r = stands_at n names 0 k e in
+      let at = r.1 in
+      let here : r.0 ≡ k = omega arith in
+      subst (λ j. slice_get names j ≡ Some n) here r.2
+
+  same_number : (o p : Option ℕ) → number n ≡ o → place_from n 0 names ≡ p → o ≡ p
+  same_number None None e f = refl
+  same_number None (Some j) e f = absurd (are.all n e (at_in names j n (stands j f)))
+  same_number (Some k) None e f = absurd (lacks n names 0 f (at_in names k n (are.right n k e)))
+  same_number (Some k) (Some j) e f = ap Some (one_place names n k j distinct (are.right n k e) (stands j f))
+
+  -- a name that stands once has its place as its number
+  pub number_is_place : number n ≡ first_place names n
+  number_is_place = same_number (number n) (place_from n 0 names) refl refl ∙ sym (position_from-zero (λ stands. bytes_eq stands n) names)

@@ -112,18 +112,19 @@ impl Numbered {
         self.tokens.opt_terminal_loc_type()
     }
 
-    /// The types by name.
-    pub fn by_name(self) -> Result<Types, NoMemory>
+    /// The types by name, and the numbers of the names.
+    pub fn by_name(self) -> Result<(Types, Names), NoMemory>
         requires numbers { AreRuleNumbers (number_in_table self.names) (names_numbered self) }
         requires distinct { IsDistinct (names_numbered self) }
         requires tokens { (type_table self.tokens).nonterminals ≡ [] }
-        ensures same { IfOk result (λ t. (n : List ℕ) → type_by_name (type_table t) n ≡ type_by_name (numbered_table self) n) }
-        ensures rest { IfOk result (λ t. type_table t ≡ record (numbered_table self) { nonterminals = (type_table t).nonterminals }) }
-        ensures names_in_order { IfOk result (λ t. IsStrictlySortedBy name_cmp (keys_of (type_table t).nonterminals)) }
-        ensures terminals_in_order { IfOk result (λ t. IsStrictlySortedBy terminal_cmp (keys_of (type_table t).terminals)) }
+        ensures same { IfOk result (λ p. (n : List ℕ) → type_by_name (type_table p.0) n ≡ type_by_name (numbered_table self) n) }
+        ensures rest { IfOk result (λ p. type_table p.0 ≡ record (numbered_table self) { nonterminals = (type_table p.0).nonterminals }) }
+        ensures names_in_order { IfOk result (λ p. IsStrictlySortedBy name_cmp (keys_of (type_table p.0).nonterminals)) }
+        ensures terminals_in_order { IfOk result (λ p. IsStrictlySortedBy terminal_cmp (keys_of (type_table p.0).terminals)) }
+        ensures numbers { IfOk result (λ p. p.1 ≡ self.names) }
     {
         let Numbered {
-            names: _names,
+            names,
             rules,
             mut tokens,
         } = self;
@@ -132,7 +133,7 @@ impl Numbered {
         }
         // A law, which does nothing: it gives the order of the rows.
         tokens.rows_ascend();
-        Ok(tokens)
+        Ok((tokens, names))
     }
 }
 

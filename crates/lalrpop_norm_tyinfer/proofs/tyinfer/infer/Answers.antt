@@ -1,12 +1,14 @@
-use Rattle.std.proofs.Common.{ℕ, List, map, refl, sym, subst}
-use Rattle.lalrpop_norm_names.specs.Numbers.{number_in_table}
+use Rattle.std.proofs.Common.{◌≡◌, ℕ, List, map, refl, sym, subst}
+use Rattle.lalrpop_norm_names.specs.Numbers.{number_in_table, IsNumbering}
 use Rattle.lalrpop_norm_theory.specs.Rounds.{IsDistinct}
 use Rattle.lalrpop_norm_tree.specs.Items.{grammar_view}
 use Rattle.lalrpop_norm_repr.specs.Tables.{type_table}
-use Rattle.lalrpop_norm_tyinfer_table.specs.Needs.{AreRuleNumbers}
+use Rattle.lalrpop_norm_model.specs.Expanded.{rule_names}
+use Rattle.lalrpop_norm_tyinfer_table.specs.Needs.{AreRuleNumbers, names_seen}
 use Rattle.lalrpop_norm_tyinfer_table.specs.Visits.{rule_seen}
 use Rattle.lalrpop_norm_tyinfer_table.specs.Numbered.{numbered_table}
-use Rattle.lalrpop_norm_tyinfer_table.proofs.FilledLemmas.{names_distinct, clauses_refused, table_refused, none_refused, none_inferred}
+use Rattle.lalrpop_norm_tyinfer_table.proofs.NumberLemmas.{number_is_place}
+use Rattle.lalrpop_norm_tyinfer_table.proofs.FilledLemmas.{names_of_all, names_distinct, clauses_refused, table_refused, none_refused, none_inferred}
 use Rattle.lalrpop_norm_tyinfer.proofs.tyinfer.infer.Goals as goal
 
 pub returns-in_err-check_clauses-clause-refuses : goal.returns-in_err-check_clauses-clause-refuses
@@ -45,4 +47,13 @@ pub returns-clause-inferred : goal.returns-clause-inferred
 returns-clause-inferred c =
     let listed = c.in_ok-listed.ensures in
     none_inferred (grammar_view c.args.grammar.now) (numbered_table c.in_ok-types.types) c.in_ok-types.ensures.filled (grammar_view c.args.grammar.now).type_parameters refl c.args.rules.now c.requires.seen c.in_ok-check_clauses.ensures
-    (type_table c.in_ok-listed.listed) listed.same listed.rest listed.names_in_order listed.terminals_in_order c.requires.distinct (c.in_ok-check_table.ensures (grammar_view c.args.grammar.now).type_parameters)
+    (type_table c.in_ok-listed.listed.0) listed.same listed.rest listed.names_in_order listed.terminals_in_order c.requires.distinct (c.in_ok-check_table.ensures (grammar_view c.args.grammar.now).type_parameters)
+
+pub returns-clause-names : goal.returns-clause-names
+returns-clause-names c =
+    let g = grammar_view c.args.grammar.now in
+    let ss = map rule_seen c.args.rules.now in
+    let names = c.in_ok-types.types.names in
+    subst (IsNumbering (rule_names g)) (sym c.in_ok-listed.ensures.numbers)
+    (subst (λ (ns : List (List ℕ)). IsNumbering ns names) (names_of_all g ss c.requires.seen)
+    (λ n. number_is_place (number_in_table names) (names_seen ss) c.in_ok-types.ensures.numbered.numbers (names_distinct g ss c.requires.seen c.requires.distinct) n))
