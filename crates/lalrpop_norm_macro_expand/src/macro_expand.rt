@@ -8,6 +8,7 @@ ghost use Rattle.lalrpop_norm_tree.specs.Symbols.{symbol_view};
 ghost use Rattle.lalrpop_norm_tree.specs.Items.{item_view, grammar_view};
 ghost use Rattle.lalrpop_norm_faults.specs.Faults.{Refuses, IsFirst};
 ghost use Rattle.lalrpop_norm_conditions.specs.Conditions.{comparison};
+ghost use Rattle.lalrpop_norm_names.specs.Numbers.{IsNumbering};
 ghost use Rattle.lalrpop_norm_model.specs.PlainRules.{IsEnded, made_symbols, plain_grammar};
 ghost use Rattle.lalrpop_norm_model.specs.Scopes.{resolved_grammar};
 ghost use Rattle.lalrpop_norm_nodes.specs.NodeParts.{AreWaiting};
@@ -18,7 +19,7 @@ ghost use Rattle.lalrpop_norm_macro_expand_rules.specs.Pending.{met_in_pending, 
 ghost use Rattle.lalrpop_norm_macro_expand.specs.Counts.{AreCounts, IsLastRound};
 ghost use Rattle.lalrpop_norm_macro_expand.specs.Expansion.{unmade, past_cap, expansion_faults, macro_faults};
 ghost use Rattle.lalrpop_norm_macro_expand.specs.Made.{made_view, made_for, AreMade};
-ghost use Rattle.lalrpop_norm_macro_expand.specs.Making.{pending_for};
+ghost use Rattle.lalrpop_norm_macro_expand.specs.Making.{hole, pending_for};
 
 mod instance;
 mod made_origins;
@@ -26,10 +27,10 @@ mod make;
 mod rule_lists;
 pub(crate) mod traced;
 
-use self::make::{MadeSymbol, make_rules};
+use self::make::{MadeSymbol, Makers, hole_number, make_rules};
 use lalrpop_norm_faults::{FaultKind, NormFailure, NormResult, refusal};
 use lalrpop_norm_macro_expand_rules::items::read_items;
-use lalrpop_norm_macro_expand_rules::macros::{Macros, without_macros};
+use lalrpop_norm_macro_expand_rules::macros::without_macros;
 use lalrpop_norm_macro_expand_rules::names::declared_names;
 use lalrpop_norm_macro_expand_rules::pending::read_pending;
 use lalrpop_norm_nodes::digest::seeded_by;
@@ -82,28 +83,29 @@ fn make_room(done: &mut Vec<GrammarItem>, count: usize) -> Result<(), NoMemory>
 /// Makes the rules of the symbols that wait, and reads them behind those of the rounds before.
 fn read_round(
     alloc: Global,
-    macros: &Macros,
+    makers: &Makers,
     waiting: Vec<Waiting>,
     made: &mut Vec<MadeSymbol>,
     done: &mut Vec<GrammarItem>,
     table: &mut Table,
 ) -> NormResult<()>
-    requires macros { AreByName macros.now }
+    requires macros { AreByName makers.now.macros }
+    requires hole { IsNumbering (map (λ n. n.0) hole) makers.now.hole }
     requires table { IsNodeTable table.old }
     requires counted { IsCounted table.old }
     requires waiting { AreWaiting (wholes_in table.old) waiting.items }
-    ensures refuses { Refuses result (flat_map (λ w. unmade (macros_in macros.now) (symbol_view w.symbol)) (reverse waiting.items)
-        ++ refused_in table.old (flat_map met_in_pending (flat_map (pending_for (wholes_in table.old) (macros_in macros.now)) (reverse waiting.items)))) }
-    ensures meets { OnOk result (TableMeets table.old table.new (flat_map met_in_pending (flat_map (pending_for (wholes_in table.old) (macros_in macros.now)) (reverse waiting.items)))) }
+    ensures refuses { Refuses result (flat_map (λ w. unmade (macros_in makers.now.macros) (symbol_view w.symbol)) (reverse waiting.items)
+        ++ refused_in table.old (flat_map met_in_pending (flat_map (pending_for (wholes_in table.old) (macros_in makers.now.macros)) (reverse waiting.items)))) }
+    ensures meets { OnOk result (TableMeets table.old table.new (flat_map met_in_pending (flat_map (pending_for (wholes_in table.old) (macros_in makers.now.macros)) (reverse waiting.items)))) }
     ensures counted { OnOk result (IsCounted table.new) }
-    ensures waits { OnOk result (LeavesWaiting table.old table.new (flat_map shown_in_pending (flat_map (pending_for (wholes_in table.old) (macros_in macros.now)) (reverse waiting.items)))) }
+    ensures waits { OnOk result (LeavesWaiting table.old table.new (flat_map shown_in_pending (flat_map (pending_for (wholes_in table.old) (macros_in makers.now.macros)) (reverse waiting.items)))) }
     ensures value { OnOk result (map item_view done.new.items ≡ map item_view done.old.items
-        ++ map pending_read (flat_map (pending_for (wholes_in table.old) (macros_in macros.now)) (reverse waiting.items))) }
-    ensures made { OnOk result (map made_view made.new.items ≡ map made_view made.old.items ++ map (made_for (macros_in macros.now)) (reverse waiting.items)) }
+        ++ map pending_read (flat_map (pending_for (wholes_in table.old) (macros_in makers.now.macros)) (reverse waiting.items))) }
+    ensures made { OnOk result (map made_view made.new.items ≡ map made_view made.old.items ++ map (made_for (macros_in makers.now.macros)) (reverse waiting.items)) }
 {
     let first = done.len();
     make_room(done, waiting.len())?;
-    let fillings = make_rules(alloc, macros, table, waiting, made, done)?;
+    let fillings = make_rules(alloc, makers, table, waiting, made, done)?;
     let mut room = 0usize;
     read_pending(alloc, &mut done[first..], fillings, table, &mut room)?;
     made.reserve(room)?;
@@ -152,6 +154,8 @@ fn expand_rounds(alloc: Global, grammar: Grammar, limit: u16) -> NormResult<Expa
     let mut grammar = grammar;
     let items = mem::replace(&mut grammar.items, Vec::new(alloc));
     let (others, macros) = without_macros(alloc, items)?;
+    let hole = hole_number(alloc)?;
+    let makers = Makers { macros, hole };
     let mut room = 0usize;
     let mut done = read_items(alloc, others, &mut table, &mut room)?;
     let mut made = Vec::with_capacity(alloc, room)?;
@@ -171,7 +175,7 @@ fn expand_rounds(alloc: Global, grammar: Grammar, limit: u16) -> NormResult<Expa
         if left == 0 {
             return Err(past_cap(alloc, &waiting));
         }
-        read_round(alloc, &macros, waiting, &mut made, &mut done, &mut table)?;
+        read_round(alloc, &makers, waiting, &mut made, &mut done, &mut table)?;
         left -= 1;
     }
 }

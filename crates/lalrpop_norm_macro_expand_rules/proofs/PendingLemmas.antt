@@ -17,8 +17,8 @@ readable_stays ws vs (Some f) grows h = λ n g e. given_stays ws vs g grows (h n
 pub filling_stays : (ws vs : List Whole) (f : Option Filling) → Grows ws vs → IsReadable ws f → filling_view vs f ≡ filling_view ws f
 filling_stays ws vs None grows h = refl
 filling_stays ws vs (Some f) grows h =
-    ap (λ (w : List ℕ → Option Kind). Some (w, shown_numbered f.numbers f.given.items))
-    (fun_ext (λ n. whole_stays ws vs (given_numbered f.numbers f.given.items n) grows (λ g e. h n g e)))
+    ap (λ (w : List ℕ → Option Kind). Some (w, shown_numbered f.numbers.now f.given.items))
+    (fun_ext (λ n. whole_stays ws vs (given_numbered f.numbers.now f.given.items n) grows (λ g e. h n g e)))
 
 -- ---- rules and what is given for the names in them, side by side
 

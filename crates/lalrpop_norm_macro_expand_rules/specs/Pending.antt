@@ -89,17 +89,17 @@ shown_numbered table given n = option_map (λ g. kind_view g.symbol.kind) (given
 
 abbrev pub filling_view : List Whole → Option Filling → FillingData
 filling_view ws None = None
-filling_view ws (Some f) = Some (whole_numbered ws f.numbers f.given.items, shown_numbered f.numbers f.given.items)
+filling_view ws (Some f) = Some (whole_numbered ws f.numbers.now f.given.items, shown_numbered f.numbers.now f.given.items)
 
 abbrev pub filled_rule : List Whole → Filling → RuleData → PendingData
-filled_rule ws f r = unread_rule r (whole_numbered ws f.numbers f.given.items) (shown_numbered f.numbers f.given.items)
+filled_rule ws f r = unread_rule r (whole_numbered ws f.numbers.now f.given.items) (shown_numbered f.numbers.now f.given.items)
 
 abbrev pub pending_view : List Whole → Pending → PendingData
 pending_view ws p = filled_item (filling_view ws p.filling) (rule_item (rule_view p.rule))
 
 -- what is given stands for symbols
 abbrev pub IsFilling : List Whole → Filling → Type 0
-IsFilling ws f = (n : List ℕ) (g : Given) → given_numbered f.numbers f.given.items n ≡ Some g → IsGiven ws g
+IsFilling ws f = (n : List ℕ) (g : Given) → given_numbered f.numbers.now f.given.items n ≡ Some g → IsGiven ws g
 
 abbrev pub IsReadable : List Whole → Option Filling → Type 0
 IsReadable ws None = ⊤

@@ -1,5 +1,5 @@
 //! The macros of a grammar, by their names.
-ghost use Rattle.std.specs.Prelude.{◌≡◌, ℕ, List, ◌++◌, ◌∷◌, [], Some, None, IfOk, OnOk, map, flat_map, option_map, bytes_eq, if◌then◌else◌};
+ghost use Rattle.std.specs.Prelude.{◌≡◌, ℕ, List, ◌++◌, ◌∷◌, [], Some, None, IfOk, IfSome, OnOk, map, flat_map, option_map, bytes_eq, if◌then◌else◌};
 ghost use Rattle.std.specs.BTreeMap.{get};
 ghost use Rattle.std.specs.List.{list_any};
 ghost use Rattle.std.specs.Ordering.{nat_cmp};
@@ -7,14 +7,24 @@ ghost use Rattle.std.specs.Cmp.Lexicographic.{slice_cmp};
 ghost use Rattle.lalrpop_norm_tree.specs.Accessors.{is_macro_item, or_else};
 ghost use Rattle.lalrpop_norm_tree.specs.Items.{item_view, rule_view, rule_item};
 ghost use Rattle.lalrpop_norm_model.specs.MadeRules.{macro_named};
-ghost use Rattle.lalrpop_norm_macro_expand_rules.specs.Macros.{macros_in, AreByName};
+ghost use Rattle.lalrpop_norm_macro_expand_rules.specs.Macros.{macros_in, HasNumbers, AreByName};
 ghost use Rattle.lalrpop_norm_macro_expand_rules.specs.Items.{macro_in, without_macro};
 
+use lalrpop_norm_names::Names;
 use lalrpop_norm_tree::grammar::parse_tree::{
     Atom, GrammarItem, NoMemory, NonterminalData, NonterminalString,
 };
 use std::alloc::Global;
 use std::collections::BTreeMap;
+
+/// A macro.
+#[derive(Drop)]
+pub struct NumberedMacro {
+    /// Its definition.
+    pub definition: NonterminalData,
+    /// The number of the name of each argument: the place at which it stands first among them.
+    pub numbers: Names,
+}
 
 /// Macros in their order.
 #[derive(Drop)]
@@ -22,7 +32,7 @@ pub struct Macros {
     /// The place of the first macro of each name in `rules`.
     pub places: BTreeMap<Atom, usize>,
     /// The macros, in their order.
-    pub rules: Vec<NonterminalData>,
+    pub rules: Vec<NumberedMacro>,
 }
 
 /// Notes a place under a name that has none yet.
@@ -49,9 +59,10 @@ impl Macros {
     }
 
     /// The macro of that name; of several the first.
-    pub fn find(&self, name: &NonterminalString) -> Option<&NonterminalData>
+    pub fn find(&self, name: &NonterminalString) -> Option<&NumberedMacro>
         requires { AreByName self.now }
-        ensures { option_map (λ r. rule_view r.now) result ≡ macro_named (macros_in self.now) name.now.0 }
+        ensures named { option_map (λ m. rule_view m.now.definition) result ≡ macro_named (macros_in self.now) name.now.0 }
+        ensures numbered { IfSome result (λ m. HasNumbers m.now) }
     {
         match self.places.get(&name.0) {
             Some(place) => Some(&self.rules[*place]),
@@ -59,20 +70,25 @@ impl Macros {
         }
     }
 
-    fn add(&mut self, rule: NonterminalData) -> Result<(), NoMemory>
+    fn add(&mut self, alloc: Global, definition: NonterminalData) -> Result<(), NoMemory>
         requires { AreByName self.old }
         ensures named { OnOk result (AreByName self.new) }
-        ensures rules { OnOk result (macros_in self.new ≡ macros_in self.old ++ rule_view rule ∷ []) }
+        ensures rules { OnOk result (macros_in self.new ≡ macros_in self.old ++ rule_view definition ∷ []) }
     {
         let place = self.rules.len();
-        note(&mut self.places, &rule.name.0, place)?;
-        self.rules.push(rule)?;
+        note(&mut self.places, &definition.name.0, place)?;
+        let numbers = Names::of(alloc, &definition.args)?;
+        self.rules.push(NumberedMacro {
+            definition,
+            numbers,
+        })?;
         Ok(())
     }
 }
 
 /// Adds a rule to the items that are no macros, or a macro to the macros.
 fn sort_rule(
+    alloc: Global,
     rule: NonterminalData,
     others: &mut Vec<GrammarItem>,
     macros: &mut Macros,
@@ -83,7 +99,7 @@ fn sort_rule(
     ensures named { OnOk result (AreByName macros.new) }
 {
     if rule.is_macro_def() {
-        return macros.add(rule);
+        return macros.add(alloc, rule);
     }
     others.push(GrammarItem::Nonterminal(rule))?;
     Ok(())
@@ -91,6 +107,7 @@ fn sort_rule(
 
 /// Adds an item to those that are no macros, or to the macros.
 fn sort_out(
+    alloc: Global,
     item: GrammarItem,
     others: &mut Vec<GrammarItem>,
     macros: &mut Macros,
@@ -101,7 +118,7 @@ fn sort_out(
     ensures named { OnOk result (AreByName macros.new) }
 {
     match item.into_nonterminal() {
-        Ok(rule) => sort_rule(rule, others, macros),
+        Ok(rule) => sort_rule(alloc, rule, others, macros),
         Err(other) => {
             others.push(other)?;
             Ok(())
@@ -138,7 +155,7 @@ pub fn without_macros(
     }
     let mut others = Vec::with_capacity(alloc, items.len())?;
     for item in items {
-        sort_out(item, &mut others, &mut macros)?;
+        sort_out(alloc, item, &mut others, &mut macros)?;
     }
     Ok((others, macros))
 }

@@ -17,21 +17,21 @@ use std::alloc::Global;
 
 /// What is given for the names in a rule that was made.
 #[derive(Drop)]
-pub struct Filling {
+pub struct Filling<'m> {
     /// The number of each name: the place at which it stands first among them.
-    pub numbers: Names,
+    pub numbers: &'m Names,
     /// What is given for them, in their order.
     pub given: Vec<Given>,
 }
 
 /// A rule that was made.
 #[derive(Drop)]
-pub struct Pending {
+pub struct Pending<'m> {
     /// The rule.
     pub rule: NonterminalData,
     /// What is given where the rule is still to be read: its symbols are as they are written. Where there is nothing, what is made into
     /// rules in it was met, and is replaced.
-    pub filling: Option<Filling>,
+    pub filling: Option<Filling<'m>>,
 }
 
 fn read_rule(
@@ -50,7 +50,7 @@ fn read_rule(
     ensures value { OnOk result (rule_item (rule_view rule.new) ≡ pending_read (filled_rule (wholes_in table.old) filling.now (rule_view rule.old))) }
 {
     let environment = Environment {
-        numbers: &filling.numbers,
+        numbers: filling.numbers,
         given: &filling.given,
     };
     read_alternatives(alloc, &environment, &mut rule.alternatives, table)?;
@@ -67,11 +67,11 @@ fn read_item(
     requires table { IsNodeTable table.old }
     requires counted { IsCounted table.old }
     requires readable { IsReadable (wholes_in table.old) filling }
-    ensures refuses { Refuses result (refused_in table.old (met_in_pending (filled_item (filling_view (wholes_in table.old) filling) (item_view item.old)))) }
-    ensures meets { OnOk result (TableMeets table.old table.new (met_in_pending (filled_item (filling_view (wholes_in table.old) filling) (item_view item.old)))) }
+    ensures refuses { Refuses result (refused_in table.old (met_in_pending (filled_item (filling_view (wholes_in table.old) filling.entry) (item_view item.old)))) }
+    ensures meets { OnOk result (TableMeets table.old table.new (met_in_pending (filled_item (filling_view (wholes_in table.old) filling.entry) (item_view item.old)))) }
     ensures counted { OnOk result (IsCounted table.new) }
-    ensures waits { OnOk result (LeavesWaiting table.old table.new (shown_in_pending (filled_item (filling_view (wholes_in table.old) filling) (item_view item.old)))) }
-    ensures value { OnOk result (item_view item.new ≡ pending_read (filled_item (filling_view (wholes_in table.old) filling) (item_view item.old))) }
+    ensures waits { OnOk result (LeavesWaiting table.old table.new (shown_in_pending (filled_item (filling_view (wholes_in table.old) filling.entry) (item_view item.old)))) }
+    ensures value { OnOk result (item_view item.new ≡ pending_read (filled_item (filling_view (wholes_in table.old) filling.entry) (item_view item.old))) }
 {
     let Some(filling) = filling else {
         return Ok(());
@@ -98,11 +98,11 @@ pub fn read_pending(
     requires counted { IsCounted table.old }
     requires long { length fillings.items ≡ length rules.old }
     requires readable { AreReadable (wholes_in table.old) fillings.items }
-    ensures refuses { Refuses result (refused_in table.old (flat_map met_in_pending (filled_items (map (filling_view (wholes_in table.old)) fillings.items) (map item_view rules.old)))) }
-    ensures meets { OnOk result (TableMeets table.old table.new (flat_map met_in_pending (filled_items (map (filling_view (wholes_in table.old)) fillings.items) (map item_view rules.old)))) }
+    ensures refuses { Refuses result (refused_in table.old (flat_map met_in_pending (filled_items (map (filling_view (wholes_in table.old)) fillings.entry.items) (map item_view rules.old)))) }
+    ensures meets { OnOk result (TableMeets table.old table.new (flat_map met_in_pending (filled_items (map (filling_view (wholes_in table.old)) fillings.entry.items) (map item_view rules.old)))) }
     ensures counted { OnOk result (IsCounted table.new) }
-    ensures waits { OnOk result (LeavesWaiting table.old table.new (flat_map shown_in_pending (filled_items (map (filling_view (wholes_in table.old)) fillings.items) (map item_view rules.old)))) }
-    ensures value { OnOk result (map item_view rules.new ≡ map pending_read (filled_items (map (filling_view (wholes_in table.old)) fillings.items) (map item_view rules.old))) }
+    ensures waits { OnOk result (LeavesWaiting table.old table.new (flat_map shown_in_pending (filled_items (map (filling_view (wholes_in table.old)) fillings.entry.items) (map item_view rules.old)))) }
+    ensures value { OnOk result (map item_view rules.new ≡ map pending_read (filled_items (map (filling_view (wholes_in table.old)) fillings.entry.items) (map item_view rules.old))) }
 {
     for (place, filling) in fillings.into_iter().enumerate() {
         // As where the items of the grammar are read.

@@ -4,19 +4,19 @@ ghost use Rattle.lalrpop_norm_tree.specs.Symbols.{parts_view};
 ghost use Rattle.lalrpop_norm_tree.specs.Items.{AlternativeData, alternative_view, rule_view};
 ghost use Rattle.lalrpop_norm_faults.specs.Faults.{Refuses, RefusesOr};
 ghost use Rattle.lalrpop_norm_conditions.specs.Conditions.{comparison};
-ghost use Rattle.lalrpop_norm_names.specs.Numbers.{IsNumbering};
 ghost use Rattle.lalrpop_norm_model.specs.MadeRules.{argument_kind};
 ghost use Rattle.lalrpop_norm_macro_expand_rules.specs.Bound.{AreByNumber};
 ghost use Rattle.lalrpop_norm_macro_expand_rules.specs.Conditions.{value_faults, instance_faults};
+ghost use Rattle.lalrpop_norm_macro_expand_rules.specs.Macros.{HasNumbers};
 ghost use Rattle.lalrpop_norm_macro_expand.specs.Kept.{kept_place, kept_places};
 ghost use Rattle.lalrpop_norm_macro_expand.specs.Making.{kept_of, instance_shape};
 
 use lalrpop_norm_faults::NormResult;
 use lalrpop_norm_macro_expand_rules::alternatives::{copied_alternative, instance_type};
 use lalrpop_norm_macro_expand_rules::conditions::is_kept;
+use lalrpop_norm_macro_expand_rules::macros::NumberedMacro;
 use lalrpop_norm_macro_expand_rules::rules::Head;
 use lalrpop_norm_macro_expand_rules::substituted::Bindings;
-use lalrpop_norm_names::Names;
 use lalrpop_norm_tree::grammar::parse_tree::{
     Alternative, NonterminalData, NonterminalString, Span, Symbol,
 };
@@ -83,8 +83,6 @@ pub(super) struct Instance {
     pub(super) rule: NonterminalData,
     /// The places, among the macro's alternatives, of those that it has.
     pub(super) kept: Vec<usize>,
-    /// The numbers of the macro's names.
-    pub(super) numbers: Names,
 }
 
 /// What a call of a macro with these arguments is made into.
@@ -93,20 +91,20 @@ pub(super) struct Instance {
 pub(super) fn instance_rule(
     alloc: Global,
     head: Head,
-    definition: &NonterminalData,
+    called: &NumberedMacro,
     arguments: &[Symbol],
 ) -> NormResult<Instance>
-    ensures { RefusesOr result (instance_faults (rule_view definition.now) (parts_view arguments.now))
-        (λ i. (rule_view i.rule ≡ instance_shape head.name head.span (rule_view definition.now) (parts_view arguments.now))
-        × (i.kept.items ≡ kept_places comparison definition.now.args.items (parts_view arguments.now) 0 (rule_view definition.now).alternatives)
-        × IsNumbering (map (λ a. a.0) definition.now.args.items) i.numbers) }
+    requires { HasNumbers called.now }
+    ensures { RefusesOr result (instance_faults (rule_view called.now.definition) (parts_view arguments.now))
+        (λ i. (rule_view i.rule ≡ instance_shape head.name head.span (rule_view called.now.definition) (parts_view arguments.now))
+        × (i.kept.items ≡ kept_places comparison called.now.definition.args.items (parts_view arguments.now) 0 (rule_view called.now.definition).alternatives)) }
 {
     let span = head.span;
+    let definition = &called.definition;
     let names: &[NonterminalString] = &definition.args;
-    let numbers = Names::of(alloc, names)?;
     let bindings = Bindings {
         names,
-        numbers: &numbers,
+        numbers: &called.numbers,
         symbols: arguments,
     };
     let kept = instance_alternatives(alloc, &bindings, span, &definition.alternatives)?;
@@ -123,6 +121,5 @@ pub(super) fn instance_rule(
     Ok(Instance {
         rule,
         kept: kept.places,
-        numbers,
     })
 }

@@ -12,7 +12,7 @@ ghost use Rattle.lalrpop_norm_nodes.specs.NodeParts.{call_parts, repeated_kind, 
 ghost use Rattle.lalrpop_norm_nodes.specs.Tables.{wholes_in, IsNodeTable};
 ghost use Rattle.lalrpop_norm_nodes.specs.Wholes.{kind_at};
 ghost use Rattle.lalrpop_norm_macro_expand_rules.specs.Conditions.{called_faults, instance_faults};
-ghost use Rattle.lalrpop_norm_macro_expand_rules.specs.Macros.{macros_in, AreByName};
+ghost use Rattle.lalrpop_norm_macro_expand_rules.specs.Macros.{macros_in, HasNumbers, AreByName};
 ghost use Rattle.lalrpop_norm_macro_expand_rules.specs.Pending.{unread_rule, item_of, filling_of, filling_view, pending_view, IsReadable, AreReadable};
 ghost use Rattle.lalrpop_norm_macro_expand.specs.Expansion.{unmade, unmade_repeat};
 ghost use Rattle.lalrpop_norm_macro_expand.specs.Kept.{kept_by, kept_by_call};
@@ -23,7 +23,7 @@ use super::instance::instance_rule;
 use lalrpop_norm_faults::{FaultKind, NormResult, refusal};
 use lalrpop_norm_macro_expand_repeats::repeats::{hole_name, repeat_rule};
 use lalrpop_norm_macro_expand_rules::groups::{group_rule, location_rule};
-use lalrpop_norm_macro_expand_rules::macros::Macros;
+use lalrpop_norm_macro_expand_rules::macros::{Macros, NumberedMacro};
 use lalrpop_norm_macro_expand_rules::pending::{Filling, Pending};
 use lalrpop_norm_macro_expand_rules::rules::Head;
 use lalrpop_norm_names::Names;
@@ -37,6 +37,23 @@ use lalrpop_norm_tree::grammar::parse_tree::{
 };
 use std::alloc::Global;
 use std::mem;
+
+/// What rules are made by, in each round.
+#[derive(Drop)]
+pub(super) struct Makers {
+    /// The macros.
+    pub(super) macros: Macros,
+    /// The number of the name that stands for what is repeated, in the rule of each repeat.
+    pub(super) hole: Names,
+}
+
+/// The number of the name that stands for what is repeated. The only error is want of memory.
+pub(super) fn hole_number(alloc: Global) -> Result<Names, NoMemory>
+    ensures { IfOk result (IsNumbering (map (λ n. n.0) hole)) }
+{
+    let names = [hole_name(alloc)?];
+    Names::of(alloc, &names)
+}
 
 /// The rule of a group, which takes its symbols.
 fn group_of(alloc: Global, head: Head, expr: &mut ExprSymbol) -> NormResult<NonterminalData>
@@ -85,24 +102,18 @@ fn check_times(
     }
 }
 
-/// The number of the name that stands for what is repeated.
-fn hole_number(alloc: Global) -> Result<Names, NoMemory>
-    ensures { IfOk result (IsNumbering (map (λ n. n.0) hole)) }
-{
-    let names = [hole_name(alloc)?];
-    Names::of(alloc, &names)
-}
-
 /// The rule of a repeat, which takes what is repeated.
 ///
 /// Errors: F57 (`NamedInTimes`) where a named or tuple symbol is repeated so many times; `Memory`.
-fn repeat_of(
+fn repeat_of<'m>(
     alloc: Global,
+    numbers: &'m Names,
     table: &Table,
     number: usize,
     head: Head,
     repeat: &mut RepeatSymbol,
-) -> NormResult<Pending>
+) -> NormResult<Pending<'m>>
+    requires numbers { IsNumbering (map (λ n. n.0) hole) numbers.now }
     requires table { IsNodeTable table.now }
     requires shallow { IsShallow (wholes_in table.now) number (repeated repeat.old.op (symbol_view repeat.old.symbol)) }
     ensures refuses { Refuses result (unmade_repeat head.span repeat.old.op (symbol_view repeat.old.symbol)) }
@@ -115,7 +126,6 @@ fn repeat_of(
     let nothing = Symbol::new(head.span, SymbolKind::Error);
     let symbol = mem::replace(&mut repeat.symbol, nothing);
     let rule = repeat_rule(alloc, head, repeat.op, &symbol)?;
-    let numbers = hole_number(alloc)?;
     let given = vec![in alloc; Given { number, symbol }]?;
     let filling = Some(Filling { numbers, given });
     Ok(Pending { rule, filling })
@@ -124,28 +134,29 @@ fn repeat_of(
 /// The rule of a call of a macro with these arguments, and the places of the macro's alternatives that it has.
 ///
 /// Errors: at the first alternative whose condition has no value F33 (`ConditionArgument`) or F34 (`ConditionPattern`); `Memory`.
-fn instance_of(
+fn instance_of<'m>(
     alloc: Global,
     table: &Table,
     number: usize,
     head: Head,
-    definition: &NonterminalData,
+    called: &'m NumberedMacro,
     arguments: Vec<Symbol>,
-) -> NormResult<(Pending, Vec<usize>)>
+) -> NormResult<(Pending<'m>, Vec<usize>)>
+    requires numbers { HasNumbers called.now }
     requires table { IsNodeTable table.now }
-    requires shallow { IsShallow (wholes_in table.now) number (call definition.now.name.0 (parts_view arguments.items)) }
-    ensures refuses { Refuses result (instance_faults (rule_view definition.now) (parts_view arguments.items)) }
+    requires shallow { IsShallow (wholes_in table.now) number (call called.now.definition.name.0 (parts_view arguments.items)) }
+    ensures refuses { Refuses result (instance_faults (rule_view called.now.definition) (parts_view arguments.items)) }
     ensures pending { IfOk result (λ o. pending_view (wholes_in table.now) o.0
-        ≡ unread_rule (instance_shape head.name head.span (rule_view definition.now) (parts_view arguments.items))
-        (argument_kind definition.now.args.items (call_parts (kind_at (wholes_in table.now) number)))
-        (argument_kind definition.now.args.items (parts_view arguments.items))) }
+        ≡ unread_rule (instance_shape head.name head.span (rule_view called.now.definition) (parts_view arguments.items))
+        (argument_kind called.now.definition.args.items (call_parts (kind_at (wholes_in table.now) number)))
+        (argument_kind called.now.definition.args.items (parts_view arguments.items))) }
     ensures readable { IfOk result (λ o. IsReadable (wholes_in table.now) o.0.filling) }
-    ensures kept { IfOk result (λ o. o.1.items ≡ kept_by_call comparison (Some (rule_view definition.now)) (parts_view arguments.items)) }
+    ensures kept { IfOk result (λ o. o.1.items ≡ kept_by_call comparison (Some (rule_view called.now.definition)) (parts_view arguments.items)) }
 {
-    let instance = instance_rule(alloc, head, definition, &arguments)?;
+    let instance = instance_rule(alloc, head, called, &arguments)?;
     let given = given_by_call(alloc, table, number, arguments)?;
     let filling = Filling {
-        numbers: instance.numbers,
+        numbers: &called.numbers,
         given,
     };
     let pending = Pending {
@@ -157,16 +168,16 @@ fn instance_of(
 
 /// What a symbol is made into.
 #[derive(Drop)]
-struct Making {
+struct Making<'m> {
     /// Its rule, if it is made into one.
-    pending: Option<Pending>,
+    pending: Option<Pending<'m>>,
     /// Of a macro call the places, among the macro's alternatives, of those that the rule has.
     kept: Vec<usize>,
 }
 
 /// What a symbol that calls no macro is made into.
-fn into(alloc: Global, pending: Option<Pending>) -> Making
-    ensures { (result.pending ≡ pending) × (result.kept.items ≡ []) }
+fn into<'m>(alloc: Global, pending: Option<Pending<'m>>) -> Making<'m>
+    ensures { (result.pending ≡ pending.entry) × (result.kept.items ≡ []) }
 {
     Making {
         pending,
@@ -175,7 +186,7 @@ fn into(alloc: Global, pending: Option<Pending>) -> Making
 }
 
 /// What a symbol is made into whose rule has nothing left to be read.
-fn finished(alloc: Global, rule: NonterminalData) -> Making
+fn finished<'m>(alloc: Global, rule: NonterminalData) -> Making<'m>
     ensures { (result.pending ≡ Some (record { rule = rule; filling = None })) × (result.kept.items ≡ []) }
 {
     let pending = Pending {
@@ -186,14 +197,14 @@ fn finished(alloc: Global, rule: NonterminalData) -> Making
 }
 
 /// The rule of a macro call, if there is a macro of that name; it takes the arguments.
-fn called_of(
+fn called_of<'m>(
     alloc: Global,
-    macros: &Macros,
+    macros: &'m Macros,
     table: &Table,
     number: usize,
     head: Head,
     instance: &mut MacroSymbol,
-) -> NormResult<Making>
+) -> NormResult<Making<'m>>
     requires macros { AreByName macros.now }
     requires table { IsNodeTable table.now }
     requires shallow { IsShallow (wholes_in table.now) number (call (macro_view instance.old).0 (macro_view instance.old).1) }
@@ -204,9 +215,9 @@ fn called_of(
     ensures kept { IfOk result (λ m. m.kept.items ≡ kept_by_call comparison (macro_named (macros_in macros.now) (macro_view instance.old).0) (macro_view instance.old).1) }
 {
     match macros.find(&instance.name) {
-        Some(definition) => {
+        Some(called) => {
             let arguments = mem::replace(&mut instance.args, Vec::new(alloc));
-            let (pending, kept) = instance_of(alloc, table, number, head, definition, arguments)?;
+            let (pending, kept) = instance_of(alloc, table, number, head, called, arguments)?;
             Ok(Making {
                 pending: Some(pending),
                 kept,
@@ -220,32 +231,35 @@ fn called_of(
 ///
 /// Errors: F35 (`NamedInGroup`) at a group with a named or tuple symbol in it; F57 (`NamedInTimes`) at a repeat of one so many
 /// times; at a condition of a macro that is called F33 (`ConditionArgument`) or F34 (`ConditionPattern`); `Memory`.
-fn rule_of(
+fn rule_of<'m>(
     alloc: Global,
-    macros: &Macros,
+    makers: &'m Makers,
     table: &Table,
     number: usize,
     head: Head,
     kind: &mut SymbolKind,
-) -> NormResult<Making>
-    requires macros { AreByName macros.now }
+) -> NormResult<Making<'m>>
+    requires macros { AreByName makers.now.macros }
+    requires hole { IsNumbering (map (λ n. n.0) hole) makers.now.hole }
     requires table { IsNodeTable table.now }
     requires shallow { IsShallow (wholes_in table.now) number (kind_view kind.old) }
     requires name { head.name ≡ kind_text (kind_view kind.old) }
-    ensures refuses { Refuses result (unmade (macros_in macros.now) (at head.span (kind_view kind.old))) }
+    ensures refuses { Refuses result (unmade (macros_in makers.now.macros) (at head.span (kind_view kind.old))) }
     ensures pending { IfOk result (λ m. option_to_list (option_map (pending_view (wholes_in table.now)) m.pending)
-        ≡ pending_of (macros_in macros.now) (kind_at (wholes_in table.now) number) (at head.span (kind_view kind.old))) }
+        ≡ pending_of (macros_in makers.now.macros) (kind_at (wholes_in table.now) number) (at head.span (kind_view kind.old))) }
     ensures readable { IfOk result (λ m. IfSome m.pending (λ p. IsReadable (wholes_in table.now) p.filling)) }
-    ensures kept { IfOk result (λ m. m.kept.items ≡ kept_by comparison (macros_in macros.now) (at head.span (kind_view kind.old))) }
+    ensures kept { IfOk result (λ m. m.kept.items ≡ kept_by comparison (macros_in makers.now.macros) (at head.span (kind_view kind.old))) }
 {
     match kind {
         SymbolKind::Expr(expr) => {
             let rule = group_of(alloc, head, expr)?;
             Ok(finished(alloc, rule))
         }
-        SymbolKind::Macro(instance) => called_of(alloc, macros, table, number, head, instance),
+        SymbolKind::Macro(instance) => {
+            called_of(alloc, &makers.macros, table, number, head, instance)
+        }
         SymbolKind::Repeat(repeat) => {
-            let pending = repeat_of(alloc, table, number, head, repeat)?;
+            let pending = repeat_of(alloc, &makers.hole, table, number, head, repeat)?;
             Ok(into(alloc, Some(pending)))
         }
         SymbolKind::Lookahead => {
@@ -267,19 +281,20 @@ fn rule_of(
 }
 
 /// The rule of a symbol that waits, if it is made into one.
-fn pending_rule(
+fn pending_rule<'m>(
     alloc: Global,
-    macros: &Macros,
+    makers: &'m Makers,
     table: &Table,
     waiting: Waiting,
-) -> NormResult<Making>
-    requires macros { AreByName macros.now }
+) -> NormResult<Making<'m>>
+    requires macros { AreByName makers.now.macros }
+    requires hole { IsNumbering (map (λ n. n.0) hole) makers.now.hole }
     requires table { IsNodeTable table.now }
     requires waiting { IsWaiting (wholes_in table.now) waiting }
-    ensures refuses { Refuses result (unmade (macros_in macros.now) (symbol_view waiting.symbol)) }
-    ensures pending { IfOk result (λ m. option_to_list (option_map (pending_view (wholes_in table.now)) m.pending) ≡ pending_for (wholes_in table.now) (macros_in macros.now) waiting) }
+    ensures refuses { Refuses result (unmade (macros_in makers.now.macros) (symbol_view waiting.symbol)) }
+    ensures pending { IfOk result (λ m. option_to_list (option_map (pending_view (wholes_in table.now)) m.pending) ≡ pending_for (wholes_in table.now) (macros_in makers.now.macros) waiting) }
     ensures readable { IfOk result (λ m. IfSome m.pending (λ p. IsReadable (wholes_in table.now) p.filling)) }
-    ensures kept { IfOk result (λ m. m.kept.items ≡ kept_by comparison (macros_in macros.now) (symbol_view waiting.symbol)) }
+    ensures kept { IfOk result (λ m. m.kept.items ≡ kept_by comparison (macros_in makers.now.macros) (symbol_view waiting.symbol)) }
 {
     let Some(name) = table.text_of(waiting.number) else {
         return Ok(into(alloc, None));
@@ -289,7 +304,7 @@ fn pending_rule(
         span: waiting.symbol.span,
     };
     let mut symbol = waiting.symbol;
-    rule_of(alloc, macros, table, waiting.number, head, &mut symbol.kind)
+    rule_of(alloc, makers, table, waiting.number, head, &mut symbol.kind)
 }
 
 /// A symbol that is made into a rule.
@@ -302,16 +317,16 @@ pub(super) struct MadeSymbol {
 }
 
 /// Adds the symbol of that number, and the rule that it is made into, if it is made into one.
-fn add_rule(
+fn add_rule<'m>(
     number: usize,
-    making: Making,
+    making: Making<'m>,
     made: &mut Vec<MadeSymbol>,
     done: &mut Vec<GrammarItem>,
-    fillings: &mut Vec<Option<Filling>>,
+    fillings: &mut Vec<Option<Filling<'m>>>,
 ) -> Result<(), NoMemory>
-    ensures made { OnOk result (map made_view made.new.items ≡ map made_view made.old.items ++ (number, making.kept.items) ∷ []) }
-    ensures rule { OnOk result (map item_view done.new.items ≡ map item_view done.old.items ++ map (λ p. rule_item (rule_view p.rule)) (option_to_list making.pending)) }
-    ensures filling { OnOk result (fillings.new.items ≡ fillings.old.items ++ map (λ p. p.filling) (option_to_list making.pending)) }
+    ensures made { OnOk result (map made_view made.new.items ≡ map made_view made.old.items ++ (number, making.entry.kept.items) ∷ []) }
+    ensures rule { OnOk result (map item_view done.new.items ≡ map item_view done.old.items ++ map (λ p. rule_item (rule_view p.rule)) (option_to_list making.entry.pending)) }
+    ensures filling { OnOk result (fillings.new.items ≡ fillings.old.items ++ map (λ p. p.filling) (option_to_list making.entry.pending)) }
 {
     let Making { pending, kept } = making;
     made.push(MadeSymbol { number, kept })?;
@@ -327,29 +342,30 @@ fn add_rule(
 
 /// Makes the rules of the symbols that wait, that of the last one first, behind those of the rounds before, and answers what is given
 /// for the names in each; the symbols are put, in the same order, behind those that were made into rules before.
-pub(super) fn make_rules(
+pub(super) fn make_rules<'m>(
     alloc: Global,
-    macros: &Macros,
+    makers: &'m Makers,
     table: &Table,
     waiting: Vec<Waiting>,
     made: &mut Vec<MadeSymbol>,
     done: &mut Vec<GrammarItem>,
-) -> NormResult<Vec<Option<Filling>>>
-    requires macros { AreByName macros.now }
+) -> NormResult<Vec<Option<Filling<'m>>>>
+    requires macros { AreByName makers.now.macros }
+    requires hole { IsNumbering (map (λ n. n.0) hole) makers.now.hole }
     requires table { IsNodeTable table.now }
     requires waiting { AreWaiting (wholes_in table.now) waiting.items }
-    ensures refuses { Refuses result (flat_map (λ w. unmade (macros_in macros.now) (symbol_view w.symbol)) (reverse waiting.items)) }
-    ensures rules { OnOk result (map item_view done.new.items ≡ map item_view done.old.items ++ map item_of (flat_map (pending_for (wholes_in table.now) (macros_in macros.now)) (reverse waiting.items))) }
-    ensures fillings { IfOk result (λ fs. map (filling_view (wholes_in table.now)) fs.items ≡ map filling_of (flat_map (pending_for (wholes_in table.now) (macros_in macros.now)) (reverse waiting.items))) }
+    ensures refuses { Refuses result (flat_map (λ w. unmade (macros_in makers.now.macros) (symbol_view w.symbol)) (reverse waiting.items)) }
+    ensures rules { OnOk result (map item_view done.new.items ≡ map item_view done.old.items ++ map item_of (flat_map (pending_for (wholes_in table.now) (macros_in makers.now.macros)) (reverse waiting.items))) }
+    ensures fillings { IfOk result (λ fs. map (filling_view (wholes_in table.now)) fs.items ≡ map filling_of (flat_map (pending_for (wholes_in table.now) (macros_in makers.now.macros)) (reverse waiting.items))) }
     ensures readable { IfOk result (λ fs. AreReadable (wholes_in table.now) fs.items) }
-    ensures made { OnOk result (map made_view made.new.items ≡ map made_view made.old.items ++ map (made_for (macros_in macros.now)) (reverse waiting.items)) }
+    ensures made { OnOk result (map made_view made.new.items ≡ map made_view made.old.items ++ map (made_for (macros_in makers.now.macros)) (reverse waiting.items)) }
 {
     let mut waiting = waiting;
     waiting.reverse();
     let mut fillings = Vec::with_capacity(alloc, waiting.len())?;
     for symbol in waiting {
         let number = symbol.number;
-        let making = pending_rule(alloc, macros, table, symbol)?;
+        let making = pending_rule(alloc, makers, table, symbol)?;
         add_rule(number, making, made, done, &mut fillings)?;
     }
     Ok(fillings)

@@ -17,7 +17,7 @@ use Rattle.lalrpop_norm_macro_expand.proofs.macro_expand.read_round.Goals as goa
 pub returns-in_err-read_pending-clause-refuses : goal.returns-in_err-read_pending-clause-refuses
 returns-in_err-read_pending-clause-refuses c =
     let ws = wholes_in c.args.table.now in
-    let ps : List PendingData = flat_map (pending_for ws (macros_in c.args.macros.now)) (reverse c.args.waiting.items) in
+    let ps : List PendingData = flat_map (pending_for ws (macros_in c.args.makers.now.macros)) (reverse c.args.waiting.items) in
     let old : List GrammarItem = c.args.done.now.items in
     let all : List GrammarItem = c.deref_mut.result.now in
     let before : c.len-first.result ≡ length old = omega (arith, c.len-first.ensures, c.args.done.now.ok.0) in
@@ -31,7 +31,7 @@ returns-in_err-read_pending-clause-refuses c =
 pub returns-clause-refuses : goal.returns-clause-refuses
 returns-clause-refuses c =
     let ws = wholes_in c.args.table.now in
-    let ps : List PendingData = flat_map (pending_for ws (macros_in c.args.macros.now)) (reverse c.args.waiting.items) in
+    let ps : List PendingData = flat_map (pending_for ws (macros_in c.args.makers.now.macros)) (reverse c.args.waiting.items) in
     let old : List GrammarItem = c.args.done.now.items in
     let all : List GrammarItem = c.deref_mut.result.now in
     let before : c.len-first.result ≡ length old = omega (arith, c.len-first.ensures, c.args.done.now.ok.0) in
@@ -44,7 +44,7 @@ returns-clause-refuses c =
 pub returns-clause-meets : goal.returns-clause-meets
 returns-clause-meets c =
     let ws = wholes_in c.args.table.now in
-    let ps : List PendingData = flat_map (pending_for ws (macros_in c.args.macros.now)) (reverse c.args.waiting.items) in
+    let ps : List PendingData = flat_map (pending_for ws (macros_in c.args.makers.now.macros)) (reverse c.args.waiting.items) in
     let old : List GrammarItem = c.args.done.now.items in
     let all : List GrammarItem = c.deref_mut.result.now in
     let before : c.len-first.result ≡ length old = omega (arith, c.len-first.ensures, c.args.done.now.ok.0) in
@@ -56,7 +56,7 @@ returns-clause-meets c =
 pub returns-clause-waits : goal.returns-clause-waits
 returns-clause-waits c =
     let ws = wholes_in c.args.table.now in
-    let ps : List PendingData = flat_map (pending_for ws (macros_in c.args.macros.now)) (reverse c.args.waiting.items) in
+    let ps : List PendingData = flat_map (pending_for ws (macros_in c.args.makers.now.macros)) (reverse c.args.waiting.items) in
     let old : List GrammarItem = c.args.done.now.items in
     let all : List GrammarItem = c.deref_mut.result.now in
     let before : c.len-first.result ≡ length old = omega (arith, c.len-first.ensures, c.args.done.now.ok.0) in
@@ -68,7 +68,7 @@ returns-clause-waits c =
 pub returns-clause-value : goal.returns-clause-value
 returns-clause-value c =
     let ws = wholes_in c.args.table.now in
-    let ps : List PendingData = flat_map (pending_for ws (macros_in c.args.macros.now)) (reverse c.args.waiting.items) in
+    let ps : List PendingData = flat_map (pending_for ws (macros_in c.args.makers.now.macros)) (reverse c.args.waiting.items) in
     let old : List GrammarItem = c.args.done.now.items in
     let all : List GrammarItem = c.deref_mut.result.now in
     let before : c.len-first.result ≡ length old = omega (arith, c.len-first.ensures, c.args.done.now.ok.0) in

@@ -24,7 +24,7 @@ returns-clause-waits c = rw (c.deref.ensures.value, c.deref_mut.ensures.value) a
 
 pub returns-clause-value : goal.returns-clause-value
 returns-clause-value c =
-    let shown = shown_numbered c.args.filling.now.numbers c.args.filling.now.given.items in
+    let shown = shown_numbered c.args.filling.now.numbers.now c.args.filling.now.given.items in
     let d : RuleData = rule_view c.args.rule.now in
     let written : List Alternative = c.args.rule.now.alternatives.items in
     let new : List Alternative = c.read_alternatives.new.alternatives in

@@ -21,8 +21,8 @@ pub instance_of-requires-clause-shallow : goal.instance_of-requires-clause-shall
 instance_of-requires-clause-shallow c =
     let m : MacroSymbol = c.args.instance.now in
     let ms : List RuleData = macros_in c.args.macros.now in
-    let d : RuleData = rule_view c.in-Some.definition.now in
-    let found : macro_named ms (out-MacroSymbol m).name.0 ≡ Some d = sym c.find.ensures ∙ ap (option_map (λ r. rule_view r.now)) c.in-Some.is in
+    let d : RuleData = rule_view c.in-Some.called.now.definition in
+    let found : macro_named ms (out-MacroSymbol m).name.0 ≡ Some d = sym c.find.ensures.named ∙ ap (option_map (λ n. rule_view n.now.definition)) c.in-Some.is in
     let same : call (macro_view m).0 (macro_view m).1 ≡ call d.name.0 (parts_view c.replace-arguments.result.items) =
     ap (λ (t : List ℕ × Parts). call t.0 t.1) (call_is m)
     ∙ ap₂ call (sym (named_so ms (out-MacroSymbol m).name.0 d found)) (ap (λ (v : Vec Symbol Global). parts_view v.items) (sym c.replace-arguments.ensures.value)) in
@@ -32,8 +32,8 @@ pub returns-in_err-pending-in-Some-clause-refuses : goal.returns-in_err-pending-
 returns-in_err-pending-in-Some-clause-refuses c =
     let m : MacroSymbol = c.args.instance.now in
     let ms : List RuleData = macros_in c.args.macros.now in
-    let d : RuleData = rule_view c.in-Some.definition.now in
-    let found : macro_named ms (out-MacroSymbol m).name.0 ≡ Some d = sym c.find.ensures ∙ ap (option_map (λ r. rule_view r.now)) c.in-Some.is in
+    let d : RuleData = rule_view c.in-Some.called.now.definition in
+    let found : macro_named ms (out-MacroSymbol m).name.0 ≡ Some d = sym c.find.ensures.named ∙ ap (option_map (λ n. rule_view n.now.definition)) c.in-Some.is in
     let same : called_faults (macro_named ms (macro_view m).0) (macro_view m).1 ≡ called_faults (Some d) (parts_view c.replace-arguments.result.items) =
     ap (λ (t : List ℕ × Parts). called_faults (macro_named ms t.0) t.1) (call_is m)
     ∙ ap₂ (λ (o : Option RuleData) (ps : Parts). called_faults o ps) found (ap (λ (v : Vec Symbol Global). parts_view v.items) (sym c.replace-arguments.ensures.value)) in
@@ -43,8 +43,8 @@ pub returns-in_ok-pending-in-Some-clause-kept : goal.returns-in_ok-pending-in-So
 returns-in_ok-pending-in-Some-clause-kept c =
     let m : MacroSymbol = c.args.instance.now in
     let ms : List RuleData = macros_in c.args.macros.now in
-    let d : RuleData = rule_view c.in-Some.definition.now in
-    let found : macro_named ms (out-MacroSymbol m).name.0 ≡ Some d = sym c.find.ensures ∙ ap (option_map (λ r. rule_view r.now)) c.in-Some.is in
+    let d : RuleData = rule_view c.in-Some.called.now.definition in
+    let found : macro_named ms (out-MacroSymbol m).name.0 ≡ Some d = sym c.find.ensures.named ∙ ap (option_map (λ n. rule_view n.now.definition)) c.in-Some.is in
     let same : kept_by_call comparison (macro_named ms (macro_view m).0) (macro_view m).1 ≡ kept_by_call comparison (Some d) (parts_view c.replace-arguments.result.items) =
     ap (λ (t : List ℕ × Parts). kept_by_call comparison (macro_named ms t.0) t.1) (call_is m)
     ∙ ap₂ (λ (o : Option RuleData) (ps : Parts). kept_by_call comparison o ps) found (ap (λ (v : Vec Symbol Global). parts_view v.items) (sym c.replace-arguments.ensures.value)) in

@@ -37,15 +37,15 @@ pending_rule-requires-clause-waiting c =
 
 pub returns-in_err-making-clause-refuses : goal.returns-in_err-making-clause-refuses
 returns-in_err-making-clause-refuses c =
-    let unmade_of : List Waiting → List Fault = flat_map (λ w. unmade (macros_in c.args.macros.now) (symbol_view w.symbol)) in
-    exit_at _ _ (unmade (macros_in c.args.macros.now) (symbol_view c.in-Some.symbol.symbol)) (unmade_of c.next.new.self.rest.items) (unmade_of (reverse c.args.waiting.items))
+    let unmade_of : List Waiting → List Fault = flat_map (λ w. unmade (macros_in c.args.makers.now.macros) (symbol_view w.symbol)) in
+    exit_at _ _ (unmade (macros_in c.args.makers.now.macros) (symbol_view c.in-Some.symbol.symbol)) (unmade_of c.next.new.self.rest.items) (unmade_of (reverse c.args.waiting.items))
     c.from_residual-in_err-making.ensures.1 c.in_err-making.ensures.refuses
     (sym c.loop-symbol.invariant.refuses ∙ ap unmade_of c.in-Some.ensures.steps.0)
 
 pub loop-symbol-preserved : goal.loop-symbol-preserved
 loop-symbol-preserved c =
     let ws = wholes_in c.args.table.now in
-    let ms = macros_in c.args.macros.now in
+    let ms = macros_in c.args.makers.now.macros in
     let v = c.loop-symbol.invariant in
     let n = c.in_ok-add_rule.ensures in
     let w : Waiting = c.in-Some.symbol in
@@ -89,25 +89,25 @@ loop-symbol-preserved c =
 pub returns-clause-refuses : goal.returns-clause-refuses
 returns-clause-refuses c =
     let none : c.loop-symbol.symbol-iterator.rest.items ≡ [] = none_left c.loop-symbol.symbol-iterator.rest.items (omega (arith, c.in-None.ensures.steps.0)) in
-    sym c.loop-symbol.invariant.refuses ∙ ap (flat_map (λ (w : Waiting). unmade (macros_in c.args.macros.now) (symbol_view w.symbol))) none
+    sym c.loop-symbol.invariant.refuses ∙ ap (flat_map (λ (w : Waiting). unmade (macros_in c.args.makers.now.macros) (symbol_view w.symbol))) none
 
 pub returns-clause-rules : goal.returns-clause-rules
 returns-clause-rules c =
     let none : c.loop-symbol.symbol-iterator.rest.items ≡ [] = none_left c.loop-symbol.symbol-iterator.rest.items (omega (arith, c.in-None.ensures.steps.0)) in
     sym (append-nil (map item_view c.loop-symbol.done.items))
-    ∙ ap (λ (ws : List Waiting). map item_view c.loop-symbol.done.items ++ map item_of (flat_map (pending_for (wholes_in c.args.table.now) (macros_in c.args.macros.now)) ws)) (sym none)
+    ∙ ap (λ (ws : List Waiting). map item_view c.loop-symbol.done.items ++ map item_of (flat_map (pending_for (wholes_in c.args.table.now) (macros_in c.args.makers.now.macros)) ws)) (sym none)
     ∙ c.loop-symbol.invariant.rules
 
 pub returns-clause-fillings : goal.returns-clause-fillings
 returns-clause-fillings c =
     let none : c.loop-symbol.symbol-iterator.rest.items ≡ [] = none_left c.loop-symbol.symbol-iterator.rest.items (omega (arith, c.in-None.ensures.steps.0)) in
     sym (append-nil (map (filling_view (wholes_in c.args.table.now)) c.loop-symbol.fillings.items))
-    ∙ ap (λ (ws : List Waiting). map (filling_view (wholes_in c.args.table.now)) c.loop-symbol.fillings.items ++ map filling_of (flat_map (pending_for (wholes_in c.args.table.now) (macros_in c.args.macros.now)) ws)) (sym none)
+    ∙ ap (λ (ws : List Waiting). map (filling_view (wholes_in c.args.table.now)) c.loop-symbol.fillings.items ++ map filling_of (flat_map (pending_for (wholes_in c.args.table.now) (macros_in c.args.makers.now.macros)) ws)) (sym none)
     ∙ c.loop-symbol.invariant.fillings
 
 pub returns-clause-made : goal.returns-clause-made
 returns-clause-made c =
     let none : c.loop-symbol.symbol-iterator.rest.items ≡ [] = none_left c.loop-symbol.symbol-iterator.rest.items (omega (arith, c.in-None.ensures.steps.0)) in
     sym (append-nil (map made_view c.loop-symbol.made.items))
-    ∙ ap (λ (ws : List Waiting). map made_view c.loop-symbol.made.items ++ map (made_for (macros_in c.args.macros.now)) ws) (sym none)
+    ∙ ap (λ (ws : List Waiting). map made_view c.loop-symbol.made.items ++ map (made_for (macros_in c.args.makers.now.macros)) ws) (sym none)
     ∙ c.loop-symbol.invariant.made

@@ -20,11 +20,11 @@ returns-clause-pending c =
     let op = c.args.repeat.now.op in
     let s = c.args.head.span in
     let name : List ℕ = c.args.head.name in
-    let table = c.in_ok-numbers.numbers in
+    let table = c.args.numbers.now in
     let g : Given = record { number = c.repeated_number-number.result; symbol = c.replace-symbol.result } in
     let symbol : g.symbol ≡ x = c.replace-symbol.ensures.value in
     ap (λ (gs : List Given). unread_rule (rule_view c.in_ok-rule.rule) (whole_numbered ws table gs) (shown_numbered table gs)) c.in_ok-given.ensures.items
-    ∙ ap₂ (unread_rule (rule_view c.in_ok-rule.rule)) (whole_found hole (g ∷ []) table c.in_ok-numbers.ensures ws) (shown_found hole (g ∷ []) table c.in_ok-numbers.ensures)
+    ∙ ap₂ (unread_rule (rule_view c.in_ok-rule.rule)) (whole_found hole (g ∷ []) table c.requires.numbers ws) (shown_found hole (g ∷ []) table c.requires.numbers)
     ∙ repeat_is ws name s op (repeated_kind (kind_at ws c.args.number)) x (rule_view c.in_ok-rule.rule) g symbol c.repeated_number-number.ensures
     (c.in_ok-rule.ensures ∙ ap (λ (y : Symbol). repeat_shape name s op (symbol_view y) (at y.span (nonterminal hole_name))) symbol)
 
@@ -36,5 +36,5 @@ returns-clause-readable c =
     let k = kind_at ws c.args.number in
     let g : Given = record { number = c.repeated_number-number.result; symbol = c.replace-symbol.result } in
     rw c.in_ok-given.ensures.items
-    (given_found hole (g ∷ []) c.in_ok-numbers.numbers c.in_ok-numbers.ensures ws
+    (given_found hole (g ∷ []) c.args.numbers.now c.requires.numbers ws
     (repeat_readable ws op k x g c.replace-symbol.ensures.value c.repeated_number-number.ensures c.requires.shallow.replaced (shallow_repeat k op (symbol_view x) c.requires.shallow.same)))
