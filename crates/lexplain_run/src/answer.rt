@@ -23,6 +23,7 @@ use lalrpop_norm_json::{TreeError, read_tree};
 use lalrpop_norm_tree::grammar::parse_tree::Grammar;
 use lexplain_lines::lines::{lowered_lines, written_lines};
 use lexplain_lines::read::{LinesError, lowered_tree_of_lines, written_tree_of_lines};
+use lnorm_streams::halt::push_fault_line;
 use std::alloc::{AllocError, Global};
 
 /// Why there is no answer.
@@ -217,11 +218,7 @@ fn push_stop(line: &mut String, stop: &Stop) -> Result<u8, AllocError>
             Ok(2)
         }
         Stop::Failed(NormFailure::Refused(error)) => {
-            let code = error.fault.code();
-            let from = error.span.0;
-            let to = error.span.1;
-            let message = error.message.as_str();
-            write!(line, "{code} {from}..{to}: {message}\n")?;
+            push_fault_line(line, error)?;
             Ok(1)
         }
         Stop::Tree(ExplainError::Refused { fault, path }) => {

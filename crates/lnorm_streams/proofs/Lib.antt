@@ -1,4 +1,6 @@
+pub mod CharLemmas
 pub mod FrontLemmas
 pub mod LineLemmas
+pub mod MessageLemmas
 pub mod OneRead
 pub mod OneWrite

@@ -1,5 +1,6 @@
 -- What is read and written as a whole, and the lines that tell of a failed run.
-use Rattle.std.specs.Prelude.{◌≤◌, ℕ, List, ◌++◌, Option, length, take, codes, decimal}
+use Rattle.std.specs.Prelude.{◌≤◌, ℕ, ◌==◌, List, [], ◌∷◌, ◌++◌, Option, length, take, codes, decimal, if◌then◌else◌}
+use Rattle.std.specs.List.{flat_map}
 use Rattle.std.specs.Io.KnownBytes.{Appends, Consumes, IsAtEnd}
 use Rattle.lalrpop_norm_tree_names.specs.declared.names.Span.{Span}
 use Rattle.lalrpop_norm_faults.specs.declared.kind.FaultKind.{FaultKind}
@@ -14,11 +15,19 @@ pub record ReadsAll (old new : Option (List ℕ)) (bytes : List ℕ) : Type 0 wh
 abbrev pub WritesFront : Option (List ℕ) → Option (List ℕ) → List ℕ → Type 0
 WritesFront old new text = (n : ℕ) × (n ≤ length text) × Appends old new (take n text)
 
+-- what stands in a line for a byte of a message: a line feed and a carriage return would end it
+abbrev pub in_line : ℕ → List ℕ
+in_line byte = if byte == 10 then codes "\\n" else (if byte == 13 then codes "\\r" else (byte ∷ []))
+
+-- the message as it stands in a line
+abbrev pub one_line : List ℕ → List ℕ
+one_line message = flat_map in_line message
+
 -- the line of a fault, as `F36 12..20: ` and the message
 abbrev pub fault_line : FaultKind → Span → List ℕ → List ℕ
 fault_line fault span message =
     code_of fault ++ (codes " " ++ (decimal span.0
-    ++ (codes ".." ++ (decimal span.1 ++ (codes ": " ++ (message ++ codes "\n"))))))
+    ++ (codes ".." ++ (decimal span.1 ++ (codes ": " ++ (one_line message ++ codes "\n"))))))
 
 -- a span in it, with what stands before the message
 abbrev pub span_text : Span → List ℕ

@@ -1,14 +1,16 @@
 //! Why a run ends without its text, and what users are told then.
 ghost use Rattle.std.specs.IoError.{error_kind};
 ghost use Rattle.std.specs.Io.KnownBytes.{Appends};
-ghost use Rattle.std.specs.Prelude.{◌≡◌, ◌≢◌, ◌++◌, IsTrue, codes, decimal, string_bytes};
-ghost use Rattle.lnorm_streams.specs.Streams.{WritesFront, fault_line, span_text, usage_line, no_tree_line, memory_line, stream_line};
+ghost use Rattle.std.specs.Prelude.{◌≡◌, ◌≢◌, ◌++◌, IsTrue, OnOk, codes, decimal, string_bytes};
+ghost use Rattle.lnorm_streams.specs.Streams.{WritesFront, fault_line, one_line, span_text, usage_line, no_tree_line, memory_line, stream_line};
 ghost use Rattle.lnorm_streams.specs.Told.{status_of, LineOf};
 
+use crate::message::{push_message, write_message};
 use crate::streams::{write_both, write_whole};
 use itoa::Buffer;
 use lalrpop_norm_faults::{NormError, NormFailure};
 use lalrpop_norm_tree_names::names::Span;
+use std::alloc::AllocError;
 use std::io::{self, ErrorKind, Write};
 
 /// Why a run ends without its text.
@@ -70,6 +72,19 @@ pub fn report<E: Write>(halt: Halt, faults: &mut E) -> u8
     }
 }
 
+/// Puts the line of a fault behind a text.
+pub fn push_fault_line(text: &mut String, error: &NormError) -> Result<(), AllocError>
+    ensures { OnOk result (string_bytes text.new ≡ string_bytes text.old
+        ++ fault_line error.now.fault error.now.span (string_bytes error.now.message)) }
+{
+    let code = error.fault.code();
+    let from = error.span.0;
+    let to = error.span.1;
+    write!(text, "{code} {from}..{to}: ")?;
+    push_message(text, error.message.as_str())?;
+    text.push_str("\n")
+}
+
 /// Writes a text, or a beginning of it.
 fn say<E: Write>(faults: &mut E, text: &str)
     ensures { WritesFront (E.contents faults.old) (E.contents faults.new) text.now }
@@ -83,10 +98,18 @@ fn say_fault<E: Write>(faults: &mut E, error: &NormError)
         (fault_line error.now.fault error.now.span (string_bytes error.now.message)) }
 {
     let _whole = write_site(faults, error.fault.code(), error.span)
-        && write_both(faults, error.message.as_str(), "\n");
+        && end_line(faults, error.message.as_bytes());
 }
 
-/// Writes what stands before a fault's message: its number and its span. Says whether all was written; else a beginning was.
+/// Writes a fault's message and the end of its line. Says whether all was written; else a beginning was.
+fn end_line<E: Write>(faults: &mut E, message: &[u8]) -> bool
+    ensures front { WritesFront (E.contents faults.old) (E.contents faults.new) (one_line message.now ++ codes "\n") }
+    ensures whole { IsTrue result → Appends (E.contents faults.old) (E.contents faults.new) (one_line message.now ++ codes "\n") }
+{
+    write_message(faults, message) && write_whole(faults, b"\n")
+}
+
+/// The same of what stands before the message: the fault's number and its span.
 fn write_site<E: Write>(faults: &mut E, code: &str, span: Span) -> bool
     ensures front { WritesFront (E.contents faults.old) (E.contents faults.new) ((code.now ++ codes " ") ++ span_text span) }
     ensures whole { IsTrue result → Appends (E.contents faults.old) (E.contents faults.new) ((code.now ++ codes " ") ++ span_text span) }

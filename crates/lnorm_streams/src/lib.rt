@@ -2,5 +2,6 @@
 #![tactic(auto)]
 
 pub mod halt;
+pub mod message;
 pub mod source;
 pub mod streams;
