@@ -4,9 +4,9 @@
 use lalrpop_norm::normalize::NormFailure;
 use lexplain_run::answer::{Stop, answer, told};
 use lexplain_run::words::asked_for;
-use lnorm_run::words::WordsError;
+use lnorm_run::words::{WordsError, words_of_call};
 use std::process::ExitCode;
-use std::{env, fs, io};
+use std::{fs, io};
 
 const USAGE: &str =
     "lexplain: usage: lexplain explain|lower GRAMMAR [--limit N] [--feature F]...\n";
@@ -46,15 +46,4 @@ fn stopped(rt: &HostRuntime, stop: Stop) -> io::Result<u8> {
 fn ended(rt: &HostRuntime, status: u8, line: &str) -> io::Result<u8> {
     eprint!(rt; "{line}")?;
     Ok(status)
-}
-
-/// The words of the call, without the program's name.
-fn words_of_call(rt: &HostRuntime) -> io::Result<Vec<String>> {
-    let mut args = env::args(rt)?;
-    let _program = args.next();
-    let mut words = Vec::new(rt.alloc());
-    for word in args {
-        words.push(word)?;
-    }
-    Ok(words)
 }

@@ -4,11 +4,12 @@
 ghost use Rattle.std.specs.Prelude.{◌≤◌};
 
 use lnorm_run::answer::Afterwards;
-use lnorm_run::run::run;
+use lnorm_run::run::run_with;
+use lnorm_run::words::words_of_call;
 use lnorm_streams::halt::{halt_of_words, report};
 use std::alloc::{AllocError, Global};
+use std::io;
 use std::process::ExitCode;
-use std::{env, io};
 
 fn main(rt: HostRuntime) -> ExitCode {
     ExitCode::from(status(&rt))
@@ -19,7 +20,7 @@ fn status(rt: &HostRuntime) -> u8
 {
     let alloc = rt.alloc();
     match prepared(rt) {
-        Ok(words) => run(
+        Ok(words) => run_with(
             alloc,
             &words,
             &mut rt.stdin(),
@@ -42,15 +43,4 @@ fn prepared(rt: &HostRuntime) -> io::Result<Vec<String>> {
 fn keep_large_blocks(alloc: Global) -> Result<(), AllocError> {
     let _block: Vec<u8> = Vec::with_capacity(alloc, 31 << 20)?;
     Ok(())
-}
-
-/// The words of the call, without the program's name.
-fn words_of_call(rt: &HostRuntime) -> io::Result<Vec<String>> {
-    let mut args = env::args(rt)?;
-    let _program = args.next();
-    let mut words = Vec::new(rt.alloc());
-    for word in args {
-        words.push(word)?;
-    }
-    Ok(words)
 }

@@ -13,7 +13,6 @@ use crate::words::words_in;
 use crate::written::Written;
 use lalrpop_norm_faults::NormFailure;
 use lnorm_buffers::answer::{Ended, LnormAnswer, told, without_memory};
-use lnorm_run::answer::Afterwards;
 use lnorm_run::run::run;
 use lnorm_run::words::WordsError;
 use lnorm_streams::halt::{Halt, report};
@@ -93,14 +92,7 @@ fn ended_with(alloc: Global, words: &[String], input: &[u8]) -> Ended
     let mut input = input;
     let mut output = Vec::new(alloc);
     let mut faults = Written::new(alloc);
-    let status = run(
-        alloc,
-        words,
-        &mut input,
-        &mut output,
-        &mut faults,
-        Afterwards::LetGo,
-    );
+    let status = run(alloc, words, &mut input, &mut output, &mut faults);
     if faults.is_cut {
         without_memory(alloc)
     } else {
