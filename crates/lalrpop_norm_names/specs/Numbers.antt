@@ -1,7 +1,7 @@
 -- Names and their numbers.
-use Rattle.std.specs.Prelude.{◌≡◌, ℕ, List, [], ◌∷◌, Option, bytes_eq}
+use Rattle.std.specs.Prelude.{◌≡◌, ◌++◌, ℕ, List, [], ◌∷◌, Option, bytes_eq}
 use Rattle.std.specs.List.{position}
-use Rattle.std.specs.HashMap.{get}
+use Rattle.std.specs.HashMap.{get, keys}
 use Rattle.lalrpop_norm_names.specs.declared.table.Names.{Names}
 
 -- the first place at which a name stands in a list of names, counted from 0
@@ -15,6 +15,10 @@ number_by (f ∷ fs) number name = first_place (f ∷ fs) name
 
 abbrev pub number_in_table : Names → List ℕ → Option ℕ
 number_in_table table name = number_by table.few.items (get bytes_eq table.many name) name
+
+-- the names that may have numbers: few ones are listed, many are keys
+abbrev pub names_looked_up : Names → List (List ℕ)
+names_looked_up table = table.few.items ++ keys table.many
 
 -- each name has the first place at which it stands in the list as its number, and one that does not stand there has none
 abbrev pub IsNumbering : List (List ℕ) → Names → Type 0

@@ -4,6 +4,7 @@ ghost use Rattle.std.specs.Hash.DefaultHasher.{initial};
 ghost use Rattle.lalrpop_norm_names.specs.Seeds.{seeded_after, seeded_hasher};
 
 use lalrpop_norm_tree_names::names::NonterminalString;
+use shared_text::Atom;
 use std::hash::{BuildHasher, DefaultHasher, Hash, Hasher};
 
 /// Makes each hasher as a copy of one that has read a seed.
@@ -34,12 +35,21 @@ impl Seeded {
         }
     }
 
-    /// By all the names, and their order.
+    /// By all the names of rules, and their order.
     pub(crate) fn by(names: &[NonterminalString]) -> Seeded
         ensures { result.start ≡ seeded_hasher (map (λ n. n.0) names.now) }
     {
         let mut reader = DefaultHasher::new();
         NonterminalString::hash_slice(names, &mut reader);
+        Seeded::after(reader)
+    }
+
+    /// By all the names, and their order.
+    pub fn by_names(names: &[Atom]) -> Seeded
+        ensures { result.start ≡ seeded_hasher names.now }
+    {
+        let mut reader = DefaultHasher::new();
+        Atom::hash_slice(names, &mut reader);
         Seeded::after(reader)
     }
 }

@@ -10,7 +10,6 @@ ghost use Rattle.lalrpop_norm_resolve.specs.NewNames.{table_rows, with_made, are
 use crate::resolve::GlobalTable;
 use crate::resolve::globals::globals_of;
 use crate::resolve::items::resolve_items;
-use crate::resolve::seed::seeded_by_names;
 use crate::resolve::symbols::global;
 use lalrpop_norm_faults::NormResult;
 use lalrpop_norm_names::Seeded;
@@ -27,11 +26,15 @@ pub struct GlobalNames {
 /// A grammar whose names are resolved, and its global names.
 #[derive(Drop)]
 pub struct Resolved {
+    /// The grammar, each name of which is what it means.
     pub grammar: Grammar,
+    /// The global names of the grammar, and what each is declared as.
     pub names: GlobalNames,
 }
 
 /// What [`resolve`](crate::resolve::resolve) answers, with the global names, for a pass that makes more of them.
+///
+/// Errors: those of `resolve`, F25 to F32; `Memory`.
 pub fn resolve_names(alloc: Global, mut grammar: Grammar) -> NormResult<Resolved>
     ensures resolves { RefusesOr result (resolve_faults (grammar_view grammar)) (λ r. grammar_view r.grammar ≡ resolved_grammar (grammar_view grammar)) }
     ensures names { IfOk result (λ r. table_rows r.names ≡ all_rows [] (globals (grammar_view grammar))) }
@@ -54,7 +57,7 @@ fn resolve_in_place(alloc: Global, items: &mut [GrammarItem]) -> NormResult<Glob
 pub fn are_new(alloc: Global, names: GlobalNames, made: &[Atom]) -> Result<bool, NoMemory>
     ensures { IfOk result (λ new. new ≡ are_new (table_rows names) made.now) }
 {
-    let mut read = HashSet::with_hasher(alloc, seeded_by_names(made));
+    let mut read = HashSet::with_hasher(alloc, Seeded::by_names(made));
     let new = read_each(&names.table, &mut read, made)?;
     Ok(new)
 }

@@ -8,7 +8,7 @@ use Rattle.std.proofs.lemmas.Iterator.Adapters.{position_from-zero}
 use Rattle.std.proofs.lemmas.List.{map-append}
 use Rattle.std.proofs.lemmas.Option.{slice_get-map}
 use Rattle.std.proofs.lemmas.Slice.Eq.{bytes_eq-Decides}
-use Rattle.lalrpop_norm_names.specs.Numbers.{first_place, number_by, number_in_table}
+use Rattle.lalrpop_norm_names.specs.Numbers.{first_place, number_by, number_in_table, names_looked_up}
 use Rattle.lalrpop_norm_theory.specs.Rounds.{In, IsDistinct}
 use Rattle.lalrpop_norm_tree_names.specs.declared.names.NonterminalString.{NonterminalString}
 use Rattle.lalrpop_norm_tree.specs.Accessors.{or_else}
@@ -20,7 +20,7 @@ use Rattle.lalrpop_norm_model.proofs.ListLemmas.{texts_differ}
 use Rattle.lalrpop_norm_tyinfer_table.proofs.NeedLemmas.{of_mapped_at}
 use Rattle.lalrpop_norm_tyinfer_table.specs.declared.numbered.Numbered.{Numbered}
 use Rattle.lalrpop_norm_tyinfer_table.specs.Needs.{AreRuleNumbers}
-use Rattle.lalrpop_norm_tyinfer_table.specs.Numbered.{names_numbered, type_of_rule, type_at, type_by_number, row_if, typed_rows, names_looked_up, numbered_table, IsNumberOf, PutsType, PutsRow}
+use Rattle.lalrpop_norm_tyinfer_table.specs.Numbered.{names_numbered, type_of_rule, type_at, type_by_number, row_if, typed_rows, numbered_table, IsNumberOf, PutsType, PutsRow}
 use Rattle.lalrpop_norm_tyinfer_table.specs.TableValues.{named_by, type_by_name}
 
 -- ---- a row for each name

@@ -3,7 +3,7 @@ use Rattle.std.proofs.Common.{◌≡◌, ◌<◌, ◌++◌, ℕ, true, List, [],
 use Rattle.std.proofs.lemmas.List.{length-map}
 use Rattle.std.proofs.lemmas.Option.{slice_get_within}
 use Rattle.lalrpop_norm_names.specs.declared.table.Names.{Names}
-use Rattle.lalrpop_norm_names.specs.Numbers.{number_in_table}
+use Rattle.lalrpop_norm_names.specs.Numbers.{number_in_table, names_looked_up}
 use Rattle.lalrpop_norm_theory.specs.Rounds.{IsDistinct}
 use Rattle.lalrpop_norm_tree_names.specs.declared.names.NonterminalString.{NonterminalString}
 use Rattle.lalrpop_norm_tree_parts.specs.declared.lowered.TypeRepr.{TypeRepr}
@@ -12,7 +12,7 @@ use Rattle.lalrpop_norm_repr.specs.declared.types.Types.{Types}
 use Rattle.lalrpop_norm_repr.specs.Tables.{type_table, type_of}
 use Rattle.lalrpop_norm_tyinfer_table.specs.declared.numbered.Numbered.{Numbered}
 use Rattle.lalrpop_norm_tyinfer_table.specs.Needs.{names_seen, AreRuleNumbers}
-use Rattle.lalrpop_norm_tyinfer_table.specs.Numbered.{names_looked_up, names_numbered, type_at, type_by_number, typed_rows, numbered_table, PutsType, HasSameNumbers, IsNumberOf, NumbersRules}
+use Rattle.lalrpop_norm_tyinfer_table.specs.Numbered.{names_numbered, type_at, type_by_number, typed_rows, numbered_table, PutsType, HasSameNumbers, IsNumberOf, NumbersRules}
 use Rattle.lalrpop_norm_tyinfer_table.specs.TableValues.{named_by, type_by_name}
 use Rattle.lalrpop_norm_tyinfer_table.specs.Visits.{Seen, TakesType}
 use Rattle.lalrpop_norm_tyinfer_table.proofs.NeedLemmas.{one_place}

@@ -1,8 +1,6 @@
 -- The types of rules by number, as a type table.
 use Rattle.std.specs.Prelude.{◌≡◌, ◌<◌, ◌++◌, ◌∷◌, ℕ, List, [], length, map, Option, Some, None, option_map, slice_get}
-use Rattle.std.specs.HashMap.{keys}
-use Rattle.lalrpop_norm_names.specs.Numbers.{number_in_table}
-use Rattle.lalrpop_norm_names.specs.declared.table.Names.{Names}
+use Rattle.lalrpop_norm_names.specs.Numbers.{number_in_table, names_looked_up}
 use Rattle.lalrpop_norm_tree_names.specs.declared.names.NonterminalString.{NonterminalString}
 use Rattle.lalrpop_norm_tree_parts.specs.declared.lowered.TypeRepr.{TypeRepr}
 use Rattle.lalrpop_norm_tree_parts.specs.Reprs.{ReprData, repr_view}
@@ -38,10 +36,6 @@ row_if n (Some x) = (named_by n, x) ∷ []
 abbrev pub typed_rows : (List ℕ → Option ReprData) → List (List ℕ) → List (NonterminalString × ReprData)
 typed_rows f [] = []
 typed_rows f (n ∷ ns) = row_if n (f n) ++ typed_rows f ns
-
--- the names that may have numbers: few ones are listed, many are keys
-abbrev pub names_looked_up : Names → List (List ℕ)
-names_looked_up names = names.few.items ++ keys names.many
 
 -- the table of types that they are
 abbrev pub numbered_table : Numbered → TypeTable

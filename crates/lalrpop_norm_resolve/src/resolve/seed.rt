@@ -2,7 +2,7 @@
 
 use lalrpop_norm_names::Seeded;
 use lalrpop_norm_tree::grammar::parse_tree::{
-    Atom, EnumToken, GrammarItem, MatchContents, MatchItem, MatchMapping, TerminalString,
+    EnumToken, GrammarItem, MatchContents, MatchItem, MatchMapping, TerminalString,
 };
 use std::hash::{DefaultHasher, Hash};
 
@@ -35,11 +35,15 @@ fn read_mapping(item: &MatchItem, reader: &mut DefaultHasher) {
     }
 }
 
+fn read_group(group: &MatchContents, reader: &mut DefaultHasher) {
+    for item in &group.items {
+        read_mapping(item, reader);
+    }
+}
+
 fn read_groups(groups: &[MatchContents], reader: &mut DefaultHasher) {
     for group in groups {
-        for item in &group.items {
-            read_mapping(item, reader);
-        }
+        read_group(group, reader);
     }
 }
 
@@ -52,18 +56,14 @@ fn read_item(item: &GrammarItem, reader: &mut DefaultHasher) {
     }
 }
 
-/// The hashes of the global names of these items.
+/// The hashes of a table for the global names of these items.
+///
+/// What is read are the names of rules, and the bare terminals of extern enums and of match blocks: all that such a table can hold.
+/// So nobody can choose names that collide there without changing the seed. No clause speaks of it, since no answer depends on it.
 pub(crate) fn seeded_by(items: &[GrammarItem]) -> Seeded {
     let mut reader = DefaultHasher::new();
     for item in items {
         read_item(item, &mut reader);
     }
-    Seeded::after(reader)
-}
-
-/// The hashes of names.
-pub(crate) fn seeded_by_names(names: &[Atom]) -> Seeded {
-    let mut reader = DefaultHasher::new();
-    Atom::hash_slice(names, &mut reader);
     Seeded::after(reader)
 }
