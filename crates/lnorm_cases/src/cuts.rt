@@ -1,6 +1,5 @@
 //! Runs of `lnorm` whose streams are cut, at each call in turn.
 use crate::cut::{Cut, Failure};
-use lnorm_run::answer::Afterwards;
 use lnorm_run::run::run;
 use lnorm_texts::text::Text;
 use std::alloc::Global;
@@ -60,14 +59,7 @@ fn push_cut_read(
     let mut input = input;
     let mut output = Vec::new(alloc);
     let mut faults = Vec::new(alloc);
-    let status = run(
-        alloc,
-        words,
-        &mut input,
-        &mut output,
-        &mut faults,
-        Afterwards::LetGo,
-    );
+    let status = run(alloc, words, &mut input, &mut output, &mut faults);
     push_cut(text, &input);
     push_end(text, status, &output, &faults);
     push_difference(text, whole, &output);
@@ -112,14 +104,7 @@ fn push_cut_write(
     let mut input = asked.bytes;
     let mut output = output;
     let mut faults = Vec::new(alloc);
-    let status = run(
-        alloc,
-        asked.words,
-        &mut input,
-        &mut output,
-        &mut faults,
-        Afterwards::LetGo,
-    );
+    let status = run(alloc, asked.words, &mut input, &mut output, &mut faults);
     push_cut(text, &output);
     push_end(text, status, &output.bytes, &faults);
     push_difference(text, whole, &output.bytes);
@@ -204,14 +189,7 @@ fn ended_with<E: Write>(
 ) -> (u8, Vec<u8>) {
     let mut input = input_of(alloc, text, asked.bytes, asked.fails_at, Failure::Broken);
     let mut output = Vec::new(alloc);
-    let status = run(
-        alloc,
-        asked.words,
-        &mut input,
-        &mut output,
-        faults,
-        Afterwards::LetGo,
-    );
+    let status = run(alloc, asked.words, &mut input, &mut output, faults);
     (status, output)
 }
 

@@ -1,5 +1,4 @@
 //! Runs of the program `lnorm`.
-use lnorm_run::answer::Afterwards;
 use lnorm_run::run::run;
 use lnorm_texts::text::Text;
 use std::alloc::Global;
@@ -9,14 +8,7 @@ pub(crate) fn push_run(alloc: Global, text: &mut Text, words: &[String], bytes: 
     let mut input = bytes;
     let mut output = Vec::new(alloc);
     let mut faults = Vec::new(alloc);
-    let status = run(
-        alloc,
-        words,
-        &mut input,
-        &mut output,
-        &mut faults,
-        Afterwards::LetGo,
-    );
+    let status = run(alloc, words, &mut input, &mut output, &mut faults);
     push_ended(text, status, &output, &faults);
 }
 
@@ -40,14 +32,7 @@ fn is_told_as_no_tree(alloc: Global, words: &[String], bytes: &[u8]) -> bool {
     let mut input = bytes;
     let mut output = Vec::new(alloc);
     let mut faults = Vec::new(alloc);
-    let status = run(
-        alloc,
-        words,
-        &mut input,
-        &mut output,
-        &mut faults,
-        Afterwards::LetGo,
-    );
+    let status = run(alloc, words, &mut input, &mut output, &mut faults);
     match str::from_utf8(&faults) {
         Ok("lnorm: not a tree\n") => status == 2 && output.is_empty(),
         _ => false,

@@ -4,12 +4,15 @@ use crate::outcome::push_place;
 use crate::passes::typed;
 use lalrpop_norm::normalize::cond_comp::remove_disabled_decls;
 use lalrpop_norm::normalize::lower::is_typed;
+use lalrpop_norm::normalize::norm_util::check_between_braces;
 use lalrpop_norm::normalize::{FaultKind, NormResult, Session, is_expanded};
 use lalrpop_norm_precedence::precedence::{Assoc, has_prec_attr};
-use lalrpop_norm_repr::grammar::repr::{ActionFn, Algorithm, Types};
+use lalrpop_norm_repr::grammar::repr;
+use lalrpop_norm_repr::grammar::repr::{ActionFn, Algorithm, Path, TypeRepr, Types};
 use lalrpop_norm_tree::grammar::parse_tree::{
-    Alternative, Attribute, Grammar, GrammarItem, Name, NonterminalData, NonterminalString, Symbol,
-    SymbolKind, TerminalString, is_known_attribute, read_algorithm,
+    ActionKind, Alternative, Attribute, Grammar, GrammarItem, Name, NonterminalData,
+    NonterminalString, Symbol, SymbolKind, TerminalString, Tuple, is_known_attribute,
+    read_algorithm,
 };
 use lnorm_texts::faults::side_name;
 use lnorm_texts::print::symbols::push_span_line;
@@ -29,7 +32,7 @@ pub(crate) fn push_without_memory<L>(
 ) {
     match typed(alloc, tree) {
         Ok((tree, types)) => {
-            push_answers(text, session, &tree, &types);
+            push_answers(alloc, text, session, &tree, &types);
             push_enabled(text, remove_disabled_decls(session, tree));
         }
         Err(failure) => push_place(text, &failure),
@@ -46,21 +49,27 @@ fn push_enabled(text: &mut Text, enabled: NormResult<Grammar>) {
     }
 }
 
-fn push_answers<L>(text: &mut Text, session: &Session<L>, tree: &Grammar, types: &Types) {
+fn push_answers<L>(
+    alloc: Global,
+    text: &mut Text,
+    session: &Session<L>,
+    tree: &Grammar,
+    types: &Types,
+) {
     text.reserve(ROOM);
     push_first_blocks(text, tree);
     for attribute in &tree.attributes {
         push_algorithm(text, attribute);
     }
     for item in &tree.items {
-        push_item(text, session, item, types);
+        push_item(alloc, text, session, item, types);
     }
     text.put("expanded ");
     text.show(is_expanded(tree));
     text.put(", typed ");
     text.show(is_typed(session, tree, types));
     text.put("\n");
-    push_values(text);
+    push_values(text, types);
 }
 
 /// What an attribute of a grammar asks for, if it is known.
@@ -73,7 +82,13 @@ fn push_algorithm(text: &mut Text, attribute: &Attribute) {
     }
 }
 
-fn push_item<L>(text: &mut Text, session: &Session<L>, item: &GrammarItem, types: &Types) {
+fn push_item<L>(
+    alloc: Global,
+    text: &mut Text,
+    session: &Session<L>,
+    item: &GrammarItem,
+    types: &Types,
+) {
     if let Some(block) = item.as_extern_token() {
         push_asked_extern(text, block);
     }
@@ -82,6 +97,7 @@ fn push_item<L>(text: &mut Text, session: &Session<L>, item: &GrammarItem, types
         push_type(text, &rule.name, types);
         push_asked_attributes(text, session, &rule.attributes);
         push_of_name(text, rule);
+        push_of_copy(alloc, text, &rule.name);
         push_actions(text, &rule.alternatives);
     }
 }
@@ -103,6 +119,16 @@ fn push_type(text: &mut Text, name: &NonterminalString, types: &Types) {
     if let Some(ty) = types.lookup_nonterminal_type(name) {
         text.put(", type ");
         text.show(ty);
+        if let TypeRepr::Nominal(nominal) = ty {
+            push_only_name(text, &nominal.path);
+        }
+    }
+}
+
+fn push_only_name(text: &mut Text, path: &Path) {
+    if let Some(name) = path.as_id() {
+        text.put(" of the name ");
+        text.show(name);
     }
 }
 
@@ -117,6 +143,23 @@ fn push_of_name(text: &mut Text, rule: &NonterminalData) {
     text.show(TerminalString::regex(rule.name.0.again()));
     text.put(" ");
     text.show(Symbol::new(rule.span, reference));
+}
+
+/// Values that are made of a copy of a name, a tuple of nothing, and what is read off a literal.
+fn push_of_copy(alloc: Global, text: &mut Text, name: &NonterminalString) {
+    text.put(" ");
+    match name.0.clone() {
+        Ok(copy) => text.show(Name::new(true, copy)),
+        Err(_) => text.lack(),
+    }
+    text.put(" ");
+    text.show(Tuple::new(Vec::new(alloc)));
+    if TerminalString::quoted(name.0.again())
+        .as_literal()
+        .is_some()
+    {
+        text.put(" literal");
+    }
     text.put("\n");
 }
 
@@ -125,13 +168,24 @@ fn push_actions(text: &mut Text, alternatives: &[Alternative]) {
         text.put("   action");
         if let Some(action) = &alternative.action {
             push_presence(text, action);
+            push_between_braces(text, action);
         }
         push_span_line(text, alternative.span);
     }
 }
 
-/// The number of an action, a side, and the number of a fault.
-fn push_values(text: &mut Text) {
+fn push_between_braces(text: &mut Text, action: &ActionKind) {
+    match action {
+        ActionKind::User(code) | ActionKind::Fallible(code) => {
+            text.put(", in braces ");
+            text.show(check_between_braces(code.as_str()).is_in_curly_brackets());
+        }
+        ActionKind::Lookahead | ActionKind::Lookbehind => {}
+    }
+}
+
+/// The number of an action, a side, the number of a fault, and whether the error terminal has the unit type.
+fn push_values(text: &mut Text, types: &Types) {
     text.put("action ");
     text.show(ActionFn::new(22).index());
     text.put(", fault ");
@@ -141,5 +195,8 @@ fn push_values(text: &mut Text) {
         Ok(side) => text.put(side_name(&side)),
         Err(_) => text.put("of no name"),
     }
+    text.put(", error of the unit type ");
+    let error = repr::Symbol::Terminal(TerminalString::Error);
+    text.show(error.ty(types).is_unit());
     text.put("\n");
 }
