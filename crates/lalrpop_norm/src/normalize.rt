@@ -8,7 +8,6 @@ pub use lalrpop_norm_prevalidate::prevalidate;
 pub use lalrpop_norm_resolve::resolve;
 pub use lalrpop_norm_session::{Session, norm_util};
 pub use lalrpop_norm_token_check::token_check;
-pub use lalrpop_norm_tyinfer::tyinfer;
 
 /// What the features of a session leave of a grammar, and where its alternatives come from.
 pub mod cond_comp {
@@ -22,6 +21,11 @@ pub mod precedence {
         SIDE_ARG, Substitution, expand_levels, expand_nonterm, expand_precedence, has_prec_attr,
         has_several_levels, read_levels, replace_nonterm,
     };
+}
+
+/// The types of rules and terminals.
+pub mod tyinfer {
+    pub use lalrpop_norm_tyinfer::tyinfer::infer_types;
 }
 
 /// Lowering, and the test of what it asks of a table of types.

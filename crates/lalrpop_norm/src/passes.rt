@@ -19,7 +19,7 @@ ghost use Rattle.lalrpop_norm.specs.Roots.{plain_names, with_rule_names};
 ghost use Rattle.lalrpop_norm.specs.TracedLists.{lists_of_plain_rules};
 ghost use Rattle.lalrpop_norm.specs.WayBack.{AreRoots};
 
-use crate::traced::{Plain, names_of_rules, origins_in_order};
+use crate::traced::{Plain, names_of_written_rules, origins_in_order};
 use lalrpop_norm_explain::{Traced, with_origins};
 use lalrpop_norm_faults::NormResult;
 use lalrpop_norm_lexer::lexer::Lexer;
@@ -124,7 +124,7 @@ fn expand_traced<L>(
 {
     validate(alloc, &tree)?;
     let (enabled, kept) = remove_disabled_traced(alloc, session, tree)?;
-    let rules = names_of_rules(alloc, &enabled.items)?;
+    let rules = names_of_written_rules(alloc, &enabled.items)?;
     let (leveled, levels) = expand_precedence_traced(alloc, enabled, kept)?;
     let limit = session.macro_recursion_limit;
     let (grammar, origins) = expand_resolved_traced(alloc, leveled, limit, levels)?;

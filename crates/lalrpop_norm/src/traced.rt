@@ -20,8 +20,8 @@ pub(crate) struct Plain {
     pub(crate) rules: BTreeSet<NonterminalString>,
 }
 
-/// The names of the rules that are no macros.
-pub(crate) fn names_of_rules(
+/// The names of the written rules that are no macros.
+pub(crate) fn names_of_written_rules(
     alloc: Global,
     items: &[GrammarItem],
 ) -> Result<BTreeSet<NonterminalString>, NoMemory>

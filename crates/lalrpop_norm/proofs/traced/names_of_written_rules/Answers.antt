@@ -6,7 +6,7 @@ use Rattle.lalrpop_norm_tree_names.specs.declared.names.NonterminalString.{Nonte
 use Rattle.lalrpop_norm_tree.specs.Items.{item_view}
 use Rattle.lalrpop_norm.specs.Roots.{plain_names, with_rule_names}
 use Rattle.lalrpop_norm.proofs.RootNames.{with_both}
-use Rattle.lalrpop_norm.proofs.traced.names_of_rules.Goals as goal
+use Rattle.lalrpop_norm.proofs.traced.names_of_written_rules.Goals as goal
 
 pub loop-item-preserved : goal.loop-item-preserved
 loop-item-preserved c =
