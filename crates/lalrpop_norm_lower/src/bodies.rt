@@ -20,7 +20,7 @@ use lalrpop_norm_repr::grammar::repr::{
 };
 use lalrpop_norm_tree::grammar::parse_tree::{ActionKind, Alternative, Atom, NoMemory};
 
-/// The action of an alternative of a rule of that type, which it answers. The list is room for names.
+/// The action of an alternative of a rule of that type. The list is room for names.
 pub(crate) fn made_action(
     state: &LowerState,
     ty: &TypeRepr,

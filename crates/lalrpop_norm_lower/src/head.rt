@@ -34,7 +34,7 @@ pub(crate) fn head_of(alloc: Global, grammar: &pt::Grammar) -> Result<Head, NoMe
         prefix: String::from_str(alloc, grammar.prefix.as_str())?,
         uses: uses_of(alloc, &grammar.items)?,
         module_attributes: copy_texts(&grammar.module_attributes)?,
-        intern_token: intern_token_of(&grammar.items)?,
+        intern_token: intern_token_of(grammar)?,
     })
 }
 
@@ -76,20 +76,14 @@ fn uses_of(alloc: Global, items: &[GrammarItem]) -> Result<Vec<String>, NoMemory
     Ok(uses)
 }
 
-/// The first tokenizer among the items.
-fn intern_token_of(items: &[GrammarItem]) -> Result<Option<InternToken>, NoMemory>
-    ensures { IfOk result (λ t. option_map intern_token_view t ≡ first_of intern_token_of (map item_view items.now)) }
+/// A copy of the first tokenizer of a grammar.
+fn intern_token_of(grammar: &pt::Grammar) -> Result<Option<InternToken>, NoMemory>
+    ensures { IfOk result (λ t. option_map intern_token_view t ≡ first_of intern_token_of (grammar_view grammar.now).items) }
 {
-    for item in items {
-        match item {
-            GrammarItem::InternToken(token) => return Ok(Some(token.clone()?)),
-            GrammarItem::MatchToken(_)
-            | GrammarItem::ExternToken(_)
-            | GrammarItem::Nonterminal(_)
-            | GrammarItem::Use(_) => {}
-        }
+    match grammar.intern_token() {
+        Some(token) => Ok(Some(token.clone()?)),
+        None => Ok(None),
     }
-    Ok(None)
 }
 
 /// The parameters with their types lowered.

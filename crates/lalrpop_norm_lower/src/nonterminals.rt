@@ -207,7 +207,7 @@ fn sees_error(recovers: bool, left: &[GrammarItem]) -> bool
     }
 }
 
-/// For how many names of sources there is to be room, behind the rule of that number, of those that are left in falling order: as many as
+/// A hint, of which no clause speaks: for how many names of sources there is to be room, behind the rule of that number, of those that are left in falling order: as many as
 /// the rule after the next has symbols in an alternative; none where the next one has the unit type, by which code that is absent needs no
 /// names. What is looked at here is on its way from memory while the rule of that number is lowered.
 fn room_ahead(types: &NumberedTypes, number: usize, left: &[GrammarItem]) -> usize {

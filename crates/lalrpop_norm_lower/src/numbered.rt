@@ -61,7 +61,7 @@ impl<'t> NumberedTypes<'t> {
         self.by_number[number]
     }
 
-    /// Whether the rule of that number has the unit type.
+    /// Whether the rule of that number has the unit type: for a hint, of which no clause speaks.
     pub(crate) fn is_unit(&self, number: usize) -> bool {
         match self.by_number.get(number) {
             Some(Some(ty)) => ty.is_unit(),

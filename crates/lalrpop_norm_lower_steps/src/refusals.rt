@@ -84,6 +84,8 @@ pub fn check_start(
 }
 
 /// The number of the next action: the length of the list.
+///
+/// Errors: F56 (`TooManyActions`) at the place that is given, where that number would be too great; `Memory`.
 pub fn next_action(alloc: Global, actions: &[ActionFnDefn], span: Span) -> NormResult<ActionFn>
     ensures refuses { Refuses result (action_number_faults (length actions.now) span) }
     ensures number { IfOk result (λ a. a ≡ record { 0 = length actions.now }) }

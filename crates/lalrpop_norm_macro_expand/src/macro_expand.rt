@@ -27,7 +27,7 @@ mod make;
 mod rule_lists;
 pub(crate) mod traced;
 
-use self::make::{MadeSymbol, Makers, hole_number, make_rules};
+use self::make::{MadeSymbol, Makers, make_rules, numbers_of_hole};
 use lalrpop_norm_faults::{FaultKind, NormFailure, NormResult, refusal};
 use lalrpop_norm_macro_expand_rules::items::read_items;
 use lalrpop_norm_macro_expand_rules::macros::without_macros;
@@ -47,7 +47,7 @@ pub struct Counts {
     pub instances: usize,
     /// How many rounds read rules, that of the grammar's own rules with them: up to the first that met no new symbol.
     pub rounds: usize,
-    /// How many texts of symbols were made.
+    /// How many texts were made: one of each symbol that is made into a rule.
     pub texts: usize,
 }
 
@@ -154,7 +154,7 @@ fn expand_rounds(alloc: Global, grammar: Grammar, limit: u16) -> NormResult<Expa
     let mut grammar = grammar;
     let items = mem::replace(&mut grammar.items, Vec::new(alloc));
     let (others, macros) = without_macros(alloc, items)?;
-    let hole = hole_number(alloc)?;
+    let hole = numbers_of_hole(alloc)?;
     let makers = Makers { macros, hole };
     let mut room = 0usize;
     let mut done = read_items(alloc, others, &mut table, &mut room)?;

@@ -25,7 +25,7 @@ fn bare_or_tuple(mut types: Vec<TypeRef>) -> TypeRef
     TypeRef::Tuple(types)
 }
 
-/// Of a group of these symbols: its one alternative.
+/// The rule of a group of these symbols: inline, with one alternative that gives their values. The only error is want of memory.
 pub fn group_rule(
     alloc: Global,
     head: Head,
@@ -47,7 +47,7 @@ pub fn group_rule(
     ))
 }
 
-/// Of a lookaround: an empty alternative that gives a location.
+/// The rule of a lookaround: inline, with one empty alternative that has this action. The only error is want of memory.
 pub fn location_rule(
     alloc: Global,
     head: Head,

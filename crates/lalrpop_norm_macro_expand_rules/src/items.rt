@@ -99,7 +99,10 @@ fn room_of(symbols: &[Symbol]) -> usize {
     room
 }
 
-/// Reads the items of a grammar: meets and replaces their symbols. `room` becomes greater by about how many may be made into rules.
+/// Reads the items of a grammar: meets and replaces their symbols. `room` becomes greater by about how many of those behind the first
+/// item may be made into rules: a hint for a list, of which no clause speaks.
+///
+/// Errors: F37 (`SharedName`) at a symbol whose text is that of another symbol or a declared name; `Memory`.
 pub fn read_items(
     alloc: Global,
     items: Vec<GrammarItem>,

@@ -86,7 +86,10 @@ fn read_item(
 }
 
 /// Reads the rules that a round made: meets their symbols, and replaces each that is made into a rule. The fillings are those of the
-/// rules, in their order. `room` becomes greater by about how many may be made into rules.
+/// rules, in their order. `room` becomes greater by about how many symbols of the rules behind the first may be made into rules: a hint
+/// for a list, of which no clause speaks.
+///
+/// Errors: F37 (`SharedName`) at a symbol whose text is that of another symbol or a declared name; `Memory`.
 pub fn read_pending(
     alloc: Global,
     rules: &mut [GrammarItem],
@@ -105,7 +108,7 @@ pub fn read_pending(
     ensures value { OnOk result (map item_view rules.new ≡ map pending_read (filled_items (map (filling_view (wholes_in table.old)) fillings.entry.items) (map item_view rules.old))) }
 {
     for (place, filling) in fillings.into_iter().enumerate() {
-        // As where the items of the grammar are read.
+        // The next rule is looked at before this one is read: then it comes from memory in time.
         *room = room.saturating_add(room_for(rules.get(place.saturating_add(1))));
         read_item(alloc, &mut rules[place], filling, table)?;
     }

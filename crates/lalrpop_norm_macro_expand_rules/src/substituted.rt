@@ -17,7 +17,7 @@ use std::alloc::Global;
 /// The arguments of a macro's definition, and the symbols that a call gives for them.
 #[derive(Clone, Copy)]
 pub struct Bindings<'a> {
-    /// The names of the arguments, of which the clauses speak.
+    /// The names of the arguments: clauses speak of them, and code goes by their numbers.
     pub names: &'a [NonterminalString],
     /// The numbers of these names.
     pub numbers: &'a Names,

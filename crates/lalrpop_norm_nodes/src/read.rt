@@ -286,6 +286,8 @@ fn read_call(
 }
 
 /// Reads symbols in a row, one after another: the number of the row.
+///
+/// Errors: F37 (`SharedName`) at the first symbol in them whose text is a declared name or the text of another node; `Memory`.
 #[cycle(read)]
 pub fn read_row(
     alloc: Global,

@@ -268,6 +268,8 @@ impl Table {
 
     /// The number of a node that is made into a rule: that of a symbol, the parts of which are replaced. The nonterminal of its text is
     /// put in its place, and a symbol that is new waits for its rule.
+    ///
+    /// Errors: F37 (`SharedName`) at the symbol, where its text is a declared name or the text of another node; `Memory`.
     pub fn enter_made(
         &mut self,
         alloc: Global,

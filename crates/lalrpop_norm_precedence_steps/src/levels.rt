@@ -52,6 +52,8 @@ pub fn has_levels(alternatives: &[Alternative]) -> bool
 }
 
 /// Looks for a first alternative without a `precedence` in a rule with levels.
+///
+/// Errors: F12a (`MissingLevel`) at that alternative; `Memory`.
 pub fn check_first(alloc: Global, alternatives: &[Alternative]) -> NormResult<()>
     ensures { Refuses result (missing_level_faults (map alternative_view alternatives.now)) }
 {
@@ -108,7 +110,7 @@ pub fn check_several(alloc: Global, rule: &NonterminalData, several: bool) -> No
     Ok(())
 }
 
-/// Whether levels could be read, without them.
+/// The same answer, without its levels.
 pub fn without_levels(read: NormResult<Vec<AlternativeLevel>>) -> NormResult<()>
     ensures { result ≡ without_value read }
 {

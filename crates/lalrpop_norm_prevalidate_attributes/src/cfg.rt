@@ -110,14 +110,19 @@ fn check_each(alloc: Global, attributes: &[Attribute]) -> NormResult<()>
     Ok(())
 }
 
-/// The first argument of a `cfg`.
+/// Checks the argument of a `cfg`.
+///
+/// Errors: F11 (`MalformedCfg`) at `span`, the place of the attribute's name, where it is none that a `cfg` takes; `Memory`.
 pub fn validate_cfg(alloc: Global, span: Span, arg: &AttributeArg) -> NormResult<()>
     ensures { Refuses result (cfg_faults span (argument_view arg.now)) }
 {
+    // A `cfg` takes what `not` takes.
     check_arg(alloc, Test::Not, span, arg)
 }
 
-/// An attribute, if it is a `cfg`.
+/// Checks an attribute, if it is a `cfg`.
+///
+/// Errors: those of [`validate_cfg`].
 pub fn check_cfg(alloc: Global, attribute: &Attribute) -> NormResult<()>
     ensures { Refuses result (attribute_cfg_faults (attribute_view attribute.now)) }
 {
@@ -127,7 +132,9 @@ pub fn check_cfg(alloc: Global, attribute: &Attribute) -> NormResult<()>
     Ok(())
 }
 
-/// Each `cfg` among attributes.
+/// Checks each `cfg` among attributes, in their order.
+///
+/// Errors: those of [`validate_cfg`], at the first that fails.
 pub fn check_cfgs(alloc: Global, attributes: &[Attribute]) -> NormResult<()>
     ensures { Refuses result (all_cfg_faults (attributes_view attributes.now)) }
 {

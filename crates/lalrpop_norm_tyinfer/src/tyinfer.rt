@@ -64,7 +64,7 @@ pub fn infer_types_numbered(alloc: Global, grammar: &Grammar) -> NormResult<(Typ
     infer(alloc, grammar, &rules)
 }
 
-/// As `infer_types_numbered`, where the rules stand by.
+/// As `infer_types_numbered`, where the rules are at hand.
 // The two are apart for drops: what a function owns ends at each `?` behind it, and each end is proved.
 fn infer(alloc: Global, grammar: &Grammar, rules: &[PlainRule]) -> NormResult<(Types, Names)>
     requires seen { map rule_seen rules.now ≡ map with_clauses (all_rules (grammar_view grammar.now)) }

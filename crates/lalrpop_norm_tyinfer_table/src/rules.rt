@@ -11,12 +11,12 @@ use lalrpop_norm_tree::grammar::parse_tree::{
 };
 use std::alloc::Global;
 
-/// A rule, and by which it has a type.
+/// A rule, and what gives it its type.
 #[derive(Debug, Drop)]
 pub struct PlainRule<'g> {
     /// The rule.
     pub data: &'g NonterminalData,
-    /// By which it has a type.
+    /// What gives it its type.
     pub clauses: RuleClauses<'g>,
 }
 

@@ -1,4 +1,4 @@
-//! By which rules have types.
+//! What gives rules their types.
 ghost use Rattle.std.specs.Prelude.{◌≡◌, ◌++◌, IfOk, OnOk, map, option_map, option_to_list, filter_map};
 ghost use Rattle.lalrpop_norm_tree.specs.Items.{alternative_view, rule_view};
 ghost use Rattle.lalrpop_norm_tree.specs.Symbols.{expr_view};
@@ -12,7 +12,7 @@ use lalrpop_norm_tree::grammar::parse_tree::{
 };
 use std::alloc::Global;
 
-/// By which a rule has a type.
+/// What gives a rule its type.
 #[derive(Debug, Drop)]
 pub enum RuleClauses<'g> {
     /// It declares one.
@@ -21,7 +21,7 @@ pub enum RuleClauses<'g> {
     Alternatives(Vec<TypeSource<'g>>),
 }
 
-/// By which an alternative has a type.
+/// What gives an alternative its type.
 #[derive(Debug, Drop)]
 pub enum TypeSource<'g> {
     /// It gives the values of these symbols, each with its place: one bare, any other number of them as a tuple.

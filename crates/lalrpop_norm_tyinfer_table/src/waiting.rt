@@ -8,7 +8,7 @@ use lalrpop_norm_tree::grammar::parse_tree::NoMemory;
 use std::alloc::Global;
 use std::collections::{BTreeSet, VecDeque};
 
-/// Some places of rules.
+/// The places of the rules that wait for a visit.
 // At first all places come in rising order: a queue takes less work than a set.
 #[derive(Drop)]
 pub struct Waiting {

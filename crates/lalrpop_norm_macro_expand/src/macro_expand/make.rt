@@ -43,12 +43,12 @@ use std::mem;
 pub(super) struct Makers {
     /// The macros.
     pub(super) macros: Macros,
-    /// The number of the name that stands for what is repeated, in the rule of each repeat.
+    /// The table that numbers the one name that stands for what is repeated, in the rule of each repeat.
     pub(super) hole: Names,
 }
 
-/// The number of the name that stands for what is repeated. The only error is want of memory.
-pub(super) fn hole_number(alloc: Global) -> Result<Names, NoMemory>
+/// The table that numbers the one name that stands for what is repeated. The only error is want of memory.
+pub(super) fn numbers_of_hole(alloc: Global) -> Result<Names, NoMemory>
     ensures { IfOk result (IsNumbering (map (λ n. n.0) hole)) }
 {
     let names = [hole_name(alloc)?];
@@ -176,7 +176,7 @@ struct Making<'m> {
 }
 
 /// What a symbol that calls no macro is made into.
-fn into<'m>(alloc: Global, pending: Option<Pending<'m>>) -> Making<'m>
+fn without_call<'m>(alloc: Global, pending: Option<Pending<'m>>) -> Making<'m>
     ensures { (result.pending ≡ pending.entry) × (result.kept.items ≡ []) }
 {
     Making {
@@ -193,7 +193,7 @@ fn finished<'m>(alloc: Global, rule: NonterminalData) -> Making<'m>
         rule,
         filling: None,
     };
-    into(alloc, Some(pending))
+    without_call(alloc, Some(pending))
 }
 
 /// The rule of a macro call, if there is a macro of that name; it takes the arguments.
@@ -223,7 +223,7 @@ fn called_of<'m>(
                 kept,
             })
         }
-        None => Ok(into(alloc, None)),
+        None => Ok(without_call(alloc, None)),
     }
 }
 
@@ -260,7 +260,7 @@ fn rule_of<'m>(
         }
         SymbolKind::Repeat(repeat) => {
             let pending = repeat_of(alloc, &makers.hole, table, number, head, repeat)?;
-            Ok(into(alloc, Some(pending)))
+            Ok(without_call(alloc, Some(pending)))
         }
         SymbolKind::Lookahead => {
             let rule = location_rule(alloc, head, ActionKind::Lookahead)?;
@@ -276,7 +276,7 @@ fn rule_of<'m>(
         | SymbolKind::Choose(_)
         | SymbolKind::Name(_, _)
         | SymbolKind::Tuple(_, _)
-        | SymbolKind::Error => Ok(into(alloc, None)),
+        | SymbolKind::Error => Ok(without_call(alloc, None)),
     }
 }
 
@@ -297,7 +297,7 @@ fn pending_rule<'m>(
     ensures kept { IfOk result (λ m. m.kept.items ≡ kept_by comparison (macros_in makers.now.macros) (symbol_view waiting.symbol)) }
 {
     let Some(name) = table.text_of(waiting.number) else {
-        return Ok(into(alloc, None));
+        return Ok(without_call(alloc, None));
     };
     let head = Head {
         name: name.clone()?,

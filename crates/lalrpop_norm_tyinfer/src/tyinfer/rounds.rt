@@ -96,8 +96,8 @@ fn step(
     Ok(Vec::new(alloc))
 }
 
-/// A round over the rules in order, of which only those at some places may take a type; the places of which that holds in the
-/// next round.
+/// A round over the rules in order, of which only those at some places may take a type. It answers the places that wait for the next
+/// round.
 fn round(
     alloc: Global,
     parameters: &[TypeParameter],
