@@ -7,7 +7,7 @@ use Rattle.lalrpop_norm_tree.specs.declared.symbol.Symbol.{Symbol}
 use Rattle.lalrpop_norm_tree.specs.declared.symbol.RepeatOp.{RepeatOp}
 use Rattle.lalrpop_norm_tree.specs.Symbols.{Kind, Part, Parts, group, ambiguous_id, terminal, nonterminal, call, repeated, chosen, named, tupled, lookahead, lookbehind, error_terminal, at, no_parts, part_and, kind_view, symbol_view, parts_view}
 use Rattle.lalrpop_norm_tree.specs.Items.{RuleData}
-use Rattle.lalrpop_norm_tree.specs.SymbolTexts.{part_text, kind_text}
+use Rattle.lalrpop_norm_tree.specs.SymbolTexts.{kind_text}
 use Rattle.lalrpop_norm_tree.proofs.SymbolViews.{seen_at}
 use Rattle.lalrpop_norm_model.specs.MadeRules.{kind_of, all_kinds, only_part, argument_kind}
 use Rattle.lalrpop_norm_model.specs.Replaced.{replaced, replaced_kind, all_replaced}
@@ -22,6 +22,7 @@ use Rattle.lalrpop_norm_nodes.proofs.MeetLemmas.{text_unplaced}
 use Rattle.lalrpop_norm_nodes.proofs.RowItems.{is_kind}
 use Rattle.lalrpop_norm_macro_expand_rules.specs.Pending.{unread_rule}
 use Rattle.lalrpop_norm_macro_expand_rules.proofs.ArgumentLemmas.{given_for, whole_of, shown_of}
+use Rattle.lalrpop_norm_macro_expand_rules.proofs.StayLemmas.{part_stays, kind_stays}
 use Rattle.lalrpop_norm_macro_expand_repeats.specs.Repeats.{hole_name, repeat_shape}
 use Rattle.lalrpop_norm_macro_expand.specs.Making.{hole, repeat_pending}
 
@@ -138,9 +139,6 @@ is_given ws g k here replaced same = record {
   text = texts_same (kind_view g.symbol.kind) k same ∙ ap (λ o. kind_text (as_kind o)) (sym here);
 }
 
-part_replaced : (p : Part) → replaced p ≡ p → replaced_kind (kind_of p) ≡ kind_of p
-part_replaced (at s k) e = cc e
-
 pub are_given : (ws : List Whole) (names : List NonterminalString) (given : List Given) (ps : Parts) → AreAt ws given (all_kinds ps) →
     all_replaced (parts_view (map (λ g. g.symbol) given)) ≡ parts_view (map (λ g. g.symbol) given) →
     all_unplaced (parts_view (map (λ g. g.symbol) given)) ≡ all_unplaced (all_replaced ps) → (n : List ℕ) (g : Given) → given_for names given n ≡ Some g → IsGiven ws g
@@ -155,7 +153,7 @@ are_given ws (a ∷ names) (h ∷ given) (part_and p ps) e r u n g f =
     let same : unplaced (symbol_view h.symbol) ≡ unplaced (replaced p) = cc u in
     let others : all_unplaced (parts_view (map (λ g. g.symbol) given)) ≡ all_unplaced (all_replaced ps) = cc u in
     let view : kind_of (symbol_view h.symbol) ≡ kind_view h.symbol.kind = ap kind_of (seen_at h.symbol) in
-    let one : IsGiven ws h = is_given ws h (kind_of p) here (subst (λ (k : Kind). replaced_kind k ≡ k) view (part_replaced (symbol_view h.symbol) stays))
+    let one : IsGiven ws h = is_given ws h (kind_of p) here (kind_stays h.symbol stays)
     (ap unplaced_kind (sym view) ∙ part_kind (symbol_view h.symbol) p same) in
     by (bytes_eq a.0 n) f one (are_given ws names given ps rest stay others n g)
   where
@@ -180,14 +178,14 @@ repeat_is ws name s op whole x r g e h is =
     ∙ ap (λ (p : Part). unread_rule (repeat_shape name s op p (at x.span (nonterminal hole_name))) (argument_kind hole (only_part (at nowhere whole))) (argument_kind hole (only_part p))) (seen_at x)
     ∙ ap (repeat_pending name s op whole) (sym (seen_at x))
 
-inner_stays : (op : RepeatOp) (p : Part) → inside_replaced (repeated op p) ≡ repeated op p → replaced p ≡ p
+pub inner_stays : (op : RepeatOp) (p : Part) → inside_replaced (repeated op p) ≡ repeated op p → replaced p ≡ p
 inner_stays op p e = cc e
 
 pub repeat_readable : (ws : List Whole) (op : RepeatOp) (k : Kind) (x : Symbol) (g : Given) → g.symbol ≡ x → slice_get ws g.number ≡ Some (one_symbol (repeated_kind k)) →
     inside_replaced (repeated op (symbol_view x)) ≡ repeated op (symbol_view x) → IsRepeat k (symbol_view x) → (n : List ℕ) (h : Given) → given_for hole (g ∷ []) n ≡ Some h → IsGiven ws h
 repeat_readable ws op k x g e here stays is n h f =
     let view : kind_of (symbol_view x) ≡ kind_view g.symbol.kind = ap kind_of (seen_at x) ∙ ap (λ (y : Symbol). kind_view y.kind) (sym e) in
-    let one : IsGiven ws g = is_given ws g (repeated_kind k) here (subst (λ (j : Kind). replaced_kind j ≡ j) view (part_replaced (symbol_view x) (inner_stays op (symbol_view x) stays)))
+    let one : IsGiven ws g = is_given ws g (repeated_kind k) here (subst (λ (j : Kind). replaced_kind j ≡ j) view (part_stays (symbol_view x) (inner_stays op (symbol_view x) stays)))
     (ap unplaced_kind (sym view) ∙ is.same) in
     by (bytes_eq hole_name n) f one
   where

@@ -5,9 +5,9 @@ ghost use Rattle.lalrpop_norm_tree.specs.Symbols.{part_and, at, nonterminal, rep
 ghost use Rattle.lalrpop_norm_tree.specs.Types.{type_view};
 ghost use Rattle.lalrpop_norm_tree.specs.Items.{alternative_view, rule_view};
 ghost use Rattle.lalrpop_norm_model.specs.MadeRules.{only_part, so_many, with_name, holding, star_rule, plus_rule, question_rule, times_rule};
+ghost use Rattle.lalrpop_norm_model.specs.Replaced.{replaced};
 ghost use Rattle.lalrpop_norm_macro_expand_repeats.specs.Repeats.{hole_name, repeat_shape};
 
-use lalrpop_norm_macro_expand_rules::replaced::replaced_kind;
 use lalrpop_norm_macro_expand_rules::rules::{Head, coded, inline_at, private_rule, repeat_of};
 use lalrpop_norm_tree::grammar::parse_tree::{
     Alternative, Atom, Name, NoMemory, NonterminalData, NonterminalString, Path, RepeatOp, Span,
@@ -42,9 +42,10 @@ fn with_name(alloc: Global, span: Span, name: &str, symbol: Symbol) -> Result<Sy
 
 /// A generic type over the type of a symbol.
 fn holding(alloc: Global, path: Path, symbol: &Symbol) -> Result<TypeRef, NoMemory>
+    requires { replaced (symbol_view symbol.now) ≡ symbol_view symbol.now }
     ensures { IfOk result (λ t. type_view t ≡ holding (path_view path) (symbol_view symbol.now)) }
 {
-    let kind = replaced_kind(alloc, &symbol.kind)?;
+    let kind = symbol.kind.clone()?;
     let types = vec![in alloc; TypeRef::OfSymbol(kind)]?;
     Ok(TypeRef::Nominal { path, types })
 }
@@ -76,6 +77,7 @@ fn star_rule(
     inner: &Symbol,
     over: &Symbol,
 ) -> Result<NonterminalData, NoMemory>
+    requires { replaced (symbol_view inner.now) ≡ symbol_view inner.now }
     ensures { IfOk result (λ r. rule_view r ≡ repeat_shape head.name head.span RepeatOp.Star (symbol_view inner.now) (symbol_view over.now)) }
 {
     let of_vector = holding(alloc, Path::vec(alloc)?, inner)?;
@@ -121,6 +123,7 @@ fn plus_rule(
     inner: &Symbol,
     over: &Symbol,
 ) -> Result<NonterminalData, NoMemory>
+    requires { replaced (symbol_view inner.now) ≡ symbol_view inner.now }
     ensures { IfOk result (λ r. rule_view r ≡ repeat_shape head.name head.span RepeatOp.Plus (symbol_view inner.now) (symbol_view over.now)) }
 {
     let of_vector = holding(alloc, Path::vec(alloc)?, inner)?;
@@ -149,6 +152,7 @@ fn question_rule(
     inner: &Symbol,
     over: &Symbol,
 ) -> Result<NonterminalData, NoMemory>
+    requires { replaced (symbol_view inner.now) ≡ symbol_view inner.now }
     ensures { IfOk result (λ r. rule_view r ≡ repeat_shape head.name head.span RepeatOp.Question (symbol_view inner.now) (symbol_view over.now)) }
 {
     let of_option = holding(alloc, Path::option(alloc)?, inner)?;
@@ -185,6 +189,7 @@ fn times_rule(
     inner: &Symbol,
     over: &Symbol,
 ) -> Result<NonterminalData, NoMemory>
+    requires { replaced (symbol_view inner.now) ≡ symbol_view inner.now }
     ensures { IfOk result (λ r. rule_view r ≡ repeat_shape head.name head.span (RepeatOp.Times count) (symbol_view inner.now) (symbol_view over.now)) }
 {
     let of_vector = holding(alloc, Path::vec(alloc)?, inner)?;
@@ -195,14 +200,15 @@ fn times_rule(
 }
 
 /// The rule of a repeat of the symbol `inner` by that operator: it has the name and the place of the head, and the attributes and the
-/// type of such a repeat. In its alternatives the name that [`hole_name`] answers stands for the symbol, at the symbol's place. The
-/// only error is want of memory.
+/// type of such a repeat. In its alternatives the name that [`hole_name`] answers stands for the symbol, at the symbol's place. What is
+/// made into rules is to be replaced in the symbol. The only error is want of memory.
 pub fn repeat_rule(
     alloc: Global,
     head: Head,
     op: RepeatOp,
     inner: &Symbol,
 ) -> Result<NonterminalData, NoMemory>
+    requires { replaced (symbol_view inner.now) ≡ symbol_view inner.now }
     ensures { IfOk result (λ r. rule_view r ≡ repeat_shape head.name head.span op (symbol_view inner.now) (at inner.now.span (nonterminal hole_name))) }
 {
     let over = hole_at(alloc, inner.span)?;

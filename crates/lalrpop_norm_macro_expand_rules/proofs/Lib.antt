@@ -6,4 +6,5 @@ pub mod NameLemmas
 mod NoMacros
 mod PendingLemmas
 mod SourceLemmas
+pub mod StayLemmas
 mod UnboundLemmas

@@ -4,6 +4,7 @@ ghost use Rattle.lalrpop_norm_tree.specs.Symbols.{parts_view};
 ghost use Rattle.lalrpop_norm_tree.specs.Types.{type_view};
 ghost use Rattle.lalrpop_norm_tree.specs.Items.{alternative_view};
 ghost use Rattle.lalrpop_norm_model.specs.MadeRules.{argument_kind, type_substituted, instance_alternative};
+ghost use Rattle.lalrpop_norm_model.specs.Replaced.{all_replaced};
 ghost use Rattle.lalrpop_norm_macro_expand_rules.specs.Bound.{AreByNumber};
 
 use crate::copied::all_copied;
@@ -40,6 +41,8 @@ pub fn instance_type(
     ty: &Option<TypeRef>,
 ) -> Result<Option<TypeRef>, NoMemory>
     requires numbers { AreByNumber bindings.now }
+    // What is made into rules is replaced in the arguments.
+    requires replaced { all_replaced (parts_view bindings.now.symbols.now) ≡ parts_view bindings.now.symbols.now }
     ensures { IfOk result (λ t. option_map type_view t
         ≡ option_map (type_substituted (argument_kind bindings.now.names.now (parts_view bindings.now.symbols.now))) (option_map type_view ty.now)) }
 {

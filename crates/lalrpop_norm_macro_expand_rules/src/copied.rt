@@ -1,14 +1,32 @@
 //! Symbols of a macro's alternatives, copied with no argument in them. An identifier is a name from there on.
 ghost use Rattle.std.specs.Prelude.{◌≡◌, None, IfOk};
-ghost use Rattle.lalrpop_norm_tree.specs.Symbols.{group, call, repeated, kind_view, symbol_view, parts_view, expr_view, macro_view};
+ghost use Rattle.lalrpop_norm_tree.specs.Symbols.{group, call, repeated, named, tupled, kind_view, symbol_view, tuple_view, parts_view, expr_view, macro_view};
 ghost use Rattle.lalrpop_norm_model.specs.MadeRules.{substituted, kind_substituted, all_substituted};
 
-use crate::replaced::{named, tupled};
 use crate::rules::repeat_of;
 use lalrpop_norm_tree::grammar::parse_tree::{
-    ExprSymbol, MacroSymbol, NoMemory, NonterminalString, RepeatSymbol, Symbol, SymbolKind,
+    ExprSymbol, MacroSymbol, Name, NoMemory, NonterminalString, RepeatSymbol, Symbol, SymbolKind,
+    Tuple,
 };
 use std::alloc::Global;
+
+/// `<x:X>`.
+#[inline(never)]
+fn named(name: &Name, symbol: Box<Symbol>) -> Result<SymbolKind, NoMemory>
+    ensures { IfOk result (λ k. kind_view k ≡ named name.now (symbol_view symbol.value)) }
+{
+    Ok(SymbolKind::Name(name.clone()?, symbol))
+}
+
+/// `<(x, y):X>`.
+#[inline(never)]
+fn tupled(tuple: &Tuple, symbol: Box<Symbol>) -> Result<SymbolKind, NoMemory>
+    ensures { IfOk result (λ k. kind_view k ≡ tupled (tuple_view tuple.now) (symbol_view symbol.value)) }
+{
+    Ok(SymbolKind::Tuple(tuple.clone()?, symbol))
+}
+
+// This goes as deep as wrapped symbols stand in one another; what the frames need is kept in functions that are not inlined.
 
 /// The symbol, its identifiers as names.
 #[cycle(copied)]

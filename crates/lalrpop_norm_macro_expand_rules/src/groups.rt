@@ -5,6 +5,7 @@ ghost use Rattle.lalrpop_norm_tree.specs.SymbolTexts.{kind_text};
 ghost use Rattle.lalrpop_norm_tree.specs.Types.{type_view};
 ghost use Rattle.lalrpop_norm_tree.specs.Items.{rule_view, action_view};
 ghost use Rattle.lalrpop_norm_model.specs.MadeRules.{group_rule, location_rule, bare_or_tuple};
+ghost use Rattle.lalrpop_norm_model.specs.Replaced.{all_replaced};
 
 use crate::rules::{Head, coded, inline_at, private_rule};
 use crate::sources::group_values;
@@ -31,7 +32,9 @@ pub fn group_rule(
     head: Head,
     symbols: Vec<Symbol>,
 ) -> Result<NonterminalData, NoMemory>
-    requires { head.name ≡ kind_text (group (parts_view symbols.items)) }
+    requires name { head.name ≡ kind_text (group (parts_view symbols.items)) }
+    // What is made into rules is replaced in them.
+    requires replaced { all_replaced (parts_view symbols.items) ≡ parts_view symbols.items }
     ensures { IfOk result (λ r. rule_view r ≡ group_rule head.span (parts_view symbols.items)) }
 {
     let (types, code) = group_values(alloc, &symbols)?;

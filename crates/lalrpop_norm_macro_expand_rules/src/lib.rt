@@ -11,7 +11,6 @@ pub mod macros;
 pub mod names;
 pub mod pending;
 mod reading;
-pub mod replaced;
 pub mod rules;
 mod sources;
 pub mod substituted;

@@ -4,9 +4,9 @@ ghost use Rattle.lalrpop_norm_tree_parts.specs.Accessors.{path_of};
 ghost use Rattle.lalrpop_norm_tree.specs.Symbols.{kind_view, parts_view};
 ghost use Rattle.lalrpop_norm_tree.specs.Types.{nominal, no_types, type_view, types_view, maybe_of};
 ghost use Rattle.lalrpop_norm_model.specs.MadeRules.{argument_kind, type_of_name, type_substituted, types_substituted, returned_substituted};
+ghost use Rattle.lalrpop_norm_model.specs.Replaced.{all_replaced};
 ghost use Rattle.lalrpop_norm_macro_expand_rules.specs.Bound.{bound_in, bound_kind, AreByNumber};
 
-use crate::replaced::replaced_kind;
 use lalrpop_norm_names::Names;
 use lalrpop_norm_tree::grammar::parse_tree::{
     Atom, NoMemory, NonterminalString, Path, Symbol, SymbolKind, TypeRef,
@@ -55,11 +55,12 @@ pub(crate) fn bound_to<'a>(
 
 /// What a single name in a declared type stands for: the type of the symbol that it is bound to, or else the path of that name.
 fn type_of_name(alloc: Global, bindings: &Bindings, name: &Atom) -> Result<TypeRef, NoMemory>
+    requires replaced { all_replaced (parts_view bindings.now.symbols.now) ≡ parts_view bindings.now.symbols.now }
     ensures { IfOk result (λ t. type_view t ≡ type_of_name name.now (bound_kind bindings.now name.now)) }
 {
     let name = NonterminalString(name.clone()?);
     match kind_bound(bindings, &name) {
-        Some(kind) => Ok(TypeRef::OfSymbol(replaced_kind(alloc, kind)?)),
+        Some(kind) => Ok(TypeRef::OfSymbol(kind.clone()?)),
         None => path_of_name(alloc, name.0),
     }
 }
@@ -79,6 +80,7 @@ fn type_substituted(
     bindings: &Bindings,
     written: &TypeRef,
 ) -> Result<TypeRef, NoMemory>
+    requires replaced { all_replaced (parts_view bindings.now.symbols.now) ≡ parts_view bindings.now.symbols.now }
     ensures { IfOk result (λ t. type_view t ≡ type_substituted (bound_kind bindings.now) (type_view written.now)) }
 {
     match written {
@@ -130,6 +132,7 @@ fn returned_substituted(
     bindings: &Bindings,
     ret: &Option<Box<TypeRef>>,
 ) -> Result<Option<Box<TypeRef>>, NoMemory>
+    requires replaced { all_replaced (parts_view bindings.now.symbols.now) ≡ parts_view bindings.now.symbols.now }
     ensures { IfOk result (λ r. maybe_of (option_map (λ b. type_view b.value) r)
         ≡ returned_substituted (bound_kind bindings.now) (maybe_of (option_map (λ b. type_view b.value) ret.now))) }
 {
@@ -148,6 +151,7 @@ fn types_substituted(
     bindings: &Bindings,
     types: &[TypeRef],
 ) -> Result<Vec<TypeRef>, NoMemory>
+    requires replaced { all_replaced (parts_view bindings.now.symbols.now) ≡ parts_view bindings.now.symbols.now }
     ensures { IfOk result (λ ts. types_view ts.items ≡ types_substituted (bound_kind bindings.now) (types_view types.now)) }
 {
     let mut all = Vec::with_capacity(alloc, types.len())?;
@@ -164,6 +168,7 @@ pub(crate) fn declared_type(
     written: &TypeRef,
 ) -> Result<TypeRef, NoMemory>
     requires numbers { AreByNumber bindings.now }
+    requires replaced { all_replaced (parts_view bindings.now.symbols.now) ≡ parts_view bindings.now.symbols.now }
     ensures { IfOk result (λ t. type_view t ≡ type_substituted (argument_kind bindings.now.names.now (parts_view bindings.now.symbols.now)) (type_view written.now)) }
 {
     type_substituted(alloc, bindings, written)

@@ -28,7 +28,7 @@ chosen_replaced (part_and (at s (named n q)) ps) = chosen_replaced ps
 chosen_replaced (part_and (at s (tupled ns q)) ps) = chosen_replaced ps
 chosen_replaced (part_and (at s error_terminal) ps) = chosen_replaced ps
 
-sources_replaced : (ps : Parts) → group_sources (all_replaced ps) ≡ map replaced_kind (group_sources ps)
+pub sources_replaced : (ps : Parts) → group_sources (all_replaced ps) ≡ map replaced_kind (group_sources ps)
 sources_replaced ps = ap₂ if_any (chosen_replaced ps) (all_kinds_replaced ps) ∙ by (chosen_kinds ps)
   where
     by : (ks : List Kind) → if_any (map replaced_kind ks) (map replaced_kind (all_kinds ps)) ≡ map replaced_kind (if_any ks (all_kinds ps))

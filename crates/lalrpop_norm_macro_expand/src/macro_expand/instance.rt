@@ -5,6 +5,7 @@ ghost use Rattle.lalrpop_norm_tree.specs.Items.{AlternativeData, alternative_vie
 ghost use Rattle.lalrpop_norm_faults.specs.Faults.{Refuses, RefusesOr};
 ghost use Rattle.lalrpop_norm_conditions.specs.Conditions.{comparison};
 ghost use Rattle.lalrpop_norm_model.specs.MadeRules.{argument_kind};
+ghost use Rattle.lalrpop_norm_model.specs.Replaced.{all_replaced};
 ghost use Rattle.lalrpop_norm_macro_expand_rules.specs.Bound.{AreByNumber};
 ghost use Rattle.lalrpop_norm_macro_expand_rules.specs.Conditions.{value_faults, instance_faults};
 ghost use Rattle.lalrpop_norm_macro_expand_rules.specs.Macros.{HasNumbers};
@@ -94,7 +95,8 @@ pub(super) fn instance_rule(
     called: &NumberedMacro,
     arguments: &[Symbol],
 ) -> NormResult<Instance>
-    requires { HasNumbers called.now }
+    requires numbers { HasNumbers called.now }
+    requires replaced { all_replaced (parts_view arguments.now) ≡ parts_view arguments.now }
     ensures { RefusesOr result (instance_faults (rule_view called.now.definition) (parts_view arguments.now))
         (λ i. (rule_view i.rule ≡ instance_shape head.name head.span (rule_view called.now.definition) (parts_view arguments.now))
         × (i.kept.items ≡ kept_places comparison called.now.definition.args.items (parts_view arguments.now) 0 (rule_view called.now.definition).alternatives)) }

@@ -8,6 +8,7 @@ ghost use Rattle.lalrpop_norm_faults.specs.declared.kind.FaultKind.TheVariants.{
 ghost use Rattle.lalrpop_norm_conditions.specs.Conditions.{comparison};
 ghost use Rattle.lalrpop_norm_names.specs.Numbers.{IsNumbering};
 ghost use Rattle.lalrpop_norm_model.specs.MadeRules.{argument_kind, macro_named, group_rule, some_name_value};
+ghost use Rattle.lalrpop_norm_model.specs.Replaced.{all_replaced};
 ghost use Rattle.lalrpop_norm_nodes.specs.NodeParts.{call_parts, repeated_kind, IsShallow, IsWaiting, AreWaiting};
 ghost use Rattle.lalrpop_norm_nodes.specs.Tables.{wholes_in, IsNodeTable};
 ghost use Rattle.lalrpop_norm_nodes.specs.Wholes.{kind_at};
@@ -57,7 +58,8 @@ pub(super) fn numbers_of_hole(alloc: Global) -> Result<Names, NoMemory>
 
 /// The rule of a group, which takes its symbols.
 fn group_of(alloc: Global, head: Head, expr: &mut ExprSymbol) -> NormResult<NonterminalData>
-    requires { head.name ≡ kind_text (group (expr_view expr.old)) }
+    requires name { head.name ≡ kind_text (group (expr_view expr.old)) }
+    requires replaced { all_replaced (expr_view expr.old) ≡ expr_view expr.old }
     ensures { RefusesOr result (fault_if (some_name_value (expr_view expr.old)) (NamedInGroup, head.span))
         (λ r. rule_view r ≡ group_rule head.span (expr_view expr.old)) }
 {

@@ -13,6 +13,10 @@ use Rattle.lalrpop_norm_macro_expand.specs.Making.{instance_shape}
 use Rattle.lalrpop_norm_macro_expand.proofs.BoundLemmas.{shallow_call, same_long, kinds_long, call_is, are_given, parts_stay}
 use Rattle.lalrpop_norm_macro_expand.proofs.macro_expand.make.instance_of.Goals as goal
 
+pub instance_rule-requires-clause-replaced : goal.instance_rule-requires-clause-replaced
+instance_rule-requires-clause-replaced c =
+    rw c.deref.ensures.value (parts_stay c.args.called.now.definition.name.0 (parts_view c.args.arguments.items) c.requires.shallow.replaced)
+
 pub given_by_call-requires-clause-call : goal.given_by_call-requires-clause-call
 given_by_call-requires-clause-call c =
     (shallow_call (kind_at (wholes_in c.args.table.now) c.args.number) c.args.called.now.definition.name.0 (parts_view c.args.arguments.items) c.requires.shallow.same).is_so

@@ -10,8 +10,12 @@ use Rattle.lalrpop_norm_macro_expand_rules.specs.Pending.{unread_rule, whole_num
 use Rattle.lalrpop_norm_macro_expand_rules.proofs.ArgumentLemmas.{given_found, whole_found, shown_found}
 use Rattle.lalrpop_norm_macro_expand_repeats.specs.Repeats.{hole_name, repeat_shape}
 use Rattle.lalrpop_norm_macro_expand.specs.Making.{hole}
-use Rattle.lalrpop_norm_macro_expand.proofs.BoundLemmas.{shallow_repeat, repeat_is, repeat_readable}
+use Rattle.lalrpop_norm_macro_expand.proofs.BoundLemmas.{shallow_repeat, inner_stays, repeat_is, repeat_readable}
 use Rattle.lalrpop_norm_macro_expand.proofs.macro_expand.make.repeat_of.Goals as goal
+
+pub repeat_rule-requires : goal.repeat_rule-requires
+repeat_rule-requires c =
+    rw c.replace-symbol.ensures.value (inner_stays c.args.repeat.now.op (symbol_view c.args.repeat.now.symbol) c.requires.shallow.replaced)
 
 pub returns-clause-pending : goal.returns-clause-pending
 returns-clause-pending c =
