@@ -196,7 +196,8 @@ class Types:
         name, content = one(inside["kind"])
         if name != "Nonterminal":
             raise Refused("F51 " + place(inside["span"]))
-        self.check_names(names, self.known[content], inside)
+        # (a name without a rule, as that of an argument, has no type)
+        self.check_names(names, self.known.get(content, ("", ())), inside)
 
     def check_names(self, names, ty, inside):
         if ty[0] != "Tuple":
