@@ -142,7 +142,8 @@ class Maker:
         if name not in self.conditional or self.may(0.4):
             return ""
         argument = "Zz" if self.errs(0.05) else self.one(*self.arguments)
-        return "%s %s %s" % (argument, self.one("==", "!=", "~~", "!~"), self.one('"a"', '"b"', '"[ab]"', '"x"') if not self.errs(0.05) else '"("')
+        operator = self.one("==", "!=", "~~", "!~")
+        return "%s %s %s" % (argument, operator, '"("' if self.errs(0.05) else self.one('"a"', '"b"', '"[ab]"', '"x"'))
 
     def alternatives(self, name, typed):
         return [self.alternative(typed, self.condition(name), self.cfg() if self.may(0.07) else "") for _ in range(self.number(1, 4))]
@@ -202,8 +203,8 @@ class Maker:
             yield self.literals[0] + " => Tok::Again"
 
     def extern_block(self):
-        types = self.one("type Location = usize; ", "type Location = L; type Error = E2; ") if self.has_locations else self.one("", "type Error = E2; ")
-        return "extern { %senum %s { %s } }" % (types, self.one("Tok", "a::Tok", "Tok<'input>"), listed(self.conversions()))
+        types = ("type Location = usize; ", "type Location = L; type Error = E2; ") if self.has_locations else ("", "type Error = E2; ")
+        return "extern { %senum %s { %s } }" % (self.one(*types), self.one("Tok", "a::Tok", "Tok<'input>"), listed(self.conversions()))
 
     def match_items(self):
         for literal in self.literals:
