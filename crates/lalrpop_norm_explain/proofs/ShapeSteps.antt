@@ -3,9 +3,10 @@ use Rattle.std.proofs.Common.{◌≡◌, ℕ, Bool, true, false, List, [], ◌�
 use Rattle.std.proofs.lemmas.Bool.Decides.{nat_tests}
 use Rattle.std.specs.Prelude.{if◌then◌else◌}
 use Rattle.std.specs.Result.{IsErrAnd}
-use Rattle.lalrpop_norm_theory.specs.Symbols.{Name}
-use Rattle.lalrpop_norm_theory.specs.LoweredTrees.{ProductionTable, LoweredSymbol, nonterminal_symbol, LoweredTrees, lowered_node, no_lowered}
-use Rattle.lalrpop_norm_theory.specs.WrittenTrees.{WrittenTree, WrittenTrees, nothing, list, node, no_trees}
+use Rattle.lalrpop_norm_theory.specs.Symbols.{Name, Terminal}
+use Rattle.lalrpop_norm_theory.specs.Same.{same_closed_terminal}
+use Rattle.lalrpop_norm_theory.specs.LoweredTrees.{ProductionTable, LoweredSymbol, terminal_symbol, nonterminal_symbol, LoweredTree, LoweredTrees, lowered_leaf, lowered_node, no_lowered}
+use Rattle.lalrpop_norm_theory.specs.WrittenTrees.{WrittenTree, WrittenTrees, leaf, nothing, list, node, no_trees}
 use Rattle.lalrpop_norm_tree_names.specs.declared.names.NonterminalString.{NonterminalString}
 use Rattle.lalrpop_norm_tree_names.specs.declared.names.TerminalString.{TerminalString}
 use Rattle.lalrpop_norm_explain.specs.declared.errors.ExplainError.{ExplainError}
@@ -19,7 +20,7 @@ use Rattle.lalrpop_norm_explain.specs.TreeFaults.{Found, IsFoundUp, FindsUp}
 use Rattle.lalrpop_norm_explain.specs.Trees.{lowered_view, written_view, written_views}
 use Rattle.lalrpop_norm_explain.specs.Forms.{Form, group_form, star_form, plus_form, question_form, times_form, ahead_form, behind_form, form_of}
 use Rattle.lalrpop_norm_explain.specs.Plans.{TreePlan, plan, flat, fitting, is_one_for_each, planned_tree, plus_plan, node_plan, most_steps}
-use Rattle.lalrpop_norm_explain.specs.TreeLowering.{plan_faults, plan_tree, fitting_faults, plus_faults, shape_faults, shapes_faults, lowered_by, each_lowered}
+use Rattle.lalrpop_norm_explain.specs.TreeLowering.{leaf_of, plan_faults, plan_tree, fitting_faults, plus_faults, shape_faults, shapes_faults, lowered_by, each_lowered}
 use Rattle.lalrpop_norm_explain.proofs.Views.{leaf_seen, nothing_seen, list_seen, written_seen}
 
 -- an error is handed on
@@ -52,6 +53,33 @@ module _ (P : ProductionTable) (n : Name) where
     pub of_node : (t : out.WrittenTree) (m : NonterminalString) (k : ℕ) (ts : Vec out.WrittenTree Global) (xs : List out.WrittenTree) → t ≡ rolls.Node m k ts → xs ≡ ts.items →
         Lowers (node m.0 k (written_views xs)) → Lowers (written_view t)
     of_node t m k ts xs is same h = subst Lowers (ap (λ ys. node m.0 k (written_views ys)) same ∙ sym (written_seen t m k ts is)) h
+
+-- ---- leaves
+
+abbrev leaf_faults : Bool → List Found
+leaf_faults b = if b then [] else (NoShape, []) ∷ []
+
+leaf_at : (b : Bool) (a : Terminal) (u : LoweredTree) → Some u ≡ (if b then Some (lowered_leaf a) else None) → (leaf_faults b ≡ []) × (u ≡ lowered_leaf a)
+leaf_at true a u e = (refl, cc)
+leaf_at false a u e = absurd (cc e)
+
+no_leaf_at : (b : Bool) (a : Terminal) (x : ExplainError) → None ≡ (if b then Some (lowered_leaf a) else None) → IsFoundUp ((NoShape, []) ∷ []) x → IsFoundUp (leaf_faults b) x
+no_leaf_at true a x e h = absurd (cc e)
+no_leaf_at false a x e h = h
+
+pub leaf_found : (P : ProductionTable) (b : Terminal) (t : WrittenTree) (u : LoweredTree) → Some u ≡ leaf_of b t →
+    (shape_faults P most_steps t (terminal_symbol b) ≡ []) × (u ≡ lowered_by P most_steps t (terminal_symbol b))
+leaf_found P b (leaf a) u e = leaf_at (same_closed_terminal b a) a u e
+leaf_found P b nothing u e = absurd (cc e)
+leaf_found P b (list ts) u e = absurd (cc e)
+leaf_found P b (node m k ts) u e = absurd (cc e)
+
+pub leaf_missed : (P : ProductionTable) (b : Terminal) (t : WrittenTree) (x : ExplainError) → None ≡ leaf_of b t → IsFoundUp ((NoShape, []) ∷ []) x →
+    IsFoundUp (shape_faults P most_steps t (terminal_symbol b)) x
+leaf_missed P b (leaf a) x e h = no_leaf_at (same_closed_terminal b a) a x e h
+leaf_missed P b nothing x e h = h
+leaf_missed P b (list ts) x e h = h
+leaf_missed P b (node m k ts) x e h = h
 
 -- ---- by the plan
 

@@ -1,8 +1,8 @@
 -- Faults of a node and of its children, one step at a time.
-use Rattle.std.proofs.Common.{◌≡◌, ℕ, suc, ◌+◌, ◌<◌, ◌≢◌, Bool, true, false, List, [], ◌∷◌, ◌++◌, map, drop, take, length, get_or, ap, sym, ◌∙◌, refl, arith, ◌≤◌, add-one, drop-cons}
-use Rattle.std.proofs.lemmas.List.{map-append, take_more}
+use Rattle.std.proofs.Common.{◌≡◌, ℕ, suc, ◌+◌, ◌<◌, ◌≢◌, Bool, true, false, List, [], ◌∷◌, ◌++◌, map, drop, take, length, get_or, ap, sym, ◌∙◌, refl, arith, ◌≤◌, add-one, drop-cons, Global}
+use Rattle.std.proofs.lemmas.List.{map-append, take_more, reverse-append}
 use Rattle.std.proofs.Math.ListN.{drop_of_length-le}
-use Rattle.std.specs.Prelude.{slice_get, Some, None}
+use Rattle.std.specs.Prelude.{slice_get, Some, None, reverse, Vec}
 use Rattle.std.specs.List.{remove}
 use Rattle.lalrpop_norm_theory.specs.Symbols.{Name}
 use Rattle.lalrpop_norm_theory.specs.LoweredTrees.{ProductionTable, Production, LoweredSymbol, LoweredTree, LoweredTrees, lowered_leaf, lowered_node}
@@ -10,7 +10,9 @@ use Rattle.lalrpop_norm_theory.specs.WrittenTrees as written
 use Rattle.lalrpop_norm_theory.specs.WrittenTrees.{leaf, nothing, no_trees, tree_and, append}
 use Rattle.lalrpop_norm_theory.specs.Translations.{written_tree, written_each, made_by, second, first_tree}
 use Rattle.lalrpop_norm_explain.specs.declared.errors.ExplainFault.TheVariants.{Production as NoProduction, Child as WrongChild}
+use Rattle.lalrpop_norm_explain.specs.declared.errors.ExplainFault.{ExplainFault}
 use Rattle.lalrpop_norm_explain.specs.declared.errors.ExplainError.{ExplainError}
+use Rattle.lalrpop_norm_explain.specs.declared.errors.ExplainError.TheVariants.{Refused, Memory}
 use Rattle.lalrpop_norm_explain.specs.declared.trees.LoweredTree as code
 use Rattle.lalrpop_norm_explain.specs.declared.trees.WrittenTree as out
 use Rattle.lalrpop_norm_explain.specs.declared.trees.LoweredTree.TheVariants as variant
@@ -20,7 +22,7 @@ use Rattle.lalrpop_norm_model.specs.Reading.{terminal_of}
 use Rattle.lalrpop_norm_repr.specs.declared.symbol.Symbol.{Symbol}
 use Rattle.lalrpop_norm_explain.specs.Trees.{lowered_view, lowered_views, written_view, written_views, written_trees_of}
 use Rattle.lalrpop_norm_explain.specs.Derivations.{tree_symbol, symbols_view}
-use Rattle.lalrpop_norm_explain.specs.TreeFaults.{Found, IsFound, IsFoundUp, is_begun, is_of, explain_faults, is_one_each, child_faults, children_faults, tree_faults, raised}
+use Rattle.lalrpop_norm_explain.specs.TreeFaults.{Found, first_found, IsFound, IsFoundUp, is_begun, is_of, explain_faults, is_one_each, child_faults, children_faults, tree_faults, raised}
 use Rattle.lalrpop_norm_explain.proofs.Views.{leaf_seen, lowered_leaf_seen}
 
 pub one_each : (us : List code.LoweredTree) (ss : List Symbol) → length us ≡ length ss → is_one_each (lowered_views us) (symbols_view ss) ≡ true
@@ -97,6 +99,19 @@ all_done P us ss i h = rw (drop_of_length-le us h) refl
 
 pub found_same : (fs gs : List Found) (e : ExplainError) → fs ≡ gs → IsFoundUp gs e → IsFoundUp fs e
 found_same fs gs e h f = rw h f
+
+pub found_on : (fs gs : List Found) (e : ExplainError) → IsFoundUp fs e → IsFoundUp (fs ++ gs) e
+found_on [] gs (Refused x p) h = absurd (cc h)
+found_on [] gs Memory h = tt
+found_on (f ∷ fs) gs e h = h
+
+-- a path with one more place at its end
+pub raised_up : (e : ExplainError) (x : ExplainFault) (p q : Vec ℕ Global) (i : ℕ) → e ≡ Refused x p → q.items ≡ p.items ++ i ∷ [] →
+    (fs : List Found) → IsFoundUp fs e → first_found (raised i fs) ≡ Some (x, reverse q.items)
+raised_up e x p q i is more [] h = absurd (cc (rw is at h))
+raised_up e x p q i is more (f ∷ fs) h =
+    let same : f ≡ (x, reverse p.items) = let found : Some f ≡ Some (x, reverse p.items) = rw is at h in cc in
+    ap (λ (g : Found). Some (g.0, i ∷ g.1)) same ∙ sym (ap (λ ps. Some (x, ps)) (ap reverse more ∙ reverse-append p.items (i ∷ [])))
 
 pub begun_there : (roots : Name → Bool) (P : ProductionTable) (u : LoweredTree) (e : ExplainError) → is_begun roots u ≡ true → IsFound (tree_faults P u) e → IsFound (explain_faults roots P u) e
 begun_there roots P u e h f = rw h f

@@ -1,4 +1,4 @@
-use Rattle.std.proofs.Common.{◌≡◌, ◌<◌, ◌≤◌, ◌≢◌, ◌+◌, ◌∙◌, ◌++◌, sym, ap, refl, arith, length, drop, map}
+use Rattle.std.proofs.Common.{◌≡◌, ◌<◌, ◌≤◌, ◌≢◌, ◌+◌, ◌∙◌, ◌++◌, sym, ap, refl, subst, arith, length, drop, map}
 use borrow.Author.Count.{falls}
 use Rattle.lalrpop_norm_theory.specs.Symbols.{lookahead}
 use Rattle.lalrpop_norm_theory.specs.LoweredTrees.{lowered_node, no_lowered, lowered_and}
@@ -7,12 +7,14 @@ use Rattle.lalrpop_norm_explain.specs.Derivations.{tree_symbol, symbols_view}
 use Rattle.lalrpop_norm_explain.specs.TracedGrammars.{grammar_of}
 use Rattle.lalrpop_norm_explain.specs.Plans.{each, planned_tree, way_view, most_steps}
 use Rattle.lalrpop_norm_explain.specs.TreeLowering.{shapes_faults, each_lowered}
-use Rattle.lalrpop_norm_explain.specs.Trees.{lowered_view, lowered_views, written_views}
+use Rattle.lalrpop_norm_explain.specs.TreeFaults.{raised}
+use Rattle.lalrpop_norm_model.specs.Reading.{terminal_of}
+use Rattle.lalrpop_norm_explain.specs.Trees.{lowered_view, lowered_views, written_view, written_views}
 use Rattle.lalrpop_norm_explain.proofs.Lowered.{fit, not_fit, filled, star_faults, star_lowered, plus_same, plus_lowered_same, plus_built, question_many, question_one}
 use Rattle.lalrpop_norm_explain.proofs.Lowered.{put_before, put_all, all_step, all_put, each_step, each_put, shapes_done, lowered_done}
-use Rattle.lalrpop_norm_explain.proofs.Steps.{found_same}
+use Rattle.lalrpop_norm_explain.proofs.Steps.{found_same, found_on}
 use Rattle.lalrpop_norm_explain.proofs.TreeSizes.{falls_by, to_list, to_node, to_one}
-use Rattle.lalrpop_norm_explain.proofs.ShapeSteps.{handed_on, no_memory, no_leaf, of_nothing, of_list, of_node, node_faults, node_made, no_node, group_faults, group_made, times_faults, times_made, star_none, question_none, plus_none}
+use Rattle.lalrpop_norm_explain.proofs.ShapeSteps.{handed_on, no_memory, leaf_found, leaf_missed, no_leaf, of_nothing, of_list, of_node, node_faults, node_made, no_node, group_faults, group_made, times_faults, times_made, star_none, question_none, plus_none}
 use Rattle.lalrpop_norm_explain.proofs.lowering.+shapes.Goals as goal
 
 pub lower_child-returns-in-Err : goal.lower_child-returns-in-Err
@@ -87,8 +89,8 @@ lower_fitting-returns t c =
 pub lower_all-loop-place-preserved : goal.lower_all-loop-place-preserved
 lower_all-loop-place-preserved t c =
     let P = grammar_of c.args.traced.now in
-    let lt : c.loop-place.place < length c.args.trees.now = omega arith in
-    let ls : c.loop-place.place < length c.args.symbols.now = omega arith in
+    let lt = c.loop-place-test.true in
+    let ls = subst (λ n. c.loop-place.place < n) c.requires lt in
     let step = all_step P c.args.trees.now c.loop-place.place c.index-trees-place.result lt c.index-trees-place.is c.args.symbols.now c.index-symbols-place.result ls c.index-symbols-place.is in
     let put = all_put P c.args.trees.now c.loop-place.place c.index-trees-place.result lt c.index-trees-place.is c.args.symbols.now c.index-symbols-place.result ls c.index-symbols-place.is
     c.loop-place.lowered.items c.in_ok-child.child c.in_ok-child.ensures.1 in
@@ -113,7 +115,7 @@ lower_all-returns t c =
 pub lower_each-loop-place-preserved : goal.lower_each-loop-place-preserved
 lower_each-loop-place-preserved t c =
     let P = grammar_of c.args.traced.now in
-    let lt : c.loop-place.place < length c.args.trees.now = omega arith in
+    let lt = c.loop-place-test.true in
     let step = each_step P c.args.trees.now c.loop-place.place c.index-trees-place.result lt c.index-trees-place.is c.args.symbol.now in
     let put = each_put P c.args.trees.now c.loop-place.place c.index-trees-place.result lt c.index-trees-place.is c.args.symbol.now
     c.loop-place.lowered.items c.in_ok-child.child c.in_ok-child.ensures.1 in
@@ -276,3 +278,35 @@ lower_each-loop-place-init t c = record {
 
 pub lower_each-loop-place-smaller : goal.lower_each-loop-place-smaller
 lower_each-loop-place-smaller t c = falls _ _ c.loop-place-test.true
+
+pub lower_all-returns-in_err-child : goal.lower_all-returns-in_err-child
+lower_all-returns-in_err-child t c =
+    let ls = subst (λ n. c.loop-place.place < n) c.requires c.loop-place-test.true in
+    let step = all_step (grammar_of c.args.traced.now) c.args.trees.now c.loop-place.place c.index-trees-place.result c.loop-place-test.true c.index-trees-place.is c.args.symbols.now c.index-symbols-place.result ls c.index-symbols-place.is in
+    handed_on _ _ _ _ _ c.from_residual.ensures.1 (sym c.loop-place.invariant.faults ∙ step) (found_on _ _ _ c.in_err-child.ensures)
+
+pub lower_all-returns-in_err-push : goal.lower_all-returns-in_err-push
+lower_all-returns-in_err-push t c = no_memory _ _ _ c.from_residual-in_err-push.ensures.1
+
+pub lower_at-returns-in-Nonterminal : goal.lower_at-returns-in-Nonterminal
+lower_at-returns-in-Nonterminal t c = rw c.in-Nonterminal.is c.lower_under.ensures
+
+pub lower_at-returns-in-Some : goal.lower_at-returns-in-Some
+lower_at-returns-in-Some t c = rw c.in-Terminal.is (leaf_found (grammar_of c.args.traced.now) (terminal_of c.in-Terminal.wanted) (written_view c.args.tree.now) (lowered_view c.in-Some.leaf) c.in-Some.ensures)
+
+pub lower_at-returns-in-None : goal.lower_at-returns-in-None
+lower_at-returns-in-None t c = rw c.in-Terminal.is (leaf_missed (grammar_of c.args.traced.now) (terminal_of c.in-Terminal.wanted) (written_view c.args.tree.now) c.refused.result c.in-None.ensures c.refused.ensures)
+
+pub lower_child-returns-in-Ok : goal.lower_child-returns-in-Ok
+lower_child-returns-in-Ok t c = (ap (raised c.args.place) c.in-Ok.ensures.0, c.in-Ok.ensures.1)
+
+pub lower_each-returns-in_err-child : goal.lower_each-returns-in_err-child
+lower_each-returns-in_err-child t c =
+    let step = each_step (grammar_of c.args.traced.now) c.args.trees.now c.loop-place.place c.index-trees-place.result c.loop-place-test.true c.index-trees-place.is c.args.symbol.now in
+    handed_on _ _ _ _ _ c.from_residual.ensures.1 (sym c.loop-place.invariant.faults ∙ step) (found_on _ _ _ c.in_err-child.ensures)
+
+pub lower_each-returns-in_err-push : goal.lower_each-returns-in_err-push
+lower_each-returns-in_err-push t c = no_memory _ _ _ c.from_residual-in_err-push.ensures.1
+
+pub lower_list-returns-in_err-over-in-Some-Star : goal.lower_list-returns-in_err-over-in-Some-Star
+lower_list-returns-in_err-over-in-Some-Star t c = no_memory _ _ _ c.from_residual-in_err-over-in-Some-Star.ensures.1

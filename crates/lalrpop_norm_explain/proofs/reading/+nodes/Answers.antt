@@ -1,4 +1,4 @@
-use Rattle.std.proofs.Common.{rules, [], ◌∷◌, ◌++◌, ◌+◌, ◌<◌, ap, sym, ◌∙◌, refl, arith, length, ◌≤◌, map, drop}
+use Rattle.std.proofs.Common.{[], ◌∷◌, ◌++◌, ◌+◌, ◌<◌, ap, sym, ◌∙◌, subst, refl, arith, length, ◌≤◌, map, drop}
 use borrow.Author.Count.{falls}
 use Rattle.std.proofs.lemmas.List.{take_all}
 use Rattle.lalrpop_norm_theory.specs.Translations.{made_by, written_tree}
@@ -9,9 +9,9 @@ use Rattle.lalrpop_norm_explain.specs.TracedGrammars.{pair_view, grammar_of}
 use Rattle.lalrpop_norm_explain.specs.Trees.{lowered_view, lowered_views, written_view, written_trees_of}
 use Rattle.lalrpop_norm_explain.specs.TreeFaults.{children_faults}
 use Rattle.lalrpop_norm_explain.specs.Derivations.{symbols_view}
-use Rattle.lalrpop_norm_explain.proofs.Steps.{one_each, not_one_each, wrong_number, right_number, made_there, not_of_symbol, below_child, below_none, next_child, next_made, leaf_read, no_production, all_done, each_made, found_same}
+use Rattle.lalrpop_norm_explain.proofs.Steps.{one_each, not_one_each, wrong_number, right_number, made_there, not_of_symbol, below_child, below_none, next_child, next_made, leaf_read, no_production, all_done, each_made, found_same, found_on}
 use Rattle.lalrpop_norm_explain.proofs.Views.{node_seen}
-use Rattle.lalrpop_norm_explain.proofs.ShapeSteps.{no_memory}
+use Rattle.lalrpop_norm_explain.proofs.ShapeSteps.{handed_on, no_memory}
 use Rattle.lalrpop_norm_explain.proofs.TreeSizes.{falls_by, to_children, to_child}
 use Rattle.lalrpop_norm_explain.proofs.reading.+nodes.Goals as goal
 
@@ -42,7 +42,7 @@ explain_node-returns-in_err-written-in-Some t c =
     let node = ap lowered_view c.in-Node.is ∙ node_seen c.in-Node.nonterminal c.in-Node.production c.in-Node.children in
     let even = one_each c.in-Node.children.items c.in-Some.symbols.now (omega arith) in
     let same = right_number (grammar_of c.args.traced.now) _ c.in-Node.nonterminal.0 c.in-Node.production (lowered_views c.in-Node.children.items) (pair_view (c.in-Some.symbols, c.in-Some.origin)) node (sym c.in-Some.ensures) even in
-    rw (same, ← c.deref.ensures.value) (search rules)
+    handed_on _ _ _ _ _ c.from_residual.ensures.1 same (rw c.deref.ensures.value at c.in_err-written-in-Some.ensures)
 
 pub explain_node-returns-in_ok-made_by-in-Some : goal.explain_node-returns-in_ok-made_by-in-Some
 explain_node-returns-in_ok-made_by-in-Some t c =
@@ -102,3 +102,12 @@ explain_children-loop-place-preserved t c =
 
 pub explain_children-loop-place-smaller : goal.explain_children-loop-place-smaller
 explain_children-loop-place-smaller t c = falls _ _ c.loop-place-test.true
+
+pub explain_children-returns-in_err-tree : goal.explain_children-returns-in_err-tree
+explain_children-returns-in_err-tree t c =
+    let ls = subst (λ n. c.loop-place.place < n) c.requires c.loop-place-test.true in
+    let step = next_child (grammar_of c.args.traced.now) c.args.children.now c.loop-place.place c.index-children-place.result c.loop-place-test.true c.index-children-place.is c.args.symbols.now c.index-symbols-place.result ls c.index-symbols-place.is in
+    handed_on _ _ _ _ _ c.from_residual.ensures.1 (sym c.loop-place.invariant.faults ∙ step) (found_on _ _ _ c.in_err-tree.ensures)
+
+pub explain_children-returns-in_err-push : goal.explain_children-returns-in_err-push
+explain_children-returns-in_err-push t c = no_memory _ _ _ c.from_residual-in_err-push.ensures.1

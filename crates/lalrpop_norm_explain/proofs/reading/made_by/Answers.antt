@@ -8,7 +8,7 @@ use Rattle.lalrpop_norm_explain.proofs.Views.{nothing_seen, list_seen, written_s
 use Rattle.lalrpop_norm_explain.proofs.reading.made_by.Goals as goal
 
 pub returns-in-Start : goal.returns-in-Start
-returns-in-Start c = cc (step_made c.args.origin.now (written_views c.args.children.items) c.in-Start.is)
+returns-in-Start c = c.first.ensures ∙ sym (step_made c.args.origin.now (written_views c.args.children.items) c.in-Start.is)
 
 pub returns-in-Written : goal.returns-in-Written
 returns-in-Written c =
