@@ -3,7 +3,7 @@
 //! Round 1 reads the rules of the grammar, each later one the rules that the round before made. To read a rule is to meet
 //! the symbols in it, inner ones before outer ones, and to put in the place of each that is made into a rule the
 //! nonterminal of its text. Symbols that are the same apart from spans are made into one rule, where they were first met.
-ghost use Rattle.std.specs.Prelude.{◌≡◌, ◌<◌, ◌+◌, ◌++◌, IfOk, OnOk, map, length, reverse, flat_map};
+ghost use Rattle.std.specs.Prelude.{◌≡◌, ◌==◌, ◌<◌, ◌+◌, ◌++◌, [], true, false, if◌then◌else◌, IfOk, OnOk, map, length, reverse, flat_map};
 ghost use Rattle.lalrpop_norm_tree.specs.Symbols.{symbol_view};
 ghost use Rattle.lalrpop_norm_tree.specs.Items.{item_view, grammar_view};
 ghost use Rattle.lalrpop_norm_faults.specs.Faults.{Refuses, IsFirst};
@@ -64,6 +64,23 @@ fn past_cap(alloc: Global, waiting: &[Waiting]) -> NormFailure
             "`{last}` is past the limit of rounds: end the macro that calls itself with ever larger arguments, or raise the limit"
         ),
     )
+}
+
+/// Whether nothing waits, so that the rounds end.
+///
+/// Errors: F36 (`RecursionCap`) where something waits, and no round is left.
+fn is_ended(alloc: Global, waiting: &[Waiting], left: u16) -> NormResult<bool>
+    ensures refuses { Refuses result (if left == 0 then past_cap (map (λ w. symbol_view w.symbol) waiting.now) else []) }
+    ensures ended { IfOk result (λ b. b ≡ true → waiting.now ≡ []) }
+    ensures goes_on { IfOk result (λ b. b ≡ false → (0 < left) × (0 < length waiting.now)) }
+{
+    if waiting.is_empty() {
+        return Ok(true);
+    }
+    if left == 0 {
+        return Err(past_cap(alloc, waiting));
+    }
+    Ok(false)
 }
 
 /// For how many rounds like this one room is taken where there is none: items are large, so to move them again and again costs more
@@ -163,7 +180,7 @@ fn expand_rounds(alloc: Global, grammar: Grammar, limit: u16) -> NormResult<Expa
     // The label is the loop's name in the proof, where its invariant and its measure stand.
     'rounds: loop {
         let waiting = table.take_waiting(alloc);
-        if waiting.is_empty() {
+        if is_ended(alloc, &waiting, left)? {
             grammar.items = done;
             return Ok(Expanded {
                 grammar,
@@ -171,9 +188,6 @@ fn expand_rounds(alloc: Global, grammar: Grammar, limit: u16) -> NormResult<Expa
                 made,
                 rounds: round_after(limit - left),
             });
-        }
-        if left == 0 {
-            return Err(past_cap(alloc, &waiting));
         }
         read_round(alloc, &makers, waiting, &mut made, &mut done, &mut table)?;
         left -= 1;

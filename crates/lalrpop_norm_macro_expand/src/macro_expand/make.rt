@@ -1,5 +1,5 @@
 //! The rules that symbols are made into.
-ghost use Rattle.std.specs.Prelude.{◌≡◌, [], ◌∷◌, ◌++◌, Some, IfOk, IfSome, OnOk, map, flat_map, reverse, option_map, option_to_list};
+ghost use Rattle.std.specs.Prelude.{◌≡◌, ℕ, List, [], ◌∷◌, ◌++◌, Some, IfOk, IfSome, OnOk, map, flat_map, reverse, option_map, option_to_list};
 ghost use Rattle.lalrpop_norm_tree.specs.Symbols.{at, group, call, repeated, kind_view, parts_view, expr_view, macro_view, symbol_view};
 ghost use Rattle.lalrpop_norm_tree.specs.SymbolTexts.{kind_text};
 ghost use Rattle.lalrpop_norm_tree.specs.Items.{item_view, rule_item, rule_view};
@@ -11,10 +11,12 @@ ghost use Rattle.lalrpop_norm_model.specs.MadeRules.{argument_kind, macro_named,
 ghost use Rattle.lalrpop_norm_model.specs.Replaced.{all_replaced};
 ghost use Rattle.lalrpop_norm_nodes.specs.NodeParts.{call_parts, repeated_kind, IsShallow, IsWaiting, AreWaiting};
 ghost use Rattle.lalrpop_norm_nodes.specs.Tables.{wholes_in, IsNodeTable};
-ghost use Rattle.lalrpop_norm_nodes.specs.Wholes.{kind_at};
+ghost use Rattle.lalrpop_norm_nodes.specs.Given.{IsGiven};
+ghost use Rattle.lalrpop_norm_nodes.specs.declared.given.Given.{Given};
+ghost use Rattle.lalrpop_norm_nodes.specs.Wholes.{Whole, kind_at};
 ghost use Rattle.lalrpop_norm_macro_expand_rules.specs.Conditions.{called_faults, instance_faults};
 ghost use Rattle.lalrpop_norm_macro_expand_rules.specs.Macros.{macros_in, HasNumbers, AreByName};
-ghost use Rattle.lalrpop_norm_macro_expand_rules.specs.Pending.{unread_rule, item_of, filling_of, filling_view, pending_view, IsReadable, AreReadable};
+ghost use Rattle.lalrpop_norm_macro_expand_rules.specs.Pending.{unread_rule, item_of, filling_of, given_numbered, whole_numbered, shown_numbered, filling_view, pending_view, IsReadable, AreReadable};
 ghost use Rattle.lalrpop_norm_macro_expand.specs.Expansion.{unmade, unmade_repeat};
 ghost use Rattle.lalrpop_norm_macro_expand.specs.Kept.{kept_by, kept_by_call};
 ghost use Rattle.lalrpop_norm_macro_expand.specs.Made.{made_view, made_for};
@@ -133,6 +135,25 @@ fn repeat_of<'m>(
     Ok(Pending { rule, filling })
 }
 
+/// The rule of a call of that macro, where these are given for its names.
+fn with_given<'m>(
+    called: &'m NumberedMacro,
+    rule: NonterminalData,
+    given: Vec<Given>,
+) -> Pending<'m>
+    ensures pending { (ws : List Whole) → pending_view ws result ≡ unread_rule (rule_view rule) (whole_numbered ws called.now.numbers given.items) (shown_numbered called.now.numbers given.items) }
+    ensures readable { (ws : List Whole) → ((n : List ℕ) (g : Given) → given_numbered called.now.numbers given.items n ≡ Some g → IsGiven ws g) → IsReadable ws result.filling }
+{
+    let filling = Filling {
+        numbers: &called.numbers,
+        given,
+    };
+    Pending {
+        rule,
+        filling: Some(filling),
+    }
+}
+
 /// The rule of a call of a macro with these arguments, and the places of the macro's alternatives that it has.
 ///
 /// Errors: at the first alternative whose condition has no value F33 (`ConditionArgument`) or F34 (`ConditionPattern`); `Memory`.
@@ -157,14 +178,7 @@ fn instance_of<'m>(
 {
     let instance = instance_rule(alloc, head, called, &arguments)?;
     let given = given_by_call(alloc, table, number, arguments)?;
-    let filling = Filling {
-        numbers: &called.numbers,
-        given,
-    };
-    let pending = Pending {
-        rule: instance.rule,
-        filling: Some(filling),
-    };
+    let pending = with_given(called, instance.rule, given);
     Ok((pending, instance.kept))
 }
 

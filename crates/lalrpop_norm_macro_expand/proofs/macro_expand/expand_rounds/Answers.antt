@@ -1,9 +1,12 @@
-use Rattle.std.proofs.Common.{◌≡◌, ◌==◌, ◌<◌, Bool, true, false, ◌-◌, ◌+◌, ℕ, suc, arith, map, length, refl, sym, ap, ◌∙◌, subst, [], ◌∷◌, List, Vec, Global}
+use Rattle.std.proofs.Common.{◌≡◌, ◌==◌, ◌<◌, Bool, true, false, ◌-◌, ℕ, suc, arith, map, length, refl, sym, ap, ◌∙◌, subst, [], List, Vec, Global}
 use Rattle.std.specs.List.{flat_map}
+use Rattle.std.specs.Prelude.{if◌then◌else◌}
 use Rattle.std.proofs.lemmas.List.{length-map}
 use Rattle.lalrpop_norm_tree.specs.declared.items.GrammarItem.{GrammarItem}
 use Rattle.lalrpop_norm_tree.specs.Symbols.{Part, symbol_view}
-use Rattle.lalrpop_norm_tree.specs.Items.{GrammarData, ItemData, item_view, grammar_view}
+use Rattle.lalrpop_norm_tree.specs.Items.{GrammarData, item_view, grammar_view}
+use Rattle.lalrpop_norm_faults.specs.declared.failure.NormFailure.{NormFailure}
+use Rattle.lalrpop_norm_faults.specs.declared.failure.NormFailure.TheVariants.{Refused, Memory}
 use Rattle.lalrpop_norm_faults.specs.Faults.{Fault, IsFirst}
 use Rattle.lalrpop_norm_model.specs.Expanded.{rule_names}
 use Rattle.lalrpop_norm_model.specs.PlainRules.{macros_of}
@@ -18,6 +21,7 @@ use Rattle.lalrpop_norm_macro_expand_rules.specs.Names.{is_declared_name, item_n
 use Rattle.lalrpop_norm_macro_expand_rules.specs.Items.{without_macro, macro_in}
 use Rattle.lalrpop_norm_macro_expand_rules.specs.Macros.{macros_in}
 use Rattle.lalrpop_norm_macro_expand_rules.proofs.NameLemmas.{rule_names_are}
+use Rattle.lalrpop_norm_macro_expand.specs.Expansion.{past_cap}
 use Rattle.lalrpop_norm_macro_expand.specs.Made.{made_view}
 use Rattle.lalrpop_norm_macro_expand.proofs.MadeLemmas.{MadeSo, none_made, made_next, all_made}
 use Rattle.lalrpop_norm_macro_expand.proofs.RoundLemmas.{AtRound, macros_are, first_refused, first_round, taken, round_refused_so, round_next, cap_refused, last_round}
@@ -63,16 +67,6 @@ returns-in_err-done-clause-refuses c =
     err_refuses _ _ _ c.from_residual-in_err-done.ensures.1
     (first_refused g c.in_ok-table.table c.in_ok-table.table (map item_view c.in_ok-others.others.items) others names c.in_ok-table.ensures.seen c.args.limit _ c.in_err-done.ensures.refuses)
 
-none_waits : (m n : ℕ) (b : Bool) → m ≡ n → b ≡ (m == 0) → b ≡ true → n ≡ 0
-none_waits m n b long e t = grind arith
-
-some_waits : (m n : ℕ) (b : Bool) → m ≡ n → b ≡ (m == 0) → b ≡ false → 0 < n
-some_waits m n b long e f = grind arith
-
-no_items : {A : Type 0} (xs : List A) → length xs ≡ 0 → xs ≡ []
-no_items [] e = refl
-no_items (x ∷ xs) e = absurd (omega arith)
-
 counted_still : (z a : Table) → a.made ≡ z.made → a.nodes ≡ z.nodes → IsCounted z → IsCounted a
 counted_still z a made nodes h = ap (λ (m : Counter). m.count) made ∙ h ∙ ap (λ (ns : Nodes). length (flat_map own_in (wholes ns))) (sym nodes)
 
@@ -84,88 +78,50 @@ read_round-requires-clause-waiting c =
     (taken (grammar_view c.args.grammar) c.args.limit c.rounds.left (c.args.limit - c.rounds.left) c.rounds.table c.take_waiting-waiting.new.self c.take_waiting-waiting.result (map item_view c.rounds.done.items)
     c.rounds.invariant.rounds c.take_waiting-waiting.ensures.nodes c.take_waiting-waiting.ensures.waiting c.take_waiting-waiting.ensures.table c.take_waiting-waiting.ensures.numbered).making.waiting
 
-pub past_cap-requires : goal.past_cap-requires
-past_cap-requires c = rw c.deref-then-left-eq0.ensures.value (some_waits c.take_waiting-waiting.result.len (length c.take_waiting-waiting.result.items) c.is_empty.result c.take_waiting-waiting.result.ok.0 c.is_empty.ensures c.if-is_empty.false)
+zero_left : (left : ℕ) → (left == 0) ≡ true → left ≡ 0
+zero_left left e = grind arith
 
-pub returns-then-is_empty-clause-refuses : goal.returns-then-is_empty-clause-refuses
-returns-then-is_empty-clause-refuses c =
+-- what stands first where a test holds
+first_where : (fs all : List Fault) (e : NormFailure) (b : Bool) → (b ≡ true → all ≡ fs) → IsFirst (if b then fs else []) e → IsFirst all e
+first_where fs all e true same h = subst (λ (gs : List Fault). IsFirst gs e) (sym (same refl)) h
+first_where fs all (Refused r) false same h = absurd (cc h)
+first_where fs all Memory false same h = tt
+
+pub returns-then-branch : goal.returns-then-branch
+returns-then-branch c =
     let t =
     taken (grammar_view c.args.grammar) c.args.limit c.rounds.left (c.args.limit - c.rounds.left) c.rounds.table c.take_waiting-waiting.new.self c.take_waiting-waiting.result (map item_view c.rounds.done.items)
     c.rounds.invariant.rounds c.take_waiting-waiting.ensures.nodes c.take_waiting-waiting.ensures.waiting c.take_waiting-waiting.ensures.table c.take_waiting-waiting.ensures.numbered in
-    let none : map (λ w. symbol_view w.symbol) c.take_waiting-waiting.result.items ≡ [] = ap (map (λ w. symbol_view w.symbol)) (no_items c.take_waiting-waiting.result.items (none_waits c.take_waiting-waiting.result.len (length c.take_waiting-waiting.result.items) c.is_empty.result c.take_waiting-waiting.result.ok.0 c.is_empty.ensures c.if-is_empty.true)) in
-    (last_round (grammar_view c.args.grammar) c.args.limit c.rounds.left (c.args.limit - c.rounds.left) (seen_in c.take_waiting-waiting.new.self) (map (λ w. symbol_view w.symbol) c.take_waiting-waiting.result.items) (map item_view c.rounds.done.items)
-    t.round none (omega (arith, c.rounds.invariant.bound))).faultless
-
-pub returns-then-is_empty-clause-whole : goal.returns-then-is_empty-clause-whole
-returns-then-is_empty-clause-whole c =
-    let t =
-    taken (grammar_view c.args.grammar) c.args.limit c.rounds.left (c.args.limit - c.rounds.left) c.rounds.table c.take_waiting-waiting.new.self c.take_waiting-waiting.result (map item_view c.rounds.done.items)
-    c.rounds.invariant.rounds c.take_waiting-waiting.ensures.nodes c.take_waiting-waiting.ensures.waiting c.take_waiting-waiting.ensures.table c.take_waiting-waiting.ensures.numbered in
-    let none : map (λ w. symbol_view w.symbol) c.take_waiting-waiting.result.items ≡ [] = ap (map (λ w. symbol_view w.symbol)) (no_items c.take_waiting-waiting.result.items (none_waits c.take_waiting-waiting.result.len (length c.take_waiting-waiting.result.items) c.is_empty.result c.take_waiting-waiting.result.ok.0 c.is_empty.ensures c.if-is_empty.true)) in
-    (last_round (grammar_view c.args.grammar) c.args.limit c.rounds.left (c.args.limit - c.rounds.left) (seen_in c.take_waiting-waiting.new.self) (map (λ w. symbol_view w.symbol) c.take_waiting-waiting.result.items) (map item_view c.rounds.done.items)
-    t.round none (omega (arith, c.rounds.invariant.bound))).whole
-
-pub returns-then-is_empty-clause-plain : goal.returns-then-is_empty-clause-plain
-returns-then-is_empty-clause-plain c =
-    let t =
-    taken (grammar_view c.args.grammar) c.args.limit c.rounds.left (c.args.limit - c.rounds.left) c.rounds.table c.take_waiting-waiting.new.self c.take_waiting-waiting.result (map item_view c.rounds.done.items)
-    c.rounds.invariant.rounds c.take_waiting-waiting.ensures.nodes c.take_waiting-waiting.ensures.waiting c.take_waiting-waiting.ensures.table c.take_waiting-waiting.ensures.numbered in
-    let none : map (λ w. symbol_view w.symbol) c.take_waiting-waiting.result.items ≡ [] = ap (map (λ w. symbol_view w.symbol)) (no_items c.take_waiting-waiting.result.items (none_waits c.take_waiting-waiting.result.len (length c.take_waiting-waiting.result.items) c.is_empty.result c.take_waiting-waiting.result.ok.0 c.is_empty.ensures c.if-is_empty.true)) in
+    let none : map (λ w. symbol_view w.symbol) c.take_waiting-waiting.result.items ≡ [] =
+    ap (map (λ w. symbol_view w.symbol)) (sym c.deref-in-rounds.ensures.value ∙ c.in_ok-is_ended.ensures.ended c.if-branch.true) in
     let last =
     last_round (grammar_view c.args.grammar) c.args.limit c.rounds.left (c.args.limit - c.rounds.left) (seen_in c.take_waiting-waiting.new.self) (map (λ w. symbol_view w.symbol) c.take_waiting-waiting.result.items) (map item_view c.rounds.done.items)
     t.round none (omega (arith, c.rounds.invariant.bound)) in
-    ap (λ (d : GrammarData). record d { items = map item_view c.rounds.done.items }) c.rounds.invariant.grammar
-    ∙ ap (λ is. record (grammar_view c.args.grammar) { items = is }) last.items
+    record {
+      refuses = last.faultless;
+      whole = last.whole;
+      plain =
+          ap (λ (d : GrammarData). record d { items = map item_view c.rounds.done.items }) c.rounds.invariant.grammar
+          ∙ ap (λ is. record (grammar_view c.args.grammar) { items = is }) last.items;
+      made =
+          all_made (grammar_view c.args.grammar) (wholes_in c.take_waiting-waiting.new.self) (c.args.limit - c.rounds.left) c.args.limit c.rounds.made.items
+          (subst (λ (ns : Nodes). MadeSo (grammar_view c.args.grammar) (wholes ns) (c.args.limit - c.rounds.left) (map made_view c.rounds.made.items)) (sym c.take_waiting-waiting.ensures.nodes) c.rounds.invariant.made) last.stays;
+      rounds = record { round = c.args.limit - c.rounds.left; number = c.round_after.ensures; ended = last.ended; first = t.round.earlier };
+      table = c.take_waiting-waiting.ensures.table;
+      counted = counted_still c.rounds.table c.take_waiting-waiting.new.self c.take_waiting-waiting.ensures.counted c.take_waiting-waiting.ensures.nodes c.rounds.invariant.counted;
+      seen = last.long;
+    }
 
-pub returns-then-is_empty-clause-made : goal.returns-then-is_empty-clause-made
-returns-then-is_empty-clause-made c =
+pub returns-in_err-is_ended-clause-refuses : goal.returns-in_err-is_ended-clause-refuses
+returns-in_err-is_ended-clause-refuses c =
     let t =
     taken (grammar_view c.args.grammar) c.args.limit c.rounds.left (c.args.limit - c.rounds.left) c.rounds.table c.take_waiting-waiting.new.self c.take_waiting-waiting.result (map item_view c.rounds.done.items)
     c.rounds.invariant.rounds c.take_waiting-waiting.ensures.nodes c.take_waiting-waiting.ensures.waiting c.take_waiting-waiting.ensures.table c.take_waiting-waiting.ensures.numbered in
-    let none : map (λ w. symbol_view w.symbol) c.take_waiting-waiting.result.items ≡ [] = ap (map (λ w. symbol_view w.symbol)) (no_items c.take_waiting-waiting.result.items (none_waits c.take_waiting-waiting.result.len (length c.take_waiting-waiting.result.items) c.is_empty.result c.take_waiting-waiting.result.ok.0 c.is_empty.ensures c.if-is_empty.true)) in
-    let last =
-    last_round (grammar_view c.args.grammar) c.args.limit c.rounds.left (c.args.limit - c.rounds.left) (seen_in c.take_waiting-waiting.new.self) (map (λ w. symbol_view w.symbol) c.take_waiting-waiting.result.items) (map item_view c.rounds.done.items)
-    t.round none (omega (arith, c.rounds.invariant.bound)) in
-    all_made (grammar_view c.args.grammar) (wholes_in c.take_waiting-waiting.new.self) (c.args.limit - c.rounds.left) c.args.limit c.rounds.made.items
-    (subst (λ (ns : Nodes). MadeSo (grammar_view c.args.grammar) (wholes ns) (c.args.limit - c.rounds.left) (map made_view c.rounds.made.items)) (sym c.take_waiting-waiting.ensures.nodes) c.rounds.invariant.made) last.stays
-
-pub returns-then-is_empty-clause-rounds : goal.returns-then-is_empty-clause-rounds
-returns-then-is_empty-clause-rounds c =
-    let t =
-    taken (grammar_view c.args.grammar) c.args.limit c.rounds.left (c.args.limit - c.rounds.left) c.rounds.table c.take_waiting-waiting.new.self c.take_waiting-waiting.result (map item_view c.rounds.done.items)
-    c.rounds.invariant.rounds c.take_waiting-waiting.ensures.nodes c.take_waiting-waiting.ensures.waiting c.take_waiting-waiting.ensures.table c.take_waiting-waiting.ensures.numbered in
-    let none : map (λ w. symbol_view w.symbol) c.take_waiting-waiting.result.items ≡ [] = ap (map (λ w. symbol_view w.symbol)) (no_items c.take_waiting-waiting.result.items (none_waits c.take_waiting-waiting.result.len (length c.take_waiting-waiting.result.items) c.is_empty.result c.take_waiting-waiting.result.ok.0 c.is_empty.ensures c.if-is_empty.true)) in
-    let last =
-    last_round (grammar_view c.args.grammar) c.args.limit c.rounds.left (c.args.limit - c.rounds.left) (seen_in c.take_waiting-waiting.new.self) (map (λ w. symbol_view w.symbol) c.take_waiting-waiting.result.items) (map item_view c.rounds.done.items)
-    t.round none (omega (arith, c.rounds.invariant.bound)) in
-    record { round = c.args.limit - c.rounds.left; number = c.round_after.ensures; ended = last.ended; first = t.round.earlier }
-
-pub returns-then-is_empty-clause-seen : goal.returns-then-is_empty-clause-seen
-returns-then-is_empty-clause-seen c =
-    let t =
-    taken (grammar_view c.args.grammar) c.args.limit c.rounds.left (c.args.limit - c.rounds.left) c.rounds.table c.take_waiting-waiting.new.self c.take_waiting-waiting.result (map item_view c.rounds.done.items)
-    c.rounds.invariant.rounds c.take_waiting-waiting.ensures.nodes c.take_waiting-waiting.ensures.waiting c.take_waiting-waiting.ensures.table c.take_waiting-waiting.ensures.numbered in
-    let none : map (λ w. symbol_view w.symbol) c.take_waiting-waiting.result.items ≡ [] = ap (map (λ w. symbol_view w.symbol)) (no_items c.take_waiting-waiting.result.items (none_waits c.take_waiting-waiting.result.len (length c.take_waiting-waiting.result.items) c.is_empty.result c.take_waiting-waiting.result.ok.0 c.is_empty.ensures c.if-is_empty.true)) in
-    let last =
-    last_round (grammar_view c.args.grammar) c.args.limit c.rounds.left (c.args.limit - c.rounds.left) (seen_in c.take_waiting-waiting.new.self) (map (λ w. symbol_view w.symbol) c.take_waiting-waiting.result.items) (map item_view c.rounds.done.items)
-    t.round none (omega (arith, c.rounds.invariant.bound)) in
-    last.long
-
-pub returns-then-is_empty-clause-table : goal.returns-then-is_empty-clause-table
-returns-then-is_empty-clause-table c = c.take_waiting-waiting.ensures.table
-
-pub returns-then-is_empty-clause-counted : goal.returns-then-is_empty-clause-counted
-returns-then-is_empty-clause-counted c = counted_still c.rounds.table c.take_waiting-waiting.new.self c.take_waiting-waiting.ensures.counted c.take_waiting-waiting.ensures.nodes c.rounds.invariant.counted
-
-pub returns-then-left-eq0-clause-refuses : goal.returns-then-left-eq0-clause-refuses
-returns-then-left-eq0-clause-refuses c =
-    let t =
-    taken (grammar_view c.args.grammar) c.args.limit c.rounds.left (c.args.limit - c.rounds.left) c.rounds.table c.take_waiting-waiting.new.self c.take_waiting-waiting.result (map item_view c.rounds.done.items)
-    c.rounds.invariant.rounds c.take_waiting-waiting.ensures.nodes c.take_waiting-waiting.ensures.waiting c.take_waiting-waiting.ensures.table c.take_waiting-waiting.ensures.numbered in
-    subst (λ (fs : List Fault). IsFirst fs c.past_cap.result)
-    (sym (cap_refused (grammar_view c.args.grammar) c.args.limit c.rounds.left (c.args.limit - c.rounds.left) (seen_in c.take_waiting-waiting.new.self) (map (λ w. symbol_view w.symbol) c.take_waiting-waiting.result.items) (map item_view c.rounds.done.items)
-    t.round c.if-left-eq0.true))
-    (rw c.deref-then-left-eq0.ensures.value at c.past_cap.ensures)
+    let waiting : List Part = map (λ w. symbol_view w.symbol) c.take_waiting-waiting.result.items in
+    err_refuses _ _ _ c.from_residual-in_err-is_ended.ensures.1
+    (first_where (past_cap waiting) _ _ (c.rounds.left == 0)
+    (λ e. cap_refused (grammar_view c.args.grammar) c.args.limit c.rounds.left (c.args.limit - c.rounds.left) (seen_in c.take_waiting-waiting.new.self) waiting (map item_view c.rounds.done.items) t.round (zero_left c.rounds.left e))
+    (rw c.deref-in-rounds.ensures.value at c.in_err-is_ended.ensures.refuses))
 
 pub returns-in_err-read_round-clause-refuses : goal.returns-in_err-read_round-clause-refuses
 returns-in_err-read_round-clause-refuses c =
@@ -176,10 +132,11 @@ returns-in_err-read_round-clause-refuses c =
     let t =
     taken (grammar_view c.args.grammar) c.args.limit c.rounds.left (c.args.limit - c.rounds.left) c.rounds.table c.take_waiting-waiting.new.self c.take_waiting-waiting.result (map item_view c.rounds.done.items)
     c.rounds.invariant.rounds c.take_waiting-waiting.ensures.nodes c.take_waiting-waiting.ensures.waiting c.take_waiting-waiting.ensures.table c.take_waiting-waiting.ensures.numbered in
+    let left : 0 < c.rounds.left = (c.in_ok-is_ended.ensures.goes_on c.if-branch.false).0 in
     let refused = rw are at c.in_err-read_round.ensures.refuses in
     err_refuses _ _ _ c.from_residual-in_err-read_round.ensures.1
     (round_refused_so (grammar_view c.args.grammar) c.args.limit c.rounds.left (c.rounds.left - 1) (c.args.limit - c.rounds.left) c.take_waiting-waiting.new.self c.take_waiting-waiting.new.self (seen_in c.take_waiting-waiting.new.self)
-    c.take_waiting-waiting.result.items (map item_view c.rounds.done.items) (omega arith) t.round t.making names refl _ refused)
+    c.take_waiting-waiting.result.items (map item_view c.rounds.done.items) (omega (arith, left)) t.round t.making names refl _ refused)
 
 pub rounds-preserved : goal.rounds-preserved
 rounds-preserved c =
@@ -191,9 +148,11 @@ rounds-preserved c =
     taken (grammar_view c.args.grammar) c.args.limit c.rounds.left (c.args.limit - c.rounds.left) c.rounds.table c.take_waiting-waiting.new.self c.take_waiting-waiting.result (map item_view c.rounds.done.items)
     c.rounds.invariant.rounds c.take_waiting-waiting.ensures.nodes c.take_waiting-waiting.ensures.waiting c.take_waiting-waiting.ensures.table c.take_waiting-waiting.ensures.numbered in
     let e = c.in_ok-read_round.ensures in
+    let left : 0 < c.rounds.left = (c.in_ok-is_ended.ensures.goes_on c.if-branch.false).0 in
+    let long : 0 < length c.take_waiting-waiting.result.items = rw c.deref-in-rounds.ensures.value at (c.in_ok-is_ended.ensures.goes_on c.if-branch.false).1 in
     let some : map (λ w. symbol_view w.symbol) c.take_waiting-waiting.result.items ≡ [] → ⊥ = λ f.
-    omega (arith, ap length f, length-map c.take_waiting-waiting.result.items (λ w. symbol_view w.symbol), some_waits c.take_waiting-waiting.result.len (length c.take_waiting-waiting.result.items) c.is_empty.result c.take_waiting-waiting.result.ok.0 c.is_empty.ensures c.if-is_empty.false) in
-    let round : suc (c.args.limit - c.rounds.left) ≡ c.args.limit - (c.rounds.left - 1) = omega (arith, c.rounds.invariant.bound) in
+    omega (arith, ap length f, length-map c.take_waiting-waiting.result.items (λ w. symbol_view w.symbol), long) in
+    let round : suc (c.args.limit - c.rounds.left) ≡ c.args.limit - (c.rounds.left - 1) = omega (arith, left, c.rounds.invariant.bound) in
     record {
       grammar = c.rounds.invariant.grammar;
       table = e.meets.table;
@@ -203,7 +162,7 @@ rounds-preserved c =
       rounds =
           subst (λ (k : ℕ). AtRound (grammar_view c.args.grammar) c.args.limit (c.rounds.left - 1) k (seen_in c.read_round.new.table) (waiting_in c.read_round.new.table) (map item_view c.read_round.new.done.items)) round
           (round_next (grammar_view c.args.grammar) c.args.limit c.rounds.left (c.rounds.left - 1) (c.args.limit - c.rounds.left) c.take_waiting-waiting.new.self c.read_round.new.table (seen_in c.take_waiting-waiting.new.self)
-          c.take_waiting-waiting.result.items (map item_view c.rounds.done.items) (omega arith) t.round t.making names refl (map item_view c.read_round.new.done.items) c.take_waiting-waiting.ensures.none some
+          c.take_waiting-waiting.result.items (map item_view c.rounds.done.items) (omega (arith, left)) t.round t.making names refl (map item_view c.read_round.new.done.items) c.take_waiting-waiting.ensures.none some
           (rw are at e.meets) (rw are at e.refuses) (rw are at e.waits) (rw are at e.value));
       made =
           subst (λ (k : ℕ). MadeSo (grammar_view c.args.grammar) (wholes_in c.read_round.new.table) k (map made_view c.read_round.new.made.items)) round

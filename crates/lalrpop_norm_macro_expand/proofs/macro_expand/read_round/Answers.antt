@@ -1,7 +1,7 @@
-use Rattle.std.proofs.Common.{◌≡◌, ◌++◌, ◌-◌, List, length, map, reverse, arith, sym, ap, ap₂, ◌∙◌, subst}
+use Rattle.std.proofs.Common.{◌≡◌, ◌++◌, ◌-◌, ◌+◌, ℕ, List, length, map, drop, reverse, arith, sym, ap, ap₂, ◌∙◌, subst}
 use Rattle.std.specs.List.{flat_map}
-use Rattle.std.proofs.lemmas.List.{with_items_is}
-use borrow.Rule.Slice.PartMut.{put_mid}
+use Rattle.std.proofs.lemmas.List.{with_items_is, length-append, length-drop, length-map, take_all}
+use borrow.Rule.Slice.PartMut.{put_mid, mid_of}
 use Rattle.lalrpop_norm_tree.specs.declared.items.GrammarItem.{GrammarItem}
 use Rattle.lalrpop_norm_tree.specs.Items.{item_view}
 use Rattle.lalrpop_norm_faults.specs.Faults.{Fault}
@@ -9,10 +9,32 @@ use Rattle.lalrpop_norm_nodes.proofs.EnterLemmas.{err_same}
 use Rattle.lalrpop_norm_nodes.specs.Tables.{wholes_in, TableMeets, refused_in}
 use Rattle.lalrpop_norm_nodes.specs.Waits.{LeavesWaiting}
 use Rattle.lalrpop_norm_macro_expand_rules.specs.Macros.{macros_in}
-use Rattle.lalrpop_norm_macro_expand_rules.specs.Pending.{PendingData, item_of, met_in_pending, shown_in_pending, pending_read, filling_view}
+use Rattle.lalrpop_norm_macro_expand_rules.specs.Pending.{PendingData, item_of, filling_of, met_in_pending, shown_in_pending, pending_read, filling_view}
+use Rattle.lalrpop_norm_macro_expand.specs.Made.{made_view}
 use Rattle.lalrpop_norm_macro_expand.specs.Making.{pending_for}
 use Rattle.lalrpop_norm_macro_expand.proofs.BehindLemmas.{last_filled, still_long, read_behind}
 use Rattle.lalrpop_norm_macro_expand.proofs.macro_expand.read_round.Goals as goal
+
+-- of the rules behind those of the rounds before there are as many as were made
+as_many : (old all : List GrammarItem) (first many : ℕ) (ps : List PendingData) → first ≡ length old → map item_view all ≡ map item_view old ++ map item_of ps →
+    many ≡ length ps → many ≡ length (mid_of first (length all - first) all)
+as_many old all first many ps before rules e =
+    let long : length all ≡ first + length ps =
+    omega (arith, before, ap length rules, length-map all item_view, length-map old item_view, length-map ps item_of, length-append (map item_view old) (map item_of ps)) in
+    let last : length (mid_of first (length all - first) all) ≡ length (drop first all) = ap length (take_all (length all - first) (drop first all) (omega (arith, length-drop first all))) in
+    omega (arith, long, e, last, length-drop first all)
+
+pub read_pending-requires-clause-readable : goal.read_pending-requires-clause-readable
+read_pending-requires-clause-readable c = c.in_ok-fillings.ensures.readable
+
+pub read_pending-requires-clause-long : goal.read_pending-requires-clause-long
+read_pending-requires-clause-long c =
+    let ws = wholes_in c.args.table.now in
+    let ps : List PendingData = flat_map (pending_for ws (macros_in c.args.makers.now.macros)) (reverse c.args.waiting.items) in
+    let old : List GrammarItem = c.args.done.now.items in
+    as_many old c.deref_mut.result.now c.len-first.result (length c.in_ok-fillings.fillings.items) ps (omega (arith, c.len-first.ensures, c.args.done.now.ok.0))
+    (ap (map item_view) c.deref_mut.ensures.value ∙ c.in_ok-fillings.ensures.rules ∙ ap (λ (xs : List GrammarItem). map item_view xs ++ map item_of ps) c.in_ok-make_room.ensures)
+    (sym (length-map c.in_ok-fillings.fillings.items (filling_view ws)) ∙ ap length c.in_ok-fillings.ensures.fillings ∙ length-map ps filling_of)
 
 pub returns-in_err-read_pending-clause-refuses : goal.returns-in_err-read_pending-clause-refuses
 returns-in_err-read_pending-clause-refuses c =
@@ -79,3 +101,9 @@ returns-clause-value c =
     let long = still_long old all c.len-first.result ps before rules new c.read_pending.auto.rules in
     ap (map item_view) (with_items_is c.make_rules.new.done (put_mid c.len-first.result (length all - c.len-first.result) all new) (long ∙ c.deref_mut.ensures.len))
     ∙ read_behind old all c.len-first.result ps before rules new (c.in_ok-read_pending.ensures.value ∙ ap (map pending_read) are)
+
+pub returns-clause-counted : goal.returns-clause-counted
+returns-clause-counted c = c.in_ok-read_pending.ensures.counted
+
+pub returns-clause-made : goal.returns-clause-made
+returns-clause-made c = ap (map made_view) c.in_ok-reserve.ensures.items ∙ c.in_ok-fillings.ensures.made

@@ -34,7 +34,8 @@ returns-clause-pending c =
     let given : List Given = c.in_ok-given.given.items in
     let i : Instance = c.in_ok-instance.instance in
     let made = rw c.deref.ensures.value at c.in_ok-instance.ensures in
-    ap₂ (unread_rule (rule_view i.rule)) (whole_found params given c.args.called.now.numbers c.requires.numbers ws) (shown_found params given c.args.called.now.numbers c.requires.numbers)
+    c.with_given-pending.ensures.pending ws
+    ∙ ap₂ (unread_rule (rule_view i.rule)) (whole_found params given c.args.called.now.numbers c.requires.numbers ws) (shown_found params given c.args.called.now.numbers c.requires.numbers)
     ∙ call_is ws (rule_view i.rule) (instance_shape c.args.head.name c.args.head.span (rule_view c.args.called.now.definition) (parts_view c.args.arguments.items)) params given
     (call_parts (kind_at ws c.args.number)) c.args.arguments.items made.1.0 c.in_ok-given.ensures.numbers c.in_ok-given.ensures.symbols
 
@@ -45,9 +46,10 @@ returns-clause-readable c =
     let given : List Given = c.in_ok-given.given.items in
     let symbols = c.in_ok-given.ensures.symbols in
     let shallow = shallow_call (kind_at ws c.args.number) c.args.called.now.definition.name.0 (parts_view c.args.arguments.items) c.requires.shallow.same in
-    given_found params given c.args.called.now.numbers c.requires.numbers ws
+    c.with_given-pending.ensures.readable ws
+    (given_found params given c.args.called.now.numbers c.requires.numbers ws
     (are_given ws params given (call_parts (kind_at ws c.args.number)) c.in_ok-given.ensures.numbers
-    (rw symbols (parts_stay c.args.called.now.definition.name.0 (parts_view c.args.arguments.items) c.requires.shallow.replaced)) (rw symbols shallow.same))
+    (rw symbols (parts_stay c.args.called.now.definition.name.0 (parts_view c.args.arguments.items) c.requires.shallow.replaced)) (rw symbols shallow.same)))
 
 pub returns-clause-kept : goal.returns-clause-kept
 returns-clause-kept c = (rw c.deref.ensures.value at c.in_ok-instance.ensures).1.1
