@@ -72,7 +72,10 @@ fn check_alternative(
         Some(clause) => {
             let given = clause_value(alloc, types, &clause)?;
             let own = types.lookup_nonterminal_type(name);
-            check_same(alloc, name, alternative.span, &given, own)
+            let agrees = check_same(alloc, name, alternative.span, &given, own);
+            // By a call: where a value of this type ends in place, its release is proved there, variant by variant.
+            drop(given);
+            agrees
         }
         None => Ok(()),
     }

@@ -66,13 +66,18 @@ fn add_conversion(
 ) -> Result<(), NoMemory>
     ensures { OnOk result (rows_seen rows.new.items ≡ rows_seen rows.old.items ++ conversion_row (conversion_view conversion.now)) }
 {
+    let chosen = chosen_types(alloc, &conversion.to)?;
     let terminal = conversion.from.clone()?;
-    match type_of_chosen(chosen_types(alloc, &conversion.to)?) {
+    match type_of_chosen(chosen) {
         Some(ty) => {
             rows.push((terminal, ty))?;
             Ok(())
         }
-        None => Ok(()),
+        None => {
+            // By a call: where a value of this type ends in place, its release is proved there, variant by variant.
+            drop(terminal);
+            Ok(())
+        }
     }
 }
 
