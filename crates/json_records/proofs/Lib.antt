@@ -5,4 +5,4 @@ pub mod Whole
 pub mod Rows
 pub mod Named
 pub mod Tupled
-pub mod TwoNaturals
+mod LastItems

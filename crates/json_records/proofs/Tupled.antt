@@ -62,17 +62,6 @@ row_past (t ∷ ts) (h ∷ hs) (suc k) (e ∷ ds) d long r =
     let more = row_past ts hs k ds d short (behind t ts h hs k e ds r) in
     record { at = ap suc more.at; hold = (r.hold.0, more.hold) }
 
-module _ {T : Type 0} (form : T → Data) (can : Data → Bool) (o : Option T) (d : Data) (made : MatchOption o (can d ≡ false) (λ x. d ≡ form x)) where
-  -- the first item, the second and the third, of which o was made
-  pub row_first : (ts : List (Data → Bool)) (h : Option Data) (hs : List (Option Data)) (ds : List Data) → RowSoFar (can ∷ ts) (h ∷ hs) 0 ds → RowSoFar (can ∷ ts) (option_map form o ∷ hs) 1 (ds ++ d ∷ [])
-  row_first ts h hs ds = row_more (can ∷ ts) (h ∷ hs) (option_map form o ∷ hs) 0 ds d (made_here form can o d made, refl)
-
-  pub row_second : (t : Data → Bool) (ts : List (Data → Bool)) (g h : Option Data) (hs : List (Option Data)) (ds : List Data) → RowSoFar (t ∷ can ∷ ts) (g ∷ h ∷ hs) 1 ds → RowSoFar (t ∷ can ∷ ts) (g ∷ option_map form o ∷ hs) 2 (ds ++ d ∷ [])
-  row_second t ts g h hs ds = row_more (t ∷ can ∷ ts) (g ∷ h ∷ hs) (g ∷ option_map form o ∷ hs) 1 ds d (refl, (made_here form can o d made, refl))
-
-  pub row_third : (s t : Data → Bool) (ts : List (Data → Bool)) (f g h : Option Data) (hs : List (Option Data)) (ds : List Data) → RowSoFar (s ∷ t ∷ can ∷ ts) (f ∷ g ∷ h ∷ hs) 2 ds → RowSoFar (s ∷ t ∷ can ∷ ts) (f ∷ g ∷ option_map form o ∷ hs) 3 (ds ++ d ∷ [])
-  row_third s t ts f g h hs ds = row_more (s ∷ t ∷ can ∷ ts) (f ∷ g ∷ h ∷ hs) (f ∷ g ∷ option_map form o ∷ hs) 2 ds d (refl, (refl, (made_here form can o d made, refl)))
-
 -- ---- the end
 
 some_is : (a b : Data) → ◌≡◌ {A = Option Data} (Some a) (Some b) → a ≡ b
@@ -90,7 +79,7 @@ all_read (t ∷ ts) (x ∷ es) (d ∷ ds) hold e = rw (some_is d x hold.0, all_r
 pub row_made : (ts : List (Data → Bool)) (hs : List (Option Data)) (es : List Data) (k : ℕ) (ds : List Data) → k ≡ length ts → hs ≡ map (λ e. Some e) es → RowSoFar ts hs k ds → array (items_before ds no_items) ≡ list_form es
 row_made ts hs es k ds end held r = ap array (to_items_is ds) ∙ ap list_form (all_read ts es ds (subst (λ xs. RowHolds ts xs ds) held r.hold) (sym r.at ∙ end))
 
-both_false : (a : Bool) → (a && false) ≡ false
+pub both_false : (a : Bool) → (a && false) ≡ false
 both_false true = refl
 both_false false = refl
 

@@ -19,7 +19,7 @@ use Rattle.std.proofs.Common.{Bor, ◌^◌, nat_lt, MatchOption, rules}
 use Rattle.serde_json.specs.Data.{Num, unsigned, negative, float, Data, null, boolean, number, string, array, object, Items, no_items, item, Members, no_members, put}
 use Rattle.serde_json.specs.Read.{number_of, of_json, converted}
 use Rattle.json_records.proofs.Saying.{of_array, of_object, item_read, nothing, items_over, member_read, member_refused, no_key_there, members_over}
-use Rattle.json_records.specs.Reading.{IsRead, may_be, pass_all, AreMade, is_text, is_truth, is_natural, is_object, is_array, data_of, items_of, members_of, MembersSoFar, NoMembers, items_before, ItemsSoFar, NoItems}
+use Rattle.json_records.specs.Reading.{IsRead, may_be, is_list, pass_all, AreMade, is_text, is_truth, is_natural, is_short, is_object, is_array, data_of, items_of, members_of, MembersSoFar, NoMembers, items_before, ItemsSoFar, NoItems}
 
 -- ---- no value begins there
 
@@ -204,6 +204,9 @@ held P Q is p = subst (λ o. MatchOption o P Q) is p
 pub not_held : {T : Type 0} (P : Type 0) (Q : T → Type 0) {o : Option T} → o ≡ None → MatchOption o P Q → P
 not_held P Q is p = subst (λ o. MatchOption o P Q) is p
 
+pub read_same : {T : Type 0} (form : T → Data) (can : Data → Truth) (n : ℕ) (start rest : List Token) {o p : Option T} → o ≡ p → IsRead form can n start rest o → IsRead form can n start rest p
+read_same form can n start rest is done = subst (λ q. IsRead form can n start rest q) is done
+
 -- what was read behind something leaves less than it did
 pub less_than : {k m n : ℕ} → k ≤ m → m < n → k < n
 less_than p q = omega (arith, p, q)
@@ -348,6 +351,31 @@ natural_read n s ts r e =
 pub below : (m : ℕ) → m < 65536 → nat_lt m (2 ^ 16) ≡ true
 below m h = search (rules, h)
 
+above : (m : ℕ) → 65536 ≤ m → nat_lt m (2 ^ 16) ≡ false
+above m h = search (rules, h)
+
+no_short : (d : Data) → is_natural d ≡ false → is_short d ≡ false
+no_short null e = refl
+no_short (boolean b) e = refl
+no_short (number (unsigned m)) e = absurd (cc)
+no_short (number (negative z)) e = refl
+no_short (number (float f)) e = refl
+no_short (string s) e = refl
+no_short (array ds) e = refl
+no_short (object ms) e = refl
+
+module _ (n : ℕ) (start rest : List Token) {o : Option ℕ} (done : IsRead (λ k. number (unsigned k)) is_natural n start rest o) where
+  pub short_read : (m : ℕ) → o ≡ Some m → IsRead (λ k. number (unsigned k)) is_short n start rest (Some m)
+  short_read m is = record { means = done.means; read = done.read; made = held (is_natural done.means ≡ false) (λ k. done.means ≡ number (unsigned k)) is done.made }
+
+  pub not_short : (m : ℕ) → 65536 ≤ m → o ≡ Some m → IsRead (λ k. number (unsigned k)) is_short n start rest None
+  not_short m large is =
+      let said : done.means ≡ number (unsigned m) = held (is_natural done.means ≡ false) (λ k. done.means ≡ number (unsigned k)) is done.made in
+      record { means = done.means; read = done.read; made = ap is_short said ∙ above m large }
+
+  pub none_short : o ≡ None → IsRead (λ k. number (unsigned k)) is_short n start rest None
+  none_short is = record { means = done.means; read = done.read; made = no_short done.means (not_held (is_natural done.means ≡ false) (λ k. done.means ≡ number (unsigned k)) is done.made) }
+
 pub no_null : (can : Data → Truth) (t : Found) (d : Data) → (t ≡ Null → ⊥) → Starts (token_of t) d → can d ≡ false → may_be can d ≡ false
 no_null can (String s) d never p fails = rw p (subst (λ e. can e ≡ false) p fails)
 no_null can (Bool b) d never p fails = rw p (subst (λ e. can e ≡ false) p fails)
@@ -361,6 +389,14 @@ no_null can (Key s) d never p fails = absurd p
 no_null can Bad d never p fails = absurd p
 
 -- ---- items of which something is made
+
+pub no_list : (can : Data → Truth) (d : Data) → is_array d ≡ false → is_list can d ≡ false
+no_list can null e = refl
+no_list can (boolean b) e = refl
+no_list can (number x) e = refl
+no_list can (string s) e = refl
+no_list can (array ds) e = absurd (cc)
+no_list can (object ms) e = refl
 
 pub to_items_is : (ds : List Data) → items_before ds no_items ≡ to_items ds
 to_items_is [] = refl

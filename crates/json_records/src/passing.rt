@@ -39,7 +39,7 @@ pub fn pass<'a>(first: Token<'a>, reader: &mut Reader<'a>, depth: usize) -> Resu
 
 /// Passes over the items that are left of an array, and its bracket.
 #[cycle(pass)]
-fn pass_items(reader: &mut Reader<'_>, depth: usize) -> Result<(), ReadError>
+pub(crate) fn pass_items(reader: &mut Reader<'_>, depth: usize) -> Result<(), ReadError>
     ensures ok { OnOk result ((ds : Items) × (items_of depth reader.old ≡ Some (ds, reader.new))) }
     ensures err { IsErrOf result ReadError.NotJson → items_of depth reader.old ≡ None }
     ensures shorter { OnOk result (length reader.new ≤ length reader.old) }

@@ -1,13 +1,14 @@
 //! Two or three values, each of its own type: an array of exactly these.
-ghost use Rattle.std.specs.Prelude.{◌≡◌, ◌⊎◌, ◌≤◌, [], ◌∷◌, length, Some, None, MatchOption, IfOk, OnOk, IsErrOf};
+ghost use Rattle.std.specs.Prelude.{◌≡◌, ◌⊎◌, ◌≤◌, [], ◌∷◌, length, Some, None, false, MatchOption, IfOk, OnOk, IsErrOf};
 ghost use Rattle.json.specs.Reads.{token_of};
-ghost use Rattle.serde_json.specs.Data.{number as numeral, unsigned};
-ghost use Rattle.json_records.specs.Reading.{data_of, IsRead, is_natural, list_form};
-ghost use Rattle.json_records.specs.Rows.{is_row};
+ghost use Rattle.serde_json.specs.Data.{Items, number as numeral, unsigned};
+ghost use Rattle.serde_json.specs.View.{items_of as to_items};
+ghost use Rattle.json_records.specs.Reading.{data_of, items_of, IsRead, is_natural, list_form};
+ghost use Rattle.json_records.specs.Rows.{pass_row, is_row};
 
 use crate::error::{ReadError, next_item, next_token};
 use crate::lists::Reads;
-use crate::passing::pass;
+use crate::passing::{pass, pass_items};
 use crate::scalars::{natural, open_array};
 use json::{Reader, Token};
 use std::alloc::Global;
@@ -56,35 +57,13 @@ pub fn read_pair<'a, A: Drop, B: Drop, K: Reads<A>, L: Reads<B>>(
     ensures err { IsErrOf result ReadError.NotJson → data_of depth (token_of first.entry ∷ reader.old) ≡ None }
     ensures shorter { OnOk result (length reader.new ≤ length reader.old) }
 {
-    let Some(depth) = open_array(first, reader, depth)? else {
-        return Ok(None);
-    };
-    let mut one = None;
-    let mut two = None;
-    let mut place = 0usize;
-    while let Some(first) = next_item(reader)? {
-        match place {
-            0 => {
-                one = K::read(alloc, first, reader, depth)?;
-                place = 1;
-            }
-            1 => {
-                two = L::read(alloc, first, reader, depth)?;
-                place = 2;
-            }
-            _ => {
-                pass(first, reader, depth)?;
-                place = 3;
-            }
-        }
+    match open_array(first, reader, depth)? {
+        Some(depth) => last_two::<A, B, K, L>(alloc, reader, depth),
+        None => Ok(None),
     }
-    if place != 2 {
-        return Ok(None);
-    }
-    Ok(both(one, two))
 }
 
-/// The array of two natural numbers below 2 ^ 64. Its places are taken one after another: `read_pair` would ask at each which it is.
+/// The array of two natural numbers below 2 ^ 64.
 pub fn read_two_naturals<'a>(
     first: Token<'a>,
     reader: &mut Reader<'a>,
@@ -94,27 +73,10 @@ pub fn read_two_naturals<'a>(
     ensures err { IsErrOf result ReadError.NotJson → data_of depth (token_of first.entry ∷ reader.old) ≡ None }
     ensures shorter { OnOk result (length reader.new ≤ length reader.old) }
 {
-    let Some(depth) = open_array(first, reader, depth)? else {
-        return Ok(None);
-    };
-    let Some(first) = next_item(reader)? else {
-        return Ok(None);
-    };
-    let one = natural(first, reader, depth)?;
-    let Some(second) = next_item(reader)? else {
-        return Ok(None);
-    };
-    let two = natural(second, reader, depth)?;
-    let mut longer = false;
-    while !reader.take_end_array() {
-        let further = next_token(reader)?;
-        pass(further, reader, depth)?;
-        longer = true;
+    match open_array(first, reader, depth)? {
+        Some(depth) => last_naturals(reader, depth),
+        None => Ok(None),
     }
-    if longer {
-        return Ok(None);
-    }
-    Ok(both(one, two))
 }
 
 /// The array of three values, each of which has its own reader.
@@ -128,35 +90,123 @@ pub fn read_triple<'a, A: Drop, B: Drop, C: Drop, K: Reads<A>, L: Reads<B>, M: R
     ensures err { IsErrOf result ReadError.NotJson → data_of depth (token_of first.entry ∷ reader.old) ≡ None }
     ensures shorter { OnOk result (length reader.new ≤ length reader.old) }
 {
-    let Some(depth) = open_array(first, reader, depth)? else {
+    match open_array(first, reader, depth)? {
+        Some(depth) => last_three::<A, B, C, K, L, M>(alloc, reader, depth),
+        None => Ok(None),
+    }
+}
+
+/// The last three items of an array.
+fn last_three<'a, A: Drop, B: Drop, C: Drop, K: Reads<A>, L: Reads<B>, M: Reads<C>>(
+    alloc: Global,
+    reader: &mut Reader<'a>,
+    depth: usize,
+) -> Result<Option<(A, B, C)>, ReadError>
+    ensures ok { IfOk result (λ o. (ds : Items) × (items_of depth reader.old ≡ Some (ds, reader.new)) × MatchOption o (pass_row (K.Reads.can ∷ L.Reads.can ∷ M.Reads.can ∷ []) ds ≡ false) (λ p. ds ≡ to_items (K.Reads.form p.0 ∷ L.Reads.form p.1 ∷ M.Reads.form p.2 ∷ []))) }
+    ensures err { IsErrOf result ReadError.NotJson → items_of depth reader.old ≡ None }
+    ensures shorter { OnOk result (length reader.new ≤ length reader.old) }
+{
+    let Some(first) = next_item(reader)? else {
         return Ok(None);
     };
-    let mut one = None;
-    let mut two = None;
-    let mut three = None;
-    let mut place = 0usize;
-    while let Some(first) = next_item(reader)? {
-        match place {
-            0 => {
-                one = K::read(alloc, first, reader, depth)?;
-                place = 1;
-            }
-            1 => {
-                two = L::read(alloc, first, reader, depth)?;
-                place = 2;
-            }
-            2 => {
-                three = M::read(alloc, first, reader, depth)?;
-                place = 3;
-            }
-            _ => {
-                pass(first, reader, depth)?;
-                place = 4;
-            }
-        }
+    let one = K::read(alloc, first, reader, depth)?;
+    let others = last_two::<B, C, L, M>(alloc, reader, depth)?;
+    Ok(in_front(one, others))
+}
+
+/// All three, where the first and the other two are there.
+fn in_front<A: Drop, B: Drop, C: Drop>(one: Option<A>, others: Option<(B, C)>) -> Option<(A, B, C)>
+    ensures { MatchOption result ((one ≡ None) ⊎ (others ≡ None)) (λ p. (one ≡ Some p.0) × (others ≡ Some (p.1, p.2))) }
+{
+    match both(one, others) {
+        Some((first, (second, third))) => Some((first, second, third)),
+        None => None,
     }
-    if place != 3 {
+}
+
+/// The last two items of an array.
+fn last_two<'a, A: Drop, B: Drop, K: Reads<A>, L: Reads<B>>(
+    alloc: Global,
+    reader: &mut Reader<'a>,
+    depth: usize,
+) -> Result<Option<(A, B)>, ReadError>
+    ensures ok { IfOk result (λ o. (ds : Items) × (items_of depth reader.old ≡ Some (ds, reader.new)) × MatchOption o (pass_row (K.Reads.can ∷ L.Reads.can ∷ []) ds ≡ false) (λ p. ds ≡ to_items (K.Reads.form p.0 ∷ L.Reads.form p.1 ∷ []))) }
+    ensures err { IsErrOf result ReadError.NotJson → items_of depth reader.old ≡ None }
+    ensures shorter { OnOk result (length reader.new ≤ length reader.old) }
+{
+    let Some(first) = next_item(reader)? else {
+        return Ok(None);
+    };
+    let one = K::read(alloc, first, reader, depth)?;
+    let two = last_one::<B, L>(alloc, reader, depth)?;
+    Ok(both(one, two))
+}
+
+/// The last item of an array.
+fn last_one<'a, A: Drop, K: Reads<A>>(
+    alloc: Global,
+    reader: &mut Reader<'a>,
+    depth: usize,
+) -> Result<Option<A>, ReadError>
+    ensures ok { IfOk result (λ o. (ds : Items) × (items_of depth reader.old ≡ Some (ds, reader.new)) × MatchOption o (pass_row (K.Reads.can ∷ []) ds ≡ false) (λ x. ds ≡ to_items (K.Reads.form x ∷ []))) }
+    ensures err { IsErrOf result ReadError.NotJson → items_of depth reader.old ≡ None }
+    ensures shorter { OnOk result (length reader.new ≤ length reader.old) }
+{
+    let Some(first) = next_item(reader)? else {
+        return Ok(None);
+    };
+    let one = K::read(alloc, first, reader, depth)?;
+    if !ends(reader, depth)? {
         return Ok(None);
     }
-    Ok(all_three(one, two, three))
+    Ok(one)
+}
+
+/// The last two items of an array, which are natural numbers below 2 ^ 64.
+#[inline(always)]
+fn last_naturals<'a>(reader: &mut Reader<'a>, depth: usize) -> Result<Option<(u64, u64)>, ReadError>
+    ensures ok { IfOk result (λ o. (ds : Items) × (items_of depth reader.old ≡ Some (ds, reader.new)) × MatchOption o (pass_row (is_natural ∷ is_natural ∷ []) ds ≡ false) (λ p. ds ≡ to_items (numeral (unsigned p.0) ∷ numeral (unsigned p.1) ∷ []))) }
+    ensures err { IsErrOf result ReadError.NotJson → items_of depth reader.old ≡ None }
+    ensures shorter { OnOk result (length reader.new ≤ length reader.old) }
+{
+    let Some(first) = next_item(reader)? else {
+        return Ok(None);
+    };
+    let one = natural(first, reader, depth)?;
+    let two = last_natural(reader, depth)?;
+    Ok(both(one, two))
+}
+
+/// The last item of an array, which is a natural number below 2 ^ 64.
+#[inline(always)]
+fn last_natural<'a>(reader: &mut Reader<'a>, depth: usize) -> Result<Option<u64>, ReadError>
+    ensures ok { IfOk result (λ o. (ds : Items) × (items_of depth reader.old ≡ Some (ds, reader.new)) × MatchOption o (pass_row (is_natural ∷ []) ds ≡ false) (λ n. ds ≡ to_items (numeral (unsigned n) ∷ []))) }
+    ensures err { IsErrOf result ReadError.NotJson → items_of depth reader.old ≡ None }
+    ensures shorter { OnOk result (length reader.new ≤ length reader.old) }
+{
+    let Some(first) = next_item(reader)? else {
+        return Ok(None);
+    };
+    let one = natural(first, reader, depth)?;
+    if ends(reader, depth)? {
+        Ok(one)
+    } else {
+        Ok(None)
+    }
+}
+
+/// Whether an array ends here. What is left of it is passed over.
+#[inline(always)]
+fn ends(reader: &mut Reader<'_>, depth: usize) -> Result<bool, ReadError>
+    ensures ok { IfOk result (λ o. (ds : Items) × (items_of depth reader.old ≡ Some (ds, reader.new)) × (o ≡ pass_row [] ds)) }
+    ensures err { IsErrOf result ReadError.NotJson → items_of depth reader.old ≡ None }
+    ensures shorter { OnOk result (length reader.new ≤ length reader.old) }
+{
+    if reader.take_end_array() {
+        return Ok(true);
+    }
+    let further = next_token(reader)?;
+    pass(further, reader, depth)?;
+    pass_items(reader, depth)?;
+    Ok(false)
 }

@@ -1,7 +1,7 @@
 use Rattle.std.proofs.Common.{◌≡◌, ◌∷◌, ◌++◌, ◌<◌, [], length, map, true, false, refl, sym, ap, ◌∙◌, subst, rules}
 use Rattle.json.specs.Reads.{token_of}
 use Rattle.serde_json.specs.Data.{array, no_items}
-use Rattle.json_records.specs.Reading.{data_of, items_before, list_form, AreMade}
+use Rattle.json_records.specs.Reading.{data_of, items_before, list_form, AreMade, ItemsSoFar}
 use Rattle.json_records.proofs.Turns as turn
 use Rattle.json_records.proofs.lists.read_list.Goals as goal
 
@@ -27,7 +27,7 @@ returns-in_err-first g c =
     let failed = c.from_residual-in_err-first in
     record {
       ok = turn.no_answer _ failed.result failed.ensures.0;
-      err = λ refused. turn.array_stop (token_of c.args.first) c.args.depth c.in-Some.depth c.args.reader.now opened.1 opened.0 (turn.items_stop c.in-Some.depth c.args.reader.now l.reader l.invariant.0 l.invariant.1 (c.in_err-first.ensures.err refl c.in-Some.depth));
+      err = λ refused. turn.array_stop (token_of c.args.first) c.args.depth c.in-Some.depth c.args.reader.now opened.1 opened.0 (turn.items_stop c.in-Some.depth c.args.reader.now l.reader l.invariant.0 l.invariant.1 (c.in_err-first.ensures.err (refl {a = true}) c.in-Some.depth));
       shorter = turn.no_answer _ failed.result failed.ensures.0;
     }
 
@@ -104,3 +104,34 @@ loop-list-smaller g c = turn.less_than c.in_ok-item.ensures.shorter c.in_ok-firs
 
 pub loop-list-smaller-in_ok-push-in-Some-3 : goal.loop-list-smaller-in_ok-push-in-Some-3
 loop-list-smaller-in_ok-push-in-Some-3 g c = turn.less_than c.in_ok-item.ensures.shorter c.in_ok-first.ensures.shorter
+
+pub loop-list-init : goal.loop-list-init
+loop-list-init g c =
+    let opened = turn.held _ _ c.in-Some.is c.in_ok-depth.ensures.ok in (
+      [],
+      subst (λ ts. ItemsSoFar c.in-Some.depth c.args.reader.now ts []) (sym opened.2) (turn.items_start c.in-Some.depth c.args.reader.now),
+      ap (map g.K.Reads.form) (sym c.new-list.ensures.items),
+    )
+
+pub returns-in_default-clause-ok : goal.returns-in_default-clause-ok
+returns-in_default-clause-ok g c =
+    let other = turn.not_held _ _ c.in_default.is c.in_ok-depth.ensures.ok in
+    record { means = other.0; read = other.1; made = turn.no_list g.K.Reads.can other.0 other.2 }
+
+pub returns-in_err-push-in-Some-3 : goal.returns-in_err-push-in-Some-3
+returns-in_err-push-in-Some-3 g c =
+    let failed = c.from_residual-in_err-push-in-Some-3 in
+    record {
+      ok = turn.no_answer _ failed.result failed.ensures.0;
+      err = λ refused. absurd (c.in_err-push-in-Some-3.ensures.err (turn.same_error _ failed.ensures refused));
+      shorter = turn.no_answer _ failed.result failed.ensures.0;
+    }
+
+pub returns-in_err-fitted : goal.returns-in_err-fitted
+returns-in_err-fitted g c =
+    let failed = c.from_residual-in_err-fitted in
+    record {
+      ok = turn.no_answer _ failed.result failed.ensures.0;
+      err = λ refused. absurd (c.in_err-fitted.ensures.err (turn.same_error _ failed.ensures refused));
+      shorter = turn.no_answer _ failed.result failed.ensures.0;
+    }

@@ -1,7 +1,6 @@
-use Rattle.std.proofs.Common.{◌≡◌, ◌⊎◌, inl, inr, ◌-◌, suc, ◌∷◌, ◌++◌, ◌<◌, List, [], length, Some, None, refl, sym, ap, ◌∙◌, arith, rules}
+use Rattle.std.proofs.Common.{◌≡◌, true, inl, inr, ◌-◌, suc, ◌∷◌, ◌++◌, ◌<◌, [], length, Some, None, refl, ap, ◌∙◌, arith, rules}
 use Rattle.json.specs.Json.{read_key, after_end_array}
 use Rattle.json.specs.Reads.{token_of}
-use Rattle.json.specs.Token.{Token}
 use Rattle.serde_json.specs.Data.{array, object, number, no_items, no_members, put}
 use Rattle.json_records.specs.Reading.{data_of, items_before}
 use Rattle.json_records.proofs.Turns as turn
@@ -88,3 +87,54 @@ pub pass_members-returns-clause-ok : goal.pass_members-returns-clause-ok
 pass_members-returns-clause-ok t c =
     let l = c.loop-first in
     (l.invariant.0, turn.members_all c.args.depth c.args.reader.now l.reader l.invariant.0 l.invariant.1 c.next_member.new.reader (grind arith))
+
+pub pass_items-loop-first-init : goal.pass_items-loop-first-init
+pass_items-loop-first-init t c = ([], turn.items_start c.args.depth c.args.reader.now)
+
+pub pass_items-returns-in_err-first : goal.pass_items-returns-in_err-first
+pass_items-returns-in_err-first t c =
+    let failed = c.from_residual in
+    record {
+      ok = turn.no_answer _ failed.result failed.ensures.0;
+      err = λ refused. turn.items_stop c.args.depth c.args.reader.now c.loop-first.reader c.loop-first.invariant.0 c.loop-first.invariant.1 (c.in_err-first.ensures.err (refl {a = true}) c.args.depth);
+      shorter = turn.no_answer _ failed.result failed.ensures.0;
+    }
+
+pub pass_members-returns-in_err-first : goal.pass_members-returns-in_err-first
+pass_members-returns-in_err-first t c =
+    let failed = c.from_residual in
+    record {
+      ok = turn.no_answer _ failed.result failed.ensures.0;
+      err = λ refused. turn.members_stop c.args.depth c.args.reader.now c.loop-first.reader c.loop-first.invariant.0 c.loop-first.invariant.1 (c.in_err-first.ensures.err (refl {a = true}) c.args.depth);
+      shorter = turn.no_answer _ failed.result failed.ensures.0;
+    }
+
+pub pass_items-returns-in_err-pass-clause-ok : goal.pass_items-returns-in_err-pass-clause-ok
+pass_items-returns-in_err-pass-clause-ok t c = turn.no_answer _ c.from_residual-in_err-pass.result c.from_residual-in_err-pass.ensures.0
+
+pub pass_items-returns-in_err-pass-clause-shorter : goal.pass_items-returns-in_err-pass-clause-shorter
+pass_items-returns-in_err-pass-clause-shorter t c = turn.no_answer _ c.from_residual-in_err-pass.result c.from_residual-in_err-pass.ensures.0
+
+pub pass_members-returns-in_err-pass-clause-ok : goal.pass_members-returns-in_err-pass-clause-ok
+pass_members-returns-in_err-pass-clause-ok t c = turn.no_answer _ c.from_residual-in_err-pass.result c.from_residual-in_err-pass.ensures.0
+
+pub pass_members-returns-in_err-pass-clause-shorter : goal.pass_members-returns-in_err-pass-clause-shorter
+pass_members-returns-in_err-pass-clause-shorter t c = turn.no_answer _ c.from_residual-in_err-pass.result c.from_residual-in_err-pass.ensures.0
+
+pub pass_items-returns-clause-shorter : goal.pass_items-returns-clause-shorter
+pass_items-returns-clause-shorter t c = turn.no_more c.loop-first.invariant.1.shorter c.in_ok-first.ensures.shorter
+
+pub pass_items-returns-clause-err : goal.pass_items-returns-clause-err
+pass_items-returns-clause-err t c = turn.never_refused
+
+pub pass_items-loop-first-smaller : goal.pass_items-loop-first-smaller
+pass_items-loop-first-smaller t c = turn.less_than c.in_ok-pass.ensures.shorter c.in_ok-first.ensures.shorter
+
+pub pass_members-returns-clause-shorter : goal.pass_members-returns-clause-shorter
+pass_members-returns-clause-shorter t c = turn.no_more c.loop-first.invariant.1.shorter c.in_ok-first.ensures.shorter
+
+pub pass_members-returns-clause-err : goal.pass_members-returns-clause-err
+pass_members-returns-clause-err t c = turn.never_refused
+
+pub pass_members-loop-first-smaller : goal.pass_members-loop-first-smaller
+pass_members-loop-first-smaller t c = turn.less_than c.in_ok-pass.ensures.shorter c.in_ok-first.ensures.shorter
