@@ -2,3 +2,4 @@ mod ChosenLemmas
 mod AgreementLemmas
 mod RoundStarts
 mod Loops
+mod Sources

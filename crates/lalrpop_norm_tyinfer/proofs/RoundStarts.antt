@@ -1,10 +1,13 @@
 -- Where a round starts and ends.
-use Rattle.std.proofs.Common.{◌≡◌, ◌⊎◌, inl, inr, ℕ, ◌+◌, ◌-◌, ◌<◌, ◌≤◌, true, false, true≢false, List, refl, sym, ◌∙◌, arith}
+use Rattle.std.proofs.Common.{◌≡◌, ◌⊎◌, ◌==◌, ◌||◌, inl, inr, ℕ, ◌+◌, ◌-◌, ◌<◌, ◌≤◌, true, false, true≢false, List, [], ◌∷◌, refl, sym, ap, subst, ◌∙◌, arith}
+use Rattle.std.proofs.lemmas.Bool.Decides.{eqb_tells}
+use Rattle.lalrpop_norm_theory.proofs.BoolLemmas.{or_true}
+use Rattle.lalrpop_norm_theory.specs.Rounds.{In}
 use Rattle.lalrpop_norm_repr.specs.Tables.{TypeTable}
 use Rattle.lalrpop_norm_tyinfer_table.specs.declared.stops.Stops.{Stops}
 use Rattle.lalrpop_norm_tyinfer_table.specs.declared.waiting.Waiting.{Waiting}
 use Rattle.lalrpop_norm_tyinfer_table.specs.Visits.{Seen}
-use Rattle.lalrpop_norm_tyinfer_table.specs.Waiting.{has, Waits, Watches}
+use Rattle.lalrpop_norm_tyinfer_table.specs.Waiting.{has, Waits, Wakes, Watches}
 use Rattle.lalrpop_norm_tyinfer_table.proofs.RoundLemmas.{Midway}
 
 pub midway_first : (ps : _) (tt : TypeTable) (ss : List Seen) (stops : Stops) (now next : Waiting) → Watches ps tt ss stops → Waits ps tt ss now →
@@ -35,3 +38,44 @@ waits_next ps before tt ss stops from now next m none = record {
 
 pub fewer_left : (n from place : ℕ) → from ≤ place → place < n → n - (place + 1) < n - from
 fewer_left n from place low lt = omega arith
+
+-- ---- a place is added
+
+only_place : (other k : ℕ) → In k (other ∷ []) → k ≡ other
+only_place other k here = elim here [ inl e ↦ e | inr none ↦ absurd none ]
+
+module _ (other : ℕ) (before after : Waiting) (added : (k : ℕ) → has after k ≡ ((other == k) || has before k)) where
+  added_kept : (k : ℕ) → has before k ≡ true → has after k ≡ true
+  added_kept k h = added k ∙ (ap (λ b. (other == k) || b) h ∙ or_true (other == k))
+
+  added_there : (k : ℕ) → In k (other ∷ []) → has after k ≡ true
+  added_there k here = elim (eqb_tells other k) [
+    | inl w ↦ added k ∙ ap (λ b. b || has before k) w.0
+    | inr w ↦ absurd (w.1 (sym (only_place other k here)))
+  ]
+
+  added_only : (k : ℕ) → has after k ≡ true → (has before k ≡ true) ⊎ (other ≡ k)
+  added_only k h = elim (eqb_tells other k) [
+    | inl w ↦ inr w.1
+    | inr w ↦ inl (sym (ap (λ b. b || has before k) w.0) ∙ (sym (added k) ∙ h))
+  ]
+
+pub woken_now : (other place : ℕ) (now after next : Waiting) → place < other → ((k : ℕ) → has after k ≡ ((other == k) || has now k)) → Wakes (other ∷ []) place now after next next
+woken_now other place now after next lt added = record {
+  kept_now = λ k h. added_kept other now after added k h;
+  kept_next = λ k h. h;
+  behind = λ k here low. added_there other now after added k here;
+  before = λ k here le. let same = only_place other k here in absurd (omega arith);
+  only_now = λ k h. elim (added_only other now after added k h) [ inl had ↦ inl had | inr same ↦ inr (subst (λ j. place < j) same lt, inl (sym same)) ];
+  only_next = λ k h. inl h;
+}
+
+pub woken_next : (other place : ℕ) (now next after : Waiting) → other ≤ place → ((k : ℕ) → has after k ≡ ((other == k) || has next k)) → Wakes (other ∷ []) place now now next after
+woken_next other place now next after le added = record {
+  kept_now = λ k h. h;
+  kept_next = λ k h. added_kept other next after added k h;
+  behind = λ k here low. let same = only_place other k here in absurd (omega arith);
+  before = λ k here low. added_there other next after added k here;
+  only_now = λ k h. inl h;
+  only_next = λ k h. elim (added_only other next after added k h) [ inl had ↦ inl had | inr same ↦ inr (inl (sym same)) ];
+}

@@ -1,12 +1,11 @@
 //! Rounds in which rules take their types.
 ghost use Rattle.std.specs.Prelude.{◌≡◌, ◌<◌, [], ◌∷◌, ℕ, List, None, IfOk, OnOk, is_some, length, map};
 ghost use Rattle.lalrpop_norm_theory.specs.Rounds.{IsDistinct};
-ghost use Rattle.lalrpop_norm_tyinfer_table.specs.Clauses.{clauses_view, first_in};
 ghost use Rattle.lalrpop_norm_tyinfer_table.specs.Needs.{names_seen};
 ghost use Rattle.lalrpop_norm_tyinfer_table.specs.Numbered.{numbered_table, HasSameNumbers, IsNumberOf, NumbersRules};
 ghost use Rattle.lalrpop_norm_tyinfer_table.specs.Stops.{IsStops, typed_at};
 ghost use Rattle.lalrpop_norm_tyinfer_table.specs.TableValues.{type_by_name};
-ghost use Rattle.lalrpop_norm_tyinfer_table.specs.Visits.{rule_seen, EndsRounds, Passes, TakesType};
+ghost use Rattle.lalrpop_norm_tyinfer_table.specs.Visits.{rule_seen, EndsRounds, Passes};
 ghost use Rattle.lalrpop_norm_tyinfer_table.specs.Waiting.{VisitsOne, Waits, Wakes, Watches};
 
 use crate::tyinfer::type_sources::first_value;
@@ -17,29 +16,6 @@ use lalrpop_norm_tyinfer_table::rules::PlainRule;
 use lalrpop_norm_tyinfer_table::stops::Stops;
 use lalrpop_norm_tyinfer_table::waiting::Waiting;
 use std::alloc::Global;
-
-/// Gives a rule without a type the type that its first clause makes that makes one; whether there is one.
-fn take_first(
-    alloc: Global,
-    parameters: &[TypeParameter],
-    types: &mut Numbered,
-    rule: &PlainRule,
-    place: usize,
-) -> Result<bool, NoMemory>
-    requires number { IsNumberOf types.old rule.now.data.now.name.0 place }
-    requires untyped { type_by_name (numbered_table types.old) rule.now.data.now.name.0 ≡ None }
-    ensures takes { IfOk result (λ added. TakesType (numbered_table types.old) (numbered_table types.new) rule.now.data.now.name.0
-        (first_in parameters.now (numbered_table types.old) (clauses_view rule.now.clauses)) added) }
-    ensures numbers { IfOk result (λ added. HasSameNumbers types.old types.new) }
-{
-    match first_value(alloc, parameters, types, &rule.clauses)? {
-        Some(ty) => {
-            types.put(place, ty);
-            Ok(true)
-        }
-        None => Ok(false),
-    }
-}
 
 /// Lets some places wait for a visit: those behind the place in this round, the others in the next one.
 fn wake(
@@ -70,7 +46,8 @@ fn wake_one(
     next.add(other)
 }
 
-/// Visits the rule at a place. Where it takes a type, the rules of the clauses that have all types now; else none.
+/// Visits the rule at a place: one without a type takes that of its first clause that makes one. The rules of the clauses that have
+/// all types by that; none where it takes none.
 fn step(
     alloc: Global,
     parameters: &[TypeParameter],
@@ -89,11 +66,13 @@ fn step(
     if stops.is_typed(place) {
         return Ok(Vec::new(alloc));
     }
-    let took = take_first(alloc, parameters, types, rule, place)?;
-    if took {
-        return stops.give_type(alloc, place);
+    match first_value(alloc, parameters, types, &rule.clauses)? {
+        Some(ty) => {
+            types.put(place, ty);
+            stops.give_type(alloc, place)
+        }
+        None => Ok(Vec::new(alloc)),
     }
-    Ok(Vec::new(alloc))
 }
 
 /// A round over the rules in order, of which only those at some places may take a type. It answers the places that wait for the next

@@ -23,16 +23,9 @@ pub(crate) fn token_types(alloc: Global, grammar: &Grammar) -> Result<Types, NoM
         (rows_with (extern_enum (grammar_view grammar.now)) (grammar_view grammar.now))) }
 {
     let mut types = base_types(alloc, grammar)?;
-    add_token_rows(alloc, &mut types, grammar)?;
-    Ok(types)
-}
-
-fn add_token_rows(alloc: Global, types: &mut Types, grammar: &Grammar) -> Result<(), NoMemory>
-    ensures { OnOk result (AddsTerminals (type_table types.old) (type_table types.new)
-        (rows_with (extern_enum (grammar_view grammar.now)) (grammar_view grammar.now))) }
-{
     let rows = token_rows(alloc, grammar)?;
-    add_rows(types, &rows)
+    add_rows(&mut types, &rows)?;
+    Ok(types)
 }
 
 /// The terminals with a type of their own, beside the error terminal.

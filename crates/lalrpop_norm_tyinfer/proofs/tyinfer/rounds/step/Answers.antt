@@ -1,16 +1,17 @@
-use Rattle.std.proofs.Common.{sym, ◌∙◌}
+use Rattle.std.proofs.Common.{◌≡◌, None, sym, ◌∙◌}
+use Rattle.std.proofs.lemmas.Result.{IfOk-from_err}
+use Rattle.lalrpop_norm_tree_parts.specs.Reprs.{repr_view}
 use Rattle.lalrpop_norm_tyinfer_table.specs.Numbered.{numbered_table}
 use Rattle.lalrpop_norm_tyinfer_table.specs.TableValues.{type_by_name}
 use Rattle.lalrpop_norm_tyinfer_table.specs.Visits.{rule_seen}
-use Rattle.lalrpop_norm_tyinfer_table.proofs.NumberedRounds.{nothing_put}
+use Rattle.lalrpop_norm_tyinfer_table.proofs.NumberedRounds.{nothing_put, put_same, put_taken}
 use Rattle.lalrpop_norm_tyinfer_table.proofs.RoundLemmas.{not_some, steps_still, steps_taken}
 use Rattle.lalrpop_norm_tyinfer_table.proofs.StopLemmas.{if_ok}
-use Rattle.lalrpop_norm_tyinfer_table.proofs.VisitLemmas.{taken_typed}
+use Rattle.lalrpop_norm_tyinfer_table.proofs.VisitLemmas.{taken_none, taken_typed}
 use Rattle.lalrpop_norm_tyinfer.proofs.tyinfer.rounds.step.Goals as goal
 
-pub take_first-requires-clause-untyped : goal.take_first-requires-clause-untyped
-take_first-requires-clause-untyped c =
-    not_some (type_by_name (numbered_table c.args.types.now) c.args.rule.now.data.now.name.0) (sym c.requires.told ∙ (sym c.is_typed.ensures ∙ c.if-is_typed.false))
+pub is_typed-requires : goal.is_typed-requires
+is_typed-requires c = c.requires.within
 
 pub returns-then-is_typed-clause-visits : goal.returns-then-is_typed-clause-visits
 returns-then-is_typed-clause-visits c =
@@ -20,19 +21,41 @@ returns-then-is_typed-clause-visits c =
 pub returns-then-is_typed-clause-numbers : goal.returns-then-is_typed-clause-numbers
 returns-then-is_typed-clause-numbers c = nothing_put c.args.types.now
 
-pub returns-then-took-clause-visits : goal.returns-then-took-clause-visits
-returns-then-took-clause-visits c =
-    let takes = rw c.if-took.true at c.in_ok-took.ensures.takes in
+pub put-requires : goal.put-requires
+put-requires c = c.requires.number.within
+
+pub give_type-requires-clause-stops : goal.give_type-requires-clause-stops
+give_type-requires-clause-stops c = c.requires.sound
+
+pub give_type-requires-clause-within : goal.give_type-requires-clause-within
+give_type-requires-clause-within c = c.requires.within
+
+pub returns-in-Some-clause-visits : goal.returns-in-Some-clause-visits
+returns-in-Some-clause-visits c =
+    let tt = numbered_table c.args.types.now in
+    let name = c.args.rule.now.data.now.name.0 in
+    let untyped : type_by_name tt name ≡ None = not_some (type_by_name tt name) (sym c.requires.told ∙ (sym c.is_typed.ensures ∙ c.if-is_typed.false)) in
+    let takes = put_taken c.args.types.now c.put.new.self name c.args.place (repr_view c.in-Some.ty) c.requires.number c.put.ensures _ untyped (rw c.in-Some.is at c.in_ok-ty.ensures) in
     if_ok c.give_type.result c.give_type.ensures
-    (λ ready g. steps_taken c.args.parameters.now (numbered_table c.args.types.now) (numbered_table c.take_first.new.types) (rule_seen c.args.rule.now) c.args.place c.args.stops.now c.give_type.new.self ready.items takes g)
+    (λ ready g. steps_taken c.args.parameters.now tt (numbered_table c.put.new.self) (rule_seen c.args.rule.now) c.args.place c.args.stops.now c.give_type.new.self ready.items takes g)
 
-pub returns-then-took-clause-numbers : goal.returns-then-took-clause-numbers
-returns-then-took-clause-numbers c = if_ok c.give_type.result c.give_type.ensures (λ ready g. c.in_ok-took.ensures.numbers)
+pub returns-in-Some-clause-numbers : goal.returns-in-Some-clause-numbers
+returns-in-Some-clause-numbers c =
+    let same = put_same c.args.types.now c.put.new.self c.args.rule.now.data.now.name.0 c.args.place (repr_view c.in-Some.ty) c.requires.number c.put.ensures in
+    if_ok c.give_type.result c.give_type.ensures (λ ready g. same)
 
-pub returns-clause-visits : goal.returns-clause-visits
-returns-clause-visits c =
-    let takes = rw c.if-took.false at c.in_ok-took.ensures.takes in
-    rw c.new-2.ensures.items (steps_still c.args.parameters.now (numbered_table c.args.types.now) (numbered_table c.take_first.new.types) (rule_seen c.args.rule.now) c.args.place c.args.stops.now takes)
+pub returns-in-None-clause-visits : goal.returns-in-None-clause-visits
+returns-in-None-clause-visits c =
+    let tt = numbered_table c.args.types.now in
+    let name = c.args.rule.now.data.now.name.0 in
+    let untyped : type_by_name tt name ≡ None = not_some (type_by_name tt name) (sym c.requires.told ∙ (sym c.is_typed.ensures ∙ c.if-is_typed.false)) in
+    rw c.new-in-None.ensures.items (steps_still c.args.parameters.now tt tt (rule_seen c.args.rule.now) c.args.place c.args.stops.now (taken_none tt name _ untyped (rw c.in-None.is at c.in_ok-ty.ensures)))
 
-pub returns-clause-numbers : goal.returns-clause-numbers
-returns-clause-numbers c = c.in_ok-took.ensures.numbers
+pub returns-in-None-clause-numbers : goal.returns-in-None-clause-numbers
+returns-in-None-clause-numbers c = nothing_put c.args.types.now
+
+pub returns-in_err-ty : goal.returns-in_err-ty
+returns-in_err-ty c = record {
+  visits = IfOk-from_err _ _ c.from_residual.ensures.0;
+  numbers = IfOk-from_err _ _ c.from_residual.ensures.0;
+}
