@@ -1,6 +1,7 @@
 //! Texts that are damaged, as by chance.
 ghost use Rattle.std.specs.Prelude.{◌<◌, ◌≤◌, length};
 
+use crate::shown::kept;
 use std::alloc::{AllocError, Global};
 
 /// Numbers as by chance, which are the same in each run.
@@ -35,27 +36,31 @@ pub(crate) fn damaged(
     text: &[u8],
     chance: &mut Chance,
 ) -> Result<Vec<u8>, AllocError> {
+    let mut bytes = Vec::new(alloc);
+    let done = push_damaged(&mut bytes, text, chance);
+    kept(bytes, done)
+}
+
+fn push_damaged(bytes: &mut Vec<u8>, text: &[u8], chance: &mut Chance) -> Result<(), AllocError> {
     let change = chance.below(5);
     let (from, to) = places(text, chance);
-    let mut bytes = Vec::new(alloc);
     bytes.extend_from_slice(&text[..from])?;
     match change {
-        0 => {}
-        1 => bytes.extend_from_slice(&text[to..])?,
+        0 => Ok(()),
+        1 => bytes.extend_from_slice(&text[to..]),
         2 => {
             bytes.extend_from_slice(&text[from..to])?;
-            bytes.extend_from_slice(&text[from..])?;
+            bytes.extend_from_slice(&text[from..])
         }
         3 => {
             bytes.extend_from_slice(piece(chance.below(PIECES)).as_bytes())?;
-            bytes.extend_from_slice(&text[to..])?;
+            bytes.extend_from_slice(&text[to..])
         }
         _ => {
             bytes.extend_from_slice(piece(chance.below(PIECES)).as_bytes())?;
-            bytes.extend_from_slice(&text[from..])?;
+            bytes.extend_from_slice(&text[from..])
         }
     }
-    Ok(bytes)
 }
 
 /// Two places in a text, the second at most twenty bytes behind the first.

@@ -3,6 +3,7 @@ use crate::readings::damage::{Chance, damaged};
 use json::{Reader, Scratch};
 use json_records::{ReadError, next_token, pass};
 use lalrpop_norm_json::{TreeError, read_tree};
+use lalrpop_norm_tree::grammar::parse_tree::Grammar;
 use lnorm_texts::text::Text;
 use serde_json::Value;
 use std::alloc::Global;
@@ -148,8 +149,15 @@ fn trees_of(alloc: Global, value: &Value, text: &str) -> Agreement {
     let Ok(written) = value.to_string(alloc) else {
         return Agreement::Memory;
     };
-    match (read_tree(alloc, text), read_tree(alloc, written.as_str())) {
-        (Ok(tree), Ok(again)) => if tree == again {
+    let tree = read_tree(alloc, text);
+    let again = read_tree(alloc, written.as_str());
+    compared(&tree, &again)
+}
+
+/// Whether two readings are of one tree, or neither is of any.
+fn compared(tree: &Result<Grammar, TreeError>, again: &Result<Grammar, TreeError>) -> Agreement {
+    match (tree, again) {
+        (Ok(tree), Ok(again)) => if *tree == *again {
             Agreement::Read
         } else {
             Agreement::Differ
