@@ -1,22 +1,32 @@
 //! Productions, parameters and actions.
-use crate::made::{atom, both, copy_of, list_of_two, name_pattern, push_debug, push_shown, string};
+use crate::made::{
+    atom, both, copy_of, list_of_two, name_pattern, push_debug, push_debug_line, push_line, string,
+};
+use crate::names::{bare, rule_name};
 use crate::text::Text;
 use lalrpop_norm_repr::grammar::repr::{
     ActionFn, ActionFnDefn, ActionFnDefnKind, ArgPattern, InlineActionFnDefn, InlinedSymbol,
-    LookaroundActionFnDefn, NonterminalString, Parameter, Production, Span, Symbol, TerminalString,
-    TypeRepr, UserActionFnDefn,
+    LookaroundActionFnDefn, Parameter, Production, Span, Symbol, TypeRepr, UserActionFnDefn,
 };
 use shared_text::NoMemory;
 use std::alloc::Global;
 
-/// Of each kind of action a line.
+/// Productions of two symbols and of none, a parameter, and of each kind of action a line; all are copied.
 pub(crate) fn push_actions(alloc: Global, text: &mut Text) {
     push_productions(alloc, text);
-    push_shown(text, "parameter ", copy_of(parameter(alloc, "n")), "\n");
+    push_line(text, "parameter ", copy_of(parameter(alloc, "n")));
     push_action(alloc, text, user_kind(alloc));
     push_action(alloc, text, inline_kind(alloc));
-    let lookbehind = ActionFnDefnKind::Lookaround(LookaroundActionFnDefn::Lookbehind);
-    push_action(alloc, text, Ok(lookbehind));
+    push_action(alloc, text, lookaround_kind());
+}
+
+fn push_productions(alloc: Global, text: &mut Text) {
+    push_debug(
+        text,
+        "productions ",
+        copy_of(production(alloc, two_symbols(alloc))),
+    );
+    push_debug_line(text, " ", copy_of(production(alloc, Ok(Vec::new(alloc)))));
 }
 
 /// `A, b`
@@ -26,21 +36,12 @@ fn two_symbols(alloc: Global) -> Result<Vec<Symbol>, NoMemory> {
 
 /// The nonterminal of that name.
 pub(crate) fn nonterminal(alloc: Global, name: &str) -> Result<Symbol, NoMemory> {
-    Ok(Symbol::Nonterminal(NonterminalString(atom(alloc, name)?)))
+    Ok(Symbol::Nonterminal(rule_name(alloc, name)?))
 }
 
 /// The bare terminal of that name.
 pub(crate) fn terminal(alloc: Global, name: &str) -> Result<Symbol, NoMemory> {
-    Ok(Symbol::Terminal(TerminalString::Bare(atom(alloc, name)?)))
-}
-
-/// One of two symbols, copied, and one of none.
-fn push_productions(alloc: Global, text: &mut Text) {
-    text.put("productions");
-    let of_two = production(alloc, two_symbols(alloc));
-    push_debug(text, " ", copy_of(of_two), "");
-    let of_none = production(alloc, Ok(Vec::new(alloc)));
-    push_debug(text, " ", copy_of(of_none), "\n");
+    Ok(Symbol::Terminal(bare(alloc, name)?))
 }
 
 /// Action 3 of `N`, of those symbols.
@@ -48,9 +49,9 @@ fn production(
     alloc: Global,
     symbols: Result<Vec<Symbol>, NoMemory>,
 ) -> Result<Production, NoMemory> {
-    let (name, symbols) = both(atom(alloc, "N"), symbols)?;
+    let (nonterminal, symbols) = both(rule_name(alloc, "N"), symbols)?;
     Ok(Production {
-        nonterminal: NonterminalString(name),
+        nonterminal,
         symbols,
         action: ActionFn::new(3),
         span: Span(0, 0),
@@ -65,7 +66,7 @@ pub(crate) fn parameter(alloc: Global, name: &str) -> Result<Parameter, NoMemory
 
 /// The copy of an action of that kind.
 fn push_action(alloc: Global, text: &mut Text, kind: Result<ActionFnDefnKind, NoMemory>) {
-    push_debug(text, "action ", copy_of(action(alloc, kind)), "\n");
+    push_debug_line(text, "action ", copy_of(action(alloc, kind)));
 }
 
 /// An action of that kind, whose type is `usize`.
@@ -87,6 +88,10 @@ fn user_kind(alloc: Global) -> Result<ActionFnDefnKind, NoMemory> {
 
 fn inline_kind(alloc: Global) -> Result<ActionFnDefnKind, NoMemory> {
     Ok(ActionFnDefnKind::Inline(copy_of(inline_action(alloc))?))
+}
+
+fn lookaround_kind() -> Result<ActionFnDefnKind, NoMemory> {
+    Ok(ActionFnDefnKind::Lookaround(LookaroundActionFnDefn::Lookbehind))
 }
 
 /// `f(x, y)`, where `x: usize` and `y: str`.
@@ -114,28 +119,21 @@ fn argument_types(alloc: Global) -> Result<Vec<TypeRepr>, NoMemory> {
     list_of_two(alloc, TypeRepr::usize(alloc), TypeRepr::str(alloc))
 }
 
-/// `ActionFn(22)(Y, ActionFn(44)(A, b))`
+/// `ActionFn(22)(Y, ActionFn(44)(A, b))`, of which each symbol is copied.
 fn inline_action(alloc: Global) -> Result<InlineActionFnDefn, NoMemory> {
-    let symbols = inlined_symbols(alloc)?;
+    let symbols = list_of_two(alloc, copy_of(original(alloc)), copy_of(inlined(alloc)))?;
     Ok(InlineActionFnDefn {
         action: ActionFn::new(22),
         symbols,
     })
 }
 
-/// `Y, ActionFn(44)(A, b)`, each copied.
-fn inlined_symbols(alloc: Global) -> Result<Vec<InlinedSymbol>, NoMemory> {
-    list_of_two(alloc, copy_of(original(alloc)), copy_of(inlined(alloc)))
-}
-
 /// `Y`
 fn original(alloc: Global) -> Result<InlinedSymbol, NoMemory> {
-    let symbol = nonterminal(alloc, "Y")?;
-    Ok(InlinedSymbol::Original(symbol))
+    Ok(InlinedSymbol::Original(nonterminal(alloc, "Y")?))
 }
 
 /// `ActionFn(44)(A, b)`
 fn inlined(alloc: Global) -> Result<InlinedSymbol, NoMemory> {
-    let symbols = two_symbols(alloc)?;
-    Ok(InlinedSymbol::Inlined(ActionFn::new(44), symbols))
+    Ok(InlinedSymbol::Inlined(ActionFn::new(44), two_symbols(alloc)?))
 }

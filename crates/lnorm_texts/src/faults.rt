@@ -21,7 +21,7 @@ pub(crate) fn push_refusals(alloc: Global, text: &mut Text) {
 
 fn push_code(text: &mut Text, fault: FaultKind) {
     text.put(fault.code());
-    text.put("\n");
+    text.end_line();
 }
 
 /// A refusal at `3..8`.
@@ -41,9 +41,7 @@ pub fn push_told(text: &mut Text, failure: &NormFailure) {
         NormFailure::Refused(error) => {
             text.put(error.fault.code());
             push_span(text, error.span);
-            text.put(": ");
-            text.show(&error.message);
-            text.put("\n");
+            text.show_line(": ", &error.message);
         }
         NormFailure::Memory => text.put("memory\n"),
     }
@@ -51,12 +49,10 @@ pub fn push_told(text: &mut Text, failure: &NormFailure) {
 
 /// What each text is as a side.
 pub(crate) fn push_sides(text: &mut Text) {
-    for name in ["left", "right", "none", "all", "", "Left", "left ", "both"] {
+    for name in &["left", "right", "none", "all", "", "Left", "left ", "both"] {
         push_side(text, name);
     }
-    text.put("no side: ");
-    text.put(side_name(&Assoc::default()));
-    text.put("\n");
+    text.show_line("no side: ", side_name(&Assoc::default()));
 }
 
 fn push_side(text: &mut Text, name: &str) {
@@ -67,7 +63,7 @@ fn push_side(text: &mut Text, name: &str) {
         Ok(side) => text.put(side_name(&side)),
         Err(error) => text.show(error),
     }
-    text.put("\n");
+    text.end_line();
 }
 
 /// The word for the side.

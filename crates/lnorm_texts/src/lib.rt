@@ -12,6 +12,7 @@ mod names;
 mod parts;
 mod patterns;
 pub mod print;
+mod stop;
 mod tables;
 pub mod text;
 pub mod texts;

@@ -1,8 +1,7 @@
 //! Lowered types: names for their lifetimes, the parameters that they speak of, and the calls of a walk over them.
-ghost use Rattle.std.specs.Prelude.{◌≡◌};
-
-use crate::made::{atom, both, boxed, list_of_one, list_of_two, push_shown, show_made};
-use crate::names::{lifetime, named, of_parameter};
+use crate::made::{atom, both, boxed, list_of_one, list_of_two, push_line, show_made};
+use crate::names::{lifetime, named, named_type};
+use crate::stop::Stop;
 use crate::text::Text;
 use lalrpop_norm_repr::grammar::repr::{TypeRepr, WhereClause};
 use lalrpop_norm_tree::grammar::parse_tree::{Lifetime, NoMemory, TypeParameter};
@@ -31,16 +30,16 @@ pub(crate) fn push_lifetimes(alloc: Global, text: &mut Text) {
 // ---- names
 
 fn push_example(alloc: Global, text: &mut Text, example: Result<Example, NoMemory>) {
-    show_made(text, example, |text, example| {
-        let (ty, parameters) = example;
-        push_named(alloc, text, ty, parameters);
-    });
+    show_made(
+        text,
+        example,
+        |text, example| push_named(alloc, text, example),
+    );
 }
 
-fn push_named(alloc: Global, text: &mut Text, ty: &TypeRepr, parameters: &Vec<TypeParameter>) {
-    text.put("type ");
-    text.show(ty);
-    text.put(" speaks of");
+fn push_named(alloc: Global, text: &mut Text, example: &Example) {
+    let (ty, parameters) = example;
+    text.show_between("type ", ty, " speaks of");
     show_made(text, ty.free_variables(alloc, parameters), |text, free| {
         push_each(text, free);
     });
@@ -66,20 +65,17 @@ fn with_names(
 
 fn push_names(text: &mut Text, named: &Named) {
     let (ty, (parameters, clauses)) = named;
-    text.put("; with names ");
-    text.show(ty);
-    text.put(" over");
+    text.show_between("; with names ", ty, " over");
     push_each(text, parameters);
     text.put(", where");
     push_each(text, clauses);
-    text.put("\n");
+    text.end_line();
 }
 
 /// Each of the values behind a blank.
 fn push_each<T: fmt::Display>(text: &mut Text, values: &[T]) {
     for value in values {
-        text.put(" ");
-        text.show(value);
+        text.show_after(" ", value);
     }
 }
 
@@ -87,51 +83,33 @@ fn push_each<T: fmt::Display>(text: &mut Text, values: &[T]) {
 
 /// What a walk is called with that puts `usize` in the place of each named type, and its answer.
 fn push_walked(alloc: Global, text: &mut Text, ty: &TypeRepr) {
-    text.put("walk over ");
-    text.show(ty);
-    text.put(" is called with");
+    text.show_between("walk over ", ty, " is called with");
     let walked = ty.bottom_up(alloc, &mut |part: TypeRepr| see(alloc, text, part));
-    push_shown(text, " and answers ", walked, "\n");
+    push_line(text, " and answers ", walked);
 }
 
 fn see(alloc: Global, text: &mut Text, part: TypeRepr) -> Result<TypeRepr, NoMemory> {
-    text.put(" ");
-    text.show(&part);
-    replaced(alloc, part)
-}
-
-fn replaced(alloc: Global, part: TypeRepr) -> Result<TypeRepr, NoMemory> {
-    match part {
-        TypeRepr::Nominal(_) => TypeRepr::usize(alloc),
-        other => Ok(other),
+    text.show_after(" ", &part);
+    if let TypeRepr::Nominal(_) = &part {
+        drop(part);
+        TypeRepr::usize(alloc)
+    } else {
+        Ok(part)
     }
 }
 
 /// What a walk was called with that is refused at its second call.
 fn push_refused(alloc: Global, text: &mut Text, ty: &TypeRepr) {
-    text.put("walk over ");
-    text.show(ty);
+    text.show_after("walk over ", ty);
     let mut calls = 0;
     let walked = ty.bottom_up(alloc, &mut |part: TypeRepr| refuse_second(&mut calls, part));
-    push_refusal(text, walked, calls);
-}
-
-/// Why a walk ends.
-#[derive(Clone, Copy)]
-enum Stop {
-    /// A call was refused.
-    Refused,
-    /// There was no memory.
-    Memory,
-}
-
-impl From<NoMemory> for Stop {
-    ghost use Rattle.lnorm_texts.specs.declared.lifetimes.Stop.TheVariants.{Memory};
-
-    ghost from_gives = { λ _ e. e ≡ Memory };
-
-    fn from(_: NoMemory) -> Stop {
-        Stop::Memory
+    match walked {
+        Ok(walked) => {
+            drop(walked);
+            text.show_line(" is not refused after ", calls);
+        }
+        Err(Stop::Refused) => text.show_line(" is refused after ", calls),
+        Err(Stop::Memory) => text.lack(),
     }
 }
 
@@ -140,47 +118,31 @@ fn refuse_second(calls: &mut u32, part: TypeRepr) -> Result<TypeRepr, Stop> {
         *calls = 1;
         Ok(part)
     } else {
+        drop(part);
         Err(Stop::Refused)
     }
-}
-
-fn push_refusal(text: &mut Text, walked: Result<TypeRepr, Stop>, calls: u32) {
-    match walked {
-        Ok(_) => push_calls(text, " is not refused after ", calls),
-        Err(Stop::Refused) => push_calls(text, " is refused after ", calls),
-        Err(Stop::Memory) => text.lack(),
-    }
-}
-
-fn push_calls(text: &mut Text, answer: &str, calls: u32) {
-    text.put(answer);
-    text.show(calls);
-    text.put("\n");
 }
 
 // ---- the types
 
 /// `&Foo`, and no parameters.
 fn reference_to_foo(alloc: Global) -> Result<Example, NoMemory> {
-    both(
-        reference(alloc, Ok(None), name(alloc, "Foo")),
-        Ok(Vec::new(alloc)),
-    )
+    both(reference_to(alloc, "Foo"), Ok(Vec::new(alloc)))
 }
 
 /// `&T`, over `T`.
 fn reference_to_parameter(alloc: Global) -> Result<Example, NoMemory> {
-    both(
-        reference(alloc, Ok(None), name(alloc, "T")),
-        list_of_one(alloc, named(alloc, "T")),
-    )
+    both(reference_to(alloc, "T"), just_t(alloc))
 }
 
 /// `&&'a T`, over `'a` and `T`.
 fn reference_to_reference(alloc: Global) -> Result<Example, NoMemory> {
-    let inner = reference(alloc, a(alloc), name(alloc, "T"));
     both(
-        reference(alloc, Ok(None), inner),
+        reference(
+            alloc,
+            Ok(None),
+            reference(alloc, a(alloc), named_type(alloc, "T")),
+        ),
         list_of_two(alloc, lifetime(alloc), named(alloc, "T")),
     )
 }
@@ -188,30 +150,28 @@ fn reference_to_reference(alloc: Global) -> Result<Example, NoMemory> {
 /// `(&T, &T)`, over `T`.
 fn two_references(alloc: Global) -> Result<Example, NoMemory> {
     both(
-        tuple(
-            alloc,
-            reference(alloc, Ok(None), name(alloc, "T")),
-            reference(alloc, Ok(None), name(alloc, "T")),
-        ),
-        list_of_one(alloc, named(alloc, "T")),
+        tuple(alloc, reference_to(alloc, "T"), reference_to(alloc, "T")),
+        just_t(alloc),
     )
+}
+
+/// The parameter `T`.
+fn just_t(alloc: Global) -> Result<Vec<TypeParameter>, NoMemory> {
+    list_of_one(alloc, named(alloc, "T"))
 }
 
 /// `(A, [B])`
 fn pair(alloc: Global) -> Result<TypeRepr, NoMemory> {
-    tuple(alloc, name(alloc, "A"), slice(alloc, name(alloc, "B")))
+    tuple(
+        alloc,
+        named_type(alloc, "A"),
+        slice(alloc, named_type(alloc, "B")),
+    )
 }
 
-fn slice(alloc: Global, inner: Result<TypeRepr, NoMemory>) -> Result<TypeRepr, NoMemory> {
-    Ok(TypeRepr::Slice(boxed(alloc, inner)?))
-}
-
-fn tuple(
-    alloc: Global,
-    first: Result<TypeRepr, NoMemory>,
-    second: Result<TypeRepr, NoMemory>,
-) -> Result<TypeRepr, NoMemory> {
-    Ok(TypeRepr::Tuple(list_of_two(alloc, first, second)?))
+/// `&NAME`
+fn reference_to(alloc: Global, name: &str) -> Result<TypeRepr, NoMemory> {
+    reference(alloc, Ok(None), named_type(alloc, name))
 }
 
 fn reference(
@@ -227,12 +187,19 @@ fn reference(
     })
 }
 
-/// The type of that name.
-fn name(alloc: Global, name: &str) -> Result<TypeRepr, NoMemory> {
-    of_parameter(alloc, named(alloc, name))
-}
-
 /// `'a`
 fn a(alloc: Global) -> Result<Option<Lifetime>, NoMemory> {
     Ok(Some(Lifetime(atom(alloc, "'a")?)))
+}
+
+fn slice(alloc: Global, inner: Result<TypeRepr, NoMemory>) -> Result<TypeRepr, NoMemory> {
+    Ok(TypeRepr::Slice(boxed(alloc, inner)?))
+}
+
+fn tuple(
+    alloc: Global,
+    first: Result<TypeRepr, NoMemory>,
+    second: Result<TypeRepr, NoMemory>,
+) -> Result<TypeRepr, NoMemory> {
+    Ok(TypeRepr::Tuple(list_of_two(alloc, first, second)?))
 }

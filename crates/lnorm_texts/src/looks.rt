@@ -2,18 +2,18 @@
 //! a shared text.
 use crate::actions::{nonterminal, terminal};
 use crate::made::{
-    atom, both, boxed, cloned, copy_of, list_of_one, list_of_two, made_of, push_debug, push_shown,
-    show_made,
+    atom, both, cloned, copy_of, list_of_one, list_of_two, made_of, push_after, push_debug_line,
+    push_line, show_made,
 };
-use crate::names::{bound_clause, lifetime, named, named_path, of_parameter};
+use crate::names::{binder, forall, named_path, named_type, rule_name};
 use crate::patterns::{choice, field};
 use crate::text::Text;
 use lalrpop_norm_repr::grammar::repr::{
-    ActionFn, LookaroundActionFnDefn, NominalTypeRepr, Symbol, TypeRepr, WhereClause,
+    ActionFn, LookaroundActionFnDefn, NominalTypeRepr, Symbol, TypeRepr,
 };
 use lalrpop_norm_tree::grammar::parse_tree::{
-    Lifetime, MatchContents, MatchItem, MatchToken, NoMemory, NonterminalString, Span, TypeBound,
-    TypeBoundParameter,
+    Lifetime, MatchContents, MatchItem, MatchToken, NoMemory, NonterminalString, Path, Span,
+    TypeBound, TypeBoundParameter, TypeParameter,
 };
 use lalrpop_norm_tree::grammar::pattern::{FieldPattern, PatternKind};
 use shared_text::Atom;
@@ -21,9 +21,14 @@ use std::alloc::Global;
 
 /// Of each kind some lines.
 pub(crate) fn push_looks(alloc: Global, text: &mut Text) {
-    push_lengths(alloc, text);
-    push_kinds(alloc, text);
-    push_blocks(alloc, text);
+    push_names(alloc, text);
+    show_made(text, nonterminal(alloc, "A"), push_symbol);
+    show_made(text, terminal(alloc, "b"), push_symbol);
+    text.show_between("action ", ActionFn::new(22).index(), ", ");
+    text.debug(LookaroundActionFnDefn::Lookahead);
+    text.end_line();
+    show_made(text, block(alloc), push_block);
+    show_made(text, longer_block(alloc), push_block);
     push_mapped(alloc, text);
     push_texts(alloc, text);
     push_owners(alloc, text);
@@ -32,68 +37,37 @@ pub(crate) fn push_looks(alloc: Global, text: &mut Text) {
 // ---- names and symbols
 
 /// How long names and lifetimes are, and whether a lifetime is anonymous.
-fn push_lengths(alloc: Global, text: &mut Text) {
-    show_made(text, name(alloc, "Expr"), push_name);
-    show_made(text, name(alloc, ""), push_name);
+fn push_names(alloc: Global, text: &mut Text) {
+    show_made(text, rule_name(alloc, "Expr"), push_name);
+    show_made(text, rule_name(alloc, ""), push_name);
     show_made(text, Lifetime::anonymous(alloc), push_lifetime);
     show_made(text, Lifetime::input(alloc), push_lifetime);
 }
 
-fn name(alloc: Global, name: &str) -> Result<NonterminalString, NoMemory> {
-    Ok(NonterminalString(atom(alloc, name)?))
-}
-
 fn push_name(text: &mut Text, name: &NonterminalString) {
-    text.put("name of length ");
-    text.show(name.len());
-    text.put(", empty ");
-    text.show(name.is_empty());
-    text.put("\n");
+    text.show_after("name of length ", name.len());
+    text.show_line(", empty ", name.is_empty());
 }
 
 fn push_lifetime(text: &mut Text, lifetime: &Lifetime) {
-    text.put("lifetime of length ");
-    text.show(lifetime.len());
-    text.put(", empty ");
-    text.show(lifetime.is_empty());
-    text.put(", anonymous ");
-    text.show(lifetime.is_anonymous());
-    text.put("\n");
+    text.show_after("lifetime of length ", lifetime.len());
+    text.show_after(", empty ", lifetime.is_empty());
+    text.show_line(", anonymous ", lifetime.is_anonymous());
 }
 
-/// Whether symbols are terminals, and the number of an action.
-fn push_kinds(alloc: Global, text: &mut Text) {
-    show_made(text, nonterminal(alloc, "A"), push_symbol);
-    show_made(text, terminal(alloc, "b"), push_symbol);
-    text.put("action ");
-    text.show(ActionFn::new(22).index());
-    text.put(", ");
-    text.debug(LookaroundActionFnDefn::Lookahead);
-    text.put("\n");
-}
-
+/// Whether the symbol is a terminal.
 fn push_symbol(text: &mut Text, symbol: &Symbol) {
     text.put("symbol ");
     text.debug(symbol);
-    text.put(", terminal ");
-    text.show(symbol.is_terminal());
-    text.put("\n");
+    text.show_line(", terminal ", symbol.is_terminal());
 }
 
 // ---- match blocks
 
-/// A block of one group, and the same with one more.
-fn push_blocks(alloc: Global, text: &mut Text) {
-    show_made(text, block(alloc), push_block);
-    show_made(text, longer_block(alloc), push_block);
-}
-
 fn push_block(text: &mut Text, block: &MatchToken) {
-    text.put("match block ");
-    text.debug(block.span);
-    text.put(" ");
+    text.debug_between("match block ", block.span, " ");
     text.debug(&block.contents);
-    text.put("\n");
+    text.end_line();
 }
 
 /// `match { _ }` at 3..8.
@@ -116,60 +90,48 @@ fn catch_all(alloc: Global, span: Span) -> Result<MatchContents, NoMemory> {
 
 /// Arguments of bounds, what a pattern is, and a field of one, each with the lengths of its names in their places.
 fn push_mapped(alloc: Global, text: &mut Text) {
-    push_shown(text, "mapped ", mapped_argument(alloc), "");
-    push_shown(text, ", ", mapped_kind(alloc), "");
-    push_shown(text, ", ", mapped_field(alloc), "\n");
+    push_after(text, "mapped ", mapped_argument(alloc));
+    push_after(text, ", ", mapped_kind(alloc));
+    push_line(text, ", ", mapped_field(alloc));
 }
 
-fn length(name: &Atom) -> Result<usize, NoMemory> {
-    Ok(name.as_str().len())
-}
-
+/// Of `Item = cde`.
 fn mapped_argument(alloc: Global) -> Result<TypeBoundParameter<usize>, NoMemory> {
-    made_of(argument(alloc), |argument| {
-        argument.map(&mut |name: &Atom| length(name))
-    })
-}
-
-/// `Item = cde`
-fn argument(alloc: Global) -> Result<TypeBoundParameter<Atom>, NoMemory> {
     let (item, ty) = both(atom(alloc, "Item"), atom(alloc, "cde"))?;
-    Ok(TypeBoundParameter::Associated(item, ty))
+    let argument = TypeBoundParameter::Associated(item, ty);
+    let mapped = argument.map(&mut |name: &Atom| Ok(name.as_str().len()));
+    drop(argument);
+    mapped
 }
 
+/// Of `(ab, cde)`.
 fn mapped_kind(alloc: Global) -> Result<PatternKind<usize>, NoMemory> {
-    made_of(
-        tuple(alloc),
-        |kind| kind.map(&mut |name: &Atom| length(name)),
-    )
-}
-
-/// `(ab, cde)`
-fn tuple(alloc: Global) -> Result<PatternKind<Atom>, NoMemory> {
     let patterns = list_of_two(alloc, choice(alloc, "ab"), choice(alloc, "cde"))?;
-    Ok(PatternKind::Tuple(patterns))
+    let kind = PatternKind::Tuple(patterns);
+    let mapped = kind.map(&mut |name: &Atom| Ok(name.as_str().len()));
+    drop(kind);
+    mapped
 }
 
 fn mapped_field(alloc: Global) -> Result<FieldPattern<usize>, NoMemory> {
-    made_of(field(alloc, "u16"), |field| {
-        field.map(&mut |name: &Atom| length(name))
-    })
+    let field = field(alloc, "u16")?;
+    let mapped = field.map(&mut |name: &Atom| Ok(name.as_str().len()));
+    drop(field);
+    mapped
 }
 
 // ---- texts
 
 /// A bound by a function with a binder, a clause under an empty one, and a path with an argument.
 fn push_texts(alloc: Global, text: &mut Text) {
-    push_shown(text, "bound ", function_bound(alloc), "\n");
-    push_shown(text, "where ", clause_under_nothing(alloc), "\n");
-    push_debug(text, "type ", copy_of(applied(alloc)), "\n");
+    push_line(text, "bound ", function_bound(alloc));
+    push_line(text, "where ", forall(alloc, Ok(Vec::new(alloc))));
+    push_debug_line(text, "type ", copy_of(applied(alloc)));
 }
 
 /// `for<'a> Fn(A, B) -> R`
 fn function_bound(alloc: Global) -> Result<TypeBound<TypeRepr>, NoMemory> {
-    let types = list_of_two(alloc, type_named(alloc, "A"), type_named(alloc, "B"));
-    let head = both(list_of_one(alloc, lifetime(alloc)), named_path(alloc, "Fn"));
-    let ((forall, path), (parameters, ret)) = both(head, both(types, type_named(alloc, "R")))?;
+    let ((forall, path), (parameters, ret)) = both(head(alloc), signature(alloc))?;
     Ok(TypeBound::Fn {
         forall,
         path,
@@ -178,31 +140,33 @@ fn function_bound(alloc: Global) -> Result<TypeBound<TypeRepr>, NoMemory> {
     })
 }
 
-/// `for<> T: Foo`
-fn clause_under_nothing(alloc: Global) -> Result<WhereClause, NoMemory> {
-    let clause = boxed(alloc, bound_clause(alloc))?;
-    Ok(WhereClause::Forall {
-        binder: Vec::new(alloc),
-        clause,
-    })
+/// `for<'a> Fn`
+fn head(alloc: Global) -> Result<(Vec<TypeParameter>, Path), NoMemory> {
+    both(binder(alloc), named_path(alloc, "Fn"))
+}
+
+/// `(A, B) -> R`
+fn signature(alloc: Global) -> Result<(Vec<TypeRepr>, TypeRepr), NoMemory> {
+    both(
+        list_of_two(alloc, named_type(alloc, "A"), named_type(alloc, "B")),
+        named_type(alloc, "R"),
+    )
 }
 
 /// `Vec<A>`
 fn applied(alloc: Global) -> Result<NominalTypeRepr, NoMemory> {
-    let types = list_of_one(alloc, type_named(alloc, "A"));
-    let (path, types) = both(named_path(alloc, "Vec"), types)?;
+    let (path, types) = both(
+        named_path(alloc, "Vec"),
+        list_of_one(alloc, named_type(alloc, "A")),
+    )?;
     Ok(NominalTypeRepr { path, types })
-}
-
-fn type_named(alloc: Global, name: &str) -> Result<TypeRepr, NoMemory> {
-    of_parameter(alloc, named(alloc, name))
 }
 
 // ---- shared texts
 
 /// A text by one of three owners, when the other two have ended, and what two texts are to one another.
 fn push_owners(alloc: Global, text: &mut Text) {
-    push_shown(text, "owned ", last_owner(alloc), "\n");
+    push_line(text, "owned ", last_owner(alloc));
     show_made(text, pair(alloc, "Term"), push_compared);
     show_made(text, pair(alloc, "Tern"), push_compared);
 }
@@ -223,13 +187,11 @@ fn pair(alloc: Global, name: &str) -> Result<(Atom, Atom), NoMemory> {
 
 fn push_compared(text: &mut Text, pair: &(Atom, Atom)) {
     let (first, second) = pair;
-    text.put("texts ");
-    text.show(first);
-    text.put(" and ");
+    text.show_between("texts ", first, " and ");
     text.debug(second);
     text.put(", equal ");
     text.show(first == second);
     text.put(", order ");
     text.debug(first.cmp(second));
-    text.put("\n");
+    text.end_line();
 }

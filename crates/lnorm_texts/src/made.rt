@@ -5,7 +5,7 @@
 use crate::text::Text;
 use lalrpop_norm_tree::grammar::parse_tree::{ArgPattern, Name};
 use shared_text::{Atom, NoMemory};
-use std::alloc::Global;
+use std::alloc::{AllocError, Global};
 use std::fmt;
 
 /// The value, unless memory was wanting.
@@ -67,6 +67,17 @@ pub(crate) fn copy_of<T: Clone + Drop>(made: Result<T, NoMemory>) -> Result<T, N
     cloned(&value)
 }
 
+/// A copy of the value that was made, which ends, by a function that copies such values.
+pub(crate) fn copied_by<T: Drop, F: FnOnce(&T) -> Result<T, AllocError>>(
+    made: Result<T, NoMemory>,
+    copy: F,
+) -> Result<T, NoMemory>
+    requires { F.IsAlwaysCallable copy }
+{
+    let value = made?;
+    Ok(copy(&value)?)
+}
+
 /// What is made of the value that was made, which ends.
 pub fn made_of<T: Drop, U, F: FnOnce(&T) -> Result<U, NoMemory>>(
     made: Result<T, NoMemory>,
@@ -105,6 +116,13 @@ pub(crate) fn push_made<T: Drop>(
     Ok(values.push(made?)?)
 }
 
+/// Pushes the value that was made; where memory is wanting, the text says so.
+pub(crate) fn add_made<T: Drop>(text: &mut Text, values: &mut Vec<T>, made: Result<T, NoMemory>) {
+    if push_made(values, made).is_err() {
+        text.lack();
+    }
+}
+
 /// The text before it, the value that was made, and the text behind it.
 pub fn push_shown<T: fmt::Display + Drop>(
     text: &mut Text,
@@ -113,30 +131,56 @@ pub fn push_shown<T: fmt::Display + Drop>(
     after: &str,
 ) {
     match made {
-        Ok(value) => {
-            text.put(before);
-            text.show(value);
-            text.put(after);
-        }
+        Ok(value) => text.show_between(before, value, after),
         Err(_) => text.lack(),
     }
 }
 
-/// The same with its `Debug`.
+/// The text before it, and the value that was made.
+pub(crate) fn push_after<T: fmt::Display + Drop>(
+    text: &mut Text,
+    before: &str,
+    made: Result<T, NoMemory>,
+) {
+    match made {
+        Ok(value) => text.show_after(before, value),
+        Err(_) => text.lack(),
+    }
+}
+
+/// The same, and the end of the line.
+pub(crate) fn push_line<T: fmt::Display + Drop>(
+    text: &mut Text,
+    before: &str,
+    made: Result<T, NoMemory>,
+) {
+    push_after(text, before, made);
+    text.end_line();
+}
+
+/// The text before it, and the value that was made by its `Debug`.
 pub(crate) fn push_debug<T: fmt::Debug + Drop>(
     text: &mut Text,
     before: &str,
     made: Result<T, NoMemory>,
-    after: &str,
 ) {
     match made {
         Ok(value) => {
             text.put(before);
             text.debug(value);
-            text.put(after);
         }
         Err(_) => text.lack(),
     }
+}
+
+/// The same, and the end of the line.
+pub(crate) fn push_debug_line<T: fmt::Debug + Drop>(
+    text: &mut Text,
+    before: &str,
+    made: Result<T, NoMemory>,
+) {
+    push_debug(text, before, made);
+    text.end_line();
 }
 
 /// The text, as a part holds it.

@@ -1,5 +1,5 @@
 //! Terminals, names and patterns that calls make, and copies of parts.
-use crate::made::{atom, both, cloned, list_of_two, made_of, name_pattern, push_shown, show_made};
+use crate::made::{atom, both, cloned, list_of_two, made_of, name_pattern, push_line, show_made};
 use crate::text::Text;
 use lalrpop_norm_tree::grammar::parse_tree::{
     ArgPattern, Name, NoMemory, TerminalString, Tuple, TypeBoundParameter, TypeRef,
@@ -11,8 +11,8 @@ pub(crate) fn push_parts(alloc: Global, text: &mut Text) {
     show_made(text, quoted(alloc, "ab"), push_terminal);
     show_made(text, regex(alloc, "ab"), push_terminal);
     push_name(alloc, text);
-    push_tuple(alloc, text);
-    push_bound_parameter(alloc, text);
+    push_line(text, "tuple copied ", is_tuple_copied(alloc));
+    push_line(text, "parameter of a bound copied ", is_bound_copied(alloc));
 }
 
 fn quoted(alloc: Global, content: &str) -> Result<TerminalString, NoMemory> {
@@ -25,74 +25,54 @@ fn regex(alloc: Global, content: &str) -> Result<TerminalString, NoMemory> {
 
 /// A terminal with its length, and the precedence of its literal.
 fn push_terminal(text: &mut Text, terminal: &TerminalString) {
-    text.put("terminal ");
-    text.show(terminal);
-    text.put(" of length ");
+    text.show_between("terminal ", terminal, " of length ");
     text.show(terminal.display_len());
     if let Some(literal) = terminal.as_literal() {
-        text.put(", precedence ");
-        text.show(literal.base_precedence());
+        text.show_after(", precedence ", literal.base_precedence());
     }
-    text.put("\n");
+    text.end_line();
 }
 
 /// Whether a name that is not mutable is one.
 fn push_name(alloc: Global, text: &mut Text) {
-    show_made(
-        text,
-        both(new_name(alloc), immutable_name(alloc)),
-        push_names,
-    );
+    match both(atom(alloc, "x"), atom(alloc, "x")) {
+        Ok((first, second)) => {
+            let name = Name::new(false, first);
+            let immutable = Name::immut(second);
+            text.show_between("name ", &name, ", immutable ");
+            text.show(name == immutable);
+            text.end_line();
+        }
+        Err(_) => text.lack(),
+    }
 }
 
-fn new_name(alloc: Global) -> Result<Name, NoMemory> {
-    Ok(Name::new(false, atom(alloc, "x")?))
-}
-
-fn immutable_name(alloc: Global) -> Result<Name, NoMemory> {
-    Ok(Name::immut(atom(alloc, "x")?))
-}
-
-fn push_names(text: &mut Text, names: &(Name, Name)) {
-    let (made, immutable) = names;
-    text.put("name ");
-    text.show(made);
-    text.put(", immutable ");
-    text.show(*made == *immutable);
-    text.put("\n");
-}
-
-/// Whether the copy of the pattern `(x, mut y)` is equal to it.
-fn push_tuple(alloc: Global, text: &mut Text) {
-    let is_copied = made_of(tuple(alloc), is_pattern_copied);
-    push_shown(text, "tuple copied ", is_copied, "\n");
-}
-
+/// `(x, mut y)`
 fn tuple(alloc: Global) -> Result<ArgPattern, NoMemory> {
-    Ok(ArgPattern::Tuple(Tuple::new(two_names(alloc)?)))
-}
-
-fn is_pattern_copied(pattern: &ArgPattern) -> Result<bool, NoMemory> {
-    made_of(cloned(pattern), |copy| Ok(*copy == *pattern))
-}
-
-/// `x, mut y`
-fn two_names(alloc: Global) -> Result<Vec<ArgPattern>, NoMemory> {
-    list_of_two(
+    let names = list_of_two(
         alloc,
         name_pattern(alloc, false, "x"),
         name_pattern(alloc, true, "y"),
-    )
+    )?;
+    Ok(ArgPattern::Tuple(Tuple::new(names)))
 }
 
-/// Whether the copy of the parameter `T` of a bound is equal to it.
-fn push_bound_parameter(alloc: Global, text: &mut Text) {
-    let is_copied = made_of(bound_parameter(alloc), is_parameter_copied);
-    push_shown(text, "parameter of a bound copied ", is_copied, "\n");
+fn is_tuple_copied(alloc: Global) -> Result<bool, NoMemory> {
+    made_of(tuple(alloc), is_pattern_copied)
 }
 
+fn is_pattern_copied(pattern: &ArgPattern) -> Result<bool, NoMemory> {
+    let copy = cloned(pattern)?;
+    Ok(copy == *pattern)
+}
+
+/// The parameter `T` of a bound.
 fn bound_parameter(alloc: Global) -> Result<TypeBoundParameter<TypeRef>, NoMemory> {
     Ok(TypeBoundParameter::TypeParameter(TypeRef::Id(atom(alloc, "T")?)))
+}
+
+fn is_bound_copied(alloc: Global) -> Result<bool, NoMemory> {
+    made_of(bound_parameter(alloc), is_parameter_copied)
 }
 
 fn is_parameter_copied(parameter: &TypeBoundParameter<TypeRef>) -> Result<bool, NoMemory> {

@@ -1,10 +1,9 @@
 //! Patterns whose chosen parts are names: the same with their lengths, and the names that `map` calls a closure with.
-ghost use Rattle.std.specs.Prelude.{◌≡◌};
-
 use crate::made::{
-    atom, both, kept, list_of_one, list_of_two, push_debug, push_made, push_shown, show_made,
+    atom, both, list_of_one, list_of_two, push_debug, push_line, push_made, show_made,
 };
 use crate::names::named_path;
+use crate::stop::Stop;
 use crate::text::Text;
 use lalrpop_norm_tree::grammar::parse_tree::{NoMemory, Span};
 use lalrpop_norm_tree::grammar::pattern::{FieldPattern, Pattern, PatternKind};
@@ -18,16 +17,15 @@ pub(crate) fn push_patterns(alloc: Global, text: &mut Text) {
         push_walked(alloc, text, pattern);
     });
     show_made(text, call(alloc), |text, pattern| {
-        push_called(alloc, text, pattern);
-        push_refused(alloc, text, pattern);
+        push_called(alloc, text, pattern, usize::MAX);
+        push_called(alloc, text, pattern, 0);
     });
 }
 
 fn push_walked(alloc: Global, text: &mut Text, pattern: &Pattern<Atom>) {
-    text.put("pattern ");
-    text.show(pattern);
-    push_debug(text, " chooses ", pattern.bindings(alloc), "");
-    push_shown(text, ", with lengths ", lengths_of(pattern), "\n");
+    text.show_after("pattern ", pattern);
+    push_debug(text, " chooses ", pattern.bindings(alloc));
+    push_line(text, ", with lengths ", lengths_of(pattern));
 }
 
 fn lengths_of(pattern: &Pattern<Atom>) -> Result<Pattern<usize>, NoMemory> {
@@ -36,107 +34,73 @@ fn lengths_of(pattern: &Pattern<Atom>) -> Result<Pattern<usize>, NoMemory> {
 
 // ---- the calls of a closure
 
-/// Why a closure ends the walk.
-#[derive(Clone, Copy)]
-enum Stop {
-    /// It refuses what it is called with.
-    Refused,
-    /// There was no memory.
-    Memory,
-}
-
-impl From<NoMemory> for Stop {
-    ghost use Rattle.lnorm_texts.specs.declared.patterns.Stop.TheVariants.{Memory};
-
-    ghost from_gives = { λ _ e. e ≡ Memory };
-
-    fn from(_: NoMemory) -> Stop {
-        Stop::Memory
-    }
-}
-
-fn push_called(alloc: Global, text: &mut Text, pattern: &Pattern<Atom>) {
-    text.put("pattern ");
-    text.show(pattern);
-    push_debug(text, " is called with ", called_with(alloc, pattern), "\n");
-}
-
-fn called_with(alloc: Global, pattern: &Pattern<Atom>) -> Result<Vec<Atom>, NoMemory> {
+/// The names that a closure is called with that refuses the one behind so many.
+fn push_called(alloc: Global, text: &mut Text, pattern: &Pattern<Atom>, allowed: usize) {
     let mut seen = Vec::new(alloc);
-    let done = see_each(&mut seen, pattern);
-    kept(seen, done)
+    push_answer(text, pattern, allowed, &mut seen);
+    text.debug(&seen);
+    text.end_line();
 }
 
-fn see_each(seen: &mut Vec<Atom>, pattern: &Pattern<Atom>) -> Result<(), NoMemory> {
-    pattern.map(&mut |name: &Atom| see(seen, name))?;
-    Ok(())
-}
-
-/// How many names were seen before.
-fn see(seen: &mut Vec<Atom>, name: &Atom) -> Result<usize, NoMemory> {
-    let before = seen.len();
-    push_made(seen, Ok(name.again()))?;
-    Ok(before)
-}
-
-fn push_refused(alloc: Global, text: &mut Text, pattern: &Pattern<Atom>) {
-    let mut seen = Vec::new(alloc);
-    let walked = pattern.map(&mut |name: &Atom| refuse(&mut seen, name));
-    push_refusal(text, pattern, walked, &seen);
-}
-
-fn refuse(seen: &mut Vec<Atom>, name: &Atom) -> Result<usize, Stop> {
-    see(seen, name)?;
-    Err(Stop::Refused)
-}
-
-fn push_refusal(
-    text: &mut Text,
-    pattern: &Pattern<Atom>,
-    walked: Result<Pattern<usize>, Stop>,
-    seen: &[Atom],
-) {
+fn push_answer(text: &mut Text, pattern: &Pattern<Atom>, allowed: usize, seen: &mut Vec<Atom>) {
+    text.show_after("pattern ", pattern);
+    let walked = pattern.map(&mut |name: &Atom| see(seen, allowed, name));
     match walked {
-        Ok(_) => push_seen(text, pattern, " is not refused after ", seen),
-        Err(Stop::Refused) => push_seen(text, pattern, " is refused after ", seen),
+        Ok(lengths) => {
+            drop(lengths);
+            text.put(" is called with ");
+        }
+        Err(Stop::Refused) => text.put(" is refused after "),
         Err(Stop::Memory) => text.lack(),
     }
 }
 
-fn push_seen(text: &mut Text, pattern: &Pattern<Atom>, answer: &str, seen: &[Atom]) {
-    text.put("pattern ");
-    text.show(pattern);
-    text.put(answer);
-    text.debug(seen);
-    text.put("\n");
+/// How many names were seen before, if no more than are allowed.
+fn see(seen: &mut Vec<Atom>, allowed: usize, name: &Atom) -> Result<usize, Stop> {
+    let before = seen.len();
+    push_made(seen, Ok(name.again()))?;
+    if before < allowed {
+        Ok(before)
+    } else {
+        Err(Stop::Refused)
+    }
 }
 
 // ---- the patterns
 
+/// `(ab, P { f: cde, .. })`
 fn pair(alloc: Global) -> Result<Pattern<Atom>, NoMemory> {
-    let patterns = list_of_two(alloc, choice(alloc, "ab"), structure(alloc))?;
+    let patterns = list_of_two(
+        alloc,
+        choice(alloc, "ab"),
+        structure(alloc, "P", "cde", true),
+    )?;
     Ok(at_start(PatternKind::Tuple(patterns)))
-}
-
-/// `P { f: cde, .. }`
-fn structure(alloc: Global) -> Result<Pattern<Atom>, NoMemory> {
-    let fields = list_of_one(alloc, field(alloc, "cde"));
-    let (path, fields) = both(named_path(alloc, "P"), fields)?;
-    Ok(at_start(PatternKind::Struct(path, fields, true)))
 }
 
 /// `P(u32, Q { f: u8 })`
 fn call(alloc: Global) -> Result<Pattern<Atom>, NoMemory> {
-    let inner = list_of_two(alloc, choice(alloc, "u32"), closed_structure(alloc));
+    let inner = list_of_two(
+        alloc,
+        choice(alloc, "u32"),
+        structure(alloc, "Q", "u8", false),
+    );
     let (path, inner) = both(named_path(alloc, "P"), inner)?;
     Ok(at_start(PatternKind::Enum(path, inner)))
 }
 
-/// `Q { f: u8 }`
-fn closed_structure(alloc: Global) -> Result<Pattern<Atom>, NoMemory> {
-    let fields = list_of_one(alloc, field(alloc, "u8"));
-    let (path, fields) = both(named_path(alloc, "Q"), fields)?;
-    Ok(at_start(PatternKind::Struct(path, fields, false)))
+/// `PATH { f: NAME }`, or with `, ..` behind its field.
+fn structure(
+    alloc: Global,
+    path: &str,
+    name: &str,
+    is_open: bool,
+) -> Result<Pattern<Atom>, NoMemory> {
+    let (path, fields) = both(
+        named_path(alloc, path),
+        list_of_one(alloc, field(alloc, name)),
+    )?;
+    Ok(at_start(PatternKind::Struct(path, fields, is_open)))
 }
 
 /// `f: NAME`

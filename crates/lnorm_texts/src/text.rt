@@ -30,9 +30,48 @@ impl Text {
         self.is_whole = self.is_whole && write!(self.text, "{part}").is_ok();
     }
 
+    /// Puts the part by its `Display`, between those texts.
+    pub fn show_between<T: fmt::Display + Drop>(&mut self, before: &str, part: T, after: &str) {
+        self.put(before);
+        self.show(part);
+        self.put(after);
+    }
+
+    /// Puts the text, and the part by its `Display`.
+    pub fn show_after<T: fmt::Display + Drop>(&mut self, before: &str, part: T) {
+        self.put(before);
+        self.show(part);
+    }
+
+    /// Puts the text, the part by its `Display`, and the end of the line.
+    pub fn show_line<T: fmt::Display + Drop>(&mut self, before: &str, part: T) {
+        self.put(before);
+        self.show(part);
+        self.end_line();
+    }
+
     /// Puts the part by its `Debug`.
     pub fn debug<T: fmt::Debug + Drop>(&mut self, part: T) {
         self.is_whole = self.is_whole && write!(self.text, "{part:?}").is_ok();
+    }
+
+    /// Puts the part by its `Debug`, between those texts.
+    pub fn debug_between<T: fmt::Debug + Drop>(&mut self, before: &str, part: T, after: &str) {
+        self.put(before);
+        self.debug(part);
+        self.put(after);
+    }
+
+    /// Puts the text, the part by its `Debug`, and the end of the line.
+    pub fn debug_line<T: fmt::Debug + Drop>(&mut self, before: &str, part: T) {
+        self.put(before);
+        self.debug(part);
+        self.end_line();
+    }
+
+    /// Puts the end of the line.
+    pub fn end_line(&mut self) {
+        self.put("\n");
     }
 
     /// Makes room for so many bytes more.

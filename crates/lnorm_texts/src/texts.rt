@@ -1,5 +1,5 @@
 //! Texts of the parts of a tree, and whether its copy is equal to it.
-use crate::made::{cloned, made_of, push_shown};
+use crate::made::{cloned, push_after};
 use crate::print::symbols::push_span_line;
 use crate::text::Text;
 use lalrpop_norm_precedence::precedence::has_several_levels;
@@ -37,7 +37,7 @@ fn push_algorithm(text: &mut Text, attribute: &Attribute) {
         let mut algorithm = Algorithm::default();
         read_algorithm(slice::from_ref(attribute), &mut algorithm);
         text.debug(algorithm);
-        text.put("\n");
+        text.end_line();
     }
 }
 
@@ -66,57 +66,42 @@ fn push_alternative_texts(alloc: Global, text: &mut Text, alternative: &Alternat
 }
 
 fn push_symbol_texts(alloc: Global, text: &mut Text, symbol: &Symbol) {
-    push_shown(text, "symbol ", symbol.canonical_form(alloc), "");
+    push_after(text, "symbol ", symbol.canonical_form(alloc));
     push_kind_text(alloc, text, &symbol.kind);
     push_tuple_text(alloc, text, symbol);
-    text.put("\n");
-}
-
-fn push_tuple_text(alloc: Global, text: &mut Text, symbol: &Symbol) {
-    if let Some((tuple, inner)) = symbol.as_tuple() {
-        push_shown(text, " names ", tuple_name(alloc, tuple), "");
-        text.put(" of ");
-        text.show(inner);
-    }
-}
-
-fn tuple_name(alloc: Global, tuple: &Tuple) -> Result<String, NoMemory> {
-    made_of(tuple_pattern(tuple), |pattern| pattern.name(alloc))
-}
-
-fn tuple_pattern(tuple: &Tuple) -> Result<ArgPattern, NoMemory> {
-    Ok(ArgPattern::Tuple(cloned(tuple)?))
+    text.end_line();
 }
 
 fn push_kind_text(alloc: Global, text: &mut Text, kind: &SymbolKind) {
     match kind {
-        SymbolKind::Expr(group) => push_shown(text, " group ", group.canonical_form(alloc), ""),
-        SymbolKind::Macro(call) => push_shown(text, " call ", call.canonical_form(alloc), ""),
-        SymbolKind::Repeat(repeat) => push_shown(
-            text,
-            " repeat ",
-            repeat.canonical_form(alloc),
-            "",
-        ),
+        SymbolKind::Expr(group) => push_after(text, " group ", group.canonical_form(alloc)),
+        SymbolKind::Macro(call) => push_after(text, " call ", call.canonical_form(alloc)),
+        SymbolKind::Repeat(repeat) => push_after(text, " repeat ", repeat.canonical_form(alloc)),
         _ => {}
     }
+}
+
+fn push_tuple_text(alloc: Global, text: &mut Text, symbol: &Symbol) {
+    if let Some((tuple, inner)) = symbol.as_tuple() {
+        push_after(text, " names ", tuple_name(alloc, tuple));
+        text.show_after(" of ", inner);
+    }
+}
+
+fn tuple_name(alloc: Global, tuple: &Tuple) -> Result<String, NoMemory> {
+    let pattern = ArgPattern::Tuple(cloned(tuple)?);
+    pattern.name(alloc)
 }
 
 /// Whether the copy of the tree is equal to it, and with another span.
 fn push_equality(text: &mut Text, tree: &Grammar) {
     match tree.clone() {
-        Ok(mut copy) => push_equal(text, tree, &mut copy),
+        Ok(mut copy) => {
+            text.show_between("copy equal ", copy == *tree, ", with another span unequal ");
+            copy.span = Span(0, 1);
+            text.show(copy != *tree);
+            text.end_line();
+        }
         Err(_) => text.lack(),
     }
-}
-
-fn push_equal(text: &mut Text, tree: &Grammar, copy: &mut Grammar) {
-    let is_equal = *copy == *tree;
-    copy.span = Span(0, 1);
-    let is_moved = *copy != *tree;
-    text.put("copy equal ");
-    text.show(is_equal);
-    text.put(", with another span unequal ");
-    text.show(is_moved);
-    text.put("\n");
 }

@@ -29,9 +29,13 @@ fn push_head(text: &mut Text, lowered: &Grammar) {
     push_flags(text, lowered);
     push_lines(text, "  #![", &lowered.module_attributes, "]\n");
     push_lines(text, "  <", &lowered.type_parameters, ">\n");
+    push_parameters(text, lowered);
+    push_lines(text, "use ", &lowered.uses, "\n");
+}
+
+fn push_parameters(text: &mut Text, lowered: &Grammar) {
     push_lines(text, "  (", &lowered.parameters, ")\n");
     push_lines(text, "  where ", &lowered.where_clauses, "\n");
-    push_lines(text, "use ", &lowered.uses, "\n");
 }
 
 fn push_flags(text: &mut Text, lowered: &Grammar) {
@@ -39,7 +43,7 @@ fn push_flags(text: &mut Text, lowered: &Grammar) {
     if lowered.uses_error_recovery {
         text.put(" recovers");
     }
-    text.put("\n");
+    text.end_line();
 }
 
 fn push_algorithm(text: &mut Text, algorithm: &Algorithm) {
@@ -63,17 +67,14 @@ fn push_terminals(text: &mut Text, lowered: &Grammar) {
 fn push_terminal_line(text: &mut Text, lowered: &Grammar, terminal: &TerminalString) {
     text.put("terminal ");
     push_terminal(text, terminal);
-    text.put(": ");
-    text.show(lowered.types.terminal_type(terminal));
+    text.show_after(": ", lowered.types.terminal_type(terminal));
     if let Some(pattern) = lowered.conversions.get(terminal) {
-        text.put(" = ");
-        text.show(pattern);
+        text.show_after(" = ", pattern);
     }
     if let Some(number) = lowered.terminals.bits.get(terminal) {
-        text.put(" #");
-        text.show(number);
+        text.show_after(" #", number);
     }
-    text.put("\n");
+    text.end_line();
 }
 
 fn push_nonterminals(text: &mut Text, lowered: &Grammar) {
@@ -89,15 +90,13 @@ fn push_nonterminal(
     nonterminal: &NonterminalData,
 ) {
     text.show(&nonterminal.visibility);
-    text.put("nonterminal ");
-    text.show(name);
+    text.show_after("nonterminal ", name);
     if let Some(ty) = lowered.types.lookup_nonterminal_type(name) {
-        text.put(": ");
-        text.show(ty);
+        text.show_after(": ", ty);
     }
     push_span(text, nonterminal.span);
     push_attributes(text, &nonterminal.attributes);
-    text.put("\n");
+    text.end_line();
     push_productions(text, &nonterminal.productions);
 }
 
@@ -111,33 +110,24 @@ fn push_productions(text: &mut Text, productions: &[Production]) {
 
 fn push_actions(text: &mut Text, actions: &[ActionFnDefn]) {
     for (number, action) in actions.iter().enumerate() {
-        text.put("action ");
-        text.show(number);
-        push_action(text, action);
+        text.show_after("action ", number);
+        if action.fallible {
+            text.put(" fallible");
+        }
+        text.debug_line(" ", action);
     }
-}
-
-fn push_action(text: &mut Text, action: &ActionFnDefn) {
-    if action.fallible {
-        text.put(" fallible");
-    }
-    text.put(" ");
-    text.debug(action);
-    text.put("\n");
 }
 
 fn push_starts(text: &mut Text, lowered: &Grammar) {
     for (name, symbol) in &lowered.start_nonterminals {
-        text.put("start ");
-        text.show(name);
-        text.put(" = ");
+        text.show_between("start ", name, " = ");
         text.show(symbol);
-        text.put("\n");
+        text.end_line();
     }
 }
 
 /// The grammar by its `Debug`, in one line.
 pub fn push_whole_lowered(text: &mut Text, lowered: &Grammar) {
     text.debug(lowered);
-    text.put("\n");
+    text.end_line();
 }

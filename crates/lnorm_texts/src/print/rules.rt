@@ -7,34 +7,27 @@ use lalrpop_norm_tree::grammar::parse_tree::{
 };
 
 pub(crate) fn push_rule(text: &mut Text, rule: &NonterminalData) {
-    push_rule_head(text, rule);
-    for alternative in &rule.alternatives {
-        push_alternative(text, alternative);
-    }
-}
-
-fn push_rule_head(text: &mut Text, rule: &NonterminalData) {
     text.show(&rule.visibility);
     text.put("rule ");
     push_name(text, &rule.name);
     push_arguments(text, &rule.args);
     if let Some(ty) = &rule.type_decl {
-        text.put(": ");
-        text.show(ty);
+        text.show_after(": ", ty);
     }
     push_span(text, rule.span);
     push_attributes(text, &rule.attributes);
-    text.put("\n");
+    text.end_line();
+    for alternative in &rule.alternatives {
+        push_alternative(text, alternative);
+    }
 }
 
 /// `<A, B>`, where there is an argument.
 fn push_arguments(text: &mut Text, args: &[NonterminalString]) {
     if let Some((first, others)) = args.split_first() {
-        text.put("<");
-        text.show(first);
+        text.show_after("<", first);
         for other in others {
-            text.put(", ");
-            text.show(other);
+            text.show_after(", ", other);
         }
         text.put(">");
     }
@@ -52,25 +45,22 @@ fn push_alternative(text: &mut Text, alternative: &Alternative) {
     if let Some(action) = &alternative.action {
         push_action(text, action);
     }
-    text.put("\n");
+    text.end_line();
 }
 
 fn push_condition(text: &mut Text, condition: &Condition) {
-    text.put(" if ");
-    text.show(&condition.lhs);
-    text.put(" ");
+    text.show_between(" if ", &condition.lhs, " ");
     text.put(operator(&condition.op));
-    text.put(" ");
     push_quoted(text, condition.rhs.as_str());
     push_span(text, condition.span);
 }
 
 fn operator(op: &ConditionOp) -> &'static str {
     match op {
-        ConditionOp::Equals => "==",
-        ConditionOp::NotEquals => "!=",
-        ConditionOp::Match => "~~",
-        ConditionOp::NotMatch => "!~",
+        ConditionOp::Equals => "== ",
+        ConditionOp::NotEquals => "!= ",
+        ConditionOp::Match => "~~ ",
+        ConditionOp::NotMatch => "!~ ",
     }
 }
 

@@ -3,37 +3,31 @@ use crate::text::Text;
 use lalrpop_norm_tree::grammar::parse_tree::{
     MacroSymbol, NonterminalString, RepeatSymbol, Span, Symbol, SymbolKind, TerminalString,
 };
+use std::fmt;
 
 /// ` 3..9`
 pub fn push_span(text: &mut Text, span: Span) {
-    text.put(" ");
-    text.show(span.0);
-    text.put("..");
+    text.show_between(" ", span.0, "..");
     text.show(span.1);
 }
 
 /// `@3..9`
 pub(crate) fn push_range(text: &mut Text, span: Span) {
-    text.put("@");
-    text.show(span.0);
-    text.put("..");
+    text.show_between("@", span.0, "..");
     text.show(span.1);
 }
 
 /// ` 3..9` and the end of the line.
 pub fn push_span_line(text: &mut Text, span: Span) {
     push_span(text, span);
-    text.put("\n");
+    text.end_line();
 }
 
 /// `"a"`, `r#"a"#`, `$NAME`, and `$!` for the error terminal.
 pub fn push_terminal(text: &mut Text, terminal: &TerminalString) {
     match terminal {
         TerminalString::Literal(literal) => text.show(literal),
-        TerminalString::Bare(name) => {
-            text.put("$");
-            text.show(name);
-        }
+        TerminalString::Bare(name) => text.show_after("$", name),
         TerminalString::Error => text.put("$!"),
     }
 }
@@ -43,9 +37,7 @@ pub(crate) fn push_name(text: &mut Text, name: &NonterminalString) {
     if is_word(name.0.as_str()) {
         text.show(name);
     } else {
-        text.put("`");
-        text.show(name);
-        text.put("`");
+        text.show_between("`", name, "`");
     }
 }
 
@@ -78,10 +70,7 @@ fn push_symbol(text: &mut Text, symbol: &Symbol) {
 fn push_kind(text: &mut Text, kind: &SymbolKind) {
     match kind {
         SymbolKind::Expr(group) => push_group(text, &group.symbols),
-        SymbolKind::AmbiguousId(name) => {
-            text.put("~");
-            text.show(name);
-        }
+        SymbolKind::AmbiguousId(name) => text.show_after("~", name),
         SymbolKind::Terminal(terminal) => push_terminal(text, terminal),
         SymbolKind::Nonterminal(name) => push_name(text, name),
         SymbolKind::Macro(call) => push_call(text, call),
@@ -91,15 +80,11 @@ fn push_kind(text: &mut Text, kind: &SymbolKind) {
             push_closed(text, symbol);
         }
         SymbolKind::Name(name, symbol) => {
-            text.put("<");
-            text.show(name);
-            text.put(":");
+            push_label(text, name);
             push_closed(text, symbol);
         }
         SymbolKind::Tuple(tuple, symbol) => {
-            text.put("<");
-            text.show(tuple);
-            text.put(":");
+            push_label(text, tuple);
             push_closed(text, symbol);
         }
         SymbolKind::Lookahead => text.put("@L"),
@@ -127,6 +112,11 @@ fn push_call(text: &mut Text, call: &MacroSymbol) {
 fn push_repeat(text: &mut Text, repeat: &RepeatSymbol) {
     push_symbol(text, &repeat.symbol);
     text.show(repeat.op);
+}
+
+/// `<NAME:`
+fn push_label<T: fmt::Display>(text: &mut Text, name: &T) {
+    text.show_between("<", name, ":");
 }
 
 /// The symbol and a closing `>`.

@@ -3,7 +3,7 @@ use crate::print::symbols::push_terminal;
 use crate::text::Text;
 use lalrpop_norm_repr::grammar::repr::Types;
 use lalrpop_norm_tree::grammar::parse_tree::{
-    EnumToken, Grammar, GrammarItem, InternToken, MatchMapping, NonterminalData, TerminalString,
+    ExternToken, Grammar, GrammarItem, InternToken, MatchMapping, NonterminalData, TerminalString,
 };
 
 /// The types of the tokens, of the terminals of conversions or entries, and of the rules, each in item order.
@@ -14,40 +14,31 @@ pub fn push_types(text: &mut Text, tree: &Grammar, types: &Types) {
     }
 }
 
-/// Of a token, of locations where they have one, of the error terminal, and of what a parser answers where it fails.
-pub(crate) fn push_token_types(text: &mut Text, types: &Types) {
-    text.put("token: ");
-    text.show(types.terminal_token_type());
-    text.put("\n");
-    if let Some(location) = types.opt_terminal_loc_type() {
-        text.put("location: ");
-        text.show(location);
-        text.put("\n");
-    }
-    text.put("recovery: ");
-    text.show(types.error_recovery_type());
-    text.put("\n");
-    text.put("parse error: ");
-    text.show(types.parse_error_type());
-    text.put("\n");
-}
-
 fn push_item_types(text: &mut Text, item: &GrammarItem, types: &Types) {
     match item {
-        GrammarItem::ExternToken(block) => {
-            if let Some(tokens) = &block.enum_token {
-                push_enum_types(text, tokens, types);
-            }
-        }
+        GrammarItem::ExternToken(block) => push_conversion_types(text, block, types),
         GrammarItem::InternToken(tokens) => push_entry_types(text, tokens, types),
         GrammarItem::Nonterminal(rule) => push_rule_type(text, rule, types),
         GrammarItem::MatchToken(_) | GrammarItem::Use(_) => {}
     }
 }
 
-fn push_enum_types(text: &mut Text, tokens: &EnumToken, types: &Types) {
-    for conversion in &tokens.conversions {
-        push_terminal_type(text, &conversion.from, types);
+/// Of a token, of locations where they have one, of the error terminal, and of what a parser answers where it fails.
+pub(crate) fn push_token_types(text: &mut Text, types: &Types) {
+    text.show_line("token: ", types.terminal_token_type());
+    if let Some(location) = types.opt_terminal_loc_type() {
+        text.show_line("location: ", location);
+    }
+    text.show_line("recovery: ", types.error_recovery_type());
+    text.show_line("parse error: ", types.parse_error_type());
+}
+
+/// Of each terminal that a conversion has.
+fn push_conversion_types(text: &mut Text, block: &ExternToken, types: &Types) {
+    if let Some(tokens) = &block.enum_token {
+        for conversion in &tokens.conversions {
+            push_terminal_type(text, &conversion.from, types);
+        }
     }
 }
 
@@ -65,23 +56,16 @@ fn push_terminal_type(text: &mut Text, terminal: &TerminalString, types: &Types)
     text.put("terminal ");
     push_terminal(text, terminal);
     if types.has_term_type(terminal) {
-        text.put(": ");
-        text.show(types.terminal_type(terminal));
-        text.put("\n");
+        text.show_line(": ", types.terminal_type(terminal));
     } else {
         text.put(": token\n");
     }
 }
 
 fn push_rule_type(text: &mut Text, rule: &NonterminalData, types: &Types) {
-    text.put("rule ");
-    text.show(&rule.name);
+    text.show_after("rule ", &rule.name);
     match types.lookup_nonterminal_type(&rule.name) {
-        Some(ty) => {
-            text.put(": ");
-            text.show(ty);
-            text.put("\n");
-        }
+        Some(ty) => text.show_line(": ", ty),
         None => text.put(" has no type\n"),
     }
 }
@@ -89,5 +73,5 @@ fn push_rule_type(text: &mut Text, rule: &NonterminalData, types: &Types) {
 /// The table by its `Debug`, in one line.
 pub fn push_whole_types(text: &mut Text, types: &Types) {
     text.debug(types);
-    text.put("\n");
+    text.end_line();
 }

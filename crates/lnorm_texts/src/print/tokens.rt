@@ -3,10 +3,9 @@ use crate::print::attributes::push_attributes;
 use crate::print::symbols::{push_span, push_span_line, push_terminal};
 use crate::text::Text;
 use lalrpop_norm_tree::grammar::parse_tree::{
-    AssociatedType, Conversion, Dfa, EnumToken, ExternToken, InternToken, MatchContents,
-    MatchEntry, MatchItem, MatchMapping, MatchToken, TerminalLiteral, TypeRef,
+    Conversion, Dfa, EnumToken, ExternToken, InternToken, MatchContents, MatchEntry, MatchItem,
+    MatchToken,
 };
-use lalrpop_norm_tree::grammar::pattern::Pattern;
 
 pub(crate) fn push_match(text: &mut Text, block: &MatchToken) {
     text.put("match");
@@ -20,35 +19,20 @@ fn push_match_group(text: &mut Text, group: &MatchContents) {
     text.put("  group\n");
     for item in &group.items {
         push_match_item(text, item);
+        push_span_line(text, item.span());
     }
 }
 
 fn push_match_item(text: &mut Text, item: &MatchItem) {
+    text.put("    ");
     match item {
-        MatchItem::CatchAll(span) => {
-            text.put("    _");
-            push_span_line(text, *span);
-        }
-        MatchItem::Unmapped(literal, span) => {
-            push_literal(text, literal);
-            push_span_line(text, *span);
-        }
-        MatchItem::Mapped(literal, mapping, span) => {
-            push_literal(text, literal);
-            push_mapping(text, mapping);
-            push_span_line(text, *span);
+        MatchItem::CatchAll(_) => text.put("_"),
+        MatchItem::Unmapped(literal, _) => text.show(literal),
+        MatchItem::Mapped(literal, mapping, _) => {
+            text.show(literal);
+            text.show_after(" => ", mapping);
         }
     }
-}
-
-fn push_literal(text: &mut Text, literal: &TerminalLiteral) {
-    text.put("    ");
-    text.show(literal);
-}
-
-fn push_mapping(text: &mut Text, mapping: &MatchMapping) {
-    text.put(" => ");
-    text.show(mapping);
 }
 
 pub(crate) fn push_intern(text: &mut Text, tokens: &InternToken) {
@@ -64,58 +48,39 @@ fn push_automaton(text: &mut Text, dfa: &Dfa) {
     if !dfa.code.is_empty() {
         text.put("    automaton");
         push_numbers(text, &dfa.code);
-        text.put("\n");
+        text.end_line();
     }
 }
 
 fn push_numbers(text: &mut Text, numbers: &[u32]) {
     for number in numbers {
-        text.put(" ");
-        text.show(number);
+        text.show_after(" ", number);
     }
 }
 
 fn push_entry(text: &mut Text, entry: &MatchEntry) {
-    text.put("    ");
-    text.show(entry.precedence);
-    text.put(" ");
+    text.show_between("    ", entry.precedence, " ");
     text.show(&entry.match_literal);
-    push_mapping(text, &entry.user_name);
-    text.put("\n");
+    text.show_line(" => ", &entry.user_name);
 }
 
 pub(crate) fn push_extern(text: &mut Text, block: &ExternToken) {
     text.put("extern");
     push_span_line(text, block.span);
-    push_associated_types(text, &block.associated_types);
+    for associated in &block.associated_types {
+        text.show_between("  type ", &associated.type_name, " = ");
+        text.show(&associated.type_ref);
+        push_span_line(text, associated.type_span);
+    }
     if let Some(tokens) = &block.enum_token {
         push_enum(text, tokens);
     }
 }
 
-fn push_associated_types(text: &mut Text, types: &[AssociatedType]) {
-    for associated in types {
-        push_associated_type(text, associated);
-    }
-}
-
-fn push_associated_type(text: &mut Text, associated: &AssociatedType) {
-    text.put("  type ");
-    text.show(&associated.type_name);
-    text.put(" = ");
-    text.show(&associated.type_ref);
-    push_span_line(text, associated.type_span);
-}
-
 fn push_enum(text: &mut Text, tokens: &EnumToken) {
-    text.put("  enum ");
-    text.show(&tokens.type_name);
+    text.show_after("  enum ", &tokens.type_name);
     push_span_line(text, tokens.type_span);
-    push_conversions(text, &tokens.conversions);
-}
-
-fn push_conversions(text: &mut Text, conversions: &[Conversion]) {
-    for conversion in conversions {
+    for conversion in &tokens.conversions {
         push_conversion(text, conversion);
     }
 }
@@ -126,11 +91,6 @@ fn push_conversion(text: &mut Text, conversion: &Conversion) {
     push_attributes(text, &conversion.attributes);
     text.put(" ");
     push_terminal(text, &conversion.from);
-    push_pattern(text, &conversion.to);
-}
-
-fn push_pattern(text: &mut Text, pattern: &Pattern<TypeRef>) {
-    text.put(" => ");
-    text.show(pattern);
-    push_span_line(text, pattern.span);
+    text.show_after(" => ", &conversion.to);
+    push_span_line(text, conversion.to.span);
 }

@@ -10,7 +10,9 @@ use std::fmt;
 /// A written grammar: its head, and then item by item.
 pub fn push_tree(text: &mut Text, tree: &Grammar) {
     push_head(text, tree);
-    push_items(text, &tree.items);
+    for item in &tree.items {
+        push_item(text, item);
+    }
 }
 
 fn push_head(text: &mut Text, tree: &Grammar) {
@@ -18,7 +20,7 @@ fn push_head(text: &mut Text, tree: &Grammar) {
     push_span(text, tree.span);
     text.put(" ");
     text.put(tree.prefix.as_str());
-    text.put("\n");
+    text.end_line();
     push_lines(text, "  #![", &tree.module_attributes, "]\n");
     push_attribute_lines(text, &tree.attributes);
     push_lines(text, "  <", &tree.type_parameters, ">\n");
@@ -34,9 +36,7 @@ pub(crate) fn push_lines<T: fmt::Display>(
     after: &str,
 ) {
     for value in values {
-        text.put(before);
-        text.show(value);
-        text.put(after);
+        text.show_between(before, value, after);
     }
 }
 
@@ -50,17 +50,9 @@ fn push_attribute_lines(text: &mut Text, attributes: &[Attribute]) {
 
 fn push_parameters(text: &mut Text, parameters: &[Parameter]) {
     for parameter in parameters {
-        text.put("  (");
-        text.show(&parameter.name);
-        text.put(": ");
+        text.show_between("  (", &parameter.name, ": ");
         text.show(&parameter.ty);
         text.put(")\n");
-    }
-}
-
-fn push_items(text: &mut Text, items: &[GrammarItem]) {
-    for item in items {
-        push_item(text, item);
     }
 }
 
@@ -70,16 +62,12 @@ fn push_item(text: &mut Text, item: &GrammarItem) {
         GrammarItem::ExternToken(block) => push_extern(text, block),
         GrammarItem::InternToken(tokens) => push_intern(text, tokens),
         GrammarItem::Nonterminal(rule) => push_rule(text, rule),
-        GrammarItem::Use(path) => {
-            text.put("use ");
-            text.show(path);
-            text.put("\n");
-        }
+        GrammarItem::Use(path) => text.show_line("use ", path),
     }
 }
 
 /// The tree by its `Debug`, in one line.
 pub fn push_whole_tree(text: &mut Text, tree: &Grammar) {
     text.debug(tree);
-    text.put("\n");
+    text.end_line();
 }
