@@ -1,17 +1,12 @@
 use Rattle.std.proofs.Common.{◌≡◌, length, ap, ◌∙◌, arith}
 use Rattle.std.specs.Prelude.{option_map}
 use Rattle.std.proofs.lemmas.Bool.Decides.{nat_tests}
-use Rattle.std.proofs.lemmas.Result.{IfOk-from_err}
 use Rattle.lalrpop_norm_tree_parts.specs.Reprs.{tuple}
 use Rattle.lalrpop_norm_tree_parts.proofs.ReprViews.{view_tuple}
 use Rattle.lalrpop_norm_tyinfer_table.specs.Numbered.{numbered_table}
-use Rattle.lalrpop_norm_tyinfer.proofs.Sources.{one_source, many_sources}
+use Rattle.lalrpop_norm_tyinfer.proofs.Sources.{many_sources}
 use Rattle.lalrpop_norm_tyinfer.proofs.tyinfer.type_sources.sources_value.Goals as goal
 use Rattle.lalrpop_norm_tyinfer.proofs.tyinfer.type_sources.sources_value.Goals.{in_default-via-then-sources-lt1, in_default-via-else-sources-lt1+else-sources-lt2}
-
-pub returns-in-len1 : goal.returns-in-len1
-returns-in-len1 c =
-    rw (one_source (numbered_table c.args.types.now) c.args.sources.now c.source-item.result c.in-len1.len_at_least c.in-len1.len_below c.source-item.is) c.kind_value.ensures
 
 pub returns-in-Some : goal.returns-in-Some
 returns-in-Some c =
@@ -26,6 +21,3 @@ returns-in-None c =
     λ one. elim c.in_default.branch [ in_default-via-then-sources-lt1 w ↦ grind (arith, nat_tests) | in_default-via-else-sources-lt1+else-sources-lt2 w ↦ grind (arith, nat_tests) ]
     in
     ap (option_map tuple) (rw c.in-None.is at c.in_ok-values-in_default.ensures) ∙ many_sources (numbered_table c.args.types.now) c.args.sources.now apart
-
-pub returns-in_err-values-in_default : goal.returns-in_err-values-in_default
-returns-in_err-values-in_default c = IfOk-from_err _ _ c.from_residual.ensures.0
