@@ -47,7 +47,8 @@ fn add_alternative(
     ensures places { OnOk result (kept.new.places.items
         ≡ kept.old.places.items ++ kept_place comparison bindings.now.names.now (parts_view bindings.now.symbols.now) place (alternative_view alternative.now)) }
 {
-    if is_kept(alloc, bindings, &alternative.condition)? {
+    let keeps = is_kept(alloc, bindings, &alternative.condition)?;
+    if keeps {
         let copy = copied_alternative(alloc, span, alternative)?;
         kept.alternatives.push(copy)?;
         kept.places.push(place)?;

@@ -92,7 +92,8 @@ fn check_times(
     match op {
         RepeatOp::Star | RepeatOp::Plus | RepeatOp::Question => Ok(()),
         RepeatOp::Times(_) => {
-            if names_value(symbol) {
+            let named = names_value(symbol);
+            if named {
                 return Err(refusal(
                     FaultKind::NamedInTimes,
                     span,

@@ -1,11 +1,14 @@
-use Rattle.std.proofs.Common.{◌≡◌, ◌++◌, ◌-◌, ◌+◌, ℕ, List, length, map, drop, reverse, arith, sym, ap, ap₂, ◌∙◌, subst}
+use Rattle.std.proofs.Common.{◌≡◌, ◌++◌, ◌-◌, ◌+◌, ℕ, List, length, map, drop, reverse, arith, refl, sym, ap, ap₂, ◌∙◌, subst}
 use Rattle.std.specs.List.{flat_map}
 use Rattle.std.proofs.lemmas.List.{with_items_is, length-append, length-drop, length-map, take_all}
 use borrow.Rule.Slice.PartMut.{put_mid, mid_of}
 use Rattle.lalrpop_norm_tree.specs.declared.items.GrammarItem.{GrammarItem}
 use Rattle.lalrpop_norm_tree.specs.Items.{item_view}
+use Rattle.lalrpop_norm_faults.specs.declared.failure.NormFailure.TheVariants.{Memory}
 use Rattle.lalrpop_norm_faults.specs.Faults.{Fault}
+use Rattle.lalrpop_norm_faults.proofs.FaultLemmas.{exit_at}
 use Rattle.lalrpop_norm_nodes.proofs.EnterLemmas.{err_same}
+use Rattle.lalrpop_norm_nodes.proofs.MeetingLemmas.{err_refuses}
 use Rattle.lalrpop_norm_nodes.specs.Tables.{wholes_in, TableMeets, refused_in}
 use Rattle.lalrpop_norm_nodes.specs.Waits.{LeavesWaiting}
 use Rattle.lalrpop_norm_macro_expand_rules.specs.Macros.{macros_in}
@@ -13,6 +16,7 @@ use Rattle.lalrpop_norm_macro_expand_rules.specs.Pending.{PendingData, item_of, 
 use Rattle.lalrpop_norm_macro_expand.specs.Made.{made_view}
 use Rattle.lalrpop_norm_macro_expand.specs.Making.{pending_for}
 use Rattle.lalrpop_norm_macro_expand.proofs.BehindLemmas.{last_filled, still_long, read_behind}
+use Rattle.lalrpop_norm_macro_expand.proofs.ExitLemmas.{no_change}
 use Rattle.lalrpop_norm_macro_expand.proofs.macro_expand.read_round.Goals as goal
 
 -- of the rules behind those of the rounds before there are as many as were made
@@ -36,8 +40,26 @@ read_pending-requires-clause-long c =
     (ap (map item_view) c.deref_mut.ensures.value ∙ c.in_ok-fillings.ensures.rules ∙ ap (λ (xs : List GrammarItem). map item_view xs ++ map item_of ps) c.in_ok-make_room.ensures)
     (sym (length-map c.in_ok-fillings.fillings.items (filling_view ws)) ∙ ap length c.in_ok-fillings.ensures.fillings ∙ length-map ps filling_of)
 
-pub returns-in_err-read_pending-clause-refuses : goal.returns-in_err-read_pending-clause-refuses
-returns-in_err-read_pending-clause-refuses c =
+pub returns-in_err-make_room : goal.returns-in_err-make_room
+returns-in_err-make_room c =
+    let from = c.from_residual.ensures.1 in
+    let gone = no_change _ _ from in
+    record { refuses = err_refuses _ Memory _ from tt; meets = gone _; counted = gone _; waits = gone _; value = gone _; made = gone _ }
+
+pub returns-in_err-fillings : goal.returns-in_err-fillings
+returns-in_err-fillings c =
+    let from = c.from_residual-in_err-fillings.ensures.1 in
+    let gone = no_change _ _ from in
+    record { refuses = exit_at _ _ _ _ _ from c.in_err-fillings.ensures.refuses refl; meets = gone _; counted = gone _; waits = gone _; value = gone _; made = gone _ }
+
+pub returns-in_err-reserve : goal.returns-in_err-reserve
+returns-in_err-reserve c =
+    let from = c.from_residual-in_err-reserve.ensures.1 in
+    let gone = no_change _ _ from in
+    record { refuses = err_refuses _ Memory _ from tt; meets = gone _; counted = gone _; waits = gone _; value = gone _; made = gone _ }
+
+pub returns-in_err-read_pending : goal.returns-in_err-read_pending
+returns-in_err-read_pending c =
     let ws = wholes_in c.args.table.now in
     let ps : List PendingData = flat_map (pending_for ws (macros_in c.args.makers.now.macros)) (reverse c.args.waiting.items) in
     let old : List GrammarItem = c.args.done.now.items in
@@ -46,9 +68,18 @@ returns-in_err-read_pending-clause-refuses c =
     let rules : map item_view all ≡ map item_view old ++ map item_of ps =
     ap (map item_view) c.deref_mut.ensures.value ∙ c.in_ok-fillings.ensures.rules ∙ ap (λ (xs : List GrammarItem). map item_view xs ++ map item_of ps) c.in_ok-make_room.ensures in
     let are = last_filled old all c.len-first.result ps before rules (map (filling_view ws) c.in_ok-fillings.fillings.items) c.in_ok-fillings.ensures.fillings in
-    err_same _ _ _ _
-    (ap₂ (λ (fs : List Fault) (qs : List PendingData). fs ++ refused_in c.args.table.now (flat_map met_in_pending qs)) c.in_ok-fillings.ensures.refuses (sym are))
-    c.from_residual-in_err-read_pending.ensures.1 c.in_err-read_pending.ensures.refuses
+    let gone = no_change _ _ c.from_residual-in_err-read_pending.ensures.1 in
+    record {
+      refuses =
+          err_same _ _ _ _
+          (ap₂ (λ (fs : List Fault) (qs : List PendingData). fs ++ refused_in c.args.table.now (flat_map met_in_pending qs)) c.in_ok-fillings.ensures.refuses (sym are))
+          c.from_residual-in_err-read_pending.ensures.1 c.in_err-read_pending.ensures.refuses;
+      meets = gone _;
+      counted = gone _;
+      waits = gone _;
+      value = gone _;
+      made = gone _;
+    }
 
 pub returns-clause-refuses : goal.returns-clause-refuses
 returns-clause-refuses c =
