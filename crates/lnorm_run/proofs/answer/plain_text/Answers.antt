@@ -24,3 +24,6 @@ returns-in-Ok-clause-ok c =
       printed = printed ∙ ap (λ (b : Bool). lines (if b then Some (origins_of_actions s.features tree s.limit) else None) lowered) (sym c.requires);
     })
     c.text_of-text.ensures.ok
+
+pub returns-in-Err-clause-ok : goal.returns-in-Err-clause-ok
+returns-in-Err-clause-ok c = tt
