@@ -27,7 +27,7 @@ append_nothing : (xs : List ℕ) → xs ++ [] ≡ xs
 append_nothing [] = refl
 append_nothing (x ∷ xs) = ap (λ ys. x ∷ ys) (append_nothing xs)
 
--- where either side has ended, all is written
+-- where either list has ended, all is written
 pub last_pair : (ps : List ArgPattern) (ts : List TypeRepr) (written all : List ℕ) → (ps ≡ []) ⊎ (ts ≡ []) → written ++ pair_texts ps ts ≡ all → written ≡ all
 last_pair ps ts written all (inl e) before = sym (append_nothing written) ∙ (ap (λ qs. written ++ pair_texts qs ts) (sym e) ∙ before)
 last_pair ps ts written all (inr e) before =

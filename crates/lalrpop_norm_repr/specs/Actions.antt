@@ -13,7 +13,7 @@ use Rattle.lalrpop_norm_repr.specs.declared.action.LookaroundActionFnDefn.{Looka
 use Rattle.lalrpop_norm_repr.specs.declared.action.UserActionFnDefn.{UserActionFnDefn}
 use Rattle.lalrpop_norm_repr.specs.declared.symbol.Symbol.{Symbol}
 
--- the place of the action in the grammar's list
+-- the index of the action in the grammar's list
 abbrev pub action_index : ActionFn → ℕ
 action_index a = a.0
 

@@ -37,7 +37,7 @@ pub record IsClosedProduction (g : LoweredGrammar) (n : NonterminalString) (p : 
 abbrev pub IsClosedEntry : LoweredGrammar → NonterminalString × EntryData → Type 0
 IsClosedEntry g r = All (IsClosedProduction g r.0) r.1.productions
 
--- each production is closed, and each terminal has its place as its number, so that none is there twice
+-- each production is closed, and each terminal has its index as its number, and none occurs twice
 pub record IsClosed (g : LoweredGrammar) : Type 0 where
   pub productions : All (IsClosedEntry g) g.nonterminals
   pub numbers : (t : TerminalString) (i : ℕ) → slice_get g.terminals.all i ≡ Some t →

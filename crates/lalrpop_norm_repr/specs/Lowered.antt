@@ -21,7 +21,7 @@ pub record LoweredParameter : Type 0 where
 abbrev pub lowered_parameter_view : Parameter → LoweredParameter
 lowered_parameter_view p = record { name = p.name; ty = repr_view p.ty }
 
--- the terminals, and the rows of their places
+-- the terminals, and the rows of their indices
 pub record TerminalTable : Type 0 where
   pub all : List TerminalString
   pub bits : List (TerminalString × ℕ)

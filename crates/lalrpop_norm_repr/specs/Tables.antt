@@ -14,12 +14,12 @@ use Rattle.lalrpop_norm_repr.specs.declared.types.Types.{Types}
 abbrev pub rows : {K X V : Type 0} → (X → V) → BTreeMap K X → List (K × V)
 rows f m = map (λ e. (e.0, f e.1)) m.entries
 
--- what stands at the name
+-- the value at the name
 abbrev pub found : {V : Type 0} → NonterminalString → List (NonterminalString × V) → Option V
 found name [] = None
 found name (r ∷ rs) = if bytes_eq name.0 r.0.0 then Some r.1 else found name rs
 
--- what stands at the terminal
+-- the value at the terminal
 abbrev pub found_terminal : {V : Type 0} → TerminalString → List (TerminalString × V) → Option V
 found_terminal t [] = None
 found_terminal t (r ∷ rs) = if same_terminal t r.0 then Some r.1 else found_terminal t rs

@@ -11,12 +11,12 @@ use lalrpop_norm_tree::grammar::parse_tree::ArgPattern;
 use lalrpop_norm_tree::grammar::repr::TypeRepr;
 use std::fmt;
 
-/// The number of an action: its place in the grammar's list of them.
+/// The number of an action: its index in the grammar's list of actions.
 #[derive(Clone, Copy, PartialEq, Eq, PartialOrd, Ord, Hash)]
 pub struct ActionFn(u32);
 
 impl ActionFn {
-    /// The action of that place, counted from 0, which is below 2^32.
+    /// The action of that index, which is below 2^32.
     pub fn new(x: usize) -> ActionFn
         requires { x < 4294967296 }
         ensures { action_index result ≡ x }
@@ -24,7 +24,7 @@ impl ActionFn {
         ActionFn(x as u32)
     }
 
-    /// The action's place in the grammar's list of actions.
+    /// The action's index in the grammar's list of actions.
     pub fn index(self) -> usize
         ensures { result ≡ action_index self }
     {
@@ -60,7 +60,7 @@ pub enum ActionFnDefnKind {
     User(UserActionFnDefn),
     /// Calls of other actions.
     Inline(InlineActionFnDefn),
-    /// The location at a lookaround.
+    /// The location at a location symbol, `@L` or `@R`.
     Lookaround(LookaroundActionFnDefn),
 }
 
@@ -71,7 +71,7 @@ pub struct UserActionFnDefn {
     pub arg_patterns: Vec<ArgPattern>,
     /// One for each symbol of the production, in order.
     pub arg_types: Vec<TypeRepr>,
-    /// With each `<>` filled in.
+    /// With each `<>` substituted.
     pub code: String,
 }
 
@@ -102,7 +102,7 @@ pub enum InlinedSymbol {
     Inlined(ActionFn, Vec<Symbol>),
 }
 
-// The release of a derived type is proved anew in each crate in which a value of it ends, at each place; those of actions are
+// The drop of a derived type is proved anew in each crate, wherever a value of it is dropped; the drops of actions are
 // proved here.
 impl Drop for ActionFnDefn {
     fn drop(self) {

@@ -19,7 +19,7 @@ use std::fmt;
 pub struct NonterminalData {
     /// Who may use it.
     pub visibility: Visibility,
-    /// Where its rule stands; of a made rule, where the symbol stands that it was made for.
+    /// The span of its rule; if it is generated, the span of the symbol that it was generated for.
     pub span: Span,
     /// Those of its rule; a start symbol has none.
     pub attributes: Vec<Attribute>,
@@ -27,7 +27,7 @@ pub struct NonterminalData {
     pub productions: Vec<Production>,
 }
 
-// The release of a derived type is proved anew in each crate in which a value of it ends, at each place; this one is proved
+// The drop of a derived type is proved anew in each crate, wherever a value of it is dropped; this one is proved
 // here.
 impl Drop for NonterminalData {
     fn drop(self) {
@@ -49,7 +49,7 @@ pub struct Production {
     pub symbols: Vec<Symbol>,
     /// What makes its value.
     pub action: ActionFn,
-    /// Where its alternative stands.
+    /// The span of its alternative.
     pub span: Span,
 }
 

@@ -31,7 +31,7 @@ impl Symbol {
         }
     }
 
-    /// The symbol's type in the table, in which a nonterminal has one (`lookup_nonterminal_type` tells).
+    /// The symbol's type in the table, in which a nonterminal has one (see `lookup_nonterminal_type`).
     pub fn ty<'ty>(&self, types: &'ty Types) -> &'ty TypeRepr
         requires { HasSymbolType self.now (type_table types.now) }
         ensures { Some (repr_view result.now) ≡ symbol_type self.now (type_table types.now) }

@@ -27,7 +27,7 @@ pub struct Types {
     error_recovery_type: TypeRepr,
 }
 
-// The release of a derived type is proved anew in each crate in which a value of it ends, at each place; this one is proved
+// The drop of a derived type is proved anew in each crate, wherever a value of it is dropped; this one is proved
 // here.
 impl Drop for Types {
     fn drop(self) {
@@ -45,8 +45,8 @@ impl Drop for Types {
 }
 
 impl Types {
-    /// Gives a nonterminal that has no type yet (`lookup_nonterminal_type` tells) its type. The only error is want of
-    /// memory; the table is then as it was.
+    /// Gives a nonterminal that has no type yet (see `lookup_nonterminal_type`) its type. The only error is a failed
+    /// allocation; the table is then as it was.
     pub fn add_type(&mut self, name: NonterminalString, ty: TypeRepr) -> Result<(), NoMemory>
         requires { type_of name (type_table self.old) ≡ None }
         ensures added { OnOk result (type_of name (type_table self.new) ≡ Some (repr_view ty)) }
@@ -58,7 +58,7 @@ impl Types {
         Ok(())
     }
 
-    /// Gives a terminal that is not listed (`has_term_type` tells) its type. The only error is want of memory; the table
+    /// Gives a terminal that is not listed (see `has_term_type`) its type. The only error is a failed allocation; the table
     /// is then as it was.
     pub fn add_term_type(&mut self, terminal: TerminalString, ty: TypeRepr) -> Result<(), NoMemory>
         requires { listed_type terminal (type_table self.old) ≡ None }

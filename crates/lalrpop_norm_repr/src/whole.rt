@@ -42,7 +42,7 @@ pub struct Grammar {
     pub intern_token: Option<InternToken>,
     /// The actions, in the order of their numbers.
     pub action_fn_defns: Vec<ActionFnDefn>,
-    /// All terminals, with their places.
+    /// All terminals, with their numbers.
     pub terminals: TerminalSet,
     /// Each nonterminal with its productions.
     pub nonterminals: BTreeMap<NonterminalString, NonterminalData>,
@@ -54,7 +54,7 @@ pub struct Grammar {
     pub module_attributes: Vec<String>,
 }
 
-// The release of a derived type is proved anew in each crate in which a value of it ends, at each place; this one is proved
+// The drop of a derived type is proved anew in each crate, wherever a value of it is dropped; this one is proved
 // here.
 impl Drop for Grammar {
     fn drop(self) {
@@ -78,12 +78,12 @@ impl Drop for Grammar {
     }
 }
 
-/// The terminals of a grammar, and the place of each.
+/// The terminals of a grammar, and the index of each.
 #[derive(Debug, Drop)]
 pub struct TerminalSet {
-    /// Each at its place, which is its number.
+    /// Each at its index, which is its number.
     pub all: Vec<TerminalString>,
-    /// The place of each in `all`, from 0.
+    /// The index of each in `all`.
     pub bits: BTreeMap<TerminalString, usize>,
 }
 

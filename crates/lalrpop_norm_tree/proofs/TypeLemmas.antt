@@ -6,7 +6,7 @@ use Rattle.lalrpop_norm_tree.specs.LoweredTypes.{holds_symbol, any_holds_symbol,
 use Rattle.lalrpop_norm_tree_parts.specs.Reprs.{reprs_of, repr_and}
 use Rattle.lalrpop_norm_tree.specs.Types.{type_view, types_view}
 
--- a symbol stands in one of the types
+-- one of the types contains a symbol
 pub any_of_them : (ts : List TypeRef) → any_holds_symbol (types_view ts) ≡ list_any (λ t. holds_symbol (type_view t)) ts
 any_of_them [] = refl
 any_of_them (t ∷ ts) = ap (λ b. holds_symbol (type_view t) || b) (any_of_them ts)

@@ -32,7 +32,7 @@ use Rattle.lalrpop_norm_tree.specs.Types.{TypeData, type_view, ParameterData, pa
 
 -- ---- rules
 
--- the code of an alternative
+-- the action code of an alternative
 pub data Action : Type 0 where
   user_code : List ℕ → Action
   fallible_code : List ℕ → Action

@@ -5,7 +5,7 @@ use Rattle.lalrpop_norm_tree_parts.specs.Reprs as lowered
 use Rattle.lalrpop_norm_tree.specs.Types.{TypeData, tuple, slice, nominal, reference, trait_object, of_lifetime, id, of_symbol}
 use Rattle.lalrpop_norm_tree.specs.Types.{function, TypesData, no_types, type_and, MaybeType, no_type, returns}
 
--- whether the type of a symbol stands in the type
+-- whether the type contains the type of a symbol
 abbrev mutual
   pub holds_symbol : TypeData → Bool
   holds_symbol (tuple ts) = any_holds_symbol ts

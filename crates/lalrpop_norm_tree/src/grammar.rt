@@ -28,7 +28,7 @@ pub mod pattern {
     pub use lalrpop_norm_tree_patterns::pattern::{FieldPattern, Pattern, PatternKind};
 }
 
-/// The types of lowered grammars that stand on no table.
+/// The types of lowered grammars that need no table.
 pub mod repr {
     pub use lalrpop_norm_tree_parts::lowered::{
         Algorithm, LrCodeGeneration, NominalTypeRepr, TypeRepr, WhereClause,

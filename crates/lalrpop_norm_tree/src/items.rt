@@ -24,7 +24,7 @@ use std::fmt;
 pub struct Grammar {
     /// Begins the names of start symbols, of the values in action code, and of the crate that the parser uses.
     pub prefix: String,
-    /// Where the grammar stands; a fault of the whole grammar is told here.
+    /// The span of the grammar; a fault of the whole grammar has this span.
     pub span: Span,
     /// The lifetimes and types of `grammar<'a, T>`.
     pub type_parameters: Vec<TypeParameter>,
@@ -60,7 +60,7 @@ pub enum GrammarItem {
 pub struct MatchToken {
     /// Its groups, in the order of the text.
     pub contents: Vec<MatchContents>,
-    /// Where the block stands.
+    /// The span of the block.
     pub span: Span,
 }
 
@@ -71,7 +71,7 @@ pub struct MatchContents {
     pub items: Vec<MatchItem>,
 }
 
-/// An item of a match block, with its place.
+/// An item of a match block, with its span.
 #[derive(Clone, Debug, PartialEq, Eq)]
 pub enum MatchItem {
     /// `_`: every literal that the grammar uses and the block does not name.
@@ -125,7 +125,7 @@ pub struct MatchEntry {
 /// An extern block.
 #[derive(Debug, PartialEq, Eq)]
 pub struct ExternToken {
-    /// Where the block stands.
+    /// The span of the block.
     pub span: Span,
     /// In the order of the text.
     pub associated_types: Vec<AssociatedType>,
@@ -136,7 +136,7 @@ pub struct ExternToken {
 /// `type Location = ..` or `type Error = ..`.
 #[derive(Debug, PartialEq, Eq)]
 pub struct AssociatedType {
-    /// Where its name stands.
+    /// The span of its name.
     pub type_span: Span,
     /// Its name.
     pub type_name: Atom,
@@ -149,7 +149,7 @@ pub struct AssociatedType {
 pub struct EnumToken {
     /// The type of a token.
     pub type_name: TypeRef,
-    /// Where that type stands.
+    /// The span of that type.
     pub type_span: Span,
     /// In the order of the text.
     pub conversions: Vec<Conversion>,
@@ -158,7 +158,7 @@ pub struct EnumToken {
 /// A terminal and the pattern of its tokens.
 #[derive(Debug, PartialEq, Eq)]
 pub struct Conversion {
-    /// Where it stands.
+    /// Its span.
     pub span: Span,
     /// Such as `cfg(..)`.
     pub attributes: Vec<Attribute>,
@@ -188,7 +188,7 @@ pub struct NonterminalData {
     pub name: NonterminalString,
     /// Such as `inline` and `cfg(..)`.
     pub attributes: Vec<Attribute>,
-    /// Where its name stands, with the arguments of a macro.
+    /// The span of its name, with the arguments of a macro.
     pub span: Span,
     /// The macro's arguments.
     pub args: Vec<NonterminalString>,
@@ -201,7 +201,7 @@ pub struct NonterminalData {
 /// An alternative of a rule.
 #[derive(Debug, PartialEq, Eq)]
 pub struct Alternative {
-    /// Where it stands.
+    /// Its span.
     pub span: Span,
     /// Its symbols.
     pub expr: ExprSymbol,
@@ -213,23 +213,23 @@ pub struct Alternative {
     pub attributes: Vec<Attribute>,
 }
 
-/// The code of an alternative.
+/// The action code of an alternative.
 #[derive(Debug, PartialEq, Eq)]
 pub enum ActionKind {
     /// Code without its arrow.
     User(String),
     /// Code that may fail: `=>? ..`.
     Fallible(String),
-    /// Made for `@L`; refused where it is written (F24).
+    /// Made for `@L`; an error where it is written (F24).
     Lookahead,
-    /// Made for `@R`; refused where it is written (F24).
+    /// Made for `@R`; an error where it is written (F24).
     Lookbehind,
 }
 
 /// `if X == "a"`: an alternative of a macro that only some instances have.
 #[derive(Clone, Debug, PartialEq, Eq)]
 pub struct Condition {
-    /// Where it stands.
+    /// Its span.
     pub span: Span,
     /// The argument of the macro that is tested.
     pub lhs: NonterminalString,
@@ -273,7 +273,7 @@ impl fmt::Debug for MatchMapping {
 
 // ---- releases
 
-// The release of a derived type is proved anew in each crate in which a value of it ends; these are proved here.
+// The drop of a derived type is proved anew in each crate in which a value of it is dropped; these are proved here.
 impl Drop for MatchToken {
     fn drop(self) {
         let MatchToken {

@@ -35,7 +35,7 @@ pub enum TypeRef {
     Lifetime(Lifetime),
     /// A single name; in a macro it may name an argument.
     Id(Atom),
-    /// The type of a symbol. Macro expansion makes it; refused where it is written (F23).
+    /// The type of a symbol. Macro expansion makes it; an error where it is written (F23).
     OfSymbol(SymbolKind),
     /// `dyn for<'a> P(A, B) -> R`.
     Fn {
@@ -57,7 +57,7 @@ pub struct Parameter {
 
 // ---- releases
 
-// The release of a derived type is proved anew in each crate in which a value of it ends; these are proved here.
+// The drop of a derived type is proved anew in each crate in which a value of it is dropped; these are proved here.
 impl Drop for TypeRef {
     fn drop(self) {
         match self {

@@ -10,7 +10,7 @@ literal_of (Literal l) = Some l
 literal_of (Bare a) = None
 literal_of Error = None
 
--- quoted literals stand above regular expressions
+-- quoted literals are above regular expressions
 abbrev pub base_precedence : TerminalLiteral → ℕ
 base_precedence (Quoted a) = 1
 base_precedence (Regex a) = 0

@@ -22,7 +22,7 @@ pub fn lifetime_or_new(
     }
 }
 
-/// A lifetime that has the number of parameters in its name, and is one more parameter. The only error is want of memory.
+/// A lifetime that has the number of parameters in its name, and is one more parameter. The only error is a failed allocation.
 pub fn new_lifetime(
     alloc: Global,
     prefix: &str,
@@ -37,7 +37,7 @@ pub fn new_lifetime(
     Ok(Lifetime(name))
 }
 
-/// `'`, the prefix and a number. The only error is want of memory.
+/// `'`, the prefix and a number. The only error is a failed allocation.
 fn numbered_name(alloc: Global, prefix: &str, number: usize) -> Result<Atom, NoMemory>
     ensures { IfOk result (λ a. a ≡ (numbered_lifetime prefix.now number).0) }
 {

@@ -34,7 +34,7 @@ pub enum TerminalString {
     Literal(TerminalLiteral),
     /// A name that a conversion or a match block declares.
     Bare(Atom),
-    /// What stands in a lowered grammar for `!`.
+    /// The terminal that a lowered grammar has for `!`.
     Error,
 }
 

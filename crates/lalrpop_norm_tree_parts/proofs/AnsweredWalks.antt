@@ -1,8 +1,8 @@
--- What a walk answers where each call answers one function of its place.
+-- What a walk answers where each call answers one function of its part.
 use Rattle.std.proofs.Common.{◌≡◌, Result, Ok, List, [], ◌∷◌, map, refl}
 use Rattle.lalrpop_norm_tree_parts.specs.Walks.{Answered}
 
--- each call keeps Is, and answers a value that v sees as g of the place
+-- each call keeps Is, and answers a value that v sees as g of the part
 module _ {S T U E V : Type 0} (Step : S → T → Result U E → S → Type 0) (Is : S → Type 0) (v : U → V) (g : T → V)
     (each : (s s' : S) (t : T) (u : U) → Is s → Step s t (Ok u) s' → (v u ≡ g t) × Is s') where
   pub answered_mapped : (s s' : S) (ts : List T) (us : List U) → Is s → Answered Step s ts us s' → map v us ≡ map g ts

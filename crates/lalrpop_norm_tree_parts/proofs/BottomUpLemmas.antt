@@ -34,7 +34,7 @@ module _ {S E : Type 0} (OfMemory : E → Type 0) where
   made_as W k s s' (Err e) (inr (a, r, w, m)) = inr (a, r, w, m)
 
   module _ (call : ReprData → Walk S E ReprData) where
-    -- memory may be wanting before the first call
+    -- an allocation may fail before the first call
     mutual
       pub inside_wanting : (t : ReprData) (s : S) (e : E) → OfMemory e → inside_type call OfMemory t s (Err e) s
       inside_wanting (tuple ts) s e m = inl (all_wanting ts s e m)
@@ -75,7 +75,7 @@ module _ {S E X : Type 0} (OfMemory : E → Type 0) (call : ReprData → Walk S 
   pub left_ended : (s s' : S) (e : E) → bottom_up call OfMemory (v (get_or xs i x)) s (Err e) s' → Left (reprs_of (map v (drop i xs))) s (Err e) s'
   left_ended s s' e w = rw (here) (inl w)
 
-  -- memory is wanting for its answer
+  -- the allocation fails for its answer
   pub left_wanting : (s s' : S) (u : ReprData) (e : E) → bottom_up call OfMemory (v (get_or xs i x)) s (Ok u) s' → OfMemory e → Left (reprs_of (map v (drop i xs))) s (Err e) s'
   left_wanting s s' u e w m = rw (here) (inr (u, s', w, inl (all_wanting OfMemory call (reprs_of (map v (drop (suc i) xs))) s' e m)))
 

@@ -1,4 +1,4 @@
--- What a map of bounds answers where each call answers one function of its place.
+-- What a map of bounds answers where each call answers one function of its part.
 use Rattle.std.proofs.Common.{◌≡◌, Result, Ok, Err, IfOk, List, [], ◌∷◌, ◌++◌, map, Option, Some, None, option_map, Bor, refl, ap, sym, ◌∙◌}
 use Rattle.std.proofs.lemmas.List.{map-id}
 use Rattle.std.proofs.lemmas.Iterator.Adapters.{option_map_id}
@@ -57,7 +57,7 @@ module _ {T U V : Type 0} (v : U → V) (g : T → V) where
       cc
   same_bound _ _ e h = cc
 
--- a bound seen through f is the bound as it stands, with each type through f
+-- a bound seen through f is the bound itself, with each type through f
 module _ {T V : Type 0} (f : T → V) where
   parameter_seen : (p : TypeBoundParameter T) → bound_parameter_view f p ≡ mapped_bound_parameter f (bound_parameter_view (λ t. t) p)
   parameter_seen (parameter.Lifetime l) = refl

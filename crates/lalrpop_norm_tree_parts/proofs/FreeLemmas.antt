@@ -1,4 +1,4 @@
--- Lists of met parameters in pieces.
+-- Lists of free parameters in pieces.
 use Rattle.std.proofs.Common.{◌≡◌, ℕ, suc, ◌+◌, ◌<◌, Bool, true, false, not, ◌&&◌, ◌||◌, cond, Result, Ok, Err, List, [], ◌∷◌, ◌++◌, drop, length, get_or, refl, sym, ap, ◌∙◌}
 use Rattle.std.proofs.Math.Numerals.{add-one}
 use Rattle.std.proofs.Math.Seq.{drop-cons}
@@ -63,7 +63,7 @@ listed_less bound listed ps =
     filter_twice (is_parameter_among listed) (λ q. not (is_parameter_among bound q)) ps
     ∙ filter_same (λ q. not (is_parameter_among bound q) && is_parameter_among listed q) (is_parameter_among (filter (λ p. not (is_parameter_among bound p)) listed)) (λ q. sym (among_less bound listed q)) ps
 
--- what is met in xs, where that in the one at i has been added
+-- what occurs in xs, where that in the one at i has been added
 module _ {X : Type 0} (places : X → List TypeParameter) (places_in : List X → List TypeParameter) (each : (x : X) (xs : List X) → places_in (x ∷ xs) ≡ places x ++ places_in xs) (listed : List TypeParameter) where
   pub met_more : (xs : List X) (i : ℕ) (x : X) (all new whole : List TypeParameter) → i < length xs → with_parameters all (filter (is_parameter_among listed) (places_in (drop i xs))) ≡ whole
       → new ≡ with_parameters all (filter (is_parameter_among listed) (places (get_or xs i x))) → with_parameters new (filter (is_parameter_among listed) (places_in (drop (i + 1) xs))) ≡ whole
@@ -71,7 +71,7 @@ module _ {X : Type 0} (places : X → List TypeParameter) (places_in : List X �
       let parts : places_in (drop i xs) ≡ places (get_or xs i x) ++ places_in (drop (suc i) xs) = ap places_in (drop-cons xs i x h) ∙ each (get_or xs i x) (drop (suc i) xs) in
       rw (one, add-one i, ← with_new_then (λ p q. same_parameter q p) (λ p. p) all (filter (is_parameter_among listed) (places (get_or xs i x))) (filter (is_parameter_among listed) (places_in (drop (suc i) xs))), ← filter-append, ← parts) done
 
--- what is met in a function type, from what is met in its parts where only unbound ones are listed
+-- what occurs in a function type, from what occurs in its parts where only unbound ones are listed
 pub met_in_function : {E : Type 0} (bound listed ps qs rs all first second last : List TypeParameter) (unbound : List TypeParameter) (r : Result (Unit {0}) E) → unbound ≡ filter (λ p. not (is_parameter_among bound p)) listed
     → first ≡ with_parameters all (filter (is_parameter_among unbound) ps) → second ≡ with_parameters first (filter (is_parameter_among unbound) qs) → OnOk r (last ≡ with_parameters second (filter (is_parameter_among unbound) rs))
     → OnOk r (last ≡ with_parameters all (filter (is_parameter_among listed) (filter (λ q. not (is_parameter_among bound q)) (ps ++ (qs ++ rs)))))
@@ -89,7 +89,7 @@ met_in_function bound listed ps qs rs all first second last unbound (Ok x) is a 
     ) c
 met_in_function bound listed ps qs rs all first second last unbound (Err e) is a b c = tt
 
--- what is met in one part and then in another
+-- what occurs in one part and then in another
 pub met_then : {E : Type 0} (listed ps qs all middle last : List TypeParameter) (r : Result (Unit {0}) E) → middle ≡ with_parameters all (filter (is_parameter_among listed) ps)
     → OnOk r (last ≡ with_parameters middle (filter (is_parameter_among listed) qs)) → OnOk r (last ≡ with_parameters all (filter (is_parameter_among listed) (ps ++ qs)))
 met_then listed ps qs all middle last (Ok x) a b =

@@ -24,7 +24,7 @@ module _ {S T U E : Type 0} (Step : S → T → Result U E → S → Type 0) whe
   answered_then s r s' (t ∷ ts) vs [] ws away h = absurd away
   answered_then s r s' (t ∷ ts) vs (u ∷ us) ws a h = (a.0, a.1, answered_then a.0 r s' ts vs us ws a.2 h)
 
-  -- as many answers as places
+  -- as many answers as parts
   pub answered_all : (s s' : S) (ts : List T) (us : List U) → Answered Step s ts us s' → map (λ (u : U). tt {0}) us ≡ map (λ (t : T). tt {0}) ts
   answered_all s s' [] [] a = refl
   answered_all s s' [] (u ∷ us) away = absurd away
@@ -48,7 +48,7 @@ module _ {S T U E : Type 0} (Step : S → T → Result U E → S → Type 0) whe
     ended_after s r s' (t ∷ ts) vs [] e away h = absurd away
     ended_after s r s' (t ∷ ts) vs (u ∷ us) e a h = inr (inr (u, a.0, a.1, ended_after a.0 r s' ts vs us e a.2 h))
 
--- a walk over the places of each of xs, which has come to the one at i
+-- a traversal of the parts of each of xs, which has reached index i
 split_at : {X T : Type 0} (places : X → List T) (xs : List X) (i : ℕ) (x : X) → i < length xs → flat_map places xs ≡ flat_map places (take i xs) ++ (places (get_or xs i x) ++ flat_map places (drop (suc i) xs))
 split_at places xs i x h =
     ap (flat_map places) (sym (take-append-drop i xs)) ∙ flat_map-append places (take i xs) (drop i xs)
@@ -71,14 +71,14 @@ module _ {S T U E X Y : Type 0} (Step : S → T → Result U E → S → Type 0)
         rw (split_at places xs i x h)
         (ended_after Step OfMemory s r s' (flat_map places (take i xs)) _ (flat_map results ys) e a (ended_in Step OfMemory r s' (places (get_or xs i x)) (flat_map places (drop (suc i) xs)) e b))
 
-    -- memory is wanting for the result of the one at i
+    -- the allocation fails for the result of the one at i
     pub loop_wanting : (s r s' : S) (xs : List X) (ys : List Y) (i : ℕ) (x : X) (y : Y) (e : E) → i < length xs → Answered Step s (flat_map places (take i xs)) (flat_map results ys) r → Answered Step r (places (get_or xs i x)) (results y) s' → OfMemory e → Ended Step OfMemory s (flat_map places xs) e s'
     loop_wanting s r s' xs ys i x y e h a b m =
         rw (split_at places xs i x h)
         (ended_after Step OfMemory s r s' (flat_map places (take i xs)) _ (flat_map results ys) e a
         (ended_after Step OfMemory r s' s' (places (get_or xs i x)) (flat_map places (drop (suc i) xs)) (results y) e b (wanting Step OfMemory s' _ e m)))
 
--- the same where each of ts is a place
+-- the case where each of ts is a part
 list_split_at : {T : Type 0} (ts : List T) (i : ℕ) (t : T) → i < length ts → take i ts ++ get_or ts i t ∷ drop (suc i) ts ≡ ts
 list_split_at ts i t h = ap (λ r. take i ts ++ r) (sym (drop-cons ts i t h)) ∙ take-append-drop i ts
 

@@ -7,7 +7,7 @@ use Rattle.lalrpop_norm_tree_parts.specs.declared.attribute.AttributeArg.TheOpen
 use Rattle.lalrpop_norm_tree_parts.specs.declared.attribute.AttributeArg.TheFolds.{fold-AttributeArg, fold-Attribute}
 
 mutual
-  -- what stands behind a name
+  -- what follows a name
   pub data Argument : Type 0 where
     empty : Argument
     paren : Attributes → Argument

@@ -1,4 +1,4 @@
--- Walks over a lowered type that call at each type after its parts, in reading order, until a call fails or memory is wanting.
+-- Walks over a lowered type that call at each type after its parts, in reading order, until a call or an allocation fails.
 use Rattle.std.specs.Prelude.{◌≡◌, Result, Ok, Err, ◌⊎◌}
 use Rattle.std.specs.Fn.{Mut, Called}
 use Rattle.lalrpop_norm_tree_parts.specs.declared.lowered.TypeRepr.{TypeRepr}
@@ -10,17 +10,17 @@ abbrev pub Walk : Type 0 → Type 0 → Type 0 → Type 1
 Walk S E A = S → Result A E → S → Type 0
 
 infixr 20 ◌▸◌
--- W and then K of its answer; where W ends with an error, so does the whole
+-- W and then K of its answer; if W ends with an error, the sequence ends with it
 abbrev pub ◌▸◌ : {S E A B : Type 0} → Walk S E A → (A → Walk S E B) → Walk S E B
 ◌▸◌ {S} {E} {A} W K s (Ok b) s' = (a : A) × (r : S) × W s (Ok a) r × K a r (Ok b) s'
 ◌▸◌ {S} {E} {A} W K s (Err e) s' = W s (Err e) s' ⊎ ((a : A) × (r : S) × W s (Ok a) r × K a r (Err e) s')
 
--- a, with no call; or memory is wanting for it
+-- a, with no call; or the allocation for it fails
 abbrev pub made : {S E A : Type 0} → (E → Type 0) → A → Walk S E A
 made OfMemory a s (Ok b) s' = (b ≡ a) × (s' ≡ s)
 made OfMemory a s (Err e) s' = OfMemory e × (s' ≡ s)
 
--- over calls at types, and the errors that say that memory is wanting
+-- over calls at types, and the errors of failed allocations
 module _ {S E : Type 0} (call : ReprData → Walk S E ReprData) (OfMemory : E → Type 0) where
   abbrev mutual
     -- the type with each of its parts walked, from left to right

@@ -51,6 +51,6 @@ with_new is made xs (y ∷ ys) = with_new is made (if list_any (is y) xs then xs
 abbrev pub with_parameters : List TypeParameter → List TypeParameter → List TypeParameter
 with_parameters all ps = with_new (λ p q. same_parameter q p) (λ p. p) all ps
 
--- the listed parameters that are met in the type, each once
+-- the listed parameters that occur free in the type, each once
 abbrev pub free_in : List TypeParameter → ReprData → List TypeParameter
 free_in listed t = with_parameters [] (filter (is_parameter_among listed) (met_in_type t))

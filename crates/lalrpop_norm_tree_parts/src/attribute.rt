@@ -12,15 +12,15 @@ use shared_text::Atom;
 #[cycle(attribute)]
 #[derive(Debug, PartialEq, Eq, Drop)]
 pub struct Attribute {
-    /// Where its name stands.
+    /// The span of its name.
     pub id_span: Span,
     /// Its name.
     pub id: Atom,
-    /// What stands behind its name.
+    /// What follows its name.
     pub arg: AttributeArg,
 }
 
-/// What stands behind an attribute's name.
+/// What follows an attribute's name.
 #[cycle(attribute)]
 #[derive(Debug, PartialEq, Eq, Drop)]
 pub enum AttributeArg {

@@ -1,4 +1,4 @@
-//! What each walk that calls a closure at places is made of.
+//! The steps of a traversal that calls a closure at parts of a value.
 ghost use Rattle.std.specs.Prelude.{◌≡◌, ◌++◌, [], ◌∷◌, IfOk, OnOk};
 ghost use Rattle.std.specs.Fn.{CalledAt};
 ghost use Rattle.std.specs.Result.{IfErr};
@@ -17,7 +17,7 @@ pub fn add<X: Drop>(all: &mut Vec<X>, one: X) -> Result<(), NoMemory>
     Ok(all.push(one)?)
 }
 
-/// The walk over one place.
+/// The traversal of one part.
 pub fn map_one<T, U: Drop, E: From<NoMemory>, F: FnMut(&T) -> Result<U, E>>(
     one: &T,
     f: &mut F,

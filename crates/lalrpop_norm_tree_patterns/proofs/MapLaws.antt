@@ -1,4 +1,4 @@
--- What a map of patterns answers where each call answers one function of its place.
+-- What a map of patterns answers where each call answers one function of its part.
 use Rattle.std.proofs.Common.{◌≡◌, Result, Ok, Err, IfOk, List, [], ◌++◌, map, Bor, refl, ap, sym, ◌∙◌}
 use Rattle.std.proofs.lemmas.List.{append_assoc, append-nil}
 use Rattle.std.specs.Fn.{Mut, Called, CalledAt}
@@ -9,7 +9,7 @@ use Rattle.lalrpop_norm_tree_patterns.specs.MappedPatterns.{mapped_kind, mapped_
 use Rattle.lalrpop_norm_tree_patterns.specs.Patterns.{PatternKindData, enumerated, structured, path, tuple, tuple_struct, number, underscore, dot_dot, chosen, character, text, PatternData, pattern_at, Patterns, no_patterns, pattern_and, Fields, no_fields, field_and, pattern_view}
 use Rattle.lalrpop_norm_tree_patterns.proofs.PatternViews.{view_mapped}
 
--- of one shape, and with chosen parts that are seen as the same: seen as the same
+-- of one shape, and with selected parts that are seen as the same: seen as the same
 module _ {T U V : Type 0} (v : U → V) (g : T → V) where
   mutual
     same_kind : (k : PatternKindData T) (l : PatternKindData U) → mapped_kind (λ (u : U). tt {0}) l ≡ mapped_kind (λ (t : T). tt {0}) k → (us : List U) (ts : List T) → map v (chosen_in_kind l ++ us) ≡ map g (chosen_in_kind k ++ ts) → (mapped_kind v l ≡ mapped_kind g k) × (map v us ≡ map g ts)

@@ -1,4 +1,4 @@
--- Patterns that are the same apart from their chosen parts, seen through a view of those.
+-- Patterns that are the same apart from their selected parts, seen through a view of those.
 use Rattle.std.proofs.Common.{◌≡◌, List, [], ◌∷◌, map, refl, sym, ap, subst, ◌∙◌}
 use Rattle.lalrpop_norm_tree_names.specs.declared.names.Span.{Span}
 use Rattle.lalrpop_norm_tree_patterns.specs.declared.pattern.FieldPattern.{FieldPattern}
@@ -106,7 +106,7 @@ pattern_claim {T} {V} f y =
     ∙ ap (λ (k : PatternKindData V). pattern_at y.span k) y.kind.1
     ∙ ap (mapped_pattern f) (sym (fold-roll-Pattern T (PatternKindData T) (FieldData T) (PatternData T) (pattern_kind_step (λ (t : T). t)) (field_step (λ (t : T). t)) (pattern_step (λ (t : T). t)) parts))
 
--- a pattern seen through f is the pattern as it stands, with each part through f
+-- a pattern seen through f is the pattern itself, with each part through f
 pub view_mapped : {T V : Type 0} (f : T → V) (p : Pattern T) → PatternClaim f p
 view_mapped {T} f p =
     ind-Pattern T (KindClaim f) (FieldClaim f) (PatternClaim f)

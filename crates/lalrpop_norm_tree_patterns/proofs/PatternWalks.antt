@@ -1,4 +1,4 @@
--- The chosen parts and the shapes of patterns, one by one.
+-- The selected parts and the shapes of patterns, one by one.
 use Rattle.std.proofs.Common.{◌≡◌, ℕ, suc, ◌+◌, ◌<◌, length, take, drop, ◌≤◌, get_or, Bool, Bor, List, [], ◌∷◌, ◌++◌, map, String, Vec, Global, Result, Ok, Err, refl, ap, subst, sym, ◌∙◌}
 use Rattle.std.proofs.Math.Numerals.{add-one}
 use Rattle.std.proofs.Math.Seq.{drop-cons}
@@ -44,7 +44,7 @@ module _ {T : Type 0} where
   fields_shapes [] = refl
   fields_shapes (d ∷ fs) = ap (field_and (field_view (λ t. t) d).span (field_view (λ t. t) d).name (field_shape (field_view (λ t. t) d)).pattern) (fields_shapes fs)
 
-  -- the chosen parts of a kind of pattern are those of what it holds
+  -- the selected parts of a kind of pattern are those of what it holds
   module _ (k : PatternKind T) where
     pub enum_places : (p : Path) (ps : Vec (Pattern T) Global) → k ≡ variant.Enum p ps → chosen_in_kind (pattern_kind_view (λ (t : T). t) k) ≡ chosen_in_all (patterns_view (λ (t : T). t) ps.items)
     enum_places p ps is = rw (is, enum_seen p ps) refl
@@ -140,7 +140,7 @@ module _ {T U : Type 0} where
     pub fields_answered : (gs : List (FieldPattern U)) (fs : List (FieldPattern T)) (i : ℕ) → length fs ≤ i → Answered Step s (flat_map (λ d. chosen_in_pattern (field_view (λ t. t) d).pattern) (take i fs)) (flat_map (λ d. chosen_in_pattern (field_view (λ u. u) d).pattern) gs) s' → Answered Step s (chosen_in_fields (fields_view (λ t. t) fs)) (chosen_in_fields (fields_view (λ u. u) gs)) s'
     fields_answered gs fs i h a = rw (fields_places fs, fields_places gs) (rw (take_all i fs h) at a)
 
--- what the chosen parts of a kind of pattern without patterns add to those before
+-- what the selected parts of a kind of pattern without patterns add to those before
 module _ {T : Type 0} (all : List T) (k : PatternKind T) where
   none_more : (d : PatternKindData T) → pattern_kind_view (λ (t : T). t) k ≡ d → chosen_in_kind d ≡ [] → all ≡ all ++ chosen_in_kind (pattern_kind_view (λ (t : T). t) k)
   none_more d e none = rw (e, none, append-nil all) refl

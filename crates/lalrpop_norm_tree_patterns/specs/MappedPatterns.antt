@@ -1,11 +1,11 @@
--- Patterns whose chosen parts are put through a function, and the chosen parts of patterns in reading order.
+-- Patterns whose selected parts are put through a function, and the selected parts of patterns in reading order.
 use Rattle.std.specs.Prelude.{List, [], ◌∷◌, ◌++◌}
 use Rattle.lalrpop_norm_tree_patterns.specs.Patterns.{PatternKindData, enumerated, structured, path, tuple, tuple_struct, number}
 use Rattle.lalrpop_norm_tree_patterns.specs.Patterns.{underscore, dot_dot, chosen, character, text}
 use Rattle.lalrpop_norm_tree_patterns.specs.Patterns.{PatternData, pattern_at, Patterns, no_patterns, pattern_and}
 use Rattle.lalrpop_norm_tree_patterns.specs.Patterns.{Fields, no_fields, field_and, FieldData}
 
--- the pattern with each chosen part put through f
+-- the pattern with each selected part put through f
 abbrev mutual
   pub mapped_kind : {T V : Type 0} → (T → V) → PatternKindData T → PatternKindData V
   mapped_kind f (enumerated p ps) = enumerated p (mapped_patterns f ps)
@@ -34,7 +34,7 @@ abbrev mutual
 abbrev pub mapped_field : {T V : Type 0} → (T → V) → FieldData T → FieldData V
 mapped_field f d = record { span = d.span; name = d.name; pattern = mapped_pattern f d.pattern }
 
--- what is left of it without its chosen parts
+-- what is left of it without its selected parts
 abbrev pub kind_shape : {T : Type 0} → PatternKindData T → PatternKindData (Unit {0})
 kind_shape k = mapped_kind (λ t. tt) k
 
@@ -44,7 +44,7 @@ pattern_shape p = mapped_pattern (λ t. tt) p
 abbrev pub field_shape : {T : Type 0} → FieldData T → FieldData (Unit {0})
 field_shape d = mapped_field (λ t. tt) d
 
--- its chosen parts from left to right
+-- its selected parts from left to right
 abbrev mutual
   pub chosen_in_kind : {T : Type 0} → PatternKindData T → List T
   chosen_in_kind (chosen t) = t ∷ []

@@ -1,4 +1,4 @@
--- The texts of patterns, from the texts of their chosen parts.
+-- The texts of patterns, from the texts of their selected parts.
 use Rattle.std.specs.Prelude.{ℕ, Bool, List, [], ◌∷◌, ◌++◌, Option, Some, if◌then◌else◌, codes}
 use Rattle.std.specs.Fmt.{◌++?◌, decimal}
 use Rattle.lalrpop_norm_tree_patterns.specs.Patterns.{PatternKindData, enumerated, structured, path, tuple, tuple_struct, number}
@@ -8,7 +8,7 @@ use Rattle.lalrpop_norm_tree_parts.specs.KnownTexts.{joined_known}
 use Rattle.lalrpop_norm_tree_names.specs.Texts.{escape}
 use Rattle.lalrpop_norm_tree_parts.specs.TypeTexts.{path_text}
 
--- `..`, where the rest stands behind the fields
+-- `..`, where a rest follows the fields
 abbrev pub rest_texts : Bool → List (Option (List ℕ))
 rest_texts rest = if rest then Some (codes "..") ∷ [] else []
 

@@ -1,4 +1,4 @@
--- Patterns as plain data, over any type of chosen parts.
+-- Patterns as plain data, over any type of selected parts.
 use Rattle.std.specs.Prelude.{◌≡◌, ℕ, Bool, List, [], ◌∷◌, map, string_bytes}
 use Rattle.lalrpop_norm_tree_names.specs.declared.names.Span.{Span}
 use Rattle.lalrpop_norm_tree_parts.specs.Paths.{PathData, path_view}
@@ -46,7 +46,7 @@ abbrev pub fields_of : {T : Type 0} → List (FieldData T) → Fields T
 fields_of [] = no_fields
 fields_of (f ∷ fs) = field_and f.span f.name f.pattern (fields_of fs)
 
--- one level of a pattern, with what is inside already seen as data, and each chosen part through f
+-- one level of a pattern, with what is inside already seen as data, and each selected part through f
 abbrev pub pattern_kind_step : {T V : Type 0} → (T → V) →
     PatternKind-F T (PatternKindData V) (FieldData V) (PatternData V) → PatternKindData V
 pattern_kind_step f (PatternKind-F.Enum p ps) = enumerated (path_view p) (patterns_of ps.items)
@@ -69,7 +69,7 @@ abbrev pub pattern_step : {T V : Type 0} → (T → V) →
     Pattern-F T (PatternKindData V) (FieldData V) (PatternData V) → PatternData V
 pattern_step f p = pattern_at p.span p.kind
 
--- a pattern with each chosen part seen through f
+-- a pattern with each selected part seen through f
 abbrev pub pattern_kind_view : {T V : Type 0} → (T → V) → PatternKind T → PatternKindData V
 pattern_kind_view {T} {V} f =
     fold-PatternKind T (PatternKindData V) (FieldData V) (PatternData V) (pattern_kind_step f) (field_step f) (pattern_step f)
@@ -88,7 +88,7 @@ patterns_view f ps = patterns_of (map (pattern_view f) ps)
 abbrev pub fields_view : {T V : Type 0} → (T → V) → List (FieldPattern T) → Fields V
 fields_view f fs = fields_of (map (field_view f) fs)
 
--- the same shape, with R between the chosen parts
+-- the same shape, with R between the selected parts
 abbrev mutual
   pub SamePatternKind : {T : Type 0} → (T → T → Type 0) → PatternKindData T → PatternKindData T → Type 0
   SamePatternKind R (enumerated p ps) (enumerated q qs) = (p ≡ q) × SamePatterns R ps qs

@@ -1,4 +1,4 @@
-//! Patterns of conversions, over any type of what they choose: copies, texts, maps, and the list of what is chosen.
+//! Patterns of conversions, over any type of what they select: copies, texts, maps, and the list of the selected parts.
 //!
 //! `lalrpop_norm_tree` gives the types again, under the paths that users know.
 #![tactic(auto)]

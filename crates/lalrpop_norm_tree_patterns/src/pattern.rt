@@ -8,11 +8,11 @@ use lalrpop_norm_tree_parts::names::Span;
 use lalrpop_norm_tree_parts::path::Path;
 use shared_text::Atom;
 
-/// A pattern where it stands. What it binds is chosen, as `<u32>`, and holds a T.
+/// A pattern with its span. What it binds is selected, as `<u32>`, and holds a T.
 #[cycle(pattern)]
 #[derive(Debug, PartialEq, Eq, Drop)]
 pub struct Pattern<T> {
-    /// Where it stands.
+    /// Its span.
     pub span: Span,
     /// What it is.
     pub kind: PatternKind<T>,
@@ -22,7 +22,7 @@ pub struct Pattern<T> {
 #[cycle(pattern)]
 #[derive(Debug, PartialEq, Eq, Drop)]
 pub struct FieldPattern<T> {
-    /// Where the field stands.
+    /// The span of the field.
     pub field_span: Span,
     /// The field's name.
     pub field_name: Atom,
@@ -36,7 +36,7 @@ pub struct FieldPattern<T> {
 pub enum PatternKind<T> {
     /// `P(a, b)`, as a grammar writes it.
     Enum(Path, Vec<Pattern<T>>),
-    /// `P { f: a, .. }`: the path, the fields, and whether a rest `..` stands.
+    /// `P { f: a, .. }`: the path, the fields, and whether it has a rest `..`.
     Struct(Path, Vec<FieldPattern<T>>, bool),
     /// `P`.
     Path(Path),
@@ -50,7 +50,7 @@ pub enum PatternKind<T> {
     Underscore,
     /// `..`: what is left.
     DotDot,
-    /// A chosen part: `<T>`.
+    /// A selected part: `<T>`.
     Choose(T),
     /// `'c'`.
     CharLiteral(Atom),

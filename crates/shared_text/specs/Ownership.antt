@@ -1,4 +1,4 @@
--- What a `Shared` owns and lends. Its pointer c is the place of a `Node`: a count, an allocator of the row A, and a value of
+-- What a `Shared` owns and lends. Its pointer c is the address of a `Node`: a count, an allocator of the row A, and a value of
 -- the row T, in this order.
 use Rattle.std.specs.Prelude.{ℕ, ◌+◌, []}
 use Rattle.std.specs.Borrow.{u64}

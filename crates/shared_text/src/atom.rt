@@ -42,8 +42,8 @@ enum Text {
 
 /// A text, seen as its bytes. It stays as it is.
 ///
-/// A text of up to 14 bytes lies in the value itself, a longer one on the heap, with several owners. So one more `Atom` of the
-/// same text takes no memory and can always be had. Equality, order, hash and what is shown are those of the bytes.
+/// A text of up to 14 bytes lies in the value itself, a longer one on the heap, with several owners: a
+/// copy of an `Atom` allocates nothing and cannot fail. Equality, order, hash and `Display` are those of the bytes.
 #[derive(Drop)]
 pub struct Atom {
     text: Text,
@@ -62,7 +62,7 @@ impl Model for Atom {
 }
 
 impl Atom {
-    /// The text, copied once. The only error is want of memory, where the text is longer than 14 bytes.
+    /// The text, copied once. The only error is a failed allocation, where the text is longer than 14 bytes.
     pub fn new(alloc: Global, text: &str) -> Result<Atom, NoMemory>
         ensures { IfOk result (λ a. a ≡ text.now) }
     {
@@ -89,7 +89,7 @@ impl Atom {
         }
     }
 
-    /// The same text once more: `clone` with no `Result`, for a function that must not fail.
+    /// A copy of the text, which allocates nothing: `clone` with no `Result`, for a function that must not fail.
     pub fn again(&self) -> Atom
         ensures { result ≡ self.now }
     {

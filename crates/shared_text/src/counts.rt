@@ -29,7 +29,7 @@ impl<T, A: Allocator> Model for Shared<T, A> {
 }
 
 impl<T, A: Allocator> Shared<T, A> {
-    /// The first owner, in a block of `alloc`. The only error is want of memory, and hands the value back.
+    /// The first owner, in a block of `alloc`. The only error is a failed allocation, and hands the value back.
     pub(crate) fn new(alloc: A, value: T) -> Result<Shared<T, A>, AllocFailed<T>>
         ensures { IfOk result (λ s. s.value ≡ value) }
     {

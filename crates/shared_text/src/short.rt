@@ -44,7 +44,7 @@ impl Short {
         })
     }
 
-    /// The same text once more.
+    /// A copy of the text, which allocates nothing.
     pub(crate) fn again(&self) -> Short
         ensures { result ≡ self.now }
     {

@@ -13,7 +13,7 @@ use std::collections::BTreeMap;
 
 impl Types {
     /// A table that lists only the error terminal: `prefix` begins the name of the crate that the parser uses,
-    /// `location` and `error` are the declared types, `token` is that of a token. The only error is want of memory.
+    /// `location` and `error` are the declared types, `token` is that of a token. The only error is a failed allocation.
     pub fn new(
         alloc: Global,
         prefix: &str,
@@ -41,21 +41,21 @@ impl Types {
         })
     }
 
-    /// The type of a location: a copy, or the unit type if none is declared. The only error is want of memory.
+    /// The type of a location: a copy, or the unit type if none is declared. The only error is a failed allocation.
     pub fn terminal_loc_type(&self) -> Result<TypeRepr, NoMemory>
         ensures { IfOk result (λ t. repr_view t ≡ location_type (type_table self.now)) }
     {
         location_or_unit(self.alloc, &self.terminal_loc_type)
     }
 
-    /// The type of the user's errors: a copy, or `&'static str` if none is declared. The only error is want of memory.
+    /// The type of the user's errors: a copy, or `&'static str` if none is declared. The only error is a failed allocation.
     pub fn error_type(&self) -> Result<TypeRepr, NoMemory>
         ensures { IfOk result (λ t. repr_view t ≡ user_error_type (type_table self.now)) }
     {
         error_or_text(self.alloc, &self.error_type)
     }
 
-    /// Copies of the listed types, in the order of their terminals. The only error is want of memory.
+    /// Copies of the listed types, in the order of their terminals. The only error is a failed allocation.
     pub fn terminal_types(&self) -> Result<Vec<TypeRepr>, NoMemory>
         ensures { IfOk result (λ ts. map repr_view ts.items ≡ map (λ r. r.1) (type_table self.now).terminals) }
     {
@@ -66,7 +66,7 @@ impl Types {
         Ok(types)
     }
 
-    /// Copies of the types of the nonterminals, in the order of their names. The only error is want of memory.
+    /// Copies of the types of the nonterminals, in the order of their names. The only error is a failed allocation.
     pub fn nonterminal_types(&self) -> Result<Vec<TypeRepr>, NoMemory>
         ensures { IfOk result (λ ts. map repr_view ts.items ≡ map (λ r. r.1) (type_table self.now).nonterminals) }
     {
@@ -77,7 +77,7 @@ impl Types {
         Ok(types)
     }
 
-    /// `(L, T, L)`, of a token between two locations. The only error is want of memory.
+    /// `(L, T, L)`, of a token between two locations. The only error is a failed allocation.
     pub fn triple_type(&self) -> Result<TypeRepr, NoMemory>
         ensures { IfOk result (λ t. repr_view t ≡ spanned (location_type (type_table self.now)) (type_table self.now).token) }
     {
@@ -85,7 +85,7 @@ impl Types {
         self.spanned_type(token)
     }
 
-    /// `(L, T, L)`, of the type between two locations. The only error is want of memory.
+    /// `(L, T, L)`, of the type between two locations. The only error is a failed allocation.
     pub fn spanned_type(&self, ty: TypeRepr) -> Result<TypeRepr, NoMemory>
         ensures { IfOk result (λ t. repr_view t ≡ spanned (location_type (type_table self.now)) (repr_view ty)) }
     {

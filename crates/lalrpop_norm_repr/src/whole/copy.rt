@@ -23,7 +23,7 @@ use std::alloc::{AllocError, Global};
 use std::collections::BTreeMap;
 
 impl Grammar {
-    /// A copy. The only error is want of memory.
+    /// A copy. The only error is a failed allocation.
     pub fn clone(&self) -> Result<Grammar, NoMemory>
         ensures { IfOk result (λ g. lowered_grammar_view g ≡ lowered_grammar_view self.now) }
     {

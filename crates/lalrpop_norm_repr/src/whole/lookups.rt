@@ -18,7 +18,7 @@ use lalrpop_norm_tree::grammar::repr::TypeRepr;
 use std::alloc::Global;
 
 impl Grammar {
-    /// The pattern of the terminal's tokens, for a terminal that has one (`conversions.contains_key` tells).
+    /// The pattern of the terminal's tokens, for a terminal that has one (see `conversions.contains_key`).
     pub fn pattern(&self, terminal: &TerminalString) -> &Pattern<TypeRepr>
         requires { IsSome (pattern_of terminal.now (lowered_grammar_view self.now)) }
         ensures { Some (pattern_view repr_view result.now) ≡ pattern_of terminal.now (lowered_grammar_view self.now) }
@@ -51,7 +51,7 @@ impl Grammar {
         self.action_fn_defns[action.index()].fallible
     }
 
-    /// The type parameters that are no lifetimes. The only error is want of memory.
+    /// The type parameters that are no lifetimes. The only error is a failed allocation.
     pub fn non_lifetime_type_parameters(
         &self,
         alloc: Global,

@@ -12,7 +12,7 @@ use shared_text::NoMemory;
 use std::alloc::Global;
 
 impl MatchToken {
-    /// A match block of one group. The only error is want of memory.
+    /// A match block of one group. The only error is a failed allocation.
     pub fn new(alloc: Global, contents: MatchContents, span: Span) -> Result<MatchToken, NoMemory>
         ensures contents { IfOk result (λ m. (match_token_view m).contents ≡ match_contents_view contents ∷ []) }
         ensures span { IfOk result (λ m. m.span ≡ span) }
@@ -21,7 +21,7 @@ impl MatchToken {
         Ok(MatchToken { contents, span })
     }
 
-    /// The block with one more group at its end, at the same place. The only error is want of memory.
+    /// The block with one more group at its end, at the same place. The only error is a failed allocation.
     pub fn add(self, _alloc: Global, contents: MatchContents) -> Result<MatchToken, NoMemory>
         ensures contents { IfOk result (λ m. (match_token_view m).contents ≡ (match_token_view self).contents ++ match_contents_view contents ∷ []) }
         ensures span { IfOk result (λ m. m.span ≡ self.span) }
@@ -39,7 +39,7 @@ impl MatchToken {
 }
 
 impl MatchItem {
-    /// Where the item stands.
+    /// The span of the item.
     pub fn span(&self) -> Span
         ensures { result ≡ match_item_span self.now }
     {

@@ -56,7 +56,7 @@ impl Clone for Alternative {
     }
 }
 
-/// A copy of the code of an alternative. The only error is want of memory.
+/// A copy of the action code of an alternative. The only error is a failed allocation.
 pub fn copy_action(action: &Option<ActionKind>) -> Result<Option<ActionKind>, AllocError>
     ensures { IfOk result (λ a. option_map action_view a ≡ option_map action_view action.now) }
 {

@@ -16,7 +16,7 @@ use shared_text::NoMemory;
 use std::alloc::Global;
 
 impl Conversion {
-    /// A copy. The only error is want of memory.
+    /// A copy. The only error is a failed allocation.
     pub fn clone(&self) -> Result<Conversion, NoMemory>
         ensures { IfOk result (λ c. conversion_view c ≡ conversion_view self.now) }
     {
@@ -33,7 +33,7 @@ impl Conversion {
 }
 
 impl EnumToken {
-    /// A copy. The only error is want of memory.
+    /// A copy. The only error is a failed allocation.
     pub fn clone(&self) -> Result<EnumToken, NoMemory>
         ensures { IfOk result (λ e. enum_token_view e ≡ enum_token_view self.now) }
     {
@@ -48,7 +48,7 @@ impl EnumToken {
 }
 
 impl ExternToken {
-    /// A copy. The only error is want of memory.
+    /// A copy. The only error is a failed allocation.
     pub fn clone(&self) -> Result<ExternToken, NoMemory>
         ensures { IfOk result (λ t. extern_token_view t ≡ extern_token_view self.now) }
     {
@@ -63,7 +63,7 @@ impl ExternToken {
 }
 
 impl GrammarItem {
-    /// A copy. The only error is want of memory.
+    /// A copy. The only error is a failed allocation.
     pub fn clone(&self) -> Result<GrammarItem, NoMemory>
         ensures { IfOk result (λ i. item_view i ≡ item_view self.now) }
     {
@@ -78,7 +78,7 @@ impl GrammarItem {
 }
 
 impl Grammar {
-    /// A copy. The only error is want of memory.
+    /// A copy. The only error is a failed allocation.
     pub fn clone(&self) -> Result<Grammar, NoMemory>
         ensures { IfOk result (λ g. grammar_view g ≡ grammar_view self.now) }
     {

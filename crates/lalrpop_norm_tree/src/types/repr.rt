@@ -15,7 +15,7 @@ use std::alloc::{AllocError, Global};
 /// Why a written type has no lowered one.
 #[derive(Clone, Copy, Debug, PartialEq, Eq)]
 pub enum TypeReprError {
-    /// The type of a symbol stands in it.
+    /// It contains the type of a symbol.
     OfSymbol,
     /// There was no memory.
     Memory,
@@ -32,7 +32,7 @@ impl From<AllocError> for TypeReprError {
 }
 
 impl TypeRef {
-    /// Whether the type of a symbol stands anywhere in the type.
+    /// Whether the type contains the type of a symbol.
     pub fn holds_symbol(&self) -> bool
         ensures { result ≡ holds_symbol (type_view self.now) }
     {
@@ -40,18 +40,18 @@ impl TypeRef {
     }
 
     /// The lowered type: a single name becomes the path of that name, all else stays as written.
-    /// The type of a symbol, which only an expansion makes, counts as unit in its place.
+    /// The type of a symbol, which only an expansion makes, counts as unit there.
     ///
-    /// The only error is want of memory.
+    /// The only error is a failed allocation.
     pub fn lowered(&self, alloc: Global) -> Result<TypeRepr, NoMemory>
         ensures { IfOk result (λ r. repr_view r ≡ repr_of (type_view self.now)) }
     {
         Ok(lower(alloc, self)?)
     }
 
-    /// The lowered type of one in which no symbol stands, as `lowered` gives it.
+    /// The lowered type of one that contains no symbol, as `lowered` gives it.
     ///
-    /// Errors: `OfSymbol` where the type of a symbol stands in it, and only there; `Memory`.
+    /// Errors: `OfSymbol` if and only if it contains the type of a symbol; `Memory`.
     pub fn type_repr(&self, alloc: Global) -> Result<TypeRepr, TypeReprError>
         ensures lowered { IfOk result (λ r. repr_view r ≡ repr_of (type_view self.now)) }
         ensures whole { IfOk result (λ _. holds_symbol (type_view self.now) ≡ false) }

@@ -83,21 +83,21 @@ impl NonterminalString {
 }
 
 impl Lifetime {
-    /// `'_`. The only error is want of memory.
+    /// `'_`. The only error is a failed allocation.
     pub fn anonymous(alloc: Global) -> Result<Lifetime, NoMemory>
         ensures { IfOk result (λ l. l.0 ≡ codes "'_") }
     {
         Ok(Lifetime(Atom::new(alloc, "'_")?))
     }
 
-    /// `'static`. The only error is want of memory.
+    /// `'static`. The only error is a failed allocation.
     pub fn statik(alloc: Global) -> Result<Lifetime, NoMemory>
         ensures { IfOk result (λ l. l.0 ≡ codes "'static") }
     {
         Ok(Lifetime(Atom::new(alloc, "'static")?))
     }
 
-    /// `'input`. The only error is want of memory.
+    /// `'input`. The only error is a failed allocation.
     pub fn input(alloc: Global) -> Result<Lifetime, NoMemory>
         ensures { IfOk result (λ l. l.0 ≡ codes "'input") }
     {

@@ -45,7 +45,7 @@ fn copy_argument(argument: &AttributeArg) -> Result<AttributeArg, AllocError>
     }
 }
 
-/// A copy of each attribute, in order. The only error is want of memory.
+/// A copy of each attribute, in order. The only error is a failed allocation.
 #[cycle(copy)]
 pub fn copy_attributes(attributes: &Vec<Attribute>) -> Result<Vec<Attribute>, AllocError>
     ensures { IfOk result (λ copies. map attribute_view copies.items ≡ map attribute_view attributes.now.items) }

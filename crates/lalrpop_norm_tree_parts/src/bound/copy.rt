@@ -10,7 +10,7 @@ use shared_text::NoMemory;
 use std::alloc::{AllocError, Global};
 
 impl<T: Clone> WhereClause<T> {
-    /// A copy, with a clone of each T. The only error is want of memory.
+    /// A copy, with a clone of each T. The only error is a failed allocation.
     pub fn clone(&self) -> Result<WhereClause<T>, NoMemory>
         ensures { IfOk result (λ c. SameWhereClause T.is_clone (where_clause_view (λ t. t) self.now) (where_clause_view (λ t. t) c)) }
     {
@@ -19,7 +19,7 @@ impl<T: Clone> WhereClause<T> {
 }
 
 impl<T: Clone> TypeBound<T> {
-    /// A copy, with a clone of each T. The only error is want of memory.
+    /// A copy, with a clone of each T. The only error is a failed allocation.
     pub fn clone(&self) -> Result<TypeBound<T>, NoMemory>
         ensures { IfOk result (λ b. SameBound T.is_clone (bound_view (λ t. t) self.now) (bound_view (λ t. t) b)) }
     {
@@ -28,7 +28,7 @@ impl<T: Clone> TypeBound<T> {
 }
 
 impl<T: Clone> TypeBoundParameter<T> {
-    /// A copy, with a clone of each T. The only error is want of memory.
+    /// A copy, with a clone of each T. The only error is a failed allocation.
     pub fn clone(&self) -> Result<TypeBoundParameter<T>, NoMemory>
         ensures { IfOk result (λ p. SameBoundParameter T.is_clone (bound_parameter_view (λ t. t) self.now) (bound_parameter_view (λ t. t) p)) }
     {

@@ -16,7 +16,7 @@ use std::alloc::Global;
 
 impl<T> TypeBound<T> {
     /// The bound with each type put through f, from left to right, a return type last. The first error ends the walk and is the answer;
-    /// where memory is wanting between two calls, the error is made of `NoMemory`.
+    /// where an allocation fails between two calls, the error is made of `NoMemory`.
     pub fn map<U: Drop, E: From<NoMemory>, F: FnMut(&T) -> Result<U, E>>(
         &self,
         f: &mut F,
@@ -45,7 +45,7 @@ impl<T> TypeBound<T> {
 }
 
 impl<T> TypeBoundParameter<T> {
-    /// The argument with its type put through f. An error of f is the answer; where memory is wanting, the error is made of `NoMemory`.
+    /// The argument with its type put through f. An error of f is the answer; where an allocation fails, it is made of `NoMemory`.
     pub fn map<U: Drop, E: From<NoMemory>, F: FnMut(&T) -> Result<U, E>>(
         &self,
         f: &mut F,

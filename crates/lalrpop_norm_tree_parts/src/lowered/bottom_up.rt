@@ -12,8 +12,8 @@ use shared_text::NoMemory;
 use std::alloc::Global;
 
 impl TypeRepr {
-    /// The type with f called at each type after its parts, in reading order, and at the type itself last: what f answers stands in
-    /// the place of the type. The first error ends the walk and is the answer; where memory is wanting between two calls, the error
+    /// The type with f called at each type after its parts, in reading order, and at the type itself last: the answer of f takes
+    /// the place of the type. The first error ends the walk and is the answer; where an allocation fails between two calls, the error
     /// is made of `NoMemory`.
     pub fn bottom_up<E: From<NoMemory>, F: FnMut(TypeRepr) -> Result<TypeRepr, E>>(
         &self,
@@ -178,28 +178,28 @@ fn walk_return<E: From<NoMemory>, F: FnMut(TypeRepr) -> Result<TypeRepr, E>>(
     }
 }
 
-/// The type in a new box. The only error is want of memory.
+/// The type in a new box. The only error is a failed allocation.
 fn boxed(alloc: Global, ty: TypeRepr) -> Result<Box<TypeRepr>, NoMemory>
     ensures { IfOk result (λ b. b.value ≡ ty) }
 {
     Ok(Box::new(alloc, ty)?)
 }
 
-/// The same path. The only error is want of memory.
+/// A copy of the path. The only error is a failed allocation.
 fn same_path(path: &Path) -> Result<Path, NoMemory>
     ensures { IfOk result (λ p. path_view p ≡ path_view path.now) }
 {
     Ok(path.clone()?)
 }
 
-/// The same lifetime, which takes no memory.
+/// A copy of the lifetime, which allocates nothing.
 fn again(lifetime: &Lifetime) -> Lifetime
     ensures { result ≡ lifetime.now }
 {
     Lifetime(lifetime.0.again())
 }
 
-/// The same lifetime, if there is one.
+/// A copy of the lifetime, if there is one.
 fn maybe_again(lifetime: &Option<Lifetime>) -> Option<Lifetime>
     ensures { result ≡ lifetime.now }
 {

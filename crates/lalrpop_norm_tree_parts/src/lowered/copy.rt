@@ -25,7 +25,7 @@ impl Clone for NominalTypeRepr {
     }
 }
 
-/// A copy of the type that is there. The only error is want of memory.
+/// A copy of the type that is there. The only error is a failed allocation.
 pub fn copy_of(ty: Option<&TypeRepr>) -> Result<Option<TypeRepr>, AllocError>
     ensures { IfOk result (λ o. option_map repr_view o ≡ option_map (λ t. repr_view t.now) ty.entry) }
 {
@@ -111,7 +111,7 @@ fn copy_reprs(types: &Vec<TypeRepr>) -> Result<Vec<TypeRepr>, AllocError>
 }
 
 impl WhereClause {
-    /// A copy. The only error is want of memory.
+    /// A copy. The only error is a failed allocation.
     pub fn clone(&self) -> Result<WhereClause, NoMemory>
         ensures { IfOk result (λ c. lowered_where_clause_view c ≡ lowered_where_clause_view self.now) }
     {

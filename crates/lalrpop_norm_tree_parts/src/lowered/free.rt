@@ -12,9 +12,9 @@ use shared_text::NoMemory;
 use std::alloc::Global;
 
 impl TypeRepr {
-    /// The listed parameters that are met in the type, in reading order and each once, less those that a function type binds by its
-    /// `for<..>`. A path is met by its name, where it is one part and not absolute, and then its arguments; an associated type by its
-    /// type parameter; a reference by its lifetime, and then its referent. The only error is want of memory.
+    /// The listed parameters that occur free in the type, in reading order and each once, less those that a function type binds by its
+    /// `for<..>`. A path counts by its name, if it is one part and not absolute, and then its arguments; an associated type by its
+    /// type parameter; a reference by its lifetime, and then its referent. The only error is a failed allocation.
     pub fn free_variables(
         &self,
         alloc: Global,
@@ -28,7 +28,7 @@ impl TypeRepr {
     }
 }
 
-/// Adds the listed parameters that are met in the type and not there yet, in reading order. The only error is want of memory.
+/// Adds the listed parameters that occur free in the type and are not there yet, in reading order. The only error is a failed allocation.
 #[cycle(free)]
 fn add_free(
     ty: &TypeRepr,
@@ -68,7 +68,7 @@ fn add_free(
     }
 }
 
-/// Adds those that are met in the types, from left to right.
+/// Adds those that occur free in the types, from left to right.
 #[cycle(free)]
 fn add_free_of_all(
     types: &Vec<TypeRepr>,
@@ -83,7 +83,7 @@ fn add_free_of_all(
     Ok(())
 }
 
-/// Adds the one that the path means, and then those that are met in its arguments.
+/// Adds the one that the path means, and then those that occur free in its arguments.
 #[cycle(free)]
 fn add_free_of_nominal(
     nominal: &NominalTypeRepr,
@@ -96,7 +96,7 @@ fn add_free_of_nominal(
     add_free_of_all(&nominal.types, listed, all)
 }
 
-/// Adds those that are met in the return type, where there is one.
+/// Adds those that occur free in the return type, where there is one.
 #[cycle(free)]
 fn add_free_of_return(
     ret: &Option<Box<TypeRepr>>,
@@ -173,7 +173,7 @@ fn is_parameter_among(parameter: &TypeParameter, listed: &[TypeParameter]) -> bo
     listed.contains(parameter)
 }
 
-/// The listed parameters that are not bound. The only error is want of memory.
+/// The listed parameters that are not bound. The only error is a failed allocation.
 fn less(
     listed: &[TypeParameter],
     bound: &Vec<TypeParameter>,

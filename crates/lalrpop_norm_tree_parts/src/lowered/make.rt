@@ -9,35 +9,35 @@ use shared_text::{Atom, NoMemory};
 use std::alloc::Global;
 
 impl TypeRepr {
-    /// The type `usize`. The only error is want of memory.
+    /// The type `usize`. The only error is a failed allocation.
     pub fn usize(alloc: Global) -> Result<TypeRepr, NoMemory>
         ensures { IfOk result (λ t. repr_view t ≡ named_repr (codes "usize")) }
     {
         named(alloc, Atom::new(alloc, "usize")?)
     }
 
-    /// The type `str`. The only error is want of memory.
+    /// The type `str`. The only error is a failed allocation.
     pub fn str(alloc: Global) -> Result<TypeRepr, NoMemory>
         ensures { IfOk result (λ t. repr_view t ≡ named_repr (codes "str")) }
     {
         named(alloc, Atom::new(alloc, "str")?)
     }
 
-    /// `&'static str`. The only error is want of memory.
+    /// `&'static str`. The only error is a failed allocation.
     pub fn static_str(alloc: Global) -> Result<TypeRepr, NoMemory>
         ensures { IfOk result (λ t. repr_view t ≡ static_str) }
     {
         str_at(alloc, Lifetime::statik(alloc)?)
     }
 
-    /// `&'input str`. The only error is want of memory.
+    /// `&'input str`. The only error is a failed allocation.
     pub fn input_str(alloc: Global) -> Result<TypeRepr, NoMemory>
         ensures { IfOk result (λ t. repr_view t ≡ input_str) }
     {
         str_at(alloc, Lifetime::input(alloc)?)
     }
 
-    /// The type that a parameter stands for: a lifetime itself, or the type of that name. The only error is want of memory.
+    /// The type that a parameter stands for: a lifetime itself, or the type of that name. The only error is a failed allocation.
     pub fn from_parameter(alloc: Global, parameter: &TypeParameter) -> Result<TypeRepr, NoMemory>
         ensures { IfOk result (λ t. repr_view t ≡ parameter_repr parameter.now) }
     {

@@ -15,7 +15,7 @@ impl TypeRepr {
     /// The type with a name for each anonymous lifetime: a reference without a lifetime, and a type that is the lifetime `'_`, get `'`,
     /// the prefix and the number of parameters there are, which is one more parameter. Each parameter that is free in the referent of
     /// a reference is then said to outlive its lifetime, at most once. All this at each type after its parts, from left to right.
-    /// Where memory is wanting, which is the only error, both lists begin with what they held.
+    /// The only error is a failed allocation; both lists then begin with what they held.
     pub fn name_anonymous_lifetimes_and_compute_implied_outlives(
         &self,
         alloc: Global,

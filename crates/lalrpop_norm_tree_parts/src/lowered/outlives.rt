@@ -16,7 +16,7 @@ use shared_text::{Atom, NoMemory};
 use std::alloc::Global;
 
 /// Adds that each listed parameter that is free in the referent outlives the lifetime, where that is not said yet. The only error is
-/// want of memory.
+/// a failed allocation.
 pub(super) fn add_outlives(
     alloc: Global,
     referent: &TypeRepr,
@@ -64,7 +64,7 @@ fn add_clause(
     append(clauses, clause)
 }
 
-/// One more at the end, or none where memory is wanting.
+/// One more at the end, or none where the allocation fails.
 fn append<X: Drop>(all: &mut Vec<X>, one: X) -> Result<(), NoMemory>
     ensures added { OnOk result (all.new.items ≡ all.old.items ++ one ∷ []) }
     ensures kept { OnErr result (all.new.items ≡ all.old.items) }
@@ -72,7 +72,7 @@ fn append<X: Drop>(all: &mut Vec<X>, one: X) -> Result<(), NoMemory>
     Ok(all.push(one)?)
 }
 
-/// `P: 'l`. The only error is want of memory.
+/// `P: 'l`. The only error is a failed allocation.
 fn new_clause(
     alloc: Global,
     parameter: &TypeParameter,

@@ -9,7 +9,7 @@ use super::{Lifetime, TypeParameter};
 use crate::show::show_joined;
 use std::fmt;
 
-/// Writes what stands before the referent of a reference. The only error is the formatter's.
+/// Writes what precedes the referent of a reference. The only error is the formatter's.
 pub fn show_reference<W: fmt::Write>(
     lifetime: &Option<Lifetime>,
     mutable: bool,

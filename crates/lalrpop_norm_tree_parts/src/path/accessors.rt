@@ -8,7 +8,7 @@ use shared_text::{Atom, NoMemory};
 use std::alloc::Global;
 
 impl Path {
-    /// The path that is one name. The only error is want of memory.
+    /// The path that is one name. The only error is a failed allocation.
     pub fn from_id(alloc: Global, id: Atom) -> Result<Path, NoMemory>
         ensures { IfOk result (λ p. path_view p ≡ path_of (id ∷ [])) }
     {
@@ -19,7 +19,7 @@ impl Path {
         })
     }
 
-    /// `usize`. The only error is want of memory.
+    /// `usize`. The only error is a failed allocation.
     pub fn usize(alloc: Global) -> Result<Path, NoMemory>
         ensures { IfOk result (λ p. path_view p ≡ path_of (codes "usize" ∷ [])) }
     {
@@ -27,7 +27,7 @@ impl Path {
         Path::from_id(alloc, id)
     }
 
-    /// `str`. The only error is want of memory.
+    /// `str`. The only error is a failed allocation.
     pub fn str(alloc: Global) -> Result<Path, NoMemory>
         ensures { IfOk result (λ p. path_view p ≡ path_of (codes "str" ∷ [])) }
     {
@@ -35,7 +35,7 @@ impl Path {
         Path::from_id(alloc, id)
     }
 
-    /// `alloc::vec::Vec`. The only error is want of memory.
+    /// `alloc::vec::Vec`. The only error is a failed allocation.
     pub fn vec(alloc: Global) -> Result<Path, NoMemory>
         ensures { IfOk result (λ p. path_view p ≡ path_of (codes "alloc" ∷ codes "vec" ∷ codes "Vec" ∷ [])) }
     {
@@ -49,7 +49,7 @@ impl Path {
         })
     }
 
-    /// `Option`. The only error is want of memory.
+    /// `Option`. The only error is a failed allocation.
     pub fn option(alloc: Global) -> Result<Path, NoMemory>
         ensures { IfOk result (λ p. path_view p ≡ path_of (codes "Option" ∷ [])) }
     {

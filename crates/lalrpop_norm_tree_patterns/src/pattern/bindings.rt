@@ -1,4 +1,4 @@
-//! The chosen parts of patterns.
+//! The selected parts of patterns.
 ghost use Rattle.std.specs.Prelude.{◌≡◌, ◌++◌, IfOk, OnOk, map};
 ghost use Rattle.lalrpop_norm_tree_patterns.specs.MappedPatterns.{chosen_in_pattern, chosen_in_kind, chosen_in_all, chosen_in_fields};
 ghost use Rattle.lalrpop_norm_tree_patterns.specs.Patterns.{pattern_view, pattern_kind_view, field_view, patterns_view, fields_view};
@@ -9,7 +9,7 @@ use shared_text::NoMemory;
 use std::alloc::Global;
 
 impl<T> Pattern<T> {
-    /// Its chosen parts, from left to right. The only error is want of memory.
+    /// Its selected parts, from left to right. The only error is a failed allocation.
     pub fn bindings<'a>(&'a self, alloc: Global) -> Result<Vec<&'a T>, NoMemory>
         ensures { IfOk result (λ ts. map (λ t. t.now) ts.items ≡ chosen_in_pattern (pattern_view (λ t. t) self.now)) }
     {

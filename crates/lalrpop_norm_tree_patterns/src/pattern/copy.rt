@@ -10,7 +10,7 @@ use shared_text::{Atom, NoMemory};
 use std::alloc::{AllocError, Global};
 
 impl<T: Clone> Pattern<T> {
-    /// A copy, with a clone of each T. The only error is want of memory.
+    /// A copy, with a clone of each T. The only error is a failed allocation.
     pub fn clone(&self) -> Result<Pattern<T>, NoMemory>
         ensures { IfOk result (λ p. SamePattern T.is_clone (pattern_view (λ t. t) self.now) (pattern_view (λ t. t) p)) }
     {
@@ -19,7 +19,7 @@ impl<T: Clone> Pattern<T> {
 }
 
 impl<T: Clone> FieldPattern<T> {
-    /// A copy, with a clone of each T. The only error is want of memory.
+    /// A copy, with a clone of each T. The only error is a failed allocation.
     pub fn clone(&self) -> Result<FieldPattern<T>, NoMemory>
         ensures { IfOk result (λ p. SameField T.is_clone (field_view (λ t. t) self.now) (field_view (λ t. t) p)) }
     {
@@ -28,7 +28,7 @@ impl<T: Clone> FieldPattern<T> {
 }
 
 impl<T: Clone> PatternKind<T> {
-    /// A copy, with a clone of each T. The only error is want of memory.
+    /// A copy, with a clone of each T. The only error is a failed allocation.
     pub fn clone(&self) -> Result<PatternKind<T>, NoMemory>
         ensures { IfOk result (λ k. SamePatternKind T.is_clone (pattern_kind_view (λ t. t) self.now) (pattern_kind_view (λ t. t) k)) }
     {
@@ -138,7 +138,7 @@ fn tuple_struct<T: Clone>(path: &Path, inner: Vec<Pattern<T>>) -> Result<Pattern
     Ok(PatternKind::TupleStruct(path, inner))
 }
 
-/// The field at that place with a copy of that name.
+/// The field at that index with a copy of that name.
 fn named<T: Clone>(
     field_span: Span,
     name: &Atom,

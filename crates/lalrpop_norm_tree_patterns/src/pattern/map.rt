@@ -1,4 +1,4 @@
-//! Patterns with each chosen part put through a function.
+//! Patterns with each selected part put through a function.
 ghost use Rattle.std.specs.Prelude.{◌≡◌, IfOk, string_bytes};
 ghost use Rattle.std.specs.Fn.{CalledAt};
 ghost use Rattle.std.specs.Result.{IfErr};
@@ -14,8 +14,8 @@ use shared_text::NoMemory;
 use std::alloc::Global;
 
 impl<T> Pattern<T> {
-    /// The pattern with each chosen part put through f, from left to right. The first error ends the walk and is the answer; where
-    /// memory is wanting between two calls, the error is made of `NoMemory`.
+    /// The pattern with each selected part put through f, from left to right. The first error ends the walk and is the answer; where
+    /// an allocation fails between two calls, the error is made of `NoMemory`.
     pub fn map<U: Drop, E: From<NoMemory>, F: FnMut(&T) -> Result<U, E>>(
         &self,
         f: &mut F,
@@ -31,7 +31,7 @@ impl<T> Pattern<T> {
 }
 
 impl<T> FieldPattern<T> {
-    /// The field with each chosen part of its pattern put through f, as `Pattern::map` does.
+    /// The field with each selected part of its pattern put through f, as `Pattern::map` does.
     pub fn map<U: Drop, E: From<NoMemory>, F: FnMut(&T) -> Result<U, E>>(
         &self,
         f: &mut F,
@@ -47,7 +47,7 @@ impl<T> FieldPattern<T> {
 }
 
 impl<T> PatternKind<T> {
-    /// What the pattern is, with each chosen part put through f, as `Pattern::map` does.
+    /// What the pattern is, with each selected part put through f, as `Pattern::map` does.
     pub fn map<U: Drop, E: From<NoMemory>, F: FnMut(&T) -> Result<U, E>>(
         &self,
         f: &mut F,
