@@ -124,6 +124,20 @@ impl Types {
         self.terminal_loc_type.as_ref()
     }
 
+    /// The rows of the terminals that are listed, each with its type, sorted by terminal.
+    pub fn terminals(&self) -> &BTreeMap<TerminalString, TypeRepr>
+        ensures { rows repr_view result.now ≡ (type_table self.now).terminals }
+    {
+        &self.terminal_types
+    }
+
+    /// The type of the user's errors, if one is declared.
+    pub fn opt_error_type(&self) -> Option<&TypeRepr>
+        ensures { option_map (λ t. repr_view t.now) result ≡ (type_table self.now).error }
+    {
+        self.error_type.as_ref()
+    }
+
     /// The type of what the parser answers where it fails.
     pub fn parse_error_type(&self) -> &TypeRepr
         ensures { repr_view result.now ≡ (type_table self.now).parse_error }
