@@ -1,7 +1,7 @@
-//! Runs that are data: a script on standard input names trees beside the program, and calls; each answer is printed.
+//! Test cases that are data: a script on standard input names trees beside the program, and calls; each answer is printed.
 //!
-//! A line of the script is `NAME CALL WORD..`: the tree is the file `NAME.json`. Blank lines and lines that begin with `#` say
-//! nothing. docs/work/CASES.md has the calls and what each one prints.
+//! A line of the script is `NAME CALL WORD..`: the tree is the file `NAME.json`, the words are the arguments. Blank lines and
+//! lines that begin with `#` say nothing. docs/work/CASES.md has the calls and what each one prints.
 #![tactic(auto)]
 
 mod script;

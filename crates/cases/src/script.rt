@@ -3,7 +3,7 @@ use lnorm_cases::answer::{Text, push_answer};
 use lnorm_cases::script::{is_case, words_of};
 use std::{fs, io};
 
-/// Room for a word that says why a call has no answer, so that there is some where all further memory is refused.
+/// Room for a word that says why a call has no answer, for the case that all further allocations fail.
 const ROOM: usize = 16;
 
 /// The answers to the lines of a script, each under its line.

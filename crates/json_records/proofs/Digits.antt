@@ -1,4 +1,4 @@
--- Numbers that are written by digits alone.
+-- Numbers that are written by digits only.
 use Rattle.std.proofs.Common.{◌≡◌, ℕ, zero, suc, subst, ◌+◌, ◌-◌, ◌^◌, ◌<◌, ◌≤◌, ◌==◌, ◌&&◌, ◌||◌, List, [], ◌∷◌, length, drop, get_or, slice_range, Bool, true, false, cond, Some, refl, sym, ap, ◌∙◌, arith, append-nil, lt-ltb, ◌*◌, add-one, drop-cons}
 use Rattle.std.proofs.lemmas.Grind.{pow_more}
 use Rattle.std.proofs.lemmas.List.{drop_all, get_or_past, take_all}

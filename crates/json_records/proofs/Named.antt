@@ -102,7 +102,7 @@ module _ {T : Type 0} (form : T → Data) (can : Data → Bool) where
   variant_made law None o ms is = rw (is.0, is.1) (law (object no_members) refl)
   variant_made law (Some k) o ms is = subst (λ d. Made form can o d) (sym (ap object is.1)) is.2
 
--- whether a key is another one than that before, as it is told
+-- whether a key is another one than that before, as `is_other` answers it
 pub told : (b : Option (Bor (List ℕ))) (k : List ℕ) (r : Bool) → option_map_or (λ l. not (bytes_eq l.now k)) b false ≡ r → option_map_or (λ l. not (bytes_eq l k)) (option_map (λ l. l.now) b) false ≡ r
 told None k r e = e
 told (Some l) k r e = e

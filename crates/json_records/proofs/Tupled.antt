@@ -1,4 +1,4 @@
--- Arrays of a known number of items, which are read place by place.
+-- Arrays of a known number of items, which are read index by index.
 use Rattle.std.proofs.Common.{◌≡◌, ◌⊎◌, inl, inr, ℕ, zero, suc, ◌≤◌, List, [], ◌∷◌, ◌++◌, length, map, Bool, true, false, ◌&&◌, Option, Some, None, is_some, option_map, MatchOption, refl, sym, ap, ◌∙◌, subst, arith}
 use Rattle.std.specs.List.{list_all}
 use Rattle.json.specs.Json.{after_end_array}
@@ -27,11 +27,11 @@ row_start ts = record { at = refl; hold = holds_start ts }
 
 -- ---- one item more
 
--- of a row whose first place is taken, the places behind it
+-- of a row whose first item is taken, the items behind it
 behind : (t : Data → Bool) (ts : List (Data → Bool)) (h : Option Data) (hs : List (Option Data)) (k : ℕ) (d : Data) (ds : List Data) → RowSoFar (t ∷ ts) (h ∷ hs) (suc k) (d ∷ ds) → RowSoFar ts hs k ds
 behind t ts h hs k d ds r = record { at = suc_is r.at; hold = r.hold.1 }
 
--- what is read at a place that was reached
+-- what is read at an index that was reached
 abbrev pub IsAt : List (Data → Bool) → ℕ → Data → List (Option Data) → List (Option Data) → Type 0
 IsAt (t ∷ ts) zero d (h ∷ hs) (g ∷ gs) = Holds t g (Some d) × (gs ≡ hs)
 IsAt (t ∷ ts) (suc k) d (h ∷ hs) (g ∷ gs) = (g ≡ h) × IsAt ts k d hs gs
@@ -75,7 +75,7 @@ all_read (t ∷ ts) [] ds hold e = absurd hold
 all_read (t ∷ ts) (x ∷ es) [] hold e = absurd (omega (arith, e))
 all_read (t ∷ ts) (x ∷ es) (d ∷ ds) hold e = rw (some_is d x hold.0, all_read ts es ds hold.1 (suc_is e)) refl
 
--- where the row ends at its last place, and all is held, the array is of these
+-- where the row ends at its last index, and all is held, the array is of these
 pub row_made : (ts : List (Data → Bool)) (hs : List (Option Data)) (es : List Data) (k : ℕ) (ds : List Data) → k ≡ length ts → hs ≡ map (λ e. Some e) es → RowSoFar ts hs k ds → array (items_before ds no_items) ≡ list_form es
 row_made ts hs es k ds end held r = ap array (to_items_is ds) ∙ ap list_form (all_read ts es ds (subst (λ xs. RowHolds ts xs ds) held r.hold) (sym r.at ∙ end))
 
@@ -89,7 +89,7 @@ other_place [] (d ∷ ds) never = refl
 other_place (t ∷ ts) [] never = refl
 other_place (t ∷ ts) (d ∷ ds) never = rw (other_place ts ds (λ e. never (ap suc e))) (both_false (t d))
 
--- where it ends at another place, it is no such row
+-- where it ends at another index, it is no such row
 pub row_other : (ts : List (Data → Bool)) (hs : List (Option Data)) (k : ℕ) (ds : List Data) → (k ≡ length ts → ⊥) → RowSoFar ts hs k ds → is_row ts (array (items_before ds no_items)) ≡ false
 row_other ts hs k ds never r = other_place ts ds (λ e. never (r.at ∙ e))
 

@@ -41,7 +41,7 @@ number_said n s x ts e = ap (converted of_json) (value_is n (Token.number s ∷ 
 pub number_lost : (n : ℕ) (s : List ℕ) (ts : List Token) → number_of s ≡ None → data_of n (Token.number s ∷ ts) ≡ None
 number_lost n s ts e = ap (converted of_json) (value_is n (Token.number s ∷ ts)) ∙ rw e refl
 
--- which number it is, where it is told which natural one
+-- which number it is, where it is known which natural one
 number_at : (o : Option Num) (r : Option ℕ) → Some r ≡ option_map as_u64 o → (x : Num) × (o ≡ Some x) × (as_u64 x ≡ r)
 number_at None r e = absurd (cc)
 number_at (Some x) r e = (x, refl, ap (λ o. option_map_or (λ y. y) o r) (sym e))
@@ -214,7 +214,7 @@ less_than p q = omega (arith, p, q)
 pub no_more : {k m n : ℕ} → m ≤ n → k < m → k ≤ n
 no_more p q = omega (arith, p, q)
 
--- an error that is handed over answers nothing, and is the error that it was
+-- an error that is propagated answers nothing, and is the error that it was
 pub no_answer : {T E : Type 0} (P : T → Type 0) (r : Result T E) → is_err r ≡ true → IfOk r P
 no_answer P (Ok x) e = absurd (cc)
 no_answer P (Err y) e = tt

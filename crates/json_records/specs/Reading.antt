@@ -1,4 +1,4 @@
--- What the tokens of a text say, as `serde_json` reads them, and what is made of it.
+-- What the tokens of a text say, as `serde_json` reads them, and what is read from them.
 use Rattle.std.specs.Prelude.{◌≡◌, ℕ, ◌≤◌, ◌^◌, ◌&&◌, nat_lt, map, List, [], ◌∷◌, length, Bool, true, false, Option, Some, None, MatchOption}
 use Rattle.std.specs.List.{list_all}
 use Rattle.json.specs.Token.{Token}
@@ -30,7 +30,7 @@ pub record IsRead {T : Type 0} (form : T → Data) (can : Data → Bool) (n : �
 abbrev pub under : List ℕ → Data → Data
 under k d = object (member k d no_members)
 
--- the same of a variant of that name, of which the tokens begin with what it holds
+-- a value that was read under a variant's name, of which the tokens begin with what it holds
 pub record IsReadUnder {T : Type 0} (k : List ℕ) (form : T → Data) (can : Data → Bool) (n : ℕ) (start rest : List Token) (o : Option T) : Type 0 where
   pub means : Data
   pub read : data_of n start ≡ Some (means, rest)
@@ -96,7 +96,7 @@ pub record MembersSoFar (n : ℕ) (start rest : List Token) (found : Members) : 
   pub same : members_of n start ≡ converted (λ ms. of_members ms found) (members (value n) fuel rest)
   pub shorter : length rest ≤ length start
 
--- no members stand there
+-- no members follow
 abbrev pub NoMembers : ℕ → List Token → Type 0
 NoMembers n ts = (fuel : ℕ) (found : Members) → length ts ≤ fuel → converted (λ ms. of_members ms found) (members (value n) fuel ts) ≡ None
 
@@ -104,7 +104,7 @@ abbrev pub items_before : List Data → Items → Items
 items_before [] rest = rest
 items_before (d ∷ ds) rest = item d (items_before ds rest)
 
--- likewise of the items of an array
+-- of the items of an array, those that were read so far
 pub record ItemsSoFar (n : ℕ) (start rest : List Token) (found : List Data) : Type 0 where
   pub fuel : ℕ
   pub enough : length rest ≤ fuel

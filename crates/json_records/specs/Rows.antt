@@ -19,20 +19,20 @@ is_row ts _ = false
 
 -- ---- the code's own words
 
--- how many items there are, where more than the tests count as one more than these
+-- the number of items, where more than the tests count as one more than these
 abbrev pub place_of : List (Data → Bool) → List Data → ℕ
 place_of ts [] = 0
 place_of [] (d ∷ ds) = 1
 place_of (t ∷ ts) (d ∷ ds) = suc (place_of ts ds)
 
--- what is held of the item at each place
+-- what is held of the item at each index
 abbrev pub RowHolds : List (Data → Bool) → List (Option Data) → List Data → Type 0
 RowHolds [] [] ds = ⊤
 RowHolds (t ∷ ts) (h ∷ hs) [] = Holds t h None × RowHolds ts hs []
 RowHolds (t ∷ ts) (h ∷ hs) (d ∷ ds) = Holds t h (Some d) × RowHolds ts hs ds
 RowHolds _ _ _ = ⊥
 
--- the items that were read: the place of the next one, and what is held of them
+-- the items that were read: the index of the next one, and what is held of them
 pub record RowSoFar (ts : List (Data → Bool)) (held : List (Option Data)) (place : ℕ) (ds : List Data) : Type 0 where
   pub at : place ≡ place_of ts ds
   pub hold : RowHolds ts held ds

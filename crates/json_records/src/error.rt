@@ -7,12 +7,12 @@ ghost use Rattle.json_records.specs.Reading.{NoMembers, NoItems};
 use json::{Reader, Token};
 use std::alloc::{AllocError, AllocFailed};
 
-/// Why a text was not read.
+/// Why no value was read from a text.
 #[derive(Clone, Copy, Debug, PartialEq, Eq)]
 pub enum ReadError {
-    /// `serde_json` does not read it: it is no JSON, nests more levels than are read, or has a number that is out of range.
+    /// `serde_json` does not read it: it is not JSON, nests more levels than are read, or has a number that is out of range.
     NotJson,
-    /// There was no memory for what is read.
+    /// An allocation failed for what is read.
     Memory,
 }
 

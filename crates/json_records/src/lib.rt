@@ -1,8 +1,9 @@
-//! JSON read straight from its tokens: texts, numbers, lists, and records whose fields are known, with no value of JSON in between.
+//! JSON read straight from its tokens: texts, numbers, lists, and records whose fields are known, with no value of JSON in
+//! between.
 //!
-//! A reader takes the first token of a value and the reader of the tokens behind it, and passes over the whole value, whatever it is.
-//! So of a key that an object repeats the last value counts, and a value that is none of the wanted form is told from a text that is
-//! no JSON.
+//! A reader takes the first token of a value and the reader of the tokens behind it, and passes over the whole value, of any
+//! form. If an object repeats a key, the last value counts. A value of another form than the wanted one is distinguished from a
+//! text that is not JSON.
 #![tactic(auto)]
 
 mod error;

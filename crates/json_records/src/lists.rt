@@ -17,8 +17,8 @@ pub trait Reads<T> {
 
     ghost can: { Data → Bool };
 
-    /// The value whose form the JSON value is that begins with the token, of no more levels than `depth`; none where that can be read
-    /// as no value. The JSON value is passed over.
+    /// The value whose form the JSON value is that begins with the token, of no more levels than `depth`; none where that can be
+    /// read as no value. The JSON value is passed over.
     ///
     /// # Errors
     ///

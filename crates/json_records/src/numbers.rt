@@ -49,7 +49,7 @@ fn few_digits(bytes: &[u8]) -> Option<u64>
     Some(n)
 }
 
-/// The same of a number without a sign.
+/// The natural number below 2 ^ 64 that a number without a sign is, as `number` answers it.
 fn unsigned(numeral: &Numeral<'_>) -> Option<Option<u64>>
     ensures { result ≡ option_map as_u64 (number_from false numeral.now) }
 {
@@ -59,7 +59,7 @@ fn unsigned(numeral: &Numeral<'_>) -> Option<Option<u64>>
     }
 }
 
-/// The same of what stands behind a minus.
+/// The natural number below 2 ^ 64 that a number with a minus is, as `number` answers it; the numeral is what follows the minus.
 fn negative(numeral: &Numeral<'_>) -> Option<Option<u64>>
     ensures { result ≡ option_map as_u64 (number_from true numeral.now) }
 {
@@ -71,7 +71,7 @@ fn negative(numeral: &Numeral<'_>) -> Option<Option<u64>>
     nearest(true, numeral)
 }
 
-/// The same of a number that is read as the nearest float.
+/// The natural number below 2 ^ 64 that a number is whose value is the nearest float, as `number` answers it.
 fn nearest(negative: bool, numeral: &Numeral<'_>) -> Option<Option<u64>>
     ensures { result ≡ option_map as_u64 (float_of negative numeral.now) }
 {
@@ -82,7 +82,7 @@ fn nearest(negative: bool, numeral: &Numeral<'_>) -> Option<Option<u64>>
     }
 }
 
-/// Whether a minus stands first.
+/// Whether the first byte is a minus.
 fn has_minus(bytes: &[u8]) -> bool
     ensures value { result ≡ (slice_index bytes.now 0 == 45) }
     ensures len { IsTrue result → 0 < length bytes.now }

@@ -4,7 +4,7 @@ ghost use Rattle.std.specs.Prelude.{◌≡◌, [], ◌∷◌, ◌++◌, OnOk, Is
 use crate::error::ReadError;
 use crate::lists::push_onto;
 
-/// One more item. With the first one the list takes room for the second too.
+/// One more item. With the first one the list takes room for the second one.
 pub fn push<T: Drop>(list: &mut Vec<T>, item: T) -> Result<(), ReadError>
     ensures ok { OnOk result (list.new.items ≡ list.old.items ++ item ∷ []) }
     ensures err { IsErrOf result ReadError.NotJson → ⊥ }

@@ -33,8 +33,8 @@ pub trait Fields<K>: Sized {
     fn none() -> Self
         ensures { held result ≡ map (λ t. None) tests };
 
-    /// Reads the value of a member into the field of that name, whose first token the second one is, and says whether there is such a
-    /// field; if not, nothing is read.
+    /// Reads the value of a member into the field of that name, whose first token the second one is, and says whether there is
+    /// such a field; if not, nothing is read.
     ///
     /// # Errors
     ///
@@ -147,8 +147,8 @@ impl<K: Reads<A>, A: Drop, R: Fields<K> + Drop> Fields<K> for And<A, R> {
     }
 }
 
-/// The values of the fields of the object that begins with the token; none where it is no object with exactly these names as keys, which
-/// are in the order of keys, or a value can't be read. Of a key that stands twice the last value counts.
+/// The values of the fields of the object that begins with the token; none where it is no object with exactly these names as
+/// keys, which are in the order of keys, or a value can't be read. Of a key that occurs twice the last value counts.
 pub fn read_record<'a, K, F: Fields<K> + Drop>(
     alloc: Global,
     names: &[&str],
@@ -170,8 +170,8 @@ pub fn read_record<'a, K, F: Fields<K> + Drop>(
     }
 }
 
-/// The fields of the object that begins with the token, of which each holds the last value under its name; none where it is no object, or
-/// has another key than these names, which are in the order of keys.
+/// The fields of the object that begins with the token, of which each holds the last value under its name; none where it is no
+/// object, or has another key than these names, which are in the order of keys.
 fn read_fields<'a, K, F: Fields<K> + Drop>(
     alloc: Global,
     names: &[&str],

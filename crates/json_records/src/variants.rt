@@ -25,7 +25,7 @@ pub trait Variant<T> {
 
     ghost law: { (d : Data) → is_variant d ≡ false → can d ≡ false };
 
-    /// The variant of that name alone.
+    /// The variant of that name, which holds nothing.
     fn bare(name: &str) -> Option<T>
         ensures { Made form can result (string name.now) };
 

@@ -62,7 +62,7 @@ not_shared names met (x ∷ xs) t i =
 none_unmade : (macros : List RuleData) (ps : List Part) (t : Span) → In (cap_at t) (flat_map (unmade macros) ps) → ⊥
 none_unmade macros ps t i = none_made RecursionCap not_group not_argument not_pattern not_times macros ps t i
 
--- ---- the cap stands at the last round alone
+-- ---- the cap holds only at the last round
 
 abbrev at_end : ℕ → ℕ → ℕ
 at_end k zero = k
@@ -132,7 +132,7 @@ cap_stands [] x i = absurd i
 cap_stands (x ∷ []) y i = (span_of x, inl refl)
 cap_stands (x ∷ y ∷ xs) z i = cap_stands (y ∷ xs) y (inl refl)
 
--- F36 stands exactly where a chain past the limit is the shortest one to some symbol
+-- F36 holds exactly where a chain past the limit is the shortest one to some symbol
 stands_past : RoundsAreRead → RoundsAreShortestChains → (value : ConditionValue) (g : GrammarData) → IsSettled g → (limit : ℕ) →
     ((s : Span) × In (cap_at s) (expansion_faults value g limit)) ↔ ((x : ClosedSymbol) × IsPastLimit value g limit x)
 stands_past read chains value g settled limit = (there, back)

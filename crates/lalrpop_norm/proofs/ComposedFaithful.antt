@@ -57,7 +57,7 @@ module _ (fs : Features) (g : GrammarData) (valid : validate_faults g ≡ []) wh
   leveled_have_tokens : HasTokens (grammar_with_levels fs g)
   leveled_have_tokens = leveled_tokens (resolved_grammar (enabled_grammar fs g)) (resolved_tokens (enabled_grammar fs g) (enabled_tokens fs g valid))
 
--- macros have one level, and no fault of names stands in the grammar with levels
+-- macros have one level, and no fault of names holds in the grammar with levels
 module _ (fs : Features) (g : GrammarData) (leveled : leveled_faults (prepared_grammar fs g) ≡ []) where
   pub flat : HasFlatMacros (prepared_grammar fs g)
   flat = (levels_settle_macros (prepared_grammar fs g) (resolved_once (enabled_grammar fs g)) leveled).0
@@ -75,7 +75,7 @@ condition_free : (ds : List Global) (o : Option Condition) → condition_faults 
 condition_free ds None h = refl
 condition_free ds (Some c) h = absurd (tested_free c.span (definition_of ds c.lhs.0) h)
 
--- where no fault of names stands, only macros have conditions
+-- where no fault of names holds, only macros have conditions
 unconditional : (g : GrammarData) → resolve_faults g ≡ [] → (d : RuleData) → In d (rules_without_arguments g) → (a : AlternativeData) → In a d.alternatives →
     a.condition ≡ None
 unfolding alternative_name_faults
@@ -123,7 +123,7 @@ module _ (fs : Features) (g : GrammarData) (limit : ℕ) (E : PassesExpansion fs
   pub distinct_plain : IsDistinct (rule_names (grammar_of_plain_rules fs g limit))
   distinct_plain = names_stay_distinct comparison (grammar_with_levels fs g) limit E.expanded (settled fs g before_expansion).once
 
-  -- The grammar of plain rules is expanded, and has no internal tokens.
+  -- The expanded grammar satisfies `IsExpanded`, and has no internal tokens.
   pub plain_is_expanded : IsExpanded (grammar_of_plain_rules fs g limit) × (interns (grammar_of_plain_rules fs g limit) ≡ [])
   plain_is_expanded = (
     plain_expanded IsPlainTerminal (λ t h. h) comparison (grammar_with_levels fs g) ready limit whole distinct_plain,
@@ -158,11 +158,11 @@ module _ (fs : Features) (g : GrammarData) (limit : ℕ) (h : GrammarData) (tabl
   pub starts_free : (r : RuleData) → In r (public_rules_in (all_rules h)) → In (h.prefix ++ r.name.0) (rule_names h) → ⊥
   starts_free = start_is_free h table W.inferred once W.typable W.lowerable
 
-  -- each nonterminal has its only grounded type
+  -- each nonterminal has its only derivable type
   pub grounded : (types : TypeTable) → HasStartTypes h.prefix (all_rules h) table types → HasGroundedTypes h types
   grounded = types_are_grounded h table W.inferred once W.typable W.lowerable
 
-  -- the grammar of plain rules has the names of its own that it has with its entries
+  -- the expanded grammar has the names of its own that it has with its entries
   own_names : HasOwnNames (grammar_of_plain_rules fs g limit)
   own_names =
       let (rules, prefix) = entered_same (grammar_of_plain_rules fs g limit) h W.before.entries in record {
@@ -172,7 +172,7 @@ module _ (fs : Features) (g : GrammarData) (limit : ℕ) (h : GrammarData) (tabl
             (subst (λ (before : List ℕ). (r : RuleData) → In r (public_rules_in (all_rules h)) → In (before ++ r.name.0) (rule_names h) → ⊥) prefix starts_free);
       }
 
-  -- What is lowered from the plain rules with their tokens is faithful.
+  -- What is lowered from the expanded grammar with its tokens is faithful.
   pub lowered_faithful : {R : Type 0} (lexer : Lexer R) → IsChecked lexer (grammar_of_plain_rules fs g limit) h → (l : LoweredGrammar) →
       IsLoweringOf h (all_rules h) table l → IsClosed l → IsFaithful lexer fs limit g l
   lowered_faithful lexer tokens l shape closed =

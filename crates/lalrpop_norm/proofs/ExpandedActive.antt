@@ -1,4 +1,4 @@
--- The conversions of the grammar of plain rules are those of the enabled grammar: all active.
+-- The conversions of the expanded grammar are those of the enabled grammar: all active.
 use Rattle.std.proofs.Common.{◌≡◌, inl, inr, ℕ, Bool, true, false, List, [], ◌∷◌, ◌++◌, map, Option, Some, None, refl, ap, ap₂, sym, subst, ◌∙◌}
 use Rattle.std.specs.Prelude.{flat_map, option_map, if◌then◌else◌}
 use Rattle.lalrpop_norm_tree.specs.Items.{RuleData, ConversionData, EnumTokenData, ExternTokenData, MatchTokenData, InternTokenData, ItemData, GrammarData, match_item, extern_item, intern_item, rule_item, use_item}
@@ -19,7 +19,7 @@ extern_in (intern_item t) = []
 extern_in (rule_item r) = []
 extern_in (use_item u) = []
 
--- the extern blocks of the grammar of plain rules are those of the enabled one
+-- the extern blocks of the expanded grammar are those of the enabled one
 externs_kept : (fs : Features) (g : GrammarData) (n : ℕ) →
     flat_map extern_in (grammar_of_plain_rules fs g n).items ≡ flat_map extern_in (enabled_grammar fs g).items
 externs_kept fs g n =
@@ -63,7 +63,7 @@ module _ (fs : Features) where
       by true f j = f j
       by false f j = f j
 
-  -- each extern block of the grammar of plain rules is as it is with its active conversions alone
+  -- each extern block of the expanded grammar is as it is with its active conversions alone
   pub plain_active : (g : GrammarData) (n : ℕ) (t : ExternTokenData) → In (extern_item t) (grammar_of_plain_rules fs g n).items → enabled_extern fs t ≡ t
   plain_active g n t i =
       let j = subst (λ (ts : List ExternTokenData). In t ts) (externs_kept fs g n) (extern_listed (grammar_of_plain_rules fs g n).items t i) in

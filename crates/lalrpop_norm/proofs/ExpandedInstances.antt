@@ -1,5 +1,5 @@
--- The terminals of made rules are among those of the rules and macros that they are made of, and made rules have neither arguments nor
--- conditions.
+-- The terminals of generated rules are among those of the rules and macros that they are made of, and generated rules have
+-- neither arguments nor conditions.
 use Rattle.std.proofs.Common.{◌≡◌, inl, inr, ℕ, zero, suc, Bool, true, false, Option, Some, None, List, [], ◌∷◌, ◌++◌, refl, sym, subst}
 use Rattle.std.specs.Prelude.{bytes_eq, if◌then◌else◌}
 use Rattle.lalrpop_norm_tree_names.specs.declared.names.NonterminalString.{NonterminalString}
@@ -18,7 +18,7 @@ use Rattle.lalrpop_norm.proofs.ExpandedScopes.{IsOverKind, IsOver, AreOver}
 use Rattle.lalrpop_norm.proofs.ExpandedSymbols.{named_listed}
 
 module _ (P : TerminalString → Type 0) where
-  -- ---- what is met
+  -- ---- what is reached
 
   then_itself : (x q : Part) (ms : List Part) → IsOver P x → (In q ms → IsOver P q) → In q (ms ++ x ∷ []) → IsOver P q
   then_itself x q ms h f i = elim (in_cases q ms (x ∷ []) i) [ inl j ↦ f j | inr j ↦ here j ]
@@ -84,7 +84,7 @@ module _ (P : TerminalString → Type 0) where
       all_put_over no_parts h = tt
       all_put_over (part_and p ps) h = (put_over p h.0, all_put_over ps h.1)
 
-  -- ---- made rules
+  -- ---- generated rules
 
   -- no condition, and terminals among those of P
   abbrev IsFit : AlternativeData → Type 0

@@ -1,5 +1,5 @@
--- Symbols whose terminals and names are among given ones, and in which no open identifier stands: what is met in them is such again,
--- and what they are replaced by is plain.
+-- Symbols whose terminals and names are among given ones, and in which no open identifier occurs: what is reached in them is such
+-- again, and what they are replaced by is plain.
 use Rattle.std.proofs.Common.{◌≡◌, inl, inr, ℕ, true, ◌&&◌, List, [], ◌∷◌, ◌++◌, refl, ap₂, sym, subst}
 use Rattle.lalrpop_norm_tree_names.specs.declared.names.TerminalString.{TerminalString}
 use Rattle.lalrpop_norm_tree.specs.Symbols.{Kind, Part, Parts, group, ambiguous_id, terminal, nonterminal, call, repeated, chosen, named, tupled, lookahead, lookbehind, error_terminal, at, no_parts, part_and}
@@ -12,7 +12,7 @@ use Rattle.lalrpop_norm_model.specs.Expanded.{is_plain_terminal, is_plain_kind, 
 
 -- ---- the predicate
 
--- At every depth a terminal is one of P, a name that is no macro's one of N; no open identifier stands there.
+-- At every depth a terminal is one of P, a name that is no macro's one of N; no open identifier occurs there.
 module _ (P : TerminalString → Type 0) (N : List ℕ → Type 0) where
   abbrev mutual
     pub IsReadyKind : Kind → Type 0
@@ -36,7 +36,7 @@ module _ (P : TerminalString → Type 0) (N : List ℕ → Type 0) where
     AreReady no_parts = Unit {0}
     AreReady (part_and p ps) = IsReady p × AreReady ps
 
-  -- ---- what is met
+  -- ---- what is reached
 
   itself : (x q : Part) → IsReady x → In q (x ∷ []) → IsReady q
   itself x q h (inl e) = subst IsReady (sym e) h

@@ -1,4 +1,4 @@
--- The grammar of plain rules is expanded.
+-- The expanded grammar satisfies `IsExpanded`.
 use Rattle.std.proofs.Common.{◌≡◌, ◌⊎◌, inl, inr, ℕ, ◌≤◌, true, not, List, [], length, map, None, sym, subst, arith}
 use Rattle.std.specs.Prelude.{flat_map}
 use Rattle.lalrpop_norm_tree_names.specs.declared.names.TerminalString.{TerminalString}
@@ -25,8 +25,8 @@ use Rattle.lalrpop_norm.proofs.ExpandedTokens.{HasTokens, plain_tokens}
 
 -- ---- the grammar
 
--- What the expansion needs of a grammar: its names are resolved, only macros have conditions, no symbol stands in a declared type, its
--- terminals are among those of P, and its tokens are as before the pass on tokens.
+-- What the expansion needs of a grammar: its names are resolved, only macros have conditions, no symbol occurs in a declared
+-- type, its terminals are among those of P, and its tokens are as before the pass on tokens.
 pub record IsPrepared (P : TerminalString → Type 0) (g : GrammarData) : Type 0 where
   pub settled : IsSettled g
   pub no_conditions : (d : RuleData) → In d (rules_without_arguments g) → (a : AlternativeData) → In a d.alternatives → a.condition ≡ None
@@ -58,7 +58,7 @@ module _ (P : TerminalString → Type 0) (plain : (t : TerminalString) → P t �
   written_ready : (d : RuleData) → In d (rules_without_arguments g) → (a : AlternativeData) → In a d.alternatives → AreReady P Named a.parts
   written_ready d i a j = alternative_ready g h.settled P Named named d i a j (h.over d (from_written d i) a j)
 
-  -- what rules meet has its terminals among those of P
+  -- what rules reach has its terminals among those of P
   met_by_rules : (ds : List RuleData) → ((d : RuleData) → In d ds → (a : AlternativeData) → In a d.alternatives → AreOver P a.parts) →
       (q : Part) → In q (flat_map met_in_rule ds) → IsOver P q
   met_by_rules ds f q i =
@@ -78,13 +78,13 @@ module _ (P : TerminalString → Type 0) (plain : (t : TerminalString) → P t �
   made_symbol_ready : (q : Part) → In q (made_symbols value g n) → IsReady P Named q
   made_symbol_ready q i = part_ready g h.settled P Named named q (made_symbols_are_scoped value g h.settled n q i).0 (made_symbol_over q i)
 
-  -- where a made rule comes from
+  -- where a generated rule comes from
   made_from : (d : RuleData) → In d (made_in value g n) → (q : Part) × In q (made_symbols value g n) × In d (made_rules value (macros_of g) q)
   made_from d i = of_flat (made_rules value (macros_of g)) d (made_symbols value g n) i
 
   -- ---- rules one by one
 
-  -- a plain rule is made of a written one, or of one that a symbol is made into
+  -- a rule of the expanded grammar is made of a written one, or of the one that a symbol gets
   abbrev From : RuleData → Type 0
   From r =
       ((d : RuleData) × In d (rules_without_arguments g) × (r ≡ replaced_rule d))
@@ -185,7 +185,7 @@ module _ (P : TerminalString → Type 0) (plain : (t : TerminalString) → P t �
   at_most_one : {A : Type 0} (xs : List A) → xs ≡ [] → length xs ≤ 1
   at_most_one xs e = subst (λ ys. length ys ≤ 1) (sym e) (omega arith)
 
-  -- The grammar of plain rules is expanded, where its names are distinct.
+  -- The expanded grammar satisfies `IsExpanded`, where its names are distinct.
   pub plain_expanded : IsDistinct (rule_names (plain_grammar value g n)) → IsExpanded (plain_grammar value g n)
   plain_expanded distinct = record {
     no_macros = no_arguments;

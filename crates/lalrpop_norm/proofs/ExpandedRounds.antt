@@ -1,4 +1,4 @@
--- What is met in a whole expansion has a rule of its text; and what holds of all that is met holds of all that is made.
+-- What is reached in a whole expansion has a rule of its text; and what holds of all that is reached holds of all that is made.
 use Rattle.std.proofs.Common.{◌≡◌, ◌⊎◌, inl, inr, ℕ, zero, suc, Bool, List, [], ◌∷◌, ◌++◌, map, reverse, refl, ap, sym, subst, ◌∙◌}
 use Rattle.std.specs.Prelude.{flat_map}
 use Rattle.lalrpop_norm_tree.specs.Symbols.{Part, Parts, group, ambiguous_id, terminal, nonterminal, call, repeated, chosen, named, tupled, lookahead, lookbehind, error_terminal, at, no_parts, part_and}
@@ -44,7 +44,7 @@ module _ {A : Type 0} (same : A → A → Bool) (meets : A → List A) (start : 
   ]
 
 module _ {A : Type 0} (same : A → A → Bool) (meets : A → List A) (start : List A) where
-  -- what is made was met by the rules, or by the rule of what is made
+  -- what is made was reached by the rules, or by the rule of what is made
   abbrev pub Comes : ℕ → A → Type 0
   Comes n x = (In x start) ⊎ ((y : A) × In y (all_rules_made same meets start n) × In x (meets y))
 
@@ -66,7 +66,7 @@ module _ {A : Type 0} (same : A → A → Bool) (meets : A → List A) (start : 
     | inr j ↦ later n x (fresh_comes n x (of_reverse x (rounds same meets start n).fresh j))
   ]
 
--- ---- what is met within what is met
+-- ---- what is reached within what is reached
 
 then_itself : (x p q : Part) (ms : List Part) → met x ≡ ms ++ x ∷ [] → (In p ms → In q ms) → In p (ms ++ x ∷ []) → In q (met p) → In q (ms ++ x ∷ [])
 then_itself x p q ms e f i j = elim (in_cases p ms (x ∷ []) i) [
@@ -137,13 +137,13 @@ module _ (value : ConditionValue) (g : GrammarData) (S : IsSettled g) (n : ℕ) 
       (in_plain (replaced_rule r) (in_right (replaced_rule r) (map replaced_rule (rules_without_arguments g)) _
       (in_map replaced_rule r (made_in value g n) (in_flat (made_rules value (macros_of g)) r p (made_symbols value g n) i here))))
 
-  -- so has each whose closed symbol is expanded
+  -- so has each whose ground symbol is expanded
   expanded_named : (q : Part) → In (closed q) expanded → In (part_text q) (rule_names (plain_grammar value g n))
   expanded_named q i =
       let (p, j, e) = of_map closed (closed q) (made_symbols value g n) (subst (λ (gs : List ClosedSymbol). In (closed q) gs) (sym closed_made) i) in
       subst (λ m. In m (rule_names (plain_grammar value g n))) (same_text p q e) (made_named p j)
 
-  -- each symbol that the rules of the grammar meet has a rule of its text
+  -- each symbol that the rules of the grammar reach has a rule of its text
   pub start_covered : (q : Part) → In q (flat_map met_in_rule (rules_without_arguments g)) → In (part_text q) (rule_names (plain_grammar value g n))
   start_covered q i =
       let read = (met_is_read value g S).1 in
@@ -151,7 +151,7 @@ module _ (value : ConditionValue) (g : GrammarData) (S : IsSettled g) (n : ℕ) 
       let (x, j, k) = of_flat (rule_meets (flat_meaning value g)) (closed q) (declared g) met in
       expanded_named q (done.done x (closed q) (in_left x (declared g) expanded j) k)
 
-  -- so has each that a made rule meets
+  -- so has each that a generated rule reaches
   pub made_covered : (p : Part) → In p (made_symbols value g n) → (q : Part) → In q (met_by_made value (macros_of g) p) →
       In (part_text q) (rule_names (plain_grammar value g n))
   made_covered p i q j =
@@ -161,7 +161,7 @@ module _ (value : ConditionValue) (g : GrammarData) (S : IsSettled g) (n : ℕ) 
       let there : In (closed p) expanded = subst (λ (gs : List ClosedSymbol). In (closed p) gs) closed_made (in_map closed p (made_symbols value g n) i) in
       expanded_named q (done.done (closed p) (closed q) (in_right (closed p) (declared g) expanded there) met)
 
-  -- so has each that is met within a symbol that is made
+  -- so has each that is reached within a symbol that is made
   pub inside_covered : (p : Part) → In p (made_symbols value g n) → (q : Part) → In q (met p) → In (part_text q) (rule_names (plain_grammar value g n))
   inside_covered p i q j =
       elim (made_comes same_apart_from_spans (met_by_made value (macros_of g)) (flat_map met_in_rule (rules_without_arguments g)) n p i) [

@@ -1,5 +1,5 @@
--- From the enabled grammar to the grammar with levels: rules keep their declared types and symbols their terminals, to which resolving
--- adds bare ones.
+-- From the enabled grammar to the grammar with levels: rules keep their declared types and symbols their terminals, to which
+-- resolving adds bare ones.
 use Rattle.std.proofs.Common.{◌≡◌, inl, inr, ℕ, suc, Bool, true, false, List, [], ◌∷◌, ◌++◌, map, Option, Some, None, refl, ap, sym, subst}
 use Rattle.std.specs.Prelude.{flat_map, if◌then◌else◌}
 use Rattle.lalrpop_norm_tree_names.specs.declared.names.TerminalString.{TerminalString}
@@ -149,7 +149,7 @@ module _ (P : TerminalString → Type 0) (own : List ℕ → Bool) (level : ℕ 
     leveled_over before after no_parts h = tt
     leveled_over before after (part_and p ps) h = (leveled_part_over before _ p h.0, leveled_over _ after ps h.1)
 
--- what is leveled at a place is an alternative that stands there
+-- what is leveled at an index is an alternative that is there
 numbered_from : (ps : PlacedAlternatives) (k : ℕ) (xs : List AlternativeData) (a : Leveled) → In a (present (map_numbered (leveled_at ps) k (map Some xs))) → In a.alternative xs
 numbered_from ps k [] a i = absurd i
 numbered_from ps k (x ∷ xs) a (inl e) = inl (ap (λ (y : Leveled). y.alternative) e)

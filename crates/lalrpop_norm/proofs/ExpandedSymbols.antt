@@ -1,5 +1,5 @@
--- Where each symbol that is met has a rule of its text, each name in what symbols are replaced by has a rule: in alternatives, and in
--- the types that made rules declare.
+-- Where each symbol that is reached has a rule of its text, each name in what symbols are replaced by has a rule: in
+-- alternatives, and in the types that generated rules declare.
 use Rattle.std.proofs.Common.{◌≡◌, inl, inr, ℕ, Bool, true, false, Option, Some, None, List, [], ◌∷◌, ◌++◌, map, refl, sym, subst}
 use Rattle.std.specs.Prelude.{flat_map, option_map, option_to_list, bytes_eq, if◌then◌else◌}
 use Rattle.lalrpop_norm_tree_names.specs.declared.names.NonterminalString.{NonterminalString}
@@ -47,7 +47,7 @@ argument_listed (a ∷ params) (part_and p ps) n k e = by (bytes_eq a.0 n) (argu
     by true f h = inl cc
     by false f h = inr (f h)
 
--- Where no symbol stands in a type, those that come into it are arguments.
+-- Where no symbol occurs in a type, those that come into it are arguments.
 module _ (argument : List ℕ → Option Kind) where
   abbrev IsPut : Kind → Type 0
   IsPut k = (n : List ℕ) × (j : Kind) × (argument n ≡ Some j) × (k ≡ replaced_kind j)
@@ -99,7 +99,7 @@ module _ (P : TerminalString → Type 0) (plain : (t : TerminalString) → P t �
   abbrev pub Named : List ℕ → Type 0
   Named n = In n S
 
-  -- each symbol that is met has a rule of its text
+  -- each symbol that is reached has a rule of its text
   abbrev pub Covered : List Part → Type 0
   Covered ms = (q : Part) → In q ms → Named (part_text q)
 
@@ -211,7 +211,7 @@ module _ (P : TerminalString → Type 0) (plain : (t : TerminalString) → P t �
       let (n, j, is, e) = declared_put (argument_kind d.args ps) d.type_decl bare k i in
       subst IsSettledSymbol (sym e) (all_settled ps h c j (argument_listed d.args ps n j is))
 
-  -- The symbols in the declared type of a made rule are plain, and their names have rules.
+  -- The symbols in the declared type of a generated rule are plain, and their names have rules.
   pub made_settled : (value : ConditionValue) (macros : List RuleData) → ((d : RuleData) → In d macros → declared_symbols d ≡ []) →
       (p : Part) → IsReady P Named p → Covered (met p) → (r : RuleData) → In r (made_rules value macros p) → (k : Kind) → In k (declared_symbols r) → IsSettledSymbol k
   made_settled value macros bare (at s (group ps)) h c r i k j = of_only (group_rule s ps) r f i k j

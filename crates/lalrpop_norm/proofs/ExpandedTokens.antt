@@ -1,4 +1,4 @@
--- The tokens of a grammar before the pass on tokens, along the steps that change rules alone.
+-- The tokens of a grammar before the pass on tokens, along the steps that change only rules.
 use Rattle.std.proofs.Common.{◌≡◌, ◌<◌, ◌≤◌, ℕ, Bool, true, false, List, [], ◌∷◌, ◌++◌, length, map, refl, ap, sym, subst, ◌∙◌}
 use Rattle.std.specs.Prelude.{flat_map, if◌then◌else◌}
 use Rattle.lalrpop_norm_tree_names.specs.declared.names.TerminalString.{TerminalString}
@@ -16,8 +16,8 @@ use Rattle.lalrpop_norm_model.specs.Expanded.{enum_in, match_in, intern_in, enum
 
 -- ---- tokens
 
--- At most one extern enum, and beside it no match block, of which there is at most one; no internal tokens yet; nothing names the error
--- terminal; no symbol stands in a type that no rule declares, and attributes are known.
+-- At most one extern enum, and beside it no match block, of which there is at most one; no internal tokens yet; nothing names the
+-- error terminal; no symbol occurs in a type that no rule declares, and attributes are known.
 pub record HasTokens (g : GrammarData) : Type 0 where
   pub one_enum : length (enums g) ≤ 1
   pub one_match : length (match_blocks g) ≤ 1

@@ -1,5 +1,5 @@
--- What a written grammar without faults says of its enabled grammar: its tokens are as the pass on tokens asks, nothing in it names the
--- error terminal, and no symbol stands in a declared type.
+-- What a written grammar without faults says of its enabled grammar: its tokens are as the pass on tokens asks, nothing in it
+-- names the error terminal, and no symbol occurs in a declared type.
 use Rattle.std.proofs.Common.{◌≡◌, ◌<◌, ◌≤◌, inl, inr, ℕ, Bool, true, false, not, ◌||◌, List, [], ◌∷◌, ◌++◌, length, map, Option, Some, None, refl, ap, sym, subst, ◌∙◌, arith}
 use Rattle.std.specs.Prelude.{flat_map, filter, filter_map, option_map, option_to_list, is_some, if◌then◌else◌}
 use Rattle.std.specs.List.{list_any}
@@ -88,7 +88,7 @@ none_declared : (o : Option TypeData) → some_holds o ≡ false → flat_map sy
 none_declared None h = refl
 none_declared (Some t) h = none_appended (symbols_in t) [] (none_in t h) refl
 
--- the types that a pattern chooses hold no symbol
+-- the types that a pattern selects hold no symbol
 mutual
   chosen_bare_kind : (k : pattern.PatternKindData TypeData) → kind_holds k ≡ false → (t : TypeData) → In t (chosen_in_kind k) → holds_symbol t ≡ false
   chosen_bare_kind (pattern.chosen u) h t (inl e) = ap holds_symbol e ∙ h
@@ -124,7 +124,7 @@ mutual
 -- ---- items without faults
 
 module _ (g : GrammarData) where
-  -- an item without faults, whatever stands before it
+  -- an item without faults, whatever is before it
   abbrev IsFree : ItemData → Type 0
   IsFree i = (m : Bool) × (e : Bool) × (item_faults (surroundings_of g) (blocks_in g) g.span m e i ≡ [])
 
@@ -457,7 +457,7 @@ module _ (g : GrammarData) where
   one_match e (rule_item r ∷ items) h = one_match _ items (both_empty (item_faults (surroundings_of g) (blocks_in g) g.span false e (rule_item r)) _ h).1
   one_match e (use_item u ∷ items) h = one_match _ items (both_empty (item_faults (surroundings_of g) (blocks_in g) g.span false e (use_item u)) _ h).1
 
-  -- a match block stands beside no enum of the first extern block, and its mappings name no error terminal
+  -- a match block occurs beside no enum of the first extern block, and its mappings name no error terminal
   match_free : (m : MatchTokenData) → IsFree g (match_item m) → ((blocks_in g).first_enum ≡ None) × (flat_map (flat_map mapping_faults) m.contents ≡ [])
   unfolding item_faults match_faults
   match_free m (seen, e, h) =

@@ -1,5 +1,5 @@
--- Where no fault stands in inference and lowering, each nonterminal of the lowered grammar has its only grounded type, and the start
--- names are no rules' names.
+-- Where no fault holds in inference and lowering, each nonterminal of the lowered grammar has its only derivable type, and the
+-- start names are no rules' names.
 use Rattle.std.proofs.Common.{◌≡◌, ◌⊎◌, inl, inr, ℕ, ◌+◌, Bool, true, false, List, [], ◌∷◌, ◌++◌, map, Option, Some, None, IsSome, refl, ap, ap₂, sym, subst, ◌∙◌, arith}
 use Rattle.std.specs.Prelude.{flat_map, filter, bytes_eq, option_and_then, if◌then◌else◌}
 use Rattle.std.specs.List.{enumerate_from}
@@ -38,7 +38,7 @@ pub public_in : (rules : List RuleData) (r : RuleData) → In r (public_rules_in
 public_in [] r i = absurd i
 public_in (s ∷ rules) r i = public_by (is_public s.visibility) s rules (public_rules_in rules) r (public_in rules r) i
 
--- the two words for public rules say the same
+-- the two terms for public rules say the same
 public_same : (rules : List RuleData) → public_rules_in rules ≡ filter (λ (r : RuleData). is_public r.visibility) rules
 public_same [] = refl
 public_same (s ∷ rules) = by (is_public s.visibility) (public_same rules)
@@ -61,7 +61,7 @@ each_start prefix types k (s ∷ rules) h r (inl e) =
 each_start prefix types k (s ∷ rules) h r (inr i) =
     each_start prefix types (k + 1) rules (both_empty (start_faults prefix types s ++ action_number_faults k s.span) _ h).1 r i
 
--- where no fault of lowering stands, the start name of a public rule has no type in the table
+-- where no fault of lowering holds, the start name of a public rule has no type in the table
 pub start_untyped : (g : GrammarData) (types : List ℕ → Option ReprData) → lowering_faults g types ≡ [] →
     (r : RuleData) → In r (public_rules_in (all_rules g)) → types (g.prefix ++ r.name.0) ≡ None
 start_untyped g types h r i =
@@ -132,6 +132,6 @@ module _ (g : GrammarData) (table : TypeTable) (inferred : IsInferred g table) (
           ∙ ap₂ (λ o p. or_else o (option_and_then (λ m. type_of m table) p)) none (start_at g.prefix (public_rules_in (all_rules g)) r i)
           ∙ own.2 ∙ sym (kept_type r own.0 own.2)
 
-      -- each nonterminal has its only grounded type, a start symbol that of its rule
+      -- each nonterminal has its only derivable type, a start symbol that of its rule
       pub types_are_grounded : HasGroundedTypes g types
       types_are_grounded = record { rules = only_type; starts = start_type }

@@ -36,7 +36,7 @@ text_below bound (Some text) l e = number_below bound (without_leading_plus text
 stated_below : (attributes : Attributes) (l : ℕ) → stated_level attributes ≡ Some l → l < 2 ^ 32
 stated_below attributes l e = text_below (2 ^ 32) (option_and_then (value_under (codes "level")) (first_named (codes "precedence") attributes)) l e
 
--- ---- places
+-- ---- indices
 
 last_in : {A : Type 0} (xs : List (Option A)) (x : A) → last_stated xs ≡ Some x → In (Some x) xs
 last_in [] x e = absurd (cc e)

@@ -1,4 +1,4 @@
--- One rule for each symbol that is met.
+-- One rule for each symbol that is reached.
 use Rattle.std.proofs.Common.{◌≡◌, ℕ, zero, suc, List, map, sym, subst}
 use Rattle.std.specs.Prelude.{flat_map}
 use Rattle.lalrpop_norm_tree.specs.Items.{GrammarData}

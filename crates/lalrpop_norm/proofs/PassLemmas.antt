@@ -76,9 +76,9 @@ late_same p types distinct none inferred =
     ap (lowering_faults p) (types_are_inferred p types distinct none inferred)
     ∙ sym (ap (λ fs. fs ++ lowering_faults p (inferred_table p)) none)
 
--- ---- what is told
+-- ---- what is reported
 
--- the exit by `?` of a call that refuses by the first of a list, which stands first
+-- the exit by `?` of a call that rejects by the first of a list, which comes first
 pub sure_exit : {P T : Type 0} (At : P → Fault → Type 0) (r : Result T NormFailure) (e : NormFailure) (here : List Fault) (rest : List (Finding P)) →
     IsErrAnd r (λ x. x ≡ e) → IsFirst here e → RefusesAmong At r (map sure here ++ rest)
 sure_exit At (Ok x) e here rest from h = absurd from
@@ -86,14 +86,14 @@ sure_exit At (Err x) (Refused e) here rest from h =
     rw from (told_left At (map sure here) rest (e.fault, e.span) (first_told At here (e.fault, e.span) h))
 sure_exit At (Err x) Memory here rest from h = rw from tt
 
--- of a call that tells some faults one way
+-- of a call that reports some faults one way
 pub told_exit : {P T : Type 0} (At : P → Fault → Type 0) (r : Result T NormFailure) (e : NormFailure) (here rest : List (Finding P)) →
     IsErrAnd r (λ x. x ≡ e) → IsTold At here e → RefusesAmong At r (here ++ rest)
 told_exit At (Ok x) e here rest from h = absurd from
 told_exit At (Err x) (Refused e) here rest from h = rw from (told_left At here rest (e.fault, e.span) h)
 told_exit At (Err x) Memory here rest from h = rw from tt
 
--- what is told where no sure fault stands before it
+-- what is reported where no sure fault holds before it
 pub told_after : {P T : Type 0} (At : P → Fault → Type 0) (r : Result T NormFailure) (here rest : List (Finding P)) → sure_ones here ≡ [] →
     RefusesAmong At r rest → RefusesAmong At r (here ++ rest)
 told_after At (Ok x) here rest none h = sure_append here rest ∙ ap (λ fs. fs ++ sure_ones rest) none ∙ h
@@ -104,7 +104,7 @@ pub told_behind : {P T : Type 0} (At : P → Fault → Type 0) (r : Result T Nor
     RefusesAmong At r rest → RefusesAmong At r (map sure here ++ rest)
 told_behind {P} At r here rest none h = told_after At r (map sure here) rest (sure_all P here ∙ none) h
 
--- what is known where no fault of the list stands is known where the call answers
+-- what is known where no fault of the list holds is known where the call answers
 pub where_none : {T : Type 0} (Q : Type 0) (r : Result T NormFailure) (fs : List Fault) → Refuses r fs → (fs ≡ [] → Q) → IfOk r (λ x. Q)
 where_none Q (Ok x) fs h f = f h
 where_none Q (Err e) fs h f = tt
@@ -129,7 +129,7 @@ levels_answer fs g enabled stepped same (none, is) = (
   is ∙ ap (λ (x : GrammarData). leveled_grammar (resolved_grammar x)) same,
 )
 
--- the expansion refuses and answers
+-- the expansion rejects and answers
 pub expansion_refuses : {T : Type 0} (fs : Features) (limit : ℕ) (g stepped : GrammarData) (r : Result T NormFailure) → validate_faults g ≡ [] →
     (precedence_faults (enabled_grammar fs g) ≡ []) × (stepped ≡ grammar_with_levels fs g) → Refuses r (expansion_faults comparison stepped limit) →
     Refuses r (early_faults fs limit g)
@@ -152,7 +152,7 @@ pub expansion_plain : (fs : Features) (limit : ℕ) (g stepped plain : GrammarDa
     plain ≡ grammar_of_plain_rules fs g limit
 expansion_plain fs limit g stepped plain same is = is ∙ ap (λ (x : GrammarData). plain_grammar comparison x limit) same
 
--- ---- plain rules
+-- ---- rules of the expanded grammar
 
 -- what the passes up to the expansion answer is as the pass on tokens asks
 pub plain_is_plain : (fs : Features) (limit : ℕ) (g : GrammarData) → PassesExpansion fs g limit → IsPlain fs (grammar_of_plain_rules fs g limit)
@@ -160,7 +160,7 @@ plain_is_plain fs limit g E =
     let (expanded, none) = plain_is_expanded fs g limit E in
     record { expanded = expanded; no_tokens = none; active = plain_active fs g limit }
 
--- what is told of one grammar is told of an equal one
+-- what is reported of one grammar is reported of an equal one
 pub refused_alike : {R : Type 0} (lexer : Lexer R) (p q : GrammarData) → p ≡ q → {T : Type 0} (r : Result T NormFailure) →
     RefusesAmong (StandsAtLexer lexer p) r (plain_findings p) → RefusesAmong (StandsAtLexer lexer q) r (plain_findings q)
 refused_alike lexer p q same r h = subst (λ (x : GrammarData). RefusesAmong (StandsAtLexer lexer x) r (plain_findings x)) same h
@@ -183,7 +183,7 @@ module _ {R : Type 0} (lexer : Lexer R) (fs : Features) (p : GrammarData) (plain
       entered_typed fs p h plain.expanded plain.no_tokens plain.active supplied entered (types_by_name types)
       (rule_typed h types inferred is_expanded.distinct_names typable)
 
-  -- what is refused after the pass on tokens
+  -- what is rejected after the pass on tokens
   pub late_exit : {T : Type 0} (r : Result T NormFailure) → Refuses r (late_faults h) → RefusesAmong (StandsAtLexer lexer p) r (plain_findings p)
   late_exit r refuses =
       let (faults, table, lowering) = entries_decide p h entered in
@@ -215,7 +215,7 @@ all_active fs p h plain entered =
     ap (λ (is : List ItemData). record h { items = is })
     (items_kept (active_item fs) (λ m. refl) (λ t. refl) (λ r. refl) (λ u. refl) h.items (λ t i. ap extern_item (entered_active fs p h plain entered t i)))
 
--- no pass finds anything wrong with a written grammar, and it is lowered by its plain rules with their tokens
+-- no pass finds anything wrong with a written grammar, and it is lowered by its expanded grammar with its tokens
 pub record IsPassed {R : Type 0} (lexer : Lexer R) (fs : Features) (limit : ℕ) (g : GrammarData) (l : LoweredGrammar) : Type 0 where
   pub checked : GrammarData
   pub tokens : IsChecked lexer (grammar_of_plain_rules fs g limit) checked
@@ -224,7 +224,7 @@ pub record IsPassed {R : Type 0} (lexer : Lexer R) (fs : Features) (limit : ℕ)
   pub shape : IsLoweringOf checked (all_rules checked) types l
   pub closed : IsClosed l
 
--- what is lowered from the plain rules has passed
+-- what is lowered from the rules of the expanded grammar has passed
 pub passed : {R : Type 0} (lexer : Lexer R) (fs : Features) (limit : ℕ) (g p : GrammarData) → PassesExpansion fs g limit → p ≡ grammar_of_plain_rules fs g limit →
     (l : LoweredGrammar) → IsCheckedLowering lexer fs p l → IsPassed lexer fs limit g l
 passed lexer fs limit g p E same l low = by (subst (λ (x : GrammarData). IsCheckedLowering lexer fs x l) same low)

@@ -100,7 +100,7 @@ module _ (origins : List Origin) where
       (rule_traced n m e (k + 1) os xs ds h (omega arith)
       (λ i. (let s : k + 1 + i ≡ k + suc i = omega arith in ap (slice_get origins) s) ∙ origin (suc i))))
 
-  -- the origins of the rules stand in a row from k on
+  -- the origins of the rules are in a row from k on
   rules_traced : (n : Name) (k : ℕ) (os : List Origin) (rules : List RuleData) → HaveDistinctNames rules →
       length (flat_map (λ (r : RuleData). r.alternatives) rules) ≤ length os → ((i : ℕ) → slice_get origins (k + i) ≡ slice_get os i) →
       map (traced_entry origins tree_symbols) (numbers_named n k (flat_map of_rule rules)) ≡ table (rules_from os rules) n
@@ -138,7 +138,7 @@ module _ (g : GrammarData) (rules : List RuleData) (types : TypeTable) (l : Lowe
       ap (slice_get origins) sum)
       ∙ behind (replicate (length (public_rules_in rules)) from_start) os i
 
-  -- Under the name of each rule stand the productions of its alternatives, with the next origins.
+  -- Under the name of each rule are the productions of its alternatives, with the next origins.
   pub shape_derivations : (r : RuleData) → In r rules → derivations origins l r.name.0 ≡ table (rules_from os rules) r.name.0
   shape_derivations r i =
       ap (map (traced origins)) (productions_at g rules types l shape distinct free r i)

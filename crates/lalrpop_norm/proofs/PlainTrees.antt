@@ -1,4 +1,4 @@
--- The trees of a grammar that has the plain rules stand one to one with the written trees.
+-- The trees of a grammar that has the rules of the expanded grammar correspond one to one to the written trees.
 use Rattle.std.proofs.Common.{◌≡◌, inl, inr, ℕ, List, ◌++◌, map, sym, ap, ◌∙◌, subst}
 use Rattle.lalrpop_norm_tree.specs.Items.{RuleData, GrammarData}
 use Rattle.lalrpop_norm_theory.specs.Symbols.{Name, ClosedSymbol}
@@ -48,7 +48,7 @@ module _ (value : ConditionValue) (fs : Features) (g : GrammarData) (N : HasLeve
   stands : Stands M name (roots ws) (references ws) met
   stands = written_stands value fs g N S n whole D
 
-  -- ---- a lowered grammar that has the plain rules
+  -- ---- a lowered grammar that has the rules of the expanded grammar
 
   rules_same : rules_from (plain_origins M (references ws) n) (all_rules plain) ≡ map (rule_of_symbol M name) (plain_symbols M (references ws) n)
   rules_same =

@@ -1,4 +1,4 @@
--- Where no fault of names stands, each name of a rule is its own and each name in a symbol has a meaning.
+-- Where no fault of names holds, each name of a rule is its own and each name in a symbol has a meaning.
 use Rattle.std.proofs.Common.{◌≡◌, inl, inr, ℕ, suc, List, [], ◌∷◌, ◌++◌, map, length, Bool, true, false, not, ◌&&◌, ◌||◌, Option, Some, None, refl, sym, ap, ap₂, ◌∙◌, subst, arith}
 use Rattle.std.specs.Prelude.{flat_map, option_map, is_some, nat_eq, bytes_eq, if◌then◌else◌}
 use Rattle.std.proofs.lemmas.List.{map-append}
@@ -46,7 +46,7 @@ none_of f [] x h i = absurd i
 none_of {A} f (y ∷ xs) x h (inl e) = subst (λ (z : A). f z ≡ []) (sym e) (left_none (f y) (flat_map f xs) h)
 none_of f (y ∷ xs) x h (inr i) = none_of f xs x (right_none (f y) (flat_map f xs) h) i
 
--- ---- names stand once
+-- ---- names occur once
 
 not_before : (before : List Global) (d : Global) (n : Name) → definition_of (before ++ d ∷ []) n ≡ None → (definition_of before n ≡ None) × (bytes_eq d.name n ≡ false)
 not_before [] d n h = by (bytes_eq d.name n) h

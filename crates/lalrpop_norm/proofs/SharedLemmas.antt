@@ -1,4 +1,4 @@
--- F37 in the list of faults: where a symbol that is met shares its name.
+-- F37 in the list of faults: where a symbol that is reached shares its name.
 use Rattle.std.proofs.Common.{◌≡◌, ◌≤◌, ◌<◌, inl, inr, ℕ, zero, suc, ◌+◌, arith, Some, Bool, true, false, not, List, [], ◌∷◌, ◌++◌, map, bytes_eq, refl, sym, ap, subst, ◌∙◌, append-nil, append_assoc}
 use Rattle.std.specs.Prelude.{◌||◌, ◌&&◌, ◌↔◌, ◌⊎◌, flat_map}
 use Rattle.std.proofs.lemmas.Slice.Eq.{bytes_eq-Decides}
@@ -103,9 +103,9 @@ shares_complete names met x (inl i) = or_left (is_declared_name names (part_text
 shares_complete names met x (inr h) =
     or_right (is_declared_name names (part_text x)) (has_other met x) (has_other_complete met x h.0 h.1 (h.2, h.3))
 
--- ---- symbols met one after another
+-- ---- symbols reached one after another
 
--- a fault that may stand does, and is that one
+-- a fault that may hold does, and is that one
 stands_if : (b : Bool) (f g : Fault) → In g (fault_if b f) → (b ≡ true) × (g ≡ f)
 stands_if true f g (inl e) = (refl, e)
 stands_if true f g (inr i) = absurd i
@@ -115,7 +115,7 @@ if_stands : (b : Bool) (f : Fault) → b ≡ true → In f (fault_if b f)
 if_stands true f e = inl refl
 if_stands false f e = absurd (cc e)
 
--- of the symbols xs, met after others, one at t shares its name
+-- of the symbols xs, reached after others, one at t shares its name
 record Found (names : List Name) (met xs : List Part) (t : Span) : Type 0 where
   before : List Part
   symbol : Part
@@ -163,7 +163,7 @@ stand names met (z ∷ before) x later h =
 abbrev Stands : List Name → List Part → List Part → Type 0
 Stands names met xs = (t : Span) × In (shared_at t) (shared_names names met xs)
 
--- where a symbol has a declared name a fault stands
+-- where a symbol has a declared name a fault holds
 declared_stands : (names : List Name) (met xs : List Part) (x : Part) → In x xs → In (part_text x) names → Stands names met xs
 declared_stands names met [] x i h = absurd i
 declared_stands names met (z ∷ xs) x (inl e) h = (span_of z, stand names met [] z xs (inl (subst (λ (w : Part). In (part_text w) names) e h)))
@@ -171,7 +171,7 @@ declared_stands names met (z ∷ xs) x (inr i) h =
     let r = declared_stands names (met ++ z ∷ []) xs x i h in
     (r.0, in_right (shared_at r.0) (fault_if (shares names met z) (SharedName, span_of z)) (shared_names names (met ++ z ∷ []) xs) r.1)
 
--- where two symbols differ and have one text, a fault stands at the one that is met later
+-- where two symbols differ and have one text, a fault holds at the one that is reached later
 differing_stand : (names : List Name) (met xs : List Part) (x y : Part) → In x xs → In y (met ++ xs) → Differ y x → Stands names met xs
 differing_stand names met [] x y i j d = absurd i
 differing_stand names met (z ∷ xs) x y i j d = by (λ v w k l e. differing_stand names (met ++ z ∷ []) xs v w k l e) i (in_cases y met (z ∷ xs) j)
@@ -182,7 +182,7 @@ differing_stand names met (z ∷ xs) x y i j d = by (λ v w k l e. differing_sta
     here : (w : Part) → In w met → Differ w z → Stands names met (z ∷ xs)
     here w k e = (span_of z, stand names met [] z xs (inr (w, in_left w met [] k, e.0, e.1)))
 
-    -- what was met by now
+    -- what was reached by now
     was : (w : Part) → In w met → In w ((met ++ z ∷ []) ++ xs)
     was w k = in_left w (met ++ z ∷ []) xs (in_left w met (z ∷ []) k)
 
@@ -321,7 +321,7 @@ module _ (value : ConditionValue) (g : GrammarData) where
         | inr here ↦ (n, omega arith, here)
       ]
 
-  -- F37 stands among the faults where it stands of all that is met
+  -- F37 holds among the faults where it holds of all that is reached
   to_all : (limit : ℕ) (t : Span) → In (shared_at t) (expansion_faults value g limit) → In (shared_at t) (all_shared (suc limit))
   to_all limit t i = let r = to_round 0 limit t i in to_met (suc limit) r.0 t (omega (arith, r.1)) r.2
 
@@ -401,7 +401,7 @@ module _ (value : ConditionValue) (g : GrammarData) where
         ∙ told_from (suc k) left round t more (omega (arith, high)) (λ j below above. made j (omega (arith, below)) above) e
   ]
 
--- ---- what is met, by chains of rules
+-- ---- what is reached, by chains of rules
 
 module _ (value : ConditionValue) (g : GrammarData) (S : IsSettled g) where
   abbrev M : Meaning
@@ -416,7 +416,7 @@ module _ (value : ConditionValue) (g : GrammarData) (S : IsSettled g) where
   known : (k : ℕ) → After (rule_meets M) start k (expansion M (declared g) k)
   known k = after_rounds same_symbol symbol_test (rule_meets M) start k
 
-  -- what a round meets has a chain of its length
+  -- what a round reaches has a chain of its length
   chain_of : (k : ℕ) (p : Part) → In p (meetings value g k) → Chain (rule_meets M) start k (closed p)
   chain_of zero p i =
       subst (λ (xs : List ClosedSymbol). In (closed p) xs) (met_is_read value g S).1

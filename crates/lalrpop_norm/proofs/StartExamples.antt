@@ -53,9 +53,9 @@ module _ (fs : Features) (rounds : ℕ) (l : LoweredGrammar) (trees : HasFaithfu
       let right = (trees.starts expression (inl refl) refl refl (reference (codes "E") None) (inl refl) (None, refl)).production in
       let same : codes "E1" ≡ codes "E" = ap first_name (sym wrong ∙ right) in cc same
 
--- ---- words by plain rules
+-- ---- words by rules of the expanded grammar
 
--- The start symbol of a public plain rule has the words of each written symbol of its name.
+-- The start symbol of a public rule of the expanded grammar has the words of each written symbol of its name.
 plain_words : (fs : Features) (g : GrammarData) (rounds : ℕ) (l : LoweredGrammar) → HasFaithfulTrees fs g rounds l →
     (s : ClosedSymbol) → In s (written_symbols fs g) →
     (r : RuleData) → In r (public_rules_in (all_rules (grammar_of_plain_rules fs g rounds))) → r.name.0 ≡ written_name fs g s → (w : List Terminal) →

@@ -132,7 +132,7 @@ module _ (g : GrammarData) (rules : List RuleData) (types : TypeTable) (l : Lowe
       ∙ ahead (replicate (length (public_rules_in rules)) from_start) os i (omega (count, b, arith))
       ∙ replicated_at (length (public_rules_in rules)) from_start i b
 
-  -- Under the start name of each public rule stands one production, which is the rule.
+  -- Under the start name of each public rule is one production, which is the rule.
   pub start_derivations : (r : RuleData) → In r (public_rules_in rules) → derivations origins l (start_name g.prefix r.name).0 ≡ start_production r ∷ []
   start_derivations r i =
       let cs = alternatives_in_order g.prefix rules in

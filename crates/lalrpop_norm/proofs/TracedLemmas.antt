@@ -65,16 +65,16 @@ lists_plain fs g limit enabled stepped kept levels lists same_enabled same_kept 
     is_lists ∙ ap (λ (x : GrammarData). expanded_lists comparison x levels limit) same_stepped
     ∙ ap (λ (oss : List (List Origin)). expanded_lists comparison (grammar_with_levels fs g) oss limit) leveled
 
--- ---- what is told
+-- ---- what is reported
 
--- the exit by `?` of a call that tells some faults one way, where these are all
+-- the exit by `?` of a call that reports some faults one way, where these are all
 pub refused_on : {P T : Type 0} (At : P → Fault → Type 0) (r : Result T NormFailure) (e : NormFailure) (here : List (Finding P)) →
     IsErrAnd r (λ x. x ≡ e) → IsTold At here e → RefusesAmong At r here
 refused_on At (Ok x) e here from h = absurd from
 refused_on At (Err x) (Refused e) here from h = rw from h
 refused_on At (Err x) Memory here from h = rw from tt
 
--- where no sure fault stands before the plain rules, and none in them
+-- where no sure fault holds before the expanded grammar, and none in it
 pub none_told : (fs : Features) (limit : ℕ) (g : GrammarData) → early_faults fs limit g ≡ [] → (plain : GrammarData) → plain ≡ grammar_of_plain_rules fs g limit →
     sure_ones (plain_findings plain) ≡ [] → sure_ones (normalize_findings fs limit g) ≡ []
 none_told fs limit g early plain same none =

@@ -1,4 +1,4 @@
--- The lists of origins that the traced passes hand on are the origins of the actions of a lowered grammar.
+-- The lists of origins that the traced passes return are the origins of the actions of a lowered grammar.
 use Rattle.std.proofs.Common.{◌++◌, List, sym, ap, ◌∙◌}
 use Rattle.std.specs.Prelude.{replicate}
 use Rattle.lalrpop_norm_theory.specs.LoweredTrees.{Origin, from_start}

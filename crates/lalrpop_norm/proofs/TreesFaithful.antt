@@ -1,4 +1,4 @@
--- The derivation trees of what a grammar is lowered to stand one to one with the written trees.
+-- The derivation trees of what a grammar is lowered to correspond one to one to the written trees.
 use Rattle.std.proofs.Common.{append-nil, ◌≡◌, inl, inr, ℕ, List, [], ◌∷◌, ◌++◌, length, refl, sym, ap, ◌∙◌, subst}
 use Rattle.std.specs.Prelude.{flat_map, Option, Some, None}
 use Rattle.std.proofs.lemmas.Grind.{flat_map-append}
@@ -67,9 +67,9 @@ entered_same g h = by (extern_enum g)
       ap (λ (x : GrammarData). x.prefix) entries.grammar,
     )
 
--- ---- what the plain rules are lowered to
+-- ---- what the expanded grammar is lowered to
 
--- A grammar whose plain rules so many rounds make, with its tokens, and what it is lowered to.
+-- A grammar whose expanded rules so many rounds make, with its tokens, and what it is lowered to.
 pub record IsLowered (value : ConditionValue) (fs : Features) (g : GrammarData) (n : ℕ) (checked : GrammarData) (types : TypeTable) (l : LoweredGrammar) : Type 0 where
   pub levels : HasLevelNames (prepared_grammar fs g)
   pub settled : IsSettled (leveled_grammar (prepared_grammar fs g))
@@ -112,7 +112,7 @@ module _ {value : ConditionValue} {fs : Features} {g : GrammarData} {n : ℕ} {c
   abbrev P : ProductionTable
   P = derivations (action_origins (length (public_rules_in (all_rules plain))) M (references ws) n) l
 
-  -- the lowered grammar has the plain rules
+  -- the lowered grammar has the rules of the expanded grammar
   holds_rules : (r : RuleData) → In r (all_rules plain) → P r.name.0 ≡ table (rules_from (plain_origins M (references ws) n) (all_rules plain)) r.name.0
   holds_rules =
       shape_derivations checked (all_rules plain) types l shaped (distinct_listed (all_rules plain) W.names.once) free_names
@@ -174,7 +174,7 @@ module _ (fs : Features) (g : GrammarData) (faults : resolve_faults (enabled_gra
 module _ (fs : Features) (g : GrammarData) (rounds : ℕ) (l : LoweredGrammar) (s : ClosedSymbol)
     (known : In s (written_symbols fs g)) (trees : OneToOne (written_meaning fs g) (written_name fs g) (traced_derivations fs g rounds l) s)
     (p : RuleData) (named : p.name.0 ≡ written_name fs g s) where
-  -- what a public plain rule has, the written symbol of its name has
+  -- what a public rule of the expanded grammar has, the written symbol of its name has
   has_start : found (lowered_name fs g s) l.start_nonterminals ≡ Some (start_of fs g s) →
       traced_derivations fs g rounds l (g.prefix ++ p.name.0) ≡ start_production p ∷ [] → HasStart fs g rounds l s
   has_start listed production = record {

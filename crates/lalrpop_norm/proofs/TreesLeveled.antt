@@ -1,5 +1,5 @@
--- What an expansion makes of a grammar, and of its grammar with levels: the same symbols in the same order, each bounded reference as the
--- name of its level.
+-- What an expansion makes of a grammar, and of its grammar with levels: the same symbols in the same order, each bounded
+-- reference as the name of its level.
 use Rattle.std.proofs.Common.{◌≡◌, ◌+◌, inl, inr, ℕ, List, [], ◌∷◌, ◌++◌, map, refl, sym, ap, ap₂, ◌∙◌, subst}
 use Rattle.std.specs.Prelude.{flat_map}
 use Rattle.std.proofs.lemmas.List.{map-append}
@@ -60,7 +60,7 @@ module _ (M L : Meaning) (l : Name → ℕ → Name) (origin : Name → ℕ → 
   leveled_read lookahead r = refl
   leveled_read lookbehind r = refl
 
--- ---- what is met
+-- ---- what is reached
 
 module _ (l : Name → ℕ → Name) where
   mutual
@@ -97,7 +97,8 @@ module _ (l : Name → ℕ → Name) where
 
 -- ---- rounds
 
--- M is a grammar of which each resolved symbol has in L the same clauses by the names of levels, where distinct references have distinct names
+-- M is a grammar of which each resolved symbol has in L the same clauses by the names of levels, where distinct references have
+-- distinct names
 module _ (M L : Meaning) (l : Name → ℕ → Name) (declared low : List ClosedSymbol) (D : IsResolved M declared) (V : HasLevels M)
     (own : (g : ClosedSymbol) → In g declared → IsResolvedIn declared g)
     (once : (g h : ClosedSymbol) → In g declared → In h declared → leveled_symbol l g ≡ leveled_symbol l h → g ≡ h)
@@ -150,7 +151,7 @@ module _ (M L : Meaning) (l : Name → ℕ → Name) (declared low : List Closed
       (sym (made_alike (same_view (leveled_symbol l) same_symbol) same_symbol symbol_test (IsResolvedIn declared) same (rule_meets M) within
       (flat_map (rule_meets M) declared) begins n)) i)
 
-  -- ---- plain rules
+  -- ---- rules of the expanded grammar
 
   module _ (name : ClosedSymbol → Name) where
     symbols_named : (gs : ClosedSymbols) → symbols_of name (leveled_symbols l gs) ≡ symbols_of (level_named l name) gs

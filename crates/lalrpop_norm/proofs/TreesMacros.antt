@@ -1,5 +1,5 @@
--- Where the pass over levels finds no fault, a macro has one level, and no fault of names stands in the grammar with levels: a step to
--- a lower level would name a macro as if it were a rule.
+-- Where the pass over levels finds no fault, a macro has one level, and no fault of names holds in the grammar with levels: a
+-- step to a lower level would name a macro as if it were a rule.
 use Rattle.std.proofs.Common.{◌≡◌, inl, inr, ℕ, ◌<◌, ◌≤◌, List, [], ◌∷◌, ◌++◌, length, map, Bool, true, false, Option, Some, None, refl, sym, ap, ◌∙◌, subst, arith}
 use Rattle.std.specs.Prelude.{flat_map, if◌then◌else◌}
 use Rattle.std.proofs.lemmas.Bool.{cases_lt}

@@ -1,4 +1,4 @@
--- The plain rule of a public written rule, by itself or within one of its levels, is public.
+-- The expanded rule of a public written rule, by itself or within one of its levels, is public.
 use Rattle.std.proofs.Common.{◌≡◌, inl, inr, ℕ, List, [], ◌∷◌, ◌++◌, map, Option, Some, None, Bool, true, false, not, refl, sym, ap, subst}
 use Rattle.std.specs.Prelude.{flat_map, filter, if◌then◌else◌}
 use Rattle.lalrpop_norm_tree_names.specs.declared.names.NonterminalString.{NonterminalString}
@@ -128,7 +128,7 @@ module _ (r : GrammarData) (N : HasLevelNames r) where
       HasLevelRule d (level_names (leveled_rules r) d.name.0 m)
   one_level_rule d i p m h = (level_rule d (ps d) m, declared_level d i m h, p, sym (level_at r N d i m))
 
--- ---- plain rules
+-- ---- rules of the expanded grammar
 
 -- a rule without arguments keeps its name and its visibility
 plain_public : (value : ConditionValue) (h : GrammarData) (n : ℕ) (e : RuleData) → In e (all_rules h) → IsPublicRule e →
@@ -160,7 +160,7 @@ module _ (value : ConditionValue) (fs : Features) (g : GrammarData) (N : HasLeve
     named,
   )
 
-  -- The plain rule of a public rule, by itself or within a level, is public.
+  -- The expanded rule of a public rule, by itself or within a level, is public.
   pub public_rule : (r : RuleData) → In r (all_rules (enabled_grammar fs g)) → r.args ≡ [] → is_public r.visibility ≡ true →
       (s : ClosedSymbol) → In s (roots ws ++ references ws) → IsSymbolOf r s → HasPublicRule (text_in ws s)
   public_rule r i none shown s k (b, is) = subst (λ (x : ClosedSymbol). HasPublicRule (text_in ws x)) (sym is) (by b (subst (λ (x : ClosedSymbol). In x (roots ws ++ references ws)) is k))

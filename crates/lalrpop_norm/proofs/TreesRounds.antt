@@ -1,4 +1,5 @@
--- The rounds of an expansion in a grammar with levels: those of the written grammar, each bounded reference as the name of its level.
+-- The rounds of an expansion in a grammar with levels: those of the written grammar, each bounded reference as the name of its
+-- level.
 use Rattle.std.proofs.Common.{◌≡◌, inl, inr, ℕ, zero, suc, List, [], ◌∷◌, ◌++◌, Bool, true, false, reverse, refl, sym, ap, ap₂, ◌∙◌, subst}
 use Rattle.std.specs.Prelude.{flat_map, ◌&&◌, ◌||◌, Option, None, bytes_eq, nat_eq, if◌then◌else◌}
 use Rattle.lalrpop_norm_theory.specs.Symbols.{Name, ClosedSymbol, ClosedSymbols, terminal, error, reference, call, group, star, plus, question, times, wrapped, lookahead, lookbehind, no_symbols, symbol_and}

@@ -1,4 +1,4 @@
--- The plain rules of a grammar with levels are the rules of the symbols that the expansion of the written grammar makes.
+-- The expanded rules of a grammar with levels are the rules of the symbols that the expansion of the written grammar makes.
 use Rattle.std.proofs.Common.{◌≡◌, inl, inr, ℕ, ◌<◌, List, [], ◌∷◌, ◌++◌, map, length, Bool, true, false, not, ◌&&◌, ◌||◌, Option, Some, None, refl, sym, ap, ap₂, ◌∙◌, subst, arith}
 use Rattle.std.specs.Prelude.{codes, flat_map, option_map, if◌then◌else◌, decimal}
 use Rattle.std.proofs.Math.Path.{fun_ext}
@@ -373,7 +373,7 @@ module _ (value : ConditionValue) (fs : Features) (g : GrammarData) (N : HasLeve
       once_written lower_written read_written n
       ∙ (rounds_are_read value h S n).3.0 whole)
 
-  -- the symbols that are made into rules are those of the written grammar
+  -- the symbols that get rules are those of the written grammar
   pub made_written : (n : ℕ) → map (leveled_symbol ln) (expanded_symbols M (references ws) n) ≡ expanded_symbols (flat_meaning value h) (declared h) n
   made_written n =
       made_leveled M (flat_meaning value h) ln (references ws) (declared h) written_resolved (meaning_has_levels value ws) (declared_resolved ws)
@@ -391,7 +391,7 @@ module _ (value : ConditionValue) (fs : Features) (g : GrammarData) (N : HasLeve
         once_written lower_written read_written n x j
   ]
 
-  -- the plain rules are those of the written symbols
+  -- the rules of the expanded grammar are those of the written symbols
   pub written_fit : (n : ℕ) → AllFit M (text_in ws) (plain_rules value h n) (plain_symbols M (references ws) n)
   written_fit n =
       subst (λ (name : ClosedSymbol → Name). AllFit M name (plain_rules value h n) (plain_symbols M (references ws) n)) text_written
@@ -404,7 +404,7 @@ module _ (value : ConditionValue) (fs : Features) (g : GrammarData) (N : HasLeve
       ap (map name_of) (plain_grammars_hold_plain_rules value h n)
       ∙ fitting_names M (text_in ws) (plain_rules value h n) (plain_symbols M (references ws) n) (written_fit n)
 
-  -- the rules of the written symbols stand
+  -- the rules of the written symbols are there
   pub written_stands : (n : ℕ) → IsEnded value h n → IsDistinct (rule_names (plain_grammar value h n)) →
       Stands M (text_in ws) (roots ws) (references ws) (expanded_symbols M (references ws) n)
   written_stands n whole D =

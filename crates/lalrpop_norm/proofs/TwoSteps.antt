@@ -1,4 +1,5 @@
--- Between written trees and derivation trees stand the trees of the grammar with levels: first levels become rules, then these are lowered.
+-- Between written trees and derivation trees are the trees of the grammar with levels: first levels become rules, then these
+-- are lowered.
 use Rattle.std.proofs.Common.{◌≡◌, inl, inr, ℕ, List, [], ◌++◌, map, None, sym, ap, ◌∙◌, subst}
 use Rattle.lalrpop_norm_tree.specs.Items.{RuleData, GrammarData}
 use Rattle.lalrpop_norm_theory.specs.Symbols.{Name, ClosedSymbol, reference}

@@ -17,7 +17,7 @@ use Rattle.lalrpop_norm_conditions.specs.Conditions.{lacks_reading}
 use Rattle.lalrpop_norm_macro_expand_rules.specs.Conditions.{quoted_text, comparison_faults, value_faults, called_faults}
 use Rattle.lalrpop_norm_macro_expand.specs.Expansion.{unmade, unmade_repeat}
 
--- a fault that may stand is that fault
+-- a fault that may hold is that fault
 pub not_if : (b : Bool) (f g : Fault) → (g ≡ f → ⊥) → In g (fault_if b f) → ⊥
 not_if true f g unlike (inl e) = unlike e
 not_if true f g unlike (inr i) = i

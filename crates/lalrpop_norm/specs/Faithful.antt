@@ -43,7 +43,7 @@ module _ (fs : Features) (g : GrammarData) where
   abbrev pub written_meaning : Meaning
   written_meaning = meaning comparison (written_rules fs g)
 
-  -- the enabled rules that are no macros, within each of their levels; and by themselves too
+  -- the enabled rules that are no macros, by themselves and within each of their levels
   abbrev pub written_references : List ClosedSymbol
   written_references = references (written_rules fs g)
 
@@ -58,7 +58,7 @@ module _ (fs : Features) (g : GrammarData) where
   abbrev pub names_of_levels : Name → ℕ → Name
   names_of_levels = level_names (written_rules fs g)
 
-  -- the grammar with levels, each enabled rule and macro in its place; what trees see of it, where no rule has levels; and names
+  -- the grammar with levels, each enabled rule and macro at its index; what trees see of it, where no rule has levels; and names
   abbrev pub grammar_with_levels : GrammarData
   grammar_with_levels = leveled_grammar (resolved_grammar (enabled_grammar fs g))
 
@@ -68,11 +68,11 @@ module _ (fs : Features) (g : GrammarData) where
   abbrev pub leveled_name : ClosedSymbol → Name
   leveled_name = text_in (flat_rules grammar_with_levels)
 
-  -- the grammar of plain rules, where so many rounds make all
+  -- the expanded grammar, where so many rounds make all
   abbrev pub grammar_of_plain_rules : ℕ → GrammarData
   grammar_of_plain_rules rounds = plain_grammar comparison grammar_with_levels rounds
 
-  -- the origins of the actions of a lowered grammar, in their order: those of the start symbols of its public plain rules come
+  -- the origins of the actions of a lowered grammar, in their order: those of the start symbols of its public expanded rules come
   -- first
   abbrev pub origins_of_actions : ℕ → List theory.Origin
   origins_of_actions rounds =
@@ -87,7 +87,7 @@ module _ (fs : Features) (g : GrammarData) where
 
 -- ---- trees
 
--- the closed symbol is that rule, by itself or within a level
+-- the ground symbol is that rule, by itself or within a level
 abbrev pub IsSymbolOf : RuleData → ClosedSymbol → Type 0
 IsSymbolOf r s = (level : Option ℕ) × (s ≡ reference r.name.0 level)
 
@@ -102,7 +102,7 @@ module _ (fs : Features) (g : GrammarData) (rounds : ℕ) (l : LoweredGrammar) w
   abbrev plain : GrammarData
   plain = grammar_of_plain_rules fs g rounds
 
-  -- the public plain rules: each has a start symbol, and these have the first actions
+  -- the public rules of the expanded grammar: each has a start symbol, and these have the first actions
   abbrev public_rules : List RuleData
   public_rules = public_rules_in (all_rules plain)
 
@@ -115,7 +115,7 @@ module _ (fs : Features) (g : GrammarData) (rounds : ℕ) (l : LoweredGrammar) w
   leveled_derivations =
       derivations (action_origins (length public_rules) (leveled_meaning fs g) (declared (grammar_with_levels fs g)) rounds) l
 
-  -- Of a written symbol, the pairing of its trees is made of two steps: each level becomes a rule; then the grammar with levels
+  -- Of a written symbol, the correspondence of its trees has two steps: each level becomes a rule; then the grammar with levels
   -- is lowered. Each is one to one, and so are both in a row; and a symbol has the same name.
   pub record IsMadeInSteps (s : ClosedSymbol) : Type 0 where
     pub steps : PairsInTwoSteps M (leveled_meaning fs g) (names_of_levels fs g)
@@ -131,10 +131,11 @@ module _ (fs : Features) (g : GrammarData) (rounds : ℕ) (l : LoweredGrammar) w
     pub words : (w : List Terminal) → IsWrittenWord M s w ↔ IsWordOf traced_derivations (start_of fs g s).0 w
 
   -- From each enabled written rule that is no macro, by itself and within each of its levels, the derivation trees of the
-  -- lowered grammar stand one to one with the written ones, with the same terminals and the same alternatives. After so many
+  -- lowered grammar correspond one to one to the written ones, with the same terminals and the same alternatives. After so many
   -- rounds nothing is new. Where the rule is public, it has a start symbol, by itself (that is the highest level's) and within
-  -- each of its levels, with the words that it has there. The start symbol of each public plain rule has that rule as its one
-  -- production; where a public macro may be called, which `validate` refuses, that says it of the rules that its calls make too.
+  -- each of its levels, with the words that it has there. The start symbol of each public expanded rule has that rule as its one
+  -- production; where a public macro may be called, which `validate` rejects, that says it also of the rules that its calls
+  -- generate.
   pub record HasFaithfulTrees : Type 0 where
     pub whole : (expansion M (written_references fs g) rounds).fresh ≡ []
     pub realized : Realizes M name traced_derivations
@@ -150,14 +151,14 @@ module _ (fs : Features) (g : GrammarData) (rounds : ℕ) (l : LoweredGrammar) w
 
 -- ---- types
 
--- a type that a name has, and no other, stands in the table
+-- a name has one derivable type, and the table lists that one
 pub record HasOnlyType (plain : GrammarData) (types : TypeTable) (r : RuleData) : Type 0 where
   pub type : ReprData
   pub grounded : Has plain r.name.0 type
   pub only : (other : ReprData) → Has plain r.name.0 other → other ≡ type
   pub listed : type_of r.name types ≡ Some type
 
--- each nonterminal has its only grounded type, a start symbol that of its rule
+-- each nonterminal has its only derivable type, a start symbol that of its rule
 pub record HasGroundedTypes (plain : GrammarData) (types : TypeTable) : Type 0 where
   pub rules : (r : RuleData) → IsRule plain r → HasOnlyType plain types r
   pub starts : (r : RuleData) → In r (public_rules_in (all_rules plain)) →
@@ -165,11 +166,11 @@ pub record HasGroundedTypes (plain : GrammarData) (types : TypeTable) : Type 0 w
 
 -- ---- the whole
 
--- The lowered grammar is the one that the written grammar has, where so many rounds may make rules. Its trees stand one to one
--- with the written ones, and each enabled public rule that is no macro has its start symbols. The grammar of plain rules has its
+-- The lowered grammar is the one that the written grammar has, where so many rounds may make rules. Its trees correspond one to
+-- one to the written ones, and each enabled public rule that is no macro has its start symbols. The expanded grammar has its
 -- tokens: beside an extern enum it stays as it is, else it has its entries and an automaton that the lexer builds for them. Its
 -- rules have the inferred types, and over their table it is lowered, in the order of the rules. In the lowered grammar each
--- nonterminal has its only grounded type, and nothing is left open.
+-- nonterminal has its only derivable type (in the least fixpoint of the typing rules), and nothing is left open.
 pub record IsFaithful {R : Type 0} (lexer : Lexer R) (fs : Features) (limit : ℕ) (g : GrammarData)
     (l : LoweredGrammar) : Type 0 where
   pub trees : HasFaithfulTrees fs g limit l

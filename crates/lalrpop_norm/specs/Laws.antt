@@ -52,26 +52,26 @@ abbrev pub HasFlatMacros : GrammarData → Type 0
 HasFlatMacros g = (d : RuleData) → In d (all_rules g) → is_nil d.args ≡ false → (l m : ℕ) →
     HasLevel (with_levels (all_places d)) l → HasLevel (with_levels (all_places d)) m → l ≡ m
 
--- Where the pass over levels finds no fault, no macro has two levels, and no fault of names stands in the grammar with levels.
+-- Where the pass over levels finds no fault, no macro has two levels, and no fault of names holds in the grammar with levels.
 abbrev pub LevelsSettleMacros : Type 0
 LevelsSettleMacros =
     (g : GrammarData) → resolved_grammar g ≡ g → leveled_faults g ≡ [] →
     HasFlatMacros g × (resolve_faults (leveled_grammar g) ≡ [])
 
--- names stand once, and no start symbol has the name of a rule
+-- names occur once, and no start symbol has the name of a rule
 pub record HasOwnNames (g : GrammarData) : Type 0 where
   pub once : IsDistinct (rule_names g)
   pub starts : (r : RuleData) → In r (public_rules_in (all_rules g)) →
       In (start_name g.prefix r.name).0 (rule_names g) → ⊥
 
--- Names that stand once are a grammar's own where lowering has no fault and each rule has a type.
+-- Names that occur once are a grammar's own where lowering has no fault and each rule has a type.
 abbrev pub NamesAreOwn : Type 0
 NamesAreOwn = (g : GrammarData) (types : Table) → IsDistinct (rule_names g) → lowering_faults g types ≡ [] →
     ((n : Name) → In n (rule_names g) → (t : ReprData) × (types n ≡ Some t)) → HasOwnNames g
 
--- Where no fault of names stands in the enabled grammar and in the one with levels, and so many rounds make all plain rules, what
--- these are lowered to, once they have their tokens, has trees one to one with the written ones, and each enabled public rule
--- that is no macro has its start symbols there, with its words.
+-- If no fault of names holds in the enabled grammar and in the one with levels, and so many rounds make all expanded rules, then
+-- what these are lowered to, once they have their tokens, has trees that correspond one to one to the written ones, and each
+-- enabled public rule that is no macro has its start symbols there, with its words.
 abbrev pub LoweredTreesAreFaithful : Type 0
 LoweredTreesAreFaithful =
     (fs : Features) (g : GrammarData) → resolve_faults (enabled_grammar fs g) ≡ [] →
@@ -83,8 +83,8 @@ LoweredTreesAreFaithful =
     (types : TypeTable) (l : LoweredGrammar) → IsLoweringOf plain (all_rules plain) types l →
     HasFaithfulTrees fs g rounds l
 
--- The lists that the traced passes hand on, those of the plain rules in a row behind the origin of each start symbol, are the
--- origins of the actions of a lowered grammar, where no fault of names stands in the enabled grammar and in the one with levels.
+-- The lists that the traced passes return, those of the expanded rules in a row behind the origin of each start symbol, are the
+-- origins of the actions of a lowered grammar, if no fault of names holds in the enabled grammar and in the one with levels.
 abbrev pub ListsAreActionOrigins : Type 0
 ListsAreActionOrigins =
     (fs : Features) (g : GrammarData) → resolve_faults (enabled_grammar fs g) ≡ [] →
@@ -98,16 +98,17 @@ abbrev pub IsPastLimit : ConditionValue → GrammarData → ℕ → ClosedSymbol
 IsPastLimit value g limit x =
     NewIn (rule_meets (flat_meaning value g)) (flat_map (rule_meets (flat_meaning value g)) (declared g)) limit x
 
--- What an expansion that is refused for F36 at s has done: in the rounds that may make rules nothing shared a name, and each new
--- symbol got its rule; in the round after them nothing shared a name, something is new, and of that the symbol met last is at s.
+-- What an expansion that is rejected for F36 at s has done: in the rounds that may make rules nothing shared a name, and each new
+-- symbol got its rule; in the round after them nothing shared a name, something is new, and of that the symbol reached last is at
+-- s.
 pub record EndsPastLimit (value : ConditionValue) (g : GrammarData) (limit : ℕ) (s : Span) : Type 0 where
   pub made : (k : ℕ) → k < limit → shared_in value g k ++ unmade_in value g k ≡ []
   pub own : shared_in value g limit ≡ []
   pub last : past_cap (expansion_round value g limit).fresh ≡ (RecursionCap, s) ∷ []
   pub past : (x : ClosedSymbol) × IsPastLimit value g limit x
 
--- The cap. In the expansion of a settled grammar F36 stands exactly where some symbol is past the limit; so too among the
--- faults of `expand_macros`, where no fault of names stands. There it is what the call is refused for, at s, exactly where the
+-- The cap. In the expansion of a settled grammar F36 holds exactly where some symbol is past the limit; likewise among the
+-- faults of `expand_macros`, if no fault of names holds. There it is what the call is rejected for, at s, exactly where the
 -- expansion of the resolved grammar ends past the limit at s.
 abbrev pub CapIsExact : Type 0
 CapIsExact = (value : ConditionValue) (g : GrammarData) (limit : ℕ) →
@@ -120,13 +121,13 @@ CapIsExact = (value : ConditionValue) (g : GrammarData) (limit : ℕ) →
 
 -- ---- shared names
 
--- x shares its name: its text is one of the names, or that of a symbol that was met before it and is not the same
+-- x shares its name: its text is one of the names, or that of a symbol that was reached before it and is not equal
 abbrev pub SharesName : List Name → List Part → Part → Type 0
 SharesName names before x =
     In (part_text x) names ⊎ ((y : Part) × In y before × (part_text y ≡ part_text x) × (closed y ≡ closed x → ⊥))
 
--- Of all that is met in the rounds that may make rules and in the one after them, a symbol at s shares its name with a rule, with
--- a macro, or with a symbol that was met before it.
+-- Of all that is reached in the rounds that may make rules and in the one after them, a symbol at s shares its name with a rule,
+-- with a macro, or with a symbol that was reached before it.
 pub record SharesNameAt (value : ConditionValue) (g : GrammarData) (limit : ℕ) (s : Span) : Type 0 where
   pub before : List Part
   pub symbol : Part
@@ -135,18 +136,18 @@ pub record SharesNameAt (value : ConditionValue) (g : GrammarData) (limit : ℕ)
   pub there : span_of symbol ≡ s
   pub shared : SharesName (rule_names g) before symbol
 
--- x is met in these rounds: a chain of at most `limit` + 1 rules leads to it
+-- x is reached in these rounds: a chain of at most `limit` + 1 rules leads to it
 abbrev pub IsMetWithin : ConditionValue → GrammarData → ℕ → ClosedSymbol → Type 0
 IsMetWithin value g limit x = (k : ℕ) × (k ≤ limit)
     × Chain (rule_meets (flat_meaning value g)) (flat_map (rule_meets (flat_meaning value g)) (declared g)) k x
 
--- a symbol that is met has the name of a rule or macro for its text, or the text of another one that is met
+-- a symbol that is reached has the name of a rule or macro for its text, or the text of another one that is reached
 abbrev pub HasSharedName : ConditionValue → GrammarData → ℕ → Type 0
 HasSharedName value g limit = (x : ClosedSymbol) × IsMetWithin value g limit x
     × (In (text_in (flat_rules g) x) (rule_names g)
     ⊎ ((y : ClosedSymbol) × IsMetWithin value g limit y × (text_in (flat_rules g) y ≡ text_in (flat_rules g) x) × (y ≡ x → ⊥)))
 
--- What an expansion that is refused for F37 at s has done: in the rounds before one of these nothing shared a name, and each new
+-- What an expansion that is rejected for F37 at s has done: in the rounds before one of these nothing shared a name, and each new
 -- symbol got its rule; in this one the first symbol that shares its name is at s.
 pub record EndsAtShared (value : ConditionValue) (g : GrammarData) (limit : ℕ) (s : Span) : Type 0 where
   pub round : ℕ
@@ -154,10 +155,10 @@ pub record EndsAtShared (value : ConditionValue) (g : GrammarData) (limit : ℕ)
   pub made : (k : ℕ) → k < round → shared_in value g k ++ unmade_in value g k ≡ []
   pub told : first (shared_in value g round) ≡ Some (SharedName, s)
 
--- Shared names. F37 stands at s exactly where a symbol that is met there shares its name. In the expansion of a settled grammar
--- it stands exactly where two symbols that are met and are not the same have one text, or one that is met has the text of a
--- rule's or macro's name; so too among the faults of `expand_macros`, where no fault of names stands. There it is what the call
--- is refused for, at s, exactly where the expansion of the resolved grammar ends so at s.
+-- Shared names. F37 holds at s exactly where a symbol that is reached there shares its name. In the expansion of a settled
+-- grammar it holds exactly where two symbols that are reached and are not equal have one text, or one that is reached has the
+-- text of a rule's or macro's name; likewise among the faults of `expand_macros`, if no fault of names holds. There it is what
+-- the call is rejected for, at s, exactly where the expansion of the resolved grammar ends so at s.
 abbrev pub SharedNamesStandExactly : Type 0
 SharedNamesStandExactly = (value : ConditionValue) (g : GrammarData) (limit : ℕ) →
     ((s : Span) → In (SharedName, s) (expansion_faults value g limit) ↔ SharesNameAt value g limit s)
@@ -169,12 +170,12 @@ SharedNamesStandExactly = (value : ConditionValue) (g : GrammarData) (limit : �
 
 -- ---- one rule for each symbol
 
--- Where no fault of names stands, the resolved grammar is settled: its names are resolved, stand once and have a meaning.
+-- If no fault of names holds, then the resolved grammar is settled: its names are resolved, occur once and have a meaning.
 abbrev pub ResolvedGrammarsAreSettled : Type 0
 ResolvedGrammarsAreSettled = (g : GrammarData) → resolve_faults g ≡ [] → IsSettled (resolved_grammar g)
 
--- The symbols that are made into rules in the first `count` rounds: no two are the same, each symbol is among them that some
--- chain of rules leads to, and no other, and one rule is made of each, which is the rule of that symbol.
+-- The symbols that get rules in the first `count` rounds: no two are equal up to spans, each symbol is among them that some
+-- chain of rules leads to, and no other, and one rule is generated for each, which is the rule of that symbol.
 pub record HasOneRuleEach (value : ConditionValue) (g : GrammarData) (count : ℕ) : Type 0 where
   pub once : IsDistinct (map closed (made_symbols value g count))
   pub met : (x : ClosedSymbol) → In x (map closed (made_symbols value g count))
@@ -182,32 +183,32 @@ pub record HasOneRuleEach (value : ConditionValue) (g : GrammarData) (count : �
   pub one : (p : Part) → In p (made_symbols value g count) →
       (r : RuleData) × (made_rules value (macros_of g) p ≡ r ∷ []) × IsRuleOf (flat_meaning value g) p r
 
--- Where no fault of names stands and no round after the first `limit` has a new symbol in the resolved grammar, each class of
--- symbols that are the same and are met has one rule there.
+-- If no fault of names holds and no round after the first `limit` has a new symbol in the resolved grammar, then each class of
+-- symbols that are equal up to spans and are reached has one rule there.
 abbrev pub EachClassHasOneRule : Type 0
 EachClassHasOneRule = (value : ConditionValue) (g : GrammarData) (limit : ℕ) → resolve_faults g ≡ [] →
     IsEnded value (resolved_grammar g) limit → HasOneRuleEach value (resolved_grammar g) limit
 
 -- ---- round by round
 
--- The faults of an expansion, round by round: of each round that may make rules, what shares a name as it is met, then what no
--- rule is made of; of the one after them, what shares a name, then that something is new there.
+-- The faults of an expansion, round by round: of each round that may make rules, what shares a name as it is reached, then what
+-- no rule is generated for; of the one after them, what shares a name, then that something is new there.
 abbrev pub FaultsAreByRound : Type 0
 FaultsAreByRound = (value : ConditionValue) (g : GrammarData) (limit : ℕ) →
     expansion_faults value g limit
     ≡ flat_map (λ (k : ℕ). shared_in value g k ++ unmade_in value g k) (range_with_len 0 limit)
     ++ (shared_in value g limit ++ past_cap (expansion_round value g limit).fresh)
 
--- Where the trees of a written rule, by itself or within a level, stand one to one with derivation trees, whatever the origins of
--- their alternatives, it has in both languages the same words: the leaves of its written trees are the leaves of the derivation
--- trees of its nonterminal.
+-- Where the trees of a written rule, by itself or within a level, correspond one to one to derivation trees, whatever the origins
+-- of their alternatives, it has in both languages the same words: the leaves of its written trees are the leaves of the
+-- derivation trees of its nonterminal.
 abbrev pub WordsAreEqual : Type 0
 WordsAreEqual =
     (fs : Features) (g : GrammarData) (l : LoweredGrammar) (origins : List Origin) (r : RuleData) (s : ClosedSymbol) → IsSymbolOf r s →
     OneToOne (written_meaning fs g) (written_name fs g) (derivations origins l) s →
     (w : List Terminal) → IsWrittenWord (written_meaning fs g) s w ↔ IsWordOf (derivations origins l) (written_name fs g s) w
 
--- Where a condition has a value by what its left side is bound to, that is its value in the meaning of a grammar.
+-- If a condition has a value by what its left operand is bound to, that is its value in the meaning of a grammar.
 abbrev pub ConditionsHaveOneValue : Type 0
 ConditionsHaveOneValue = (c : Condition) (left : ClosedSymbol) (value : Bool) →
     condition_value c.op left c.rhs ≡ Some value → value_of comparison c (Some left) ≡ value

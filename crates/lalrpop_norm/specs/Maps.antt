@@ -11,7 +11,7 @@ use Rattle.lalrpop_norm_tree_parts.specs.Bounds.{bound_view}
 use Rattle.lalrpop_norm_tree_parts.specs.MappedBounds.{bound_shape, types_in_bound}
 
 module _ {S T U E : Type 0} (calls : Mut S (Bor T × Unit {0}) (Result U E)) where
-  -- each call that answers Ok answers f of what it is shown
+  -- each call that answers Ok answers f of what it is given
   abbrev pub Computes : (T → U) → Type 0
   Computes f = (s s' : S) (t : Bor T) (u : U) → Called calls s (t, tt) (Ok u) s' → u ≡ f t.now
 

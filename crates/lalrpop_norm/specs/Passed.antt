@@ -33,7 +33,7 @@ pub record IsTypedLowering (fs : Features) (plain : GrammarData) (l : LoweredGra
   pub shape : IsLoweringOf (active_grammar fs plain) (all_rules plain) types l
   pub closed : IsClosed l
 
--- a grammar of plain rules, without internal tokens, whose conversions are all active
+-- an expanded grammar, without internal tokens, whose conversions are all active
 pub record IsPlain (fs : Features) (plain : GrammarData) : Type 0 where
   pub expanded : IsExpanded plain
   pub no_tokens : interns plain ≡ []

@@ -37,7 +37,7 @@ pub record PassesExpansion (fs : Features) (g : GrammarData) (limit : ℕ) : Typ
   pub leveled : leveled_faults (prepared_grammar fs g) ≡ []
   pub expanded : expansion_faults comparison (grammar_with_levels fs g) limit ≡ []
 
--- Nor does the pass on tokens with its grammar of plain rules, of which the other grammar is the one with its entries.
+-- Nor does the pass on tokens with the expanded grammar, of which the other grammar is the one with its entries.
 pub record PassesTokens (fs : Features) (g : GrammarData) (limit : ℕ) (entered : GrammarData) : Type 0 where
   pub before : PassesExpansion fs g limit
   pub supplied : token_faults (grammar_of_plain_rules fs g limit) ≡ []
@@ -51,15 +51,15 @@ pub record PassesLowering (fs : Features) (g : GrammarData) (limit : ℕ) (enter
   pub inferred : IsInferred entered table
   pub lowerable : lowering_faults entered (types_by_name table) ≡ []
 
--- ---- plain rules
+-- ---- rules of the expanded grammar
 
--- The grammar of plain rules is expanded, and has no internal tokens yet, as the pass on tokens asks.
+-- The expanded grammar satisfies `IsExpanded`, and has no internal tokens yet, as the pass on tokens asks.
 abbrev pub PlainGrammarsAreExpanded : Type 0
 PlainGrammarsAreExpanded =
     (fs : Features) (g : GrammarData) (limit : ℕ) → PassesExpansion fs g limit →
     IsExpanded (grammar_of_plain_rules fs g limit) × (interns (grammar_of_plain_rules fs g limit) ≡ [])
 
--- With its entries it is expanded too.
+-- With its entries it satisfies `IsExpanded` as well.
 abbrev pub EnteredGrammarsAreExpanded : Type 0
 EnteredGrammarsAreExpanded =
     (fs : Features) (g : GrammarData) (limit : ℕ) (entered : GrammarData) →
@@ -91,7 +91,7 @@ StartNamesAreFree = (fs : Features) (g : GrammarData) (limit : ℕ) (entered : G
     PassesLowering fs g limit entered table → (r : RuleData) → In r (public_rules_in (all_rules entered)) →
     In (entered.prefix ++ r.name.0) (rule_names entered) → ⊥
 
--- Once start symbols have their rules' types, each nonterminal has its only grounded type.
+-- Once start symbols have their rules' types, each nonterminal has its only derivable type.
 abbrev pub LoweredTypesAreGrounded : Type 0
 LoweredTypesAreGrounded = (fs : Features) (g : GrammarData) (limit : ℕ) (entered : GrammarData) (table types : TypeTable) →
     PassesLowering fs g limit entered table → HasStartTypes entered.prefix (all_rules entered) table types →
@@ -99,8 +99,8 @@ LoweredTypesAreGrounded = (fs : Features) (g : GrammarData) (limit : ℕ) (enter
 
 -- ---- the whole
 
--- What is lowered from the plain rules with their tokens, for which that lexer builds the automaton, with nothing left open, is
--- faithful.
+-- What is lowered from the expanded grammar with its tokens, for which that lexer builds the automaton, with nothing left open,
+-- is faithful.
 abbrev pub LoweredGrammarsAreFaithful : {R : Type 0} → Lexer R → Type 0
 LoweredGrammarsAreFaithful lexer =
     (fs : Features) (g : GrammarData) (limit : ℕ) (checked : GrammarData) (table : TypeTable) (l : LoweredGrammar) →

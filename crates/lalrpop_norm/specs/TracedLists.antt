@@ -1,4 +1,4 @@
--- The lists of origins that the traced passes hand on, from pass to pass.
+-- The lists of origins that the traced passes return, from pass to pass.
 use Rattle.std.specs.Prelude.{ℕ, List}
 use Rattle.lalrpop_norm_tree.specs.Items.{GrammarData}
 use Rattle.lalrpop_norm_theory.specs.LoweredTrees.{Origin}
@@ -15,6 +15,6 @@ module _ (fs : Features) (g : GrammarData) where
   abbrev pub lists_with_levels : List (List Origin)
   lists_with_levels = leveled_lists (enabled_grammar fs g).items (enabled_origins fs g)
 
-  -- of the grammar of plain rules, where so many rounds make all
+  -- of the expanded grammar, where so many rounds make all
   abbrev pub lists_of_plain_rules : ℕ → List (List Origin)
   lists_of_plain_rules rounds = expanded_lists comparison (grammar_with_levels fs g) lists_with_levels rounds

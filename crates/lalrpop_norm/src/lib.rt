@@ -1,7 +1,8 @@
 //! LALRPOP's grammar normalization: from a written grammar to its lowered one.
 //!
-//! [`normalize::normalize`] is the whole way; the passes that can be used by themselves stand under the module [`normalize`] as
-//! well. The types of both sides stand under the module [`grammar`], the way back for trees under the module [`explain`].
+//! [`normalize::normalize`] is the whole way; the passes that can be used by themselves are in the module [`normalize`] as
+//! well. The types of both grammars, written and lowered, are in the module [`grammar`], the way back for trees under the module
+//! [`explain`].
 #![tactic(auto)]
 
 pub mod explain;

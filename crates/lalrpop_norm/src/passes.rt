@@ -37,18 +37,18 @@ use lalrpop_norm_tyinfer::tyinfer::infer_types_numbered;
 use std::alloc::Global;
 
 /// Normalizes a written grammar: the lowered grammar with its numbered productions, action functions, terminals and
-/// types. The grammar is consumed, also where it is refused. The session tells which features are on, how many rounds of
+/// types. The grammar is consumed, also where it is rejected. The session says which features are on, how many rounds of
 /// expansion may make rules, and which lexer makes the tokenizer of a grammar without an extern enum.
 ///
-/// Errors: the first fault in the order of the passes, at its place (docs/use/FAULTS.md lists them), where a refusal of the lexer (F42 to
-/// F44) is told only where the lexer finds it; `Memory`.
+/// Errors: the first fault in the order of the passes, at its span (docs/use/FAULTS.md lists them), where an error of the lexer
+/// (F42 to F44) is reported only if the lexer finds it; `Memory`.
 pub fn normalize<L: Lexer>(
     alloc: Global,
     session: &Session<L>,
     grammar: parse_tree::Grammar,
 ) -> NormResult<repr::Grammar>
-    // Ok only where no fault but one of the lexer stands, and a refusal names the first one, or a true one of the lexer with no
-    // other before it, memory aside.
+    // Ok only if no fault but one of the lexer holds, and an error names the first one, or a true one of the lexer with no
+    // other before it, unless an allocation fails.
     ensures refuses { RefusesAmong (StandsThere (L.relations session.now.lexer) (features_view session.now.features) session.now.macro_recursion_limit (written.grammar_view grammar))
         result (normalize_findings (features_view session.now.features) session.now.macro_recursion_limit (written.grammar_view grammar)) }
     ensures closed { IfOk result (λ l. IsClosed (lowered.lowered_grammar_view l)) }
@@ -75,7 +75,7 @@ pub fn normalize_traced<L: Lexer>(
     ensures origins { IfOk result (λ t. origins_in t ≡ origins_of_actions (features_view session.now.features) (written.grammar_view grammar) session.now.macro_recursion_limit) }
     // Trees may begin at the enabled written rules that are no macros.
     ensures roots { IfOk result (λ t. AreRoots (features_view session.now.features) (written.grammar_view grammar) (is_root t)) }
-    // From there both translations refuse what is no tree, answer what pairs with their argument, and undo each other.
+    // From there both translations reject what is no tree, answer the corresponding tree, and undo each other.
     ensures calls { IfOk result (λ t. CallsFit (written_meaning (features_view session.now.features) (written.grammar_view grammar))
         (written_name (features_view session.now.features) (written.grammar_view grammar)) (grammar_of t) (is_root t)) }
 {
@@ -90,7 +90,7 @@ pub fn normalize_traced<L: Lexer>(
     Ok(with_origins(lowered, origins, rules))
 }
 
-/// The grammar of plain rules.
+/// The expanded grammar.
 fn expand<L>(
     alloc: Global,
     session: &Session<L>,
@@ -107,10 +107,10 @@ fn expand<L>(
     // From here on no ambiguous identifier (`resolve.resolves`) and no levels (`expand_precedence.expands`), and no name has lost
     // its meaning to a level's (law `levels_settle_macros`).
     expand_resolved(alloc, leveled, session.macro_recursion_limit)
-    // From here on no macro, condition, group, repeat or lookaround (law `plain_grammars_are_expanded`).
+    // From here on no macro, condition, group, repeat or location symbol (law `plain_grammars_are_expanded`).
 }
 
-/// The same, and where the alternatives come from.
+/// The expanded grammar, and where its alternatives come from.
 fn expand_traced<L>(
     alloc: Global,
     session: &Session<L>,
@@ -135,7 +135,7 @@ fn expand_traced<L>(
     })
 }
 
-/// Gives plain rules their tokens, infers their types, and lowers them.
+/// Gives rules of the expanded grammar their tokens, infers their types, and lowers them.
 fn check_and_lower<L: Lexer>(
     alloc: Global,
     session: &Session<L>,
@@ -150,7 +150,7 @@ fn check_and_lower<L: Lexer>(
     type_and_lower(alloc, session, checked)
 }
 
-/// Infers the types of plain rules, and lowers them.
+/// Infers the types of rules of the expanded grammar, and lowers them.
 fn type_and_lower<L>(
     alloc: Global,
     session: &Session<L>,

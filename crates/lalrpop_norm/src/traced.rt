@@ -10,7 +10,7 @@ use lalrpop_norm_tree::grammar::parse_tree::{Grammar, GrammarItem, NoMemory, Non
 use std::alloc::Global;
 use std::collections::BTreeSet;
 
-/// A grammar of plain rules, with what is kept beside it.
+/// An expanded grammar, with what is kept beside it.
 #[derive(Drop)]
 pub(crate) struct Plain {
     pub(crate) grammar: Grammar,

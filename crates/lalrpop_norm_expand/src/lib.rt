@@ -1,5 +1,5 @@
 //! Expansion and terminals, under one name: macros, groups and repeats, lexers, the check of terminals, and the test of what is
-//! expanded. All of it is given again; each pass stands in the crate of its name.
+//! expanded. All of it is re-exported; each pass is in the crate of its name.
 #![tactic(auto)]
 
 pub use lalrpop_norm_is_expanded::is_expanded;

@@ -34,7 +34,7 @@ abbrev pub Serves : ProductionTable → LoweredSymbol → TreePlan → (WrittenT
 Serves P s q make = (us : LoweredTrees) → AreDerivations P us q.wanted →
     IsDerivation P (planned_tree q us) s × (written_tree P (planned_tree q us) ≡ make (written_each P us))
 
--- likewise, if there is a plan
+-- the lowered tree reads as the written one, if there is a plan
 abbrev pub ServesIf : ProductionTable → LoweredSymbol → Option TreePlan → (WrittenTrees → WrittenTree) → Type 0
 ServesIf P s o make = (q : TreePlan) → o ≡ Some q → Serves P s q make
 
@@ -83,7 +83,7 @@ module _ (P : ProductionTable) (n : Name) (x : LoweredSymbol) (e : P n ≡ made_
       further (lowered_node n 0 (lowered_and u no_lowered)) us (tree_and (written_tree P u) no_trees) one read (each_derives P x us ts d.1)
 
 module _ (P : ProductionTable) where
-  -- under a production of one symbol that stands for its child
+  -- under a production of one symbol that reads as its child
   under_serves : (n m : Name) (p : ℕ) (q : Production) (make : WrittenTrees → WrittenTree) → slice_get (P n) p ≡ Some q → q.symbols ≡ nonterminal_symbol m ∷ [] →
       ((t : WrittenTree) → made_by q.origin (tree_and t no_trees) ≡ t) → (o : Option TreePlan) → ServesIf P (nonterminal_symbol m) o make →
       ServesIf P (nonterminal_symbol n) (plan_under n p o) make
@@ -188,7 +188,7 @@ step_origin : (o : Origin) → is_step o ≡ true → o ≡ level_step
 step_origin level_step e = refl
 step_origin _ e = absurd (cc e)
 
--- the productions qs stand in P n from place i on
+-- the productions qs are in P n from index i on
 abbrev StandFrom : ProductionTable → Name → ℕ → List Production → Type 0
 StandFrom P n i qs = (j : ℕ) → slice_get (P n) (j + i) ≡ slice_get qs j
 

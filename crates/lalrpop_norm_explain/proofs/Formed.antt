@@ -1,4 +1,4 @@
--- The rules of closed symbols are formed.
+-- The rules of ground symbols are formed.
 use Rattle.std.proofs.Common.{◌≡◌, ℕ, zero, suc, List, [], ◌∷◌, ◌++◌, map, refl, sym, ap, subst, ◌∙◌, arith}
 use Rattle.std.specs.Prelude.{Option, Some, None, slice_get}
 use Rattle.std.proofs.lemmas.List.{append-nil}
@@ -69,7 +69,7 @@ parts_visited M name P declared met R (symbol_and g gs) k =
     visited_and (IsNameOf name (IsKnown declared met)) (symbol_of name g) (symbols_of name gs) (symbol_visited M name P declared met R g k.0)
     (parts_visited M name P declared met R gs k.1)
 
--- what stands at a place of a mapped list
+-- what is at an index of a mapped list
 mapped_at : (name : ClosedSymbol → Name) (cs : List Clause) (p : ℕ) (q : Production) → slice_get (map (clause_production name) cs) p ≡ Some q →
     (c : Clause) × (slice_get cs p ≡ Some c) × (symbols_of name c.parts ≡ q.symbols)
 mapped_at name [] p q e = absurd (grind arith)

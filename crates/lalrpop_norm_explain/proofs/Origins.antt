@@ -1,4 +1,4 @@
--- What origins make, and where they stand.
+-- What origins make, and where they are.
 use Rattle.std.proofs.Common.{◌≡◌, ◌⊎◌, inl, inr, true, false, ℕ, ◌<◌, ltb, List, [], ◌∷◌, Option, Some, None, Bor, map, drop, length, get_or, slice_get, refl, sym, ap, ap₂, ◌∙◌}
 use Rattle.std.specs.Prelude.{option_map, unwrap_or, bytes_eq, nat_eq, ◌&&◌}
 use Rattle.std.proofs.lemmas.Option.{slice_get-map, slice_get_read, slice_get_past}
@@ -48,7 +48,7 @@ module _ (o : Origin) (ts : WrittenTrees) where
 pub number_asked : (m : Name) (k : ℕ) (o : Origin) (n : NonterminalString) (j : ℕ) → o ≡ Written n j → true ≡ bytes_eq n.0 m → nat_eq j k ≡ is_written m k (origin_view o)
 number_asked m k o n j is same = sym (ap (λ x. is_written m k (origin_view x)) is ∙ ap (λ b. b && nat_eq j k) (sym same))
 
--- ---- where they stand
+-- ---- where they are
 
 module _ (t : Traced) where
   pub origin_there : (os : List Origin) (i : ℕ) (o : Origin) (p : Production) → os ≡ t.origins.items → i ≡ action_index p.action → i < length os → o ≡ get_or os i o →

@@ -23,12 +23,12 @@ use Rattle.lalrpop_norm_explain.specs.Plans.{TreePlan, plan, flat, fitting, is_o
 use Rattle.lalrpop_norm_explain.specs.TreeLowering.{leaf_of, plan_faults, plan_tree, fitting_faults, plus_faults, shape_faults, shapes_faults, lowered_by, each_lowered}
 use Rattle.lalrpop_norm_explain.proofs.Views.{leaf_seen, nothing_seen, list_seen, written_seen}
 
--- an error is handed on
+-- an error is propagated
 pub handed_on : {T : Type 0} (r : Result T ExplainError) (e : ExplainError) (fs gs : List Found) (Q : T → Type 0) → IsErrAnd r (λ x. x ≡ e) → fs ≡ gs → IsFoundUp gs e → FindsUp r fs Q
 handed_on (Ok x) e fs gs Q from same h = absurd from
 handed_on (Err x) e fs gs Q from same h = rw (from, same) h
 
--- want of memory is
+-- a failed allocation is
 pub no_memory : {T : Type 0} (r : Result T ExplainError) (fs : List Found) (Q : T → Type 0) → IsErrAnd r (λ x. x ≡ Memory) → FindsUp r fs Q
 no_memory (Ok x) fs Q from = absurd from
 no_memory (Err x) fs Q from = rw from tt

@@ -105,7 +105,7 @@ found_on [] gs (Refused x p) h = absurd (cc h)
 found_on [] gs Memory h = tt
 found_on (f ∷ fs) gs e h = h
 
--- a path with one more place at its end
+-- a path with one more index at its end
 pub raised_up : (e : ExplainError) (x : ExplainFault) (p q : Vec ℕ Global) (i : ℕ) → e ≡ Refused x p → q.items ≡ p.items ++ i ∷ [] →
     (fs : List Found) → IsFoundUp fs e → first_found (raised i fs) ≡ Some (x, reverse q.items)
 raised_up e x p q i is more [] h = absurd (cc (rw is at h))

@@ -23,6 +23,6 @@ abbrev pub traced : List Origin → ProductionData → Production
 traced origins p =
     record { origin = unwrap_or (slice_get origins (action_index p.action)) from_start; symbols = map tree_symbol p.symbols }
 
--- the lowered grammar as trees see it, where the origins of its actions are given in their order
+-- the lowered grammar as trees see it, with the origins of its actions in their order
 abbrev pub derivations : List Origin → lowered.LoweredGrammar → ProductionTable
 derivations origins l n = map (traced origins) (productions_of (record { 0 = n }) l)

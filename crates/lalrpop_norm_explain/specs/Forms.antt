@@ -1,4 +1,4 @@
--- Rules that are made, read off their first origins.
+-- Generated rules, read off their first origins.
 use Rattle.std.specs.Prelude.{◌≡◌, ℕ, List, [], ◌∷◌, slice_get, Option, Some, None}
 use Rattle.lalrpop_norm_theory.specs.Symbols.{Name}
 use Rattle.lalrpop_norm_theory.specs.LoweredTrees.{ProductionTable, Production, Origin, LoweredSymbol, terminal_symbol}
@@ -8,8 +8,8 @@ use Rattle.lalrpop_norm_explain.specs.declared.forms.Form.{Form as CodeForm}
 use Rattle.lalrpop_norm_explain.specs.declared.forms.Form.TheVariants.{Group, Star, Plus, Question, Times, Ahead, Behind}
 use Rattle.lalrpop_norm_explain.specs.Derivations.{tree_symbol, symbols_view}
 
--- what a made rule stands for: a group of symbols; `X*`, with the name of `X+`; `X+`; `X?`; `X{n}`, each time a symbol; a
--- lookaround
+-- what a rule was generated for: a group of symbols; `X*`, with the name of `X+`; `X+`; `X?`; `X{n}`, each time a symbol; a
+-- location symbol
 pub data Form : Type 0 where
   group_form : List LoweredSymbol → Form
   star_form : Name → Form
@@ -20,7 +20,7 @@ pub data Form : Type 0 where
 abbrev pub production : Origin → List LoweredSymbol → Production
 production o ss = record { origin = o; symbols = ss }
 
--- the productions of a made rule of that name
+-- the productions of a generated rule of that name
 abbrev pub made_productions : Name → Form → List Production
 made_productions n (group_form ss) = production from_group ss ∷ []
 made_productions n (star_form m) = production star_empty [] ∷ (production star_some (nonterminal_symbol m ∷ []) ∷ [])
@@ -57,12 +57,12 @@ form_by from_lookahead ss qs = Some ahead_form
 form_by from_lookbehind ss qs = Some behind_form
 form_by _ ss qs = None
 
--- the same of a whole rule
+-- the form of `X*` by the rest of its rule's productions
 abbrev pub star_second : List Production → Option Form
 star_second [] = None
 star_second (q ∷ qs) = star_over qs
 
--- what a rule was made for, if it was made
+-- what a rule was generated for, if it was generated
 abbrev pub form_of : List Production → Option Form
 form_of [] = None
 form_of (q ∷ qs) = form_by q.origin q.symbols qs
@@ -77,7 +77,7 @@ AreVisited Visited [] = Unit {0}
 AreVisited Visited (terminal_symbol a ∷ ss) = AreVisited Visited ss
 AreVisited Visited (nonterminal_symbol n ∷ ss) = Visited n × AreVisited Visited ss
 
--- Of the visited names each rule that begins like a made one is made, and the names in its productions are visited.
+-- Of the visited names each rule that begins like a generated one is generated, and the names in its productions are visited.
 pub record IsFormedIn (P : ProductionTable) (Visited : Name → Type 0) : Type 0 where
   pub formed : (n : Name) (f : Form) → Visited n → form_of (P n) ≡ Some f → P n ≡ made_productions n f
   pub closed : (n : Name) (p : ℕ) (q : Production) → Visited n → slice_get (P n) p ≡ Some q → AreVisited Visited q.symbols

@@ -23,8 +23,8 @@ abbrev pub FaultlessIsRooted : Type 0
 FaultlessIsRooted = (roots : Name → Bool) (P : ProductionTable) (u : LoweredTree) →
     (explain_faults roots P u ≡ []) ↔ IsRootedTree roots P u
 
--- Where the grammar realizes a written one whose rules, each taken by itself, stand under their own names, what the origins make
--- of a tree without a fault is a tree of such a rule, and pairs with it.
+-- Where the grammar realizes a written one whose rules, each taken by itself, are under their own names, what the origins make
+-- of a tree without a fault is a tree of such a rule, the corresponding one.
 abbrev pub FaultlessIsPaired : Type 0
 FaultlessIsPaired = (M : Meaning) → HasCounts M → HasLevels M →
     (name : ClosedSymbol → Name) (P : ProductionTable) (declared met : List ClosedSymbol) →
@@ -59,7 +59,7 @@ TreesHaveNoFault = (M : Meaning) → HasCounts M → HasLevels M →
     shape_faults P fuel t (symbol_of name g) ≡ []
 
 -- Both ways, of a grammar that realizes a written one: at a known symbol a written tree has no fault exactly where it is one of
--- the symbol's, and then pairs with what it is lowered to; and each way undoes the other.
+-- the symbol's, and then it corresponds to what it is lowered to; and each way undoes the other.
 pub record WaysFit (M : Meaning) (name : ClosedSymbol → Name) (P : ProductionTable) (fuel : ℕ) (g : ClosedSymbol) : Type 0 where
   pub exact : (t : WrittenTree) → (shape_faults P fuel t (symbol_of name g) ≡ []) ↔ IsTreeOf M t g
   pub paired : (t : WrittenTree) → IsTreeOf M t g → Pairs M name g t (lowered_by P fuel t (symbol_of name g))
@@ -86,7 +86,7 @@ RealizedIsFormed = (M : Meaning) (name : ClosedSymbol → Name) (P : ProductionT
 
 -- ---- the two calls
 
--- t and u pair at a name at which trees may begin
+-- t and u correspond at a name at which trees may begin
 abbrev pub IsPaired : Meaning → (ClosedSymbol → Name) → (Name → Bool) → WrittenTree → LoweredTree → Type 0
 IsPaired M name roots t u = (n : Name) × (roots n ≡ true) × Pairs M name (reference n None) t u
 
@@ -94,7 +94,7 @@ IsPaired M name roots t u = (n : Name) × (roots n ≡ true) × Pairs M name (re
 abbrev pub IsWritten : Meaning → (Name → Bool) → WrittenTree → Type 0
 IsWritten M roots t = (n : Name) × (roots n ≡ true) × IsTreeOf M t (reference n None)
 
--- The two calls. Each finds no fault exactly in the trees of its side, and answers what pairs with its argument; each undoes the
+-- The two calls. Each finds no fault exactly in the trees of its grammar, and answers the corresponding tree; each undoes the
 -- other.
 pub record CallsFit (M : Meaning) (name : ClosedSymbol → Name) (P : ProductionTable) (roots : Name → Bool) : Type 0 where
   pub explains : (u : LoweredTree) → (explain_faults roots P u ≡ []) ↔ IsRootedTree roots P u
@@ -106,7 +106,7 @@ pub record CallsFit (M : Meaning) (name : ClosedSymbol → Name) (P : Production
   pub back_forward : (t : WrittenTree) → IsWritten M roots t → written_tree P (lowered_root P most_steps t) ≡ t
   pub forward_back : (u : LoweredTree) → IsRootedTree roots P u → lowered_root P most_steps (written_tree P u) ≡ u
 
--- The calls fit where the grammar realizes a written one whose rules, each taken by itself, stand under their own names, and whose
+-- The calls fit where the grammar realizes a written one whose rules, each taken by itself, are under their own names, and whose
 -- levels are numbers of 32 bits.
 abbrev pub RealizedCallsFit : Type 0
 RealizedCallsFit = (M : Meaning) → HasCounts M → HasLevels M →

@@ -16,12 +16,12 @@ use Rattle.lalrpop_norm_explain.specs.Derivations.{symbols_view}
 use Rattle.lalrpop_norm_explain.specs.Forms.{Form, group_form, star_form, plus_form, question_form, times_form, ahead_form}
 use Rattle.lalrpop_norm_explain.specs.Forms.{behind_form, form_of}
 
--- the children as they are, under the production at a place; or leaning to the left
+-- the children as they are, under the production of an index; or leaning to the left
 pub data Standing : Type 0 where
   flat : ℕ → Standing
   leaning : Standing
 
--- productions of one symbol each, the outermost first; the name below them, how its children stand, and a symbol for each
+-- productions of one symbol each, the outermost first; the name below them, how its children are placed, and a symbol for each
 pub record TreePlan : Type 0 where
   pub steps : List (Name × ℕ)
   pub name : Name
@@ -67,7 +67,7 @@ abbrev pub plus_plan : Name → Option Form → WrittenTrees → Option TreePlan
 plus_plan n (Some (plus_form x)) (tree_and t ts) = Some (plan n leaning (x ∷ each x ts))
 plus_plan n _ _ = None
 
--- a list under a made rule
+-- a list under a generated rule
 abbrev pub list_plan : ProductionTable → Name → Option Form → WrittenTrees → Option TreePlan
 list_plan P n (Some (group_form ss)) ts = Some (plan n (flat 0) ss)
 list_plan P n (Some (star_form m)) no_trees = Some (plan n (flat 0) [])
@@ -78,7 +78,7 @@ list_plan P n (Some (question_form x)) (tree_and t ts) = Some (plan n (flat 0) (
 list_plan P n (Some (times_form ss)) ts = Some (plan n (flat 0) ss)
 list_plan P n _ ts = None
 
--- nothing, under a made rule
+-- nothing, under a generated rule
 abbrev pub nothing_plan : Name → Option Form → Option TreePlan
 nothing_plan n (Some ahead_form) = Some (plan n (flat 0) [])
 nothing_plan n (Some behind_form) = Some (plan n (flat 0) [])
@@ -144,7 +144,7 @@ abbrev pub lower_of : Bool → List LoweredSymbol → Option Name
 lower_of true (nonterminal_symbol m ∷ []) = Some m
 lower_of _ _ = None
 
--- the place of the first step, and the name below it
+-- the index of the first step, and the name below it
 abbrev pub first_to : ℕ → Option Name → Option (ℕ × Name) → Option (ℕ × Name)
 first_to i None rest = rest
 first_to i (Some m) rest = Some (i, m)
@@ -160,7 +160,7 @@ step_view s = (s.0, s.1.now.0)
 abbrev pub step_pair : NonterminalString × ℕ → Name × ℕ
 step_pair s = (s.0.0, s.1)
 
--- a way as code hands it out: its steps stand the innermost first
+-- a way as code hands it out: its innermost step is the first
 abbrev pub way_view : Way → TreePlan
 way_view w = record {
   steps = reverse (map step_pair w.steps.items);

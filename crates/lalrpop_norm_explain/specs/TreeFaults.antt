@@ -14,7 +14,7 @@ use Rattle.lalrpop_norm_explain.specs.declared.errors.ExplainFault.{ExplainFault
 use Rattle.lalrpop_norm_explain.specs.declared.errors.ExplainError.{ExplainError}
 use Rattle.lalrpop_norm_explain.specs.declared.errors.ExplainError.TheVariants.{Refused, Memory}
 
--- a fault, and the child places that lead to it
+-- a fault, and the indices of children that lead to it
 abbrev pub Found : Type 0
 Found = ExplainFault × List ℕ
 
@@ -22,17 +22,17 @@ abbrev pub first_found : List Found → Option Found
 first_found [] = None
 first_found (f ∷ fs) = Some f
 
--- faults of the child at a place, seen from its node
+-- faults of the child of an index, seen from its node
 abbrev pub raised : ℕ → List Found → List Found
 raised i [] = []
 raised i (f ∷ fs) = (f.0, i ∷ f.1) ∷ raised i fs
 
--- the error names the first of the faults; a want of memory says nothing
+-- the error names the first of the faults; a failed allocation says nothing
 abbrev pub IsFound : List Found → ExplainError → Type 0
 IsFound fs (Refused x p) = first_found fs ≡ Some (x, p.items)
 IsFound fs Memory = Unit
 
--- likewise, with the path read upwards
+-- the error names the first of the faults, with the path read upwards
 abbrev pub IsFoundUp : List Found → ExplainError → Type 0
 IsFoundUp fs (Refused x p) = first_found fs ≡ Some (x, reverse p.items)
 IsFoundUp fs Memory = Unit
@@ -41,7 +41,7 @@ IsFoundUp fs Memory = Unit
 abbrev pub Turned : ExplainError → ExplainError → Type 0
 Turned e d = (fs : List Found) → IsFoundUp fs e → IsFound fs d
 
--- Ok with a fact of the value where there is no fault, else the first one, memory aside
+-- Ok with a fact of the value where there is no fault, else the first one, unless an allocation fails
 abbrev pub Finds : {T : Type 0} → Result T ExplainError → List Found → (T → Type 0) → Type 0
 Finds (Ok x) fs P = (fs ≡ []) × P x
 Finds (Err e) fs P = IsFound fs e
@@ -71,7 +71,7 @@ abbrev pub node_faults : LoweredTrees → Option Production → (List LoweredSym
 node_faults us None below = (NoProduction, []) ∷ []
 node_faults us (Some q) below = if is_one_each us q.symbols then below q.symbols else (WrongChild, []) ∷ []
 
--- faults of the child at a place
+-- faults of the child of an index
 abbrev pub child_faults : ℕ → Bool → List Found → List Found
 child_faults i ok below = if ok then raised i below else (WrongChild, i ∷ []) ∷ []
 
@@ -80,7 +80,7 @@ abbrev mutual
   tree_faults P (lowered_leaf a) = []
   tree_faults P (lowered_node n p us) = node_faults us (slice_get (P n) p) (λ ss. children_faults P us ss 0)
 
-  -- of the children from a place on
+  -- of the children from an index on
   pub children_faults : ProductionTable → LoweredTrees → List LoweredSymbol → ℕ → List Found
   children_faults P no_lowered ss i = []
   children_faults P (lowered_and u us) [] i = []

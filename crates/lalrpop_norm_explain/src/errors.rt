@@ -10,25 +10,25 @@ use std::alloc::{AllocError, AllocFailed};
 pub enum ExplainFault {
     /// X1: the root is no node, or its name is not that of an enabled written rule without arguments.
     Root,
-    /// X2: the nonterminal has no production at that place.
+    /// X2: the nonterminal has no production of that index.
     Production,
     /// X3: the number of children is not that of the production's symbols; or a child is not of its symbol, where the path leads
     /// to the child.
     Child,
-    /// X4: a written tree is none of its place, seen without its children; a wrong number of children is told at their node or
-    /// list.
+    /// X4: a written tree does not fit its position, seen without its children; a wrong number of children is reported at their
+    /// node or list.
     Shape,
 }
 
 /// Why a tree is not translated.
 #[derive(Debug, Drop)]
 pub enum ExplainError {
-    /// The first fault, and the child places, from 0, that lead to it from the root.
+    /// The first fault, and the indices of children, from 0, that lead to it from the root.
     Refused {
         fault: ExplainFault,
         path: Vec<usize>,
     },
-    /// No memory was left.
+    /// An allocation failed.
     Memory,
 }
 
@@ -63,7 +63,7 @@ impl<T: Drop> From<AllocFailed<T>> for ExplainError {
 }
 
 impl ExplainError {
-    /// The error seen from the node whose child at that place has it, its path read upwards.
+    /// The error seen from the node whose child of that index has it, its path read upwards.
     pub(crate) fn raised(self, place: usize) -> ExplainError
         ensures { (fs : List Found) → IsFoundUp fs self → IsFoundUp (raised place fs) result }
     {

@@ -1,4 +1,4 @@
-//! What made rules stand for, read off their first origins.
+//! What generated rules were generated for (groups, repeats, location symbols), read off their first origins.
 ghost use Rattle.std.specs.Prelude.{◌≡◌, option_map};
 ghost use Rattle.lalrpop_norm_explain.specs.TracedGrammars.{grammar_of};
 ghost use Rattle.lalrpop_norm_explain.specs.Forms.{form_of, form_view, star_second};
@@ -8,7 +8,7 @@ use lalrpop_norm_origins::Origin;
 use lalrpop_norm_repr::grammar::repr::Symbol;
 use lalrpop_norm_tree_names::names::NonterminalString;
 
-/// What a made rule stands for.
+/// What a rule was generated for.
 #[derive(Drop)]
 pub(crate) enum Form<'a> {
     Group(&'a [Symbol]),
@@ -20,7 +20,7 @@ pub(crate) enum Form<'a> {
     Behind,
 }
 
-/// What the rule of a name was made for, if it was made.
+/// What the rule of a name was generated for, if it was generated.
 pub(crate) fn form_named<'a>(traced: &'a Traced, name: &NonterminalString) -> Option<Form<'a>>
     ensures { option_map form_view result ≡ form_of (grammar_of traced.now name.now.0) }
 {

@@ -6,7 +6,7 @@ pub fn faultless_is_rooted()
     ensures { FaultlessIsRooted }
 {}
 
-/// Where the grammar realizes a written one, what is read of a tree without a fault is a written tree, and pairs with it.
+/// If the grammar realizes a written one, then what is read from a tree without a fault is a written tree, the corresponding one.
 pub fn faultless_is_paired()
     ensures { FaultlessIsPaired }
 {}
@@ -21,7 +21,7 @@ pub fn trees_have_no_fault()
     ensures { TreesHaveNoFault }
 {}
 
-/// Of a grammar that realizes a written one, the two ways answer what pairs, and each undoes the other.
+/// Of a grammar that realizes a written one, each of the two ways answers the corresponding tree and undoes the other.
 pub fn ways_are_inverse()
     ensures { WaysAreInverse }
 {}
@@ -31,8 +31,8 @@ pub fn realized_is_formed()
     ensures { RealizedIsFormed }
 {}
 
-/// Of a grammar that realizes a written one, `explain` and `lower_tree` refuse what is no tree, answer what pairs with their
-/// arguments, and undo each other.
+/// Of a grammar that realizes a written one, `explain` and `lower_tree` reject what is no tree, answer the tree that corresponds
+/// to their argument, and undo each other.
 pub fn realized_calls_fit()
     ensures { RealizedCallsFit }
 {}

@@ -1,4 +1,4 @@
-//! Where the node of an alternative stands below a name.
+//! The way from a name down to the node of an alternative.
 ghost use Rattle.std.specs.Prelude.{◌≡◌, IfOk, option_map};
 ghost use Rattle.lalrpop_norm_origins.specs.Origins.{origin_view};
 ghost use Rattle.lalrpop_norm_explain.specs.Derivations.{symbols_view};
@@ -13,7 +13,7 @@ use lalrpop_norm_tree_names::names::NonterminalString;
 use shared_text::NoMemory;
 use std::alloc::Global;
 
-/// The node of an alternative: below steps, the innermost first, at a place of a name, over symbols.
+/// The node of an alternative: below steps, the innermost first, at an index of a name, over symbols.
 #[derive(Drop)]
 pub(crate) struct Way<'a> {
     pub(crate) steps: Vec<(NonterminalString, usize)>,
@@ -32,7 +32,7 @@ fn is_written(origin: &Origin, wanted: &NonterminalString, number: usize) -> boo
     }
 }
 
-/// The place and the symbols of the alternative's own production.
+/// The index and the symbols of the production that has the origin of the alternative.
 fn own_production<'a>(
     traced: &'a Traced,
     name: &NonterminalString,
@@ -50,7 +50,7 @@ fn own_production<'a>(
     None
 }
 
-/// The place of the step of a name, and the name below it.
+/// The index of the step of a name, and the name below it.
 fn step_of<'a>(
     traced: &'a Traced,
     name: &NonterminalString,

@@ -1,4 +1,4 @@
-//! The way back: from a derivation tree of a lowered grammar to the written tree that it stands for.
+//! The way back: from a derivation tree of a lowered grammar to the corresponding written tree.
 #![tactic(auto)]
 
 mod errors;

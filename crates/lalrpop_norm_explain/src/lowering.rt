@@ -25,9 +25,9 @@ use std::alloc::Global;
 
 /// The lowered tree of a written tree, which the origins make that tree again.
 ///
-/// The first fault is refused, a node before its children, these from left to right: the root (X1), then what is none of its
-/// place (X4): another kind of tree, a list of a wrong number, a node of another rule or macro, or of an alternative that is not
-/// there, is above the bound or has a false condition. The other error is want of memory.
+/// The first fault is reported, a node before its children, these from left to right: the root (X1), then what does not fit its
+/// position (X4): another kind of tree, a list of a wrong number, a node of another rule or macro, or of an alternative that is
+/// not there, is above the bound or has a false condition. The other error is a failed allocation.
 pub fn lower_tree(
     alloc: Global,
     traced: &Traced,
@@ -120,7 +120,7 @@ fn lower_under(
     }
 }
 
-/// Nothing, of a lookaround.
+/// Nothing, of a location symbol.
 fn lower_nothing(
     alloc: Global,
     traced: &Traced,
@@ -278,7 +278,7 @@ fn lower_each(
     Ok(lowered)
 }
 
-/// The tree at a place of a node or list.
+/// The tree at an index of a node or list.
 #[cycle(shapes)]
 fn lower_child(
     alloc: Global,

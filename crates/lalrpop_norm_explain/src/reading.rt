@@ -20,11 +20,11 @@ use shared_text::NoMemory;
 use std::alloc::Global;
 
 /// The written tree that the origins make of a lowered tree: a node of the rule or macro of a written origin, the child of a
-/// step, a list of a group or a repeat, nothing of a lookaround.
+/// step, a list of a group or a repeat, nothing of a location symbol.
 ///
-/// The first fault is refused, a node before its children, these from left to right: the root (X1), a node without its
-/// production (X2), then the number of its children, then each child that is not of its symbol (X3). The other error is want of
-/// memory.
+/// The first fault is reported, a node before its children, these from left to right: the root (X1), a node without its
+/// production (X2), then the number of its children, then each child that is not of its symbol (X3). The other error is a failed
+/// allocation.
 pub fn explain(
     alloc: Global,
     traced: &Traced,
@@ -108,7 +108,7 @@ fn explain_children(
     Ok(written)
 }
 
-/// What the tree at a place of a node reads as, if it is of its symbol.
+/// The reading of the tree at an index of a node, if it is of its symbol.
 #[cycle(nodes)]
 fn explain_child(
     alloc: Global,
@@ -142,7 +142,7 @@ fn is_of(symbol: &Symbol, tree: &LoweredTree) -> bool
     }
 }
 
-/// Whether two terminals are the same.
+/// Whether two terminals are equal.
 pub(crate) fn is_same(a: &TerminalString, b: &TerminalString) -> bool
     ensures { result ≡ same_closed_terminal (terminal_of a.now) (terminal_of b.now) }
 {

@@ -17,7 +17,7 @@ pub struct Traced {
     /// By the numbers of the actions.
     origins: Vec<Origin>,
     rules: BTreeSet<NonterminalString>,
-    /// Stands for an origin that is not there.
+    /// The default for an origin that is not there.
     start: Origin,
     ghost begins: { origin_view start ≡ from_start },
 }

@@ -8,7 +8,7 @@ use lalrpop_norm_tree_names::names::{NonterminalString, TerminalLiteral, Termina
 pub enum LoweredTree {
     /// A terminal.
     Leaf(TerminalString),
-    /// A nonterminal, the place of one of its productions, from 0, and a tree for each symbol of the production.
+    /// A nonterminal, the index of one of its productions, from 0, and a tree for each symbol of the production.
     Node {
         nonterminal: NonterminalString,
         production: usize,
@@ -21,7 +21,7 @@ pub enum LoweredTree {
 pub enum WrittenTree {
     /// A terminal; that of `!` is the error terminal.
     Leaf(TerminalString),
-    /// A lookaround.
+    /// A location symbol.
     Nothing,
     /// A group: a tree for each symbol. A repeat: a tree for each time.
     List(Vec<WrittenTree>),
@@ -33,14 +33,14 @@ pub enum WrittenTree {
     },
 }
 
-/// The same name once more, without new memory.
+/// The same name once more, without an allocation.
 pub(crate) fn name_again(name: &NonterminalString) -> NonterminalString
     ensures { result ≡ name.now }
 {
     NonterminalString(name.0.again())
 }
 
-/// The same terminal once more, without new memory.
+/// The same terminal once more, without an allocation.
 pub(crate) fn terminal_again(terminal: &TerminalString) -> TerminalString
     ensures { result ≡ terminal.now }
 {

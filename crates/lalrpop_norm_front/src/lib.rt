@@ -1,5 +1,5 @@
 //! The passes before expansion, under one name: what is checked of a tree as it is written, conditional parts, names and levels.
-//! All of it is given again; each pass stands in the crate of its name.
+//! All of it is re-exported; each pass is in the crate of its name.
 #![tactic(auto)]
 
 pub use lalrpop_norm_faults::{FaultKind, NormError, NormFailure, NormResult, refusal};

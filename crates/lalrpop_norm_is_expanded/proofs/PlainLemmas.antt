@@ -1,4 +1,4 @@
--- Plain rules and their names, seen by the lists of symbols, types and names.
+-- Rules of the expanded grammar and their names, seen by the lists of symbols, types and names.
 use Rattle.std.proofs.Common.{◌≡◌, ◌∙◌, ℕ, true, ◌&&◌, not, List, [], ◌∷◌, Option, Some, None, map, bytes_eq, inl, inr, refl, sym, ap, ap₂}
 use Rattle.std.specs.Prelude.{option_to_list}
 use Rattle.std.specs.List.{flat_map, list_all}

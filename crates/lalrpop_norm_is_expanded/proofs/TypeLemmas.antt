@@ -1,4 +1,4 @@
--- No symbol stands in a type outside of rules, seen by the list of these types.
+-- No symbol occurs in a type outside of rules, seen by the list of these types.
 use Rattle.std.proofs.Common.{◌≡◌, ◌∙◌, Bool, true, false, ◌&&◌, not, List, [], ◌∷◌, ◌++◌, Option, Some, None, map, refl, sym, ap, ap₂}
 use Rattle.std.specs.Prelude.{option_to_list}
 use Rattle.std.specs.List.{flat_map, list_all}
@@ -20,7 +20,7 @@ use Rattle.lalrpop_norm_is_expanded.specs.Types.{lacks_symbol, return_lacks_symb
 use Rattle.lalrpop_norm_theory.proofs.ListTests.{all_flat, all_same}
 use Rattle.lalrpop_norm_theory.proofs.BoolLemmas.{false_of_not}
 
--- ---- where clauses
+-- ---- `where` clauses
 
 one : (t : TypeData) → lacks_symbol t ≡ list_all lacks_symbol (t ∷ [])
 one t = sym (and-true (lacks_symbol t))

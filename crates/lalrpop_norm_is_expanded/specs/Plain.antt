@@ -1,4 +1,4 @@
--- Rules that are plain, and names that have one rule, as tests of the items of a grammar.
+-- Plain rules (those of an expanded grammar), and names that have one rule, as tests of the items of a grammar.
 use Rattle.std.specs.Prelude.{ℕ, Bool, true, false, ◌&&◌, not, List, [], ◌∷◌, Option, Some, None, bytes_eq, is_none}
 use Rattle.std.specs.List.{list_all, list_any}
 use Rattle.lalrpop_norm_tree.specs.Items.{AlternativeData, RuleData, ItemData, rule_item}

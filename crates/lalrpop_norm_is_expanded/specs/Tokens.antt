@@ -10,7 +10,7 @@ use Rattle.lalrpop_norm_tree.specs.Items.{ConversionData, EnumTokenData, ItemDat
 use Rattle.lalrpop_norm_tree.specs.Items.{rule_item, use_item}
 use Rattle.lalrpop_norm_model.specs.Expanded.{is_plain_terminal, enum_in, match_in, intern_in}
 
--- there is at most one extern enum, match block and tokenizer, and an enum stands with none of the others
+-- there is at most one extern enum, match block and tokenizer, and an enum occurs with none of the others
 pub record AreSourcesApart (items : List ItemData) : Type 0 where
   pub one_enum : length (flat_map enum_in items) ≤ 1
   pub one_match : length (flat_map match_in items) ≤ 1

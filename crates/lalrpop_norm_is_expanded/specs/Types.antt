@@ -1,4 +1,4 @@
--- Types outside of rules in which no symbol stands, as tests.
+-- Types outside of rules in which no symbol occurs, as tests.
 use Rattle.std.specs.Prelude.{Bool, true, ◌&&◌, not, Option, Some, None}
 use Rattle.std.specs.List.{list_all}
 use Rattle.lalrpop_norm_tree_parts.specs.Bounds.{BoundParameterData, lifetime_parameter, type_parameter, associated_type}
@@ -17,7 +17,7 @@ lacks_symbol t = not (holds_symbol t)
 abbrev pub parameter_lacks_symbol : ParameterData → Bool
 parameter_lacks_symbol p = lacks_symbol p.type
 
--- ---- where clauses
+-- ---- `where` clauses
 
 abbrev pub return_lacks_symbol : Option TypeData → Bool
 return_lacks_symbol None = true

@@ -16,10 +16,11 @@ use plain::{are_names_distinct, are_rules_plain};
 use tokens::{are_sources_apart, is_error_unnamed};
 use types::is_free_of_symbols;
 
-/// Whether there is no macro and no condition; each symbol, under chosen, named and tuple wrappers, is a terminal other than the
-/// error terminal, a nonterminal or `!`; the names of rules are distinct, and each one used has a rule; no conversion or mapping
-/// names the error terminal; an extern enum stands with neither a match block nor a tokenizer, and of each of the three there is
-/// at most one; only declared types hold symbols, and these are such symbols too; and the attributes of the grammar are known.
+/// Whether there is no macro and no condition; each symbol, within selected, named and tuple symbols, is a terminal other than
+/// the error terminal, a nonterminal or `!`; the names of rules are distinct, and each one used has a rule; no conversion or
+/// mapping names the error terminal; an extern enum occurs with neither a match block nor a tokenizer, and of each of the three
+/// there is at most one; only declared types hold symbols, and these are such symbols too; and the attributes of the grammar are
+/// known.
 pub fn is_expanded(grammar: &Grammar) -> bool
     ensures { result ≡ true ↔ IsExpanded (grammar_view grammar.now) }
 {

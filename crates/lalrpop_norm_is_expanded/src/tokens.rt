@@ -12,7 +12,7 @@ use lalrpop_norm_tree::grammar::parse_tree::{
 
 // ---- where tokens come from
 
-/// Whether there is one extern enum, match block and tokenizer at most, and an enum stands with none of the others.
+/// Whether there is one extern enum, match block and tokenizer at most, and an enum occurs with none of the others.
 pub(crate) fn are_sources_apart(items: &[GrammarItem]) -> bool
     ensures { result ≡ true ↔ AreSourcesApart (map item_view items.now) }
 {

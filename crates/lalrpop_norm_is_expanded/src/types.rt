@@ -1,4 +1,4 @@
-//! Types outside of rules, in which no symbol may stand.
+//! Types outside of rules, in which no symbol may occur.
 ghost use Rattle.std.specs.Prelude.{◌≡◌, map, option_map};
 ghost use Rattle.std.specs.List.{list_all};
 ghost use Rattle.lalrpop_norm_tree_parts.specs.Bounds.{bound_parameter_view, bound_view, where_clause_view};
@@ -39,7 +39,7 @@ fn parameters_lack_symbol(parameters: &[Parameter]) -> bool
     true
 }
 
-// ---- where clauses
+// ---- `where` clauses
 
 fn clauses_lack_symbol(clauses: &[WhereClause<TypeRef>]) -> bool
     ensures { result ≡ list_all clause_lacks_symbol (map (where_clause_view type_view) clauses.now) }

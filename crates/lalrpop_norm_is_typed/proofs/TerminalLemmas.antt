@@ -52,7 +52,7 @@ terminal_in fs g t e = same_listed t (terminals_of fs g) (sym (terminal_among fs
 pub in_terminal : (fs : Features) (g : GrammarData) (t : TerminalString) → In t (terminals_of fs g) → is_terminal fs (source_of g) t ≡ true
 in_terminal fs g t i = terminal_among fs g (extern_enum g) t ∙ listed_same t (terminals_of fs g) i
 
--- ---- terminals that stand once
+-- ---- terminals that occur once
 
 abbrev is_each_once : List TerminalString → Bool
 is_each_once [] = true

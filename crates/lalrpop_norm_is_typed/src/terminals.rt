@@ -126,7 +126,7 @@ fn are_entries_distinct(entries: &[MatchEntry]) -> bool
     true
 }
 
-/// Whether it is a terminal, and one of the others maps to the same.
+/// Whether it is a terminal, and one of the others maps to the same terminal.
 fn is_entered_again(mapping: &MatchMapping, others: &[MatchEntry]) -> bool
     ensures { result ≡ is_entered_again mapping.now others.now }
 {

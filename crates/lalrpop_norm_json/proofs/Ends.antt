@@ -1,4 +1,4 @@
--- What stands behind a value, by what the reader answers next.
+-- What follows a value, by what the reader answers next.
 use Rattle.std.proofs.Common.{◌≡◌, List, [], ◌∷◌, Bool, true, false, Option, Some, None, is_some, MatchOption}
 use Rattle.json.specs.Token.{Token}
 use Rattle.json.specs.Reads.{token_of}

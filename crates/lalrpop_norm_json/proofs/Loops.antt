@@ -1,5 +1,6 @@
 -- The loops of the readers that are written by hand: of records, of variants and of lists.
--- What the token opens is told by `told_some _ _ _ _ c.in-Some.is c.in_ok-depth.ensures.ok`, the key of a member by the same of `next_member`.
+-- What the token opens is known by `told_some _ _ _ _ c.in-Some.is c.in_ok-depth.ensures.ok`, the key of a member by the same of
+-- `next_member`.
 use Rattle.std.specs.Prelude.{⊤, IfOk, OnOk, IsErr}
 use Rattle.std.proofs.Common.{◌≡◌, ◌⊎◌, inl, inr, ℕ, suc, ◌<◌, ◌≤◌, ◌++◌, List, [], ◌∷◌, length, map, Bool, true, false, Option, Some, None, is_some, option_map, MatchOption, Bor, Result, Ok, Err, refl, sym, ap, ◌∙◌, subst, arith}
 use Rattle.std.proofs.lemmas.List.{length-map}
@@ -24,7 +25,7 @@ use Rattle.lalrpop_norm_json.specs.Laws.{no_variant}
 use Rattle.lalrpop_norm_json.specs.Shapes.{Slot, Held, fits, struct, variants, is_among}
 use Rattle.lalrpop_norm_json.proofs.Shaped.{test, struct_is, AreApart, IsApart, no_case, told_none, told_some}
 
--- where an error is handed on, nothing is asked of an answer: of c.from_residual-in_err-X.ensures.0
+-- where an error is propagated, nothing is asked of an answer: of c.from_residual-in_err-X.ensures.0
 pub not_ok : {T E : Type 0} (r : Result T E) (P : T → Type 0) → IsErr r → IfOk r P
 not_ok (Ok x) P e = absurd (cc)
 not_ok (Err x) P e = tt
@@ -168,7 +169,8 @@ module _ {T : Type 0} (form : T → Data) (ns : List (List ℕ)) (rows : List (L
       let other = named.no_variant t v.0 never (turn.starts n (token_of t) ts rest v.0 v.1) v.2 in
       record { means = v.0; read = v.1; made = no_variant ns rows v.0 other }
 
-  -- the invariant at the start; it is VariantSoFar FORM CAN l.depth l.fn.reader l.reader (option_map (λ s. s.now) l.before) l.strays l.read
+  -- the invariant at the start; it is VariantSoFar FORM CAN l.depth l.fn.reader l.reader (option_map (λ s. s.now) l.before)
+  -- l.strays l.read
   pub variant_start : (n : ℕ) (ts now : List Token) → now ≡ ts → VariantSoFar form (fits (variants ns rows)) n ts now None false None
   variant_start n ts now same = subst (λ s. VariantSoFar form (fits (variants ns rows)) n ts s None false None) (sym same) (named.variant_start form (fits (variants ns rows)) n ts)
 
@@ -222,7 +224,7 @@ module _ {T U : Type 0} (form : T → Data) (can : Data → Bool) (inner : U →
     made = ap (λ l. under l v.means) key ∙ ap (under name) (told_some o u (inner_can v.means ≡ false) (λ y. v.means ≡ inner y) some v.made) ∙ is;
   }
 
-  -- and that the shape of the variant refuses what the reader of what it holds refuses: λ d e. slot_is (one shape.X) d ∙ e
+  -- and that the shape of the variant rejects what the reader of what it holds rejects: λ d e. slot_is (one shape.X) d ∙ e
   pub no_variant_of : k ≡ name → o ≡ None → IsRead inner inner_can n s rest o → ((d : Data) → inner_can d ≡ false → can (under name d) ≡ false) → IsReadUnder k form can n s rest None
   no_variant_of key none v fails = record {
     means = v.means;
@@ -234,7 +236,7 @@ module _ {T U : Type 0} (form : T → Data) (can : Data → Bool) (inner : U →
 pub no_variant_there : {T : Type 0} (form : T → Data) (ns : List (List ℕ)) (rows : List (List ℕ × Held)) (n : ℕ) (s rest : List Token) (k : List ℕ) → IsApart k rows → ((d : Data) × (data_of n s ≡ Some (d, rest))) → IsReadUnder k form (fits (variants ns rows)) n s rest None
 no_variant_there form ns rows n s rest k apart v = record { means = v.0; read = v.1; made = no_case ns rows k v.0 apart }
 
--- what is told of an option, told of what it is
+-- what is known of an option, known of what it is
 pub read_as : {T : Type 0} (form : T → Data) (can : Data → Bool) (n : ℕ) (s rest : List Token) (o p : Option T) → o ≡ p → IsRead form can n s rest o → IsRead form can n s rest p
 read_as form can n s rest o p same v = subst (λ q. IsRead form can n s rest q) same v
 
@@ -267,7 +269,7 @@ module _ {T : Type 0} (form : T → Data) (can : Data → Bool) where
   list_start n ts now same = record { found = []; so_far = subst (λ s. ItemsSoFar n ts s []) (sym same) (turn.items_start n ts); made = refl }
 
   module _ (n : ℕ) (start now : List Token) (good : Bool) (xs : List T) (l : ListSoFar form can n start now good xs) where
-    -- after an item that was pushed; of it and of the one below the first equation is what `next_item` tells
+    -- after an item that was pushed; of it and of the one below the first equation is what `next_item` says
     pub list_item : (s rest : List Token) (x : T) (ys : List T) → (after_end_array now ≡ None) × (now ≡ s) → IsRead form can n s rest (Some x) → length rest < length now → ys ≡ xs ++ x ∷ [] → ListSoFar form can n start rest good ys
     list_item s rest x ys going v less more = record {
       found = l.found ++ v.means ∷ [];

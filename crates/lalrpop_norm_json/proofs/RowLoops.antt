@@ -12,7 +12,7 @@ use Rattle.lalrpop_norm_json.specs.Shapes.{Slot, row, slot, arrayed, fits, fits_
 use Rattle.lalrpop_norm_json.proofs.Loops.{OpensArray}
 use Rattle.lalrpop_norm_json.proofs.Shaped.{test, slot_is}
 
--- ---- the shape of a row, in the words of the readers
+-- ---- the shape of a row, in the terms of the readers
 
 items_are : (ps : List Slot) (ds : Items) → fits_items (row ps) ds ≡ pass_row (map test ps) ds
 items_are [] no_items = refl
@@ -54,7 +54,7 @@ module _ (ts : List (Data → Bool)) where
       other (object ms) e = refl
 
   module _ (n : ℕ) (start now : List Token) (held : List (Option Data)) (place : ℕ) (r : RowRead ts n start now held place) where
-    -- after the item at place k: the last argument is λ made. (refl, .. (made, refl))
+    -- after the item at index k: the last argument is λ made. (refl, .. (made, refl))
     pub row_item : {T : Type 0} (form : T → Data) (can : Data → Bool) (k : ℕ) (s rest : List Token) (o : Option T) (new : List (Option Data)) → place ≡ k → (after_end_array now ≡ None) × (now ≡ s)
         → (v : IsRead form can n s rest o) → length rest < length now → (Holds can (option_map form o) (Some v.means) → tupled.IsAt ts k v.means held new) → RowRead ts n start rest new (suc k)
     row_item form can k s rest o new is going v less at = record {
@@ -80,7 +80,7 @@ module _ (ts : List (Data → Bool)) where
     pub row_item_fails : (s : List Token) → (after_end_array now ≡ None) × (now ≡ s) → data_of m s ≡ None → data_of n (t ∷ start) ≡ None
     row_item_fails s going none = tupled.row_lost t n m start now r.found opens.0 opens.1 r.so_far going.0 (ap (data_of m) going.1 ∙ none)
 
-    -- where the array ends: at another place than its last
+    -- where the array ends: at another index than its last
     pub row_elsewhere : {V : Type 0} (whole : V → Data) (rest : List Token) → (place ≡ length ts → ⊥) → after_end_array now ≡ Some rest → IsRead whole (is_row ts) n (t ∷ start) rest None
     row_elsewhere whole rest never end = record {
       means = array (items_before r.found no_items);

@@ -1,4 +1,4 @@
--- What has a shape, in the words of the readers.
+-- What has a shape, in the terms of the readers.
 use Rattle.std.specs.Prelude.{⊤}
 use Rattle.std.proofs.Common.{◌≡◌, ◌≢◌, Option, Some, None, MatchOption, subst, ℕ, List, [], ◌∷◌, map, Bool, true, false, ◌&&◌, cond, refl, sym, ap, ◌∙◌}
 use Rattle.std.proofs.lemmas.Slice.Eq.{bytes_eq-Decides}
@@ -117,7 +117,7 @@ struct_is rows (string t) = refl
 struct_is rows (array ds) = refl
 struct_is rows (object ms) = members_are rows ms
 
--- a record that the reader refuses has not the shape
+-- a record that the reader rejects has not the shape
 pub no_record : (rows : List (List ℕ × Slot)) (d : Data) → is_record (map (λ r. r.0) rows) (map (λ r. test r.1) rows) d ≡ false → fits (struct rows) d ≡ false
 no_record rows d e = struct_is rows d ∙ e
 
@@ -163,7 +163,7 @@ among_none k (n ∷ ns) apart = rw (another k n apart.0) (among_none k ns apart.
 pub no_name : (ns : List (List ℕ)) (rows : List (List ℕ × Held)) (k : List ℕ) → AreApart k ns → fits (variants ns rows) (string k) ≡ false
 no_name ns rows k apart = among_none k ns apart
 
--- ---- what an option that was matched tells
+-- ---- what an option that was matched says
 
 pub told_none : {V : Type 0} (o : Option V) (Q : Type 0) (P : V → Type 0) → o ≡ None → MatchOption o Q P → Q
 told_none None Q P e m = m

@@ -1,4 +1,4 @@
--- What a step of a reader leaves: an error that is handed on, fewer tokens, a lesser measure.
+-- What a step of a reader leaves: an error that is propagated, fewer tokens, a lesser measure.
 use Rattle.std.proofs.Common.{◌≡◌, ℕ, ◌+◌, ◌*◌, ◌<◌, ◌≤◌, Result, Ok, Err, arith}
 use Rattle.std.specs.Prelude.{IsErr, IfOk, OnOk}
 use Rattle.std.specs.Result.{IsErrAnd}
@@ -6,17 +6,17 @@ use Rattle.json_records.specs.declared.error.ReadError.{ReadError}
 use Rattle.json_records.specs.declared.error.ReadError.TheVariants.{NotJson}
 use Rattle.json_records.proofs.Turns as turn
 
--- the error that is handed on is the call's: of c.from_residual-in_err-X.ensures
+-- the error that is propagated is the call's: of c.from_residual-in_err-X.ensures
 pub same_error : {S T E : Type 0} (e : E) {r : Result T E} {f : E} → IsErr r × IsErrAnd r (λ g. g ≡ e) → r ≡ Err f → ◌≡◌ {A = Result S E} (Err e) (Err f)
 same_error e {r = Ok x} p is = absurd (cc)
 same_error e {r = Err y} p is = cc (p.1, is)
 
--- ---- what is told where a reader returns
+-- ---- what is known where a reader returns
 
 abbrev pub Refuses : {S : Type 0} → Result S ReadError → (S → Type 0) → Type 0 → Type 0 → Type 0
 Refuses r P Q R = record { ok : IfOk r P; err : r ≡ Err NotJson → Q; shorter : OnOk r R }
 
--- an error that is handed on: c.from_residual-in_err-X.ensures, and why nothing is read where it is `NotJson`
+-- an error that is propagated: c.from_residual-in_err-X.ensures, and why nothing is read where it is `NotJson`
 pub fails : {S T Q : Type 0} (P : S → Type 0) (R : Type 0) (e : ReadError) {r : Result S ReadError} → IsErr r × IsErrAnd r (λ g. g ≡ e) → (◌≡◌ {A = Result T ReadError} (Err e) (Err NotJson) → Q) → Refuses r P Q R
 fails P R e {r = Ok x} p told = absurd (cc)
 fails P R e {r = Err y} p told = record { ok = tt; err = λ is. told (same_error e p is); shorter = tt }

@@ -1,4 +1,5 @@
--- The records whose members are put into fields one by one: each member by a function of its own, the values at the end by another.
+-- The records whose members are put into fields one by one: each member by a function of its own, the values at the end by
+-- another.
 use Rattle.std.proofs.Common.{◌≡◌, ◌⊎◌, inl, inr, ℕ, ◌<◌, List, [], ◌∷◌, length, map, Bool, true, false, Option, Some, None, option_map, MatchOption, refl, ap, subst}
 use Rattle.json.specs.Json.{read_key}
 use Rattle.json.specs.Token.{Token}

@@ -31,7 +31,7 @@ less_left rest behind now e f = omega (arith, e, f)
 
 -- ---- rows
 
--- a row that the reader refuses has not the shape
+-- a row that the reader rejects has not the shape
 pub no_row : (ps : List Slot) (d : Data) → is_row (map test ps) d ≡ false → fits (arrayed (row ps)) d ≡ false
 no_row ps d e = row_is ps d ∙ e
 

@@ -28,7 +28,7 @@ const MAX_DEPTH: usize = 127;
 pub enum TreeError {
     /// The text is not JSON, or its value has not the shape of a tree.
     NotATree,
-    /// There was no memory for the text or the tree.
+    /// An allocation failed for the text or the tree.
     Memory,
 }
 
@@ -55,7 +55,8 @@ impl From<ReadError> for TreeError {
 /// # Errors
 ///
 /// `NotATree`: the text is not JSON (127 levels of arrays and objects are read), or its value has not the shape of a
-/// grammar; so it is the form of no tree. `Memory`: there was no memory for the grammar, or for the texts in it that have escapes.
+/// grammar; so it is the form of no tree. `Memory`: an allocation failed for the grammar, or for the texts in it that have
+/// escapes.
 pub fn read_tree(alloc: Global, text: &str) -> Result<Grammar, TreeError>
     ensures ok { IfOk result (λ g. (d : Data) × (read text.now ≡ Some d) × (grammar_form (grammar_view g) ≡ Some d)) }
     ensures not { IsErrOf result TreeError.NotATree → (d : Data) → read text.now ≡ Some d → is shape.grammar d ≡ false }

@@ -1,4 +1,4 @@
--- By the relations of the lexer that only checks: no text is both bad and read, so nothing is refused where all entries are read.
+-- By the relations of the lexer that only checks: no text is both bad and read; if all entries are read, nothing is rejected.
 use Rattle.std.proofs.Common.{◌≡◌, ℕ, List, [], ◌∷◌, inl, inr, sym, ◌∙◌, ap, subst}
 use Rattle.regex_hir.specs.declared.hir.Hir.{Hir}
 use Rattle.lalrpop_norm_tree_names.specs.declared.names.TerminalLiteral.{TerminalLiteral}

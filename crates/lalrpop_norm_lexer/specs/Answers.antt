@@ -1,4 +1,4 @@
--- What the answers of a lexer's calls say, want of memory aside.
+-- What the answers of a lexer's calls say, unless an allocation fails.
 use Rattle.std.specs.Prelude.{ℕ, List, map, Option, Some, None, Result, Ok, Err}
 use Rattle.shared_text.specs.declared.atom.NoMemory.{NoMemory}
 use Rattle.lalrpop_norm_model.specs.Lexers.{Feature, named_captures, non_greedy, look_around, byte_regex, Read, regex, bad}
@@ -18,7 +18,7 @@ abbrev pub literal_answer : {R : Type 0} → Result R NoMemory → Option (Read 
 literal_answer (Ok r) = Some (regex r)
 literal_answer (Err e) = None
 
--- a pattern's text is read or refused
+-- a pattern's text is read or rejected
 abbrev pub pattern_answer : {R : Type 0} → Result R RegexError → Option (Read R)
 pattern_answer (Ok r) = Some (regex r)
 pattern_answer (Err (read.Refused message)) = Some bad
@@ -30,7 +30,7 @@ feature_of NonGreedy = non_greedy
 feature_of LookAround = look_around
 feature_of ByteRegex = byte_regex
 
--- an automaton is built or refused
+-- an automaton is built or rejected
 abbrev pub building_answer : Result Dfa DfaConstructionError → Option Built
 building_answer (Ok d) = Some (automaton d.code.items)
 building_answer (Err (build.NfaConstructionError index error)) = Some (unsupported index (feature_of error))

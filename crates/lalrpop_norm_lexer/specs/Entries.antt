@@ -11,7 +11,7 @@ abbrev pub KeepsReading : {R : Type 0} → Lexer R → TerminalLiteral → Read 
 KeepsReading l (Quoted text) answer = KeepsLiteral l text answer
 KeepsReading l (Regex text) answer = KeepsPattern l text answer
 
--- the index at which reading was refused
+-- the index at which reading was rejected
 abbrev pub refused_at : {T : Type 0} → Result T ReadError → Option ℕ
 refused_at (Ok x) = None
 refused_at (Err (Bad index message)) = Some index

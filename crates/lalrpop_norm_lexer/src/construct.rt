@@ -9,14 +9,14 @@ use crate::reading::{ReadError, read_all};
 use lalrpop_norm_tree::grammar::parse_tree::{Dfa, MatchEntry, NoMemory};
 use std::alloc::Global;
 
-/// Why no automaton was made of the entries.
+/// Why no automaton was built from the entries.
 #[derive(Debug, Drop)]
 pub enum ConstructError {
     /// The literal of the entry at that index is no pattern.
     Bad {
         /// Of the entry.
         index: usize,
-        /// In the lexer's own words.
+        /// As the lexer words it.
         message: String,
     },
     /// The regex of the entry at that index has a feature that is not supported.
@@ -33,7 +33,7 @@ pub enum ConstructError {
         /// The index of the other.
         match1: usize,
     },
-    /// There was no memory.
+    /// An allocation failed.
     Memory,
 }
 

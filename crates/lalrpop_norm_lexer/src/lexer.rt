@@ -9,8 +9,8 @@ use std::alloc::Global;
 
 /// What reads the texts of literals and builds the automaton of a tokenizer.
 ///
-/// It names five relations of its own, and keeps to them: it answers only regexes of the text handed in, refuses a text
-/// only where it is bad, and refuses to build only where its reason holds. It may want memory at any call.
+/// It names five relations of its own, and keeps to them: it answers only regexes of the text handed in, rejects a text
+/// only where it is bad, and refuses to build only where its reason holds. An allocation may fail at any call.
 pub trait Lexer {
     ghost use Rattle.std.specs.Prelude.{◌≡◌, IfSome, length};
     ghost use Rattle.lalrpop_norm_model.specs.Lexers.{Lexer as Relations, KeepsLiteral, KeepsPattern, KeepsBuilding};

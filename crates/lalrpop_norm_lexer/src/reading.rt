@@ -17,10 +17,10 @@ pub(crate) enum ReadError {
     Bad {
         /// Of the entry.
         index: usize,
-        /// In the lexer's own words.
+        /// As the lexer words it.
         message: String,
     },
-    /// There was no memory.
+    /// An allocation failed.
     Memory,
 }
 

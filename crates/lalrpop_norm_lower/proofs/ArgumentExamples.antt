@@ -76,7 +76,7 @@ named_names : names (codes "__") both_named ≡ codes "x" ∷ codes "y" ∷ []
 unfolding both_named literal here
 named_names = refl
 
--- code `F { <> }` becomes `F { x, y }`, and with named symbols all names stand in each `<>`
+-- code `F { <> }` becomes `F { x, y }`, and with named symbols all names are in each `<>`
 named_code : IsFilled true (codes "x" ∷ codes "y" ∷ []) (codes "F { <> }") (codes "F { x, y }")
 named_code = record {
   first = codes "F { ";
@@ -110,12 +110,12 @@ tuple_names : names (codes "__") tuple_among ≡ codes "(a, b)" ∷ []
 unfolding tuple_among literal here
 tuple_names = refl
 
--- without named or chosen symbols each is a source
+-- without named or selected symbols each is a source
 all_sources : patterns (codes "__") (literal (codes "a") ∷ literal (codes "b") ∷ []) ≡ plain_name (codes "__0") ∷ plain_name (codes "__1") ∷ []
 unfolding literal here digits
 all_sources = refl
 
--- absent code: for the unit type, over one source, over two and over none
+-- absent action code: for the unit type, over one source, over two and over none
 absent_unit : written_code (tuple no_reprs) two_names None ≡ codes "()"
 unfolding two_names
 absent_unit = refl
@@ -130,7 +130,7 @@ absent_two = refl
 absent_none : written_code (named_repr (codes "T")) [] None ≡ codes "(<>)"
 absent_none = refl
 
--- over no source `(<>)` is filled by nothing
+-- over no source the `<>` of `(<>)` is replaced by nothing
 nothing_filled : IsFilled false [] (codes "(<>)") (codes "()")
 nothing_filled = record {
   first = codes "(";

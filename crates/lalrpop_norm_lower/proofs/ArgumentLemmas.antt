@@ -1,4 +1,4 @@
--- The names and patterns of sources: counted along the symbols, and by their places.
+-- The names and patterns of sources: counted along the symbols, and by their indices.
 use Rattle.std.proofs.Common.{◌≡◌, ◌∙◌, ℕ, ◌+◌, Bool, true, false, cond, ◌||◌, ◌&&◌, List, [], ◌∷◌, ◌++◌, length, map, take, refl, sym, ap, arith, codes, append-nil}
 use Rattle.std.specs.Prelude.{not, bytes_eq, decimal, filter, unwrap_or}
 use Rattle.std.specs.List.{list_any, enumerate_from}
@@ -95,16 +95,16 @@ module _ (prefix : List ℕ) (some_named some_chosen : Bool) (whole : List Part)
       ∙ map_kept (test p) name (length done, p) (place (length done + 1))
       ∙ ap (λ b. map name (cond b ((length done, p) ∷ place (length done + 1)) (place (length done + 1)))) (sym (as_counted p))
 
--- the counted patterns and names are those by places
+-- the counted patterns and names are those by indices
 pub patterns_counted : (prefix : List ℕ) (ps : Parts) → argument_patterns prefix ps ≡ patterns prefix (part_list ps)
 patterns_counted prefix ps = patterns_by_place prefix (some_name_value ps) (has_chosen ps) (part_list ps) (source_as_counted ps) [] ps refl
 
 pub names_counted : (prefix : List ℕ) (ps : Parts) → source_names prefix ps ≡ names prefix (part_list ps)
 names_counted prefix ps = names_by_place prefix (some_name_value ps) (has_chosen ps) (part_list ps) (source_as_counted ps) [] ps refl
 
--- ---- as it is told once which symbols are sources
+-- ---- as it is computed once which symbols are sources
 
--- where some are named, chosen ones do not count
+-- where some are named, selected ones do not count
 patterns_of_named : (prefix : List ℕ) (b c : Bool) (j : ℕ) (ps : Parts) → patterns_from prefix true b j ps ≡ patterns_from prefix true c j ps
 patterns_of_named prefix b c j no_parts = refl
 patterns_of_named prefix b c j (part_and p ps) =
@@ -137,7 +137,7 @@ module _ (prefix : List ℕ) (ps : Parts) (sources : Sources) (told : AreSources
 
 -- ---- one more argument
 
--- b says whether it is a source; n sources stand before it
+-- b says whether it is a source; n sources are before it
 module _ (prefix : List ℕ) (some_named some_chosen b : Bool) (p : Part) (ps : Parts) (n : ℕ) (is : b ≡ is_source some_named some_chosen p) where
   more_patterns : (test : Bool) → b ≡ test → (f : ℕ → List ArgumentPattern) (next : ℕ) (old new all : List ArgumentPattern) → next ≡ cond b (n + 1) n → new ≡ old ++ cond b (source_pattern prefix n p) (plain_name (codes "_")) ∷ []
       → old ++ cond test (source_pattern prefix n p ∷ f (n + 1)) (plain_name (codes "_") ∷ f n) ≡ all → new ++ f next ≡ all

@@ -1,4 +1,4 @@
--- Numbered alternatives: counted along the rules, and by their places in the one list.
+-- Numbered alternatives: counted along the rules, and by their indices in the one list.
 use Rattle.std.proofs.Common.{◌≡◌, ◌∙◌, ℕ, ◌+◌, Bool, false, cond, ◌&&◌, List, [], ◌∷◌, ◌++◌, length, map, refl, sym, ap, arith, bytes_eq}
 use Rattle.std.specs.Prelude.{filter, flat_map}
 use Rattle.std.specs.List.{list_any, enumerate_from, AllByRecursion}
@@ -97,7 +97,7 @@ abbrev pub AllApart : List RuleData → Type 0
 AllApart [] = Unit {0}
 AllApart (r ∷ rs) = AreApart r.name rs × AllApart rs
 
--- the counted rows of rules are those by places
+-- the counted rows of rules are those by indices
 pub rule_rows_named : (before : List OwnedAlternative) (rs : List RuleData) (clauses : List OwnedAlternative) → before ++ flat_map rule_clauses rs ≡ clauses → LackNames rs before → AllApart rs
     → rule_rows (length before) rs ≡ map (rule_entry_of clauses) rs
 rule_rows_named before [] clauses e lack apart = refl

@@ -80,7 +80,7 @@ name_table {V = V} rows distinct = record {
 
 -- ---- terminals
 
--- terminals stand in the order of these texts
+-- terminals are in the order of these texts
 rank : TerminalString → List ℕ
 rank (Literal (Quoted a)) = 0 ∷ 0 ∷ a
 rank (Literal (Regex a)) = 0 ∷ 1 ∷ a

@@ -1,4 +1,4 @@
--- What stands at a name's number is what the table has for the name, and where names are distinct their numbers are their places.
+-- What is at a name's number is what the table has for the name, and where names are distinct their numbers are their indices.
 use Rattle.std.proofs.Common.{◌≡◌, ◌<◌, ◌+◌, ◌-◌, ◌∙◌, ℕ, zero, suc, Bool, true, false, cond, List, [], ◌∷◌, Option, Some, None, bytes_eq, map, drop, length, get_or, slice_get, option_map, refl, sym, ap, subst, arith, length-drop}
 use Rattle.std.specs.List.{position_from}
 use Rattle.std.proofs.lemmas.List.{drop_more, length-map}
@@ -52,7 +52,7 @@ module _ {X : Type 0} (view : X → Option ReprData) (types : TypeTable) (names 
       let here = slice_get_read list (length list) k item refl number_within at in
       ∥∥₁_elim numbered (found_set _ _) (λ known. same_Some _ _ (sym (ap (option_map view) here) ∙ sym (slice_get-map view list k) ∙ known name k number))
 
--- ---- places of distinct names
+-- ---- indices of distinct names
 
 another : (m n : List ℕ) (ns : List (List ℕ)) (b : Bool) → bytes_eq m n ≡ b → (In m ns → ⊥) → In n ns → bytes_eq m n ≡ false
 another m n ns true is none there = absurd (none (subst (λ t. In t ns) (sym ((bytes_eq-Decides m n).0 is)) there))

@@ -20,7 +20,7 @@ use Rattle.lalrpop_norm_repr.specs.declared.types.Types.{Types}
 use Rattle.lalrpop_norm_repr.proofs.NameOrder.{none_above}
 use Rattle.lalrpop_norm_lower.proofs.KeyLaws.{names_decide}
 
--- ---- lists that are written at a place
+-- ---- lists that are written at an index
 
 written_here : {X : Type 0} (xs : List X) (k : ℕ) (y : X) → k < length xs → slice_get (set xs k y) k ≡ Some y
 written_here xs k y lt = grind (arith, common_steps, gets)
@@ -28,7 +28,7 @@ written_here xs k y lt = grind (arith, common_steps, gets)
 written_beside : {X : Type 0} (xs : List X) (i k : ℕ) (y : X) → k ≢ i → slice_get (set xs i y) k ≡ slice_get xs k
 written_beside xs i k y apart = grind (arith, common_steps, gets)
 
--- ---- what the rows that are left put over what stands at a number
+-- ---- what the rows that are left put over what is at a number
 
 abbrev put_over : Option ReprData → Option (Option ReprData) → Option (Option ReprData)
 put_over (Some t) stands = Some (Some t)

@@ -188,12 +188,12 @@ skipped = record { precedence = 0; match_literal = Quoted (codes " "); user_name
 taken : MatchEntry
 taken = record { precedence = 1; match_literal = Quoted (codes "a"); user_name = mapping.Terminal a }
 
--- an entry that is skipped has a place, but no token
+-- an entry that is skipped has an index, but no token
 entry_places : entry_rows body_span (skipped ∷ taken ∷ []) ≡ (a, internal_pattern body_span 1) ∷ []
 unfolding skipped taken
 entry_places = refl
 
--- the attribute that stands last says what code is made
+-- the last attribute says what parser code is made
 last_code : asked_code (attribute_and (attribute rule_span (codes "table_driven") empty) (attribute_and (attribute rule_span (codes "test_all") empty) no_attributes)) ≡ TestAll
 last_code = refl
 

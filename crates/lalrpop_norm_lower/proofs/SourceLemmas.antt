@@ -161,7 +161,7 @@ enough_at prefix type ns a b ms code h bs mss codes_are =
     ∙ ap (λ t. length (in_slots (some_name_value a.parts) (source_names prefix a.parts) (slots t))) codes_are
     ∙ enough prefix type ns a h ∙ ap slots (sym codes_are)
 
--- ---- where no name stands in a code
+-- ---- where no name occurs in an action code
 
 module _ (ns : List (List ℕ)) where
   slotted : around_slot (codes "(<>)") ≡ None → sources_code ns ≡ codes "(<>)"

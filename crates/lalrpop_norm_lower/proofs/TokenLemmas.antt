@@ -1,4 +1,4 @@
--- The numbers of terminals are their places.
+-- The numbers of terminals are their indices.
 use Rattle.std.proofs.Common.{◌≡◌, ◌∙◌, ℕ, suc, zero, ◌+◌, Bool, true, false, cond, List, [], ◌∷◌, Some, refl, sym, ap, subst, arith}
 use Rattle.std.specs.Prelude.{slice_get}
 use Rattle.std.specs.List.{AllByRecursion, IsDistinct}
@@ -15,7 +15,7 @@ numbered_keys : (k : ℕ) (ts : List TerminalString) → keys_of (numbered_termi
 numbered_keys k [] = refl
 numbered_keys k (t ∷ ts) = ap (λ us. t ∷ us) (numbered_keys (k + 1) ts)
 
--- what has number j stands at the place j - k
+-- what has number j is at the index j - k
 number_place : (t : TerminalString) (k j : ℕ) (ts : List TerminalString) → found_terminal t (numbered_terminals k ts) ≡ Some j → (i : ℕ) × (j ≡ k + i) × (slice_get ts i ≡ Some t)
 number_place t k j [] h = cc
 number_place t k j (u ∷ ts) h = by (same_terminal t u) refl h (number_place t (k + 1) j ts)
@@ -29,7 +29,7 @@ apart_at t u [] i h e = cc
 apart_at t u (v ∷ ts) zero h e = subst (λ (y : TerminalString). same_terminal u y ≡ false) (some_inner v t e) h.0
 apart_at t u (v ∷ ts) (suc i) h e = apart_at t u ts i h.1 e
 
--- what stands at a place has its number
+-- what is at an index has its number
 place_number : (t : TerminalString) (k i : ℕ) (ts : List TerminalString) → IsDistinct same_terminal ts → slice_get ts i ≡ Some t → found_terminal t (numbered_terminals k ts) ≡ Some (k + i)
 unfolding IsDistinct
 place_number t k i [] h e = cc
@@ -39,7 +39,7 @@ place_number t k (suc i) (u ∷ ts) h e =
     ap (λ b. cond b (Some k) (found_terminal t (numbered_terminals (k + 1) ts))) (terminals_laws.symm t u ∙ apart_at t u ts i h.0 e)
     ∙ place_number t (k + 1) i ts h.1 e ∙ ap Some (omega arith)
 
--- the numbers put into a table are the places
+-- the numbers put into a table are the indices
 pub numbers_of_places : (ts : List TerminalString) → IsDistinct same_terminal ts → AreNumbers ts (sorted_terminals [] (numbered_terminals 0 ts))
 numbers_of_places ts distinct =
     let table = terminal_table (numbered_terminals 0 ts) (subst (IsDistinct same_terminal) (sym (numbered_keys 0 ts)) distinct) in

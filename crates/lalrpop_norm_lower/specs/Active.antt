@@ -1,4 +1,4 @@
--- A grammar with its active conversions alone.
+-- A grammar with only its active conversions.
 use Rattle.std.specs.Prelude.{map}
 use Rattle.lalrpop_norm_tree.specs.Items.{ItemData, match_item, extern_item, intern_item, rule_item, use_item, GrammarData}
 use Rattle.lalrpop_norm_model.specs.Enabled.{enabled_extern}

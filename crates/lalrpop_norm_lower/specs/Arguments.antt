@@ -1,5 +1,5 @@
--- The arguments of an alternative's code: which symbols give it values, and under which names. All of it by places, which count
--- from 0. How they are put into the code is `IsFilled`.
+-- The arguments of an action code: which symbols give it values, and under which names. All of it by indices, which count
+-- from 0. How they are put into the action code is `IsFilled`.
 use Rattle.std.specs.Prelude.{ℕ, Bool, true, List, [], ◌∷◌, length, map, filter, take}
 use Rattle.std.specs.Prelude.{Option, Some, None, unwrap_or, if◌then◌else◌, codes}
 use Rattle.std.specs.List.{list_any, enumerate_from}
@@ -27,7 +27,7 @@ kind_pattern _ = None
 abbrev pub written_pattern : Part → Option ArgumentPattern
 written_pattern (at s k) = kind_pattern k
 
--- which of the symbols are sources: the named and tuple ones if there are any, else the chosen ones if there are any, else all
+-- which of the symbols are sources: the named and tuple ones if there are any, else the selected ones if there are any, else all
 abbrev pub is_source_of : List Part → Part → Bool
 is_source_of ps p =
     if list_any names_value ps then names_value p
@@ -35,11 +35,11 @@ is_source_of ps p =
 
 -- ---- patterns and names
 
--- how many sources stand before place i
+-- how many sources are before index i
 abbrev pub sources_before : List Part → ℕ → ℕ
 sources_before ps i = length (filter (is_source_of ps) (take i ps))
 
--- the pattern at place i: a source's own, or its number behind the prefix, and `_` for any other symbol
+-- the pattern at index i: a source's own, or its number behind the prefix, and `_` for any other symbol
 abbrev pub pattern_at_place : List ℕ → List Part → ℕ → Part → ArgumentPattern
 pattern_at_place prefix ps i p =
     if is_source_of ps p then unwrap_or (written_pattern p) (plain_name (source_name prefix (sources_before ps i)))

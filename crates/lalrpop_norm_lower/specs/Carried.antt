@@ -34,7 +34,7 @@ internal_pattern span i =
     pattern_at span (tuple_struct (named_path (codes "Token"))
     (pattern_and (pattern_at span (number i)) (pattern_and (pattern_at span (chosen_type input_str)) no_patterns)))
 
--- the entries of a tokenizer that name a terminal, each with its own place
+-- the entries of a tokenizer that name a terminal, each with its own index
 abbrev pub entry_rows : Span → List MatchEntry → List TokenRow
 entry_rows span entries =
     filter_map (λ e. option_map (λ t. (t, internal_pattern span e.0)) (terminal_of_mapping e.1.user_name))
@@ -66,7 +66,7 @@ abbrev mutual
   is_error_kind lookahead = false
   is_error_kind lookbehind = false
 
-  -- `!`, also as a chosen, named or tuple symbol
+  -- `!`, also as a selected, named or tuple symbol
   pub is_error : Part → Bool
   is_error (at s k) = is_error_kind k
 
@@ -74,7 +74,7 @@ abbrev pub any_error : Parts → Bool
 any_error no_parts = false
 any_error (part_and p ps) = is_error p || any_error ps
 
--- whether `!` stands in an alternative
+-- whether `!` occurs in an alternative
 abbrev pub uses_recovery : List RuleData → Bool
 uses_recovery rules = list_any (λ r. list_any (λ a. any_error a.parts) r.alternatives) rules
 
@@ -86,7 +86,7 @@ lowered_parameter p = record { name = p.name; ty = repr_of p.type }
 abbrev pub lowered_bound : BoundData TypeData → BoundData ReprData
 lowered_bound b = mapped_bound repr_of b
 
--- a where clause: one clause for each of its bounds
+-- a `where` clause: one clause for each of its bounds
 abbrev pub lowered_clauses : WhereClauseData TypeData → List LoweredClause
 lowered_clauses (lifetime_clause l ls) = map (λ m. has_bound (of_lifetime l) (lifetime_bound m)) ls
 lowered_clauses (type_clause fs t bs) = map (λ b. under fs (has_bound (repr_of t) (lowered_bound b))) bs

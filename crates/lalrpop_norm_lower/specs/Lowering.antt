@@ -1,4 +1,4 @@
--- What plain rules are lowered to: symbols, numbered productions, start symbols; and tables sorted by names.
+-- What rules of the expanded grammar are lowered to: symbols, numbered productions, start symbols; and tables sorted by names.
 use Rattle.std.specs.Prelude.{ℕ, ◌+◌, List, [], ◌∷◌, length, unwrap_or, filter_map, if◌then◌else◌}
 use Rattle.std.specs.BTreeMap.{insert_entry}
 use Rattle.std.specs.Ordering.{nat_cmp}
@@ -32,7 +32,7 @@ public_rules_in (r ∷ rs) = if is_public r.visibility then r ∷ public_rules_i
 
 -- ---- symbols and types
 
--- a terminal stands for itself, `!` is the error terminal, a chosen, named or tuple symbol is what is in it, and any
+-- a terminal stays as it is, `!` is the error terminal, a selected, named or tuple symbol is what is in it, and any
 -- other symbol is the nonterminal of its text
 abbrev mutual
   pub lowered_kind : Kind → Symbol
@@ -118,7 +118,7 @@ abbrev pub with_entry : {V : Type 0} → List (NonterminalString × V) → Nonte
     List (NonterminalString × V)
 with_entry rows r = insert_entry (λ (a : NonterminalString) (b : NonterminalString). slice_cmp nat_cmp a.0 b.0) rows r.0 r.1
 
--- the rows in the order of their names, a later one in the place of an earlier one of its name
+-- the rows in the order of their names, a later one replaces an earlier one of its name
 abbrev pub sorted_onto : {V : Type 0} → List (NonterminalString × V) → List (NonterminalString × V) →
     List (NonterminalString × V)
 sorted_onto rows [] = rows

@@ -1,4 +1,4 @@
--- What lowering makes, as it counts: the words of the code, from which the promises are proved.
+-- What lowering makes, as it counts: the definitions of the code, from which the promises are proved.
 use Rattle.std.specs.Prelude.{◌≡◌, ℕ, ◌+◌, List, [], ◌∷◌, ◌++◌, length, map, filter_map, flat_map, Option}
 use Rattle.std.specs.Prelude.{Some, None, if◌then◌else◌}
 use Rattle.std.specs.List.Sorted.{IsStrictlySortedBy}
@@ -35,13 +35,13 @@ pub use Rattle.lalrpop_norm_lower_steps.specs.StartSymbols.{types_by_name}
 
 -- ---- actions
 
--- what is written, with the names of the sources in the places of `<>`
+-- what is written, with the names of the sources in place of the `<>`
 abbrev pub made_code : List ℕ → ReprData → AlternativeData → List ℕ
 made_code prefix type a =
     filled_code (some_name_value a.parts) (source_names prefix a.parts)
     (written_code type (source_names prefix a.parts) a.action)
 
--- code over one argument for each symbol
+-- action code over one argument for each symbol
 abbrev pub user_body : List ℕ → TypeTable → ReprData → AlternativeData → ActionKindData
 user_body prefix types type a =
     user (argument_patterns prefix a.parts) (map (type_or_unit types) (lowered_symbols a.parts)) (made_code prefix type a)

@@ -6,7 +6,7 @@ use Rattle.lalrpop_norm_session.specs.Values.{is_chosen, has_chosen}
 use Rattle.lalrpop_norm_lower.specs.Arguments.{written_pattern, name_given}
 use Rattle.lalrpop_norm_lower.specs.Sources.{source_name, plain_name}
 
--- the named and tuple symbols if there are any, else the chosen ones if there are any, else each
+-- the named and tuple symbols if there are any, else the selected ones if there are any, else each
 abbrev pub is_source : Bool → Bool → Part → Bool
 is_source some_named some_chosen p = if some_named then names_value p else (if some_chosen then is_chosen p else true)
 

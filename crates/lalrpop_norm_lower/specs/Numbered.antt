@@ -6,7 +6,7 @@ use Rattle.lalrpop_norm_names.specs.Numbers.{number_in_table}
 use Rattle.lalrpop_norm_names.specs.declared.table.Names.{Names}
 use Rattle.lalrpop_norm_repr.specs.Tables.{TypeTable, type_of}
 
--- what the table has for a name that has a number stands in the list at that number
+-- what the table has for a name with a number is in the list at that number
 abbrev pub AreTypesByNumber : TypeTable → Names → List (Option ReprData) → Type 0
 AreTypesByNumber types names list = (name : NonterminalString) (k : ℕ) →
     number_in_table names name.0 ≡ Some k → slice_get list k ≡ Some (type_of name types)

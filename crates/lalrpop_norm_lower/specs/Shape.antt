@@ -46,7 +46,7 @@ alternatives_in_order prefix rules = map (start_clause prefix) (public_rules_in 
 
 -- ---- actions
 
--- code over one argument for each symbol
+-- action code over one argument for each symbol
 pub record IsCodeOf (prefix : List ℕ) (types : TypeTable) (type : ReprData) (a : AlternativeData)
     (kind : ActionKindData) : Type 0 where
   pub argument_types : List ReprData
@@ -65,7 +65,7 @@ IsKindOf prefix types type a kind (Some (user_code c)) = IsCodeOf prefix types t
 IsKindOf prefix types type a kind (Some (fallible_code c)) = IsCodeOf prefix types type a kind
 IsKindOf prefix types type a kind None = IsCodeOf prefix types type a kind
 
--- the action answers its nonterminal's type, and may fail exactly where its code was written so
+-- the action answers its nonterminal's type, and may fail exactly if its action code was written as one that may
 pub record IsActionOf (prefix : List ℕ) (types : TypeTable) (c : OwnedAlternative) (d : ActionData) : Type 0 where
   pub answers : type_of c.0 types ≡ Some d.ret_type
   pub fallible : d.fallible ≡ is_fallible c.1.action
@@ -115,16 +115,16 @@ pub record IsNameTable {V : Type 0} (rows table : List (NonterminalString × V))
   pub holds : (n : NonterminalString) → found n table ≡ found n rows
   pub in_order : IsStrictlySortedBy name_cmp (keys_of table)
 
--- likewise of terminals
+-- of terminals, what the contract clause before says of nonterminals
 pub record IsTerminalTable {V : Type 0} (rows table : List (TerminalString × V)) : Type 0 where
   pub holds : (t : TerminalString) → found_terminal t table ≡ found_terminal t rows
   pub in_order : IsStrictlySortedBy terminal_cmp (keys_of table)
 
--- the terminals with tokens in their order, then the error terminal where `!` stands
+-- the terminals with tokens in their order, then the error terminal where `!` occurs
 abbrev pub terminals_to_number : GrammarData → List RuleData → List TerminalString
 terminals_to_number g rules = keys_of (tokens_of g) ++ (if uses_recovery rules then terminal_string.Error ∷ [] else [])
 
--- each number is the place of its terminal, and there is no other
+-- each number is the index of its terminal, and there is no other
 pub record AreNumbers (all : List TerminalString) (numbers : List (TerminalString × ℕ)) : Type 0 where
   pub places : (t : TerminalString) (i : ℕ) → (found_terminal t numbers ≡ Some i) ↔ (slice_get all i ≡ Some t)
   pub in_order : IsStrictlySortedBy terminal_cmp (keys_of numbers)

@@ -1,4 +1,4 @@
--- How the values of the sources of an alternative are named: those symbols whose values its code gets.
+-- How the values of the sources of an alternative are named: those symbols whose values its action code gets.
 use Rattle.std.specs.Prelude.{ℕ, false, List, ◌++◌, decimal}
 use Rattle.lalrpop_norm_tree.specs.Symbols.{ArgumentPattern, one_name}
 

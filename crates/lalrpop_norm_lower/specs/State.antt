@@ -12,10 +12,10 @@ table_by_number types = type_table types.table.now
 abbrev pub types_by_number : NumberedTypes → List (Option ReprData)
 types_by_number types = map (option_map (λ t. repr_view t.now)) types.by_number.items
 
--- what the table has for the name stands at that number
+-- what the table has for the name is at that number
 abbrev pub IsTypeAt : NumberedTypes → ℕ → NonterminalString → Type 0
 IsTypeAt types k name = slice_get (types_by_number types) k ≡ Some (type_of name (table_by_number types))
 
--- what it has for these rules, in order, stands from that number on, and nothing behind
+-- what it has for these rules, in order, is from that number on, and nothing behind
 abbrev pub AreTypesFrom : NumberedTypes → ℕ → List RuleData → Type 0
 AreTypesFrom types k rs = drop k (types_by_number types) ≡ map (λ r. type_of r.name (table_by_number types)) rs

@@ -1,4 +1,4 @@
-//! The types of what the code of an action gets.
+//! The types of what the action code gets.
 ghost use Rattle.std.specs.Prelude.{◌≡◌, IfOk, map};
 ghost use Rattle.lalrpop_norm_tree_parts.specs.Reprs.{repr_view};
 ghost use Rattle.lalrpop_norm_lower.specs.Lowering.{type_or_unit};

@@ -117,8 +117,8 @@ fn production_with(
     })
 }
 
-/// The productions of a rule's alternatives, in order. Each alternative is let go once it is lowered, so what is made of the later ones
-/// finds its room.
+/// The productions of a rule's alternatives, in order. Each alternative is dropped once it is lowered, so what is made of the
+/// later ones finds its room.
 pub(crate) fn lower_alternatives(
     state: &mut LowerState,
     name: &NonterminalString,

@@ -1,4 +1,4 @@
-//! The arguments of an action: which symbols its code gets, and their names.
+//! The arguments of an action: which symbols its action code gets, and their names.
 ghost use Rattle.std.specs.Prelude.{◌≡◌, ◌++◌, ◌≤◌, [], ◌∷◌, IfNone, IfOk, IfSome, OnOk, codes, map, vec_len, if◌then◌else◌};
 ghost use Rattle.lalrpop_norm_tree.specs.Symbols.{symbol_view, parts_view, argument_pattern_view};
 ghost use Rattle.lalrpop_norm_lower.specs.Arguments.{name_given};
@@ -13,7 +13,8 @@ use lalrpop_norm_tree::grammar::parse_tree::{
 use lalrpop_norm_tree_parts::walk::add;
 use std::alloc::Global;
 
-/// Which symbols of an alternative are sources: the named and tuple ones if there are any, else the chosen ones if there are any, else all.
+/// Which symbols of an alternative are sources: the named and tuple ones if there are any, else the selected ones if there are
+/// any, else all.
 #[derive(Clone, Copy)]
 pub(crate) struct Sources {
     pub(crate) some_named: bool,
@@ -46,8 +47,8 @@ impl Sources {
     }
 }
 
-/// The patterns of the arguments of an alternative, one for each symbol. A named or tuple symbol has its own pattern, any other source j
-/// the name of its number behind the prefix, and what is no source `_`.
+/// The patterns of the arguments of an alternative, one for each symbol. A named or tuple symbol has its own pattern, any other
+/// source j the name of its number behind the prefix, and what is no source `_`.
 pub(crate) fn argument_patterns(
     alloc: Global,
     prefix: &str,
@@ -90,7 +91,7 @@ fn add_argument(
     }
 }
 
-/// Puts the names of the sources of an alternative into a list, in order. What was in it is let go, and its room is used again.
+/// Puts the names of the sources of an alternative into a list, in order. What was in it is dropped, and its room is used again.
 pub(crate) fn put_source_names(
     alloc: Global,
     prefix: &str,
@@ -201,7 +202,7 @@ fn source_name(alloc: Global, prefix: &str, number: usize) -> Result<Atom, NoMem
     Atom::new(alloc, text.as_str())
 }
 
-/// The same of one of the first sources behind the prefix that most grammars have: so their names need not be made.
+/// The name of one of the first sources behind the prefix that most grammars have: these names need not be built.
 fn usual_name(prefix: &str, number: usize) -> Option<&'static str>
     ensures name { IfSome result (λ name. name.now ≡ source_name prefix.now number) }
     ensures none { IfNone result (prefix.now ≡ codes "__" → 8 ≤ number) }

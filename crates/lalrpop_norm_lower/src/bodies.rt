@@ -68,7 +68,7 @@ fn body(
     }
 }
 
-/// Code over one argument for each symbol.
+/// Action code over one argument for each symbol.
 fn user_body(
     state: &LowerState,
     ty: &TypeRepr,
@@ -93,7 +93,7 @@ fn user_body(
     }))
 }
 
-/// The code of an alternative with these sources. Their names are put together only where one of them may stand in it.
+/// The action code of an alternative with these sources. Their names are put together only where one of them may occur in it.
 fn code_of(
     state: &LowerState,
     ty: &TypeRepr,

@@ -1,4 +1,4 @@
-//! Where clauses, one for each bound.
+//! `where` clauses, one for each bound.
 ghost use Rattle.std.specs.Prelude.{◌≡◌, ◌++◌, IfOk, OnOk, flat_map, map};
 ghost use Rattle.lalrpop_norm_tree_parts.specs.Bounds.{bound_view, lifetime_bound, where_clause_view};
 ghost use Rattle.lalrpop_norm_tree_parts.specs.Reprs.{repr_view, lowered_where_clause_view, of_lifetime, has_bound};
@@ -14,7 +14,7 @@ use lalrpop_norm_tree::grammar::parse_tree::{
 };
 use std::alloc::Global;
 
-/// A clause for each bound of each where clause, its types lowered.
+/// A clause for each bound of each `where` clause, its types lowered.
 pub(crate) fn lowered_clauses(
     alloc: Global,
     clauses: &[pt::WhereClause<TypeRef>],

@@ -1,4 +1,4 @@
-//! What stands at the head of a lowered grammar.
+//! The head of a lowered grammar.
 ghost use Rattle.std.specs.Prelude.{◌≡◌, IfOk, flat_map, filter_map, map, option_map, string_bytes};
 ghost use Rattle.lalrpop_norm_tree.specs.Accessors.{first_of, intern_token_of};
 ghost use Rattle.lalrpop_norm_tree.specs.Items.{grammar_view, intern_token_view, item_view};
@@ -46,7 +46,7 @@ pub(crate) struct Signature {
     pub(crate) where_clauses: Vec<WhereClause>,
 }
 
-/// The parameters and where clauses of a grammar, their types lowered.
+/// The parameters and `where` clauses of a grammar, their types lowered.
 pub(crate) fn signature_of(alloc: Global, grammar: &pt::Grammar) -> Result<Signature, NoMemory>
     ensures type_parameters { IfOk result (λ s. s.type_parameters.items ≡ (grammar_view grammar.now).type_parameters) }
     ensures parameters { IfOk result (λ s. map lowered_parameter_view s.parameters.items ≡ map lowered_parameter (grammar_view grammar.now).parameters) }

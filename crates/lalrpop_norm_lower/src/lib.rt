@@ -1,4 +1,4 @@
-//! Lowering: from plain rules to numbered productions, action functions and types.
+//! Lowering: from rules of the expanded grammar to numbered productions, action functions and types.
 #![tactic(auto)]
 
 mod actions;

@@ -161,8 +161,8 @@ fn add_rule(state: &mut LowerState, number: usize, rule: pt::NonterminalData) ->
     Ok(insert(&mut state.nonterminals, name, data)?)
 }
 
-/// The nonterminals of the rules among the items, and whether `!` stands in one of them. Each item is let go once it is lowered, and its
-/// room in the list given back in time, so what is made of the later ones finds room there.
+/// The nonterminals of the rules among the items, and whether `!` occurs in one of them. Each item is dropped once it is lowered,
+/// and its room in the list given back in time, so what is made of the later ones finds room there.
 #[tactic(auto, using(crate::proofs::LoopLemmas::rule_skipped))]
 pub(crate) fn lower_rules(state: &mut LowerState, items: Vec<GrammarItem>) -> NormResult<bool>
     requires { AreTypesFrom state.old.types.now 0 (rules_among (map item_view items.items)) }
@@ -190,8 +190,8 @@ pub(crate) fn lower_rules(state: &mut LowerState, items: Vec<GrammarItem>) -> No
     Ok(recovers)
 }
 
-/// Whether `!` is known to stand in a rule, where the one that comes next is looked at too, of those that are left in falling order: while
-/// the rule before it is lowered, its alternatives are on their way from memory.
+/// Whether `!` is known to occur in a rule, where the one that comes next is looked at too, of those that are left in falling
+/// order: while the rule before it is lowered, its alternatives are on their way from memory.
 fn sees_error(recovers: bool, left: &[GrammarItem]) -> bool
     ensures { (result || uses_recovery (rules_among (map item_view (reverse left.now)))) ≡ (recovers || uses_recovery (rules_among (map item_view (reverse left.now)))) }
 {
@@ -207,9 +207,10 @@ fn sees_error(recovers: bool, left: &[GrammarItem]) -> bool
     }
 }
 
-/// A hint, of which no clause speaks: for how many names of sources there is to be room, behind the rule of that number, of those that are left in falling order: as many as
-/// the rule after the next has symbols in an alternative; none where the next one has the unit type, by which code that is absent needs no
-/// names. What is looked at here is on its way from memory while the rule of that number is lowered.
+/// A hint, of which no contract clause speaks: for how many names of sources there is to be room, behind the rule of that number,
+/// of those that are left in falling order: as many as the rule after the next has symbols in an alternative; none where the next
+/// one has the unit type, by which absent action code needs no names. What is looked at here is on its way from memory while the
+/// rule of that number is lowered.
 fn room_ahead(types: &NumberedTypes, number: usize, left: &[GrammarItem]) -> usize {
     let count = left.len();
     if count < 2 {

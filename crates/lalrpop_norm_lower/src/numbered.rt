@@ -23,7 +23,7 @@ pub(crate) struct NumberedTypes<'t> {
 }
 
 impl<'t> NumberedTypes<'t> {
-    /// For the rules among the items, which have names of their own: each has its place among them as its number.
+    /// For the rules among the items, which have distinct names: the number of each is its index among them.
     pub(crate) fn of(
         alloc: Global,
         table: &'t Types,
@@ -61,7 +61,7 @@ impl<'t> NumberedTypes<'t> {
         self.by_number[number]
     }
 
-    /// Whether the rule of that number has the unit type: for a hint, of which no clause speaks.
+    /// Whether the rule of that number has the unit type: for a hint, of which no contract clause speaks.
     pub(crate) fn is_unit(&self, number: usize) -> bool {
         match self.by_number.get(number) {
             Some(Some(ty)) => ty.is_unit(),
@@ -70,7 +70,7 @@ impl<'t> NumberedTypes<'t> {
     }
 }
 
-/// The numbers of the names of the rules among the items: each has the first place among them at which it stands.
+/// The numbers of the names of the rules among the items: each has the first index among them at which it occurs.
 pub(crate) fn numbers_of_rules(alloc: Global, items: &[GrammarItem]) -> Result<Names, NoMemory>
     ensures { IfOk result (IsNumbering (map (λ r. r.name.0) (rules_among (map item_view items.now)))) }
 {
@@ -103,7 +103,7 @@ fn add_name(names: &mut Vec<NonterminalString>, item: &GrammarItem) -> Result<()
     Ok(())
 }
 
-/// What the table has for each of the rules among the items, at the number of its name. Each row of the table is met once.
+/// What the table has for each of the rules among the items, at the number of its name. Each row of the table is reached once.
 fn types_of<'t>(
     alloc: Global,
     table: &'t Types,

@@ -11,7 +11,7 @@ use lalrpop_norm_tree::grammar::pattern::Pattern;
 use lalrpop_norm_tree::grammar::repr::TypeRepr;
 use std::alloc::Global;
 
-/// The pattern with its chosen types lowered.
+/// The pattern with its selected types lowered.
 pub(crate) fn lowered_pattern(
     alloc: Global,
     pattern: &Pattern<TypeRef>,

@@ -1,4 +1,4 @@
-//! The check of the `<>` of a code.
+//! The check of the `<>` of an action code.
 ghost use Rattle.std.specs.Prelude.{◌≡◌, option_map};
 ghost use Rattle.lalrpop_norm_faults.specs.Faults.{Refuses};
 ghost use Rattle.lalrpop_norm_tree.specs.Items.{action_view, alternative_view};
@@ -11,7 +11,7 @@ use lalrpop_norm_session::norm_util::{Symbols, analyze_expr};
 use lalrpop_norm_tree::grammar::parse_tree::{ActionKind, Alternative};
 use std::alloc::Global;
 
-/// Refuses an alternative without named and tuple symbols whose code has several `<>`, not as many as it has sources.
+/// Rejects an alternative without named and tuple symbols whose action code has several `<>`, not as many as it has sources.
 pub(crate) fn check_code(alloc: Global, alternative: &Alternative) -> NormResult<()>
     ensures { Refuses result (code_faults (alternative_view alternative.now)) }
 {

@@ -28,8 +28,8 @@ use lalrpop_norm_tree::grammar::parse_tree::{GrammarItem, NoMemory};
 use std::alloc::Global;
 use std::collections::BTreeMap;
 
-/// What is made of rules: the start symbols of public ones with their types, the actions by their numbers, the nonterminals with their
-/// productions, and whether `!` stands in an alternative.
+/// What is made of rules: the start symbols of public ones with their types, the actions by their numbers, the nonterminals with
+/// their productions, and whether `!` occurs in an alternative.
 #[derive(Drop)]
 pub(crate) struct Produced {
     pub(crate) start_nonterminals: BTreeMap<NonterminalString, NonterminalString>,
@@ -56,7 +56,7 @@ pub(crate) fn produce(
     produce_by(alloc, prefix, items, &types)
 }
 
-/// The same, by the types of the rules.
+/// What is made of the rules among the items, by the types of the rules.
 fn produce_by(
     alloc: Global,
     prefix: &str,

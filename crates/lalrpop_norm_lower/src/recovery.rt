@@ -1,4 +1,4 @@
-//! Whether `!` stands in an alternative: a grammar recovers from errors where it stands in one of a rule.
+//! Whether `!` occurs in an alternative: a grammar recovers from errors if it occurs in one of a rule.
 ghost use Rattle.std.specs.Prelude.{◌≡◌, map};
 ghost use Rattle.std.specs.List.{list_any};
 ghost use Rattle.lalrpop_norm_tree.specs.Items.{alternative_view};
@@ -7,7 +7,7 @@ ghost use Rattle.lalrpop_norm_lower.specs.Carried.{is_error_kind, is_error, any_
 
 use lalrpop_norm_tree::grammar::parse_tree::{Alternative, Symbol, SymbolKind};
 
-/// Whether `!` stands in one of the alternatives.
+/// Whether `!` occurs in one of the alternatives.
 pub(crate) fn some_error(alternatives: &[Alternative]) -> bool
     ensures { result ≡ list_any (λ a. any_error a.parts) (map alternative_view alternatives.now) }
 {

@@ -100,7 +100,7 @@ fn add_conversions<L>(
     Ok(())
 }
 
-/// Adds the entries that name a terminal, each by its place.
+/// Adds the entries that name a terminal, each by its index.
 fn add_entries(
     alloc: Global,
     span: Span,

@@ -1,4 +1,4 @@
-//! A grammar of plain rules, lowered whole.
+//! The entry of the pass: an expanded grammar is lowered to one `LoweredGrammar`.
 ghost use Rattle.std.specs.Prelude.{◌≡◌, IfOk, map, true};
 ghost use Rattle.lalrpop_norm_faults.specs.Faults.{Refuses};
 ghost use Rattle.lalrpop_norm_theory.specs.Rounds.{IsDistinct};
@@ -34,18 +34,18 @@ use lalrpop_norm_tree::grammar::parse_tree::NoMemory;
 use std::alloc::Global;
 use std::mem;
 
-/// Lowers an expanded grammar over the types of its rules: `types` has one for each rule. The terminals of the active conversions,
-/// or of the tokenizer's entries, are distinct, and each terminal that is used is one of them. The grammar and the types are
-/// consumed, also where the answer is an error.
+/// Lowers an expanded grammar over the types of its rules: `types` has one for each rule. The terminals of the active
+/// conversions, or of the tokenizer's entries, are distinct, and each terminal that is used is one of them. The grammar and the
+/// types are consumed, also where the answer is an error.
 ///
 /// Action k, from 0, is that of the k-th of the start symbols of public rules, then of the alternatives in item order. Terminals
-/// are numbered from 0 in the order of the active conversions, or of the tokenizer's entries without its skips, the error terminal
-/// last where `!` stands. Each start symbol gets its rule's type.
+/// are numbered from 0 in the order of the active conversions, or of the tokenizer's entries without its skips, the error
+/// terminal last where `!` occurs. Each start symbol gets its rule's type.
 ///
 /// Errors: F55 (`StartTaken`) at a public rule, if the name of its start symbol has a type already; F54 (`Placeholders`) from the
 /// first source to the last, or at the alternative if it has none, where an alternative without named and tuple symbols has
-/// code with several `<>`, not as many as there are sources; F56 (`TooManyActions`) at the rule or alternative whose action would have a
-/// number past the greatest; `Memory`.
+/// action code with several `<>`, not as many as there are sources; F56 (`TooManyActions`) at the rule or alternative whose
+/// action would have a number past the greatest; `Memory`.
 pub fn lower<L>(
     alloc: Global,
     session: &Session<L>,
@@ -63,7 +63,8 @@ pub fn lower<L>(
     lower_numbered(alloc, session, grammar, types, names)
 }
 
-/// As [`lower`], where the numbers of the rules' names are there already: each rule has its place among the rules as its number, from 0.
+/// As [`lower`], where the numbers of the rules' names are there already: the number of each rule is its index among the rules,
+/// from 0.
 ///
 /// Errors: those of [`lower`].
 pub fn lower_numbered<L>(
@@ -84,9 +85,9 @@ pub fn lower_numbered<L>(
     lower_over(alloc, session, grammar, types, names)
 }
 
-/// The same, in the words of what is made.
-// `lower_over`, `lower_rest` and `lowered_of` are apart for drops: what a function owns ends at each `?` behind it, and each end is
-// proved.
+/// The lowered grammar, with its contract in terms of what the rules produce.
+// `lower_over`, `lower_rest` and `lowered_of` are apart for drops: what a function owns ends at each `?` behind it, and each end
+// is proved.
 fn lower_over<L>(
     alloc: Global,
     session: &Session<L>,
@@ -104,7 +105,7 @@ fn lower_over<L>(
     lower_rest(alloc, grammar, types, names, carried)
 }
 
-/// The same, where all is made but what is made of the rules.
+/// The lowered grammar, where all else than what the rules produce is there already.
 fn lower_rest(
     alloc: Global,
     mut grammar: pt::Grammar,

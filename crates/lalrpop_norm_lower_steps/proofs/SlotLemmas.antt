@@ -1,4 +1,4 @@
--- Codes cut at their `<>`, and filled.
+-- Action code cut at its `<>`, and with these replaced.
 use Rattle.std.proofs.Common.{◌≡◌, ◌∙◌, ℕ, suc, ◌+◌, Bool, true, false, cond, ◌||◌, ◌&&◌, List, [], ◌∷◌, ◌++◌, length, map, drop, ◌<◌, ◌≤◌, Option, Some, None, refl, sym, ap, subst, codes, option_map, arith, length-append, append-nil}
 use Rattle.std.specs.Prelude.{flat_map, zip, replicate, nat_eq, nat_le}
 use Rattle.std.specs.List.{starts_with, AllByRecursion}
@@ -114,13 +114,13 @@ slotless (c ∷ cs) = by (is_slot (c ∷ cs)) refl (slotless cs)
         let apart : is_slot (c ∷ (cut cs).0) ≡ false = not_in_front c (cut cs).0 (behind (cut cs).1) (ap (λ (xs : List ℕ). is_slot (c ∷ xs)) (whole cs) ∙ is) in
         (rw (apart, deeper.0) refl, deeper.1)
 
--- ---- filled
+-- ---- replaced
 
 alike : (x : List ℕ) (os : List (List ℕ)) → flat_map (λ u. x ++ u) os ≡ flat_map (λ e. e.0 ++ e.1) (zip (replicate (length os) x) os)
 alike x [] = refl
 alike x (o ∷ os) = ap (λ (xs : List ℕ). x ++ o ++ xs) (alike x os)
 
--- where there are names enough, the code is filled
+-- where there are names enough, the `<>` of the action code are replaced
 pub is_filled : (is_named : Bool) (ns : List (List ℕ)) (code : List ℕ) → length (in_slots is_named ns (slots code)) ≡ slots code → IsFilled is_named ns code (filled_code is_named ns code)
 is_filled is_named ns code enough = record {
   first = (cut code).0;
@@ -159,7 +159,7 @@ shorter s p h =
     let long : length s ≡ length p.0 + (2 + length p.1) = ap length is ∙ length-append p.0 (codes "<>" ++ p.1) ∙ ap (λ n. length p.0 + n) (length-append (codes "<>") p.1) in
     omega (arith, long)
 
--- ---- piece by piece: how many slots, and what is filled
+-- ---- piece by piece: how many slots, and what replaces them
 
 pub one_more_slot : (s : List ℕ) (p : List ℕ × List ℕ) → around_slot s ≡ Some p → slots s ≡ suc (slots p.1)
 one_more_slot s p h = sym (counted s) ∙ ap (λ ps. length (drop 1 ps)) (next_piece s p h) ∙ ap suc (counted p.1)
@@ -175,7 +175,7 @@ few_slots (c ∷ cs) = at_most (starts_with nat_eq (c ∷ cs) (codes "<>")) (slo
     at_most true n m le = omega (arith, le)
     at_most false n m le = omega (arith, le)
 
--- all names in the place of each slot
+-- all names in each slot
 
 pub alike_turn : (all old mid new whole s : List ℕ) (p : List ℕ × List ℕ) → around_slot s ≡ Some p → mid ≡ old ++ p.0 → new ≡ mid ++ all → old ++ joined all (pieces s) ≡ whole → new ++ joined all (pieces p.1) ≡ whole
 alike_turn all old mid new whole s p h before names so_far =

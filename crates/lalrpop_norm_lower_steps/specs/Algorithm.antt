@@ -14,6 +14,6 @@ attribute_names (attribute_and (attribute s n a) rest) = n ∷ attribute_names r
 abbrev pub asks_lalr : Attributes → Bool
 asks_lalr as_written = list_any (λ n. bytes_eq n (codes "LALR")) (attribute_names as_written)
 
--- the code that the attributes ask for, the last one standing; by tables, if none does
+-- the parser code that the attributes ask for, the last one; by tables, if none does
 abbrev pub asked_code : Attributes → LrCodeGeneration
 asked_code as_written = fold (λ code n. unwrap_or (codegen_named n) code) TableDriven (attribute_names as_written)

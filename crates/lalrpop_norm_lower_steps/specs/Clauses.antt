@@ -1,4 +1,4 @@
--- Where clauses under their `for<..>`.
+-- `where` clauses under their `for<..>`.
 use Rattle.std.specs.Prelude.{List, [], ◌∷◌}
 use Rattle.lalrpop_norm_tree_names.specs.declared.names.TypeParameter.{TypeParameter}
 use Rattle.lalrpop_norm_tree_parts.specs.Reprs.{LoweredClause, for_all}

@@ -1,4 +1,4 @@
--- The code of an action.
+-- The action code.
 use Rattle.std.specs.Prelude.{ℕ, Bool, true, false, List, [], ◌∷◌, Option, Some, None, codes}
 use Rattle.lalrpop_norm_tree.specs.Items.{Action, user_code, fallible_code, lookahead_code, lookbehind_code}
 use Rattle.lalrpop_norm_tree_parts.specs.Reprs.{ReprData, tuple, no_reprs}
@@ -9,7 +9,7 @@ sources_code [] = codes "(<>)"
 sources_code (n ∷ []) = codes "<>"
 sources_code (n ∷ m ∷ names) = codes "(<>)"
 
--- absent code: `()` for the unit type
+-- absent action code: `()` for the unit type
 abbrev pub absent_code : ReprData → List (List ℕ) → List ℕ
 absent_code (tuple no_reprs) names = codes "()"
 absent_code type names = sources_code names

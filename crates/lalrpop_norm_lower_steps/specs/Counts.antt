@@ -1,4 +1,4 @@
--- The number of `<>` in a code against that of its sources.
+-- The number of `<>` in an action code against that of its sources.
 use Rattle.std.specs.Prelude.{ℕ, not, List, [], ◌∷◌, length, nat_eq}
 use Rattle.lalrpop_norm_tree_names.specs.declared.names.Span.{Span}
 use Rattle.lalrpop_norm_faults.specs.Faults.{Fault, fault_if}

@@ -10,12 +10,12 @@ pub record ArePieces (code first : List ℕ) (others : List (List ℕ)) : Type 0
   pub whole : joined (codes "<>") (first ∷ others) ≡ code
   pub slotless : All (λ p. around_slot p ≡ None) (first ∷ others)
 
--- what stands in the places of n `<>`: in each all names, joined by `, `, where symbols are named or there is at most one
+-- what replaces n `<>`: in each all names, joined by `, `, where symbols are named or there is at most one
 -- `<>`; else one name in each
 abbrev pub in_slots : Bool → List (List ℕ) → ℕ → List (List ℕ)
 in_slots is_named ns n = if is_named || nat_le n 1 then replicate n (joined (codes ", ") ns) else ns
 
--- the code with its `<>` replaced, all at once
+-- The action code with its `<>` replaced, all at once
 pub record IsFilled (is_named : Bool) (ns : List (List ℕ)) (code filled : List ℕ) : Type 0 where
   pub first : List ℕ
   pub others : List (List ℕ)

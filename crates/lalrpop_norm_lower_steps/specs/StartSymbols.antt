@@ -11,7 +11,7 @@ use Rattle.lalrpop_norm_repr.specs.Tables.{TypeTable, type_of}
 abbrev pub start_name : List ℕ → NonterminalString → NonterminalString
 start_name prefix n = record { 0 = prefix ++ n.0 }
 
--- a start production holds the rule's name and has no code
+-- a start production holds the rule's name and has no action code
 abbrev pub start_alternative : RuleData → AlternativeData
 start_alternative r =
     record {

@@ -11,7 +11,7 @@ abbrev pub terminal_of_mapping : MatchMapping → Option TerminalString
 terminal_of_mapping (mapping.Terminal t) = Some t
 terminal_of_mapping mapping.Skip = None
 
--- the rows in the order of their terminals, a later one in the place of an earlier one of its terminal
+-- the rows in the order of their terminals, a later one replaces an earlier one of its terminal
 abbrev pub sorted_terminals : {V : Type 0} → List (TerminalString × V) → List (TerminalString × V) →
     List (TerminalString × V)
 sorted_terminals rows [] = rows

@@ -1,4 +1,4 @@
-//! Where clauses under their `for<..>`.
+//! `where` clauses under their `for<..>`.
 ghost use Rattle.std.specs.Prelude.{◌≡◌, IfOk};
 ghost use Rattle.lalrpop_norm_tree_parts.specs.Reprs.{lowered_where_clause_view};
 ghost use Rattle.lalrpop_norm_lower_steps.specs.Clauses.{under};
@@ -8,7 +8,7 @@ use lalrpop_norm_tree::grammar::parse_tree::{NoMemory, TypeParameter};
 use lalrpop_norm_tree_parts::names::copy::copy_type_parameters;
 use std::alloc::Global;
 
-/// The clause under its `for<..>`, if there is one. The only error is want of memory.
+/// The clause under its `for<..>`, if there is one. The only error is a failed allocation.
 pub fn under(
     alloc: Global,
     forall: &Vec<TypeParameter>,

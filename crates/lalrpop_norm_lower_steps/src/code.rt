@@ -1,4 +1,4 @@
-//! What is read off the code of an action.
+//! What is read off the action code.
 ghost use Rattle.std.specs.Prelude.{◌≡◌, option_map};
 ghost use Rattle.lalrpop_norm_tree.specs.Items.{action_view};
 ghost use Rattle.lalrpop_norm_tree_parts.specs.Reprs.{repr_view};
@@ -7,7 +7,7 @@ ghost use Rattle.lalrpop_norm_lower_steps.specs.Code.{absent_code, written_code,
 use lalrpop_norm_tree::grammar::parse_tree::{ActionKind, Atom};
 use lalrpop_norm_tree::grammar::repr::TypeRepr;
 
-/// Whether an action may fail: where its code is written so.
+/// Whether an action may fail, by how its action code is written.
 pub fn is_fallible(action: &Option<ActionKind>) -> bool
     ensures { result ≡ is_fallible (option_map action_view action.now) }
 {
@@ -20,7 +20,7 @@ pub fn is_fallible(action: &Option<ActionKind>) -> bool
     }
 }
 
-/// The code of an action over sources of these names, for a rule of that type: as it is written, or as it is where it is absent.
+/// The action code over sources of these names, for a rule of that type: as it is written, or the default where it is absent.
 pub fn written_code<'a>(ty: &TypeRepr, names: &[Atom], action: &'a Option<ActionKind>) -> &'a str
     ensures { result.now ≡ written_code (repr_view ty.now) names.now (option_map action_view action.now) }
 {

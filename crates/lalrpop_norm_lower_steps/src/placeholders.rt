@@ -1,4 +1,4 @@
-//! The `<>` of codes: how many there are, and what takes their places.
+//! The `<>` of action code: how many there are, and what replaces them.
 ghost use Rattle.std.specs.Prelude.{◌≡◌, ◌+◌, ◌||◌, nat_le, ◌++◌, IfOk, OnOk, codes, is_some, length, map, option_map, string_bytes, flat_map, zip};
 ghost use Rattle.lalrpop_norm_tree_names.specs.Texts.{joined};
 ghost use Rattle.lalrpop_norm_session.specs.Braces.{around_slot};
@@ -9,10 +9,10 @@ ghost use Rattle.lalrpop_norm_lower_steps.specs.Slots.{pieces, in_order, filled_
 use lalrpop_norm_tree::grammar::parse_tree::{Atom, NoMemory};
 use std::alloc::Global;
 
-/// How many bytes a code has room for at first: a block of memory is not smaller on most systems.
+/// How many bytes an action code has room for at first: a block of memory is not smaller on most systems.
 const ROOM: usize = 24;
 
-/// How often `<>` stands in a code.
+/// How often `<>` occurs in an action code.
 pub fn slots(code: &str) -> usize
     ensures { result ≡ slots code.now }
 {
@@ -25,7 +25,7 @@ pub fn slots(code: &str) -> usize
     count
 }
 
-/// Whether `<>` stands in a code.
+/// Whether `<>` occurs in an action code.
 pub fn has_slot(code: &str) -> bool
     ensures { result ≡ is_some (around_slot code.now) }
 {
@@ -35,8 +35,8 @@ pub fn has_slot(code: &str) -> bool
     }
 }
 
-/// The code with its `<>` replaced, all at once: by the names in order where symbols have none of their own and there are
-/// several, else each by all names. The only error is want of memory.
+/// The action code with its `<>` replaced, all at once: by the names in order where symbols have none of their own and there are
+/// several, else each by all names. The only error is a failed allocation.
 pub fn filled(alloc: Global, is_named: bool, names: &[Atom], code: &str) -> Result<String, NoMemory>
     requires { length (in_slots is_named names.now (slots code.now)) ≡ slots code.now }
     ensures { IfOk result (λ s. string_bytes s ≡ filled_code is_named names.now code.now) }
@@ -62,7 +62,7 @@ fn is_alike(is_named: bool, names: &[Atom], code: &str) -> bool
     slots(code) <= 1
 }
 
-/// Adds the code, in which all names stand in the place of each `<>`.
+/// Adds the action code, in which all names replace each `<>`.
 fn push_alike(text: &mut String, names: &[Atom], code: &str) -> Result<(), NoMemory>
     ensures { OnOk result (string_bytes text.new ≡ string_bytes text.old ++ joined (joined (codes ", ") names.now) (pieces code.now)) }
 {
@@ -76,7 +76,7 @@ fn push_alike(text: &mut String, names: &[Atom], code: &str) -> Result<(), NoMem
     Ok(())
 }
 
-/// Adds the code, in which the names stand in the places of `<>`, in order.
+/// Adds the action code, in which the names replace the `<>`, in order.
 fn push_in_order(text: &mut String, names: &[Atom], code: &str) -> Result<(), NoMemory>
     requires { length names.now ≡ slots code.now }
     ensures { OnOk result (string_bytes text.new ≡ string_bytes text.old ++ in_order names.now (pieces code.now)) }
@@ -93,7 +93,7 @@ fn push_in_order(text: &mut String, names: &[Atom], code: &str) -> Result<(), No
     Ok(())
 }
 
-/// What stands before the first `<>` and after it.
+/// What is before the first `<>` and after it.
 fn split_at_slot(code: &str) -> Option<(&str, &str)>
     ensures { option_map (λ p. (p.0.now, p.1.now)) result ≡ around_slot code.now }
 {

@@ -1,4 +1,4 @@
-//! What lowering refuses, one by one.
+//! What lowering rejects, one by one.
 ghost use Rattle.std.specs.Prelude.{◌≡◌, [], ◌∷◌, IfOk, length, map};
 ghost use Rattle.lalrpop_norm_faults.specs.Faults.{IsFirst, Refuses};
 ghost use Rattle.lalrpop_norm_faults.specs.declared.kind.FaultKind.TheVariants.{TooManyActions};
@@ -17,7 +17,7 @@ use std::alloc::Global;
 /// One more than the greatest number of an action.
 const ACTIONS: usize = 4294967296;
 
-/// Refuses a number of `<>` that is not that of the sources.
+/// Rejects a number of `<>` that is not that of the sources.
 pub fn check_count(
     alloc: Global,
     span: Span,
@@ -60,7 +60,7 @@ fn end_of(before: usize, sources: &[(usize, &Symbol)]) -> usize
     end
 }
 
-/// Refuses a public rule the name of whose start symbol has a type already.
+/// Rejects a public rule the name of whose start symbol has a type already.
 pub fn check_start(
     alloc: Global,
     prefix: &str,
@@ -85,7 +85,7 @@ pub fn check_start(
 
 /// The number of the next action: the length of the list.
 ///
-/// Errors: F56 (`TooManyActions`) at the place that is given, where that number would be too great; `Memory`.
+/// Errors: F56 (`TooManyActions`) at the given span, where that number would be too great; `Memory`.
 pub fn next_action(alloc: Global, actions: &[ActionFnDefn], span: Span) -> NormResult<ActionFn>
     ensures refuses { Refuses result (action_number_faults (length actions.now) span) }
     ensures number { IfOk result (λ a. a ≡ record { 0 = length actions.now }) }
@@ -97,7 +97,7 @@ pub fn next_action(alloc: Global, actions: &[ActionFnDefn], span: Span) -> NormR
     Err(too_many_actions(alloc, span))
 }
 
-/// The refusal of an action that would have too great a number: F56 (`TooManyActions`) at its alternative or rule, or `Memory`.
+/// The error of an action that would have too great a number: F56 (`TooManyActions`) at its alternative or rule, or `Memory`.
 pub fn too_many_actions(alloc: Global, span: Span) -> NormFailure
     ensures { IsFirst ((TooManyActions, span) ∷ []) result }
 {

@@ -26,7 +26,7 @@ pub fn start_alternative(alloc: Global, rule: &NonterminalData) -> Result<Altern
     })
 }
 
-/// The nonterminal alone, at that place.
+/// Only the nonterminal, at that span.
 fn named(alloc: Global, span: Span, name: &NonterminalString) -> Result<ExprSymbol, NoMemory>
     ensures { IfOk result (λ e. expr_view e ≡ part_and (at span (nonterminal name.now.0)) no_parts) }
 {
@@ -42,7 +42,8 @@ fn named_symbol(span: Span, name: &NonterminalString) -> Result<Symbol, NoMemory
     Ok(Symbol { span, kind })
 }
 
-/// The nonterminal of a start symbol with that one production: it is seen and stands where its rule does, and has no attributes.
+/// The nonterminal of a start symbol with that one production: it has the visibility and the span of its rule, and has no
+/// attributes.
 pub fn start_data(
     alloc: Global,
     rule: &NonterminalData,

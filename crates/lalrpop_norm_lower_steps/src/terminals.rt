@@ -18,7 +18,7 @@ pub fn terminal_of_entry(entry: &MatchEntry) -> Result<Option<TerminalString>, N
     }
 }
 
-/// The terminals with their numbers: those given, then the error terminal where it is used.
+/// The terminals with their numbers: the given ones, then the error terminal where it is used.
 pub fn terminal_set(
     alloc: Global,
     mut all: Vec<TerminalString>,

@@ -66,9 +66,9 @@ uses_same c f (u ∷ uses) =
     ap (λ (xs : List Fault). fault_if (lacks_entry c f.names u.0) (NoMapping, u.1) ++ xs)
     (uses_same c (with_terminal c f u.0 u.1) uses ∙ lacking_same c f u.0 u.1 uses)
 
--- ---- places
+-- ---- spans
 
--- where a literal stands that is added: at its first use
+-- the span of a literal that is added: at its first use
 abbrev pub added_in : Option ℕ → List TerminalString → TerminalLiteral → List Use → Option Span
 added_in c names l uses = cond (terminal_in names (Literal l) || is_none c) None (first_of (place_if l) uses)
 
@@ -126,7 +126,7 @@ no_uses : (b : Bool) (o : Option Span) → o ≡ or_else (cond b None None) o
 no_uses true o = refl
 no_uses false o = refl
 
--- a literal stands at its first use where it is added, else where it stood
+-- the span of a literal is that of its first use if it is added, else the one that it had
 pub uses_places : (c : Option ℕ) (f : FoundData) (uses : List Use) (l : TerminalLiteral) →
     place_by (with_uses c f uses).places l ≡ or_else (added_in c f.names l uses) (place_by f.places l)
 uses_places c f [] l = no_uses _ _
@@ -261,7 +261,7 @@ uses_have_entries c f [] e (inl h) = absurd h.used
 uses_have_entries c f [] e (inr i) = i
 uses_have_entries c f (u ∷ uses) e h = uses_have_entries c (with_terminal c f u.0 u.1) uses e (step_from c f u.0 u.1 uses e h)
 
--- ---- each entry's literal has a place
+-- ---- each entry's literal has a span
 
 terminal_placed : (c : Option ℕ) (f : FoundData) (t : TerminalString) (s : Span) → HasPlaces f → HasPlaces (with_terminal c f t s)
 terminal_placed None f (Literal l) s h e i = h e i

@@ -1,4 +1,4 @@
--- The exits by `?` of calls that refuse, or tell, and say what is so of an answer.
+-- The exits by `?` of calls that reject, or report, and say what is so of an answer.
 use Rattle.std.proofs.Common.{◌≡◌, Result, Ok, Err, MatchResult, List, sym, subst}
 use Rattle.std.specs.Result.{IsErrAnd}
 use Rattle.lalrpop_norm_faults.specs.declared.failure.NormFailure.{NormFailure}

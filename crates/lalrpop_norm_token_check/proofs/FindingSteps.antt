@@ -1,4 +1,4 @@
--- What the steps of the pass tell, by what the whole pass looks for.
+-- What the steps of the pass say, by what the whole pass looks for.
 use Rattle.std.proofs.Common.{◌≡◌, List, [], ◌∷◌, ◌++◌, map, Some, None, inl, inr, refl, sym, ap, subst, ◌∙◌}
 use Rattle.lalrpop_norm_faults.specs.declared.failure.NormFailure.{NormFailure}
 use Rattle.lalrpop_norm_faults.specs.declared.failure.NormFailure.TheVariants.{Refused, Memory}
@@ -28,7 +28,7 @@ module _ {R : Type 0} (l : Lexer R) (g : GrammarData) where
   no_sure : entry_faults g ≡ [] → sure_ones {P = LexerPlace} (map sure (entry_faults g)) ≡ []
   no_sure none = sure_all LexerPlace (entry_faults g) ∙ none
 
-  -- what the lexer refuses, where the entries have no fault
+  -- what the lexer rejects, where the entries have no fault
   pub told_of_lexer : (e : NormFailure) → entry_faults g ≡ [] → IsLexerRefusal l g e → IsTold (StandsAtLexer l g) (token_findings_with None g) e
   told_of_lexer (Refused e) none h =
       told_right (StandsAtLexer l g) (map sure (entry_faults g)) (maybe at_lexer ∷ map sure (input_faults g)) (e.fault, e.span) (no_sure none) (inl h)

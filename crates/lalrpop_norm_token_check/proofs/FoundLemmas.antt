@@ -80,7 +80,7 @@ item_same f before (Unmapped l s) h =
     two_faults _ _ _ _ _ _ (h.literals l ∙ sym (or_nothing _)) (ap (λ b. b || false) (h.names (Literal l)))
 item_same f before (CatchAll s) h = refl
 
--- the items, the nearest first, before those that stood before
+-- the items, the nearest first, before those that were before
 abbrev behind : List MatchItem → List MatchItem → List MatchItem
 behind before [] = before
 behind before (i ∷ items) = behind (i ∷ before) items
@@ -242,7 +242,7 @@ pub block_has_entries : (b : Option MatchTokenData) (e : MatchEntry) → In e (e
 block_has_entries None e i = i
 block_has_entries (Some m) e i = groups_have none_found m.contents e (inl i)
 
--- ---- places
+-- ---- spans
 
 put_first : (b : Bool) (s : Span) (o : Option Span) → (b ≡ true → is_some o ≡ false) → cond b (Some s) o ≡ or_else o (cond (b || false) (Some s) None)
 put_first true s None h = refl
@@ -285,13 +285,13 @@ place_groups f (items ∷ groups) l h =
     ∙ or_else_assoc (place_by f.places l) (first_of (item_place_if l) items) rest
     ∙ ap (λ o. or_else (place_by f.places l) o) (sym (first_of-append (item_place_if l) items (flat_map (λ is. is) groups)))
 
--- where nothing is wrong with the match block, its literals stand at their items
+-- where nothing is wrong with the match block, its literals have the spans of their items
 pub block_places : (b : Option MatchTokenData) (l : TerminalLiteral) → block_faults b ≡ [] →
     place_by (with_block b).places l ≡ first_of (item_place_if l) (items_of b)
 block_places None l h = refl
 block_places (Some m) l h = place_groups none_found m.contents l h
 
--- ---- each entry's literal has a place
+-- ---- each entry's literal has a span
 
 abbrev pub HasPlaces : FoundData → Type 0
 HasPlaces f = (e : MatchEntry) → In e f.entries → is_some (place_by f.places e.match_literal) ≡ true
@@ -301,7 +301,7 @@ still_some true x o h = refl
 still_some false x o (inl h) = cc
 still_some false x o (inr h) = h
 
--- an entry put in with the place of its literal
+-- an entry put in with the span of its literal
 pub placed_more : (f : FoundData) (d e : MatchEntry) (s : Span) → HasPlaces f → (e ≡ d) ⊎ In e f.entries →
     is_some (place_by (insert_entry literal_cmp f.places d.match_literal s) e.match_literal) ≡ true
 placed_more f d e s h i = ap is_some (place_more e.match_literal f.places d.match_literal s) ∙ still_some _ s _ (cases i)

@@ -137,7 +137,7 @@ exact_entries d e h =
         (let x : MatchEntry = record { precedence = p; match_literal = l; user_name = m } in x) ≡ record { precedence = q; match_literal = k; user_name = n }
     whole p q l k m n a b c = rw (a, b, c) refl
 
--- ---- places
+-- ---- spans
 
 literal_itself : (l : TerminalLiteral) → literal_cmp l l ≡ Equal
 literal_itself (Quoted a) = tied_itself nat_list_cmp_total a
@@ -172,7 +172,7 @@ row_inserted : (q : TerminalLiteral) (es : List (TerminalLiteral × Span)) (k : 
 row_inserted q [] k s = refl
 row_inserted q (e ∷ es) k s = row_at q e es k s (literal_cmp k e.0) refl (row_inserted q es k s)
 
--- a literal stands where it was put last
+-- the span of a literal is the one that was put last
 pub place_more : (q : TerminalLiteral) (es : List (TerminalLiteral × Span)) (k : TerminalLiteral) (s : Span) →
     place_by (insert_entry literal_cmp es k s) q ≡ cond (same_literal q k) (Some s) (place_by es q)
 place_more q es k s = row_inserted q es k s ∙ ap (λ b. cond b (Some s) (place_by es q)) (agree_literals q k)

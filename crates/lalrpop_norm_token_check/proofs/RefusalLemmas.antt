@@ -1,4 +1,4 @@
--- A reason not to build stands at the literal of its entry.
+-- A reason not to build holds at the span of the literal of its entry.
 use Rattle.std.proofs.Common.{◌≡◌, ℕ, ◌<◌, List, [], ◌∷◌, length, Some, sym, ◌∙◌, subst, arith, slice_get}
 use Rattle.std.proofs.lemmas.Option.{slice_get_within}
 use Rattle.std.proofs.lemmas.Slice.Zip.{AllZip-long}
@@ -18,7 +18,7 @@ use Rattle.lalrpop_norm_token_check.specs.Keys.{place_by}
 use Rattle.lalrpop_norm_token_check.specs.Checked.{ArePlacesOf, IsLexerRefusal}
 use Rattle.lalrpop_norm_theory.proofs.ListLemmas.{get_some}
 
--- the refusal of a fault that the lexer may tell is such a refusal
+-- the error of a fault that the lexer may report is such an error
 pub told : {R : Type 0} (l : Lexer R) (g : GrammarData) (f : Fault) (r : NormFailure) → IsFirst (f ∷ []) r → LexerRefuses l g f → IsLexerRefusal l g r
 told l g f (Refused e) h this = let same : f ≡ (e.fault, e.span) = cc in subst (LexerRefuses l g) same this
 told l g f Memory h this = tt
@@ -36,7 +36,7 @@ module _ {R : Type 0} (l : Lexer R) (entries : List MatchEntry) where
   pub ambiguity_within : (rs : List R) (i j : ℕ) → AreRegexes l entries rs → IsAmbiguity l rs (precedences entries) i j → i < length entries
   ambiguity_within rs i j h a = omega (arith, a.first_in_range, regexes_long rs h)
 
--- the row for the literal of the entry at an index tells where it stands
+-- the row for the literal of the entry at an index has its span
 module _ (g : GrammarData) (entries : List MatchEntry) (places : List (TerminalLiteral × Span)) (are : AreEntries g entries) (rows : ArePlacesOf g places)
     (i : ℕ) (s : Span) (there : (e : MatchEntry) → slice_get entries i ≡ Some e → place_by places e.match_literal ≡ Some s) where
   stands : (e : MatchEntry) → slice_get entries i ≡ Some e → literal_at g e.match_literal ≡ Some s

@@ -1,4 +1,4 @@
--- What is found of a grammar is its entries, and where their literals stand.
+-- What is found of a grammar is its entries, and the spans of their literals.
 use Rattle.std.proofs.Common.{◌≡◌, ◌⊎◌, Bool, true, false, ◌||◌, ◌&&◌, cond, not, List, [], ◌∷◌, ◌++◌, Option, None, is_none, inl, inr, refl, sym, ap, ap₂, subst, ◌∙◌}
 use Rattle.std.specs.List.{list_any}
 use Rattle.lalrpop_norm_tree_names.specs.declared.names.Span.{Span}
@@ -114,7 +114,7 @@ module _ (g : GrammarData) where
       HasFound g (all_found (match_block g) (places_used g)).entries (all_found (match_block g) (places_used g)).places
   found_all none rising = record { entries_all = found_entries rising; placed = found_placed; where_they_stand = found_places none }
 
--- the same, of the block and the terminals that the code reads
+-- what is found, of the block and the terminals that the code reads
 module _ (g : GrammarData) (b : Option MatchTokenData) (uses : List Use) (of_block : b ≡ match_block g) (of_uses : uses ≡ places_used g) where
   pub faults_are : found_faults b uses ≡ entry_faults g
   faults_are = ap₂ (λ (x : Option MatchTokenData) (y : List Use). found_faults x y) of_block of_uses ∙ found_faults_are g

@@ -17,17 +17,17 @@ use Rattle.lalrpop_norm_token_check.specs.Keys.{place_by}
 abbrev pub ArePlaced : List (TerminalLiteral × Span) → List MatchEntry → Type 0
 ArePlaced places entries = (e : MatchEntry) → In e entries → IsSome (place_by places e.match_literal)
 
--- the rows tell where the literals of the grammar stand
+-- the rows have the spans of the grammar's literals
 abbrev pub ArePlacesOf : GrammarData → List (TerminalLiteral × Span) → Type 0
 ArePlacesOf g places = (l : TerminalLiteral) → place_by places l ≡ literal_at g l
 
--- the entries of a grammar, and where their literals stand
+-- the entries of a grammar, and the spans of their literals
 pub record HasFound (g : GrammarData) (entries : List MatchEntry) (places : List (TerminalLiteral × Span)) : Type 0 where
   pub entries_all : AreEntries g entries
   pub placed : ArePlaced places entries
   pub where_they_stand : ArePlacesOf g places
 
--- the failure is a refusal of the lexer that is true, or want of memory
+-- the failure is an error of the lexer that is true, or a failed allocation
 abbrev pub IsLexerRefusal : {R : Type 0} → Lexer R → GrammarData → NormFailure → Type 0
 IsLexerRefusal l g (Refused e) = LexerRefuses l g (e.fault, e.span)
 IsLexerRefusal l g Memory = Unit {0}

@@ -16,7 +16,7 @@ twice_from keys [] = []
 twice_from keys (c ∷ cs) =
     fault_if (terminal_in keys c.from) (TerminalTwice, c.span) ++ twice_from (insert_key terminal_cmp keys c.from) cs
 
--- the terminals that stand somewhere and have no conversion
+-- the terminals with spans that have no conversion
 abbrev pub unconverted_faults : List ConversionData → List (TerminalString × Span) → List Fault
 unconverted_faults cs uses =
     flat_map (λ (p : TerminalString × Span). fault_if (not (has_conversion cs p.0)) (NoPattern, p.1)) uses

@@ -22,7 +22,7 @@ use Rattle.lalrpop_norm_model.specs.Entries.{precedence_of, entry_in, own_mappin
 use Rattle.lalrpop_norm_token_check.specs.declared.token_check.found.Found.{Found}
 use Rattle.lalrpop_norm_token_check.specs.Keys.{with_keys, terminal_in, place_by}
 
--- what is found so far: the entries, the terminals that they name, and where their literals stand, each in order
+-- what is found so far: the entries, the terminals that they name, and the spans of their literals, each in order
 pub record FoundData : Type 0 where
   pub entries : List MatchEntry
   pub names : List TerminalString
@@ -31,7 +31,7 @@ pub record FoundData : Type 0 where
 abbrev pub found_view : Found → FoundData
 found_view f = record { entries = f.entries.keys; names = f.names.keys; places = f.places.entries }
 
--- its entries stand in their order
+-- its entries are in their order
 abbrev pub IsOrdered : FoundData → Type 0
 IsOrdered f = IsStrictlySortedBy entry_cmp f.entries
 
@@ -41,7 +41,7 @@ none_found = record { entries = []; names = []; places = [] }
 
 -- ---- the match block
 
--- F38 where the literal has a place, then F39 where the terminal is named
+-- F38 if the literal has a span, then F39 if the terminal is named
 abbrev pub mapped_faults : FoundData → TerminalLiteral → MatchMapping → Span → List Fault
 mapped_faults f l m s =
     fault_if (is_some (place_by f.places l)) (LiteralTwice, s)
@@ -99,7 +99,7 @@ lacks_entry precedence names (Literal l) = not (terminal_in names (Literal l)) &
 lacks_entry precedence names (Bare a) = not (terminal_in names (Bare a))
 lacks_entry precedence names Error = false
 
--- a literal that names itself; it stands where it is used
+-- a literal that names itself; its span is that of its use
 abbrev pub with_added : ℕ → FoundData → TerminalLiteral → Span → FoundData
 with_added precedence f l s = record {
   entries = insert_key entry_cmp f.entries (entry_in precedence l (own_mapping l));

@@ -23,6 +23,6 @@ with_keys cmp keys (k ∷ ks) = with_keys cmp (insert_key cmp keys k) ks
 abbrev pub terminal_in : List TerminalString → TerminalString → Bool
 terminal_in keys t = is_among_keys terminal_cmp keys t
 
--- where a literal stands by a map with these rows, if it has a row
+-- the span of a literal by a map with these rows, if it has a row
 abbrev pub place_by : List (TerminalLiteral × Span) → TerminalLiteral → Option Span
 place_by places l = lookup (is_at (literal_cmp l)) places

@@ -37,7 +37,7 @@ use std::collections::BTreeSet;
 /// Errors, of several the first in this order. With an extern enum: F39 (`TerminalTwice`) at a conversion whose terminal an
 /// earlier one has; F41 (`NoPattern`) at a symbol whose terminal has no conversion. Without one: at a match item F38
 /// (`LiteralTwice`) or F39, where an earlier one has its literal or its terminal; F40 (`NoMapping`) at a symbol whose terminal
-/// has no entry; F42 (`BadRegex`), F43 (`RegexFeature`) or F44 (`Ambiguity`) at a literal that the lexer refuses; F45
+/// has no entry; F42 (`BadRegex`), F43 (`RegexFeature`) or F44 (`Ambiguity`) at a literal that the lexer rejects; F45
 /// (`InputLifetime`) or F46 (`InputParameter`) where the grammar declares these names. `Memory`.
 pub fn validate<L: Lexer>(alloc: Global, lexer: &L, grammar: Grammar) -> NormResult<Grammar>
     ensures refuses { RefusesAmong (StandsAtLexer (L.relations lexer.now) (grammar_view grammar)) result (token_findings (grammar_view grammar)) }
@@ -62,7 +62,7 @@ fn tokens_of<L: Lexer>(
     tokens_by(alloc, lexer, grammar, &uses)
 }
 
-/// The same, where the terminals used are at hand.
+/// The internal tokens that a grammar gets, where the terminals used are at hand.
 // `tokens_of`, `tokens_by` and `internal_tokens` are apart for drops: what a function owns ends at each `?` behind it, and each
 // end is proved.
 fn tokens_by<L: Lexer>(

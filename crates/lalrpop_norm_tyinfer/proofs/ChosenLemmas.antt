@@ -1,4 +1,4 @@
--- The types that patterns choose.
+-- The types that patterns select.
 use Rattle.std.proofs.Common.{◌≡◌, List, [], ◌∷◌, ◌++◌, append-nil, map, Option, Some, None, Bor, Result, Ok, Err, IfOk, Vec, Global, refl, sym, ap, ap₂, ◌∙◌}
 use Rattle.std.specs.Prelude.{option_map}
 use Rattle.shared_text.specs.declared.atom.NoMemory.{NoMemory}
@@ -20,7 +20,7 @@ use Rattle.lalrpop_norm_tree.specs.Types.{type_view}
 use Rattle.lalrpop_norm_model.specs.TerminalTypes.{row_for, type_of_chosen}
 use Rattle.lalrpop_norm_tyinfer_table.specs.TokenTypes.{rows_seen}
 
--- what a pattern chooses once its chosen parts are put through f
+-- what a pattern selects once its selected parts are put through f
 module _ {T V : Type 0} (f : T → V) where
   mutual
     kind_chosen : (k : PatternKindData T) → chosen_in_kind (mapped_kind f k) ≡ map f (chosen_in_kind k)
@@ -47,7 +47,7 @@ module _ {T V : Type 0} (f : T → V) where
     fields_chosen no_fields = refl
     fields_chosen (field_and s n p fs) = ap₂ ◌++◌ (pattern_chosen p) (fields_chosen fs) ∙ sym (map-append f (chosen_in_pattern p) (chosen_in_fields fs))
 
--- the types that a pattern chooses, by the references to them
+-- the types that a pattern selects, by the references to them
 chosen_lowered : (p : Pattern TypeRef) (cs : List (Bor TypeRef)) → map (λ t. t.now) cs ≡ chosen_in_pattern (pattern_view (λ t. t) p)
     → map (λ t. repr_of (type_view t.now)) cs ≡ map repr_of (chosen_in_pattern (pattern_view type_view p))
 chosen_lowered p cs are =
@@ -69,7 +69,7 @@ row_of_copy (terminal.Bare a) (terminal.Bare b) x h = ap (λ z. row_for (termina
 row_of_copy terminal.Error terminal.Error x h = refl
 row_of_copy _ _ x h = absurd h
 
--- the row of a terminal, if types were chosen
+-- the row of a terminal, if types were selected
 module _ (rows : List (TerminalString × TypeRepr)) (t : TerminalString) (o : Option TypeRepr) (xs ys : List ReprData) (chosen : option_map repr_view o ≡ type_of_chosen xs) (are : xs ≡ ys) where
   pub row_added : (u : TerminalString) (ty : TypeRepr) → terminals.is_clone-value.it t u → o ≡ Some ty → rows_seen (rows ++ (u, ty) ∷ []) ≡ rows_seen rows ++ row_for t (type_of_chosen ys)
   row_added u ty copied some =

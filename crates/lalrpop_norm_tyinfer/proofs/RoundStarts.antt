@@ -25,7 +25,7 @@ midway_first ps tt ss stops now next watches waits none = record {
 before_or_behind : (k n : ℕ) → (k < n) ⊎ (n ≤ k)
 before_or_behind k n = grind arith
 
--- no rule waits any more in this round
+-- the worklist is empty in this round
 pub waits_next : (ps : _) (before tt : TypeTable) (ss : List Seen) (stops : Stops) (from : ℕ) (now next : Waiting) → Midway ps before tt ss stops from now next →
     ((k : ℕ) → has now k ≡ false) → Waits ps tt ss next
 waits_next ps before tt ss stops from now next m none = record {
@@ -39,7 +39,7 @@ waits_next ps before tt ss stops from now next m none = record {
 pub fewer_left : (n from place : ℕ) → from ≤ place → place < n → n - (place + 1) < n - from
 fewer_left n from place low lt = omega arith
 
--- ---- a place is added
+-- ---- an index is added
 
 only_place : (other k : ℕ) → In k (other ∷ []) → k ≡ other
 only_place other k here = elim here [ inl e ↦ e | inr none ↦ absurd none ]

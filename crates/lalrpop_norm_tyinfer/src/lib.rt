@@ -1,4 +1,4 @@
-//! The types of plain rules: declared, or inferred from the alternatives.
+//! The types of rules of the expanded grammar: declared, or inferred from the alternatives.
 #![tactic(auto)]
 
 pub mod tyinfer;

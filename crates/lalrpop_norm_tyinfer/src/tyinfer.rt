@@ -1,4 +1,4 @@
-//! Type inference: the type of each rule of an expanded grammar.
+//! Type inference: the type of each rule of an expanded grammar, in the least fixpoint of the typing rules.
 ghost use Rattle.std.specs.Prelude.{◌≡◌, List, IfOk, map};
 ghost use Rattle.lalrpop_norm_tree_names.specs.declared.names.TypeParameter.{TypeParameter};
 ghost use Rattle.lalrpop_norm_tree.specs.Items.{grammar_view};
@@ -34,13 +34,13 @@ use std::alloc::Global;
 use tokens::token_types;
 
 /// The table of the types of a grammar's rules and terminals. A rule has the type that it declares, or else the one that its
-/// alternatives without code give. The names of the rules are distinct, as in what `expand_macros` answers.
+/// alternatives without action code give. The names of the rules are distinct, as in what `expand_macros` answers.
 ///
 /// Errors, of several the first in this order: F47 (`NoAlternatives`) at a rule without a declared type and without alternatives,
-/// or F48 (`OnlyCoded`) at the first alternative of one whose alternatives give no type; F49 (`NotGrounded`) at a rule that has no
-/// type; F50 (`Disagreement`) at an alternative of a rule without a declared type that gives another type than the rule has; F51
-/// (`TupleOverSymbol`), F52 (`TupleOverType`) or F53 (`TupleLength`) at the symbol that a tuple of names stands before: it is no
-/// nonterminal, its type is no tuple, or one of another length; `Memory`.
+/// or F48 (`OnlyCoded`) at the first alternative of one whose alternatives give no type; F49 (`NotGrounded`) at a rule that has
+/// no derivable type; F50 (`Disagreement`) at an alternative of a rule without a declared type that gives another type than the
+/// rule has; F51 (`TupleOverSymbol`), F52 (`TupleOverType`) or F53 (`TupleLength`) at the symbol that a tuple of names is bound
+/// to: it is no nonterminal, its type is no tuple, or one of another length; `Memory`.
 pub fn infer_types(alloc: Global, grammar: &Grammar) -> NormResult<Types>
     requires { IsDistinct (rule_names (grammar_view grammar.now)) }
     ensures refuses { Refuses result (inference_faults (grammar_view grammar.now)) }
@@ -51,7 +51,7 @@ pub fn infer_types(alloc: Global, grammar: &Grammar) -> NormResult<Types>
 }
 
 /// As `infer_types`, and with the table the numbers of the rules' names, by which it was made and the grammar can be lowered
-/// (`lower_numbered`): each rule has its place among the rules as its number, from 0.
+/// (`lower_numbered`): the number of each rule is its index among the rules, from 0.
 ///
 /// Errors: those of `infer_types`.
 pub fn infer_types_numbered(alloc: Global, grammar: &Grammar) -> NormResult<(Types, Names)>
@@ -94,7 +94,7 @@ fn filled_table(alloc: Global, grammar: &Grammar, rules: &[PlainRule]) -> Result
     Ok(types)
 }
 
-/// Refuses what the table shows: rules without a type, then alternatives that disagree, then tuples of names that do not fit.
+/// Rejects what the table shows: rules without a type, then alternatives that disagree, then tuples of names that do not fit.
 fn check_table(alloc: Global, types: &Numbered, rules: &[PlainRule]) -> NormResult<()>
     requires distinct { IsDistinct (names_seen (map rule_seen rules.now)) }
     requires numbered { NumbersRules types.now (map rule_seen rules.now) }

@@ -42,7 +42,7 @@ type_is a e =
     ap (λ ks. bare_or_tuple (map of_symbol ks)) (sym (sources_are a.parts e))
     ∙ ap bare_or_tuple (sym (map_twice of_symbol kind_in_source (sources a.parts)))
 
--- ---- alternatives without code
+-- ---- alternatives without action code
 
 default_case : (a : AlternativeData) → a.action ≡ None → (b : Bool) → some_name_value a.parts ≡ b → default_clause a.parts ≡ alternative_clause a
 default_case a none true e = rw (e, none) refl

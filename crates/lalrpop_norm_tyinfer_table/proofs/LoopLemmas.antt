@@ -1,4 +1,4 @@
--- Loops that refuse by the first fault of a list, and loops that collect.
+-- Loops that reject by the first fault of a list, and loops that collect.
 use Rattle.std.proofs.Common.{◌≡◌, ◌<◌, ◌+◌, ℕ, true, false, Result, Option, Some, None, refl, List, [], ◌∷◌, length, drop, get_or, map, sym, ◌∙◌}
 use Rattle.std.specs.List.{flat_map}
 use Rattle.std.specs.Prelude.{is_none, is_some}

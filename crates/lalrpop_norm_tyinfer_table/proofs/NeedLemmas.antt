@@ -37,7 +37,7 @@ of_mapped_at f [] j y e = absurd (cc e)
 of_mapped_at f (x ∷ xs) zero y e = (x, refl, cc)
 of_mapped_at f (x ∷ xs) (suc j) y e = of_mapped_at f xs j y e
 
--- in a list of distinct things each stands at one place
+-- in a list of distinct things each is at one index
 pub one_place : {X : Type 0} (xs : List X) (x : X) (i j : ℕ) → IsDistinct xs → slice_get xs i ≡ Some x → slice_get xs j ≡ Some x → i ≡ j
 one_place [] x i j d e h = absurd (cc e)
 one_place (y ∷ xs) x zero zero d e h = refl
@@ -53,7 +53,7 @@ mapped_more f xs i x lt is =
     ap (map f) (take_more xs i x lt)
     ∙ (map-append f (take i xs) (get_or xs i x ∷ []) ∙ ap (λ y. map f (take i xs) ++ f y ∷ []) (sym is))
 
--- what is made of some, and then of others, stands behind
+-- what is made of some, and then of others, is behind
 pub added_both : {X Y T E : Type 0} (f : X → Y) (old mid new : List Y) (xs ys : List X) (r : Result T E) → mid ≡ old ++ map f xs → OnOk r (new ≡ mid ++ map f ys) → OnOk r (new ≡ old ++ map f (xs ++ ys))
 added_both f old mid new xs ys (Ok x) one two =
     two ∙ (ap (λ zs. zs ++ map f ys) one ∙ (append_assoc old (map f xs) (map f ys) ∙ ap (λ zs. old ++ zs) (sym (map-append f xs ys))))

@@ -10,7 +10,7 @@ use Rattle.lalrpop_norm_model.proofs.LevelLemmas.{at_in}
 use Rattle.lalrpop_norm_tyinfer_table.proofs.NeedLemmas.{one_place}
 use Rattle.lalrpop_norm_tyinfer_table.specs.Needs.{AreRuleNumbers}
 
--- the first place of a name, counted from i
+-- the first index of a name, counted from i
 abbrev place_from : List ℕ → ℕ → List (List ℕ) → Option ℕ
 place_from n i names = position_from (λ stands. bytes_eq stands n) i names
 
@@ -60,6 +60,6 @@ module _ (number : List ℕ → Option ℕ) (names : List (List ℕ)) (are : Are
   same_number (Some k) None e f = absurd (lacks n names 0 f (at_in names k n (are.right n k e)))
   same_number (Some k) (Some j) e f = ap Some (one_place names n k j distinct (are.right n k e) (stands j f))
 
-  -- a name that stands once has its place as its number
+  -- a name that occurs once has its index as its number
   pub number_is_place : number n ≡ first_place names n
   number_is_place = same_number (number n) (place_from n 0 names) refl refl ∙ sym (position_from-zero (λ stands. bytes_eq stands n) names)

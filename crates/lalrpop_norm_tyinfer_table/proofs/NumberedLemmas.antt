@@ -1,4 +1,4 @@
--- What stands in a table of types by number.
+-- What is in a table of types by number.
 use Rattle.std.proofs.Common.{◌≡◌, ◌+◌, ◌++◌, ◌<◌, inl, inr, ℕ, zero, suc, Bool, true, false, cond, List, [], ◌∷◌, Option, Some, None, length, map, set, slice_get, append_assoc, bytes_eq, if◌then◌else◌, refl, sym, ap, subst, ◌∙◌, arith}
 use Rattle.std.specs.Prelude.{is_some, option_map}
 use Rattle.std.specs.HashMap.{get, keys}
@@ -66,7 +66,7 @@ place_from : (n : List ℕ) (ns : List (List ℕ)) (i k : ℕ) → position_from
 place_from n [] i k here = absurd (cc here)
 place_from n (m ∷ ns) i k here = place_case n m ns i k (λ h. place_from n ns (i + 1) k h) (bytes_eq m n) refl here
 
--- a name with a place among names is one of them
+-- a name with an index among names is one of them
 place_in : (n : List ℕ) (ns : List (List ℕ)) (k : ℕ) → first_place ns n ≡ Some k → In n ns
 place_in n ns k here = place_from n ns 0 k (sym (position_from-zero (λ stands. bytes_eq stands n) ns) ∙ here)
 
@@ -207,7 +207,7 @@ module _ (t : Numbered) (numbers : AreRuleNumbers (number_in_table t.names) (nam
   pub first_is : first_typed n t.rules.items ≡ type_by_name (numbered_table t) n
   first_is = first_case (number_in_table t.names n) refl ∙ sym (name_by_number t n)
 
--- the rules up to here stand in the table
+-- the rules up to here are in the table
 pub record PutsRules (before tt : TypeTable) (rest rules : List (NonterminalString × Option TypeRepr)) : Type 0 where
   pub types : (n : List ℕ) → or_else (type_by_name tt n) (first_typed n rest) ≡ first_typed n rules
   pub fresh : (n : List ℕ) → In n (names_in_rules rest) → type_by_name tt n ≡ None

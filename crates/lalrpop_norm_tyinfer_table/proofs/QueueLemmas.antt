@@ -1,4 +1,4 @@
--- Places that wait in a queue, in rising order.
+-- Indices in the worklist's queue, in rising order.
 use Rattle.std.proofs.Common.{◌≡◌, ◌==◌, ◌||◌, ◌<◌, ◌≤◌, ◌⊎◌, inl, inr, ℕ, suc, Bool, true, false, true≢false, List, [], ◌∷◌, length, drop, get_or, refl, sym, ap, ◌∙◌, subst, add-one, arith, nat_cmp, min}
 use Rattle.std.specs.Prelude.{if◌then◌else◌}
 use Rattle.std.specs.Cmp.{unsigned_tied}
@@ -38,7 +38,7 @@ pub false_where : (b : Bool) → (b ≡ true → ⊥) → b ≡ false
 false_where true never = absurd (never refl)
 false_where false never = refl
 
--- where a place is not there, all stay
+-- where an index is not there, all stay
 pub none_leaves : (has : ℕ → Bool) (p : ℕ) → has p ≡ false → (k : ℕ) → has k ≡ (if p == k then false else has k)
 none_leaves has p none k = elim (eqb_tells p k) [
   | inl w ↦ rw w.0 (ap has (sym w.1) ∙ none)

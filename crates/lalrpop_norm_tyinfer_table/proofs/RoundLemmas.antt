@@ -1,4 +1,4 @@
--- A round in which only the rules that wait are visited is a round.
+-- A round in which only the rules on the worklist are visited is a round.
 use Rattle.std.proofs.Common.{◌≡◌, ◌≤◌, ◌<◌, ◌+◌, ◌-◌, ◌⊎◌, ◌==◌, ◌||◌, inl, inr, ℕ, zero, suc, Bool, true, false, List, [], ◌∷◌, ◌++◌, Option, Some, None, length, map, take, get_or, slice_get, refl, sym, ap, subst, ◌∙◌, arith}
 use Rattle.std.specs.Prelude.{is_some, option_map}
 use Rattle.std.proofs.lemmas.Bool.{both_ways, false_from_ne_true}
@@ -26,7 +26,7 @@ use Rattle.lalrpop_norm_tyinfer_table.proofs.NeededLemmas.{clause_same, clause_l
 use Rattle.lalrpop_norm_model.proofs.LevelLemmas.{at_in}
 use Rattle.lalrpop_norm_tyinfer_table.proofs.VisitLemmas.{taken_kept, taken_none, passes_more}
 
--- ---- places
+-- ---- indices
 
 same_or_not : (i j : ℕ) → (i ≡ j) ⊎ (i ≡ j → ⊥)
 same_or_not i j = elim (eqb_tells i j) [ inl w ↦ inl w.1 | inr w ↦ inr w.1 ]
@@ -144,7 +144,7 @@ quiet_case : (ps : List TypeParameter) (tt : TypeTable) (s : Seen) → IsQuiet p
 quiet_case ps tt s quiet None e = taken_none tt s.0.name.0 (first_in ps tt s.1) e (sym (quiet e))
 quiet_case ps tt s quiet (Some x) e = taken_kept tt s.0.name.0 (first_in ps tt s.1) x (sym e)
 
--- ---- visits up to a place
+-- ---- visits up to an index
 
 take_at : {X : Type 0} (xs : List X) (k : ℕ) (x : X) → slice_get xs k ≡ Some x → take (k + 1) xs ≡ take k xs ++ x ∷ []
 take_at xs k x e = take_more xs k x (slice_get_within xs k x e) ∙ ap (λ y. take k xs ++ y ∷ []) (get_or_from_slice_get xs k x x e)
@@ -174,7 +174,7 @@ skipped_to ps before tt ss from to le p quiet =
     let there : from + (to - from) ≡ to = omega arith in
     subst (λ k. Passes ps before tt (take k ss)) there (skipped ps before tt ss from p (to - from) (λ k s here low high. quiet k s here low (omega arith)))
 
--- ---- places that are added
+-- ---- indices that are added
 
 pub wakes_more : (xs ys : List ℕ) (place : ℕ) (now now_mid now_after next next_mid next_after : Waiting) → Wakes xs place now now_mid next next_mid →
     Wakes ys place now_mid now_after next_mid next_after → Wakes (xs ++ ys) place now now_after next next_after
@@ -193,7 +193,7 @@ wakes_more xs ys place now now_mid now_after next next_mid next_after one two = 
   ];
 }
 
--- ---- the places that are left
+-- ---- the indices that are left
 
 rest_true : (now left : Waiting) (place : ℕ) → TakesLeast now left place → (k : ℕ) → has left k ≡ true → (has now k ≡ true) × (place < k)
 rest_true now left place t k h = elim (eqb_tells place k) [
@@ -213,7 +213,7 @@ rest_false now left place t k lt h = elim (eqb_tells place k) [
 
 -- ---- a round
 
--- the rules before a place are visited, and those that are not quiet wait
+-- the rules before an index are visited, and those that are not quiet are on the worklist
 pub record Midway (ps : List TypeParameter) (before tt : TypeTable) (ss : List Seen) (stops : Stops) (from : ℕ) (now next : Waiting) : Type 0 where
   pub passes : Passes ps before tt (take from ss)
   pub watches : Watches ps tt ss stops
@@ -254,7 +254,7 @@ module _ (ps : List TypeParameter) (before mid after : TypeTable) (ss : List See
   high : from ≤ place
   high = m.ahead place t.there
 
-  -- no rule between the two places is visited
+  -- no rule between the two indices is visited
   before_place : (k : ℕ) (r : Seen) → slice_get ss k ≡ Some r → from ≤ k → k < place → IsQuiet ps mid r
   before_place k r here low lt = m.behind k r here low (false_from_ne_true _ (λ h. let least = t.least k h in absurd (omega arith)))
 
@@ -286,7 +286,7 @@ module _ (ps : List TypeParameter) (before mid after : TypeTable) (ss : List See
         (λ woken. both_ways (has next_after k) out (wakes.before k woken le))
   ]
 
-  -- the rule at the least place is visited
+  -- the rule at the least index is visited
   pub midway_next : Midway ps before after ss stops_after (place + 1) now_after next_after
   midway_next = record {
     passes = passes_here;
@@ -307,7 +307,7 @@ module _ (ps : List TypeParameter) (before mid after : TypeTable) (ss : List See
     ];
   }
 
--- no rule waits any more: those that are left out to the end are quiet
+-- the worklist is empty: those that are left out to the end are quiet
 pub midway_passes : (ps : List TypeParameter) (before tt : TypeTable) (ss : List Seen) (stops : Stops) (from : ℕ) (now next : Waiting) → Midway ps before tt ss stops from now next →
     ((k : ℕ) → has now k ≡ false) → Passes ps before tt ss
 midway_passes ps before tt ss stops from now next m none =
@@ -315,7 +315,7 @@ midway_passes ps before tt ss stops from now next m none =
     subst (λ rs. Passes ps before tt rs) all
     (skipped ps before tt ss from m.passes (length ss) (λ k s here low _. m.behind k s here low (none k)))
 
--- ---- the visit of a rule that waits
+-- ---- the visit of a rule on the worklist
 
 pub steps_still : (ps : List TypeParameter) (before after : TypeTable) (s : Seen) (place : ℕ) (stops : Stops) → TakesType before after s.0.name.0 (first_in ps before s.1) false →
     VisitsOne ps before after s place stops stops []

@@ -1,4 +1,4 @@
--- Places that wait.
+-- The indices on the worklist.
 use Rattle.std.proofs.Common.{◌≡◌, ◌==◌, ◌||◌, inl, inr, ℕ, true, List, [], ◌∷◌, ◌++◌, refl, sym, ◌∙◌}
 use Rattle.std.proofs.lemmas.Bool.Decides.{eqb_tells}
 use Rattle.lalrpop_norm_theory.specs.Rounds.{In}
@@ -9,7 +9,7 @@ use Rattle.lalrpop_norm_tyinfer_table.specs.declared.waiting.Waiting.{Waiting}
 use Rattle.lalrpop_norm_tyinfer_table.specs.Waiting.{has}
 
 module _ (before after : Waiting) (xs : List ℕ) (x : ℕ) (add : (k : ℕ) → has after k ≡ ((x == k) || has before k)) where
-  -- one more place waits
+  -- one more index is on the worklist
   pub added_all : ((k : ℕ) → In k xs → has before k ≡ true) → (k : ℕ) → In k (xs ++ x ∷ []) → has after k ≡ true
   added_all all k h = add k ∙ elim (in_cases k xs (x ∷ []) h) [
     | inl i ↦ or_right (x == k) (has before k) (all k i)

@@ -1,4 +1,4 @@
--- The clauses of a rule, as the code has them.
+-- The typing clauses of a rule, as the code has them.
 use Rattle.std.specs.Prelude.{List, [], ◌∷◌, map, Option, Some, None, option_map}
 use Rattle.std.specs.Prelude.{if◌then◌else◌}
 use Rattle.lalrpop_norm_tree_names.specs.declared.names.TypeParameter.{TypeParameter}
@@ -33,7 +33,7 @@ abbrev pub declared_by : RuleClauses → Option TypeData
 declared_by (Declared t) = Some (type_view t.now)
 declared_by (Alternatives cs) = None
 
--- what an alternative of these symbols without code has for a clause
+-- what an alternative of these symbols without action code has for a clause
 abbrev pub default_clause : Parts → Option model.TypeClause
 default_clause ps = if some_name_value ps then None else Some (model.makes (type_of_sources (group_sources ps)))
 

@@ -1,4 +1,4 @@
--- A type table that the rounds have filled, and its faults.
+-- A type table after the last round, and its faults.
 use Rattle.std.specs.Prelude.{List, ◌++◌, flat_map}
 use Rattle.lalrpop_norm_tree_names.specs.declared.names.TypeParameter.{TypeParameter}
 use Rattle.lalrpop_norm_tree.specs.Items.{RuleData, GrammarData}

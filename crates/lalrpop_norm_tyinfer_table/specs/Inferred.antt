@@ -1,4 +1,4 @@
--- The table of types that a grammar of plain rules has.
+-- The table of types that an expanded grammar has.
 use Rattle.std.specs.Prelude.{◌≡◌, ◌↔◌, Some, codes}
 use Rattle.std.specs.List.Sorted.{IsStrictlySortedBy}
 use Rattle.std.specs.Map.{keys_of}
@@ -12,7 +12,7 @@ use Rattle.lalrpop_norm_repr.specs.Orders.{name_cmp, terminal_cmp}
 use Rattle.lalrpop_norm_repr.specs.Tables.{TypeTable, type_of, listed_type, new_table}
 
 -- The table of types: each name has there the type that it has and no other name is listed; the terminals with a type of their
--- own have it; names and terminals stand in their order, none twice; all else is what needs no inference.
+-- own have it; names and terminals are in their order, none twice; all else is what needs no inference.
 pub record IsInferred (plain : GrammarData) (types : TypeTable) : Type 0 where
   pub names : (n : NonterminalString) (x : ReprData) → (type_of n types ≡ Some x) ↔ Has plain n.0 x
   pub names_in_order : IsStrictlySortedBy name_cmp (keys_of types.nonterminals)

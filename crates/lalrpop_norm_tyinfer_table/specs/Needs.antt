@@ -1,4 +1,4 @@
--- The names whose types a clause is made of, and the numbers that stand for them.
+-- The names whose types a clause is made of, and the numbers that represent them.
 use Rattle.std.specs.Prelude.{◌≡◌, ◌<◌, ◌⊎◌, ℕ, List, [], ◌++◌, map, length, Option, Some, None, slice_get}
 use Rattle.lalrpop_norm_tree_names.specs.declared.names.TypeParameter.{TypeParameter}
 use Rattle.lalrpop_norm_tree.specs.Types.{TypeData, TypesData, MaybeType, tuple, slice, nominal, reference, trait_object}
@@ -48,7 +48,7 @@ needed_in ps locates = []
 abbrev pub names_seen : List Seen → List (List ℕ)
 names_seen ss = map (λ s. s.0.name.0) ss
 
--- a name of a rule has the place of one such rule, and no other name has a number
+-- a name of a rule has the index of one such rule, and no other name has a number
 pub record AreRuleNumbers (number : List ℕ → Option ℕ) (names : List (List ℕ)) : Type 0 where
   pub right : (n : List ℕ) (k : ℕ) → number n ≡ Some k → slice_get names k ≡ Some n
   pub all : (n : List ℕ) → number n ≡ None → In n names → ⊥

@@ -61,7 +61,7 @@ pub record IsNumberOf (t : Numbered) (n : List ℕ) (number : ℕ) : Type 0 wher
   pub alone : (m : List ℕ) → number_in_table t.names m ≡ Some number → m ≡ n
   pub within : number < length t.rules.items
 
--- these rules have their places as numbers, and their names alone may have types
+-- these rules have their indices as numbers, and only their names may have types
 pub record NumbersRules (t : Numbered) (ss : List Seen) : Type 0 where
   pub numbers : AreRuleNumbers (number_in_table t.names) (names_seen ss)
   pub listed : names_numbered t ≡ names_seen ss

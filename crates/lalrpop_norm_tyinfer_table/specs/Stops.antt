@@ -1,4 +1,4 @@
--- Clauses that wait for the type of a name, by numbers alone.
+-- Typing clauses that are blocked until a name has a type, by numbers only.
 use Rattle.std.specs.Prelude.{◌≡◌, ◌<◌, ◌≤◌, ◌⊎◌, ◌==◌, ◌||◌, ◌++◌, ◌∷◌, ℕ, Bool, true, false, List, [], length, Option, Some, None}
 use Rattle.std.specs.Prelude.{slice_get, slice_index_or, option_map, unwrap_or}
 use Rattle.lalrpop_norm_theory.specs.Rounds.{In}
@@ -19,7 +19,7 @@ is_typed w (Some q) = typed_at w q
 abbrev pub stopped_at : Stops → ℕ → List Stop
 stopped_at w q = unwrap_or (option_map (λ v. v.items) (slice_get w.stopped.items q)) []
 
--- all numbers from a place on have types, or all before it
+-- all numbers from an index on have types, or all before it
 abbrev pub AreTypedFrom : Stops → List (Option ℕ) → ℕ → Type 0
 AreTypedFrom w os from = (j : ℕ) (o : Option ℕ) → from ≤ j → slice_get os j ≡ Some o → is_typed w o ≡ true
 
@@ -29,7 +29,7 @@ AreTypedBelow w os to = (j : ℕ) (o : Option ℕ) → j < to → slice_get os j
 abbrev pub AreTyped : Stops → List (Option ℕ) → Type 0
 AreTyped w os = (j : ℕ) (o : Option ℕ) → slice_get os j ≡ Some o → is_typed w o ≡ true
 
--- the first number from a place on that has no type
+-- the first number from an index on that has no type
 pub record IsFirstUntyped (w : Stops) (os : List (Option ℕ)) (from place : ℕ) : Type 0 where
   pub number : Option ℕ
   pub here : slice_get os place ≡ Some number
@@ -37,7 +37,7 @@ pub record IsFirstUntyped (w : Stops) (os : List (Option ℕ)) (from place : ℕ
   pub low : from ≤ place
   pub earlier : (j : ℕ) (o : Option ℕ) → from ≤ j → j < place → slice_get os j ≡ Some o → is_typed w o ≡ true
 
--- the clause stopped at a name that has no type, all before it having one; where that is a rule's, it stands in its list
+-- the clause stopped at a name that has no type, all before it having one; where that is a rule's, it is in its list
 pub record StopsAt (w : Stops) (n : Need) : Type 0 where
   pub place : ℕ
   pub number : Option ℕ
@@ -50,7 +50,7 @@ pub record StopsAt (w : Stops) (n : Need) : Type 0 where
 abbrev pub Settled : Stops → Need → Type 0
 Settled w n = StopsAt w n ⊎ AreTyped w n.numbers.items
 
--- a clause of a rule below the count, of which all numbers are below it too
+-- a clause of a rule below the count, of which all numbers are below the count
 pub record NeedsBelow (count : ℕ) (n : Need) : Type 0 where
   pub rule : n.rule < count
   pub numbers : (q : ℕ) → In (Some q) n.numbers.items → q < count
@@ -59,7 +59,7 @@ pub record IsStops (w : Stops) : Type 0 where
   pub lists : length w.stopped.items ≡ length w.typed.items
   pub fits : (q : ℕ) (e : Stop) → In e (stopped_at w q) → NeedsBelow (length w.typed.items) e.need.now
 
--- one more clause stands in the list of a number, last
+-- one more clause is in the list of a number, as the last
 pub record PutsUnder (w after : Stops) (number : ℕ) (stop : Stop) : Type 0 where
   pub typed : after.typed ≡ w.typed
   pub lists : length after.stopped.items ≡ length w.stopped.items
@@ -74,14 +74,14 @@ pub record TakesOut (w after : Stops) (number : ℕ) (out : List Stop) : Type 0 
   pub here : stopped_at after number ≡ []
   pub others : (q : ℕ) → (number ≡ q → ⊥) → stopped_at after q ≡ stopped_at w q
 
--- a clause stands under its number at a place, if there is one
+-- a clause is under its number at an index, if there is one
 pub record Puts (w after : Stops) (n : Need) (place : ℕ) : Type 0 where
   pub stops : IsStops after
   pub typed : after.typed ≡ w.typed
   pub kept : (q : ℕ) (e : Stop) → In e (stopped_at w q) → In e (stopped_at after q)
   pub listed : (q : ℕ) → slice_get n.numbers.items place ≡ Some (Some q) → (e : Stop) × In e (stopped_at after q) × (e.need.now ≡ n) × (e.next ≡ place)
 
--- a clause is put where its first name from a place on that has no type is, if there is one
+-- a clause is put where its first name from an index on that has no type is, if there is one
 pub record Seeks (w after : Stops) (stop : Stop) (all : Bool) : Type 0 where
   pub stops : IsStops after
   pub typed : after.typed ≡ w.typed

@@ -39,7 +39,7 @@ other_in ps tt n a = fault_if (disagrees_in ps tt n (alternative_clause a)) (Dis
 abbrev pub others_in : List TypeParameter → TypeTable → RuleData → List Fault
 others_in ps tt r = if is_undeclared r then flat_map (other_in ps tt r.name.0) r.alternatives else []
 
--- kinds of faults at one place
+-- kinds of faults at one span
 abbrev pub faults_at : Span → List FaultKind → List Fault
 faults_at s ks = map (λ k. (k, s)) ks
 

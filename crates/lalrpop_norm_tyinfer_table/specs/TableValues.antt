@@ -1,4 +1,4 @@
--- What symbols give and written types mean by a table of types. The grammar comes in by its parameters alone.
+-- What symbols give and written types mean by a table of types. Of the grammar only its parameters are used.
 use Rattle.std.specs.Prelude.{ℕ, List, Option, Some, None, option_map}
 use Rattle.lalrpop_norm_tree_names.specs.declared.names.NonterminalString.{NonterminalString}
 use Rattle.lalrpop_norm_tree_names.specs.declared.names.TypeParameter.{TypeParameter}

@@ -12,7 +12,7 @@ use Rattle.lalrpop_norm_model.specs.TerminalTypes.{row_of}
 abbrev pub rows_seen : List (TerminalString × TypeRepr) → List TerminalRow
 rows_seen rs = map (λ r. (r.0, repr_view r.1)) rs
 
--- a table that lists the error terminal alone
+-- a table that lists only the error terminal
 abbrev pub base_table : GrammarData → TypeTable
 base_table g = new_table g.prefix (declared_location g) (declared_under (codes "Error") g) (token_type g)
 

@@ -18,39 +18,39 @@ use Rattle.lalrpop_norm_tyinfer_table.specs.Stops.{typed_at, Settled, IsStops, G
 use Rattle.lalrpop_norm_tyinfer_table.specs.TableValues.{type_by_name}
 use Rattle.lalrpop_norm_tyinfer_table.specs.Visits.{Seen, TakesType}
 
--- ---- places of rules
+-- ---- the worklist: indices of rules
 
--- the place is in the queue
+-- the index is in the queue
 abbrev pub is_queued : List ℕ → ℕ → Bool
 is_queued ks k = list_any (is_at (nat_cmp k)) ks
 
--- the place is among these
+-- the worklist has the index
 abbrev pub has : Waiting → ℕ → Bool
 has p k = is_queued p.queue.items k || contains nat_cmp p.others k
 
--- the least place
+-- the least index
 pub record IsLeast (waiting : Waiting) (place : ℕ) : Type 0 where
   pub there : has waiting place ≡ true
   pub least : (k : ℕ) → has waiting k ≡ true → place ≤ k
 
--- the least place is taken out
+-- the least index is taken out
 pub record TakesLeast (before after : Waiting) (place : ℕ) : Type 0 where
   pub there : has before place ≡ true
   pub least : (k : ℕ) → has before k ≡ true → place ≤ k
   pub rest : (k : ℕ) → has after k ≡ (if place == k then false else has before k)
 
--- ---- rules that wait for a visit
+-- ---- rules on the worklist
 
 -- the visit of the rule changes nothing: it has a type, or its clauses make none
 abbrev pub IsQuiet : List TypeParameter → TypeTable → Seen → Type 0
 IsQuiet ps tt s = type_by_name tt s.0.name.0 ≡ None → first_in ps tt s.1 ≡ None
 
--- the rules at other places than these are quiet
+-- the rules at other indices than these are quiet
 pub record Waits (ps : List TypeParameter) (tt : TypeTable) (ss : List Seen) (waiting : Waiting) : Type 0 where
   pub quiet : (k : ℕ) (s : Seen) → slice_get ss k ≡ Some s → has waiting k ≡ false → IsQuiet ps tt s
   pub within : (k : ℕ) → has waiting k ≡ true → k < length ss
 
--- Some places are added: those behind the place to the ones of this round, the others to those of the next.
+-- Some indices are added to the worklists: those behind the index to that of this round, the others to that of the next.
 pub record Wakes (places : List ℕ) (place : ℕ) (now now_after next next_after : Waiting) : Type 0 where
   pub kept_now : (k : ℕ) → has now k ≡ true → has now_after k ≡ true
   pub kept_next : (k : ℕ) → has next k ≡ true → has next_after k ≡ true
@@ -72,7 +72,7 @@ pub record Watches (ps : List TypeParameter) (tt : TypeTable) (ss : List Seen) (
   pub settled : (k : ℕ) (s : Seen) (c : TypeClause) → slice_get ss k ≡ Some s → In c s.1 →
       (n : Need) × IsNeedOf number ps c k n × Settled stops n
 
--- The rule at the place is visited. Where it takes a type, the rules of the clauses that have all types now are ready.
+-- The rule at the index is visited. If it takes a type, the rules of the clauses that have all types now are ready.
 pub record VisitsOne (ps : List TypeParameter) (before after : TypeTable) (s : Seen) (place : ℕ) (stops stops_after : Stops)
     (ready : List ℕ) : Type 0 where
   pub added : Bool

@@ -1,4 +1,4 @@
-//! Rules that nothing gives a type.
+//! Rules without a derivable type: the least fixpoint of the typing rules has none for them.
 ghost use Rattle.std.specs.Prelude.{flat_map, map};
 ghost use Rattle.lalrpop_norm_tree.specs.Items.{alternative_view, rule_view};
 ghost use Rattle.lalrpop_norm_faults.specs.Faults.{Refuses, IsFirst};
@@ -16,7 +16,7 @@ use lalrpop_norm_faults::{FaultKind, NormFailure, NormResult, refusal};
 use lalrpop_norm_tree::grammar::parse_tree::{Alternative, NonterminalData};
 use std::alloc::Global;
 
-/// Refuses a rule without a declared type that has no alternative, or none that may give one.
+/// Rejects a rule without a declared type that has no alternative, or none that may give one.
 pub fn check_clauses(alloc: Global, rules: &[PlainRule]) -> NormResult<()>
     ensures { Refuses result (flat_map lacking_seen (map rule_seen rules.now)) }
 {
@@ -63,7 +63,7 @@ fn lack(alloc: Global, rule: &NonterminalData, alternatives: &[Alternative]) -> 
     }
 }
 
-/// Refuses a rule without a type in the table.
+/// Rejects a rule without a derivable type: one without a type in the table.
 pub fn check_typed(alloc: Global, types: &Numbered, rules: &[PlainRule]) -> NormResult<()>
     requires distinct { IsDistinct (names_seen (map rule_seen rules.now)) }
     requires numbered { NumbersRules types.now (map rule_seen rules.now) }

@@ -82,7 +82,7 @@ fn add_mapping(names: &mut Vec<TerminalString>, mapping: &MatchMapping) -> Resul
     }
 }
 
-/// Adds the literals that a match block, or the want of one, lets in.
+/// Adds the literals that a match block, or its absence, lets in.
 fn add_let_in(
     alloc: Global,
     names: &mut Vec<TerminalString>,

@@ -1,4 +1,4 @@
-//! The clauses of rules by the names whose types they are made of.
+//! The typing clauses of rules by the names whose types they are made of.
 ghost use Rattle.std.specs.Prelude.{◌≡◌, ◌++◌, List, IfOk, OnOk, flat_map, map, option_map};
 ghost use Rattle.lalrpop_norm_names.specs.Numbers.{number_in_table};
 ghost use Rattle.lalrpop_norm_tree_names.specs.declared.names.TypeParameter.{TypeParameter};
@@ -193,7 +193,7 @@ fn need_of_type(
 ) -> Result<Need, NoMemory>
     ensures { IfOk result (IsNeedOf (number_in_table names.now) parameters.now (makes (type_view written.now)) rule) }
 {
-    // Most types name no rule: then no memory is taken.
+    // Most types name no rule: then nothing is allocated.
     let mut numbers = Vec::new(alloc);
     add_type(&mut numbers, parameters, names, written)?;
     Ok(Need { rule, numbers })

@@ -24,7 +24,7 @@ pub struct Numbered {
     tokens: Types,
 }
 
-// As that of `Types`: a derived release would be proved anew wherever a value of it ends.
+// As that of `Types`: a derived `Drop` would be proved anew wherever a value of it ends.
 impl Drop for Numbered {
     fn drop(self) {
         let Numbered {

@@ -20,7 +20,7 @@ use lalrpop_norm_tree::grammar::parse_tree::{
 };
 use std::alloc::Global;
 
-/// Refuses a tuple pattern that does not fit the type of its symbol.
+/// Rejects a tuple pattern that does not fit the type of its symbol.
 pub fn check_patterns(alloc: Global, types: &Numbered, rules: &[PlainRule]) -> NormResult<()>
     ensures { Refuses result (flat_map (rule_misfits (type_by_name (numbered_table types.now))) (map plain_rule_view rules.now)) }
 {

@@ -1,4 +1,4 @@
-//! Rules with their clauses.
+//! Rules with their typing clauses: what may give them a type.
 ghost use Rattle.std.specs.Prelude.{◌≡◌, IfOk, map, flat_map};
 ghost use Rattle.lalrpop_norm_tree.specs.Items.{item_view, rule_view};
 ghost use Rattle.lalrpop_norm_model.specs.PlainRules.{rule_of_item};

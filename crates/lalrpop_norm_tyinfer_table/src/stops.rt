@@ -1,4 +1,4 @@
-//! Clauses that wait for the type of a name.
+//! Typing clauses that are blocked until a name has a type.
 ghost use Rattle.std.specs.Prelude.{◌≡◌, ◌<◌, ◌≤◌, ◌==◌, ◌||◌, ℕ, true, false, IfOk, OnOk, length, slice_get, Some, None, MatchOption};
 ghost use Rattle.lalrpop_norm_theory.specs.Rounds.{In};
 ghost use Rattle.lalrpop_norm_tyinfer_table.specs.declared.needs.Need.{Need};
@@ -15,7 +15,7 @@ use std::mem;
 struct Stop<'n> {
     /// The clause.
     need: &'n Need,
-    /// The place of the name among its numbers: all before it have types.
+    /// The index of the name among its numbers: all before it have types.
     next: usize,
 }
 
@@ -48,7 +48,7 @@ impl<'n> Stops<'n> {
         self.typed[number]
     }
 
-    /// The first number from a place on that has no type.
+    /// The first number from an index on that has no type.
     fn first_untyped(&self, numbers: &[Option<usize>], from: usize) -> Option<usize>
         requires { (q : ℕ) → In (Some q) numbers.now → q < length self.now.typed.items }
         ensures { MatchOption result (AreTypedFrom self.now numbers.now from) (IsFirstUntyped self.now numbers.now from) }
@@ -66,7 +66,7 @@ impl<'n> Stops<'n> {
         None
     }
 
-    /// Puts a clause where its first name from a place on that has no type is; whether there is none.
+    /// Puts a clause where its first name from an index on that has no type is; whether there is none.
     fn seek(&mut self, stop: Stop<'n>) -> Result<bool, NoMemory>
         requires stops { IsStops self.old }
         requires fits { NeedsBelow (length self.old.typed.items) stop.need.now }
@@ -81,7 +81,7 @@ impl<'n> Stops<'n> {
         }
     }
 
-    /// Puts a clause into the list of its number at a place, if there is one.
+    /// Puts a clause into the list of its number at an index, if there is one.
     fn put(&mut self, need: &'n Need, place: usize) -> Result<(), NoMemory>
         requires stops { IsStops self.old }
         requires fits { NeedsBelow (length self.old.typed.items) need.now }
@@ -121,7 +121,7 @@ impl<'n> Stops<'n> {
         self.move_on(alloc, &stopped)
     }
 
-    /// Lets clauses go on from where they stopped. The rules of those that have all their types.
+    /// Advances clauses from where they stopped. The rules of those that have all their types.
     fn move_on(&mut self, alloc: Global, stopped: &[Stop<'n>]) -> Result<Vec<usize>, NoMemory>
         requires stops { IsStops self.old }
         requires fits { (e : Stop) → In e stopped.now → NeedsBelow (length self.old.typed.items) e.need.now }

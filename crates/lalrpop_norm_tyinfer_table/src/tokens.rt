@@ -20,7 +20,7 @@ use std::alloc::Global;
 /// A terminal with a type of its own.
 pub type Row = (TerminalString, TypeRepr);
 
-/// The table of the types of tokens, locations and errors, which lists the error terminal alone.
+/// The table of the types of tokens, locations and errors, which lists only the error terminal.
 pub fn base_types(alloc: Global, grammar: &Grammar) -> Result<Types, NoMemory>
     ensures { IfOk result (λ t. type_table t ≡ base_table (grammar_view grammar.now)) }
 {
@@ -89,7 +89,7 @@ fn token_path(alloc: Global) -> Result<NominalTypeRepr, NoMemory>
     Ok(NominalTypeRepr { path, types })
 }
 
-/// The arguments of a type that are `'input` alone.
+/// The arguments of a type that are only `'input`.
 fn input_arguments(alloc: Global) -> Result<Vec<TypeRepr>, NoMemory>
     ensures { IfOk result (λ ts. reprs_view ts.items ≡ repr_and (of_lifetime input_lifetime) no_reprs) }
 {

@@ -1,4 +1,4 @@
-//! What gives rules their types.
+//! What gives rules their types: their typing clauses.
 ghost use Rattle.std.specs.Prelude.{◌≡◌, ◌++◌, IfOk, OnOk, map, option_map, option_to_list, filter_map};
 ghost use Rattle.lalrpop_norm_tree.specs.Items.{alternative_view, rule_view};
 ghost use Rattle.lalrpop_norm_tree.specs.Symbols.{expr_view};
@@ -24,13 +24,14 @@ pub enum RuleClauses<'g> {
 /// What gives an alternative its type.
 #[derive(Debug, Drop)]
 pub enum TypeSource<'g> {
-    /// It gives the values of these symbols, each with its place: one bare, any other number of them as a tuple.
+    /// It gives the values of these symbols, each with its index: one bare, any other number of them as a tuple.
     Sources(Vec<(usize, &'g Symbol)>),
-    /// As a lookaround it gives a location.
+    /// It is a location symbol, and gives a location.
     Location,
 }
 
-/// The clause of an alternative: one without code and names gives the values of its sources, and a lookaround a location.
+/// The clause of an alternative: without action code and names it gives the values of its sources, and location symbols a
+/// location.
 pub fn alternative_clause(
     alloc: Global,
     alternative: &Alternative,
@@ -46,7 +47,7 @@ pub fn alternative_clause(
     }
 }
 
-/// The clause of an alternative of these symbols without code.
+/// The clause of an alternative of these symbols without action code.
 fn default_clause(alloc: Global, expr: &ExprSymbol) -> Result<Option<TypeSource<'_>>, NoMemory>
     ensures { IfOk result (λ o. option_map clause_view o ≡ default_clause (expr_view expr.now)) }
 {

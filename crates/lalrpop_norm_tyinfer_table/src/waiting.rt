@@ -1,4 +1,4 @@
-//! Places of rules that wait for a visit.
+//! The worklist of a round: indices of rules to visit.
 ghost use Rattle.std.specs.Prelude.{◌≡◌, ◌==◌, ◌||◌, ◌++◌, ◌∷◌, [], ℕ, true, false, IfOk, OnOk, MatchOption, if◌then◌else◌};
 ghost use Rattle.std.specs.Bool.{OnTrue, OnFalse};
 ghost use Rattle.std.specs.List.Sorted.{IsStrictlyIncreasing};
@@ -8,8 +8,8 @@ use lalrpop_norm_tree::grammar::parse_tree::NoMemory;
 use std::alloc::Global;
 use std::collections::{BTreeSet, VecDeque};
 
-/// The places of the rules that wait for a visit.
-// At first all places come in rising order: a queue takes less work than a set.
+/// The worklist: the indices of the rules that are to be visited.
+// At first all indices come in rising order: a queue costs less than a set.
 #[derive(Drop)]
 pub struct Waiting {
     /// Those that came in rising order.
@@ -22,7 +22,7 @@ pub struct Waiting {
 impl Waiting {
     ghost use Rattle.lalrpop_norm_tyinfer_table.specs.Waiting.{has, is_queued, IsLeast, TakesLeast};
 
-    /// No place.
+    /// The empty worklist.
     pub fn new(alloc: Global) -> Waiting
         ensures { (k : ℕ) → has result k ≡ false }
     {
@@ -32,7 +32,7 @@ impl Waiting {
         }
     }
 
-    /// These places.
+    /// A worklist of these indices.
     pub fn of(alloc: Global, places: &[usize]) -> Result<Waiting, NoMemory>
         ensures all { IfOk result (λ p. (k : ℕ) → In k places.now → has p k ≡ true) }
         ensures only { IfOk result (λ p. (k : ℕ) → has p k ≡ true → In k places.now) }
@@ -52,7 +52,7 @@ impl Waiting {
         self.least().is_none()
     }
 
-    /// Adds a place.
+    /// Adds an index.
     pub fn add(&mut self, place: usize) -> Result<(), NoMemory>
         ensures { OnOk result ((k : ℕ) → has self.new k ≡ ((place == k) || has self.old k)) }
     {
@@ -64,7 +64,7 @@ impl Waiting {
         Ok(())
     }
 
-    /// Whether the place is greater than each in the queue.
+    /// Whether the index is greater than each in the queue.
     fn is_behind(&self, place: usize) -> bool
         ensures { OnTrue result (IsStrictlyIncreasing (self.now.queue.items ++ place ∷ [])) }
     {
@@ -74,7 +74,7 @@ impl Waiting {
         }
     }
 
-    /// Takes the least place out, if there is one.
+    /// Takes the least index out, if there is one.
     pub fn take_least(&mut self) -> Option<usize>
         ensures { MatchOption result ((k : ℕ) → has self.old k ≡ false) (TakesLeast self.old self.new) }
     {
@@ -86,7 +86,7 @@ impl Waiting {
         least
     }
 
-    /// The least place, if there is one.
+    /// The least index, if there is one.
     fn least(&self) -> Option<usize>
         ensures { MatchOption result ((k : ℕ) → has self.now k ≡ false) (IsLeast self.now) }
     {
@@ -97,7 +97,7 @@ impl Waiting {
         }
     }
 
-    /// Takes the least place out of the queue, if it is there.
+    /// Takes the least index out of the queue, if it is there.
     fn dequeue(&mut self, least: usize)
         requires { IsLeast self.old least }
         ensures queue { (k : ℕ) → is_queued self.new.queue.items k ≡ (if least == k then false else is_queued self.old.queue.items k) }

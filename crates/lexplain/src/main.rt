@@ -1,4 +1,4 @@
-//! Reads a grammar from a file and a tree from standard input, and writes the tree of the other side of the grammar as lines.
+//! Reads a grammar from a file and a tree from standard input, and writes the corresponding tree as lines.
 #![tactic(auto)]
 
 use lalrpop_norm::normalize::NormFailure;
@@ -18,7 +18,7 @@ fn main(rt: HostRuntime) -> ExitCode {
     }
 }
 
-/// The status of the program; an error is one of the streams, of the file or of the words.
+/// The exit status; an error is one of the streams, of the file or of the arguments.
 fn status(rt: &HostRuntime) -> io::Result<u8> {
     let alloc = rt.alloc();
     let words = words_of_call(rt)?;

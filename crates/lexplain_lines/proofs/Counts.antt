@@ -1,4 +1,4 @@
--- How many trees lines make that stand one behind the other: so many as no other lines of a tree begin with.
+-- How many trees lines make that come one behind the other: so many as no other lines of a tree begin with.
 use Rattle.std.proofs.Common.{◌≡◌, ◌≤◌, ◌<◌, ◌+◌, ◌-◌, ℕ, suc, List, [], ◌∷◌, ◌++◌, true, false, nat_lt, cond, Option, Some, None, refl, sym, ap, ◌∙◌, arith}
 use Rattle.std.proofs.lemmas.List.{append_assoc, append-nil}
 use Rattle.serde_json.specs.Data.{Data, number, unsigned, object, no_members, member}
@@ -60,7 +60,7 @@ mutual
 one_lowered : (u : LoweredTree) → trees_behind lowered_taken 0 (lowered_forms u) ≡ Some 1
 one_lowered u = ap (trees_behind lowered_taken 0) (sym (append-nil (lowered_forms u))) ∙ lowered_makes u 0 []
 
--- no tree has a line that takes more trees than stand before it
+-- no tree has a line that takes more trees than are before it
 pub lowered_lacks : (u : LoweredTree) (us : LoweredTrees) (d : Data) (ds : List Data) → lowered_forms u ≡ all_lowered_forms us ++ (d ∷ ds) → lowered_count us < lowered_taken d → ⊥
 lowered_lacks u us d ds e l =
     let some = one_lowered u in

@@ -57,7 +57,7 @@ lowered_node_lines text mid new name p us count n e f =
     ∙ ap (λ (c : ℕ). text ++ (all_lowered_lines (lowered_views us.items) ++ node_line (codes "nonterminal") (codes "production") name.0 p c)) (n ∙ sym (lowered_counted us.items))
     ∙ ap (λ (u : lowered.LoweredTree). text ++ lowered_lines u) (sym (node_seen name p us))
 
--- the same, where the line of the node may find no memory
+-- a tree more, where an allocation may fail for the line of the node
 pub written_node_told : {X E : Type 0} (r : Result X E) (text mid new : List ℕ) (name : NonterminalString) (k : ℕ) (ts : Vec WrittenTree Global) (count : ℕ) →
     count ≡ length ts.items → mid ≡ text ++ all_written_lines (written_views ts.items) →
     OnOk r (new ≡ mid ++ node_line (codes "rule") (codes "alternative") name.0 k count) →

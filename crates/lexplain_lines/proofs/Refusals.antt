@@ -1,4 +1,4 @@
--- What refused lines are not: those of a tree.
+-- What rejected lines are not: those of a tree.
 use Rattle.std.proofs.Common.{◌≡◌, ◌≢◌, ◌<◌, ℕ, List, [], ◌∷◌, Bor, false, length, Some, Result, Ok, Err, IfOk, refl, sym, ap, subst, ◌∙◌, arith}
 use Rattle.std.specs.Str.Iter.{lines_steps}
 use Rattle.std.specs.declared.str.Lines.{Lines}

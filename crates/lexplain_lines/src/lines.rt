@@ -186,7 +186,7 @@ fn push_literal(
     }
 }
 
-/// A text as JSON, with what stands before and behind it.
+/// A text as JSON, with what comes before and behind it.
 fn push_held(
     alloc: Global,
     text: &mut String,

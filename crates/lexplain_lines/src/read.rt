@@ -18,7 +18,7 @@ use std::alloc::{AllocFailed, Global};
 pub enum LinesError {
     /// A line is none of a tree, or the lines make no tree or several.
     NotATree,
-    /// There was no memory for a line or the tree.
+    /// An allocation failed for a line or the tree.
     Memory,
 }
 
@@ -50,12 +50,13 @@ impl From<ReadError> for LinesError {
 
 /// The derivation tree of a lowered grammar whose lines these are.
 ///
-/// Each line is one value of JSON, blanks and the order of keys as JSON has them; of a key that an object repeats the last value counts.
-/// The numbers are places, from 0, and counts of trees; they are written by digits, without point and exponent, and are below 2 ^ 64.
+/// Each line is one value of JSON, blanks and the order of keys as JSON has them; if an object repeats a key, the last value
+/// counts. The numbers are indices, from 0, and counts of trees; they are written by digits, without point and exponent, and are
+/// below 2 ^ 64.
 ///
 /// # Errors
 ///
-/// `NotATree`: these are the lines of no tree. `Memory`: there was no memory for a line or the tree; nothing else is said of it.
+/// `NotATree`: these are the lines of no tree. `Memory`: an allocation failed for a line or the tree; nothing else is said of it.
 pub fn lowered_tree_of_lines(alloc: Global, lines: &str) -> Result<LoweredTree, LinesError>
     ensures ok { IfOk result (λ t. AreLines lines.now (lowered_forms (lowered_view t))) }
     ensures not { IsErrOf result LinesError.NotATree → (u : lowered.LoweredTree) → AreLines lines.now (lowered_forms u) → ⊥ }
@@ -72,7 +73,7 @@ pub fn lowered_tree_of_lines(alloc: Global, lines: &str) -> Result<LoweredTree, 
 ///
 /// # Errors
 ///
-/// `NotATree`: these are the lines of no tree. `Memory`: there was no memory for a line or the tree; nothing else is said of it.
+/// `NotATree`: these are the lines of no tree. `Memory`: an allocation failed for a line or the tree; nothing else is said of it.
 pub fn written_tree_of_lines(alloc: Global, lines: &str) -> Result<WrittenTree, LinesError>
     ensures ok { IfOk result (λ t. AreLines lines.now (written_forms (written_view t))) }
     ensures not { IsErrOf result LinesError.NotATree → (t : written.WrittenTree) → AreLines lines.now (written_forms t) → ⊥ }

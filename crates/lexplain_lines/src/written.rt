@@ -19,7 +19,7 @@ use std::alloc::Global;
 /// What a line says.
 #[derive(Drop)]
 pub(crate) enum WrittenLine {
-    /// A lookaround.
+    /// A location symbol.
     Nothing,
     /// A leaf.
     Leaf(TerminalString),

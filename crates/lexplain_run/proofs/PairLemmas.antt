@@ -1,4 +1,4 @@
--- What the two ways answer pairs with what they are asked for.
+-- What each of the two ways answers is the corresponding tree.
 use Rattle.std.proofs.Common.{◌≡◌, Bool, [], sym, subst}
 use Rattle.lalrpop_norm_tree.specs.Items.{GrammarData}
 use Rattle.lalrpop_norm_theory.specs.Symbols.{Name, reference}

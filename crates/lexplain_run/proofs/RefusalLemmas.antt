@@ -1,4 +1,4 @@
--- Why a tree is refused.
+-- Why a tree is rejected.
 use Rattle.std.proofs.Common.{◌≡◌, List, [], Some, sym, ◌∙◌, ap, subst}
 use Rattle.lalrpop_norm_tree.specs.Items.{GrammarData}
 use Rattle.lalrpop_norm_theory.specs.Meaning.{HasLevels}

@@ -16,20 +16,20 @@ use Rattle.lexplain_lines.specs.LineForms.{AreLines, written_forms, lowered_form
 use Rattle.lexplain_run.specs.declared.words.Way.{Way}
 use Rattle.lexplain_run.specs.declared.words.Way.TheVariants.{Explain, Lower}
 
--- t is a tree of an enabled written rule that is no macro, and pairs with u
+-- t is a tree of an enabled written rule that is no macro, and corresponds to u
 abbrev pub IsPairedIn : Features → GrammarData → WrittenTree → LoweredTree → Type 0
 IsPairedIn fs g t u =
     (n : Name) × In (reference n None) (roots (written_rules fs g)) × Pairs (written_meaning fs g) (written_name fs g) (reference n None) t u
 
--- the text is the lines of the written tree that pairs with this one
+-- the text is the lines of the written tree that corresponds to this one
 abbrev pub ExplainsTree : Features → GrammarData → LoweredTree → List ℕ → Type 0
 ExplainsTree fs g u text = (t : WrittenTree) × IsPairedIn fs g t u × (text ≡ written_lines t)
 
--- the text is the lines of the lowered tree that pairs with this one
+-- the text is the lines of the lowered tree that corresponds to this one
 abbrev pub LowersTree : Features → GrammarData → WrittenTree → List ℕ → Type 0
 LowersTree fs g t text = (u : LoweredTree) × IsPairedIn fs g t u × (text ≡ lowered_lines u)
 
--- the text is the lines of the tree of the other side that pairs with the one whose lines are given, on the side that the way begins at
+-- the text is the lines of the tree corresponding to the one that has these lines, in the grammar at which the way begins
 abbrev pub Translates : Way → Features → GrammarData → List ℕ → List ℕ → Type 0
 Translates Explain fs g lines text = (u : LoweredTree) × AreLines lines (lowered_forms u) × ExplainsTree fs g u text
 Translates Lower fs g lines text = (t : WrittenTree) × AreLines lines (written_forms t) × LowersTree fs g t text

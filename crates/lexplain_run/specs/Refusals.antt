@@ -24,7 +24,7 @@ use Rattle.lexplain_run.specs.declared.words.Way.TheVariants.{Explain, Lower}
 use Rattle.lexplain_run.specs.declared.answer.Stop.TheVariants.{NotAGrammar, NotATree, Failed, Tree}
 
 -- The fault is the first one of the derivation tree, at that path from its root, in a lowered grammar that the grammar has, where
--- trees begin at its enabled rules that are no macros. No written tree pairs with it.
+-- trees begin at its enabled rules that are no macros. No written tree corresponds to it.
 pub record IsRefusedDerivation (s : Settings) (g : GrammarData) (u : LoweredTree) (fault : ExplainFault)
     (path : List ℕ) : Type 0 where
   pub unpaired : (t : WrittenTree) → IsPairedIn s.features g t u → ⊥
@@ -34,7 +34,7 @@ pub record IsRefusedDerivation (s : Settings) (g : GrammarData) (u : LoweredTree
   pub begins_at_rules : AreRoots s.features g begins
   pub first : first_found (explain_faults begins (traced_derivations s.features g s.limit lowered) u) ≡ Some (fault, path)
 
--- likewise of a written tree
+-- The fault is the first one of the written tree, likewise. No derivation tree corresponds to it.
 pub record IsRefusedWritten (s : Settings) (g : GrammarData) (t : WrittenTree) (fault : ExplainFault)
     (path : List ℕ) : Type 0 where
   pub unpaired : (u : LoweredTree) → IsPairedIn s.features g t u → ⊥
@@ -45,8 +45,8 @@ pub record IsRefusedWritten (s : Settings) (g : GrammarData) (t : WrittenTree) (
   pub first : first_found (lower_faults begins (traced_derivations s.features g s.limit lowered) most_steps t)
       ≡ Some (fault, path)
 
--- The stop says a fault of the grammar that may be told, or the fault that the tree is refused for. A want of memory says nothing; that
--- a text is none it never says.
+-- The stop says a fault of the grammar that may be reported, or the fault that the tree is rejected for. A failed allocation says
+-- nothing; that a text is none it never says.
 abbrev pub StopsIn : Settings → GrammarData → (ExplainFault → List ℕ → Type 0) → Stop → Type 0
 StopsIn s g IsRefused NotAGrammar = ⊥
 StopsIn s g IsRefused NotATree = ⊥
@@ -62,18 +62,19 @@ StopsExplaining s g u = StopsIn s g (IsRefusedDerivation s g u)
 abbrev pub StopsLowering : Settings → GrammarData → WrittenTree → Stop → Type 0
 StopsLowering s g t = StopsIn s g (IsRefusedWritten s g t)
 
--- the lines are those of no tree of the side that the way begins at
+-- the lines are those of no tree of the grammar at which the way begins
 abbrev pub AreNoLines : Way → List ℕ → Type 0
 AreNoLines Explain lines = (u : LoweredTree) → AreLines lines (lowered_forms u) → ⊥
 AreNoLines Lower lines = (t : WrittenTree) → AreLines lines (written_forms t) → ⊥
 
--- the tree of that side whose lines these are is refused so
+-- the tree of that grammar whose lines these are is rejected with that fault
 abbrev pub IsRefusedOn : Way → Settings → GrammarData → List ℕ → ExplainFault → List ℕ → Type 0
 IsRefusedOn Explain s g lines fault path = (u : LoweredTree) × AreLines lines (lowered_forms u) × IsRefusedDerivation s g u fault path
 IsRefusedOn Lower s g lines fault path = (t : WrittenTree) × AreLines lines (written_forms t) × IsRefusedWritten s g t fault path
 
--- What a stop says of bytes that are to be the form of a grammar, and of lines: the bytes are the form of none; or they are that of
--- one, and it is the lines that are those of no tree, a fault of the grammar that may be told, or one that their tree is refused for in it.
+-- What a stop says of bytes that are to be the form of a grammar, and of lines: the bytes are the form of none; or they are that
+-- of one, and the stop is that the lines are those of no tree, a fault of the grammar that may be reported, or one of their tree
+-- in it.
 abbrev pub StopsOver : Way → Settings → List ℕ → List ℕ → Stop → Type 0
 StopsOver way s bytes lines NotAGrammar = (g : GrammarData) → IsFormOf g bytes → ⊥
 StopsOver way s bytes lines NotATree = (g : GrammarData) × IsFormOf g bytes × AreNoLines way lines

@@ -1,4 +1,4 @@
--- How a stop is told: the status of the program, and a line.
+-- How a stop is reported: the exit status, and a line.
 use Rattle.std.specs.Prelude.{◌≡◌, ℕ, List, [], ◌∷◌, ◌++◌, ◌⊎◌, codes, decimal, string_bytes}
 use Rattle.lalrpop_norm_faults.specs.declared.failure.NormFailure.TheVariants.{Refused as faulty_grammar, Memory as no_room}
 use Rattle.lalrpop_norm_explain.specs.declared.errors.ExplainFault.{ExplainFault}
@@ -15,12 +15,12 @@ tree_code Production = codes "X2"
 tree_code Child = codes "X3"
 tree_code Shape = codes "X4"
 
--- each place behind a slash
+-- each index behind a slash
 abbrev pub places_text : List ℕ → List ℕ
 places_text [] = []
 places_text (place ∷ path) = codes "/" ++ (decimal place ++ places_text path)
 
--- the child places from the root down to a tree: a slash alone is the root
+-- the indices of children from the root down to a tree: only a slash is the root
 abbrev pub child_path_text : List ℕ → List ℕ
 child_path_text [] = codes "/"
 child_path_text (place ∷ path) = places_text (place ∷ path)
@@ -29,7 +29,7 @@ child_path_text (place ∷ path) = places_text (place ∷ path)
 abbrev pub tree_fault_line : ExplainFault → List ℕ → List ℕ
 tree_fault_line fault path = tree_code fault ++ (codes " " ++ (child_path_text path ++ codes "\n"))
 
--- 1 the grammar or the tree has a fault; 2 one of the two texts is none; 3 there was no memory
+-- 1 the grammar or the tree has a fault; 2 one of the two texts is none; 3 an allocation failed
 abbrev pub stop_status : Stop → ℕ
 stop_status (Failed (faulty_grammar e)) = 1
 stop_status (Tree (faulty_tree fault path)) = 1
@@ -46,6 +46,6 @@ stop_line NotATree = codes "lexplain: the lines are no tree\n"
 stop_line (Failed no_room) = codes "lexplain: out of memory\n"
 stop_line (Tree no_memory) = codes "lexplain: out of memory\n"
 
--- the stop is told by its status and its line; or, without memory for the line, by status 3 and none
+-- the stop is reported by its exit status and its line; or, if an allocation fails for the line, by exit status 3 and no line
 abbrev pub IsToldBy : Stop → ℕ → List ℕ → Type 0
 IsToldBy stop status line = ((status ≡ stop_status stop) × (line ≡ stop_line stop)) ⊎ ((status ≡ 3) × (line ≡ []))

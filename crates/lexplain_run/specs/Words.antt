@@ -1,4 +1,4 @@
--- What the words of a call ask for.
+-- What the arguments ask for.
 use Rattle.std.specs.Prelude.{◌≡◌, ℕ, List, ◌∷◌, Some, false, codes}
 use Rattle.lalrpop_norm_session.specs.Sessions.{features_view}
 use Rattle.lalrpop_norm_model.specs.Features.{Features}
@@ -7,7 +7,7 @@ use Rattle.lexplain_run.specs.declared.words.Way.{Way}
 use Rattle.lexplain_run.specs.declared.words.Way.TheVariants.{Explain, Lower}
 use Rattle.lexplain_run.specs.declared.words.Asked.{Asked}
 
--- the word of a way
+-- the argument that names a way
 abbrev pub word_of : Way → List ℕ
 word_of Explain = codes "explain"
 word_of Lower = codes "lower"
@@ -19,7 +19,7 @@ settings_with fs limit = record { limit = limit; features = fs; origins = false 
 abbrev pub settings_asked : Asked → Settings
 settings_asked a = settings_with (features_view a.session.features) a.session.macro_recursion_limit
 
--- the words are the word of the way, the name of the file, and options that ask for these settings
+-- the arguments are the name of the way, the name of the file, and options that ask for these settings
 pub record AsksForWay (words : List (List ℕ)) (way : Way) (file : List ℕ) (s : Settings) : Type 0 where
   pub options : List (List ℕ)
   pub words_are : words ≡ word_of way ∷ (file ∷ options)

@@ -33,7 +33,7 @@ pub enum Stop {
     NotAGrammar,
     /// The lines are no tree.
     NotATree,
-    /// The grammar has a fault, or there was no memory.
+    /// The grammar has a fault, or an allocation failed.
     Failed(NormFailure),
     /// The tree has a fault.
     Tree(ExplainError),
@@ -72,7 +72,7 @@ impl From<ExplainError> for Stop {
 
 /// The lines that are asked for, of the tree that `lines` make, in the grammar whose JSON the first text is.
 ///
-/// Errors: `NotAGrammar` where it is that of none; `NotATree`; else those of [`explained`] or [`lowered`]; want of memory.
+/// Errors: `NotAGrammar` where it is that of none; `NotATree`; else those of [`explained`] or [`lowered`]; a failed allocation.
 pub fn answer(alloc: Global, asked: &Asked, grammar: &str, lines: &str) -> Result<String, Stop>
     // The text is right for the grammar whose form the first text is, and the tree whose lines the second one is.
     ensures ok { IfOk result (λ text. IsTranslationOver asked.now.way (features_view asked.now.session.features) grammar.now lines.now (string_bytes text)) }
@@ -116,10 +116,10 @@ fn read<T: Drop>(tree: Result<T, LinesError>) -> Result<T, Stop>
     }
 }
 
-/// The lines of the written tree that a derivation tree of the lowered grammar stands for.
+/// The lines of the written tree that corresponds to a derivation tree of the lowered grammar.
 ///
 /// Errors: `Failed` with the first fault of the grammar, or F42 at a pattern without a reading by `regex`; `Tree` with the first
-/// fault of the tree, where no written tree pairs with it; want of memory.
+/// fault of the tree, if no written tree corresponds to it; a failed allocation.
 pub fn explained(
     alloc: Global,
     session: &Session<CheckOnly>,
@@ -134,9 +134,9 @@ pub fn explained(
     Ok(written_lines(alloc, &written)?)
 }
 
-/// The lines of the derivation tree of the lowered grammar that a written tree stands for.
+/// The lines of the derivation tree of the lowered grammar that corresponds to a written tree.
 ///
-/// Errors: those of [`explained`], `Tree` where no derivation tree pairs with the written one.
+/// Errors: those of [`explained`], `Tree` if no derivation tree corresponds to the written one.
 pub fn lowered(
     alloc: Global,
     session: &Session<CheckOnly>,
@@ -151,7 +151,7 @@ pub fn lowered(
     Ok(lowered_lines(alloc, &derivation)?)
 }
 
-/// The line for a fault of a tree: its number, and the child places from the root to it.
+/// The line for a fault of a tree: its number, and the indices of children from the root to it.
 pub fn push_fault(text: &mut String, fault: ExplainFault, path: &[usize]) -> Result<(), AllocError>
     ensures { OnOk result (string_bytes text.new ≡ string_bytes text.old ++ tree_fault_line fault path.now) }
 {
@@ -172,7 +172,7 @@ fn code_of(fault: ExplainFault) -> &'static str
     }
 }
 
-/// The child places, or a slash for the root.
+/// The indices of children, or a slash for the root.
 fn push_path(text: &mut String, path: &[usize]) -> Result<(), AllocError>
     ensures { OnOk result (string_bytes text.new ≡ string_bytes text.old ++ child_path_text path.now) }
 {
@@ -193,7 +193,7 @@ fn push_places(text: &mut String, path: &[usize]) -> Result<(), AllocError>
     Ok(())
 }
 
-/// What a stop is told by: the status of the program, and a line. Where there is no memory for the line, by status 3 and none.
+/// How a stop is reported: the exit status, and a line. If an allocation fails for the line, by exit status 3 and no line.
 pub fn told(alloc: Global, stop: Stop) -> (u8, String)
     ensures { IsToldBy stop result.0 (string_bytes result.1) }
 {

@@ -1,4 +1,4 @@
-//! The engine of the program `lexplain`: trees in lines of JSON, and what they are on the other side of a grammar.
+//! The engine of the program `lexplain`: trees in lines of JSON, and the corresponding trees of a grammar.
 #![tactic(auto)]
 
 pub mod answer;

@@ -1,4 +1,4 @@
-//! What the words of a call ask for.
+//! What the arguments ask for.
 ghost use Rattle.std.specs.Prelude.{◌≡◌, map, string_bytes, IfOk, IsErrOf, MatchOption};
 ghost use Rattle.lnorm_run.specs.declared.words.WordsError.TheVariants.{Usage};
 ghost use Rattle.lexplain_run.specs.declared.words.Way.{Way};
@@ -18,7 +18,7 @@ pub enum Way {
     Lower,
 }
 
-/// What the words of a call ask for.
+/// What the arguments ask for.
 #[derive(Drop)]
 pub struct Asked {
     /// Which way.
@@ -27,8 +27,8 @@ pub struct Asked {
     pub session: Session<CheckOnly>,
 }
 
-/// The name of the grammar's file, and what is asked for: the words are `explain` or `lower`, the name, and options of `lnorm` but
-/// `--origins`. Errors: `Usage` where they are no such words, and only there; `Memory`.
+/// The name of the grammar's file, and what is asked for: the arguments are `explain` or `lower`, the name, and options of
+/// `lnorm` but `--origins`. Errors: `Usage` where they are no such arguments, and only there; `Memory`.
 pub fn asked_for(alloc: Global, words: &[String]) -> Result<(&str, Asked), WordsError>
     ensures ok { IfOk result (λ r. AsksForWay (map string_bytes words.now) r.1.way r.0.now (settings_asked r.1)) }
     ensures usage { IsErrOf result Usage → AsksForNoWay (map string_bytes words.now) }
@@ -51,7 +51,7 @@ pub fn asked_for(alloc: Global, words: &[String]) -> Result<(&str, Asked), Words
     }
 }
 
-/// The way whose word this is.
+/// The way that this argument names.
 fn way_of(word: &str) -> Option<Way>
     ensures { MatchOption result ((way : Way) → word_of way ≡ word.now → ⊥) (λ way. word.now ≡ word_of way) }
 {

@@ -32,14 +32,14 @@ fn status(rt: &HostRuntime) -> u8
     }
 }
 
-/// The words of the call, once large blocks are kept.
+/// The arguments, once large blocks are kept.
 fn prepared(rt: &HostRuntime) -> io::Result<Vec<String>> {
     keep_large_blocks(rt.alloc())?;
     words_of_call(rt)
 }
 
-/// Takes a block of 31 MiB and lets it go, untouched. The C library's `malloc` hands a large block that is let go back to the system,
-/// and takes new pages for the next one; by this it keeps those up to the size of this one, and uses them again.
+/// Takes a block of 31 MiB and drops it, untouched. The C library's `malloc` hands a large block that is freed back to the
+/// system, and takes new pages for the next one; by this it keeps those up to the size of this one, and uses them again.
 fn keep_large_blocks(alloc: Global) -> Result<(), AllocError> {
     let _block: Vec<u8> = Vec::with_capacity(alloc, 31 << 20)?;
     Ok(())

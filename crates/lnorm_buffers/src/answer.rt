@@ -10,18 +10,18 @@ use std::alloc::Global;
 #[repr(C)]
 #[derive(Clone, Copy)]
 pub struct LnormAnswer {
-    /// The status: 0 to 3.
+    /// The exit status: 0 to 3.
     pub status: u8,
-    /// How many bytes the whole output has. Where that is more than the buffer takes, the output in it is cut.
+    /// How many bytes the whole output has. If that is more than the buffer takes, the output in it is cut.
     pub output_size: usize,
-    /// The same of the line of faults.
+    /// How many bytes the whole line of faults has. If that is more than the buffer takes, the line in it is cut.
     pub faults_size: usize,
 }
 
 /// What an engine came to, before it is put into buffers.
 #[derive(Drop)]
 pub struct Ended {
-    /// The status of the program: 3 and more where there was no memory.
+    /// The exit status of the program: 3 and more where an allocation failed.
     pub status: u8,
     /// What goes to standard output.
     pub output: Vec<u8>,
@@ -29,7 +29,7 @@ pub struct Ended {
     pub faults: Vec<u8>,
 }
 
-/// What an engine comes to that has no memory: nothing is taken for it.
+/// What an engine comes to if an allocation fails: nothing is allocated for it.
 pub fn without_memory(alloc: Global) -> Ended
     ensures status { result.status ≡ 3 }
     ensures quiet { (result.output.items ≡ []) × (result.faults.items ≡ []) }
@@ -41,7 +41,7 @@ pub fn without_memory(alloc: Global) -> Ended
     }
 }
 
-/// The answer for what an engine came to. That there was no memory is told by a line that takes none.
+/// The answer for what an engine came to. A failed allocation is reported by a line that needs no allocation.
 pub fn told(ended: &Ended, output: &mut [u8], faults: &mut [u8]) -> LnormAnswer
     ensures ended { ended.now.status < 3 → (result.status ≡ ended.now.status)
         × Takes output.old output.new ended.now.output.items result.output_size

@@ -1,4 +1,4 @@
-//! What a call from C answers: a status, and texts whose fronts stand in the buffers of the caller.
+//! What a call from C answers: an exit status, and texts whose fronts are in the buffers of the caller.
 #![tactic(auto)]
 
 pub mod answer;

@@ -9,11 +9,11 @@ use Rattle.lnorm_run.specs.Settings.{settings_of}
 use Rattle.lnorm_c.specs.Words.{AreWords}
 use Rattle.lnorm_c.specs.Calls.{AsksForNothing, IsNoTreeFor, IsFront}
 
--- where a fault is told, the run ended with it
+-- where a fault is reported, the run ended with it
 pub told_one : (n m : ℕ) → (n < 3 → m ≡ n) → (3 ≤ n → m ≡ 3) → m ≡ 1 → n ≡ 1
 told_one n m kept memory one = grind (arith, common_steps)
 
--- a text is no other words
+-- a text is no other arguments
 asks_for_nothing : (text : List ℕ) (ws : List (List ℕ)) → AreWords text ws → settings_of ws ≡ None → AsksForNothing text
 asks_for_nothing text ws are none = λ s asks.
     let same : asks.list ≡ ws = append_cancel_right asks.list ws ([] ∷ []) (sym asks.stand.parts ∙ are.parts) in
@@ -32,7 +32,7 @@ is_no_tree text input ws after are n = record {
   no_tree = λ t. n.no_tree (subst IsTree (sym (whole_input input n.bytes after n.takes.whole)) t);
 }
 
--- what refused words and input that is no tree say of the bytes
+-- what rejected arguments and input that is no tree say of the bytes
 pub refused_for : (text input line : List ℕ) (ws : List (List ℕ)) → AreWords text ws →
     (settings_of ws ≡ None) × IsFront line usage_line ⊎ (after : Option (List ℕ)) × IsNoTree ws (Some input) after × IsFront line no_tree_line →
     AsksForNothing text × IsFront line usage_line ⊎ IsNoTreeFor text input × IsFront line no_tree_line

@@ -1,4 +1,4 @@
--- The words of a text: one more, and the end.
+-- The arguments of a text: one more, and the end.
 use Rattle.std.proofs.Common.{◌≡◌, refl, sym, ap, ◌∙◌, ℕ, List, [], ◌∷◌, ◌++◌, ◌==◌, ◌<◌, length, map, String, Global, string_bytes, arith}
 use Rattle.std.proofs.lemmas.Grind.{common_steps}
 use Rattle.std.specs.List.{slice_split, position_or_len, before_first, after_first}
@@ -29,7 +29,7 @@ word_more ws vs w rest word behind l before after is more =
     ∙ pushed ws w (slice_split (λ b. b == 0) behind)
     ∙ ap (λ x. map string_bytes x ++ slice_split (λ b. b == 0) behind) (sym more)
 
--- what stands behind the last zero byte
+-- what is behind the last zero byte
 part_left : (rest : List ℕ) → position_or_len (λ b. b == 0) rest ≡ length rest → slice_split (λ b. b == 0) rest ≡ rest ∷ []
 part_left rest e = slice_split_none (λ b. b == 0) rest (λ k d l. fails_before_first (λ b. b == 0) rest k d (grind (arith, common_steps)))
 
@@ -41,7 +41,7 @@ last_is : (xs : List (List ℕ)) (d x : List ℕ) → last_from d (xs ++ x ∷ [
 last_is [] d x = refl
 last_is (y ∷ ys) d x = last_is ys y x
 
--- the text is no words where something is left
+-- the text is no arguments where something is left
 pub nothing_left : (ws words : List (List ℕ)) (text rest : List ℕ) → slice_split (λ b. b == 0) text ≡ ws ++ slice_split (λ b. b == 0) rest →
     position_or_len (λ b. b == 0) rest ≡ length rest → AreWords text words → rest ≡ []
 nothing_left ws words text rest e none are =

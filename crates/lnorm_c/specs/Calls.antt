@@ -1,4 +1,4 @@
--- What a call asks for, and what its answers say of the bytes that it was given.
+-- What a call asks for, and what its answers say of the bytes that are its arguments.
 use Rattle.std.specs.Prelude.{◌≡◌, ◌≤◌, ℕ, List, Some, length, take}
 use Rattle.lalrpop_norm_tree_names.specs.declared.names.Span.{Span}
 use Rattle.lalrpop_norm_faults.specs.declared.kind.FaultKind.{FaultKind}
@@ -11,7 +11,7 @@ use Rattle.lexplain_lines.specs.LineForms.{AreLines, lowered_forms}
 use Rattle.lexplain_run.specs.Answers.{ExplainsTree}
 use Rattle.lnorm_c.specs.Words.{AreWords}
 
--- the words in the text ask for these settings
+-- the arguments in the text ask for these settings
 pub record AsksFor (words : List ℕ) (s : Settings) : Type 0 where
   pub list : List (List ℕ)
   pub stand : AreWords words list
@@ -25,19 +25,19 @@ AsksForFeatures words fs = (s : Settings) × AsksFor words s × (s.features ≡ 
 abbrev pub AsksForNothing : List ℕ → Type 0
 AsksForNothing words = (s : Settings) → AsksFor words s → ⊥
 
--- the text is right for the words and the input
+-- the text is right for the arguments and the input
 pub record IsRightFor (words input text : List ℕ) : Type 0 where
   pub settings : Settings
   pub asked : AsksFor words settings
   pub right : IsAnswer settings input text
 
--- the fault at that place may be told of the tree that the input is
+-- the fault with that span may be reported of the tree that the input is
 pub record IsRefusedFor (words input : List ℕ) (fault : FaultKind) (span : Span) : Type 0 where
   pub settings : Settings
   pub asked : AsksFor words settings
   pub stands : IsFirstFault settings input fault span
 
--- the words ask for settings, and the input is no tree
+-- the arguments ask for settings, and the input is no tree
 pub record IsNoTreeFor (words input : List ℕ) : Type 0 where
   pub settings : Settings
   pub asked : AsksFor words settings
@@ -47,8 +47,8 @@ pub record IsNoTreeFor (words input : List ℕ) : Type 0 where
 abbrev pub IsFront : List ℕ → List ℕ → Type 0
 IsFront front text = (n : ℕ) × (n ≤ length text) × (front ≡ take n text)
 
--- the text is the lines of the written tree that pairs with the derivation tree whose lines these are, in the grammar whose form
--- the input is
+-- the text is the lines of the written tree that corresponds to the derivation tree whose lines these are, in the grammar whose
+-- form the input is
 pub record IsExplainedFor (words grammar lines text : List ℕ) : Type 0 where
   pub features : Features
   pub asked : AsksForFeatures words features

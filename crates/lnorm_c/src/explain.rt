@@ -23,12 +23,14 @@ use lnorm_buffers::answer::{Ended, LnormAnswer, told, without_memory};
 use lnorm_run::words::{WordsError, asked_by};
 use std::alloc::Global;
 
-/// What `lexplain explain` does, over bytes: from a derivation tree of a lowered grammar to the tree of the grammar as it was written.
-/// `words` are options of `lnorm` but `--origins`, in one text, each ended by a zero byte; `grammar` is a tree in JSON, and `lines`
-/// the derivation tree in lines of JSON. The lines of the other tree are put into `output`.
+/// What `lexplain explain` does, over bytes: from a derivation tree of a lowered grammar to the tree of the grammar as it was
+/// written.
+/// `words` are options of `lnorm` but `--origins`, in one text, each ended by a zero byte; `grammar` is a tree in JSON, and
+/// `lines` the derivation tree in lines of JSON. The lines of the other tree are put into `output`.
 ///
-/// The status: 0 the output is the lines; 1 the grammar or the tree has a fault; 2 the words are no options, the grammar is no tree of
-/// a grammar, or the lines are no tree; 3 there was no memory. With each but 0 there is no output, and `faults` has a line that says why.
+/// The exit status: 0 the output is the lines; 1 the grammar or the tree has a fault; 2 the arguments are no options, the grammar
+/// is no tree of a grammar, or the lines are no tree; 3 an allocation failed. With each but 0 there is no output, and `faults`
+/// has a line that says why.
 ///
 /// Of each of the two texts the front is put into its buffer, as much as it takes; the answer has the size of the whole.
 #[unsafe(no_mangle)]
@@ -40,7 +42,7 @@ pub extern "C" fn lnorm_explain(
     output: &mut [u8],
     faults: &mut [u8],
 ) -> LnormAnswer
-    // The output is the lines of the tree that pairs with the one that was given, cut where the buffer ends.
+    // The output is the lines of the tree corresponding to the argument, cut where the buffer ends.
     ensures done { result.status ≡ 0 → (text : List ℕ)
         × IsExplainedFor words.now grammar.now lines.now text
         × Takes output.old output.new text result.output_size
@@ -73,7 +75,7 @@ fn explain_ended(alloc: Global, words: &[u8], grammar: &[u8], lines: &[u8]) -> E
     }
 }
 
-/// The session that the words in a text ask for. Errors: `Usage` where they ask for none, or for origins; `Memory`.
+/// The session that the arguments in a text ask for. Errors: `Usage` where they ask for none, or for origins; `Memory`.
 fn session_in(alloc: Global, words: &[u8]) -> Result<Session<CheckOnly>, WordsError>
     ensures { IfOk result (λ session. AsksForFeatures words.now (features_view session.features)) }
 {
@@ -143,7 +145,7 @@ fn stopped(alloc: Global, stop: Stop) -> Ended
     }
 }
 
-/// What a call comes to whose words ask for nothing.
+/// What a call comes to whose arguments ask for nothing.
 fn refused_words(alloc: Global) -> Ended
     ensures status { 0 < result.status }
     ensures quiet { result.output.items ≡ [] }

@@ -1,4 +1,4 @@
-//! The engines of the programs for callers of C and of Rust: the words of a call, an input and buffers go in as bytes.
+//! The engines of the programs for callers of C and of Rust: the arguments, an input and buffers go in as bytes.
 #![tactic(auto)]
 
 pub mod explain;

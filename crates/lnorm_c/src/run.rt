@@ -18,11 +18,11 @@ use lnorm_run::words::WordsError;
 use lnorm_streams::halt::{Halt, report};
 use std::alloc::Global;
 
-/// What the program `lnorm` does, over bytes: from a tree in JSON to the lines of its lowered grammar, in `output`. `words` are those of
-/// the program, in one text, each ended by a zero byte; `input` is the tree.
+/// What the program `lnorm` does, over bytes: from a tree in JSON to the lines of its lowered grammar, in `output`. `words` are
+/// the arguments of the program, in one text, each ended by a zero byte; `input` is the tree.
 ///
-/// The status: 0 the output is the lines; 1 the tree has a fault; 2 the words are no options, or the input is no tree; 3 there was no
-/// memory. With each but 0 there is no output, and the line of that status is in `faults`.
+/// The exit status: 0 the output is the lines; 1 the tree has a fault; 2 the arguments are no options, or the input is no tree; 3
+/// an allocation failed. With each but 0 there is no output, and the line of that exit status is in `faults`.
 ///
 /// Of each of the two texts the front is put into its buffer, as much as it takes; the answer has the size of the whole.
 #[unsafe(no_mangle)]
@@ -38,12 +38,12 @@ pub extern "C" fn lnorm_run(
         × IsRightFor words.now input.now text
         × Takes output.old output.new text result.output_size
         × Takes faults.old faults.new [] result.faults_size }
-    // Refused: that is the first fault of the tree that the input is.
+    // Rejected: that is the first fault of the tree that the input is.
     ensures fault { result.status ≡ 1 → (fault : FaultKind) × (span : Span) × (message : List ℕ) × (line : List ℕ)
         × IsRefusedFor words.now input.now fault span
         × IsFront line (fault_line fault span message)
         × Takes faults.old faults.new line result.faults_size }
-    // The words are refused, or the input is no tree.
+    // The arguments are rejected, or the input is no tree.
     ensures refused { result.status ≡ 2 → (line : List ℕ)
         × ((AsksForNothing words.now × IsFront line usage_line)
         ⊎ (IsNoTreeFor words.now input.now × IsFront line no_tree_line))
@@ -56,7 +56,7 @@ pub extern "C" fn lnorm_run(
     told(&ended, output, faults)
 }
 
-/// What the engine comes to for the words in a text.
+/// What the engine comes to for the arguments in a text.
 fn ended(alloc: Global, words: &[u8], input: &[u8]) -> Ended
     ensures done { result.status ≡ 0 → IsRightFor words.now input.now result.output.items
         × (result.faults.items ≡ []) }
@@ -75,7 +75,7 @@ fn ended(alloc: Global, words: &[u8], input: &[u8]) -> Ended
     }
 }
 
-/// The same for words.
+/// What the engine comes to for arguments.
 fn ended_with(alloc: Global, words: &[String], input: &[u8]) -> Ended
     ensures done { result.status ≡ 0 → (after : Option (List ℕ))
         × IsRight (map string_bytes words.now) (Some input.now) after result.output.items
@@ -104,7 +104,7 @@ fn ended_with(alloc: Global, words: &[String], input: &[u8]) -> Ended
     }
 }
 
-/// What a run comes to that has no words.
+/// What a run comes to that has no arguments.
 fn halted(alloc: Global, halt: Halt) -> Ended
     ensures status { result.status < 3 → result.status ≡ status_of halt }
     ensures line { result.status < 3 → LineOf halt (Some []) (Some result.faults.items) }

@@ -13,8 +13,8 @@ pub extern "C" fn lnorm_form_version() -> u32
     1
 }
 
-/// The toolchain that the library was proved and built with, as `rt version` names it. The front of that line, without a line feed, is
-/// put into the buffer, as much as it takes; the answer is the size of the whole in bytes.
+/// The toolchain that the library was proved and built with, as `rt version` names it. The front of that line, without a line
+/// feed, is put into the buffer, as much as it takes; the answer is the size of the whole in bytes.
 #[unsafe(no_mangle)]
 pub extern "C" fn lnorm_toolchain(line: &mut [u8]) -> usize
     ensures { Takes line.old line.new toolchain_line result }

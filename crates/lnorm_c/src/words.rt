@@ -1,4 +1,4 @@
-//! The words of a call, from one text.
+//! The arguments of a call, from one text.
 ghost use Rattle.std.specs.Prelude.{◌≡◌, List, ℕ, map, string_bytes, IfOk, IsErrOf};
 ghost use Rattle.lnorm_c.specs.Words.{AreWords};
 ghost use Rattle.lnorm_run.specs.declared.words.WordsError.TheVariants.{Usage};
@@ -6,7 +6,7 @@ ghost use Rattle.lnorm_run.specs.declared.words.WordsError.TheVariants.{Usage};
 use lnorm_run::words::WordsError;
 use std::alloc::Global;
 
-/// The words that stand in the text, each ended by a zero byte. Errors: `Usage` where it is no UTF-8 or the last word is not ended, and
+/// The arguments in the text, each ended by a zero byte. Errors: `Usage` where it is not UTF-8 or the last one is not ended, and
 /// only there; `Memory`.
 pub(crate) fn words_in(alloc: Global, text: &[u8]) -> Result<Vec<String>, WordsError>
     ensures ok { IfOk result (λ words. AreWords text.now (map string_bytes words.items)) }
@@ -18,7 +18,7 @@ pub(crate) fn words_in(alloc: Global, text: &[u8]) -> Result<Vec<String>, WordsE
     }
 }
 
-/// The same of a text in UTF-8.
+/// The arguments in a text in UTF-8.
 fn words_of(alloc: Global, text: &str) -> Result<Vec<String>, WordsError>
     ensures ok { IfOk result (λ words. AreWords text.now (map string_bytes words.items)) }
     ensures usage { IsErrOf result Usage → (words : List (List ℕ)) → AreWords text.now words → ⊥ }

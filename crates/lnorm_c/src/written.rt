@@ -2,7 +2,7 @@
 use std::alloc::Global;
 use std::io::{self, Write};
 
-/// A text that is written, with whether there was no memory for a part of it.
+/// A text that is written, with whether an allocation failed for a part of it.
 #[derive(Drop)]
 pub(crate) struct Written {
     /// What was written.

@@ -1,4 +1,4 @@
--- The relations of a lexer that are lists handed to it.
+-- The relations of a lexer, which are the lists that it is built from.
 use Rattle.std.specs.Prelude.{◌≡◌}
 use Rattle.std.specs.List.{Any, Contains}
 use Rattle.lalrpop_norm_tree_names.specs.declared.names.TerminalLiteral.{TerminalLiteral}

@@ -17,8 +17,9 @@ pub use lnorm_texts::text::Text;
 use lnorm_texts::values::push_values;
 use std::alloc::Global;
 
-/// Writes the answer to a call, with its words, on the tree that the bytes are; `beside` is what the file holds that is named beside it,
-/// if one is. A call that has no memory is answered `memory`; the text lacks an answer only where there was no memory for the text.
+/// Writes the answer to a call, with its arguments, on the tree that the bytes are; `beside` is what the file holds that is named
+/// beside it, if one is. A call that runs out of memory is answered `memory`; the text lacks an answer only if an allocation
+/// failed for the text.
 pub fn push_answer(
     alloc: Global,
     text: &mut Text,
@@ -58,7 +59,7 @@ fn push_called(
     }
 }
 
-/// What the passes come to, in the form of the first word, if that names one.
+/// What the passes come to, in the form of the first argument, if that names one.
 fn push_passes(
     alloc: Global,
     text: &mut Text,
@@ -76,7 +77,7 @@ fn push_passes(
     push_passed(alloc, text, &call, words, bytes);
 }
 
-/// The form that the first word names, and the other words; lines and all words, if it names none.
+/// The form that the first argument names, and the other arguments; lines and all arguments, if it names none.
 fn layout_of(words: &[String]) -> (Layout, &[String]) {
     match words {
         [first, rest @ ..] if first.as_str() == "whole" => (Layout::Whole, rest),
@@ -92,7 +93,7 @@ fn push_made(alloc: Global, text: &mut Text) {
     push_no_feature(alloc, text);
 }
 
-/// What the passes come to, in the session of the words: where the lexer is described, that is all that they do.
+/// What the passes come to, in the session of the arguments: where the lexer is described, that is all that they do.
 fn push_passed(alloc: Global, text: &mut Text, call: &PassCall, words: &[String], bytes: &[u8]) {
     match call.last {
         Last::TokenCheckScripted | Last::NormalizeScripted => {
@@ -106,7 +107,7 @@ fn push_passed(alloc: Global, text: &mut Text, call: &PassCall, words: &[String]
     }
 }
 
-/// The session that words of `lnorm` ask for.
+/// The session that arguments of `lnorm` ask for.
 fn session_of(alloc: Global, words: &[String]) -> Result<Session<CheckOnly>, WordsError> {
     match asked_by(alloc, words) {
         Ok(asked) => Ok(asked.session),

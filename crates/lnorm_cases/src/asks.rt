@@ -1,4 +1,4 @@
-//! What the accessors of a written grammar answer, and the pure functions that passes stand on.
+//! What the accessors of a written grammar answer, and the pure functions that passes use.
 use crate::shown::push_or;
 use lalrpop_norm::normalize::Session;
 use lalrpop_norm::normalize::cond_comp::cfg_active;
@@ -194,7 +194,7 @@ fn push_read_levels(text: &mut Text, levels: &[AlternativeLevel]) {
     }
 }
 
-/// Which symbols give values, and where the first `<>` of its code stands.
+/// Which symbols give values, and the index of the first `<>` in its action code.
 fn push_asked_alternative(alloc: Global, text: &mut Text, alternative: &Alternative) {
     text.put("   ");
     push_span(text, alternative.span);

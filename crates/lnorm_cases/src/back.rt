@@ -116,8 +116,8 @@ fn push_stop(alloc: Global, text: &mut Text, stop: &Stop) {
     }
 }
 
-/// The nonterminals of a traced grammar, and whether trees may begin at each; under it its productions, each with its origin, and what
-/// stands at the place behind the last one.
+/// The nonterminals of a traced grammar, and whether trees may begin at each; under it its productions, each with its origin, and
+/// what the lookup answers for the index behind the last one.
 pub(crate) fn push_traced(alloc: Global, text: &mut Text, traced: &Traced) {
     for (name, nonterminal) in &traced.grammar().nonterminals {
         text.show(name);

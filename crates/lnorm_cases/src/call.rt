@@ -4,17 +4,17 @@ use std::alloc::{AllocError, Global};
 /// What is asked for a tree.
 #[derive(Drop)]
 pub(crate) enum Call {
-    /// A run of `lnorm`.
+    /// A test case of `lnorm`.
     Lnorm,
     /// The library's call, as README.md shows it.
     Library,
-    /// Runs of it of which each read fails in turn.
+    /// Test cases of it of which each read fails in turn.
     CutReads,
-    /// Runs of it of which each write fails in turn.
+    /// Test cases of it of which each write fails in turn.
     CutWrites,
-    /// Runs of it whose line on standard error ends at each byte in turn.
+    /// Test cases of it whose line on standard error ends at each byte in turn.
     CutFaults,
-    /// Runs of it on each proper beginning of the text.
+    /// Test cases of it on each proper beginning of the text.
     CutTrees,
     /// What two readers of JSON make of the text, and of damaged ones.
     ReadTwice,
@@ -77,12 +77,12 @@ impl Pass {
     }
 }
 
-/// What stands last in a call.
+/// The last part of a call.
 #[derive(Clone, Copy)]
 pub(crate) enum Last {
     /// A pass.
     Pass(Pass),
-    /// The pass on tokens, with the lexer that the words describe.
+    /// The pass on tokens, with the lexer that the arguments describe.
     TokenCheckScripted,
     /// `normalize` with that lexer.
     NormalizeScripted,
@@ -108,7 +108,7 @@ pub(crate) enum Last {
     MalformedCfgs,
     /// The copy of the lowered grammar.
     LoweredCopy,
-    /// What calls answer that take no memory.
+    /// What calls answer that allocate nothing.
     WithoutMemory,
 }
 

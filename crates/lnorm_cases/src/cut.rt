@@ -15,7 +15,7 @@ pub(crate) enum Failure {
 }
 
 impl Failure {
-    /// The word that runs print.
+    /// The word that test cases print.
     pub(crate) fn word(self) -> &'static str {
         match self {
             Failure::Interrupted => "interrupted",

@@ -5,7 +5,7 @@ use lnorm_texts::text::Text;
 use std::alloc::Global;
 use std::io::Write;
 
-/// What is run: the words of the call, the bytes of the tree, and the read that fails, if there are that many.
+/// What is run: the arguments, the bytes of the tree, and the read that fails, if there are that many.
 #[derive(Clone, Copy)]
 struct Asked<'a> {
     words: &'a [String],
@@ -21,7 +21,7 @@ struct Ended {
     faults: Vec<u8>,
 }
 
-/// The runs on a tree of which one read fails, or is told to be the end.
+/// The runs on a tree of which one read fails, or reports the end.
 pub(crate) fn push_cut_reads(alloc: Global, text: &mut Text, words: &[String], bytes: &[u8]) {
     let asked = asked_of(words, bytes);
     let whole = uncut(alloc, text, asked);
@@ -32,7 +32,7 @@ pub(crate) fn push_cut_reads(alloc: Global, text: &mut Text, words: &[String], b
     }
 }
 
-/// The runs of which the read at that place fails, and whether there is such a read. There is none where memory was wanting.
+/// The runs of which the read of that index fails, and whether there is such a read. There is none if an allocation failed.
 fn push_reads_at(
     alloc: Global,
     text: &mut Text,
@@ -77,7 +77,7 @@ pub(crate) fn push_cut_writes(alloc: Global, text: &mut Text, words: &[String], 
     }
 }
 
-/// The runs of which the write at that place fails, and whether there is such a write. There is none where memory was wanting.
+/// The runs of which the write of that index fails, and whether there is such a write. There is none if an allocation failed.
 fn push_writes_at(
     alloc: Global,
     text: &mut Text,
@@ -111,7 +111,8 @@ fn push_cut_write(
     output.was_cut && text.is_whole()
 }
 
-/// The runs on it whose line on standard error is cut, at each of its bytes. Where a run has no such line, its first read fails too.
+/// The runs on it whose line on standard error is cut, at each of its bytes. If a run has no such line, then its first read fails
+/// as well.
 pub(crate) fn push_cut_faults(alloc: Global, text: &mut Text, words: &[String], bytes: &[u8]) {
     let asked = asked_of(words, bytes);
     let whole = uncut(alloc, text, asked);
@@ -141,7 +142,7 @@ fn push_cut_lines(alloc: Global, text: &mut Text, asked: Asked<'_>, whole: &Ende
     }
 }
 
-/// How many of these runs end with the status, the output and as much of the line as was taken; and each other one.
+/// How many of these runs end with the exit status, the output and as much of the line as was taken; and each other one.
 fn push_cut_line(
     alloc: Global,
     text: &mut Text,
@@ -180,7 +181,7 @@ fn push_unless_begun(
     is_begun
 }
 
-/// The status of the run with that stream for its line, and its output.
+/// The exit status of the run with that stream for its line, and its output.
 fn ended_with<E: Write>(
     alloc: Global,
     text: &mut Text,
@@ -193,7 +194,7 @@ fn ended_with<E: Write>(
     (status, output)
 }
 
-/// A stream of these bytes, of which that read fails. There are none where there was no memory for them.
+/// A stream of these bytes, of which that read fails. There are none where an allocation failed for them.
 fn input_of(
     alloc: Global,
     text: &mut Text,
@@ -211,7 +212,7 @@ fn input_of(
     Cut::new(bytes, 100, fails_at, failure)
 }
 
-/// Whether the run ended like the uncut one, its line is what stands before the cut there, and no call came after the cut.
+/// Whether the run ended like the uncut one, its line is what comes before the cut there, and no call came after the cut.
 fn is_begun(status: u8, output: &[u8], faults: &Cut, whole: &Ended) -> bool {
     status == whole.status
         && output == whole.output.as_slice()
@@ -261,7 +262,7 @@ fn push_cut(text: &mut Text, stream: &Cut) {
     }
 }
 
-/// The status of a run, how much was written, and the line on standard error.
+/// The exit status of a run, how much was written, and the line on standard error.
 fn push_end(text: &mut Text, status: u8, output: &[u8], faults: &[u8]) {
     text.put("status ");
     text.show(status);

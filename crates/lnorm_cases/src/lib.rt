@@ -1,5 +1,5 @@
-//! What the lines of a script ask for: `NAME CALL WORD..` is a call on the tree of that name, and `push_answer` answers it.
-//! docs/work/CASES.md has the calls, and what each one prints.
+//! What the lines of a script ask for: `NAME CALL WORD..` is a call, with its arguments, on the tree of that name, and
+//! `push_answer` answers it. docs/work/CASES.md has the calls, and what each one prints.
 #![tactic(auto)]
 
 pub mod answer;

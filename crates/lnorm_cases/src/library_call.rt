@@ -6,7 +6,7 @@ use lalrpop_norm_json::read_tree;
 use lnorm_texts::text::Text;
 use std::alloc::{AllocError, Global};
 
-/// Writes how many productions each nonterminal has in the lowered grammar of a tree, or the fault of the tree with its place.
+/// Writes how many productions each nonterminal has in the lowered grammar of a tree, or the fault of the tree with its span.
 pub(crate) fn push_counts(alloc: Global, text: &mut String, json: &str) -> Result<(), AllocError> {
     let Ok(tree) = read_tree(alloc, json) else {
         return text.push_str("no tree\n");
@@ -36,7 +36,7 @@ pub(crate) fn push_counts(alloc: Global, text: &mut String, json: &str) -> Resul
     }
 }
 
-/// The same for bytes, which are UTF-8 or no tree.
+/// Writes the counts for bytes, which are UTF-8 or no tree.
 pub(crate) fn push_counts_of(alloc: Global, text: &mut Text, bytes: &[u8]) {
     match str::from_utf8(bytes) {
         Ok(json) => push_apart(alloc, text, |text| push_counts(alloc, text, json)),

@@ -31,7 +31,7 @@ use std::alloc::Global;
 pub(crate) enum Layout {
     /// In lines.
     Lines,
-    /// Whole, as its `Debug` has it.
+    /// The value as its `Debug` has it.
     Whole,
     /// In lines, a fault with its message.
     Told,
@@ -39,7 +39,7 @@ pub(crate) enum Layout {
     Twice,
 }
 
-/// Passes, what stands last behind them, and how the outcome is printed.
+/// Passes, the last part behind them, and how the outcome is printed.
 #[derive(Clone, Copy)]
 pub(crate) struct PassCall<'a> {
     pub(crate) passes: &'a [Pass],
@@ -102,7 +102,7 @@ fn push_result_of<T: Drop, F: FnOnce(&mut Text, &T)>(
     }
 }
 
-/// What stands last in a call.
+/// The last part of a call.
 fn push_last<L: Lexer>(
     alloc: Global,
     text: &mut Text,
@@ -311,7 +311,7 @@ fn push_copy(text: &mut Text, layout: Layout, tree: &Grammar) {
     );
 }
 
-/// Where the `cfg` stand that are of no known form.
+/// The spans of the `cfg` that are of no known form.
 fn push_malformed(alloc: Global, text: &mut Text, tree: &Grammar) {
     push_or(
         text,
@@ -337,7 +337,7 @@ fn push_reason(text: &mut Text, layout: Layout, stopped: &Stopped) {
     }
 }
 
-/// The number of a refusal and where it stands; its message too, where that is asked for.
+/// The number of an error and its span; its message too, where that is asked for.
 fn push_failure(text: &mut Text, layout: Layout, failure: &NormFailure) {
     match layout {
         Layout::Told => push_told(text, failure),

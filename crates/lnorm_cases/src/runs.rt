@@ -1,9 +1,9 @@
-//! Runs of the program `lnorm`.
+//! Test cases of the program `lnorm`.
 use lnorm_run::run::run;
 use lnorm_texts::text::Text;
 use std::alloc::Global;
 
-/// What the program writes on both streams, and its status.
+/// What the program writes on both streams, and its exit status.
 pub(crate) fn push_run(alloc: Global, text: &mut Text, words: &[String], bytes: &[u8]) {
     let mut input = bytes;
     let mut output = Vec::new(alloc);
@@ -12,7 +12,7 @@ pub(crate) fn push_run(alloc: Global, text: &mut Text, words: &[String], bytes: 
     push_ended(text, status, &output, &faults);
 }
 
-/// On how many of the beginnings of the bytes, all of them left out, a run tells that they are no tree.
+/// On how many of the beginnings of the bytes, all of them left out, a run reports that they are no tree.
 pub(crate) fn push_cut_trees(alloc: Global, text: &mut Text, words: &[String], bytes: &[u8]) {
     let mut told = 0usize;
     for end in 0..bytes.len() {
@@ -27,7 +27,7 @@ pub(crate) fn push_cut_trees(alloc: Global, text: &mut Text, words: &[String], b
     text.put(" are no tree\n");
 }
 
-/// Whether a run ends with status 2 and its line, and writes nothing else.
+/// Whether a run ends with exit status 2 and its line, and writes nothing else.
 fn is_told_as_no_tree(alloc: Global, words: &[String], bytes: &[u8]) -> bool {
     let mut input = bytes;
     let mut output = Vec::new(alloc);
@@ -54,7 +54,7 @@ fn push_bytes(text: &mut Text, bytes: &[u8]) {
     }
 }
 
-/// The line on standard error: of a fault what stands before the message, whose words are not promised.
+/// The line on standard error: of a fault what comes before the message, whose wording is not promised.
 fn push_fault_line(text: &mut Text, bytes: &[u8]) {
     match str::from_utf8(bytes) {
         Ok("") => {}

@@ -1,4 +1,4 @@
-//! The lexer that words describe.
+//! The lexer that arguments describe.
 use crate::scripted_lexer::{Feature, Pair, Scripted};
 use crate::shown::kept;
 use lalrpop_norm::normalize::Session;
@@ -8,10 +8,10 @@ use lnorm_run::words::WordsError;
 use lnorm_texts::made::{atom, made_of};
 use std::alloc::Global;
 
-/// A session without features and with the limit 200, whose lexer refuses what the words name: `--bad TEXT` is no pattern, the
-/// regex of a literal of the text of `--feature-of TEXT`, quoted or not, has a feature, the indexes of `--ambiguous I,J` are
-/// ambiguous; it has no memory for the regex of a literal of the text of `--unread TEXT`, nor for an automaton of more regexes than
-/// `--largest N` says. Errors: `Usage` where they are no such pairs; `Memory`.
+/// A session without features and with the limit 200, whose lexer rejects what the arguments name: `--bad TEXT` is no pattern,
+/// the regex of a literal of the text of `--feature-of TEXT`, quoted or not, has a feature, the indexes of `--ambiguous I,J` are
+/// ambiguous; an allocation fails for the regex of a literal of the text of `--unread TEXT`, and for an automaton of more regexes
+/// than `--largest N` says. Errors: `Usage` where they are no such pairs; `Memory`.
 pub(crate) fn scripted_session(
     alloc: Global,
     words: &[String],
@@ -73,7 +73,7 @@ fn add_pair(
     }
 }
 
-/// What was done for words that are known.
+/// What was done for arguments that are known.
 fn known(done: Result<(), NoMemory>) -> Result<(), WordsError> {
     match done {
         Ok(()) => Ok(()),

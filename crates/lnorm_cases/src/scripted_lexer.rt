@@ -8,8 +8,8 @@ use lalrpop_norm_lexer::lexer::{
 use lalrpop_norm_tree::grammar::parse_tree::{Atom, Dfa, NoMemory, TerminalLiteral};
 use std::alloc::Global;
 
-/// Refuses what its lists name, and has no memory where they say so. Its regexes are the literals, and an automaton's code is the
-/// list of precedences.
+/// Rejects what its lists name, and runs out of memory where they say so. Its regexes are the literals, and an automaton's code
+/// is the list of precedences.
 #[derive(Drop)]
 pub struct Scripted {
     /// The texts that are no patterns.
@@ -18,9 +18,9 @@ pub struct Scripted {
     pub features: Vec<Feature>,
     /// Ambiguous pairs of indexes.
     pub ambiguous: Vec<Pair>,
-    /// The texts for whose regexes there is no memory.
+    /// The texts for whose regexes an allocation fails.
     pub unread: Vec<Atom>,
-    /// How many regexes an automaton has at most that there is memory for.
+    /// How many regexes an automaton may have before an allocation fails.
     pub largest: usize,
 }
 

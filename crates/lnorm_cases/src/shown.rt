@@ -1,4 +1,4 @@
-//! Values of any type: how one is shown, kept or let go is proved once, and so is its release there.
+//! Values of any type: how one is shown, kept or dropped is proved once, and so is its drop there.
 use lalrpop_norm::normalize::NormResult;
 use lnorm_texts::text::Text;
 use std::alloc::{AllocError, Global};
@@ -18,7 +18,7 @@ pub(crate) fn push_or<T: Drop, E: Drop, F: FnOnce(&mut Text, &T)>(
     }
 }
 
-/// What is pushed, and a line where there was no memory for it.
+/// What is pushed, and a line where an allocation failed for it.
 pub(crate) fn push_or_memory<F: FnOnce(&mut Text)>(text: &mut Text, push: F)
     requires { F.IsAlwaysCallable push }
 {
@@ -45,7 +45,7 @@ pub(crate) fn push_apart<F: FnOnce(&mut String) -> Result<(), AllocError>>(
     }
 }
 
-/// Lets the value go.
+/// Drops the value.
 pub(crate) fn ended<T: Drop>(_value: T) {}
 
 /// The value, unless there was a failure.

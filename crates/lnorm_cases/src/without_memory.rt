@@ -1,4 +1,4 @@
-//! What calls answer that take no memory: there is room for all that is written, and nothing else is made.
+//! What calls answer that allocate nothing: there is room for all that is written, and nothing else is made.
 use crate::asks::{push_asked_attributes, push_asked_extern, push_first_blocks, push_presence};
 use crate::outcome::push_place;
 use crate::passes::typed;
@@ -184,7 +184,7 @@ fn push_between_braces(text: &mut Text, action: &ActionKind) {
     }
 }
 
-/// The number of an action, a side, the number of a fault, and whether the error terminal has the unit type.
+/// The number of an action, an associativity, the number of a fault, and whether the error terminal has the unit type.
 fn push_values(text: &mut Text, types: &Types) {
     text.put("action ");
     text.show(ActionFn::new(22).index());

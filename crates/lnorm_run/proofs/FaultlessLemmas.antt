@@ -1,4 +1,4 @@
--- Where normalization with the program's lexer answers, no fault stands, none of the lexer's either.
+-- Where normalization with the program's lexer answers, no fault holds, none of the lexer's either.
 use Rattle.std.proofs.Common.{◌≡◌, List, [], ◌∷◌, ◌++◌, map, Option, Some, None, inl, inr, refl, sym, ◌∙◌}
 use Rattle.lalrpop_norm_tree.specs.Items.{GrammarData, EnumTokenData}
 use Rattle.lalrpop_norm_faults.specs.Faults.{Fault, Finding, sure, maybe, sure_ones, StandsAmong}
@@ -17,7 +17,7 @@ use Rattle.lnorm_run.specs.Settings.{Settings}
 use Rattle.lnorm_run.specs.Answers.{findings_of, StandsAtPlace}
 
 module _ (At : LexerPlace → Fault → Type 0) where
-  -- nothing stands among the findings
+  -- nothing holds among the findings
   abbrev NoneStands : List (Finding LexerPlace) → Type 0
   NoneStands fs = (f : Fault) → StandsAmong At fs f → ⊥
 

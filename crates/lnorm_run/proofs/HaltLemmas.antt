@@ -10,7 +10,7 @@ use Rattle.lnorm_run.specs.Halts.{Explains, Halts, Tells}
 use Rattle.lnorm_streams.specs.declared.halt.Halt.{Halt}
 use Rattle.lnorm_streams.specs.declared.halt.Halt.TheVariants.{Usage, NotATree, Failed, Input, Output}
 
--- where the words and the whole input were taken, and nothing was written
+-- where the arguments and the whole input were taken, and nothing was written
 pub halts_explained : (h : Halt) (words : List (List ℕ)) (s : Settings) (bytes : List ℕ) (in_old in_new out_old out_new : Option (List ℕ))
     → TakesInput words in_old in_new s bytes → Keeps out_old out_new → Explains s bytes h → Halts h words in_old in_new out_old out_new
 halts_explained Usage words s bytes in_old in_new out_old out_new t k e = absurd e
@@ -20,7 +20,7 @@ halts_explained (Failed no_room) words s bytes in_old in_new out_old out_new t k
 halts_explained Input words s bytes in_old in_new out_old out_new t k e = absurd e
 halts_explained Output words s bytes in_old in_new out_old out_new t k e = absurd e
 
--- where the passes refused the tree that the input is
+-- where the passes rejected the tree that the input is
 pub told_explained : (s : Settings) (bytes : List ℕ) (tree : GrammarData) (h : Halt) → IsFormOf tree bytes → Tells s tree h → Explains s bytes h
 told_explained s bytes tree Usage form t = absurd t
 told_explained s bytes tree NotATree form t = absurd t

@@ -108,7 +108,7 @@ module _ (whole text : List ℕ) (n : NonterminalString) (ns : List NonterminalS
         rows_ordered = m.rows_ordered.1;
       }
 
--- ---- the same of the walks
+-- ---- the walks
 
 abbrev seen : List (NonterminalString × TypeRepr) → List (NonterminalString × ReprData)
 seen es = map (λ e. (e.0, repr_view e.1)) es

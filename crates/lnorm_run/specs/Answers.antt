@@ -37,11 +37,11 @@ pub record IsFormOf (g : GrammarData) (bytes : List ℕ) : Type 0 where
 abbrev pub findings_of : Settings → GrammarData → List (Finding LexerPlace)
 findings_of s g = normalize_findings s.features s.limit g
 
--- what the program's lexer may refuse of a tree
+-- what the program's lexer may reject of a tree
 abbrev pub StandsAtPlace : Settings → GrammarData → LexerPlace → Fault → Type 0
 StandsAtPlace s g = StandsThere of_regex s.features s.limit g
 
--- The lowered grammar is one that the tree has under the settings: no fault of the tree stands; it is what the tree is lowered to
+-- The lowered grammar is one that the tree has under the settings: no fault of the tree holds; it is what the tree is lowered to
 -- by its definition, and faithful to it; and nothing in it is left open. Its tokens are those of the program's lexer.
 pub record IsLowered (s : Settings) (g : GrammarData) (l : LoweredGrammar) : Type 0 where
   pub faultless : (f : Fault) → StandsAmong (StandsAtPlace s g) (findings_of s g) f → ⊥
@@ -64,7 +64,7 @@ pub record IsAnswer (s : Settings) (bytes text : List ℕ) : Type 0 where
   pub form : IsFormOf tree bytes
   pub right : IsTextFor s tree text
 
--- The first fault of the tree that the input is, and where it stands; or one of its lexer that stands there, with no fault but
+-- The first fault of the tree that the input is, and its span; or one of its lexer that holds at that span, with no fault but
 -- of the lexer before it.
 pub record IsFirstFault (s : Settings) (bytes : List ℕ) (fault : FaultKind) (span : Span) : Type 0 where
   pub tree : GrammarData

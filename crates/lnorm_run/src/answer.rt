@@ -24,17 +24,17 @@ use std::mem;
 /// What becomes of a lowered grammar once its lines are made.
 #[derive(Clone, Copy)]
 pub enum Afterwards {
-    /// It is let go.
+    /// It is dropped.
     LetGo,
-    /// It stays in memory: the program ends, and to let it go would take its parts one by one.
+    /// It stays in memory: the program ends, and to drop it would cost a walk over its parts.
     Left,
 }
 
-/// The text for the bytes that were read: the lines of the lowered grammar of the tree whose JSON form they are. The bytes are let go
-/// once the tree is read, and the lowered grammar behind the text, if that is asked for.
+/// The text for the bytes that were read: the lines of the lowered grammar of the tree whose JSON form they are. The bytes are
+/// dropped once the tree is read, and the lowered grammar behind the text, if that is asked for.
 ///
-/// Errors: `NotATree` where they are the form of no tree; `Failed` with the first fault of the tree, or with want of
-/// memory.
+/// Errors: `NotATree` where they are the form of no tree; `Failed` with the first fault of the tree, or with a failed
+/// allocation.
 pub fn answer(
     alloc: Global,
     asked: &Asked,
@@ -108,7 +108,7 @@ fn traced_text(
     }
 }
 
-/// Lets a value go, or leaves it in memory.
+/// Drops a value, or leaves it in memory.
 fn put_away<T: Drop>(value: T, afterwards: Afterwards) {
     match afterwards {
         Afterwards::LetGo => drop(value),

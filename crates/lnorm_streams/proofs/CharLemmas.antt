@@ -1,4 +1,4 @@
--- A message as it stands in a line, character by character.
+-- A message as it is written in a line, character by character.
 use Rattle.std.proofs.Common.{◌≡◌, ℕ, suc, ◌<◌, ◌≤◌, List, [], ◌∷◌, ◌++◌, length, get_or, map, inl, inr, refl, sym, ap, ap₂, ◌∙◌, arith, append_assoc, append-nil, map-id}
 use Rattle.std.specs.Prelude.{chars, encode_utf8}
 use Rattle.std.specs.Str.{IsUtf8}
@@ -9,7 +9,7 @@ use Rattle.std.proofs.lemmas.Str.{encode_ascii, encodes-append, encodes-chars, i
 use lib.Utf8.{encodes}
 use Rattle.lnorm_streams.specs.Streams.{in_line, one_line}
 
--- a byte that ends no line stands as it is
+-- a byte that ends no line stays as it is
 plain : (b : ℕ) → (b ≡ 10 → ⊥) → (b ≡ 13 → ⊥) → in_line b ≡ b ∷ []
 plain b feed return = grind (arith, nat_tests)
 

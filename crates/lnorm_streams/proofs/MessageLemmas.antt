@@ -28,12 +28,12 @@ at_end : (done piece mark rest now all : List ℕ) → all ≡ done ++ (piece ++
 at_end done piece mark rest now all is next = cc (append_assoc piece mark rest)
 
 module _ (old mid : Option (List ℕ)) (bytes : List ℕ) (from at : ℕ) (so_far : IsWrittenTo old mid bytes from at) where
-  -- what is left, where this stands for the byte
+  -- what is left, where this replaces the byte
   left_at : (mark : List ℕ) → at < length bytes → in_line (get_or bytes at 0) ≡ mark →
       one_line bytes ≡ so_far.done ++ ((take (at - from) (drop from bytes) ++ mark) ++ one_line (drop (at + 1) bytes))
   left_at mark lt is = at_end so_far.done _ mark _ (one_line (drop at bytes)) _ so_far.left (cc (one_more bytes at lt))
 
-  -- one more byte that stands as it is
+  -- one more byte that stays as it is
   pub plain_byte : at < length bytes → in_line (get_or bytes at 0) ≡ get_or bytes at 0 ∷ [] → IsWrittenTo old mid bytes from (at + 1)
   plain_byte lt plain = record {
     order = omega (arith, so_far.order);
@@ -42,7 +42,7 @@ module _ (old mid : Option (List ℕ)) (bytes : List ℕ) (from at : ℕ) (so_fa
     left = rw (longer_piece bytes from at so_far.order lt) (left_at _ lt plain);
   }
 
-  -- the piece up to a byte that a mark stands for is written, and the mark
+  -- the piece up to a byte that a mark replaces is written, and the mark
   pub marked_byte : (new : Option (List ℕ)) (mark : List ℕ) → at < length bytes → in_line (get_or bytes at 0) ≡ mark →
       Appends mid new (take (at - from) (drop from bytes) ++ mark) → IsWrittenTo old new bytes (at + 1) (at + 1)
   marked_byte new mark lt is next =
@@ -63,7 +63,7 @@ module _ (old mid : Option (List ℕ)) (bytes : List ℕ) (from at : ℕ) (so_fa
       subst (WritesFront old new) (sym (left_at mark lt is))
       (front_then old mid new so_far.done (piece ++ rest) so_far.written (front_here mid new piece rest begun))
 
-  -- all that is left stands as it is
+  -- all that is left stays as it is
   rest_left : length bytes ≤ at → one_line bytes ≡ so_far.done ++ take (length bytes - from) (drop from bytes)
   rest_left over =
       let rest : List ℕ = drop from bytes in

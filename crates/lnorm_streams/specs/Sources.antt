@@ -1,4 +1,4 @@
--- Whether a read failed, of a source that tells it.
+-- Whether a read failed, of a source that reports it.
 use Rattle.std.specs.Prelude.{◌≡◌, Bool, true, false, Option, None, Some}
 
 -- that a read failed is known, where anything is

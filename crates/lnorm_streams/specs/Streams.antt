@@ -1,4 +1,4 @@
--- What is read and written as a whole, and the lines that tell of a failed run.
+-- What is read and written as a whole, and the lines that report a failed run.
 use Rattle.std.specs.Prelude.{◌≤◌, ℕ, ◌==◌, List, [], ◌∷◌, ◌++◌, Option, length, take, codes, decimal, if◌then◌else◌}
 use Rattle.std.specs.List.{flat_map}
 use Rattle.std.specs.Io.KnownBytes.{Appends, Consumes, IsAtEnd}
@@ -15,11 +15,11 @@ pub record ReadsAll (old new : Option (List ℕ)) (bytes : List ℕ) : Type 0 wh
 abbrev pub WritesFront : Option (List ℕ) → Option (List ℕ) → List ℕ → Type 0
 WritesFront old new text = (n : ℕ) × (n ≤ length text) × Appends old new (take n text)
 
--- what stands in a line for a byte of a message: a line feed and a carriage return would end it
+-- what replaces a byte of a message in a line: a line feed and a carriage return would end it
 abbrev pub in_line : ℕ → List ℕ
 in_line byte = if byte == 10 then codes "\\n" else (if byte == 13 then codes "\\r" else (byte ∷ []))
 
--- the message as it stands in a line
+-- the message as it is written in a line
 abbrev pub one_line : List ℕ → List ℕ
 one_line message = flat_map in_line message
 
@@ -29,7 +29,7 @@ fault_line fault span message =
     code_of fault ++ (codes " " ++ (decimal span.0
     ++ (codes ".." ++ (decimal span.1 ++ (codes ": " ++ (one_line message ++ codes "\n"))))))
 
--- a span in it, with what stands before the message
+-- a span in it, with what comes before the message
 abbrev pub span_text : Span → List ℕ
 span_text span = (decimal span.0 ++ codes "..") ++ (decimal span.1 ++ codes ": ")
 

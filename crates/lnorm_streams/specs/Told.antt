@@ -1,4 +1,4 @@
--- How a halt is told: its status and its line.
+-- How a halt is reported: its exit status and its line.
 use Rattle.std.specs.Prelude.{ℕ, List, Option, string_bytes}
 use Rattle.lalrpop_norm_faults.specs.declared.failure.NormFailure.TheVariants.{Refused, Memory as no_room}
 use Rattle.lnorm_streams.specs.Streams.{WritesFront, fault_line, usage_line, no_tree_line, memory_line, stream_line}

@@ -1,4 +1,4 @@
-//! Why a run ends without its text, and what users are told then.
+//! Why a run ends without its text, and its exit status and line.
 ghost use Rattle.std.specs.IoError.{error_kind};
 ghost use Rattle.std.specs.Io.KnownBytes.{Appends};
 ghost use Rattle.std.specs.Prelude.{◌≡◌, ◌≢◌, ◌++◌, IsTrue, OnOk, codes, decimal, string_bytes};
@@ -16,11 +16,11 @@ use std::io::{self, ErrorKind, Write};
 /// Why a run ends without its text.
 #[derive(Debug, Drop)]
 pub enum Halt {
-    /// The words are no options.
+    /// The arguments are not options.
     Usage,
     /// The input is no tree.
     NotATree,
-    /// The tree has a fault, or there was no memory.
+    /// The tree has a fault, or an allocation failed.
     Failed(NormFailure),
     /// A read failed.
     Input,
@@ -28,7 +28,8 @@ pub enum Halt {
     Output,
 }
 
-/// The halt of a call whose words can't be read: a word that is no text is no option; the other errors are of memory.
+/// The halt of a call whose arguments can't be read: one that is not UTF-8 is not an option; the other errors are failed
+/// allocations.
 pub fn halt_of_words(error: &io::Error) -> Halt
     ensures text { error_kind error.now ≡ ErrorKind.InvalidData → result ≡ Halt.Usage }
     ensures other { error_kind error.now ≢ ErrorKind.InvalidData → result ≡ Halt.Failed NormFailure.Memory }
@@ -39,7 +40,7 @@ pub fn halt_of_words(error: &io::Error) -> Halt
     }
 }
 
-/// Writes the line of a halt, or a beginning of it, and answers its status. It takes no memory.
+/// Writes the line of a halt, or a beginning of it, and answers its exit status. It allocates nothing.
 pub fn report<E: Write>(halt: Halt, faults: &mut E) -> u8
     ensures status { result ≡ status_of halt }
     ensures line { LineOf halt (E.contents faults.old) (E.contents faults.new) }
@@ -109,7 +110,7 @@ fn end_line<E: Write>(faults: &mut E, message: &[u8]) -> bool
     write_message(faults, message) && write_whole(faults, b"\n")
 }
 
-/// The same of what stands before the message: the fault's number and its span.
+/// Writes what comes before the message, or a beginning of it: the fault's number and its span.
 fn write_site<E: Write>(faults: &mut E, code: &str, span: Span) -> bool
     ensures front { WritesFront (E.contents faults.old) (E.contents faults.new) ((code.now ++ codes " ") ++ span_text span) }
     ensures whole { IsTrue result → Appends (E.contents faults.old) (E.contents faults.new) ((code.now ++ codes " ") ++ span_text span) }
@@ -117,7 +118,7 @@ fn write_site<E: Write>(faults: &mut E, code: &str, span: Span) -> bool
     write_both(faults, code, " ") && write_span(faults, span)
 }
 
-/// The same of a span.
+/// Writes a span, or a beginning of it.
 fn write_span<E: Write>(faults: &mut E, span: Span) -> bool
     ensures front { WritesFront (E.contents faults.old) (E.contents faults.new) (span_text span) }
     ensures whole { IsTrue result → Appends (E.contents faults.old) (E.contents faults.new) (span_text span) }
@@ -125,7 +126,7 @@ fn write_span<E: Write>(faults: &mut E, span: Span) -> bool
     write_number(faults, span.0, "..") && write_number(faults, span.1, ": ")
 }
 
-/// The same of a number and a text behind it.
+/// Writes a number and a text behind it, or a beginning of these.
 fn write_number<E: Write>(faults: &mut E, number: usize, behind: &str) -> bool
     ensures front { WritesFront (E.contents faults.old) (E.contents faults.new) (decimal number ++ behind.now) }
     ensures whole { IsTrue result → Appends (E.contents faults.old) (E.contents faults.new) (decimal number ++ behind.now) }

@@ -1,4 +1,4 @@
-//! Reading and writing to the end, and how a run that gives no text is told: its status, and a line for users.
+//! Reading and writing to the end, and how a run without a text is reported: its exit status, and a line for users.
 #![tactic(auto)]
 
 pub mod halt;

@@ -1,4 +1,4 @@
-//! The message of a fault, as it stands in a line.
+//! The message of a fault, as it is written in a line.
 ghost use Rattle.std.specs.Io.KnownBytes.{Appends};
 ghost use Rattle.std.specs.Prelude.{◌≡◌, [], ◌∷◌, ◌++◌, MatchOption, IsTrue, OnOk, encode_utf8, string_bytes};
 ghost use Rattle.lnorm_streams.specs.Streams.{WritesFront, in_line, one_line};
@@ -7,7 +7,7 @@ use crate::streams::write_whole;
 use std::alloc::AllocError;
 use std::io::Write;
 
-/// Writes a message as it stands in a line, piece by piece, and says whether all of it was written. Else a beginning was.
+/// Writes a message as it is written in a line, piece by piece, and says whether all of it was written. Else a beginning was.
 pub fn write_message<W: Write>(writer: &mut W, message: &[u8]) -> bool
     ensures front { WritesFront (W.contents writer.old) (W.contents writer.new) (one_line message.now) }
     ensures whole { IsTrue result → Appends (W.contents writer.old) (W.contents writer.new) (one_line message.now) }
@@ -24,7 +24,7 @@ pub fn write_message<W: Write>(writer: &mut W, message: &[u8]) -> bool
     write_whole(writer, &message[from..])
 }
 
-/// What stands for a byte that would end the line. The others stand as they are.
+/// What replaces a byte that would end the line. The others stay as they are.
 fn mark_of(byte: u8) -> Option<&'static str>
     ensures { MatchOption result (in_line byte ≡ byte ∷ []) (λ mark. in_line byte ≡ mark.now) }
 {
@@ -35,7 +35,7 @@ fn mark_of(byte: u8) -> Option<&'static str>
     }
 }
 
-/// Writes a piece of a message and the mark behind it, likewise.
+/// Writes a piece of a message and the mark behind it, and says whether all of it was written. Else a beginning was.
 fn write_marked<W: Write>(writer: &mut W, piece: &[u8], mark: &str) -> bool
     ensures front { WritesFront (W.contents writer.old) (W.contents writer.new) (piece.now ++ mark.now) }
     ensures whole { IsTrue result → Appends (W.contents writer.old) (W.contents writer.new) (piece.now ++ mark.now) }
@@ -43,7 +43,7 @@ fn write_marked<W: Write>(writer: &mut W, piece: &[u8], mark: &str) -> bool
     write_whole(writer, piece) && write_whole(writer, mark.as_bytes())
 }
 
-/// Puts a message behind a text, as it stands in a line.
+/// Puts a message behind a text, as it is written in a line.
 pub fn push_message(text: &mut String, message: &str) -> Result<(), AllocError>
     ensures { OnOk result (string_bytes text.new ≡ string_bytes text.old ++ one_line message.now) }
 {
@@ -53,7 +53,7 @@ pub fn push_message(text: &mut String, message: &str) -> Result<(), AllocError>
     Ok(())
 }
 
-/// The same of a character of it.
+/// Puts a character of a message behind a text, as it is written in a line.
 fn push_in_line(text: &mut String, c: char) -> Result<(), AllocError>
     ensures { OnOk result (string_bytes text.new ≡ string_bytes text.old ++ one_line (encode_utf8 c)) }
 {

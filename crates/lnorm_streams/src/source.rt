@@ -6,8 +6,8 @@ ghost use Rattle.lnorm_streams.specs.Sources.{IsNoted};
 
 use std::io::{self, Read};
 
-/// What bytes are read from: each reader is one. Contracts of a source may also say whether a read of it failed, which a reader's can't:
-/// its model has the bytes that are left alone, and a read that fails leaves them as they were.
+/// What bytes are read from: each reader is one. Contracts of a source may also say whether a read of it failed, which a reader's
+/// can't: its model has the bytes that are left alone, and a read that fails leaves them as they were.
 pub trait Source {
     // The bytes that reads will give from here on, where they are known.
     ghost remaining: { Self → Option (List ℕ) };

@@ -1,4 +1,4 @@
-//! Refusals with their messages, and sides of alternatives.
+//! Errors with their messages, and associativities of alternatives.
 use crate::made::{cloned, show_made};
 use crate::print::symbols::push_span;
 use crate::text::Text;
@@ -8,7 +8,8 @@ use lalrpop_norm_precedence::precedence::Assoc;
 use lalrpop_norm_tree::grammar::parse_tree::Span;
 use std::alloc::{AllocError, Global};
 
-/// A refusal with its message, one without memory for it, and copies of both; and the refusal that no tree can show.
+/// An error with its message, one for whose message an allocation failed, and copies of both; and the error that no tree can
+/// show.
 pub(crate) fn push_refusals(alloc: Global, text: &mut Text) {
     let told = refused(String::from_str(alloc, "no type follows"));
     show_made(text, Ok(told), push_with_copy);
@@ -24,7 +25,7 @@ fn push_code(text: &mut Text, fault: FaultKind) {
     text.end_line();
 }
 
-/// A refusal at `3..8`.
+/// An error at `3..8`.
 fn refused(message: Result<String, AllocError>) -> NormFailure {
     refusal(FaultKind::NotGrounded, Span(3, 8), message)
 }
@@ -47,7 +48,7 @@ pub fn push_told(text: &mut Text, failure: &NormFailure) {
     }
 }
 
-/// What each text is as a side.
+/// What each text is as an associativity.
 pub(crate) fn push_sides(text: &mut Text) {
     for name in &["left", "right", "none", "all", "", "Left", "left ", "both"] {
         push_side(text, name);
@@ -66,7 +67,7 @@ fn push_side(text: &mut Text, name: &str) {
     text.end_line();
 }
 
-/// The word for the side.
+/// The word for the associativity.
 pub fn side_name(side: &Assoc) -> &'static str {
     match side {
         Assoc::Left => "left",

@@ -12,7 +12,7 @@ use std::fmt;
 /// A type, and the type parameters of its grammar.
 type Example = (TypeRepr, Vec<TypeParameter>);
 
-/// A type whose lifetimes have names, and the type parameters and the where clauses then.
+/// A type whose lifetimes have names, and the type parameters and the `where` clauses then.
 type Named = (TypeRepr, (Vec<TypeParameter>, Vec<WhereClause>));
 
 /// The examples with their names, and the calls of two walks.
@@ -81,7 +81,7 @@ fn push_each<T: fmt::Display>(text: &mut Text, values: &[T]) {
 
 // ---- the calls of a walk
 
-/// What a walk is called with that puts `usize` in the place of each named type, and its answer.
+/// What a walk calls a closure with that puts `usize` in place of each named type, and its answer.
 fn push_walked(alloc: Global, text: &mut Text, ty: &TypeRepr) {
     text.show_between("walk over ", ty, " is called with");
     let walked = ty.bottom_up(alloc, &mut |part: TypeRepr| see(alloc, text, part));
@@ -98,7 +98,7 @@ fn see(alloc: Global, text: &mut Text, part: TypeRepr) -> Result<TypeRepr, NoMem
     }
 }
 
-/// What a walk was called with that is refused at its second call.
+/// How many calls a walk makes whose second call fails.
 fn push_refused(alloc: Global, text: &mut Text, ty: &TypeRepr) {
     text.show_after("walk over ", ty);
     let mut calls = 0;

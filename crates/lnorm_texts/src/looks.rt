@@ -88,7 +88,7 @@ fn catch_all(alloc: Global, span: Span) -> Result<MatchContents, NoMemory> {
 
 // ---- maps
 
-/// Arguments of bounds, what a pattern is, and a field of one, each with the lengths of its names in their places.
+/// Arguments of bounds, what a pattern is, and a field of one, each with the lengths of its names in their stead.
 fn push_mapped(alloc: Global, text: &mut Text) {
     push_after(text, "mapped ", mapped_argument(alloc));
     push_after(text, ", ", mapped_kind(alloc));

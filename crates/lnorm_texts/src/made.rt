@@ -1,4 +1,4 @@
-//! Values of any type: how one is kept, copied, pushed, shown or left out is proved once, and so is its release there.
+//! Values of any type: how one is kept, copied, pushed, shown or left out is proved once, and so is its drop there.
 //!
 //! A value that is made over several calls ends on each way out of them. So no other function of this crate keeps one over a
 //! call that may fail: it hands the calls' answers to a function of this file.
@@ -8,13 +8,13 @@ use shared_text::{Atom, NoMemory};
 use std::alloc::{AllocError, Global};
 use std::fmt;
 
-/// The value, unless memory was wanting.
+/// The value, unless an allocation failed.
 pub(crate) fn kept<T: Drop>(value: T, done: Result<(), NoMemory>) -> Result<T, NoMemory> {
     done?;
     Ok(value)
 }
 
-/// Both values, unless memory was wanting for one.
+/// Both values, unless an allocation failed for one.
 pub fn both<A: Drop, B: Drop>(
     first: Result<A, NoMemory>,
     second: Result<B, NoMemory>,
@@ -116,7 +116,7 @@ pub(crate) fn push_made<T: Drop>(
     Ok(values.push(made?)?)
 }
 
-/// Pushes the value that was made; where memory is wanting, the text says so.
+/// Pushes the value that was made; if an allocation fails, the text records it.
 pub(crate) fn add_made<T: Drop>(text: &mut Text, values: &mut Vec<T>, made: Result<T, NoMemory>) {
     if push_made(values, made).is_err() {
         text.lack();
@@ -148,7 +148,7 @@ pub(crate) fn push_after<T: fmt::Display + Drop>(
     }
 }
 
-/// The same, and the end of the line.
+/// The text before it, the value that was made, and the end of the line.
 pub(crate) fn push_line<T: fmt::Display + Drop>(
     text: &mut Text,
     before: &str,
@@ -173,7 +173,7 @@ pub(crate) fn push_debug<T: fmt::Debug + Drop>(
     }
 }
 
-/// The same, and the end of the line.
+/// The text before it, the value that was made by its `Debug`, and the end of the line.
 pub(crate) fn push_debug_line<T: fmt::Debug + Drop>(
     text: &mut Text,
     before: &str,

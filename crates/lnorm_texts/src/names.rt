@@ -108,7 +108,7 @@ pub(crate) fn named(alloc: Global, name: &str) -> Result<TypeParameter, NoMemory
     Ok(TypeParameter::Id(atom(alloc, name)?))
 }
 
-/// An automaton of two words.
+/// An automaton of two numbers.
 fn automaton(alloc: Global) -> Result<Dfa, NoMemory> {
     let code = vec![in alloc; 7, 9]?;
     Ok(Dfa { code })

@@ -1,4 +1,4 @@
-//! Patterns whose chosen parts are names: the same with their lengths, and the names that `map` calls a closure with.
+//! Patterns whose selected parts are names: mapped to their lengths, and the names that `map` calls a closure with.
 use crate::made::{
     atom, both, list_of_one, list_of_two, push_debug, push_line, push_made, show_made,
 };
@@ -10,8 +10,8 @@ use lalrpop_norm_tree::grammar::pattern::{FieldPattern, Pattern, PatternKind};
 use shared_text::Atom;
 use std::alloc::Global;
 
-/// The pattern `(ab, P { f: cde, .. })` over names, its chosen parts, and the pattern with their lengths in their places; the
-/// names of `P(u32, Q { f: u8 })` that a closure is called with, and those that one is called with that refuses the first.
+/// The pattern `(ab, P { f: cde, .. })` over names, its selected parts, and the pattern with their lengths in their stead; the
+/// names of `P(u32, Q { f: u8 })` that a closure is called with, and those that one is called with that fails at the first.
 pub(crate) fn push_patterns(alloc: Global, text: &mut Text) {
     show_made(text, pair(alloc), |text, pattern| {
         push_walked(alloc, text, pattern);
@@ -34,7 +34,7 @@ fn lengths_of(pattern: &Pattern<Atom>) -> Result<Pattern<usize>, NoMemory> {
 
 // ---- the calls of a closure
 
-/// The names that a closure is called with that refuses the one behind so many.
+/// The names that a closure is called with that fails at the one behind so many.
 fn push_called(alloc: Global, text: &mut Text, pattern: &Pattern<Atom>, allowed: usize) {
     let mut seen = Vec::new(alloc);
     push_answer(text, pattern, allowed, &mut seen);
@@ -113,7 +113,7 @@ pub(crate) fn field(alloc: Global, name: &str) -> Result<FieldPattern<Atom>, NoM
     })
 }
 
-/// The pattern that chooses a part of that name.
+/// The pattern that selects a part of that name.
 pub(crate) fn choice(alloc: Global, name: &str) -> Result<Pattern<Atom>, NoMemory> {
     Ok(at_start(PatternKind::Choose(atom(alloc, name)?)))
 }

@@ -6,9 +6,9 @@ use shared_text::NoMemory;
 /// Why a walk ends.
 #[derive(Clone, Copy)]
 pub(crate) enum Stop {
-    /// A call was refused.
+    /// A call failed.
     Refused,
-    /// There was no memory.
+    /// An allocation failed.
     Memory,
 }
 

@@ -1,9 +1,9 @@
-//! A text that remembers whether there was memory for all of it. So what puts parts has no result: each `?` would be a way out of its
-//! own, and is proved as one. Parts are put one by one, since `format_args!` of several is proved in twice the time.
+//! A text that remembers whether an allocation failed for a part. Thus what puts parts has no result: each `?` would be a way out
+//! of its own, and is proved as one. Parts are put one by one, since `format_args!` of several is proved in twice the time.
 use std::alloc::{AllocError, Global};
 use std::fmt;
 
-/// A text that is made of parts. It says at its end whether there was memory for all of them; behind a part for which there was none,
+/// A text that is made of parts. It says at its end whether all were allocated; behind a part for which an allocation failed,
 /// nothing more is put.
 #[derive(Drop)]
 pub struct Text {
@@ -79,24 +79,24 @@ impl Text {
         self.is_whole = self.is_whole && self.text.reserve(additional).is_ok();
     }
 
-    /// There was no memory for something that belongs here.
+    /// An allocation failed for something that belongs here.
     pub fn lack(&mut self) {
         self.is_whole = false;
     }
 
-    /// Whether there was memory for each part.
+    /// Whether no allocation failed for a part.
     pub fn is_whole(&self) -> bool {
         self.is_whole
     }
 
-    /// Whether memory was wanting since the last call. From here on parts are put again.
+    /// Whether an allocation failed since the last call. From here on parts are put again.
     pub fn take_lack(&mut self) -> bool {
         let is_lacking = !self.is_whole;
         self.is_whole = true;
         is_lacking
     }
 
-    /// The text, where it is whole.
+    /// The text, unless an allocation failed.
     pub fn finish(self) -> Result<String, AllocError> {
         if self.is_whole {
             Ok(self.text)

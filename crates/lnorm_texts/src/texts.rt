@@ -11,8 +11,8 @@ use lalrpop_norm_tree::grammar::repr::Algorithm;
 use std::alloc::Global;
 use std::slice;
 
-/// Whether a copy is equal; what the attributes ask for; of each symbol of an alternative its canonical form, also that of what is
-/// in it, and the names of tuples; of rules whether they have several levels; of match blocks where their items stand.
+/// Whether a copy is equal; what the attributes ask for; of each symbol of an alternative its canonical form, also that of what
+/// is in it, and the names of tuples; of rules whether they have several levels; of match blocks the spans of their items.
 pub fn push_texts(alloc: Global, text: &mut Text, tree: &Grammar) {
     push_equality(text, tree);
     for attribute in &tree.attributes {

@@ -1,4 +1,4 @@
-//! Values that no tree holds: each call that makes one runs once, with memory enough.
+//! Values that no tree holds: each call that makes one is made once, with enough memory.
 use crate::actions::push_actions;
 use crate::faults::{push_refusals, push_sides};
 use crate::lifetimes::push_lifetimes;

@@ -45,7 +45,7 @@ impl Traced {
         self.rules.contains(name)
     }
 
-    /// The origin of the production at that place of the nonterminal, if there is one.
+    /// The origin of the production of that index of the nonterminal, if there is one.
     pub fn origin(&self, name: &NonterminalString, place: usize) -> Option<&Origin>
         ensures { option_map (λ o. origin_view o.now) result ≡ option_map (λ q. q.origin) (slice_get (grammar_of self.now name.now.0) place) }
     {
@@ -70,7 +70,7 @@ impl Traced {
         }
     }
 
-    /// The symbols and the origin of the production at that place.
+    /// The symbols and the origin of the production of that index.
     pub(crate) fn production(
         &self,
         name: &NonterminalString,

@@ -18,7 +18,7 @@ use json_records::{
 use lalrpop_norm_tree::grammar::parse_tree::{Atom, Attribute, AttributeArg, Span};
 use std::alloc::Global;
 
-/// What stands behind an attribute's name, where it is told by one word.
+/// What follows an attribute's name, if its JSON form is one word.
 fn bare_argument(name: &str) -> Option<AttributeArg>
     ensures { Made (λ g. argument_form (argument_view g)) (is shape.attribute_argument) result (string name.now) }
 {
@@ -28,7 +28,7 @@ fn bare_argument(name: &str) -> Option<AttributeArg>
     }
 }
 
-/// What stands behind an attribute's name.
+/// What follows an attribute's name.
 #[cycle(attributes)]
 fn argument<'a>(
     alloc: Global,
@@ -64,7 +64,7 @@ fn argument<'a>(
     Ok(read)
 }
 
-/// The same of that name, over a value.
+/// What follows the attribute of that name, over a value.
 #[cycle(attributes)]
 fn argument_of<'a>(
     alloc: Global,

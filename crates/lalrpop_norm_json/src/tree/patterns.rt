@@ -23,7 +23,7 @@ use lalrpop_norm_tree::grammar::parse_tree::{Atom, Path, Span, TypeRef};
 use lalrpop_norm_tree::grammar::pattern::{FieldPattern, Pattern, PatternKind};
 use std::alloc::Global;
 
-/// A pattern without a place that is told by one word.
+/// A pattern without its span, if its JSON form is one word.
 fn bare_kind(name: &str) -> Option<PatternKind<TypeRef>>
     ensures { Made (λ k. pattern_kind_form (pattern_kind_view type_view k)) (is shape.pattern_kind) result (string name.now) }
 {
@@ -34,7 +34,7 @@ fn bare_kind(name: &str) -> Option<PatternKind<TypeRef>>
     }
 }
 
-/// A pattern without its place.
+/// A pattern without its span.
 #[cycle(pattern)]
 fn pattern_kind<'a>(
     alloc: Global,
@@ -70,7 +70,7 @@ fn pattern_kind<'a>(
     Ok(read)
 }
 
-/// The same of that variant, over a value.
+/// The pattern of that variant, over a value.
 #[cycle(pattern)]
 fn pattern_kind_of<'a>(
     alloc: Global,

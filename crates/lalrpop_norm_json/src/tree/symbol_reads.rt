@@ -1,4 +1,4 @@
-//! Symbols that are told by one word; and the readers of symbols and groups of them, as those of other parts ask for them.
+//! Symbols whose JSON form is one word; and the readers of symbols and groups of them, as those of other parts ask for them.
 ghost use Rattle.std.specs.Prelude.{◌≡◌, ◌≤◌, ◌∷◌, length, None, IfOk, OnOk, IsErrOf};
 ghost use Rattle.json.specs.Reads.{token_of};
 ghost use Rattle.serde_json.specs.Data.{string};
@@ -16,7 +16,7 @@ use json_records::{ReadError, Reads};
 use lalrpop_norm_tree::grammar::parse_tree::{ExprSymbol, SymbolKind};
 use std::alloc::Global;
 
-/// A symbol without a place that is told by one word.
+/// A symbol without its span, if its JSON form is one word.
 pub(crate) fn bare_kind(name: &str) -> Option<SymbolKind>
     ensures { Made (λ k. kind_form (kind_view k)) (is shape.kind) result (string name.now) }
 {

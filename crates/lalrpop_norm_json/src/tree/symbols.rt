@@ -20,7 +20,7 @@ use lalrpop_norm_tree::grammar::parse_tree::{
 };
 use std::alloc::Global;
 
-/// A symbol without its place.
+/// A symbol without its span.
 #[cycle(symbol)]
 pub(crate) fn kind<'a>(
     alloc: Global,
@@ -56,7 +56,7 @@ pub(crate) fn kind<'a>(
     Ok(read)
 }
 
-/// The same of that variant, over a value.
+/// The symbol of that variant, over a value.
 #[cycle(symbol)]
 fn kind_of<'a>(
     alloc: Global,
@@ -225,7 +225,7 @@ fn repeated<'a>(
     )?)))
 }
 
-/// The chosen symbol.
+/// The selected symbol.
 #[cycle(symbol)]
 fn chosen<'a>(
     alloc: Global,

@@ -78,7 +78,7 @@ impl Reads<MatchMapping> for Tree {
     }
 }
 
-/// The literal that stands for itself.
+/// The literal that is its own terminal.
 fn unmapped<'a>(
     alloc: Global,
     first: Token<'a>,

@@ -140,7 +140,7 @@ fn argument_pattern<'a>(
     Ok(read)
 }
 
-/// The same of that variant, over a value.
+/// The argument pattern of that variant, over a value.
 #[cycle(tuple)]
 fn argument_pattern_of<'a>(
     alloc: Global,

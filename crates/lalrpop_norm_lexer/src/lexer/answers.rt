@@ -6,10 +6,10 @@ use std::alloc::{AllocError, AllocFailed};
 pub enum RegexError {
     /// The text is no pattern.
     Refused {
-        /// In the lexer's own words.
+        /// As the lexer words it.
         message: String,
     },
-    /// There was no memory.
+    /// An allocation failed.
     Memory,
 }
 
@@ -56,7 +56,7 @@ pub enum DfaConstructionError {
         /// The index of the other.
         match1: usize,
     },
-    /// There was no memory.
+    /// An allocation failed.
     Memory,
 }
 

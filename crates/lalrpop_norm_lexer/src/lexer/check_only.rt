@@ -49,7 +49,7 @@ impl Lexer for CheckOnly {
 }
 
 /// What `regex` reads in a pattern, with its default options. A pattern is compiled to learn whether it passes the size limit of
-/// `regex`, which is want of memory; nothing is searched with it, so what it was compiled to is not kept.
+/// `regex`, which counts as a failed allocation; nothing is searched with it, so what it was compiled to is not kept.
 fn hir_of(alloc: Global, pattern: &str) -> Result<Hir, RegexError>
     ensures { IfSome (pattern_answer result) (KeepsPattern of_regex pattern.now) }
 {
@@ -76,7 +76,7 @@ pub fn no_bad_text_is_read()
     ensures { TellsApart of_regex }
 {}
 
-/// By the relations of `CheckOnly` nothing is refused of a grammar that gets its tokens by them: none of F42 to F44 stands there.
+/// By the relations of `CheckOnly` no grammar is rejected that gets its tokens by them: none of F42 to F44 holds.
 pub fn nothing_checked_is_refused()
     ensures { RefusesNoneChecked }
 {}

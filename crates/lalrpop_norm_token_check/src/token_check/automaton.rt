@@ -1,4 +1,4 @@
-//! The automaton of entries, or the fault of the lexer where it stands.
+//! The automaton of entries, or the fault of the lexer, if one holds.
 ghost use Rattle.std.specs.Prelude.{◌≡◌, ◌<◌, length, slice_get, Some, IsSome, IfOk, IfErr};
 ghost use Rattle.lalrpop_norm_tree.specs.declared.items.MatchEntry as entry;
 ghost use Rattle.lalrpop_norm_tree.specs.Items.{GrammarData};
@@ -14,7 +14,7 @@ use lalrpop_norm_tree::grammar::parse_tree::{Dfa, MatchEntry, Span, TerminalLite
 use std::alloc::Global;
 use std::collections::BTreeMap;
 
-/// The automaton of the entries. Where they are those of a grammar, and its literals stand at these places, a refusal is a
+/// The automaton of the entries. Where they are those of a grammar, and its literals have these spans, an error is a
 /// fault of that grammar.
 pub(super) fn automaton_of<L: Lexer>(
     alloc: Global,
@@ -53,7 +53,7 @@ pub(super) fn automaton_of<L: Lexer>(
     }
 }
 
-/// Where the literal of the entry at that index stands.
+/// The span of the literal of the entry at that index.
 fn place_at(places: &BTreeMap<TerminalLiteral, Span>, entries: &[MatchEntry], index: usize) -> Span
     requires within { index < length entries.now }
     requires placed { ArePlaced places.now.entries entries.now }

@@ -15,7 +15,7 @@ use lalrpop_norm_tree::grammar::parse_tree::{Conversion, EnumToken, Span, Termin
 use std::alloc::Global;
 use std::collections::BTreeSet;
 
-/// Refuses two conversions of one terminal, and a terminal that is used and has none.
+/// Rejects two conversions of one terminal, and a terminal that is used and has none.
 pub(super) fn check_enum(alloc: Global, tokens: &EnumToken, uses: &[Use]) -> NormResult<()>
     ensures { Refuses result (converted_faults (enum_token_view tokens.now) uses.now) }
 {

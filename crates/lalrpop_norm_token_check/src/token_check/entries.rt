@@ -14,7 +14,7 @@ use lalrpop_norm_tree::grammar::parse_tree::{
 };
 use std::alloc::Global;
 
-/// The entries. Refuses a literal or a terminal that the match block has twice, then a terminal used that has no entry.
+/// The entries. Rejects a literal or a terminal that the match block has twice, then a terminal used that has no entry.
 pub(super) fn entries_of(
     alloc: Global,
     block: Option<&MatchToken>,
@@ -73,7 +73,7 @@ fn add_use(
     }
 }
 
-/// Adds a literal that names itself and stands there.
+/// Adds a literal that names itself, with its span.
 fn put_literal(
     found: &mut Found,
     precedence: usize,

@@ -1,4 +1,4 @@
-//! The entries of a grammar as they are found, what they name and where their literals stand.
+//! The entries of a grammar as they are found, what they name, and the spans of their literals.
 ghost use Rattle.std.specs.Prelude.{◌≡◌, ◌<◌, ◌^◌, IfOk, OnOk, is_some};
 ghost use Rattle.std.specs.BTreeMap.{insert_entry};
 ghost use Rattle.std.specs.BTreeSet.{insert_key};
@@ -22,7 +22,7 @@ pub(super) struct Found {
     pub(super) entries: BTreeSet<MatchEntry>,
     /// The terminals that they name.
     pub(super) names: BTreeSet<TerminalString>,
-    /// Where their literals stand.
+    /// The spans of their literals.
     pub(super) places: BTreeMap<TerminalLiteral, Span>,
 }
 
@@ -61,7 +61,7 @@ pub(super) fn add_name(
     }
 }
 
-/// Adds the place of a literal, which is to be a new one.
+/// Adds the span of a literal, which is to be a new one.
 pub(super) fn add_place(
     alloc: Global,
     places: &mut BTreeMap<TerminalLiteral, Span>,

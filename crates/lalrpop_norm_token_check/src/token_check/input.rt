@@ -14,7 +14,7 @@ use lalrpop_norm_tree::grammar::parse_tree::{
 };
 use std::alloc::Global;
 
-/// Refuses the names that internal tokens add, where the grammar declares them.
+/// Rejects the names that internal tokens add, where the grammar declares them.
 pub(super) fn check_input(alloc: Global, grammar: &Grammar) -> NormResult<()>
     ensures { Refuses result (input_faults (grammar_view grammar.now)) }
 {
@@ -70,7 +70,7 @@ fn has_input_parameter(parameters: &[Parameter]) -> bool
     false
 }
 
-/// The grammar with internal tokens: they stand last, `'input` is the first type parameter and `input` the last parameter.
+/// The grammar with internal tokens: they are the last item, `'input` is the first type parameter and `input` the last parameter.
 pub(super) fn with_tokens(
     alloc: Global,
     mut grammar: Grammar,

@@ -20,7 +20,8 @@ use lalrpop_norm_tyinfer_table::same::is_same_type;
 use lalrpop_norm_tyinfer_table::type_sources::{RuleClauses, alternative_clause};
 use std::alloc::Global;
 
-/// Refuses an alternative of a rule without a declared type that gives another type than the rule has, whatever the type parameters.
+/// Rejects an alternative of a rule without a declared type if it gives another type than the rule has, under any type
+/// parameters.
 pub(crate) fn check_agreement(
     alloc: Global,
     types: &Numbered,
@@ -73,7 +74,7 @@ fn check_alternative(
             let given = clause_value(alloc, types, &clause)?;
             let own = types.lookup_nonterminal_type(name);
             let agrees = check_same(alloc, name, alternative.span, &given, own);
-            // By a call: where a value of this type ends in place, its release is proved there, variant by variant.
+            // By a call: where a value of this type ends in place, its drop is proved there, variant by variant.
             drop(given);
             agrees
         }

@@ -17,7 +17,7 @@ use lalrpop_norm_tyinfer_table::stops::Stops;
 use lalrpop_norm_tyinfer_table::waiting::Waiting;
 use std::alloc::Global;
 
-/// Lets some places wait for a visit: those behind the place in this round, the others in the next one.
+/// Puts some indices on the worklists: those behind the index on that of this round, the others on that of the next one.
 fn wake(
     places: &[usize],
     place: usize,
@@ -46,8 +46,8 @@ fn wake_one(
     next.add(other)
 }
 
-/// Visits the rule at a place: one without a type takes that of its first clause that makes one. The rules of the clauses that have
-/// all types by that; none where it takes none.
+/// Visits the rule at an index: one without a type takes that of its first clause that makes one. The rules of the clauses that
+/// have all types by that; none where it takes none.
 fn step(
     alloc: Global,
     parameters: &[TypeParameter],
@@ -75,7 +75,7 @@ fn step(
     }
 }
 
-/// A round over the rules in order, of which only those at some places may take a type. It answers the places that wait for the next
+/// A round over the rules in order, of which only those at some indices may take a type. It answers the worklist of the next
 /// round.
 fn round(
     alloc: Global,
@@ -105,7 +105,7 @@ fn round(
     Ok(next)
 }
 
-/// Rounds until no rule waits for a visit. As many as there are rules are enough.
+/// Rounds until the worklist is empty. As many rounds as there are rules are enough.
 fn rounds_from(
     alloc: Global,
     parameters: &[TypeParameter],

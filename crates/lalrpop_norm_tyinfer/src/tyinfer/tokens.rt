@@ -1,4 +1,4 @@
-//! The types that need no inference, in a table: those that conversions choose, and the rows of terminals.
+//! The types that need no inference, in a table: those that conversions select, and the rows of terminals.
 ghost use Rattle.std.specs.Prelude.{◌≡◌, ◌++◌, None, IfOk, OnOk, map, flat_map};
 ghost use Rattle.lalrpop_norm_tree.specs.Items.{conversion_view, grammar_view};
 ghost use Rattle.lalrpop_norm_tree.specs.LoweredTypes.{repr_of};
@@ -51,7 +51,7 @@ fn conversion_rows(alloc: Global, conversions: &[Conversion]) -> Result<Vec<Row>
     Ok(rows)
 }
 
-/// A conversion that chooses types gives these to its terminal.
+/// A conversion that selects types gives these to its terminal.
 fn add_conversion(
     alloc: Global,
     rows: &mut Vec<Row>,
@@ -67,14 +67,14 @@ fn add_conversion(
             Ok(())
         }
         None => {
-            // By a call: where a value of this type ends in place, its release is proved there, variant by variant.
+            // By a call: where a value of this type ends in place, its drop is proved there, variant by variant.
             drop(terminal);
             Ok(())
         }
     }
 }
 
-/// The types that a pattern chooses, in reading order.
+/// The types that a pattern selects, in reading order.
 fn chosen_types(alloc: Global, pattern: &Pattern<TypeRef>) -> Result<Vec<TypeRepr>, NoMemory>
     ensures { IfOk result (λ ts. map repr_view ts.items ≡ map repr_of (chosen_in_pattern (pattern_view type_view pattern.now))) }
 {

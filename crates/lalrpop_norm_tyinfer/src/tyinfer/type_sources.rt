@@ -34,7 +34,7 @@ fn location_value(types: &Numbered) -> Result<Option<TypeRepr>, NoMemory>
     Ok(copy_of(types.opt_terminal_loc_type())?)
 }
 
-/// The type of the values of these symbols, each with its place: one bare, any other number of them as a tuple.
+/// The type of the values of these symbols, each with its index: one bare, any other number of them as a tuple.
 fn sources_value(
     alloc: Global,
     types: &Numbered,

@@ -1,10 +1,10 @@
-//! Texts that are damaged, as by chance.
+//! Texts that are damaged at random.
 ghost use Rattle.std.specs.Prelude.{◌<◌, ◌≤◌, length};
 
 use crate::shown::kept;
 use std::alloc::{AllocError, Global};
 
-/// Numbers as by chance, which are the same in each run.
+/// Random numbers, which are the same in each test.
 #[derive(Drop)]
 pub(crate) struct Chance {
     state: u64,
@@ -30,7 +30,7 @@ impl Chance {
     }
 }
 
-/// The text with one change: a part of it is cut off, left out, doubled, or another text stands in its place or before it.
+/// The text with one change: a part of it is cut off, left out, doubled, or another text replaces it or is put before it.
 pub(crate) fn damaged(
     alloc: Global,
     text: &[u8],
@@ -63,7 +63,7 @@ fn push_damaged(bytes: &mut Vec<u8>, text: &[u8], chance: &mut Chance) -> Result
     }
 }
 
-/// Two places in a text, the second at most twenty bytes behind the first.
+/// Two positions in a text, the second at most twenty bytes behind the first.
 fn places(text: &[u8], chance: &mut Chance) -> (usize, usize)
     ensures ordered { result.0 ≤ result.1 }
     ensures within { result.1 ≤ length text.now }
@@ -77,7 +77,7 @@ fn places(text: &[u8], chance: &mut Chance) -> (usize, usize)
 /// How many pieces there are.
 const PIECES: usize = 20;
 
-/// A text that may stand in JSON, or may not.
+/// A text that may occur in JSON, or may not.
 fn piece(number: usize) -> &'static str {
     match number {
         0 => "\"",

@@ -19,13 +19,13 @@ const MAX_DEPTH: usize = 127;
 enum Agreement {
     /// Both read it, and the same tree, if it is one.
     Read,
-    /// Both refuse it.
+    /// Both reject it.
     Refused,
     /// They do not agree.
     Differ,
     /// It is not UTF-8.
     NoText,
-    /// There was no memory for one of them.
+    /// An allocation failed for one of them.
     Memory,
 }
 
@@ -120,7 +120,7 @@ fn read_too(alloc: Global, value: &Value, text: &str) -> Agreement {
     }
 }
 
-/// Where `serde_json` refuses a text.
+/// Where `serde_json` rejects a text.
 fn refused_too(alloc: Global, text: &str) -> Agreement {
     match passed(alloc, text) {
         Ok(()) => Agreement::Differ,
@@ -143,8 +143,8 @@ fn passed(alloc: Global, text: &str) -> Result<(), ReadError> {
     Ok(())
 }
 
-/// Whether a text is the same tree as what `serde_json` writes of its value, which has each key once and the keys in order; or neither
-/// is one.
+/// Whether a text is the same tree as what `serde_json` writes of its value, which has each key once and the keys in order; or
+/// neither is one.
 fn trees_of(alloc: Global, value: &Value, text: &str) -> Agreement {
     let Ok(written) = value.to_string(alloc) else {
         return Agreement::Memory;

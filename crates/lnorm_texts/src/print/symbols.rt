@@ -1,4 +1,4 @@
-//! The printed form of symbols, terminals and places.
+//! The printed form of symbols, terminals and spans.
 use crate::text::Text;
 use lalrpop_norm_tree::grammar::parse_tree::{
     MacroSymbol, NonterminalString, RepeatSymbol, Span, Symbol, SymbolKind, TerminalString,
@@ -32,7 +32,7 @@ pub fn push_terminal(text: &mut Text, terminal: &TerminalString) {
     }
 }
 
-/// The name of a rule; one that is no word, as that of a made rule, between backquotes.
+/// The name of a rule; one that is not a word, as that of a generated rule, between backquotes.
 pub(crate) fn push_name(text: &mut Text, name: &NonterminalString) {
     if is_word(name.0.as_str()) {
         text.show(name);
@@ -59,7 +59,7 @@ pub(crate) fn push_symbols(text: &mut Text, symbols: &[Symbol]) {
     }
 }
 
-/// What the symbol is, and behind an `@` its place.
+/// What the symbol is, and behind an `@` its span.
 #[cycle(symbol)]
 fn push_symbol(text: &mut Text, symbol: &Symbol) {
     push_kind(text, &symbol.kind);

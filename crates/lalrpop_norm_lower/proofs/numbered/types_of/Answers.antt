@@ -12,7 +12,7 @@ use Rattle.lalrpop_norm_lower.proofs.PlacedRows.{IsWalkedTo, WillBeByNumber, all
 use Rattle.lalrpop_norm_lower.proofs.numbered.types_of.Goals as goal
 use Rattle.lalrpop_norm_lower.proofs.numbered.types_of.Goals.{In-Some}
 
--- before a row is met
+-- before a row is reached
 before : (c : In-Some) → IsWalkedTo c.args.table.now (rules_among (map item_view c.args.items.now)) c.args.names.now ((c.in-Some.name.now, c.in-Some.ty.now) ∷ c.next.new.self) c.loop-name.types.items
 before c = subst (λ rest. IsWalkedTo c.args.table.now (rules_among (map item_view c.args.items.now)) c.args.names.now rest c.loop-name.types.items) c.in-Some.ensures.steps c.loop-name.invariant
 

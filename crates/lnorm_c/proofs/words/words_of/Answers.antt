@@ -2,7 +2,7 @@ use Rattle.std.proofs.Common.{rules, ◌∙◌}
 use Rattle.lnorm_c.proofs.WordLemmas.{word_more, nothing_left}
 use Rattle.lnorm_c.proofs.words.words_of.Goals as goal
 
--- one word more
+-- one argument more
 pub loop-word-preserved : goal.loop-word-preserved
 loop-word-preserved c = (
   search rules,

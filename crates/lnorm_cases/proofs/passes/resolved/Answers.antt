@@ -1,4 +1,4 @@
--- Resolved names are distinct: a rule that shares one is refused.
+-- Resolved names are distinct: a rule that shares one is rejected.
 use Rattle.lalrpop_norm_tree.specs.Items.{grammar_view}
 use Rattle.lalrpop_norm.proofs.ScopedLemmas.{names_once}
 use Rattle.lnorm_cases.proofs.passes.resolved.Goals as goal

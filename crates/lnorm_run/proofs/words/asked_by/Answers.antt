@@ -9,20 +9,20 @@ loop-rest-preserved-then-is_flag c = c.loop-rest.invariant
     ∙ flag_more (settings_view c.loop-rest.asked) c.loop-rest.rest.now c.option-item.result _
     c.in-len1-up.len_at_least c.option-item.is c.as_str-name.ensures.value (sym c.if-is_flag.ensures)
 
--- an option and its word
+-- an option and its value
 pub loop-rest-preserved : goal.loop-rest-preserved
 loop-rest-preserved c = c.loop-rest.invariant
     ∙ pair_more (settings_view c.loop-rest.asked) (settings_view c.in_ok-asked.asked) c.loop-rest.rest.now c.option-item.result c.word-item.result _ _
     c.in-len1-up.len_at_least c.option-item.is c.in-len1-up-after.len_at_least c.word-item.is
     c.as_str-name.ensures.value c.as_str.ensures.value (sym c.if-is_flag.ensures) c.in_ok-asked.ensures.ok
 
--- an option without its word
+-- an option without its value
 pub returns-in_default-after-clause-usage : goal.returns-in_default-after-clause-usage
 returns-in_default-after-clause-usage c = λ _. c.loop-rest.invariant
     ∙ word_missing (settings_view c.loop-rest.asked) c.loop-rest.rest.now c.option-item.result _
     c.in-len1-up.len_at_least c.option-item.is c.in_default-after.len_below c.as_str-name.ensures.value (sym c.if-is_flag.ensures)
 
--- an option and a word that it does not take
+-- an option and an argument that it does not take
 pub returns-in_err-asked-clause-usage : goal.returns-in_err-asked-clause-usage
 returns-in_err-asked-clause-usage c = λ wrong. c.loop-rest.invariant
     ∙ pair_wrong (settings_view c.loop-rest.asked) c.loop-rest.rest.now c.option-item.result c.word-item.result _ _

@@ -737,7 +737,7 @@ kind_of-returns-in_ok-pass-in_default t c =
     c.in_ok-pass-in_default.ensures.ok)
     c.in_ok-pass-in_default.ensures.shorter
 
--- ---- chosen
+-- ---- selected
 
 pub chosen-returns-in_err-symbol : goal.chosen-returns-in_err-symbol
 chosen-returns-in_err-symbol t c = step.fails _ _ _ c.from_residual.ensures c.in_err-symbol.ensures.err
